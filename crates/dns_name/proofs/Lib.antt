@@ -1,0 +1,3 @@
+pub mod LabelLemmas
+pub mod ReadLemmas
+pub mod SameLemmas

@@ -1,0 +1,19 @@
+use Rattle.std.proofs.Common.{◌≡◌, ℕ, List, length, ◌≤◌, sym, ap, ◌∙◌, arith}
+use Rattle.dns_name.specs.Labels.{labels_in, IsWhole}
+use Rattle.dns_name.specs.Name.{wire_of, IsName}
+use Rattle.dns_name.proofs.LabelLemmas.{wire_of-labels_in, IsLabel_each}
+use Rattle.dns_name.proofs.name.Name.wire.Goals as goal
+
+pub returns-clause-octets : goal.returns-clause-octets
+returns-clause-octets c =
+    let own = wire_of-labels_in c.self.inside.octets.items c.self.invariant.0 in
+    cc
+
+lawful_at : (octets : List ℕ) (name : List (List ℕ)) → labels_in 0 octets ≡ name → IsWhole 0 octets → length octets ≤ 255 → IsName name
+lawful_at octets name e h l =
+    let own = ap length (wire_of-labels_in octets h) in
+    let is : IsName (labels_in 0 octets) = record { labels = IsLabel_each 0 octets h; short = omega arith } in
+    rw e at is
+
+pub returns-clause-lawful : goal.returns-clause-lawful
+returns-clause-lawful c = lawful_at _ _ c.self.view_is c.self.invariant.0 c.self.invariant.1

@@ -1,0 +1,13 @@
+use Rattle.std.proofs.Common.{◌≡◌, length}
+use Rattle.dns_name.specs.Labels.{labels_in, IsWhole}
+use Rattle.dns_name.specs.Name.{is_under}
+use Rattle.dns_name.proofs.octets.ends_in.Given as goal
+
+abbrev pub invariant-loop-rest : goal.invariant-loop-rest
+invariant-loop-rest l = record {
+  whole : IsWhole 0 l.rest;
+  same : is_under (labels_in 0 l.rest) (labels_in 0 l.other) ≡ is_under (labels_in 0 l.octets) (labels_in 0 l.other);
+}
+
+abbrev pub decreases-loop-rest : goal.decreases-loop-rest
+decreases-loop-rest l = length l.rest

@@ -1,0 +1,12 @@
+//! Domain names: what the octets of a name are, which names are the same, which is under which, and their
+//! canonical order (RFC 1034, 3.1; RFC 1035, 2.3.4, 3.1 and 5.1; RFC 4034, 6.1; RFC 4343).
+//!
+//! Contracts see a [`Name`] as the list of its labels, each a list of octets. A name lies in the value itself,
+//! and no call takes memory. Pointers inside a message are not read here.
+#![tactic(auto)]
+
+mod name;
+mod octets;
+mod order;
+
+pub use name::{MAX_BELOW_ASTERISK, MAX_LABEL, MAX_NAME, Name};

@@ -1,0 +1,132 @@
+//! The name itself.
+ghost use Rattle.std.specs.Prelude.{IsTrue, ◌≡◌, ◌+◌, ◌<◌, ◌≤◌, List, [], ◌∷◌, ◌++◌, length, drop, take, IsNone, IfSome, ◌↔◌, Option, option_map, MatchOption};
+ghost use Rattle.dns_name.specs.Name.{wire_of, IsName, fold_name, parent_of, name_in, asterisk, is_under};
+
+use crate::octets::{append, ends_in, first_label, name_len};
+use arrayvec::ArrayVec;
+use std::marker::Model;
+
+/// The most octets of a name on the wire, with its length octets and the zero octet (RFC 1035, 2.3.4).
+pub const MAX_NAME: usize = 255;
+
+/// The most octets of a label (RFC 1035, 2.3.4).
+pub const MAX_LABEL: usize = 63;
+
+/// The most octets of a name that the label `*` still fits in front of.
+pub const MAX_BELOW_ASTERISK: usize = 253;
+
+/// A domain name, in the spelling that it was given (RFC 1034, 3.1). It lies in the value itself.
+#[derive(Drop)]
+pub struct Name {
+    octets: ArrayVec<u8, 255>,
+}
+
+impl Model for Name {
+    ghost use Rattle.std.specs.Prelude.{ℕ, List, length, ◌≤◌};
+    ghost use Rattle.dns_name.specs.Labels.{labels_in, IsWhole};
+
+    ghost Value = { List (List ℕ) };
+
+    ghost view = { λ a. labels_in 0 a.octets.items };
+
+    ghost invariant = { λ a. IsWhole 0 a.octets.items × (length a.octets.items ≤ 255) };
+}
+
+impl Name {
+    /// The root, which has no label.
+    pub fn root() -> Name
+        ensures { result ≡ [] }
+    {
+        let mut octets = ArrayVec::new();
+        octets.push(0);
+        Name { octets }
+    }
+
+    /// The name's octets on the wire, written in full with the closing zero octet (RFC 1035, 3.1).
+    pub fn wire(&self) -> &[u8]
+        ensures octets { result.now ≡ wire_of self.now }
+        ensures lawful { IsName self.now }
+    {
+        self.octets.as_slice()
+    }
+
+    /// The same name, spelt the same. It takes no memory.
+    pub fn copy(&self) -> Name
+        ensures { result ≡ self.now }
+    {
+        Name {
+            octets: self.octets.clone().unwrap(),
+        }
+    }
+
+    /// The name in lower case (RFC 4343, 3).
+    pub fn fold(&self) -> Name
+        ensures { result ≡ fold_name self.now }
+    {
+        let mut folded = self.copy();
+        folded.octets.as_mut_slice().make_ascii_lowercase();
+        folded
+    }
+
+    /// Whether this is the root.
+    pub fn is_root(&self) -> bool
+        ensures { IsTrue result ↔ (self.now ≡ []) }
+    {
+        self.octets.len() == 1
+    }
+
+    /// The name without its leftmost label; None of the root.
+    pub fn parent(&self) -> Option<Name>
+        ensures { result ≡ parent_of self.now }
+    {
+        let (_, rest) = first_label(self.octets.as_slice())?;
+        let mut octets = ArrayVec::new();
+        append(&mut octets, rest);
+        Some(Name { octets })
+    }
+
+    /// The name that the octets begin with, written in full, and how many octets it takes. None where they begin
+    /// with no name: a length octet over 63 (pointers too), more than 255 octets, or the octets end inside it
+    /// (RFC 1035, 3.1).
+    pub fn from_wire(octets: &[u8]) -> Option<(Name, usize)>
+        ensures name { option_map (λ r. r.0) result ≡ name_in octets.now }
+        ensures octets { IfSome result (λ r. (r.1 ≡ length (wire_of r.0)) × (octets.now ≡ wire_of r.0 ++ drop r.1 octets.now)) }
+    {
+        let len = name_len(octets)?;
+        let mut own = ArrayVec::new();
+        append(&mut own, &octets[..len]);
+        Some((Name { octets: own }, len))
+    }
+
+    /// The label `*` in front of the name; None where that has more than 255 octets (RFC 4592, 2.1.1).
+    pub fn with_asterisk(&self) -> Option<Name>
+        ensures found { IfSome result (λ n. n ≡ asterisk ∷ self.now) }
+        ensures none { IsNone result ↔ (MAX_BELOW_ASTERISK < length (wire_of self.now)) }
+    {
+        let behind = self.wire();
+        if behind.len() > MAX_BELOW_ASTERISK {
+            return None;
+        }
+        let mut octets = ArrayVec::new();
+        octets.push(1);
+        octets.push(b'*');
+        append(&mut octets, behind);
+        Some(Name { octets })
+    }
+
+    /// Whether the name is the other or has it among its ancestors, without regard to case (RFC 1034, 3.1).
+    pub fn is_under(&self, other: &Name) -> bool
+        ensures { result ≡ is_under self.now other.now }
+    {
+        ends_in(self.octets.as_slice(), other.octets.as_slice())
+    }
+}
+
+impl Default for Name {
+    ghost is_default = { λ name. name ≡ [] };
+
+    /// The root.
+    fn default() -> Name {
+        Name::root()
+    }
+}

@@ -1,0 +1,62 @@
+//! A name's octets: labels behind their lengths, up to a zero octet (RFC 1035, 3.1).
+ghost use Rattle.std.specs.Prelude.{◌≡◌, ◌+◌, ◌≤◌, [], ◌++◌, length, MatchOption, option_map};
+ghost use Rattle.dns_name.specs.Labels.{labels_in, IsWhole, IsFirstLabel};
+ghost use Rattle.dns_name.specs.Name.{wire_of, name_in, is_under};
+
+use crate::name::{MAX_LABEL, MAX_NAME};
+use arrayvec::ArrayVec;
+
+/// The first label, and the octets behind it; None at the zero octet.
+pub(crate) fn first_label(octets: &[u8]) -> Option<(&[u8], &[u8])>
+    requires { IsWhole 0 octets.now }
+    ensures { MatchOption result (labels_in 0 octets.now ≡ []) (λ parts. IsFirstLabel octets.now parts.0.now parts.1.now) }
+{
+    let (first, rest) = octets.split_first()?;
+    let len = usize::from(*first);
+    if len == 0 {
+        return None;
+    }
+    Some(rest.split_at(len))
+}
+
+/// How many octets the name takes that the octets begin with; None where they begin with no name (RFC 1035, 3.1).
+pub(crate) fn name_len(octets: &[u8]) -> Option<usize>
+    ensures { result ≡ option_map (λ name. length (wire_of name)) (name_in octets.now) }
+{
+    let mut at = 0;
+    while at < MAX_NAME {
+        let len = usize::from(*octets.get(at)?);
+        if len == 0 {
+            return Some(at + 1);
+        }
+        if len > MAX_LABEL {
+            return None;
+        }
+        at += len + 1;
+    }
+    None
+}
+
+/// Whether the labels in these octets end in the other's, without regard to case.
+pub(crate) fn ends_in(octets: &[u8], other: &[u8]) -> bool
+    requires own { IsWhole 0 octets.now }
+    requires others { IsWhole 0 other.now }
+    ensures { result ≡ is_under (labels_in 0 octets.now) (labels_in 0 other.now) }
+{
+    let mut rest = octets;
+    while rest.len() > other.len() {
+        match first_label(rest) {
+            Some((_, behind)) => rest = behind,
+            None => return false,
+        }
+    }
+    rest.eq_ignore_ascii_case(other)
+}
+
+/// Puts octets behind the others, where there is room.
+pub(crate) fn append(to: &mut ArrayVec<u8, 255>, octets: &[u8])
+    requires { length to.old.items + length octets.now ≤ 255 }
+    ensures { to.new.items ≡ to.old.items ++ octets.now }
+{
+    let _ = to.try_extend_from_slice(octets);
+}
