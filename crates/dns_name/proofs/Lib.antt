@@ -1,3 +1,7 @@
+pub mod GatherLemmas
 pub mod LabelLemmas
+pub mod LawLemmas
+pub mod OrderLemmas
 pub mod ReadLemmas
 pub mod SameLemmas
+pub mod TextLemmas

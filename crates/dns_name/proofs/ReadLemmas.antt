@@ -8,11 +8,11 @@ use Rattle.dns_name.specs.Name.{wire_of, IsLabel, IsName, labels_read, name_in}
 use Rattle.dns_name.proofs.LabelLemmas.{IsWhole-wire_of, labels_in-wire_of}
 
 -- what the parts of an `Option` say where the whole is `Some`
-map_some : {A B : Type 0} (f : A → B) (o : Option A) (y : B) → option_map f o ≡ Some y → (x : A) × (o ≡ Some x) × (f x ≡ y)
+pub map_some : {A B : Type 0} (f : A → B) (o : Option A) (y : B) → option_map f o ≡ Some y → (x : A) × (o ≡ Some x) × (f x ≡ y)
 map_some f None y e = cc
 map_some f (Some x) y e = (x, refl, cc)
 
-cond_is_some : {A : Type 0} (b : Bool) (o : Option A) (y : A) → cond b o None ≡ Some y → (b ≡ true) × (o ≡ Some y)
+pub cond_is_some : {A : Type 0} (b : Bool) (o : Option A) (y : A) → cond b o None ≡ Some y → (b ≡ true) × (o ≡ Some y)
 cond_is_some true o y e = (refl, e)
 cond_is_some false o y e = cc
 
@@ -36,9 +36,9 @@ labels_read_longer k [] name e = cc
 labels_read_longer zero (x ∷ octets) name e = omega arith
 labels_read_longer (suc k) (x ∷ octets) name e = omega (arith, labels_read_longer k octets name e)
 
-wire_of_some : (name : List (List ℕ)) → 0 < len_of name
-wire_of_some [] = omega arith
-wire_of_some (label ∷ name) = omega arith
+pub wire_some : (name : List (List ℕ)) → 0 < len_of name
+wire_some [] = omega arith
+wire_some (label ∷ name) = omega arith
 
 -- what is read is labels, and their octets stand there
 pub record IsRead (k : ℕ) (octets : List ℕ) (name : List (List ℕ)) : Type 0 where
@@ -87,7 +87,7 @@ len_read-step zero octets ne h = absurd (ne refl)
 len_read-step (suc n) octets ne h =
     let t : nat_lt (suc n) 64 ≡ true = grind (arith, nat_tests) in
     let over = step_over (labels_read (suc n) octets) (take (suc n) octets) (suc n)
-      (λ name e. let long = labels_read_longer (suc n) octets name e in length-take-le (suc n) octets (omega arith)) in
+    (λ name e. let long = labels_read_longer (suc n) octets name e in length-take-le (suc n) octets (omega arith)) in
     rw t (over ∙ ap (λ (o : Option (List (List ℕ))). option_map (λ (m : ℕ). suc n + 1 + m) (option_map len_of o)) (labels_read-drop (suc n) octets))
 
 -- the limit on a name's octets, over their number
@@ -122,22 +122,6 @@ walk_step octets at n so_far within here ne h =
     let e : len_read (drop at octets) ≡ option_map (λ (m : ℕ). n + 1 + m) (len_read (drop (at + (n + 1)) octets)) = cc in
     cc
 
--- where the walk ends
-pub walk_short : (octets : List ℕ) (at : ℕ) → len_read octets ≡ option_map (λ m. at + m) (len_read (drop at octets)) → length octets ≤ at → len_read octets ≡ None
-walk_short octets at so_far past = let none = drop_all at octets past in cc
-
-pub walk_end : (octets : List ℕ) (at : ℕ) → len_read octets ≡ option_map (λ m. at + m) (len_read (drop at octets)) → at < length octets → get_or octets at 0 ≡ 0 → len_read octets ≡ Some (at + 1)
-walk_end octets at so_far within here =
-    let more = drop_more octets at 0 within in
-    let e : drop at octets ≡ 0 ∷ drop (at + 1) octets = cc in
-    so_far ∙ ap (λ (xs : List ℕ). option_map (λ (m : ℕ). at + m) (len_read xs)) e
-
-pub walk_long : (octets : List ℕ) (at n : ℕ) → len_read octets ≡ option_map (λ m. at + m) (len_read (drop at octets)) → at < length octets → get_or octets at 0 ≡ n → 63 < n → len_read octets ≡ None
-walk_long octets at n so_far within here h =
-    let more = drop_more octets at 0 within in
-    let none = len_read-long n (drop (at + 1) octets) h in
-    cc
-
 past_limit : (at : ℕ) (o : Option ℕ) → 255 ≤ at → ((m : ℕ) → o ≡ Some m → 0 < m) → limited (option_map (λ (m : ℕ). at + m) o) ≡ None
 past_limit at None h some = refl
 past_limit at (Some m) h some =
@@ -148,7 +132,7 @@ past_limit at (Some m) h some =
 some_octet : (octets : List ℕ) (m : ℕ) → len_read octets ≡ Some m → 0 < m
 some_octet octets m e =
     let parts = map_some len_of (labels_read 0 octets) m e in
-    let len = wire_of_some parts.0 in
+    let len = wire_some parts.0 in
     omega (arith, parts.2)
 
 pub walk_past : (octets : List ℕ) (at : ℕ) → len_read octets ≡ option_map (λ m. at + m) (len_read (drop at octets)) → 255 ≤ at → limited (len_read octets) ≡ None
@@ -163,6 +147,10 @@ limit_some (Some own) name e =
     let same : own ≡ name = cc in
     let len = ap len_of same in
     (test.1, omega arith)
+
+pub name_in_read : (octets : List ℕ) (name : List (List ℕ)) → name_in octets ≡ Some name → (labels_read 0 octets ≡ Some name) × (len_of name ≤ 255)
+unfolding within_limit
+name_in_read octets name e = limit_some (labels_read 0 octets) name e
 
 -- the name that octets begin with, by its length
 pub record IsBegun (octets : List ℕ) (len : ℕ) : Type 0 where

@@ -1,18 +1,13 @@
 -- Names that are the same but for case, and names under one another.
 use Rattle.std.proofs.Common.{◌≡◌, ℕ, zero, suc, ◌+◌, ◌<◌, ◌≤◌, Bool, true, false, ◌||◌, IsTrue, ◌↔◌, List, [], ◌∷◌, ◌++◌, length, take, drop, map, All, Decides, refl, sym, ap, ◌∙◌, arith}
 use Rattle.std.specs.Char.{to_ascii_lowercase}
-use Rattle.std.specs.Cmp.Lexicographic.{pointwise_decides}
 use Rattle.std.proofs.lemmas.List.{length-map, length-append}
 use Rattle.std.proofs.lemmas.List.Elements.{All-map, All-weaker, All-tail}
 use Rattle.std.proofs.lemmas.Bool.Decides.{same_from_decides}
-use Rattle.std.proofs.lemmas.Slice.Eq.{bytes_eq-Decides}
 use Rattle.dns_name.specs.Labels.{labels_in, IsWhole, IsFirstLabel}
 use Rattle.dns_name.specs.Name.{wire_of, IsLabel, IsName, fold_name, is_same, is_under}
+use Rattle.dns_name.specs.Order.{is_same_Decides}
 use Rattle.dns_name.proofs.LabelLemmas.{labels_in-wire_of, labels_in-fold, wire_of-labels_in, IsWhole-wire_of, IsWhole-fold, IsWhole_longer, IsLabel_each, alone_root}
-
--- two names are the same where they are equal once folded
-pub is_same_Decides : (name other : List (List ℕ)) → Decides (is_same name other) (fold_name name ≡ fold_name other)
-is_same_Decides name other = pointwise_decides bytes_eq-Decides (fold_name name) (fold_name other)
 
 -- the octets of a folded name are the folded octets
 pub wire_of-fold : (name : List (List ℕ)) → All IsLabel name → wire_of (fold_name name) ≡ map to_ascii_lowercase (wire_of name)
@@ -23,7 +18,7 @@ wire_of-fold name h =
     let own = labels_in-wire_of name h in
     cc
 
-fold_labels : (name : List (List ℕ)) → All IsLabel name → All IsLabel (fold_name name)
+pub fold_labels : (name : List (List ℕ)) → All IsLabel name → All IsLabel (fold_name name)
 fold_labels name h =
     All-map IsLabel (map to_ascii_lowercase) name
     (All-weaker IsLabel (λ (label : List ℕ). IsLabel (map to_ascii_lowercase label)) (λ (label : List ℕ) is. let len = length-map label to_ascii_lowercase in record { some = omega (arith, is.some); short = omega (arith, is.short) }) name h)
@@ -41,9 +36,10 @@ pub is_same_by_octets : (name other : List (List ℕ)) → All IsLabel name → 
 is_same_by_octets name other h k =
     let both = is_same_Decides name other in
     let own = wire_of-fold name h in
-    let others = wire_of-fold other k in
-    (λ e. let same = ap wire_of (both.0 e) in cc
-    , λ e. both.1 (wire_of_injective _ _ (fold_labels name h) (fold_labels other k) cc))
+    let others = wire_of-fold other k in (
+      λ e. let same = ap wire_of (both.0 e) in cc,
+      λ e. both.1 (wire_of_injective _ _ (fold_labels name h) (fold_labels other k) cc),
+    )
 
 not_from : (b : Bool) → (b ≡ true → ⊥) → b ≡ false
 not_from true h = absurd (h refl)
@@ -57,10 +53,10 @@ or_false false = refl
 not_same : (name other : List (List ℕ)) → All IsLabel name → All IsLabel other → (length (wire_of name) ≡ length (wire_of other) → ⊥) → is_same name other ≡ false
 not_same name other h k ne =
     not_from (is_same name other) (λ e.
-      let same = ap length ((is_same_by_octets name other h k).0 e) in
-      let own = length-map (wire_of name) to_ascii_lowercase in
-      let others = length-map (wire_of other) to_ascii_lowercase in
-      ne cc)
+    let same = ap length ((is_same_by_octets name other h k).0 e) in
+    let own = length-map (wire_of name) to_ascii_lowercase in
+    let others = length-map (wire_of other) to_ascii_lowercase in
+    ne cc)
 
 -- a name of no more octets than another is under it only where they are the same
 is_under_level : (name other : List (List ℕ)) → All IsLabel name → All IsLabel other → length (wire_of name) ≤ length (wire_of other) → is_under name other ≡ is_same name other

@@ -1,2 +1,5 @@
+pub mod Gather
 pub mod Labels
 pub mod Name
+pub mod Order
+pub mod Text

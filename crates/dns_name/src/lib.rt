@@ -5,8 +5,20 @@
 //! and no call takes memory. Pointers inside a message are not read here.
 #![tactic(auto)]
 
+mod compare;
+mod labels;
+mod laws;
 mod name;
 mod octets;
 mod order;
+mod print;
+mod text;
 
+pub use labels::Labels;
+pub use laws::{canonical_order, examples, one_reading, same_but_for_case, under_ancestors};
 pub use name::{MAX_BELOW_ASTERISK, MAX_LABEL, MAX_NAME, Name};
+pub use print::MAX_TEXT;
+pub use text::NameFault;
+
+#[cfg(test)]
+mod tests;

@@ -1,9 +1,13 @@
 //! The name itself.
 ghost use Rattle.std.specs.Prelude.{IsTrue, ◌≡◌, ◌+◌, ◌<◌, ◌≤◌, List, [], ◌∷◌, ◌++◌, length, drop, take, IsNone, IfSome, ◌↔◌, Option, option_map, MatchOption};
-ghost use Rattle.dns_name.specs.Name.{wire_of, IsName, fold_name, parent_of, name_in, asterisk, is_under};
+ghost use Rattle.dns_name.specs.Labels.{labels_in, IsWhole};
+ghost use Rattle.dns_name.specs.Name.{wire_of, IsName, fold_name, parent_of, name_in, asterisk, is_under, canonical_cmp};
 
+use crate::compare::names_order;
+use crate::labels::Labels;
 use crate::octets::{append, ends_in, first_label, name_len};
 use arrayvec::ArrayVec;
+use std::cmp::Ordering;
 use std::marker::Model;
 
 /// The most octets of a name on the wire, with its length octets and the zero octet (RFC 1035, 2.3.4).
@@ -18,18 +22,19 @@ pub const MAX_BELOW_ASTERISK: usize = 253;
 /// A domain name, in the spelling that it was given (RFC 1034, 3.1). It lies in the value itself.
 #[derive(Drop)]
 pub struct Name {
-    octets: ArrayVec<u8, 255>,
+    octets: ArrayVec<u8, MAX_NAME>,
 }
 
 impl Model for Name {
     ghost use Rattle.std.specs.Prelude.{ℕ, List, length, ◌≤◌};
+    ghost use Rattle.dns_name.specs.declared.name.TheConstants.{MAX_NAME};
     ghost use Rattle.dns_name.specs.Labels.{labels_in, IsWhole};
 
     ghost Value = { List (List ℕ) };
 
     ghost view = { λ a. labels_in 0 a.octets.items };
 
-    ghost invariant = { λ a. IsWhole 0 a.octets.items × (length a.octets.items ≤ 255) };
+    ghost invariant = { λ a. IsWhole 0 a.octets.items × (length a.octets.items ≤ MAX_NAME) };
 }
 
 impl Name {
@@ -42,12 +47,30 @@ impl Name {
         Name { octets }
     }
 
+    /// The octets, of which the name's labels are.
+    pub(crate) fn octets(&self) -> &[u8]
+        ensures whole { IsWhole 0 result.now }
+        ensures short { length result.now ≤ MAX_NAME }
+        ensures labels { labels_in 0 result.now ≡ self.now }
+    {
+        self.octets.as_slice()
+    }
+
+    /// The name whose octets these are.
+    pub(crate) fn from_octets(octets: ArrayVec<u8, MAX_NAME>) -> Name
+        requires whole { IsWhole 0 octets.items }
+        requires short { length octets.items ≤ MAX_NAME }
+        ensures { result ≡ labels_in 0 octets.items }
+    {
+        Name { octets }
+    }
+
     /// The name's octets on the wire, written in full with the closing zero octet (RFC 1035, 3.1).
     pub fn wire(&self) -> &[u8]
         ensures octets { result.now ≡ wire_of self.now }
         ensures lawful { IsName self.now }
     {
-        self.octets.as_slice()
+        self.octets()
     }
 
     /// The same name, spelt the same. It takes no memory.
@@ -73,6 +96,13 @@ impl Name {
         ensures { IsTrue result ↔ (self.now ≡ []) }
     {
         self.octets.len() == 1
+    }
+
+    /// The labels, the leftmost first (RFC 1034, 3.1).
+    pub fn labels(&self) -> Labels<'_>
+        ensures { result ≡ self.now }
+    {
+        Labels::new(self.octets.as_slice())
     }
 
     /// The name without its leftmost label; None of the root.
@@ -119,6 +149,13 @@ impl Name {
         ensures { result ≡ is_under self.now other.now }
     {
         ends_in(self.octets.as_slice(), other.octets.as_slice())
+    }
+
+    /// The canonical order: by the labels from the rightmost on, without regard to case (RFC 4034, 6.1).
+    pub fn order(&self, other: &Name) -> Ordering
+        ensures { result ≡ canonical_cmp self.now other.now }
+    {
+        names_order(self.octets.as_slice(), other.octets.as_slice())
     }
 }
 

@@ -1,5 +1,6 @@
 //! A name's octets: labels behind their lengths, up to a zero octet (RFC 1035, 3.1).
-ghost use Rattle.std.specs.Prelude.{◌≡◌, ◌+◌, ◌≤◌, [], ◌++◌, length, MatchOption, option_map};
+ghost use Rattle.std.specs.Prelude.{◌≡◌, ◌+◌, ◌≤◌, ◌↔◌, [], ◌∷◌, ◌++◌, length, IsTrue, MatchOption, option_map};
+ghost use Rattle.std.specs.Bool.{OnFalse, OnTrue};
 ghost use Rattle.dns_name.specs.Labels.{labels_in, IsWhole, IsFirstLabel};
 ghost use Rattle.dns_name.specs.Name.{wire_of, name_in, is_under};
 
@@ -54,9 +55,25 @@ pub(crate) fn ends_in(octets: &[u8], other: &[u8]) -> bool
 }
 
 /// Puts octets behind the others, where there is room.
-pub(crate) fn append(to: &mut ArrayVec<u8, 255>, octets: &[u8])
-    requires { length to.old.items + length octets.now ≤ 255 }
+pub(crate) fn append(to: &mut ArrayVec<u8, MAX_NAME>, octets: &[u8])
+    requires { length to.old.items + length octets.now ≤ MAX_NAME }
     ensures { to.new.items ≡ to.old.items ++ octets.now }
 {
     let _ = to.try_extend_from_slice(octets);
+}
+
+/// Puts a label behind the others, after its length. False where that leaves no room for the zero octet: nothing is
+/// put then.
+pub(crate) fn append_label(to: &mut ArrayVec<u8, MAX_NAME>, label: &[u8]) -> bool
+    ensures room { IsTrue result ↔ (length to.old.items + length label.now + 2 ≤ MAX_NAME) }
+    ensures put { OnTrue result (to.new.items ≡ to.old.items ++ length label.now ∷ label.now) }
+    ensures full { OnFalse result (to.new.items ≡ to.old.items) }
+{
+    let len = label.len();
+    if to.len() + 2 > MAX_NAME || len > MAX_NAME - 2 - to.len() {
+        return false;
+    }
+    to.push(len as u8);
+    append(to, label);
+    true
 }

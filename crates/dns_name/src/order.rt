@@ -1,14 +1,17 @@
-//! Which names are the same (RFC 4343, 3).
-ghost use Rattle.std.proofs.lemmas.Cmp.{on_equiv, lists_equiv, nat_list_eq_equiv};
-ghost use Rattle.std.specs.Cmp.{partial_equiv_from_equiv};
-ghost use Rattle.dns_name.specs.Name.{is_same, fold_name};
+//! Which names are the same, and their canonical order (RFC 4343, 3; RFC 4034, 6.1).
+ghost use Rattle.std.specs.Cmp.{partial_equiv_from_equiv, partial_order_from_agreeing_total};
+ghost use Rattle.std.specs.Ordering.{as_partial_cmp};
+ghost use Rattle.std.specs.Prelude.{refl};
+ghost use Rattle.dns_name.specs.Name.{canonical_cmp, is_same};
+ghost use Rattle.dns_name.specs.Order.{canonical_total, is_same_equiv, is_same_tied};
 
 use crate::name::Name;
+use std::cmp::Ordering;
 
 impl PartialEq for Name {
     ghost eq = { is_same };
 
-    ghost laws = { partial_equiv_from_equiv (on_equiv fold_name (lists_equiv nat_list_eq_equiv)) };
+    ghost laws = { partial_equiv_from_equiv is_same_equiv };
 
     fn eq(&self, other: &Name) -> bool {
         self.wire().eq_ignore_ascii_case(other.wire())
@@ -16,5 +19,29 @@ impl PartialEq for Name {
 }
 
 impl Eq for Name {
-    ghost laws = { on_equiv fold_name (lists_equiv nat_list_eq_equiv) };
+    ghost laws = { is_same_equiv };
+}
+
+impl Ord for Name {
+    ghost cmp = { canonical_cmp };
+
+    ghost total = { canonical_total };
+
+    ghost matches_partial_cmp = { λ _ _. refl };
+
+    ghost matches_eq = { is_same_tied };
+
+    fn cmp(&self, other: &Name) -> Ordering {
+        self.order(other)
+    }
+}
+
+impl PartialOrd for Name {
+    ghost partial_cmp = { as_partial_cmp canonical_cmp };
+
+    ghost laws = { partial_order_from_agreeing_total canonical_cmp canonical_total (λ _ _. refl) is_same_tied };
+
+    fn partial_cmp(&self, other: &Name) -> Option<Ordering> {
+        Some(self.cmp(other))
+    }
 }

@@ -1,4 +1,4 @@
-use Rattle.std.proofs.Common.{◌≡◌, ℕ, List, length, ◌≤◌, sym, ap, ◌∙◌, arith}
+use Rattle.std.proofs.Common.{◌≡◌, ℕ, List, length, ◌≤◌, ap, arith}
 use Rattle.dns_name.specs.Labels.{labels_in, IsWhole}
 use Rattle.dns_name.specs.Name.{wire_of, IsName}
 use Rattle.dns_name.proofs.LabelLemmas.{wire_of-labels_in, IsLabel_each}
@@ -6,7 +6,8 @@ use Rattle.dns_name.proofs.name.Name.wire.Goals as goal
 
 pub returns-clause-octets : goal.returns-clause-octets
 returns-clause-octets c =
-    let own = wire_of-labels_in c.self.inside.octets.items c.self.invariant.0 in
+    let own = wire_of-labels_in c.octets.result.now c.octets.ensures.whole in
+    let name = c.octets.ensures.labels in
     cc
 
 lawful_at : (octets : List ℕ) (name : List (List ℕ)) → labels_in 0 octets ≡ name → IsWhole 0 octets → length octets ≤ 255 → IsName name
@@ -16,4 +17,4 @@ lawful_at octets name e h l =
     rw e at is
 
 pub returns-clause-lawful : goal.returns-clause-lawful
-returns-clause-lawful c = lawful_at _ _ c.self.view_is c.self.invariant.0 c.self.invariant.1
+returns-clause-lawful c = lawful_at _ _ c.octets.ensures.labels c.octets.ensures.whole c.octets.ensures.short

@@ -1,0 +1,91 @@
+-- Names as text (RFC 1035, 5.1; RFC 4343, 2.1).
+use Rattle.std.specs.Prelude.{ℕ, zero, suc, ◌+◌, ◌*◌, ◌-◌, ◌/◌, ◌%◌, Bool, ◌||◌, ◌&&◌, ◌==◌, List, [], ◌∷◌, ◌++◌, length, nat_lt, nat_le, if◌then◌else◌, Option, Some, None, Result, Ok, Err, option_map, option_and_then, flat_map}
+use Rattle.std.specs.List.{list_any}
+use Rattle.std.specs.Char.{is_ascii_digit}
+use Rattle.dns_name.specs.Name.{wire_of}
+use Rattle.dns_name.specs.declared.text.NameFault.{NameFault}
+use Rattle.dns_name.specs.declared.text.NameFault.TheVariants.{LabelTooLong, NameTooLong, EmptyLabel, BadEscape}
+use Rattle.dns_name.specs.declared.text.Mark.{Mark}
+use Rattle.dns_name.specs.declared.text.Mark.TheVariants.{Dot, Octet}
+
+-- the octet that three digits behind a backslash stand for; none where one is no digit or the number is over 255
+abbrev pub numbered : List ℕ → Option (Mark × ℕ)
+numbered (a ∷ b ∷ c ∷ text) =
+    if is_ascii_digit a && is_ascii_digit b && is_ascii_digit c && nat_le ((a - 48) * 100 + (b - 48) * 10 + (c - 48)) 255 then
+    Some (Octet ((a - 48) * 100 + (b - 48) * 10 + (c - 48)), 4) else None
+numbered _ = None
+
+-- what stands behind a backslash: three digits for the octet of that number, another character for itself
+abbrev pub escaped : List ℕ → Option (Mark × ℕ)
+escaped [] = None
+escaped (x ∷ text) = if is_ascii_digit x then numbered (x ∷ text) else Some (Octet x, 2)
+
+-- the first mark of a text, a dot between labels or an octet of a label, and how many characters spell it;
+-- none where they are a backslash with neither form behind it (RFC 1035, 5.1)
+abbrev pub mark_at : List ℕ → Option (Mark × ℕ)
+mark_at [] = None
+mark_at (c ∷ text) = if c == 92 then escaped text else if c == 46 then Some (Dot, 1) else Some (Octet c, 1)
+
+-- the marks of the text behind its first k characters
+abbrev pub marks : ℕ → List ℕ → Option (List Mark)
+marks k [] = Some []
+marks zero (c ∷ text) = option_and_then (λ m. option_map (λ ms. m.0 ∷ ms) (marks (m.1 - 1) text)) (mark_at (c ∷ text))
+marks (suc k) (c ∷ text) = marks k text
+
+-- an octet in front of the first piece
+abbrev pub onto_first : ℕ → List (List ℕ) → List (List ℕ)
+onto_first c [] = (c ∷ []) ∷ []
+onto_first c (piece ∷ pieces) = (c ∷ piece) ∷ pieces
+
+-- the pieces between the dots
+abbrev pub pieces_of : List Mark → List (List ℕ)
+pieces_of [] = [] ∷ []
+pieces_of (Dot ∷ ms) = [] ∷ pieces_of ms
+pieces_of (Octet c ∷ ms) = onto_first c (pieces_of ms)
+
+-- the labels of the pieces: where the last piece is empty, the text ended in a dot and stands for itself;
+-- else the origin is behind it (RFC 1035, 5.1)
+abbrev pub completed : List (List ℕ) → List (List ℕ) → List (List ℕ)
+completed origin [] = origin
+completed origin (piece ∷ []) = if length piece == 0 then [] else piece ∷ origin
+completed origin (piece ∷ pieces) = piece ∷ completed origin pieces
+
+-- labels that make a name; else an empty label is told first, then one over 63 octets, then a name over 255
+abbrev pub lawful : List (List ℕ) → Result (List (List ℕ)) NameFault
+lawful labels =
+    if list_any (λ label. length label == 0) labels then Err EmptyLabel
+    else if list_any (λ label. nat_lt 63 (length label)) labels then Err LabelTooLong
+    else if nat_lt 255 (length (wire_of labels)) then Err NameTooLong
+    else Ok labels
+
+-- the labels of a text that has these marks; no text at all has an empty label, and a dot alone is the root
+abbrev pub labels_of : List (List ℕ) → List Mark → List (List ℕ)
+labels_of origin [] = [] ∷ []
+labels_of origin (Dot ∷ []) = []
+labels_of origin ms = completed origin (pieces_of ms)
+
+-- the name that a text stands for under an origin; a bad escape is told before the other faults (RFC 1035, 5.1)
+abbrev pub name_of_text : List ℕ → List (List ℕ) → Result (List (List ℕ)) NameFault
+name_of_text text origin = elim (marks 0 text) [ None ↦ Err BadEscape | Some ms ↦ lawful (labels_of origin ms) ]
+
+-- the three digits of an octet
+abbrev pub digits_of : ℕ → List ℕ
+digits_of c = (48 + c / 100) ∷ (48 + c / 10 % 10) ∷ (48 + c % 10) ∷ []
+
+-- whether a character stands in a text only behind a backslash: one of . \ " ; ( ) @ $ (RFC 1035, 5.1; own)
+abbrev pub is_special : ℕ → Bool
+is_special c = c == 46 || c == 92 || c == 34 || c == 59 || c == 40 || c == 41 || c == 64 || c == 36
+
+-- an octet of a label as text: behind a backslash where it is special, as three digits where it is no printed
+-- character, else as itself (RFC 1035, 5.1)
+abbrev pub octet_text : ℕ → List ℕ
+octet_text c = if nat_lt c 33 || nat_lt 126 c then 92 ∷ digits_of c else if is_special c then 92 ∷ c ∷ [] else c ∷ []
+
+-- a label as text, with the dot behind it
+abbrev pub label_text : List ℕ → List ℕ
+label_text label = flat_map octet_text label ++ 46 ∷ []
+
+-- a name as text: its labels with a dot behind each; the root is a dot (RFC 1035, 5.1)
+abbrev pub text_of : List (List ℕ) → List ℕ
+text_of [] = 46 ∷ []
+text_of (label ∷ name) = flat_map label_text (label ∷ name)

@@ -1,0 +1,49 @@
+//! Laws of the definitions, each the contract of a function that does nothing, and worked examples.
+ghost use Rattle.std.specs.Prelude.{◌≡◌, ℕ, ◌<◌, ◌≤◌, ◌↔◌, List, [], ◌∷◌, ◌++◌, length, drop, map, codes, All, IsTrue, Some, true, false};
+ghost use Rattle.std.specs.Cmp.{IsTotalOrder, IsEquivalence};
+ghost use Rattle.std.specs.declared.cmp.Ordering.TheVariants.{Less, Equal, Greater};
+ghost use Rattle.dns_name.specs.Name.{wire_of, name_in, IsName, fold_name, is_same, is_under, self_and_ancestors, canonical_cmp, parent_of};
+
+/// What octets are read as is a name, and its octets stand in front of them; a name's octets are read as that name,
+/// whatever stands behind them (RFC 1035, 3.1).
+pub fn one_reading()
+    ensures stands { (octets : List ℕ) (name : List (List ℕ)) → name_in octets ≡ Some name → IsName name × (octets ≡ wire_of name ++ drop (length (wire_of name)) octets) }
+    ensures back { (name : List (List ℕ)) (rest : List ℕ) → IsName name → name_in (wire_of name ++ rest) ≡ Some name }
+{}
+
+/// Names are the same where they are equal once folded, and to be the same is an equivalence (RFC 4343, 3).
+pub fn same_but_for_case()
+    ensures folded { (name other : List (List ℕ)) → IsTrue (is_same name other) ↔ (fold_name name ≡ fold_name other) }
+    ensures equivalence { IsEquivalence is_same }
+    ensures octets { (name : List (List ℕ)) → IsName name → IsName (fold_name name) × (length (wire_of (fold_name name)) ≡ length (wire_of name)) }
+{}
+
+/// The canonical order is total, and ties where names are the same (RFC 4034, 6.1).
+pub fn canonical_order()
+    ensures total { IsTotalOrder canonical_cmp }
+    ensures ties { (name other : List (List ℕ)) → (canonical_cmp name other ≡ Equal) ↔ IsTrue (is_same name other) }
+{}
+
+/// A name is under each of its ancestors, and under those alone that its labels end in (RFC 1034, 3.1).
+pub fn under_ancestors()
+    ensures each { (name : List (List ℕ)) → All (λ ancestor. IsTrue (is_under name ancestor)) (self_and_ancestors name) }
+    ensures ending { (name other : List (List ℕ)) → IsTrue (is_under name other) ↔ ((front : List (List ℕ)) × (fold_name name ≡ front ++ fold_name other)) }
+{}
+
+/// Worked examples of the definitions: the names in the canonical order of RFC 4034, 6.1, and case (RFC 4343, 3).
+pub fn examples()
+    ensures first { canonical_cmp (codes "example" ∷ []) (codes "a" ∷ codes "example" ∷ []) ≡ Less }
+    ensures second { canonical_cmp (codes "a" ∷ codes "example" ∷ []) (codes "yljkjljk" ∷ codes "a" ∷ codes "example" ∷ []) ≡ Less }
+    ensures third { canonical_cmp (codes "yljkjljk" ∷ codes "a" ∷ codes "example" ∷ []) (codes "Z" ∷ codes "a" ∷ codes "example" ∷ []) ≡ Less }
+    ensures fourth { canonical_cmp (codes "Z" ∷ codes "a" ∷ codes "example" ∷ []) (codes "zABC" ∷ codes "a" ∷ codes "EXAMPLE" ∷ []) ≡ Less }
+    ensures fifth { canonical_cmp (codes "zABC" ∷ codes "a" ∷ codes "EXAMPLE" ∷ []) (codes "z" ∷ codes "example" ∷ []) ≡ Less }
+    ensures sixth { canonical_cmp (codes "z" ∷ codes "example" ∷ []) ((1 ∷ []) ∷ codes "z" ∷ codes "example" ∷ []) ≡ Less }
+    ensures seventh { canonical_cmp ((1 ∷ []) ∷ codes "z" ∷ codes "example" ∷ []) (codes "*" ∷ codes "z" ∷ codes "example" ∷ []) ≡ Less }
+    ensures eighth { canonical_cmp (codes "*" ∷ codes "z" ∷ codes "example" ∷ []) ((200 ∷ []) ∷ codes "z" ∷ codes "example" ∷ []) ≡ Less }
+    ensures under { is_under (codes "a" ∷ codes "B" ∷ codes "c" ∷ []) (codes "b" ∷ codes "C" ∷ []) ≡ true }
+    ensures itself { is_under (codes "b" ∷ codes "c" ∷ []) (codes "b" ∷ codes "c" ∷ []) ≡ true }
+    ensures end_of_label { is_under (codes "ab" ∷ codes "c" ∷ []) (codes "b" ∷ codes "c" ∷ []) ≡ false }
+    ensures folded { fold_name (codes "Foo" ∷ codes "EXAMPLE" ∷ []) ≡ codes "foo" ∷ codes "example" ∷ [] }
+    ensures parent { parent_of (codes "a" ∷ codes "b" ∷ []) ≡ Some (codes "b" ∷ []) }
+    ensures read { name_in (1 ∷ 97 ∷ 0 ∷ 7 ∷ []) ≡ Some (codes "a" ∷ []) }
+{}

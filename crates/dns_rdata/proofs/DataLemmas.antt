@@ -1,0 +1,114 @@
+-- What octets of a form are: as long as what they are read from, and read again as themselves.
+use Rattle.std.proofs.Common.{◌≡◌, ℕ, zero, suc, ◌-◌, ◌<◌, ◌≤◌, Bool, true, false, cond, ◌&&◌, ◌==◌, nat_lt, nat_le, List, ◌∷◌, ◌++◌, length, take, drop, Option, Some, None, refl, sym, ap, subst, ◌∙◌, arith}
+use Rattle.std.proofs.lemmas.Bool.Decides.{nat_tests, Decides-eqb}
+use Rattle.std.proofs.lemmas.List.{length-append, length-drop, length-take-le}
+use Rattle.std.proofs.Math.Seq.{take-append_seam, drop-append_seam}
+use Rattle.dns_name.specs.Name.{wire_of, fold_name, name_in}
+use Rattle.dns_rdata.specs.Data.{names_then, parts, are_strings, data_of}
+use Rattle.dns_rdata.proofs.NameLemmas.{map_some, and_then_some, cond_some, fold_name-fold_name, length-wire_of-fold, IsName-fold, HasName-in, name_in-wire_of}
+
+-- a length octet begins a string, and each octet behind it takes one from what is left of it
+pub are_strings_start : (k octet : ℕ) (octets : List ℕ) → k ≡ 0 → are_strings k (octet ∷ octets) ≡ are_strings octet octets
+are_strings_start k octet octets e = rw e refl
+
+pub are_strings_inside : (k octet : ℕ) (octets : List ℕ) → 0 < k → are_strings k (octet ∷ octets) ≡ are_strings (k - 1) octets
+are_strings_inside zero octet octets h = absurd (omega arith)
+are_strings_inside (suc k) octet octets h = let e : suc k - 1 ≡ k = omega arith in rw e refl
+
+-- octets that a reading gives: as many as were read, which the reading gives again
+pub record IsRead (reading : List ℕ → Option (List ℕ)) (octets own : List ℕ) : Type 0 where
+  pub again : reading own ≡ Some own
+  pub len : length own ≡ length octets
+
+pub IsRead-names : (names back : ℕ) (octets own : List ℕ) → names_then names back octets ≡ Some own → IsRead (names_then names back) octets own
+IsRead-names zero back octets own e =
+    let test = cond_some (length octets == back) (Some octets) own e in
+    let same : octets ≡ own = cc in
+    let whole : length own == back ≡ true = cc in
+    record { again = rw whole refl; len = cc }
+IsRead-names (suc names) back octets own e =
+    let name = and_then_some _ (name_in octets) own e in
+    let rest = map_some _ (names_then names back (drop (length (wire_of name.0)) octets)) own name.2 in
+    let has = HasName-in octets name.0 name.1 in
+    let behind = IsRead-names names back (drop (length (wire_of name.0)) octets) rest.0 rest.1 in
+    let folded = fold_name name.0 in
+    let reads = name_in-wire_of folded rest.0 (IsName-fold name.0 has.lawful) in
+    let seam = drop-append_seam (wire_of folded) rest.0 in
+    let twice = fold_name-fold_name name.0 in
+    let more : names_then (suc names) back (wire_of folded ++ rest.0) ≡ Some (wire_of folded ++ rest.0) = rw (reads, seam, behind.again, twice) refl in
+    let all = ap length has.stands in
+    let front = length-append (wire_of name.0) (drop (length (wire_of name.0)) octets) in
+    let back = length-append (wire_of folded) rest.0 in
+    let same = length-wire_of-fold name.0 in
+    let len : length (wire_of folded ++ rest.0) ≡ length octets = omega (arith, behind.len) in
+    let is = rest.2 in
+    record { again = cc; len = cc }
+
+pub IsRead-parts : (front names back : ℕ) (octets own : List ℕ) → parts front names back octets ≡ Some own → IsRead (parts front names back) octets own
+IsRead-parts front names back octets own e =
+    let test = cond_some (nat_le front (length octets)) _ own e in
+    let long : front ≤ length octets = let t = test.0 in grind (arith, nat_tests) in
+    let rest = map_some _ (names_then names back (drop front octets)) own test.1 in
+    let behind = IsRead-names names back (drop front octets) rest.0 rest.1 in
+    let head = take front octets in
+    let size : length head ≡ front = length-take-le front octets long in
+    let sum = length-append head rest.0 in
+    let left = length-drop front octets in
+    let len : length (head ++ rest.0) ≡ length octets = omega (arith, behind.len) in
+    let fits : nat_le front (length (head ++ rest.0)) ≡ true = grind (arith, nat_tests) in
+    let before : take front (head ++ rest.0) ≡ head = let seam = take-append_seam head rest.0 in cc in
+    let after : drop front (head ++ rest.0) ≡ rest.0 = let seam = drop-append_seam head rest.0 in cc in
+    let more : parts front names back (head ++ rest.0) ≡ Some (head ++ rest.0) = rw (fits, before, after, behind.again) refl in
+    let is = rest.2 in
+    record { again = cc; len = cc }
+
+IsRead-if : (test : Bool) (reading other : List ℕ → Option (List ℕ)) (octets own : List ℕ) → (reading octets ≡ Some own → IsRead reading octets own) → (other octets ≡ Some own → IsRead other octets own) → cond test (reading octets) (other octets) ≡ Some own → IsRead (λ os. cond test (reading os) (other os)) octets own
+IsRead-if true reading other octets own is isnt e = is e
+IsRead-if false reading other octets own is isnt e = isnt e
+
+abbrev strings : List ℕ → Option (List ℕ)
+strings octets = cond (nat_lt 0 (length octets) && are_strings 0 octets) (Some octets) None
+
+IsRead-strings : (octets own : List ℕ) → strings octets ≡ Some own → IsRead strings octets own
+IsRead-strings octets own e =
+    let test = cond_some (nat_lt 0 (length octets) && are_strings 0 octets) (Some octets) own e in
+    let same : octets ≡ own = cc in
+    record { again = subst (λ (os : List ℕ). strings os ≡ Some os) same (e ∙ ap Some (sym same)); len = cc }
+
+abbrev none : List ℕ → Option (List ℕ)
+none octets = None
+
+IsRead-none : (octets own : List ℕ) → none octets ≡ Some own → IsRead none octets own
+IsRead-none octets own e = cc
+
+pub IsRead-data : (rtype : ℕ) (octets own : List ℕ) → data_of rtype octets ≡ Some own → IsRead (data_of rtype) octets own
+IsRead-data rtype octets own e =
+    IsRead-if (rtype == 1) (parts 4 0 0) _ octets own (IsRead-parts 4 0 0 octets own)
+    (IsRead-if (rtype == 2) (parts 0 1 0) _ octets own (IsRead-parts 0 1 0 octets own)
+    (IsRead-if (rtype == 5) (parts 0 1 0) _ octets own (IsRead-parts 0 1 0 octets own)
+    (IsRead-if (rtype == 6) (parts 0 2 20) _ octets own (IsRead-parts 0 2 20 octets own)
+    (IsRead-if (rtype == 15) (parts 2 1 0) _ octets own (IsRead-parts 2 1 0 octets own)
+    (IsRead-if (rtype == 16) strings none octets own (IsRead-strings octets own) (IsRead-none octets own))))))
+    e
+
+-- behind the names stand as many octets as are to
+names_then_long : (names back : ℕ) (octets own : List ℕ) → names_then names back octets ≡ Some own → back ≤ length own
+names_then_long zero back octets own e =
+    let test = cond_some (length octets == back) (Some octets) own e in
+    let same : octets ≡ own = cc in
+    let size = (Decides-eqb (length octets) back).0 test.0 in
+    omega (arith, ap length same)
+names_then_long (suc names) back octets own e =
+    let name = and_then_some _ (name_in octets) own e in
+    let rest = map_some _ (names_then names back (drop (length (wire_of name.0)) octets)) own name.2 in
+    let long = names_then_long names back (drop (length (wire_of name.0)) octets) rest.0 rest.1 in
+    let sum = length-append (wire_of (fold_name name.0)) rest.0 in
+    omega (arith, ap length rest.2)
+
+-- an SOA's data ends in 20 octets of numbers
+pub soa_long : (octets own : List ℕ) → parts 0 2 20 octets ≡ Some own → 20 ≤ length own
+soa_long octets own e =
+    let test = cond_some (nat_le 0 (length octets)) _ own e in
+    let rest = map_some _ (names_then 2 20 (drop 0 octets)) own test.1 in
+    let long = names_then_long 2 20 (drop 0 octets) rest.0 rest.1 in
+    omega (arith, ap length rest.2)

@@ -1,0 +1,65 @@
+-- What a record's data is: which octets have the form of their type, with names written in full (RFC 1035, 3.3 and
+-- 3.4.1), and what stands in them.
+use Rattle.std.specs.Prelude.{ℕ, zero, suc, ◌-◌, Bool, ◌&&◌, ◌==◌, List, [], ◌∷◌, ◌++◌, length, take, drop, nat_lt, nat_le, if◌then◌else◌, Option, Some, None}
+use Rattle.std.specs.Option.{option_map, option_and_then}
+use Rattle.std.specs.Int.{from_be_bytes, w32}
+use Rattle.dns_name.specs.Name.{wire_of, fold_name, name_in}
+use Rattle.dns_rdata.specs.Numbers.{type_A, type_NS, type_CNAME, type_SOA, type_MX, type_TXT}
+
+-- so many names in full and behind them so many octets: the same octets with the names in lower case; none of any others
+abbrev pub names_then : ℕ → ℕ → List ℕ → Option (List ℕ)
+names_then zero back octets = if length octets == back then Some octets else None
+names_then (suc names) back octets =
+    option_and_then (λ name. option_map (λ rest. wire_of (fold_name name) ++ rest) (names_then names back (drop (length (wire_of name)) octets))) (name_in octets)
+
+-- so many octets in front, so many names, so many octets behind
+abbrev pub parts : ℕ → ℕ → ℕ → List ℕ → Option (List ℕ)
+parts front names back octets =
+    if nat_le front (length octets) then option_map (λ rest. take front octets ++ rest) (names_then names back (drop front octets)) else None
+
+-- whether strings, each a length octet and so many octets, fill the octets behind the first k (RFC 1035, 3.3)
+abbrev pub are_strings : ℕ → List ℕ → Bool
+are_strings k [] = k == 0
+are_strings zero (n ∷ octets) = are_strings n octets
+are_strings (suc k) (octet ∷ octets) = are_strings k octets
+
+-- the data octets of a type that these octets spell: themselves, with the names in them in lower case; none where they
+-- haven't the type's form, or the type isn't one of those served (RFC 1035, 3.3 and 3.4.1; RFC 4034, 6.2)
+abbrev pub data_of : ℕ → List ℕ → Option (List ℕ)
+data_of rtype octets =
+    if rtype == type_A then parts 4 0 0 octets
+    else if rtype == type_NS then parts 0 1 0 octets
+    else if rtype == type_CNAME then parts 0 1 0 octets
+    else if rtype == type_SOA then parts 0 2 20 octets
+    else if rtype == type_MX then parts 2 1 0 octets
+    else if rtype == type_TXT then (if nat_lt 0 (length octets) && are_strings 0 octets then Some octets else None)
+    else None
+
+-- a record's data as contracts see it: its type's number and its octets
+pub record Data : Type 0 where
+  pub rtype : ℕ
+  pub octets : List ℕ
+
+-- the name that an alias stands for (RFC 1035, 3.3.1)
+abbrev pub target_of : List ℕ → Option (List (List ℕ))
+target_of octets = name_in octets
+
+-- the number of four octets that begins so many octets before the end
+abbrev pub number_before_end : ℕ → List ℕ → ℕ
+number_before_end k octets = from_be_bytes w32 (take 4 (drop (length octets - k) octets))
+
+-- the numbers at the end of an SOA's data, in their order (RFC 1035, 3.3.13)
+abbrev pub serial_of : List ℕ → ℕ
+serial_of octets = number_before_end 20 octets
+
+abbrev pub refresh_of : List ℕ → ℕ
+refresh_of octets = number_before_end 16 octets
+
+abbrev pub retry_of : List ℕ → ℕ
+retry_of octets = number_before_end 12 octets
+
+abbrev pub expire_of : List ℕ → ℕ
+expire_of octets = number_before_end 8 octets
+
+abbrev pub minimum_of : List ℕ → ℕ
+minimum_of octets = number_before_end 4 octets

@@ -1,0 +1,5 @@
+pub mod Numbers
+pub mod Data
+pub mod Record
+pub mod Shown
+pub use Rattle.dns_name.specs.Name

@@ -1,0 +1,216 @@
+//! A record's data (RFC 1035, 3.3 and 3.4.1).
+ghost use Rattle.std.specs.Prelude.{◌≡◌, ◌<◌, ◌≤◌, ◌⊎◌, ◌↔◌, ◌==◌, ◌&&◌, nat_lt, if◌then◌else◌, length, IfOk, IfSome, Some, None, IsSome};
+ghost use Rattle.std.specs.Result.{IsErrOf};
+ghost use Rattle.std.specs.Option.{option_map};
+ghost use Rattle.dns_rdata.specs.Data.{data_of, are_strings, parts, target_of, number_before_end, serial_of, refresh_of, retry_of, expire_of, minimum_of};
+ghost use Rattle.dns_rdata.specs.Numbers.{type_CNAME, type_SOA};
+
+use crate::numbers::{RType, Serial, Ttl};
+use dns_name::Name;
+use std::alloc::{AllocError, Global};
+use std::marker::Model;
+use thiserror::Error;
+
+/// The most octets of a record's data, uncompressed.
+pub const MAX_DATA: usize = 4096;
+
+/// Why octets are no record's data. The form is judged before the length.
+#[derive(Clone, Copy, Debug, PartialEq, Eq, Error)]
+pub enum DataFault {
+    /// The octets don't have the form of their type, or the type isn't one of those served.
+    #[error("A1 BadLength")]
+    BadLength,
+    /// More octets than a record's data may have.
+    #[error("A2 TooLong")]
+    TooLong,
+    /// A growth was refused.
+    #[error("A3 NoMemory")]
+    NoMemory,
+}
+
+/// A record's data: its type, and octets of that type's form, uncompressed, with the names in them in lower case.
+#[derive(Drop)]
+pub struct RData {
+    rtype: RType,
+    octets: Vec<u8>,
+}
+
+impl Model for RData {
+    ghost use Rattle.std.specs.Prelude.{◌≡◌, ◌≤◌, Some, length};
+    ghost use Rattle.dns_rdata.specs.Data.{Data, data_of};
+
+    ghost Value = { Data };
+
+    ghost view = { λ a. record { rtype = a.rtype.0; octets = a.octets.items } };
+
+    ghost invariant = { λ a. (data_of a.rtype.0 a.octets.items ≡ Some a.octets.items) × (length a.octets.items ≤ 4096) };
+}
+
+/// The numbers at the end of an SOA's data (RFC 1035, 3.3.13).
+#[derive(Clone, Copy, Debug, PartialEq, Eq)]
+pub struct Soa {
+    /// The zone's serial.
+    pub serial: Serial,
+    /// After how many seconds a secondary asks for the serial again.
+    pub refresh: u32,
+    /// After how many seconds it asks again where it got no answer.
+    pub retry: u32,
+    /// After how many seconds without an answer it stops serving the zone.
+    pub expire: u32,
+    /// The least TTL; how long a negative answer may be kept (RFC 2308, 4).
+    pub minimum: Ttl,
+}
+
+impl RData {
+    /// The data that these octets spell for a type, names in full: the same octets with the names in lower case.
+    ///
+    /// `BadLength` where they haven't the type's form, else `TooLong` over [`MAX_DATA`] octets (RFC 1035, 3.3 and
+    /// 3.4.1). `NoMemory` only where a growth was refused.
+    pub fn from_wire(alloc: Global, rtype: RType, octets: &[u8]) -> Result<RData, DataFault>
+        ensures data { IfOk result (λ d. (d.rtype ≡ rtype.0) × (data_of rtype.0 octets.now ≡ Some d.octets) × (length d.octets ≤ MAX_DATA)) }
+
+        // The form decides first.
+        ensures bad_length { IsErrOf result DataFault.BadLength → data_of rtype.0 octets.now ≡ None }
+        ensures no_form { data_of rtype.0 octets.now ≡ None → IsErrOf result DataFault.BadLength ⊎ IsErrOf result DataFault.NoMemory }
+
+        // Folding keeps the length.
+        ensures too_long { IsErrOf result DataFault.TooLong → IsSome (data_of rtype.0 octets.now) × (MAX_DATA < length octets.now) }
+        ensures long_form { IsSome (data_of rtype.0 octets.now) → MAX_DATA < length octets.now → IsErrOf result DataFault.TooLong ⊎ IsErrOf result DataFault.NoMemory }
+    {
+        let own = own_data(alloc, rtype, octets).map_err(|_| DataFault::NoMemory)?;
+        let own = own.ok_or(DataFault::BadLength)?;
+        if own.len() > MAX_DATA {
+            return Err(DataFault::TooLong);
+        }
+        Ok(RData { rtype, octets: own })
+    }
+
+    /// The type that the octets have the form of.
+    pub fn rtype(&self) -> RType
+        ensures { result.0 ≡ self.now.rtype }
+    {
+        self.rtype
+    }
+
+    /// The octets, uncompressed, with the names in them in lower case.
+    pub fn octets(&self) -> &[u8]
+        ensures octets { result.now ≡ self.now.octets }
+        ensures formed { data_of self.now.rtype result.now ≡ Some result.now }
+        ensures short { length result.now ≤ MAX_DATA }
+    {
+        &self.octets
+    }
+
+    /// The name that an alias stands for; None of any type but CNAME (RFC 1035, 3.3.1).
+    pub fn target(&self) -> Option<Name>
+        ensures target { result ≡ (if self.now.rtype == type_CNAME then target_of self.now.octets else None) }
+        ensures named { self.now.rtype ≡ type_CNAME → IsSome result }
+    {
+        if self.rtype != RType::CNAME {
+            return None;
+        }
+        let (name, _) = Name::from_wire(&self.octets)?;
+        Some(name)
+    }
+
+    /// The numbers at the end of an SOA's data; None of any other type (RFC 1035, 3.3.13).
+    pub fn soa(&self) -> Option<Soa>
+        ensures found { IsSome result ↔ (self.now.rtype ≡ type_SOA) }
+        ensures serial { IfSome result (λ soa. soa.serial.0 ≡ serial_of self.now.octets) }
+        ensures refresh { IfSome result (λ soa. soa.refresh ≡ refresh_of self.now.octets) }
+        ensures retry { IfSome result (λ soa. soa.retry ≡ retry_of self.now.octets) }
+        ensures expire { IfSome result (λ soa. soa.expire ≡ expire_of self.now.octets) }
+        ensures minimum { IfSome result (λ soa. soa.minimum.0 ≡ minimum_of self.now.octets) }
+    {
+        if self.rtype != RType::SOA {
+            return None;
+        }
+        let octets = self.octets.as_slice();
+        Some(Soa {
+            serial: Serial(number_before_end(octets, 20)),
+            refresh: number_before_end(octets, 16),
+            retry: number_before_end(octets, 12),
+            expire: number_before_end(octets, 8),
+            minimum: Ttl(number_before_end(octets, 4)),
+        })
+    }
+}
+
+/// The number of four octets that begins so many octets before the end.
+fn number_before_end(octets: &[u8], before: usize) -> u32
+    requires whole { 4 ≤ before }
+    requires within { before ≤ length octets.now }
+    ensures { result ≡ number_before_end before octets.now }
+{
+    let at = octets.len() - before;
+    u32::from_be_bytes([octets[at], octets[at + 1], octets[at + 2], octets[at + 3]])
+}
+
+/// The data octets of a type that these octets spell; None where they haven't the type's form.
+fn own_data(alloc: Global, rtype: RType, octets: &[u8]) -> Result<Option<Vec<u8>>, AllocError>
+    ensures { IfOk result (λ own. option_map (λ v. v.items) own ≡ data_of rtype.0 octets.now) }
+{
+    match rtype {
+        RType::A => fold_parts(alloc, octets, 4, 0, 0),
+        RType::NS | RType::CNAME => fold_parts(alloc, octets, 0, 1, 0),
+        RType::SOA => fold_parts(alloc, octets, 0, 2, 20),
+        RType::MX => fold_parts(alloc, octets, 2, 1, 0),
+        RType::TXT => copy_strings(alloc, octets),
+        _ => Ok(None),
+    }
+}
+
+/// So many octets in front, so many names, so many octets behind: the same with the names in lower case.
+fn fold_parts(
+    alloc: Global,
+    octets: &[u8],
+    front: usize,
+    names: usize,
+    back: usize,
+) -> Result<Option<Vec<u8>>, AllocError>
+    ensures { IfOk result (λ own. option_map (λ v. v.items) own ≡ parts front names back octets.now) }
+{
+    if octets.len() < front {
+        return Ok(None);
+    }
+    let (head, mut rest) = octets.split_at(front);
+    let mut own = Vec::with_capacity(alloc, octets.len())?;
+    own.extend_from_slice(head)?;
+    for _ in 0..names {
+        let Some((name, len)) = Name::from_wire(rest) else {
+            return Ok(None);
+        };
+        own.extend_from_slice(name.fold().wire())?;
+        rest = &rest[len..];
+    }
+    if rest.len() != back {
+        return Ok(None);
+    }
+    own.extend_from_slice(rest)?;
+    Ok(Some(own))
+}
+
+/// One string or more.
+fn copy_strings(alloc: Global, octets: &[u8]) -> Result<Option<Vec<u8>>, AllocError>
+    ensures { IfOk result (λ own. option_map (λ v. v.items) own ≡ (if nat_lt 0 (length octets.now) && are_strings 0 octets.now then Some octets.now else None)) }
+{
+    if octets.is_empty() || !holds_strings(octets) {
+        return Ok(None);
+    }
+    Ok(Some(octets.to_vec(alloc)?))
+}
+
+/// Whether strings, each a length octet and so many octets, fill the octets (RFC 1035, 3.3).
+fn holds_strings(octets: &[u8]) -> bool
+    ensures { result ≡ are_strings 0 octets.now }
+{
+    let mut left = 0;
+    for octet in octets {
+        left = if left == 0 {
+            usize::from(*octet)
+        } else {
+            left - 1
+        };
+    }
+    left == 0
+}

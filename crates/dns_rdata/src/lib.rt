@@ -1,0 +1,21 @@
+//! Records: their types, classes and TTLs, their data, and the sets that share an owner and a type (RFC 1034, 3.6;
+//! RFC 1035, 3.2 and 3.3; RFC 2181, 5).
+//!
+//! Contracts see an [`RRset`] as the list of its records, ordered by their data octets, and an [`RData`] as its type
+//! and its octets. Data lies uncompressed, with the names in it in lower case.
+#![tactic(auto)]
+
+mod data;
+mod laws;
+mod numbers;
+mod rrset;
+mod shown;
+
+pub use data::{DataFault, MAX_DATA, RData, Soa};
+pub use laws::{one_more, read_again, records_in_order};
+pub use numbers::{Class, RType, Rcode, Serial, Ttl};
+pub use rrset::{MAX_SET, RRset, SetFault};
+pub use shown::Shown;
+
+#[cfg(test)]
+mod tests;

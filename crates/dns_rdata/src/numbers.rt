@@ -1,0 +1,88 @@
+//! The numbers of record types, classes and reply codes, and the numbers that a record and an SOA carry.
+ghost use Rattle.std.specs.Prelude.{◌≡◌};
+
+/// A record type, or a type that only a question may have (RFC 1035, 3.2.2 and 3.2.3).
+#[derive(Clone, Copy, Debug, PartialEq, Eq, PartialOrd, Ord)]
+pub struct RType(pub u16);
+
+impl RType {
+    /// A host address (RFC 1035, 3.4.1).
+    pub const A: RType = RType(1);
+    /// An authoritative name server (RFC 1035, 3.3.11).
+    pub const NS: RType = RType(2);
+    /// The canonical name for an alias (RFC 1035, 3.3.1).
+    pub const CNAME: RType = RType(5);
+    /// The start of a zone of authority (RFC 1035, 3.3.13).
+    pub const SOA: RType = RType(6);
+    /// A mail exchange (RFC 1035, 3.3.9).
+    pub const MX: RType = RType(15);
+    /// Text strings (RFC 1035, 3.3.14).
+    pub const TXT: RType = RType(16);
+    /// A request for an incremental transfer (RFC 1995, 4).
+    pub const IXFR: RType = RType(251);
+    /// A request for a transfer of the whole zone (RFC 1035, 3.2.3).
+    pub const AXFR: RType = RType(252);
+    /// A request for mailbox records (RFC 1035, 3.2.3).
+    pub const MAILB: RType = RType(253);
+    /// A request for mail agents (RFC 1035, 3.2.3).
+    pub const MAILA: RType = RType(254);
+    /// A request for all records (RFC 1035, 3.2.3).
+    pub const ANY: RType = RType(255);
+}
+
+/// A class (RFC 1035, 3.2.4).
+#[derive(Clone, Copy, Debug, PartialEq, Eq)]
+pub struct Class(pub u16);
+
+impl Class {
+    /// The Internet.
+    pub const IN: Class = Class(1);
+}
+
+/// How long a record may be kept, in seconds (RFC 1035, 3.2.1).
+#[derive(Clone, Copy, Debug, PartialEq, Eq, PartialOrd, Ord)]
+pub struct Ttl(pub u32);
+
+impl Ttl {
+    /// The greatest TTL, in seconds (RFC 2181, 8).
+    pub const MAX: Ttl = Ttl(0x7fff_ffff);
+}
+
+/// A zone's serial (RFC 1982).
+#[derive(Clone, Copy, Debug, PartialEq, Eq)]
+pub struct Serial(pub u32);
+
+/// A reply code (RFC 1035, 4.1.1).
+#[derive(Clone, Copy, Debug, PartialEq, Eq)]
+pub enum Rcode {
+    /// No error.
+    NoError,
+    /// The request's form can't be read.
+    FormErr,
+    /// The server can't answer.
+    ServFail,
+    /// The name doesn't exist.
+    NxDomain,
+    /// The kind of request isn't supported.
+    NotImp,
+    /// The server won't answer.
+    Refused,
+}
+
+impl Rcode {
+    ghost use Rattle.dns_rdata.specs.Numbers.{rcode_number};
+
+    /// The code's number, which fits four bits (RFC 1035, 4.1.1).
+    pub fn number(self) -> u8
+        ensures { result ≡ rcode_number self }
+    {
+        match self {
+            Rcode::NoError => 0,
+            Rcode::FormErr => 1,
+            Rcode::ServFail => 2,
+            Rcode::NxDomain => 3,
+            Rcode::NotImp => 4,
+            Rcode::Refused => 5,
+        }
+    }
+}

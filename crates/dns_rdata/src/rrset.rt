@@ -1,0 +1,149 @@
+//! The records that share an owner and a type (RFC 2181, 5).
+ghost use Rattle.std.specs.Prelude.{◌≡◌, ◌↔◌, ◌<◌, ◌≤◌, ◌^◌, false, not, [], ◌∷◌, length, map, insert, All, IfOk, OnOk, OnErr, MatchResult};
+ghost use Rattle.std.specs.List.{AllPairs};
+ghost use Rattle.std.specs.Result.{IsErrOf};
+ghost use Rattle.dns_name.specs.Name.{fold_name};
+ghost use Rattle.dns_rdata.specs.Record.{Record, records_with, owner_of, rtype_of, ttl_of, IsBefore, with_data, with_record, has_data};
+
+use crate::data::RData;
+use crate::numbers::{RType, Ttl};
+use dns_name::Name;
+use std::alloc::{AllocError, Global};
+use std::cmp::Ordering;
+use std::marker::Model;
+use thiserror::Error;
+
+/// The most records of a set.
+pub const MAX_SET: usize = 256;
+
+/// Why a record isn't put into a set.
+#[derive(Clone, Copy, Debug, PartialEq, Eq, Error)]
+pub enum SetFault {
+    /// The set has [`MAX_SET`] records, and this would be another.
+    #[error("a set has at most 256 records")]
+    Limit,
+    /// A growth was refused.
+    #[error("no memory for another record")]
+    NoMemory,
+}
+
+/// The records of one owner and type, with one TTL, ordered by their data octets: at least one, at most
+/// [`MAX_SET`], no two equal (RFC 2181, 5; RFC 4034, 6.3). The owner is in lower case.
+#[derive(Drop)]
+pub struct RRset {
+    owner: Name,
+    rtype: RType,
+    ttl: Ttl,
+    rdata: Vec<RData>,
+}
+
+impl Model for RRset {
+    ghost use Rattle.std.specs.Prelude.{List};
+    ghost use Rattle.dns_rdata.specs.Record.{Record, records_with, IsSet};
+
+    ghost Value = { List Record };
+
+    ghost view = { λ a. records_with a.owner a.rtype.0 a.ttl.0 a.rdata.items };
+
+    ghost invariant = { λ a. IsSet a.owner a.rtype.0 a.ttl.0 a.rdata.items };
+}
+
+impl RRset {
+    /// The set of one record. Its owner is the name in lower case, and the TTL is in seconds.
+    pub fn new(alloc: Global, owner: &Name, ttl: Ttl, rdata: RData) -> Result<RRset, AllocError>
+        requires { ttl.0 < 2 ^ 31 }
+        ensures { IfOk result (λ set. set ≡ record { owner = fold_name owner.now; rtype = rdata.rtype; ttl = ttl.0; rdata = rdata.octets } ∷ []) }
+    {
+        let rtype = rdata.rtype();
+        let mut own = Vec::new(alloc);
+        own.push(rdata)?;
+        Ok(RRset {
+            owner: owner.fold(),
+            rtype,
+            ttl,
+            rdata: own,
+        })
+    }
+
+    /// The owner, in lower case.
+    pub fn owner(&self) -> &Name
+        ensures of { result.now ≡ owner_of self.now }
+        ensures shared { All (λ r. r.owner ≡ result.now) self.now }
+        ensures folded { result.now ≡ fold_name result.now }
+    {
+        &self.owner
+    }
+
+    /// The type of its records.
+    pub fn rtype(&self) -> RType
+        ensures of { result.0 ≡ rtype_of self.now }
+        ensures shared { All (λ r. r.rtype ≡ result.0) self.now }
+    {
+        self.rtype
+    }
+
+    /// The TTL of its records, in seconds, at most [`Ttl::MAX`].
+    pub fn ttl(&self) -> Ttl
+        ensures of { result.0 ≡ ttl_of self.now }
+        ensures shared { All (λ r. r.ttl ≡ result.0) self.now }
+        ensures lasts { result.0 < 2 ^ 31 }
+    {
+        self.ttl
+    }
+
+    /// The records' data, in strictly ascending order of their octets (RFC 4034, 6.3).
+    pub fn data(&self) -> &[RData]
+        ensures records { self.now ≡ records_with (owner_of self.now) (rtype_of self.now) (ttl_of self.now) result.now }
+        ensures some { 0 < length result.now }
+        ensures few { length result.now ≤ MAX_SET }
+        ensures typed { All (λ d. d.rtype ≡ rtype_of self.now) result.now }
+        ensures ascending { AllPairs IsBefore result.now }
+    {
+        &self.rdata
+    }
+
+    /// Puts one more record into its place: equal records are one. Whether it is new (RFC 2181, 5).
+    ///
+    /// `Limit` where the set has [`MAX_SET`] records and this would be another. Where it fails, the set is unchanged.
+    pub fn insert(&mut self, rdata: RData) -> Result<bool, SetFault>
+        requires { rdata.rtype ≡ rtype_of self.old }
+        ensures ok { OnOk result (self.new ≡ with_record (record { owner = owner_of self.old; rtype = rdata.rtype; ttl = ttl_of self.old; rdata = rdata.octets }) self.old) }
+        ensures fresh { IfOk result (λ is_new. is_new ≡ not (has_data self.old rdata.octets)) }
+        ensures limit { IsErrOf result SetFault.Limit ↔ ((length self.old ≡ MAX_SET) × (has_data self.old rdata.octets ≡ false)) }
+        ensures err { OnErr result (self.new ≡ self.old) }
+    {
+        let Err(place) = place_of(&self.rdata, &rdata) else {
+            return Ok(false);
+        };
+        if self.rdata.len() == MAX_SET {
+            return Err(SetFault::Limit);
+        }
+        self.rdata
+            .insert(place, rdata)
+            .map_err(|_| SetFault::NoMemory)?;
+        Ok(true)
+    }
+
+    /// Gives each record this TTL, in seconds.
+    pub fn set_ttl(&mut self, ttl: Ttl)
+        requires { ttl.0 < 2 ^ 31 }
+        ensures { self.new ≡ map (λ (r : Record). record r { ttl = ttl.0 }) self.old }
+    {
+        self.ttl = ttl;
+    }
+}
+
+/// Where data stands among data in order; where it isn't there, the place that keeps them in order.
+fn place_of(sorted: &[RData], rdata: &RData) -> Result<usize, usize>
+    ensures { MatchResult result (λ at. with_data rdata.now sorted.now ≡ sorted.now)
+        (λ at. (at ≤ length sorted.now) × (with_data rdata.now sorted.now ≡ insert sorted.now at rdata.now)) }
+{
+    for (at, other) in sorted.iter().enumerate() {
+        match rdata.octets().cmp(other.octets()) {
+            Ordering::Less => return Err(at),
+            Ordering::Equal => return Ok(at),
+            Ordering::Greater => {}
+        }
+    }
+    Err(sorted.len())
+}

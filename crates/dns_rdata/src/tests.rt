@@ -1,0 +1,228 @@
+//! Outside values, and each call with ample memory.
+ghost use Rattle.std.specs.Prelude.{◌≡◌};
+
+use crate::data::{DataFault, RData};
+use crate::numbers::{RType, Rcode, Serial, Ttl};
+use crate::rrset::{RRset, SetFault};
+use crate::shown::Shown;
+use dns_name::Name;
+use std::alloc::Global;
+use std::process::Abort;
+use std::test::Fail;
+
+/// The data octets that are read, or the fault.
+fn read(alloc: Global, rtype: RType, octets: &[u8]) -> Result<Vec<u8>, DataFault> {
+    let data = RData::from_wire(alloc, rtype, octets)?;
+    data.octets().to_vec(alloc).map_err(|_| DataFault::NoMemory)
+}
+
+// The zone of RFC 1035, 5.3, on the wire, and data that isn't of its type's form (RFC 1035, 3.3 and 3.4.1).
+#[test]
+fn forms(rt: HostRuntime) {
+    let venera: &[u8] = b"\x06VENERA\x03ISI\x03EDU\0";
+    let folded: &[u8] = b"\x06venera\x03isi\x03edu\0";
+    let cases: [(RType, &[u8], Option<&[u8]>); 20] = [
+        (RType::A, &[10, 1, 0, 52], Some(&[10, 1, 0, 52])),
+        (RType::A, &[10, 1, 0], None),
+        (RType::A, &[10, 1, 0, 52, 0], None),
+        (RType::NS, venera, Some(folded)),
+        (RType::CNAME, venera, Some(folded)),
+        (RType::NS, b"\x06VENERA\x03ISI\x03EDU", None),
+        (RType::NS, b"\x06VENERA\x03ISI\x03EDU\0\0", None),
+        (RType::NS, b"\xc0\x0c", None),
+        (RType::NS, b"", None),
+        (
+            RType::MX,
+            b"\0\x0a\x06VENERA\x03ISI\x03EDU\0",
+            Some(b"\0\x0a\x06venera\x03isi\x03edu\0"),
+        ),
+        (RType::MX, b"\x06VENERA\x03ISI\x03EDU\0", None),
+        (RType::MX, b"\0", None),
+        (RType::TXT, b"\x02Hi", Some(b"\x02Hi")),
+        (RType::TXT, b"\x02Hi\0\x01!", Some(b"\x02Hi\0\x01!")),
+        (RType::TXT, b"\0", Some(b"\0")),
+        (RType::TXT, b"", None),
+        (RType::TXT, b"\x03Hi", None),
+        (
+            RType::SOA,
+            b"\0\0\0\0\0\x14\0\0\x1c\x20\0\0\x02\x58\0\x36\xee\x80\0\0\0",
+            None,
+        ),
+        (
+            RType(28),
+            b"\x20\x01\x0d\xb8\0\0\0\0\0\0\0\0\0\0\0\x01",
+            None,
+        ),
+        (RType::ANY, b"", None),
+    ];
+    for (rtype, octets, want) in cases {
+        let got = read(rt.alloc(), rtype, octets);
+        match want {
+            Some(own) => {
+                let got = got.expect(&rt, "octets of the type's form");
+                assert_eq!(rt; got.as_slice(), own, "type {}", rtype.0);
+            }
+            None => assert_eq!(rt; got.err(), Some(DataFault::BadLength), "type {}", rtype.0),
+        }
+    }
+}
+
+// The SOA of RFC 1035, 5.3, and an alias.
+#[test]
+fn fields(rt: HostRuntime) -> Result<(), Fail> {
+    let octets =
+        b"\x06VENERA\x03ISI\x03EDU\0\x0eAction.domains\x03ISI\x03EDU\0\0\0\0\x14\0\0\x1c\x20\0\0\x02\x58\0\x36\xee\x80\0\0\0\x3c";
+    let soa = RData::from_wire(rt.alloc(), RType::SOA, octets)?;
+    assert!(rt; soa.target().is_none());
+    let numbers = soa.soa().ok_or("an SOA has numbers")?;
+    assert_eq!(rt; numbers.serial, Serial(20));
+    assert_eq!(rt;
+        (numbers.refresh, numbers.retry, numbers.expire),
+        (7200, 600, 3_600_000)
+    );
+    assert_eq!(rt; numbers.minimum, Ttl(60));
+
+    let alias = RData::from_wire(rt.alloc(), RType::CNAME, b"\x04VAXA\x03ISI\x03EDU\0")?;
+    assert!(rt; alias.soa().is_none());
+    let target = alias.target().ok_or("an alias has a target")?;
+    assert_eq!(rt; target.wire(), b"\x04vaxa\x03isi\x03edu\0".as_slice());
+    Ok(())
+}
+
+// 16 strings of 255 octets are 4,096 octets; one more string, of none, is one too many. The form is judged first.
+#[test]
+fn most_octets(rt: HostRuntime) -> Result<(), Fail> {
+    let mut octets = Vec::new(rt.alloc());
+    for _ in 0..16 {
+        octets.push(255u8)?;
+        octets.extend_from_slice(&[b'a'; 255])?;
+    }
+    assert_eq!(rt; read(rt.alloc(), RType::TXT, &octets)?.len(), 4096);
+    octets.push(0)?;
+    assert_eq!(rt;
+        read(rt.alloc(), RType::TXT, &octets).err(),
+        Some(DataFault::TooLong)
+    );
+    octets.push(1)?;
+    assert_eq!(rt;
+        read(rt.alloc(), RType::TXT, &octets).err(),
+        Some(DataFault::BadLength)
+    );
+    Ok(())
+}
+
+// Sets are in order of their data's octets, and equal records are one (RFC 4034, 6.3; RFC 2181, 5).
+#[test]
+fn sets(rt: HostRuntime) -> Result<(), Fail> {
+    let (name, _) = Name::from_wire(b"\x06VENERA\x03ISI\x03EDU\0").ok_or("a name")?;
+    let first = RData::from_wire(rt.alloc(), RType::A, &[128, 9, 0, 32])?;
+    let mut set = RRset::new(rt.alloc(), &name, Ttl(3600), first)?;
+    let cases = [
+        ([10, 1, 0, 52], true),
+        ([128, 9, 0, 33], true),
+        ([10, 1, 0, 52], false),
+        ([128, 9, 0, 32], false),
+    ];
+    for (octets, fresh) in cases {
+        let data = RData::from_wire(rt.alloc(), RType::A, &octets)?;
+        assert!(rt; data.rtype() == set.rtype());
+        assert_eq!(rt; set.insert(data)?, fresh, "{octets:?}");
+    }
+    let want = [[10, 1, 0, 52], [128, 9, 0, 32], [128, 9, 0, 33]];
+    assert_eq!(rt; set.data().len(), want.len());
+    for (data, octets) in set.data().iter().zip(&want) {
+        assert_eq!(rt; data.octets(), octets.as_slice());
+    }
+    assert_eq!(rt;
+        set.owner().wire(),
+        b"\x06venera\x03isi\x03edu\0".as_slice()
+    );
+    set.set_ttl(Ttl::MAX);
+    assert_eq!(rt; set.ttl(), Ttl(0x7fff_ffff));
+    Ok(())
+}
+
+// A set has 256 records; one that is there already still is.
+#[test]
+fn most_records(rt: HostRuntime) -> Result<(), Fail> {
+    let first = RData::from_wire(rt.alloc(), RType::A, &[10, 0, 0, 0])?;
+    let mut set = RRset::new(rt.alloc(), &Name::root(), Ttl(0), first)?;
+    for low in 1..=255u8 {
+        let data = RData::from_wire(rt.alloc(), RType::A, &[10, 0, 0, low])?;
+        assert!(rt; data.rtype() == set.rtype());
+        assert!(rt; set.insert(data)?);
+    }
+    let cases = [
+        ([10, 0, 1, 0], Err(SetFault::Limit)),
+        ([10, 0, 0, 255], Ok(false)),
+    ];
+    for (octets, want) in cases {
+        let data = RData::from_wire(rt.alloc(), RType::A, &octets)?;
+        assert!(rt; data.rtype() == set.rtype());
+        assert_eq!(rt; set.insert(data), want, "{octets:?}");
+    }
+    Ok(())
+}
+
+// Reply codes (RFC 1035, 4.1.1), and a section that shows nothing.
+#[test]
+fn codes(rt: HostRuntime) {
+    let codes = [
+        Rcode::NoError,
+        Rcode::FormErr,
+        Rcode::ServFail,
+        Rcode::NxDomain,
+        Rcode::NotImp,
+        Rcode::Refused,
+    ];
+    for (code, number) in codes.iter().zip(0u8..) {
+        assert_eq!(rt; code.number(), number);
+    }
+    let none = Shown::default();
+    assert!(rt; none.sets.is_empty() && none.ttl.is_none() && none.owner.is_root());
+}
+
+/// The address, read once more where a growth was refused.
+fn address<R: Abort>(rt: &R, alloc: Global, octets: [u8; 4]) -> RData
+    ensures { result.rtype ≡ 1 }
+{
+    match RData::from_wire(alloc, RType::A, &octets) {
+        Ok(data) => data,
+        Err(fault) => {
+            assert_eq!(rt; fault, DataFault::NoMemory);
+            RData::from_wire(alloc, RType::A, &octets).expect(rt, "memory")
+        }
+    }
+}
+
+// With any one growth refused, the fault is NoMemory, the set stays as it was, and the same call works once more.
+#[test]
+fn refused_growth(rt: HostRuntime) {
+    let mut made = RRset::new(
+        rt.alloc(),
+        &Name::root(),
+        Ttl(0),
+        address(&rt, rt.alloc(), [10, 0, 0, 0]),
+    );
+    if made.is_err() {
+        made = RRset::new(
+            rt.alloc(),
+            &Name::root(),
+            Ttl(0),
+            address(&rt, rt.alloc(), [10, 0, 0, 0]),
+        );
+    }
+    let mut set = made.expect(&rt, "memory");
+    for low in 1..40u8 {
+        let data = address(&rt, rt.alloc(), [10, 0, 0, low]);
+        assert!(rt; data.rtype() == set.rtype());
+        if let Err(fault) = set.insert(data) {
+            assert_eq!(rt; fault, SetFault::NoMemory);
+            assert_eq!(rt; set.data().len(), usize::from(low));
+            let data = address(&rt, rt.alloc(), [10, 0, 0, low]);
+            assert!(rt; data.rtype() == set.rtype());
+            assert_eq!(rt; set.insert(data), Ok(true));
+        }
+    }
+    assert_eq!(rt; set.data().len(), 40);
+}
