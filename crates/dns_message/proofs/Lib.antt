@@ -1,0 +1,4 @@
+pub mod CountLemmas
+pub mod PutsLemmas
+pub mod ReadLemmas
+pub mod TextLemmas

@@ -1,0 +1,5 @@
+use Rattle.dns_message.proofs.ReadLemmas.{reads-request_of}
+use Rattle.dns_message.proofs.laws.question_is_read_again.Goals as goal
+
+pub returns : goal.returns
+returns c = reads-request_of

@@ -1,0 +1,29 @@
+-- The request that a reply answers.
+use Rattle.std.specs.Prelude.{◌≡◌, ℕ, ◌+◌, ◌*◌, ◌^◌, ◌<◌, false, List, [], ◌∷◌, ◌++◌, drop, Some}
+use Rattle.std.specs.Int.{to_be_bytes, w16}
+use Rattle.std.specs.List.{flat_map}
+use Rattle.dns_name.specs.Name.{IsName}
+use Rattle.dns_message.specs.Message.{Message}
+use Rattle.dns_message.specs.Reads.{asks_transfer}
+use Rattle.dns_message.specs.Text.{bit, text}
+use Rattle.dns_message.specs.declared.query.Head.{Head}
+use Rattle.dns_message.specs.declared.query.Question.{Question}
+
+-- the header of a request: ID, OPCODE and RD, one question, no records (RFC 1035, 4.1.1)
+abbrev pub request_header : Head → List ℕ
+request_header head =
+    to_be_bytes w16 head.id ++ ((8 * head.opcode + bit head.rd) ∷ 0 ∷ []) ++ flat_map (to_be_bytes w16) (1 ∷ 0 ∷ 0 ∷ 0 ∷ [])
+
+-- a reply's octets with a request's header in place of its own
+abbrev pub request_of : Message → List ℕ
+request_of m = request_header m.head ++ drop 12 (text m)
+
+-- a reply repeats this question of a standard query, whose parts are those of a question
+pub record IsAnswerTo (m : Message) (question : Question) : Type 0 where
+  pub asked : m.question ≡ Some question
+  pub name : IsName question.name
+  pub rtype : question.rtype.0 < 2 ^ 16
+  pub class : question.class.0 < 2 ^ 16
+  pub lookup : asks_transfer question ≡ false
+  pub id : m.head.id < 2 ^ 16
+  pub standard : m.head.opcode ≡ 0

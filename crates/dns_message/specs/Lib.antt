@@ -1,0 +1,9 @@
+pub mod Asked
+pub mod Message
+pub mod Puts
+pub mod Reads
+pub mod Text
+pub use Rattle.dns_name.specs.Name
+pub use Rattle.dns_rdata.specs.Numbers
+pub use Rattle.dns_rdata.specs.Record
+pub use Rattle.dns_rdata.specs.Shown

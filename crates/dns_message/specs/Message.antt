@@ -1,0 +1,45 @@
+-- Messages (RFC 1035, 4.1).
+use Rattle.std.specs.Prelude.{ℕ, Bool, false, List, Option, take, drop}
+use Rattle.std.specs.Int.{from_be_bytes, w16}
+use Rattle.std.specs.List.{flat_map}
+use Rattle.std.specs.Option.{option_copied}
+use Rattle.dns_rdata.specs.declared.numbers.Rcode.{Rcode}
+use Rattle.dns_rdata.specs.declared.shown.Shown.{Shown}
+use Rattle.dns_rdata.specs.Record.{Record}
+use Rattle.dns_rdata.specs.Shown.{records_shown}
+use Rattle.dns_message.specs.declared.query.Head.{Head}
+use Rattle.dns_message.specs.declared.query.Question.{Question}
+use Rattle.dns_message.specs.declared.reply.Reply.{Reply}
+
+-- the number of 16 bits at a position (RFC 1035, 2.3.2)
+abbrev pub number_at : List ℕ → ℕ → ℕ
+number_at msg at = from_be_bytes w16 (take 2 (drop at msg))
+
+-- a reply: what it copies from a request's header, its code, AA and TC, a question or none, and three sections
+-- (RFC 1035, 4.1)
+pub record Message : Type 0 where
+  pub head : Head
+  pub rcode : Rcode
+  pub aa : Bool
+  pub tc : Bool
+  pub question : Option Question
+  pub answer : List Record
+  pub authority : List Record
+  pub additional : List Record
+
+-- the records of a section, in the order in which it shows them
+abbrev pub section_of : List Shown → List Record
+section_of section = flat_map records_shown section
+
+-- the whole reply that is to be sent
+abbrev pub message_of : Reply → Message
+message_of reply = record {
+  head = reply.head;
+  rcode = reply.rcode;
+  aa = reply.aa;
+  tc = false;
+  question = option_copied reply.question;
+  answer = section_of reply.answer.now;
+  authority = section_of reply.authority.now;
+  additional = section_of reply.additional.now;
+}

@@ -1,0 +1,48 @@
+//! What a request says (RFC 1035, 4.1).
+ghost use Rattle.std.specs.Prelude.{◌<◌};
+
+use dns_name::Name;
+use dns_rdata::{Class, RType, Rcode};
+
+/// What a reply copies from a request's header (RFC 1035, 4.1.1).
+#[derive(Clone, Copy, Debug, PartialEq, Eq)]
+pub struct Head {
+    /// The number by which the one who asks knows the reply.
+    pub id: u16,
+    /// The kind of request, of four bits.
+    pub opcode: u8,
+    /// Whether recursion is desired.
+    pub rd: bool,
+    ghost four_bits: { opcode < 16 },
+}
+
+/// A question (RFC 1035, 4.1.2).
+#[derive(Drop)]
+pub struct Question {
+    /// The name asked.
+    pub name: Name,
+    /// The type asked.
+    pub rtype: RType,
+    /// The class asked.
+    pub class: Class,
+}
+
+/// A standard query (RFC 1035, 4.1.1).
+#[derive(Drop)]
+pub struct Query {
+    /// What the reply copies from its header.
+    pub head: Head,
+    /// What it asks.
+    pub question: Question,
+}
+
+/// What the octets of a datagram or of a frame say (RFC 1035, 4.1 and 4.2).
+#[derive(Drop)]
+pub enum Parsed {
+    /// A query, which is looked up.
+    Query(Query),
+    /// Nothing that is answered.
+    Silent,
+    /// A request that gets its header and a code alone.
+    Fault(Head, Rcode),
+}

@@ -1,0 +1,22 @@
+//! What a reply says (RFC 1035, 4.1).
+use crate::query::{Head, Question};
+use dns_rdata::{Rcode, Shown};
+
+/// A reply that is to be written (RFC 1035, 4.1). TC is left to its writing.
+#[derive(Clone, Copy)]
+pub struct Reply<'a> {
+    /// What it copies from the request's header.
+    pub head: Head,
+    /// Its code.
+    pub rcode: Rcode,
+    /// Whether the answer is authoritative.
+    pub aa: bool,
+    /// The question that it repeats; None where the request's couldn't be read.
+    pub question: Option<&'a Question>,
+    /// The answer section.
+    pub answer: &'a [Shown<'a>],
+    /// The authority section.
+    pub authority: &'a [Shown<'a>],
+    /// The additional section.
+    pub additional: &'a [Shown<'a>],
+}
