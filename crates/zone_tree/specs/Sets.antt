@@ -1,0 +1,56 @@
+-- A zone in pieces: its sets, each the records of one owner and type (RFC 2181, 5).
+use Rattle.std.specs.Prelude.{◌≡◌, ℕ, ◌<◌, ◌≤◌, ◌^◌, true, false, ◌&&◌, ◌==◌, List, length, All}
+use Rattle.std.specs.List.{AllPairs, flat_map, slice_index_or}
+use Rattle.std.specs.Ordering.{nat_cmp, ordering_then, is_lt}
+use Rattle.std.specs.declared.cmp.Ordering.{Ordering}
+use Rattle.dns_name.specs.Name.{is_same, fold_name, canonical_cmp}
+use Rattle.dns_rdata.specs.Record.{Record, owner_of, rtype_of, ttl_of}
+use Rattle.zone_tree.specs.Zone.{IsZone, IsBefore, soa_of}
+
+-- the records of sets, one set after another
+abbrev pub records_in : List (List Record) → List Record
+records_in sets = flat_map (λ set. set) sets
+
+-- the order of sets: by owner, then type number (RFC 4034, 6.1)
+abbrev pub set_cmp : List Record → List Record → Ordering
+set_cmp set other = ordering_then (canonical_cmp (owner_of set) (owner_of other)) (nat_cmp (rtype_of set) (rtype_of other))
+
+-- two sets in strictly ascending order
+abbrev pub IsSetBefore : List Record → List Record → Type 0
+IsSetBefore set other = is_lt (set_cmp set other) ≡ true
+
+-- a record has a set's owner, type and TTL
+pub record IsOf (set : List Record) (r : Record) : Type 0 where
+  pub owner : r.owner ≡ owner_of set
+  pub rtype : r.rtype ≡ rtype_of set
+  pub ttl : r.ttl ≡ ttl_of set
+
+-- a set: 1 to 256 records of one owner in lower case, one type and one TTL of at most 2^31 - 1, in strictly ascending
+-- order (RFC 2181, 5 and 8; RFC 4034, 6.3)
+pub record IsRRset (set : List Record) : Type 0 where
+  pub some : 0 < length set
+  pub few : length set ≤ 256
+  pub shared : All (IsOf set) set
+  pub folded : owner_of set ≡ fold_name (owner_of set)
+  pub lasts : ttl_of set < 2 ^ 31
+  pub ascending : AllPairs IsBefore set
+
+-- sets in strictly ascending order
+pub record AreAscending (sets : List (List Record)) : Type 0 where
+  pub each : All IsRRset sets
+  pub ascending : AllPairs IsSetBefore sets
+
+-- no two of the sets have one owner and type
+abbrev pub AreUnsplit : List (List Record) → Type 0
+AreUnsplit sets = AllPairs (λ set other. is_same (owner_of set) (owner_of other) && rtype_of set == rtype_of other ≡ false) sets
+
+-- a set stands at a place
+pub record IsPlaceOf (sets : List (List Record)) (set : List Record) (at : ℕ) : Type 0 where
+  pub within : at < length sets
+  pub is : (d : List Record) → slice_index_or sets at d ≡ set
+
+-- sets as a zone keeps them, with the place of its SOA
+pub record AreStored (sets : List (List Record)) (soa : ℕ) : Type 0 where
+  pub rising : AreAscending sets
+  pub place : IsPlaceOf sets (soa_of (records_in sets)) soa
+  pub lawful : IsZone (records_in sets)

@@ -1,0 +1,76 @@
+-- What a zone is, and what stands in it (RFC 1034, 4.2; RFC 2181, 5; RFC 4592, 2.2). A zone is the list of its
+-- records in strictly ascending order, so that equal sets of records are equal lists.
+use Rattle.std.specs.Prelude.{◌≡◌, ◌≢◌, ℕ, ◌<◌, ◌≤◌, ◌^◌, Bool, true, false, ◌&&◌, ◌||◌, not, ◌==◌, List, [], ◌∷◌, length, filter, All, AllPairs, bytes_eq}
+use Rattle.std.specs.List.{list_any}
+use Rattle.std.specs.Ordering.{is_lt}
+use Rattle.dns_name.specs.Name.{is_same, is_under, fold_name, asterisk}
+use Rattle.dns_rdata.specs.Numbers.{type_NS, type_CNAME, type_SOA}
+use Rattle.dns_rdata.specs.Record.{Record, record_cmp, owner_of}
+
+-- whether a record stands at a name
+abbrev pub stands_at : List (List ℕ) → Record → Bool
+stands_at name r = is_same r.owner name
+
+-- whether a record stands at a name and has a type
+abbrev pub is_of : List (List ℕ) → ℕ → Record → Bool
+is_of name rtype r = is_same r.owner name && r.rtype == rtype
+
+-- all records at a name, in order
+abbrev pub rrsets_of : List Record → List (List ℕ) → List Record
+rrsets_of zone name = filter (stands_at name) zone
+
+-- the records of one type at a name (RFC 2181, 5)
+abbrev pub rrset_of : List Record → List (List ℕ) → ℕ → List Record
+rrset_of zone name rtype = filter (is_of name rtype) zone
+
+-- whether a name exists: it or a name below it owns a record (RFC 4592, 2.2.2 and 2.2.3)
+abbrev pub exists : List Record → List (List ℕ) → Bool
+exists zone name = list_any (λ r. is_under r.owner name) zone
+
+-- the zone's SOA
+abbrev pub soa_of : List Record → List Record
+soa_of zone = filter (λ r. r.rtype == type_SOA) zone
+
+-- the apex: the name that the SOA stands at; the root where there is none (RFC 1034, 4.2)
+abbrev pub apex_of : List Record → List (List ℕ)
+apex_of zone = owner_of (soa_of zone)
+
+-- whether the first label is `*`
+abbrev pub is_wild : List (List ℕ) → Bool
+is_wild [] = false
+is_wild (label ∷ name) = bytes_eq label asterisk
+
+-- two records in ascending order
+abbrev pub IsBefore : Record → Record → Type 0
+IsBefore r s = is_lt (record_cmp r s) ≡ true
+
+-- whether two records of one owner and type have one TTL (RFC 2181, 5.2)
+abbrev pub share_ttl : Record → Record → Bool
+share_ttl r s = not (is_of s.owner s.rtype r) || r.ttl == s.ttl
+
+-- whether an alias stands alone at its owner (RFC 1034, 3.6.2; RFC 2181, 10.1)
+abbrev pub is_alone : List Record → Record → Bool
+is_alone zone r = not (r.rtype == type_CNAME) || length (rrsets_of zone r.owner) == 1
+
+-- a zone: its records in strictly ascending order, owners in lower case and at or below the apex; one SOA, at the apex;
+-- an NS at the apex; one TTL of at most 2^31 - 1 in a set; an alias alone at its owner; no NS at an owner whose
+-- first label is `*`; within the limits (RFC 1034, 4.2.1; RFC 2181, 5.2, 8 and 10.1)
+pub record IsZone (zone : List Record) : Type 0 where
+  pub ascending : AllPairs IsBefore zone
+  pub folded : All (λ r. r.owner ≡ fold_name r.owner) zone
+  pub ttls : All (λ r. r.ttl < 2 ^ 31) zone
+  pub one_ttl : All (λ r. All (λ s. share_ttl r s ≡ true) zone) zone
+  pub one_soa : length (soa_of zone) ≡ 1
+  pub under_apex : All (λ r. is_under r.owner (apex_of zone) ≡ true) zone
+  pub name_servers : rrset_of zone (apex_of zone) type_NS ≢ []
+  pub aliases_alone : All (λ r. is_alone zone r ≡ true) zone
+  pub no_wild_cuts : All (λ r. is_wild r.owner && r.rtype == type_NS ≡ false) zone
+  pub few : length zone ≤ 1000000
+  pub small_sets : All (λ r. length (rrset_of zone r.owner r.rtype) ≤ 256) zone
+
+-- the rules that the apex and the owners of a zone keep, beside the order of its records
+pub record KeepsRules (zone : List Record) : Type 0 where
+  pub under_apex : All (λ r. is_under r.owner (apex_of zone) ≡ true) zone
+  pub name_servers : rrset_of zone (apex_of zone) type_NS ≢ []
+  pub aliases_alone : All (λ r. is_alone zone r ≡ true) zone
+  pub no_wild_cuts : All (λ r. is_wild r.owner && r.rtype == type_NS ≡ false) zone

@@ -1,0 +1,74 @@
+//! The rules of a zone, tried one after another.
+ghost use Rattle.std.specs.Prelude.{◌≡◌, ◌≤◌, length, All, IfOk, IfErr, OnOk};
+ghost use Rattle.std.specs.Ordering.{is_lt};
+ghost use Rattle.zone_tree.specs.Sets.{records_in, set_cmp, IsRRset, AreAscending, AreStored};
+ghost use Rattle.zone_tree.specs.Fault.{IsFault};
+
+use crate::fault::ZoneFault;
+use crate::rules::check_rules;
+use crate::soa::find_soa;
+use crate::zone::MAX_RECORDS;
+use dns_rdata::RRset;
+
+/// The place of the SOA's set, where the sets are a zone.
+pub(crate) fn check(sets: &[RRset]) -> Result<usize, ZoneFault>
+    ensures stored { IfOk result (AreStored sets.now) }
+    ensures fault { IfErr result (λ fault. IsFault fault sets.now) }
+{
+    check_count(sets)?;
+    check_order(sets)?;
+    let soa = find_soa(sets)?;
+    check_rules(sets, sets[soa].owner())?;
+    Ok(soa)
+}
+
+/// How many records a set has.
+pub(crate) fn len_of(set: &RRset) -> usize
+    ensures len { result ≡ length set.now }
+    ensures lawful { IsRRset set.now }
+{
+    let _owner = set.owner();
+    let _ttl = set.ttl();
+    set.data().len()
+}
+
+// That there aren't too many records.
+fn check_count(sets: &[RRset]) -> Result<(), ZoneFault>
+    ensures each { OnOk result (All IsRRset sets.now) }
+    ensures few { OnOk result (length (records_in sets.now) ≤ MAX_RECORDS) }
+    ensures fault { IfErr result (λ fault. IsFault fault sets.now) }
+{
+    let mut left = MAX_RECORDS;
+    for set in sets {
+        let len = len_of(set);
+        if left < len {
+            return Err(ZoneFault::TooManyRecords);
+        }
+        left -= len;
+    }
+    Ok(())
+}
+
+// Whether a set comes before another, by owner and then type (RFC 4034, 6.1).
+fn is_before(set: &RRset, other: &RRset) -> bool
+    ensures { result ≡ is_lt (set_cmp set.now other.now) }
+{
+    set.owner()
+        .order(other.owner())
+        .then(set.rtype().cmp(&other.rtype()))
+        .is_lt()
+}
+
+// That each set comes before the next.
+fn check_order(sets: &[RRset]) -> Result<(), ZoneFault>
+    requires { All IsRRset sets.now }
+    ensures rising { OnOk result (AreAscending sets.now) }
+    ensures fault { IfErr result (λ fault. IsFault fault sets.now) }
+{
+    for (i, set) in sets.iter().enumerate() {
+        if i > 0 && !is_before(&sets[i - 1], set) {
+            return Err(ZoneFault::NotAscending);
+        }
+    }
+    Ok(())
+}

@@ -1,0 +1,32 @@
+//! Why sets are no zone.
+use thiserror::Error;
+
+/// Which rule sets break that are no zone (RFC 1034, 4.2.1; RFC 2181, 5 and 10.1). The rules are tried in this order,
+/// and the first that is broken is told.
+#[derive(Clone, Copy, Debug, PartialEq, Eq, Error)]
+pub enum ZoneFault {
+    /// More records than a zone may have.
+    #[error("Z1 TooManyRecords")]
+    TooManyRecords,
+    /// A set doesn't come before the next, by owner and then type (RFC 4034, 6.1).
+    #[error("Z2 NotAscending")]
+    NotAscending,
+    /// No SOA.
+    #[error("Z3 NoSoa")]
+    NoSoa,
+    /// More than one SOA.
+    #[error("Z4 SecondSoa")]
+    SecondSoa,
+    /// An owner that isn't at or below the apex.
+    #[error("Z5 Outside")]
+    Outside,
+    /// No NS at the apex.
+    #[error("Z6 NoNameServer")]
+    NoNameServer,
+    /// An alias beside another record (RFC 1034, 3.6.2; RFC 2181, 10.1).
+    #[error("Z7 AliasNotAlone")]
+    AliasNotAlone,
+    /// An NS at an owner whose first label is `*`.
+    #[error("Z8 WildCut")]
+    WildCut,
+}

@@ -1,0 +1,18 @@
+//! A zone: its sets of records, and what stands at a name (RFC 1034, 4.2 and 4.3.2; RFC 2181, 5; RFC 4592, 2.2).
+//!
+//! Contracts see a zone as the list of its records in canonical order (RFC 4034, 6), so that equal zones are equal
+//! lists. A [`Zone`] keeps the rules of a zone (`IsZone`), and [`ZoneRead`] is what a search may ask of any zone.
+//! Changes of a zone, and reading one from text, are not here.
+#![tactic(auto)]
+
+mod check;
+mod fault;
+mod look;
+mod read;
+mod rules;
+mod soa;
+mod zone;
+
+pub use fault::ZoneFault;
+pub use read::ZoneRead;
+pub use zone::{MAX_RECORDS, Zone};

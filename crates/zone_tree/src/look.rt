@@ -1,0 +1,67 @@
+//! Look-ups by binary search over sets in ascending order.
+ghost use Rattle.std.specs.Prelude.{◌≡◌, ◌≤◌, ◌==◌, true, false, length, filter};
+ghost use Rattle.std.specs.List.{find};
+ghost use Rattle.std.specs.List.Sorted.{IsPartitionPoint};
+ghost use Rattle.std.specs.Option.{option_copied};
+ghost use Rattle.std.specs.Ordering.{is_lt, is_le};
+ghost use Rattle.dns_name.specs.Name.{canonical_cmp, is_same};
+ghost use Rattle.dns_rdata.specs.Record.{owner_of, rtype_of};
+ghost use Rattle.zone_tree.specs.Zone.{exists};
+ghost use Rattle.zone_tree.specs.Sets.{AreAscending, records_in};
+
+use dns_name::Name;
+use dns_rdata::{RRset, RType};
+
+// How many sets have an owner before the name.
+fn count_before(sets: &[RRset], name: &Name) -> usize
+    requires { AreAscending sets.now }
+    ensures bound { result ≤ length sets.now }
+    ensures place { IsPartitionPoint (λ set. is_lt (canonical_cmp (owner_of set) name.now) ≡ true) (λ set. is_lt (canonical_cmp (owner_of set) name.now) ≡ false) sets.now result }
+{
+    sets.partition_point(
+        |set: &RRset| -> bool
+            ensures { result ≡ is_lt (canonical_cmp (owner_of set.now) name.entry.now) }
+        { set.owner().order(name).is_lt() },
+    )
+}
+
+// How many sets have an owner that isn't after the name.
+fn count_upto(sets: &[RRset], name: &Name) -> usize
+    requires { AreAscending sets.now }
+    ensures bound { result ≤ length sets.now }
+    ensures place { IsPartitionPoint (λ set. is_le (canonical_cmp (owner_of set) name.now) ≡ true) (λ set. is_le (canonical_cmp (owner_of set) name.now) ≡ false) sets.now result }
+{
+    sets.partition_point(
+        |set: &RRset| -> bool
+            ensures { result ≡ is_le (canonical_cmp (owner_of set.now) name.entry.now) }
+        { set.owner().order(name).is_le() },
+    )
+}
+
+/// The sets of an owner.
+pub(crate) fn sets_at<'a>(sets: &'a [RRset], name: &Name) -> &'a [RRset]
+    requires { AreAscending sets.now }
+    ensures { result.now ≡ filter (λ set. is_same (owner_of set) name.now) sets.now }
+{
+    let low = count_before(sets, name);
+    let high = count_upto(sets, name);
+    &sets[low..high]
+}
+
+/// The set of a type among the sets of an owner.
+pub(crate) fn set_of_type<'a>(sets: &'a [RRset], rtype: RType) -> Option<&'a RRset>
+    ensures { option_copied result ≡ find (λ set. rtype_of set == rtype.0) sets.now }
+{
+    sets.iter().find(|set| set.rtype() == rtype)
+}
+
+/// Whether the name is the owner of a set, or an ancestor of one: the sets under it begin where it would stand.
+pub(crate) fn has_name(sets: &[RRset], name: &Name) -> bool
+    requires { AreAscending sets.now }
+    ensures { result ≡ exists (records_in sets.now) name.now }
+{
+    match sets.get(count_before(sets, name)) {
+        Some(set) => set.owner().is_under(name),
+        None => false,
+    }
+}
