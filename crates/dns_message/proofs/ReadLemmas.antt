@@ -1,15 +1,16 @@
 -- A request that is written is read.
-use Rattle.std.proofs.Common.{◌≡◌, ◌==◌, ℕ, ◌+◌, ◌*◌, ◌/◌, ◌%◌, ◌<◌, ◌≤◌, ◌^◌, Bool, true, false, not, ◌||◌, if◌then◌else◌, eq-eqb, List, [], ◌∷◌, ◌++◌, length, take, drop, Option, Some, None, nat_lt, nat_le, refl, sym, ap, subst, ◌∙◌, arith, lit<, option_and_then, length-append, append_assoc}
+use Rattle.std.proofs.Common.{◌≡◌, ◌==◌, ℕ, zero, suc, get_or, All, ◌+◌, ◌*◌, ◌/◌, ◌%◌, ◌<◌, ◌≤◌, ◌^◌, Bool, true, false, not, ◌||◌, if◌then◌else◌, eq-eqb, List, [], ◌∷◌, ◌++◌, length, take, drop, Option, Some, None, nat_lt, nat_le, refl, sym, ap, subst, ◌∙◌, arith, lit<, option_and_then, length-append, append_assoc}
 use Rattle.std.proofs.Math.Bridge.{le_prop}
 use Rattle.std.proofs.Math.Nat.{mod-lt}
-use Rattle.std.proofs.lemmas.Bool.{le-leb}
+use Rattle.std.proofs.lemmas.Bool.{le-leb, leb-true}
+use Rattle.std.proofs.lemmas.List.Elements.{All-drop}
 use Rattle.std.proofs.lemmas.Bool.Decides.{nat_tests}
-use Rattle.std.proofs.lemmas.List.{append-nil, drop_at, drop-drop}
-use Rattle.std.proofs.lemmas.Nat.{from_be_bytes-to_be_bytes_2}
+use Rattle.std.proofs.lemmas.List.{append-nil, drop_at, drop-drop, length-drop}
+use Rattle.std.proofs.lemmas.Nat.{from_be_bytes-to_be_bytes_2, be_bytes_2}
 use Rattle.std.specs.Int.{to_be_bytes, from_be_bytes, w16}
-use Rattle.dns_name.specs.Name.{wire_of, IsName, name_in}
+use Rattle.dns_name.specs.Name.{wire_of, name_in}
 use Rattle.std.specs.List.{flat_map}
-use Rattle.dns_message.specs.Asked.{request_header, request_of, IsAnswerTo}
+use Rattle.dns_message.specs.Asked.{request_header, request_of, IsQuestion, IsAnswerTo}
 use Rattle.dns_message.specs.Message.{number_at, Message}
 use Rattle.dns_message.specs.Reads.{header_of, is_reply, question_of, question_in, query_of, reads}
 use Rattle.dns_rdata.specs.declared.numbers.Rcode.TheVariants.{FormErr, NotImp}
@@ -18,7 +19,7 @@ use Rattle.dns_message.specs.declared.query.Parsed.TheVariants.{Silent, Fault, Q
 use Rattle.dns_message.specs.Text.{bit, question_text, questions, record_text, text}
 use Rattle.dns_message.specs.declared.query.Head.{Head}
 use Rattle.dns_message.specs.declared.query.Question.{Question}
-use Rattle.dns_name.proofs.LawLemmas.{name_in-wire_of}
+use Rattle.dns_name.proofs.LawLemmas.{name_in-wire_of, name_in-stands}
 
 -- a question of these parts
 abbrev asked : List (List ℕ) → ℕ → ℕ → Question
@@ -47,13 +48,71 @@ question_of-numbers name rtype class rest h k =
     rw fits (ap (λ n. Some (asked name n (number_at octets (length (wire_of name) + 2)))) first ∙ ap (λ n. Some (asked name rtype n)) second)
 
 -- a question is read from its octets
-pub question_in-text : (q : Question) (rest : List ℕ) → IsName q.name → q.rtype.0 < 2 ^ 16 → q.class.0 < 2 ^ 16 → question_in (question_text q ++ rest) ≡ Some q
-question_in-text q rest n h k =
+pub question_in-text : (q : Question) (rest : List ℕ) → IsQuestion q → question_in (question_text q ++ rest) ≡ Some q
+question_in-text q rest h =
     let tail = to_be_bytes w16 q.rtype.0 ++ to_be_bytes w16 q.class.0 ++ rest in
     let split : question_text q ++ rest ≡ wire_of q.name ++ tail = simp append_assoc in
     ap question_in split
-    ∙ ap (option_and_then (question_of (wire_of q.name ++ tail))) (name_in-wire_of q.name tail n)
-    ∙ question_of-numbers q.name q.rtype.0 q.class.0 rest h k
+    ∙ ap (option_and_then (question_of (wire_of q.name ++ tail))) (name_in-wire_of q.name tail h.name)
+    ∙ question_of-numbers q.name q.rtype.0 q.class.0 rest h.rtype h.class
+
+-- two octets are octets
+small_octets : (a b : ℕ) → a < 2 ^ 8 → b < 2 ^ 8 → (i : ℕ) → get_or (a ∷ b ∷ []) i 0 < 256
+small_octets a b h k zero = h
+small_octets a b h k (suc zero) = k
+small_octets a b h k (suc (suc i)) = omega arith
+
+-- two octets are those of the number that they say
+octets_of_number : (a b : ℕ) → a < 2 ^ 8 → b < 2 ^ 8 → to_be_bytes w16 (from_be_bytes w16 (a ∷ b ∷ [])) ≡ a ∷ b ∷ []
+octets_of_number a b h k = be_bytes_2 (a ∷ b ∷ []) _ refl (small_octets a b h k) refl
+
+-- four octets are those of the two numbers that they say
+numbers_stand : (octets : List ℕ) → 4 ≤ length octets → All (λ octet. octet < 2 ^ 8) octets → octets ≡ to_be_bytes w16 (number_at octets 0) ++ (to_be_bytes w16 (number_at octets 2) ++ drop 4 octets)
+numbers_stand [] h small = absurd (omega arith)
+numbers_stand (a ∷ []) h small = absurd (omega arith)
+numbers_stand (a ∷ b ∷ []) h small = absurd (omega arith)
+numbers_stand (a ∷ b ∷ c ∷ []) h small = absurd (omega arith)
+numbers_stand (a ∷ b ∷ c ∷ d ∷ rest) h small =
+    let first = octets_of_number a b (small 0 0 (omega arith)) (small 1 0 (omega arith)) in
+    let second = octets_of_number c d (small 2 0 (omega arith)) (small 3 0 (omega arith)) in
+    sym (ap (λ t. t ++ (to_be_bytes w16 (from_be_bytes w16 (c ∷ d ∷ [])) ++ rest)) first ∙ ap (λ t. (a ∷ b ∷ []) ++ (t ++ rest)) second)
+
+-- a test that gives something is true, and gives that
+some_if : (b : Bool) (x q : Question) → (if b then Some x else None) ≡ Some q → (b ≡ true) × (x ≡ q)
+some_if true x q e = (refl, cc)
+some_if false x q e = cc
+
+-- a question of the numbers behind a name stands there
+asked-stands : (octets : List ℕ) (name : List (List ℕ)) → let n = length (wire_of name) in let q = asked name (number_at octets n) (number_at octets (n + 2)) in All (λ octet. octet < 2 ^ 8) octets → octets ≡ wire_of name ++ drop n octets → n + 4 ≤ length octets → octets ≡ question_text q ++ drop (length (question_text q)) octets
+asked-stands octets name small e fits =
+    let n = length (wire_of name) in
+    let rest = drop n octets in
+    let rtype = to_be_bytes w16 (number_at octets n) in
+    let class = to_be_bytes w16 (number_at octets (n + 2)) in
+    let long : 4 ≤ length rest = omega (arith, length-drop n octets) in
+    let behind : drop 4 rest ≡ drop (length (wire_of name ++ rtype ++ class)) octets = drop-drop 4 n octets ∙ ap (λ k. drop k octets) (omega (arith, length-append (wire_of name ++ rtype) class, length-append (wire_of name) rtype)) in
+    e
+    ∙ ap (λ t. wire_of name ++ t) (numbers_stand rest long (All-drop (λ octet. octet < 2 ^ 8) n octets small))
+    ∙ ap (λ t. wire_of name ++ (rtype ++ (to_be_bytes w16 (from_be_bytes w16 (take 2 t)) ++ drop 4 rest))) (drop-drop 2 n octets)
+    ∙ ap (λ t. wire_of name ++ (rtype ++ (class ++ t))) behind
+    ∙ sym (append_assoc (wire_of name ++ rtype) class _ ∙ append_assoc (wire_of name) rtype (class ++ _))
+
+-- a question that is read behind a name stands there
+question_of-stands : (octets : List ℕ) (name : List (List ℕ)) (q : Question) → All (λ octet. octet < 2 ^ 8) octets → octets ≡ wire_of name ++ drop (length (wire_of name)) octets → question_of octets name ≡ Some q → octets ≡ question_text q ++ drop (length (question_text q)) octets
+question_of-stands octets name q small e f =
+    let n = length (wire_of name) in
+    let found = some_if (nat_le (n + 4) (length octets)) (asked name (number_at octets n) (number_at octets (n + 2))) q f in
+    let P : Question → Type 0 = λ p. octets ≡ question_text p ++ drop (length (question_text p)) octets in
+    subst P found.1 (asked-stands octets name small e (leb-true _ _ found.0))
+
+-- a question that is read stands in the octets
+question_in_some : (octets : List ℕ) (found : Option (List (List ℕ))) (q : Question) → found ≡ name_in octets → All (λ octet. octet < 2 ^ 8) octets → option_and_then (question_of octets) found ≡ Some q → octets ≡ question_text q ++ drop (length (question_text q)) octets
+question_in_some octets None q e small f = cc
+question_in_some octets (Some name) q e small f =
+    question_of-stands octets name q small (name_in-stands octets name (sym e)).1 f
+
+pub question_in-stands : (octets : List ℕ) (q : Question) → All (λ octet. octet < 2 ^ 8) octets → question_in octets ≡ Some q → octets ≡ question_text q ++ drop (length (question_text q)) octets
+question_in-stands octets q small f = question_in_some octets (name_in octets) q refl small f
 
 -- headers of the same parts are the same
 same_head : (id : ℕ) (rd : Bool) (a b : ℕ) (h : a < 16) (k : b < 16) → a ≡ b → head_with id rd a h ≡ head_with id rd b k
@@ -117,5 +176,5 @@ pub reads-request_of : (m : Message) (q : Question) → IsAnswerTo m q → reads
 reads-request_of m q h =
     reads-request m.head (drop 12 (text m)) h.id h.standard
     ∙ ap (λ octets. query_of m.head (question_in octets)) (question_behind m q h.asked)
-    ∙ ap (query_of m.head) (question_in-text q _ h.name h.rtype h.class)
+    ∙ ap (query_of m.head) (question_in-text q _ h.lawful)
     ∙ rw h.lookup

@@ -1,11 +1,11 @@
 -- How long the octets of a reply are.
-use Rattle.std.proofs.Common.{◌≡◌, ℕ, ◌+◌, ◌<◌, ◌≤◌, Bool, List, [], ◌∷◌, ◌++◌, length, Option, Some, None, refl, arith, length-append}
+use Rattle.std.proofs.Common.{◌≡◌, ◌+◌, ◌<◌, ◌≤◌, List, [], ◌∷◌, ◌++◌, length, arith, length-append}
 use Rattle.std.specs.Int.{to_be_bytes, w16, w32}
 use Rattle.std.specs.List.{flat_map}
 use Rattle.dns_name.specs.Name.{wire_of}
 use Rattle.dns_rdata.specs.Record.{Record}
 use Rattle.dns_message.specs.Message.{Message}
-use Rattle.dns_message.specs.Text.{questions, question_text, record_text, header_text, text, truncated}
+use Rattle.dns_message.specs.Text.{questions, question_text, record_text, counts_in, header_text, text}
 
 -- a record has an octet or more
 record_some : (r : Record) → 0 < length (record_text r)
@@ -21,10 +21,10 @@ records_fill (r ∷ rs) =
 -- how long the parts of a reply are together
 pub length-text : (m : Message) → length (text m) ≡ 12 + length (flat_map question_text (questions m.question)) + length (flat_map record_text m.answer) + length (flat_map record_text m.authority) + length (flat_map record_text m.additional)
 length-text m =
-    let front = header_text m ++ flat_map question_text (questions m.question) in
+    let front = header_text m (counts_in m) ++ flat_map question_text (questions m.question) in
     let answer = flat_map record_text m.answer in
     let authority = flat_map record_text m.authority in
-    omega (arith, length-append (header_text m) (flat_map question_text (questions m.question)), length-append front answer, length-append (front ++ answer) authority, length-append (front ++ answer ++ authority) (flat_map record_text m.additional))
+    omega (arith, length-append (header_text m (counts_in m)) (flat_map question_text (questions m.question)), length-append front answer, length-append (front ++ answer) authority, length-append (front ++ answer ++ authority) (flat_map record_text m.additional))
 
 -- no section has more records than the reply has octets
 pub record IsFilled (m : Message) : Type 0 where

@@ -18,12 +18,16 @@ request_header head =
 abbrev pub request_of : Message → List ℕ
 request_of m = request_header m.head ++ drop 12 (text m)
 
--- a reply repeats this question of a standard query, whose parts are those of a question
-pub record IsAnswerTo (m : Message) (question : Question) : Type 0 where
-  pub asked : m.question ≡ Some question
+-- the parts of a question are what its octets can say (RFC 1035, 4.1.2)
+pub record IsQuestion (question : Question) : Type 0 where
   pub name : IsName question.name
   pub rtype : question.rtype.0 < 2 ^ 16
   pub class : question.class.0 < 2 ^ 16
+
+-- a reply repeats this question of a standard query that is looked up
+pub record IsAnswerTo (m : Message) (question : Question) : Type 0 where
+  pub asked : m.question ≡ Some question
+  pub lawful : IsQuestion question
   pub lookup : asks_transfer question ≡ false
   pub id : m.head.id < 2 ^ 16
   pub standard : m.head.opcode ≡ 0

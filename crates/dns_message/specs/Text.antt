@@ -35,13 +35,13 @@ abbrev pub counts_in : Message → List ℕ
 counts_in m = length (questions m.question) ∷ length m.answer ∷ length m.authority ∷ length m.additional ∷ []
 
 -- the header: ID, the flags, the four counts (RFC 1035, 4.1.1)
-abbrev pub header_text : Message → List ℕ
-header_text m = to_be_bytes w16 m.head.id ++ flags_text m ++ flat_map (to_be_bytes w16) (counts_in m)
+abbrev pub header_text : Message → List ℕ → List ℕ
+header_text m counts = to_be_bytes w16 m.head.id ++ flags_text m ++ flat_map (to_be_bytes w16) counts
 
 -- a reply's octets: the header, then the sections (RFC 1035, 4.1)
 abbrev pub text : Message → List ℕ
 text m =
-    header_text m ++ flat_map question_text (questions m.question)
+    header_text m (counts_in m) ++ flat_map question_text (questions m.question)
     ++ flat_map record_text m.answer ++ flat_map record_text m.authority ++ flat_map record_text m.additional
 
 -- the header and the question alone, with TC 1; AA and the code are kept (RFC 2181, 9; own)

@@ -13,7 +13,7 @@ mod records;
 mod reply;
 mod write;
 
-pub use laws::{question_is_read_again, silent_is_short_or_reply};
+pub use laws::{one_question, question_is_read_again, silent_is_short_or_reply};
 pub use query::{Head, Parsed, Query, Question};
 pub use read::{HEADER, parse};
 pub use reply::Reply;

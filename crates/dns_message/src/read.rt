@@ -16,6 +16,9 @@ pub(crate) const QR: u8 = 128;
 /// OPCODE's lowest bit, by its place in the third octet (RFC 1035, 4.1.1).
 pub(crate) const OPCODE: u8 = 8;
 
+/// How many OPCODEs four bits tell (RFC 1035, 4.1.1).
+const OPCODES: u8 = 16;
+
 /// The OPCODE of a standard query (RFC 1035, 4.1.1).
 const QUERY: u8 = 0;
 
@@ -68,7 +71,7 @@ fn header_of(bytes: &[u8]) -> Head
 {
     Head {
         id: u16::from_be_bytes([bytes[0], bytes[1]]),
-        opcode: bytes[2] / OPCODE % 16,
+        opcode: bytes[2] / OPCODE % OPCODES,
         rd: bytes[2] % 2 == 1,
     }
 }

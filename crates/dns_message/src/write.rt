@@ -32,7 +32,7 @@ pub fn write_reply(reply: &Reply<'_>, limit: usize, out: &mut [u8]) -> usize
     ensures len { result ≤ limit }
 {
     let room = &mut out[..limit];
-    match put_message(room, reply, false) {
+    match put_message(room, reply) {
         Some(len) => len,
         None => put_truncated(room, reply),
     }
@@ -44,24 +44,18 @@ fn put_truncated(out: &mut [u8], reply: &Reply<'_>) -> usize
     requires most { length out.old ≤ MAX_LIMIT }
     ensures { IsPut out.old out.new 0 (text (truncated (message_of reply.now))) result }
 {
-    let short = Reply {
-        answer: &reply.answer[..0],
-        authority: &reply.authority[..0],
-        additional: &reply.additional[..0],
-        ..*reply
-    };
     let counts = [u16::from(reply.question.is_some()), 0, 0, 0];
-    let at = put_header(out, &short, true, counts).unwrap();
+    let at = put_header(out, reply, true, counts).unwrap();
     put_questions(out, at, reply.question).unwrap()
 }
 
-/// Writes a reply with this TC to the front of a buffer, as `put` does.
-fn put_message(out: &mut [u8], reply: &Reply<'_>, tc: bool) -> Option<usize>
+/// Writes the whole reply to the front of a buffer, as `put` does.
+fn put_message(out: &mut [u8], reply: &Reply<'_>) -> Option<usize>
     requires { length out.old ≤ MAX_LIMIT }
-    ensures { Puts out.old out.new 0 (text (record (message_of reply.now) { tc = tc })) result }
+    ensures { Puts out.old out.new 0 (text (message_of reply.now)) result }
 {
     let counts = counts_of(reply)?;
-    let at = put_header(out, reply, tc, counts)?;
+    let at = put_header(out, reply, false, counts)?;
     let at = put_questions(out, at, reply.question)?;
     let at = put_section(out, at, reply.answer)?;
     let at = put_section(out, at, reply.authority)?;
@@ -80,10 +74,9 @@ fn counts_of(reply: &Reply<'_>) -> Option<[u16; 4]>
     ])
 }
 
-/// Writes a reply's header to the front of a buffer, as `put` does (RFC 1035, 4.1.1).
+/// Writes a reply's header, with this TC and these counts, to the front of a buffer, as `put` does (RFC 1035, 4.1.1).
 fn put_header(out: &mut [u8], reply: &Reply<'_>, tc: bool, counts: [u16; 4]) -> Option<usize>
-    requires { counts ≡ counts_in (message_of reply.now) }
-    ensures { Puts out.old out.new 0 (header_text (record (message_of reply.now) { tc = tc })) result }
+    ensures { Puts out.old out.new 0 (header_text (record (message_of reply.now) { tc = tc }) counts) result }
 {
     let [questions, answers, authorities, additionals] = counts;
     let at = put_u16(out, 0, reply.head.id)?;

@@ -1,6 +1,6 @@
 -- What closing and lengthening the label in hand does, and the name of the closed labels.
-use Rattle.std.proofs.Common.{◌≡◌, ℕ, zero, suc, min, ◌+◌, ◌<◌, ◌≤◌, ◌↔◌, ◌⊎◌, inl, inr, Bool, true, false, not, cond, ◌||◌, ◌==◌, nat_lt, IsTrue, List, [], ◌∷◌, ◌++◌, length, take, All, Result, Ok, Err, IsOk, OnOk, OnErr, refl, sym, ap, ◌∙◌, arith}
-use Rattle.std.specs.Bool.{OnTrue, OnFalse}
+use Rattle.std.proofs.Common.{◌≡◌, ℕ, min, ◌+◌, ◌<◌, ◌≤◌, ◌↔◌, ◌⊎◌, inl, inr, Bool, true, false, not, cond, ◌||◌, ◌==◌, nat_lt, IsTrue, List, [], ◌∷◌, ◌++◌, length, take, All, Result, Ok, Err, IsOk, OnOk, OnErr, refl, sym, ap, ◌∙◌, arith}
+use Rattle.std.specs.Bool.{OnTrue}
 use Rattle.std.specs.List.{list_any}
 use Rattle.std.proofs.lemmas.Bool.Decides.{nat_tests, Decides-ltb, when_true}
 use Rattle.std.proofs.lemmas.List.{append-nil, append_assoc, length-append, length-take, take_all, take-append-le}
@@ -18,7 +18,7 @@ use Rattle.dns_name.proofs.ReadLemmas.{wire_some}
 lt_true : (m n : ℕ) → m < n → nat_lt m n ≡ true
 lt_true m n h = (Decides-ltb m n).1 h
 
-lt_false : (m n : ℕ) → n ≤ m → nat_lt m n ≡ false
+pub lt_false : (m n : ℕ) → n ≤ m → nat_lt m n ≡ false
 lt_false m n h = grind (arith, nat_tests)
 
 lt_is : (m n : ℕ) → nat_lt m n ≡ true → m < n
@@ -137,7 +137,7 @@ wire_of-front (label ∷ labels) name =
     let assoc = append_assoc label (front_of labels) (wire_of name) in
     cc
 
-none_empty : (name : List (List ℕ)) → All IsLabel name → list_any (λ (l : List ℕ). length l == 0) name ≡ false
+pub none_empty : (name : List (List ℕ)) → All IsLabel name → list_any (λ (l : List ℕ). length l == 0) name ≡ false
 none_empty [] h = refl
 none_empty (label ∷ name) h =
     let first = All-head IsLabel label name h in
@@ -146,7 +146,7 @@ none_empty (label ∷ name) h =
     let no : (length label == 0) ≡ false = grind (arith, nat_tests) in
     rw no rest
 
-none_long : (name : List (List ℕ)) → All IsLabel name → list_any (λ (l : List ℕ). nat_lt 63 (length l)) name ≡ false
+pub none_long : (name : List (List ℕ)) → All IsLabel name → list_any (λ (l : List ℕ). nat_lt 63 (length l)) name ≡ false
 none_long [] h = refl
 none_long (label ∷ name) h =
     let first = All-head IsLabel label name h in

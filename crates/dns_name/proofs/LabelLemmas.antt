@@ -1,5 +1,5 @@
 -- How octets and the labels in them go together.
-use Rattle.std.proofs.Common.{◌≡◌, ℕ, zero, suc, ◌+◌, ◌<◌, ◌≤◌, List, [], ◌∷◌, ◌++◌, length, take, drop, map, All, refl, sym, ap, ◌∙◌, arith}
+use Rattle.std.proofs.Common.{◌≡◌, ℕ, zero, suc, ◌+◌, ◌*◌, ◌<◌, List, [], ◌∷◌, ◌++◌, length, take, drop, map, All, refl, sym, ap, arith}
 use Rattle.std.specs.Char.{to_ascii_lowercase}
 use Rattle.std.specs.List.{refill}
 use Rattle.std.proofs.lemmas.List.{length-take-le, take-map, length-map, drop_all, append-nil, take_all}
@@ -152,3 +152,10 @@ IsFolded-refill octets lent folded same e h =
       len = length-map octets to_ascii_lowercase;
       labels = labels_in-fold 0 octets h;
     })
+
+-- whole octets are at least two for each label, and one
+pub labels_few : (k : ℕ) (octets : List ℕ) → IsWhole k octets → k + 2 * length (labels_in k octets) < length octets
+labels_few k [] h = absurd h
+labels_few zero (zero ∷ octets) h = omega arith
+labels_few zero (suc n ∷ octets) h = omega (arith, labels_few (suc n) octets h.1)
+labels_few (suc k) (x ∷ octets) h = omega (arith, labels_few k octets h)

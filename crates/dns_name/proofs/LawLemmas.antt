@@ -1,5 +1,5 @@
 -- What the laws say, proved of the definitions alone.
-use Rattle.std.proofs.Common.{◌≡◌, ℕ, zero, suc, ◌+◌, ◌<◌, ◌≤◌, ◌↔◌, ◌⊎◌, inl, inr, Bool, true, false, ◌||◌, IsTrue, nat_lt, nat_le, List, [], ◌∷◌, ◌++◌, length, take, drop, map, All, Option, Some, None, option_map, option_and_then, refl, sym, ap, ◌∙◌, arith}
+use Rattle.std.proofs.Common.{◌≡◌, ℕ, suc, ◌<◌, ◌≤◌, ◌↔◌, ◌⊎◌, inl, inr, Bool, true, false, ◌||◌, IsTrue, nat_lt, nat_le, List, [], ◌∷◌, ◌++◌, length, take, drop, map, All, Some, refl, sym, ap, ◌∙◌, arith}
 use Rattle.std.specs.Char.{to_ascii_lowercase}
 use Rattle.std.specs.Ordering.{is_eq}
 use Rattle.std.specs.declared.cmp.Ordering.{Ordering}
@@ -10,7 +10,7 @@ use Rattle.std.proofs.lemmas.List.Elements.{All-cons, All-nil, All-head, All-tai
 use Rattle.dns_name.specs.Name.{wire_of, IsLabel, IsName, fold_name, is_same, is_under, self_and_ancestors, canonical_cmp, labels_read, name_in}
 use Rattle.dns_name.specs.Order.{is_same_Decides, is_same_tied}
 use Rattle.dns_name.proofs.LabelLemmas.{take-append-same}
-use Rattle.dns_name.proofs.ReadLemmas.{len_of, name_in_read, IsRead, IsRead-from}
+use Rattle.dns_name.proofs.ReadLemmas.{name_in_read, IsRead-from}
 use Rattle.dns_name.proofs.SameLemmas.{wire_of-fold, fold_labels}
 
 -- what is read is a name that stands in front

@@ -1,12 +1,11 @@
 -- The pieces of a text, from its front on.
-use Rattle.std.proofs.Common.{◌≡◌, ℕ, zero, suc, ◌+◌, ◌-◌, ◌*◌, ◌<◌, ◌≤◌, Bool, true, false, cond, ◌||◌, ◌&&◌, ◌==◌, nat_lt, nat_le, List, [], ◌∷◌, ◌++◌, length, take, drop, All, Option, Some, None, Result, Ok, Err, ◌⊎◌, inl, inr, option_map, option_and_then, refl, sym, ap, subst, ◌∙◌, arith}
-use Rattle.std.specs.List.{list_any}
+use Rattle.std.proofs.Common.{◌≡◌, ℕ, zero, suc, ◌+◌, ◌-◌, ◌*◌, ◌<◌, ◌≤◌, Bool, true, false, cond, ◌&&◌, ◌==◌, nat_le, List, [], ◌∷◌, ◌++◌, length, drop, Option, Some, None, ◌⊎◌, inl, inr, option_map, option_and_then, refl, sym, ap, subst, ◌∙◌, arith}
 use Rattle.std.specs.Char.{is_ascii_digit}
 use Rattle.std.proofs.lemmas.Bool.Decides.{Decides-eqb, nat_tests}
 use Rattle.std.proofs.lemmas.Option.{some_pair_parts, option_and_then_some}
 use Rattle.std.proofs.lemmas.List.{append-nil, append_assoc, length-take, nil_from_length}
 use Rattle.dns_name.specs.Text.{marks, mark_at, escaped, numbered, pieces_of, onto_first, completed, labels_of, lawful, name_of_text}
-use Rattle.dns_name.specs.Gather.{IsGathered, IsAllOf, front_of, HasFront}
+use Rattle.dns_name.specs.Gather.{IsGathered, IsAllOf}
 use Rattle.dns_name.specs.declared.text.Gathered.{Gathered}
 use Rattle.dns_name.specs.declared.text.Mark.{Mark}
 use Rattle.dns_name.specs.declared.text.Mark.TheVariants.{Dot, Octet}
@@ -220,7 +219,7 @@ labels_of-plain text origin (Dot ∷ m ∷ ms) some more e = refl
 labels_of-plain text origin (Octet c ∷ ms) some more e = refl
 
 -- the last piece decides whether the origin is behind the others
-completed_last : (origin labels : List (List ℕ)) (label : List ℕ) → completed origin (labels ++ label ∷ []) ≡ labels ++ cond (length label == 0) [] (label ∷ origin)
+pub completed_last : (origin labels : List (List ℕ)) (label : List ℕ) → completed origin (labels ++ label ∷ []) ≡ labels ++ cond (length label == 0) [] (label ∷ origin)
 completed_last origin [] label = refl
 completed_last origin (piece ∷ []) label = refl
 completed_last origin (piece ∷ next ∷ labels) label = ap (λ (ls : List (List ℕ)). piece ∷ ls) (completed_last origin (next ∷ labels) label)

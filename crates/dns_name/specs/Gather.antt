@@ -1,5 +1,5 @@
 -- What the reader of a text has gathered: the labels that are closed, and the one in hand.
-use Rattle.std.specs.Prelude.{◌≡◌, ℕ, ◌<◌, Bool, false, List, [], ◌∷◌, ◌++◌, length, take, nat_lt, ◌==◌, Some}
+use Rattle.std.specs.Prelude.{◌≡◌, ℕ, false, List, [], ◌∷◌, ◌++◌, length, take, nat_lt, ◌==◌, Some}
 use Rattle.std.specs.List.{list_any}
 use Rattle.dns_name.specs.Text.{marks, pieces_of}
 use Rattle.dns_name.specs.declared.text.Mark.{Mark}

@@ -1,12 +1,12 @@
 -- The laws of the two comparisons: whether names are the same, and their canonical order.
-use Rattle.std.specs.Prelude.{◌≡◌, ℕ, Bool, List, reverse}
+use Rattle.std.specs.Prelude.{◌≡◌, ℕ, List, reverse}
 use Rattle.std.specs.Bool.{Decides}
 use Rattle.std.specs.Cmp.{IsTotalOrder, IsEquivalence}
-use Rattle.std.specs.Cmp.Lexicographic.{slice_cmp, pointwise, pointwise_decides}
+use Rattle.std.specs.Cmp.Lexicographic.{slice_cmp, pointwise_decides}
 use Rattle.std.specs.Ordering.{nat_cmp, eq_by_cmp, is_eq, ordering_then}
 use Rattle.std.specs.declared.cmp.Ordering.{Ordering}
 use Rattle.std.specs.declared.cmp.Ordering.TheVariants.{Less, Equal, Greater}
-use Rattle.std.proofs.Common.{refl, sym, ap, ◌∙◌, [], ◌∷◌, ◌&&◌, true, false, arith}
+use Rattle.std.proofs.Common.{refl, ap, [], ◌∷◌}
 use Rattle.std.proofs.lemmas.Bool.Decides.{same_from_decides, Decides-at}
 use Rattle.std.proofs.lemmas.Cmp.{on_equiv, on_total, lists_equiv, lists_total, nat_list_cmp_total, nat_list_eq_equiv}
 use Rattle.std.proofs.lemmas.List.{reverse-reverse}

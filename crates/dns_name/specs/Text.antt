@@ -26,6 +26,15 @@ abbrev pub mark_at : List ℕ → Option (Mark × ℕ)
 mark_at [] = None
 mark_at (c ∷ text) = if c == 92 then escaped text else if c == 46 then Some (Dot, 1) else Some (Octet c, 1)
 
+-- the octet that a mark stands for where dots don't part labels
+abbrev pub octet_of : Mark → ℕ
+octet_of Dot = 46
+octet_of (Octet c) = c
+
+-- the octet at the front of a text in which dots don't part labels, and how many characters spell it (RFC 1035, 5.1)
+abbrev pub octet_at : List ℕ → Option (ℕ × ℕ)
+octet_at text = option_map (λ m. (octet_of m.0, m.1)) (mark_at text)
+
 -- the marks of the text behind its first k characters
 abbrev pub marks : ℕ → List ℕ → Option (List Mark)
 marks k [] = Some []

@@ -1,7 +1,8 @@
 //! Laws of the definitions, each the contract of a function that does nothing, and worked examples.
-ghost use Rattle.std.specs.Prelude.{◌≡◌, ℕ, ◌<◌, ◌≤◌, ◌↔◌, List, [], ◌∷◌, ◌++◌, length, drop, map, codes, All, IsTrue, Some, true, false};
+ghost use Rattle.std.specs.Prelude.{◌≡◌, ℕ, ◌<◌, ◌≤◌, ◌↔◌, List, [], ◌∷◌, ◌++◌, length, drop, map, codes, All, IsTrue, Ok, Some, true, false};
 ghost use Rattle.std.specs.Cmp.{IsTotalOrder, IsEquivalence};
 ghost use Rattle.std.specs.declared.cmp.Ordering.TheVariants.{Less, Equal, Greater};
+ghost use Rattle.dns_name.specs.Text.{name_of_text, text_of};
 ghost use Rattle.dns_name.specs.Name.{wire_of, name_in, IsName, fold_name, is_same, is_under, self_and_ancestors, canonical_cmp, parent_of};
 
 /// What octets are read as is a name, and its octets stand in front of them; a name's octets are read as that name,
@@ -28,6 +29,11 @@ pub fn canonical_order()
 pub fn under_ancestors()
     ensures each { (name : List (List ℕ)) → All (λ ancestor. IsTrue (is_under name ancestor)) (self_and_ancestors name) }
     ensures ending { (name other : List (List ℕ)) → IsTrue (is_under name other) ↔ ((front : List (List ℕ)) × (fold_name name ≡ front ++ fold_name other)) }
+{}
+
+/// A name's text is read as that name, whatever the origin is (RFC 1035, 5.1).
+pub fn text_is_read_back()
+    ensures { (name origin : List (List ℕ)) → IsName name → All (All (λ octet. octet < 256)) name → name_of_text (text_of name) origin ≡ Ok name }
 {}
 
 /// Worked examples of the definitions: the names in the canonical order of RFC 4034, 6.1, and case (RFC 4343, 3).

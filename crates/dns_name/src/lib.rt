@@ -15,10 +15,12 @@ mod print;
 mod text;
 
 pub use labels::Labels;
-pub use laws::{canonical_order, examples, one_reading, same_but_for_case, under_ancestors};
+pub use laws::{
+    canonical_order, examples, one_reading, same_but_for_case, text_is_read_back, under_ancestors,
+};
 pub use name::{MAX_BELOW_ASTERISK, MAX_LABEL, MAX_NAME, Name};
 pub use print::MAX_TEXT;
-pub use text::NameFault;
+pub use text::{NameFault, octet_at};
 
 #[cfg(test)]
 mod tests;

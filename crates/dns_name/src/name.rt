@@ -98,9 +98,10 @@ impl Name {
         self.octets.len() == 1
     }
 
-    /// The labels, the leftmost first (RFC 1034, 3.1).
+    /// The labels, the leftmost first (RFC 1034, 3.1): at most 127, since each takes two octets or more.
     pub fn labels(&self) -> Labels<'_>
-        ensures { result ≡ self.now }
+        ensures labels { result ≡ self.now }
+        ensures few { length result < 128 }
     {
         Labels::new(self.octets.as_slice())
     }

@@ -1,7 +1,7 @@
 //! Names as text (RFC 1035, 5.1).
-ghost use Rattle.std.specs.Prelude.{◌≡◌, ℕ, List, [], ◌∷◌, ◌++◌, MatchOption};
+ghost use Rattle.std.specs.Prelude.{◌≡◌, ℕ, ◌<◌, ◌≤◌, List, [], ◌∷◌, ◌++◌, length, IfSome, MatchOption};
 ghost use Rattle.dns_name.specs.Gather.{IsGathered, IsAllOf};
-ghost use Rattle.dns_name.specs.Text.{marks, mark_at, escaped, numbered, name_of_text, lawful};
+ghost use Rattle.dns_name.specs.Text.{marks, mark_at, octet_at, escaped, numbered, name_of_text, lawful};
 
 use crate::name::{MAX_LABEL, MAX_NAME, Name};
 use crate::octets::{append, append_label};
@@ -70,6 +70,20 @@ fn numbered(text: &[u8]) -> Option<(Mark, usize)>
     let number = u16::from(*a - b'0') * 100 + u16::from(*b - b'0') * 10 + u16::from(*c - b'0');
     let octet = u8::try_from(number).ok()?;
     Some((Mark::Octet(octet), 4))
+}
+
+/// The octet that the front of a text stands for, and how many characters spell it: a backslash and three digits the
+/// octet of that number, a backslash and another character that character, and another octet itself. None where
+/// there is no text, or where a backslash has neither form behind it (RFC 1035, 5.1).
+pub fn octet_at(text: &[u8]) -> Option<(u8, usize)>
+    ensures octet { result ≡ octet_at text.now }
+    ensures within { IfSome result (λ spelt. (0 < spelt.1) × (spelt.1 ≤ length text.now)) }
+{
+    let (mark, len) = mark_at(text)?;
+    match mark {
+        Mark::Dot => Some((b'.', len)),
+        Mark::Octet(octet) => Some((octet, len)),
+    }
 }
 
 /// What is read of a name's text: the octets of the closed labels, the first 64 octets of the label in hand, and

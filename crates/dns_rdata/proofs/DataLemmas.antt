@@ -106,9 +106,10 @@ names_then_long (suc names) back octets own e =
     omega (arith, ap length rest.2)
 
 -- an SOA's data ends in 20 octets of numbers
-pub soa_long : (octets own : List ℕ) → parts 0 2 20 octets ≡ Some own → 20 ≤ length own
-soa_long octets own e =
-    let test = cond_some (nat_le 0 (length octets)) _ own e in
+pub soa_long : (rtype : ℕ) (octets own : List ℕ) → rtype ≡ 6 → data_of rtype octets ≡ Some own → 20 ≤ length own
+soa_long rtype octets own soa e =
+    let formed : parts 0 2 20 octets ≡ Some own = rw soa at e in
+    let test = cond_some (nat_le 0 (length octets)) _ own formed in
     let rest = map_some _ (names_then 2 20 (drop 0 octets)) own test.1 in
     let long = names_then_long 2 20 (drop 0 octets) rest.0 rest.1 in
     omega (arith, ap length rest.2)

@@ -109,7 +109,7 @@ impl RData {
         if self.rtype != RType::CNAME {
             return None;
         }
-        let (name, _) = Name::from_wire(&self.octets)?;
+        let (name, _) = Name::from_wire(self.octets())?;
         Some(name)
     }
 

@@ -99,7 +99,7 @@ impl RRset {
         ensures typed { All (λ d. d.rtype ≡ rtype_of self.now) result.now }
         ensures ascending { AllPairs IsBefore result.now }
     {
-        &self.rdata
+        self.rdata.as_slice()
     }
 
     /// Puts one more record into its place: equal records are one. Whether it is new (RFC 2181, 5).

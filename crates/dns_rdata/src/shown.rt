@@ -16,10 +16,10 @@ pub struct Shown<'a> {
 }
 
 impl Default for Shown<'_> {
-    ghost use Rattle.std.specs.Prelude.{◌≡◌, []};
+    ghost use Rattle.std.specs.Prelude.{◌≡◌, [], None};
     ghost use Rattle.dns_rdata.specs.Shown.{records_shown};
 
-    ghost is_default = { λ shown. records_shown shown ≡ [] };
+    ghost is_default = { λ shown. (shown.owner ≡ []) × (shown.ttl ≡ None) × (records_shown shown ≡ []) };
 
     /// No sets, under the root.
     fn default() -> Self {

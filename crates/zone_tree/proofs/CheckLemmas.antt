@@ -104,7 +104,7 @@ module _ {X : Type 0} (p : X → Bool) where
       by false h more = more h
 
 -- there are no fewer records than sets
-length-records_each : (sets : List (List Record)) → All (λ set. 0 < length set) sets → length sets ≤ length (records_in sets)
+pub length-records_each : (sets : List (List Record)) → All (λ set. 0 < length set) sets → length sets ≤ length (records_in sets)
 length-records_each [] h = omega arith
 length-records_each (set ∷ sets) h =
     let some : 0 < length set = h 0 set (omega arith) in

@@ -4,3 +4,6 @@ pub mod SetLemmas
 pub mod LookLemmas
 pub mod ZoneLemmas
 pub mod CheckLemmas
+pub mod RuleLemmas
+pub mod FaultLemmas
+pub mod LawLemmas

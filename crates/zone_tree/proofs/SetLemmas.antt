@@ -19,7 +19,7 @@ set_total = then_total (on_total owner_of canonical_total) (on_total rtype_of na
 pub record_total : IsTotalOrder record_cmp
 record_total = then_total (on_total (λ r. r.owner) canonical_total) (then_total (on_total (λ r. r.rtype) nat_cmp_total) (on_total (λ r. r.rdata) nat_list_cmp_total))
 
-less : (o : Ordering) → is_lt o ≡ true → o ≡ Less
+pub less : (o : Ordering) → is_lt o ≡ true → o ≡ Less
 less Less e = refl
 less Equal e = absurd (true≢false (sym e))
 less Greater e = absurd (true≢false (sym e))

@@ -1,3 +1,4 @@
+pub mod Example
 pub mod Fault
 pub mod Sets
 pub mod Zone

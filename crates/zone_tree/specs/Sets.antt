@@ -1,11 +1,12 @@
 -- A zone in pieces: its sets, each the records of one owner and type (RFC 2181, 5).
-use Rattle.std.specs.Prelude.{◌≡◌, ℕ, ◌<◌, ◌≤◌, ◌^◌, true, false, ◌&&◌, ◌==◌, List, length, All}
+use Rattle.std.specs.Prelude.{◌≡◌, ℕ, ◌<◌, ◌≤◌, ◌^◌, true, false, ◌&&◌, ◌==◌, List, [], ◌≢◌, length, All}
 use Rattle.std.specs.List.{AllPairs, flat_map, slice_index_or}
 use Rattle.std.specs.Ordering.{nat_cmp, ordering_then, is_lt}
 use Rattle.std.specs.declared.cmp.Ordering.{Ordering}
-use Rattle.dns_name.specs.Name.{is_same, fold_name, canonical_cmp}
+use Rattle.dns_name.specs.Name.{is_same, is_under, fold_name, canonical_cmp}
+use Rattle.dns_rdata.specs.Numbers.{type_NS}
 use Rattle.dns_rdata.specs.Record.{Record, owner_of, rtype_of, ttl_of}
-use Rattle.zone_tree.specs.Zone.{IsZone, IsBefore, soa_of}
+use Rattle.zone_tree.specs.Zone.{IsZone, IsBefore, soa_of, apex_of, rrset_of, is_alone, is_wild}
 
 -- the records of sets, one set after another
 abbrev pub records_in : List (List Record) → List Record
@@ -48,6 +49,13 @@ AreUnsplit sets = AllPairs (λ set other. is_same (owner_of set) (owner_of other
 pub record IsPlaceOf (sets : List (List Record)) (set : List Record) (at : ℕ) : Type 0 where
   pub within : at < length sets
   pub is : (d : List Record) → slice_index_or sets at d ≡ set
+
+-- the rules that the apex and the owners of a zone keep, beside the order of its records
+pub record KeepsRules (zone : List Record) : Type 0 where
+  pub under_apex : All (λ r. is_under r.owner (apex_of zone) ≡ true) zone
+  pub name_servers : rrset_of zone (apex_of zone) type_NS ≢ []
+  pub aliases_alone : All (λ r. is_alone zone r ≡ true) zone
+  pub no_wild_cuts : All (λ r. is_wild r.owner && r.rtype == type_NS ≡ false) zone
 
 -- sets as a zone keeps them, with the place of its SOA
 pub record AreStored (sets : List (List Record)) (soa : ℕ) : Type 0 where

@@ -67,10 +67,3 @@ pub record IsZone (zone : List Record) : Type 0 where
   pub no_wild_cuts : All (λ r. is_wild r.owner && r.rtype == type_NS ≡ false) zone
   pub few : length zone ≤ 1000000
   pub small_sets : All (λ r. length (rrset_of zone r.owner r.rtype) ≤ 256) zone
-
--- the rules that the apex and the owners of a zone keep, beside the order of its records
-pub record KeepsRules (zone : List Record) : Type 0 where
-  pub under_apex : All (λ r. is_under r.owner (apex_of zone) ≡ true) zone
-  pub name_servers : rrset_of zone (apex_of zone) type_NS ≢ []
-  pub aliases_alone : All (λ r. is_alone zone r ≡ true) zone
-  pub no_wild_cuts : All (λ r. is_wild r.owner && r.rtype == type_NS ≡ false) zone

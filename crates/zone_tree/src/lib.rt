@@ -7,6 +7,7 @@
 
 mod check;
 mod fault;
+mod laws;
 mod look;
 mod read;
 mod rules;
@@ -14,5 +15,9 @@ mod soa;
 mod zone;
 
 pub use fault::ZoneFault;
+pub use laws::{examples, names_that_exist, same_records, soa_at_apex};
 pub use read::ZoneRead;
 pub use zone::{MAX_RECORDS, Zone};
+
+#[cfg(test)]
+mod tests;

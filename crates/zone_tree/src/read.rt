@@ -2,7 +2,7 @@
 ghost use Rattle.std.specs.Prelude.{◌≡◌, ◌↔◌, List, [], length, IsNone, IfSome};
 ghost use Rattle.std.specs.List.{flat_map};
 ghost use Rattle.dns_rdata.specs.Record.{Record};
-ghost use Rattle.zone_tree.specs.Zone.{rrset_of, rrsets_of, exists, soa_of, apex_of};
+ghost use Rattle.zone_tree.specs.Zone.{IsZone, rrset_of, rrsets_of, exists, soa_of, apex_of};
 
 use dns_name::Name;
 use dns_rdata::{RRset, RType};
@@ -24,10 +24,11 @@ pub trait ZoneRead {
     fn exists(&self, name: &Name) -> bool
         ensures { result ≡ exists (records self.now) name.now };
 
-    /// The set of the SOA, which has one record (RFC 1034, 4.2.1).
+    /// The set of the SOA, which has one record (RFC 1034, 4.2.1). The records are a zone.
     fn soa(&self) -> &RRset
         ensures set { result.now ≡ soa_of (records self.now) }
-        ensures one { length result.now ≡ 1 };
+        ensures one { length result.now ≡ 1 }
+        ensures lawful { IsZone (records self.now) };
 
     /// All sets in canonical order (RFC 4034, 6.1).
     fn walk(&self) -> &[RRset]

@@ -4,8 +4,8 @@ ghost use Rattle.std.specs.List.{list_any};
 ghost use Rattle.dns_name.specs.Name.{is_same, is_under};
 ghost use Rattle.dns_rdata.specs.Numbers.{type_NS, type_CNAME};
 ghost use Rattle.dns_rdata.specs.Record.{owner_of, rtype_of};
-ghost use Rattle.zone_tree.specs.Zone.{apex_of, rrsets_of, is_wild, KeepsRules};
-ghost use Rattle.zone_tree.specs.Sets.{records_in, AreAscending};
+ghost use Rattle.zone_tree.specs.Zone.{apex_of, rrsets_of, is_wild};
+ghost use Rattle.zone_tree.specs.Sets.{records_in, AreAscending, KeepsRules};
 ghost use Rattle.zone_tree.specs.Fault.{IsFault};
 
 use crate::check::len_of;
@@ -68,8 +68,7 @@ fn has_crowded_alias(sets: &[RRset]) -> bool
     requires { AreAscending sets.now }
     ensures { result ≡ list_any (λ set. rtype_of set == type_CNAME && not (length (rrsets_of (records_in sets.now) (owner_of set)) == 1)) sets.now }
 {
-    sets.iter()
-        .any(|set| set.rtype() == RType::CNAME && !has_one_record(sets, set.owner()))
+    sets.iter().any(|set| set.rtype() == RType::CNAME && !has_one_record(sets, set.owner()))
 }
 
 // Whether the first label is `*`: its length, and then its octet (RFC 4592, 2.1.1).
@@ -83,6 +82,5 @@ fn has_asterisk(name: &Name) -> bool
 fn has_wild_cut(sets: &[RRset]) -> bool
     ensures { result ≡ list_any (λ set. is_wild (owner_of set) && rtype_of set == type_NS) sets.now }
 {
-    sets.iter()
-        .any(|set| has_asterisk(set.owner()) && set.rtype() == RType::NS)
+    sets.iter().any(|set| has_asterisk(set.owner()) && set.rtype() == RType::NS)
 }

@@ -70,6 +70,6 @@ impl ZoneRead for Zone {
     }
 
     fn walk(&self) -> &[RRset] {
-        &self.sets
+        self.sets.as_slice()
     }
 }

@@ -1,9 +1,8 @@
-use Rattle.std.proofs.Common.{◌≤◌, length, map, option_map}
+use Rattle.std.proofs.Common.{◌≤◌, length}
 use Rattle.std.specs.List.{flat_map}
-use Rattle.dns_rdata.specs.Record.{shown_as}
 use Rattle.dns_rdata.specs.Shown.{records_shown}
 use Rattle.dns_message.specs.Text.{record_text}
-use Rattle.dns_message.proofs.PutsLemmas.{Completes, datum_text}
+use Rattle.dns_message.proofs.PutsLemmas.{Completes}
 use Rattle.dns_message.proofs.records.put_section.Given as goal
 
 abbrev pub invariant-loop-shown : goal.invariant-loop-shown

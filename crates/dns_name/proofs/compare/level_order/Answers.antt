@@ -1,4 +1,4 @@
-use Rattle.std.proofs.Common.{◌≡◌, ap, ◌∙◌, arith, length}
+use Rattle.std.proofs.Common.{ap, ◌∙◌, arith, length}
 use Rattle.std.specs.Ordering.{ordering_then}
 use Rattle.dns_name.proofs.OrderLemmas.{pass_step}
 use Rattle.dns_name.proofs.compare.level_order.Goals as goal

@@ -1,4 +1,4 @@
-use Rattle.std.proofs.Common.{sym, ◌∙◌}
+use Rattle.std.proofs.Common.{◌∙◌}
 use Rattle.dns_name.proofs.SameLemmas.{ends_step, ends_test, ends_root}
 use Rattle.dns_name.proofs.octets.ends_in.Goals as goal
 

@@ -1,7 +1,7 @@
-use Rattle.std.proofs.Common.{◌≡◌, ℕ, List, ◌∷◌, ◌++◌, length, take, drop, sym, ap, ◌∙◌, arith}
+use Rattle.std.proofs.Common.{◌≡◌, ℕ, List, ◌∷◌, length, take, drop, arith}
 use Rattle.std.proofs.lemmas.List.{length-take-le, take-append-drop}
-use Rattle.dns_name.specs.Labels.{labels_in, IsWhole, IsFirstLabel}
-use Rattle.dns_name.proofs.LabelLemmas.{HasFirst, HasFirst-at}
+use Rattle.dns_name.specs.Labels.{IsWhole, IsFirstLabel}
+use Rattle.dns_name.proofs.LabelLemmas.{HasFirst-at}
 use Rattle.dns_name.proofs.octets.first_label.Goals as goal
 
 whole_at : (n : ℕ) (octets all : List ℕ) → all ≡ n ∷ octets → IsWhole 0 all → IsWhole 0 (n ∷ octets)

@@ -1,5 +1,5 @@
-use Rattle.std.proofs.Common.{◌≡◌, Some, None, true, sym, ap, ◌∙◌, arith}
-use Rattle.dns_name.proofs.ReadLemmas.{len_in, limited, walk_step, walk_past, Reads, Reads-from}
+use Rattle.std.proofs.Common.{sym, ◌∙◌, arith}
+use Rattle.dns_name.proofs.ReadLemmas.{len_in, walk_step, walk_past, Reads-from}
 use Rattle.dns_name.proofs.octets.name_len.Goals as goal
 
 pub loop-at-preserved : goal.loop-at-preserved

@@ -1,7 +1,7 @@
-use Rattle.std.proofs.Common.{Some, sym, ◌∙◌, ap, eqb, length, arith}
+use Rattle.std.proofs.Common.{Some, sym, ◌∙◌, ap, length}
 use Rattle.std.proofs.lemmas.Bool.Decides.{Decides-eqb}
 use Rattle.std.proofs.lemmas.List.{take_rest, nil_from_length}
-use Rattle.dns_name.proofs.TextLemmas.{IsOnTheWay, IsOnTheWay-start, IsOnTheWay-dot, IsOnTheWay-octet, IsOnTheWay-end}
+use Rattle.dns_name.proofs.TextLemmas.{IsOnTheWay-start, IsOnTheWay-dot, IsOnTheWay-octet, IsOnTheWay-end}
 use Rattle.dns_name.proofs.text.gather.Goals as goal
 use Rattle.dns_name.proofs.text.gather.Goals.{in-Dot, in-Octet}
 

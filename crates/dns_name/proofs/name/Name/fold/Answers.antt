@@ -1,5 +1,5 @@
-use Rattle.std.proofs.Common.{◌≡◌, sym, ap, ◌∙◌, arith}
-use Rattle.dns_name.proofs.LabelLemmas.{IsFolded, IsFolded-refill}
+use Rattle.std.proofs.Common.{ap, ◌∙◌, arith}
+use Rattle.dns_name.proofs.LabelLemmas.{IsFolded-refill}
 use Rattle.dns_name.specs.Name.{fold_name}
 use Rattle.dns_name.proofs.name.Name.fold.Goals as goal
 

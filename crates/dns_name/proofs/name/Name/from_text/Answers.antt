@@ -3,7 +3,7 @@ use Rattle.std.proofs.lemmas.Bool.Decides.{Decides-eqb}
 use Rattle.std.specs.Cmp.Lexicographic.{other_text}
 use Rattle.std.specs.Str.{bytes_eq}
 use Rattle.dns_name.specs.Text.{lawful}
-use Rattle.dns_name.proofs.TextLemmas.{IsAbsolute, IsAbsolute-from, name_of_text-relative}
+use Rattle.dns_name.proofs.TextLemmas.{IsAbsolute-from, name_of_text-relative}
 use Rattle.dns_name.proofs.name.Name.from_text.Goals as goal
 
 some_octet : (octets : List ℕ) → false ≡ (length octets == 0) → octets ≡ [] → ⊥

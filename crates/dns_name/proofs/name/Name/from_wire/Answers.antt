@@ -1,7 +1,7 @@
 use Rattle.std.proofs.Common.{◌≡◌, ℕ, ◌≤◌, ◌+◌, ◌++◌, [], List, Some, length, take, drop, sym, ap, ◌∙◌, arith}
 use Rattle.std.proofs.lemmas.List.{take-append-drop, length-take-le}
 use Rattle.dns_name.specs.Labels.{labels_in, IsWhole}
-use Rattle.dns_name.specs.Name.{wire_of, name_in}
+use Rattle.dns_name.specs.Name.{wire_of}
 use Rattle.dns_name.proofs.LabelLemmas.{IsWhole-wire_of, labels_in-wire_of}
 use Rattle.dns_name.proofs.ReadLemmas.{IsBegun, IsBegun-from}
 use Rattle.dns_name.proofs.name.Name.from_wire.Goals as goal

@@ -1,4 +1,4 @@
-use Rattle.std.proofs.Common.{◌≡◌, ℕ, List, [], length, eqb, IsTrue, ◌≤◌, sym, ap, ◌∙◌, arith}
+use Rattle.std.proofs.Common.{◌≡◌, ℕ, List, [], length, eqb, IsTrue, arith}
 use Rattle.std.proofs.lemmas.Bool.Decides.{Decides-eqb}
 use Rattle.dns_name.specs.Labels.{labels_in, IsWhole}
 use Rattle.dns_name.proofs.LabelLemmas.{root_alone, alone_root}

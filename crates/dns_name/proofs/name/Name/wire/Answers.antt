@@ -1,6 +1,6 @@
 use Rattle.std.proofs.Common.{◌≡◌, ℕ, List, length, ◌≤◌, ap, arith}
 use Rattle.dns_name.specs.Labels.{labels_in, IsWhole}
-use Rattle.dns_name.specs.Name.{wire_of, IsName}
+use Rattle.dns_name.specs.Name.{IsName}
 use Rattle.dns_name.proofs.LabelLemmas.{wire_of-labels_in, IsLabel_each}
 use Rattle.dns_name.proofs.name.Name.wire.Goals as goal
 

@@ -1,5 +1,5 @@
-use Rattle.std.proofs.Common.{sym, ◌∙◌, ap, inl, inr, arith, Ok, ◌+◌, ◌<◌, length, ◌≡◌}
-use Rattle.dns_name.proofs.GatherLemmas.{named_long, named_crowded, IsJoined, IsJoined-from}
+use Rattle.std.proofs.Common.{◌∙◌, ap, inl, inr, arith, Ok, ◌+◌, ◌<◌, length}
+use Rattle.dns_name.proofs.GatherLemmas.{named_long, named_crowded, IsJoined-from}
 use Rattle.dns_name.proofs.text.Gathered.named.Goals as goal
 use Rattle.dns_name.proofs.text.Gathered.named.Goals.{then-self-3-via-then-self-3, then-self-3-via-else-self-3+then-len-rest-gt-MAX_NAME}
 

@@ -1,5 +1,3 @@
-use Rattle.std.proofs.Common.{ap}
-use Rattle.dns_name.specs.Gather.{IsGathered}
 use Rattle.dns_name.proofs.GatherLemmas.{pushed}
 use Rattle.dns_name.proofs.text.Gathered.push.Goals as goal
 

@@ -1,0 +1,59 @@
+#!/usr/bin/env bash
+# Makes a zone and queries, runs the proved program over them, and prints records read a second, queries answered a second
+# and peak memory. Usage: bench/answer.sh [RECORDS ..], by default 1000 and 100000. `make demo` builds the program.
+set -euo pipefail
+cd "$(dirname "$0")/.."
+program=$PWD/crates/dnsd/out/dnsd
+queries=10000
+work=$(mktemp -d)
+trap 'rm -rf "$work"' EXIT
+[ -x "$program" ] || { echo "bench: no program at $program: run make demo first" >&2; exit 1; }
+
+# The zone: an SOA, an NS, and then hosts of which each tenth is an alias of the one before it.
+zone() {
+    awk -v n="$1" 'BEGIN {
+        print "example.test. 3600 IN SOA ns1.example.test. admin.example.test. 1 7200 900 1209600 300"
+        print "example.test. 3600 IN NS ns1.example.test."
+        for (i = 0; i + 2 < n; i++) {
+            if (i % 10 == 9) printf "h%d.example.test. 3600 IN CNAME h%d.example.test.\n", i, i - 1
+            else printf "h%d.example.test. 3600 IN A 192.0.2.%d\n", i, i % 256
+        }
+    }'
+}
+
+# The queries, type A: by turns a name that exists, one that does not, and an alias.
+requests() {
+    awk -v n="$1" -v q="$queries" 'BEGIN {
+        for (i = 0; i < 128; i++) code[sprintf("%c", i)] = i
+        for (i = 0; i < q; i++) {
+            at = int((i * 7919) % (n - 2) / 10) * 10
+            name = i % 3 == 0 ? "h" at : i % 3 == 1 ? "x" at : "h" (at + 9)
+            line = sprintf("%04x01000001000000000000%02x", i % 65536, length(name))
+            for (j = 1; j <= length(name); j++) line = line sprintf("%02x", code[substr(name, j, 1)])
+            print line "076578616d706c6504746573740000010001"
+        }
+    }'
+}
+
+# Runs the program over a zone's text and requests, and prints seconds and peak memory in KiB.
+measure() {
+    python3 - "$program" "$1" "$2" <<'PY'
+import resource, subprocess, sys, time
+program, zone, requests = sys.argv[1:]
+start = time.monotonic()
+with open(requests) as lines, open("/dev/null", "w") as out:
+    subprocess.run([program, "answer", zone], stdin=lines, stdout=out, check=True)
+print(f"{time.monotonic() - start:.3f} {resource.getrusage(resource.RUSAGE_CHILDREN).ru_maxrss}")
+PY
+}
+
+for n in "${@:-1000 100000}"; do for records in $n; do
+    zone "$records" > "$work/zone"
+    requests "$records" > "$work/requests"
+    : > "$work/none"
+    read -r reading _ < <(measure "$work/zone" "$work/none")
+    read -r both memory < <(measure "$work/zone" "$work/requests")
+    awk -v n="$records" -v q="$queries" -v r="$reading" -v b="$both" -v m="$memory" 'BEGIN {
+        printf "%d records: %d records read a second, %d queries answered a second, %.1f MiB at most\n", n, n / r, q / (b > r ? b - r : 0.001), m / 1024
+    }'
+done; done

@@ -1,0 +1,115 @@
+-- Lemmas on lines and on the line for a request.
+use Rattle.std.proofs.Common.{◌≡◌, ℕ, zero, suc, ◌+◌, ◌-◌, ◌<◌, ◌≤◌, Bool, true, false, cond, eqb, ltb, List, [], ◌∷◌, ◌++◌, length, slice_index, take, Option, Some, None, Result, Ok, Err, refl, sym, ap, ◌∙◌, arith, inl, inr, codes, append_assoc, flat_map, subst, IfSome, MatchBool, append-nil}
+use Rattle.std.specs.Io.BufRead.{take_through, drop_through, strip_last, first_piece, ends_with_byte}
+use Rattle.std.specs.Io.KnownBytes.{Appends}
+use Rattle.std.proofs.lemmas.Bool.{le-leb, lt-leb, lt-ltb, cond-true, cond-false}
+use Rattle.hex.specs.declared.error.FromHexError.{FromHexError}
+use Rattle.hex.specs.Hex.{decode_of}
+use Rattle.dns_rdata.specs.Record.{Record}
+use Rattle.dnsd.specs.Reply.{reply}
+use Rattle.dnsd.specs.Lines.{TakesLine, line_of, line_for, written, input_lines, output_of, onto_first, MOST_OCTETS}
+
+-- what is no hexadecimal of so many octets gets `!`
+line_of-refused : (zone : List Record) (r : Result (List ℕ) FromHexError) → ((octets : List ℕ) → r ≡ Ok octets → MOST_OCTETS < length octets) → line_of zone r ≡ codes "!"
+line_of-refused zone (Err fault) long = refl
+line_of-refused zone (Ok octets) long = cond-false _ _ _ (lt-leb _ _ (long octets refl))
+
+-- a line that is no hexadecimal of so many octets gets `!`
+pub line_for-refused : (zone : List Record) (line : List ℕ) → ((octets : List ℕ) → decode_of line ≡ Ok octets → MOST_OCTETS < length octets) → line_for zone line ≡ codes "!"
+unfolding line_for
+line_for-refused zone line long = line_of-refused zone (decode_of line) long
+
+-- a line that is hexadecimal of so many octets gets their reply
+pub line_for-request : (zone : List Record) (line octets : List ℕ) → decode_of line ≡ Ok octets → length octets ≤ MOST_OCTETS → line_for zone line ≡ written (reply zone octets)
+unfolding line_for
+line_for-request zone line octets e short = ap (line_of zone) e ∙ cond-true _ _ _ (le-leb _ _ short)
+
+-- the end is cut off a longer list as off its rest
+pub strip_last-cons : (byte c x : ℕ) (xs : List ℕ) → strip_last byte (c ∷ x ∷ xs) ≡ c ∷ strip_last byte (x ∷ xs)
+strip_last-cons byte c x xs =
+    let e : suc (suc (length xs)) - 1 ≡ suc (length xs) = omega arith in
+    let f : suc (length xs) - 1 ≡ length xs = omega arith in
+    let g : ltb 0 (suc (suc (length xs))) ≡ true = lt-ltb _ _ (omega arith) in
+    let h : ltb 0 (suc (length xs)) ≡ true = lt-ltb _ _ (omega arith) in
+    rw (e, f, g, h) (at_end (eqb (slice_index (x ∷ xs) (length xs)) byte))
+    where
+  at_end : (b : Bool) → cond b (c ∷ take (length xs) (x ∷ xs)) (c ∷ x ∷ xs) ≡ c ∷ cond b (take (length xs) (x ∷ xs)) (x ∷ xs)
+  at_end true = refl
+  at_end false = refl
+
+-- what a reader takes up to a line end isn't empty where something is left
+pub take_through-some : (c : ℕ) (cs : List ℕ) → (x : ℕ) × (xs : List ℕ) × (take_through 10 (c ∷ cs) ≡ x ∷ xs)
+take_through-some c cs = at_test (eqb c 10)
+    where
+  at_test : (b : Bool) → (x : ℕ) × (xs : List ℕ) × (cond b (c ∷ []) (c ∷ take_through 10 cs) ≡ x ∷ xs)
+  at_test true = (c, [], refl)
+  at_test false = (c, take_through 10 cs, refl)
+
+-- the first line of an input is what stands before its first line end
+pub input_lines-first : (c : ℕ) (cs : List ℕ) → input_lines (c ∷ cs) ≡ first_piece 10 (c ∷ cs) ∷ input_lines (drop_through 10 (c ∷ cs))
+input_lines-first c [] = at_test (eqb c 10) refl
+    where
+  at_test : (b : Bool) → eqb c 10 ≡ b → cond b ([] ∷ []) ((c ∷ []) ∷ []) ≡ strip_last 10 (cond b (c ∷ []) (c ∷ [])) ∷ input_lines (cond b [] [])
+  at_test true e = rw e refl
+  at_test false e = rw e refl
+input_lines-first c (d ∷ ds) = at_test (eqb c 10) refl (input_lines-first d ds) (take_through-some d ds)
+    where
+  at_test : (b : Bool) → eqb c 10 ≡ b → input_lines (d ∷ ds) ≡ first_piece 10 (d ∷ ds) ∷ input_lines (drop_through 10 (d ∷ ds)) → (x : ℕ) × (xs : List ℕ) × (take_through 10 (d ∷ ds) ≡ x ∷ xs)
+    → cond b ([] ∷ input_lines (d ∷ ds)) (onto_first c (input_lines (d ∷ ds))) ≡ strip_last 10 (cond b (c ∷ []) (c ∷ take_through 10 (d ∷ ds))) ∷ input_lines (cond b (d ∷ ds) (drop_through 10 (d ∷ ds)))
+  at_test true e first some = rw e refl
+  at_test false e first some =
+      ap (onto_first c) first ∙ ap (λ line. line ∷ input_lines (drop_through 10 (d ∷ ds))) (at_list (take_through 10 (d ∷ ds)) some.2)
+      where
+    at_list : (ts : List ℕ) → ts ≡ some.0 ∷ some.1 → c ∷ strip_last 10 ts ≡ strip_last 10 (c ∷ ts)
+    at_list ts f = rw (f, strip_last-cons 10 c some.0 some.1) refl
+
+-- the output so far, for an input of which the rest is left: the rest's output completes the whole
+pub record IsOnTheWay (zone : List Record) (input : List ℕ) (left written_before written_after : Option (List ℕ)) : Type 0 where
+  pub rest : List ℕ
+  pub done : List ℕ
+  pub is_left : left ≡ Some rest
+  pub grown : Appends written_before written_after done
+  pub whole : done ++ output_of zone rest ≡ output_of zone input
+
+-- bytes that grow twice grow by both in turn
+pub Appends-twice : (before between after : Option (List ℕ)) (first second : List ℕ) → Appends before between first → Appends between after second → Appends before after (first ++ second)
+Appends-twice None between after first second a b = tt
+Appends-twice (Some xs) None after first second a b = absurd a
+Appends-twice (Some xs) (Some ys) None first second a b = absurd b
+Appends-twice (Some xs) (Some ys) (Some zs) first second a b = b ∙ ap (λ us. us ++ second) a ∙ append_assoc xs first second
+
+-- the output for what is left is the line for its first line, and then the output for what follows that
+output_of-first : (zone : List Record) (rest : List ℕ) → 0 < length rest → output_of zone rest ≡ (line_for zone (first_piece 10 rest) ++ 10 ∷ []) ++ output_of zone (drop_through 10 rest)
+output_of-first zone [] some = absurd (omega arith)
+output_of-first zone (c ∷ cs) some = ap (flat_map (λ line. line_for zone line ++ 10 ∷ [])) (input_lines-first c cs)
+
+-- what a turn of the loop does: it takes a line and answers it, or nothing is left and nothing is written
+abbrev pub TurnOf : List Record → Option (List ℕ) → Option (List ℕ) → Option (List ℕ) → Option (List ℕ) → Bool → Type 0
+TurnOf zone left rest_left between after more =
+    IfSome left (λ rest. MatchBool more (TakesLine zone rest rest_left between after) ((rest ≡ []) × (after ≡ between)))
+
+-- one more line is taken and answered
+pub IsOnTheWay-line : (zone : List Record) (input : List ℕ) (left rest_left before between after : Option (List ℕ)) (more : Bool) → IsOnTheWay zone input left before between
+    → more ≡ true → TurnOf zone left rest_left between after more → IsOnTheWay zone input rest_left before after
+IsOnTheWay-line zone input left rest_left before between after more way is_more turn =
+    let line : TakesLine zone way.rest rest_left between after = rw (way.is_left, is_more) at turn in
+    record {
+      rest = drop_through 10 way.rest;
+      done = way.done ++ (line_for zone (first_piece 10 way.rest) ++ 10 ∷ []);
+      is_left = line.taken;
+      grown = Appends-twice before between after _ _ way.grown line.line;
+      whole = append_assoc way.done _ _ ∙ ap (λ out. way.done ++ out) (sym (output_of-first zone way.rest line.some)) ∙ way.whole;
+    }
+
+-- where nothing is left, the whole output was written
+pub IsOnTheWay-end : (zone : List Record) (input : List ℕ) (left rest_left before between after : Option (List ℕ)) (more : Bool) → IsOnTheWay zone input left before between
+    → more ≡ false → TurnOf zone left rest_left between after more → Appends before after (output_of zone input)
+IsOnTheWay-end zone input left rest_left before between after more way is_end turn =
+    let end : (way.rest ≡ []) × (after ≡ between) = rw (way.is_left, is_end) at turn in
+    let all : way.done ≡ output_of zone input = sym (append-nil way.done) ∙ ap (λ rest. way.done ++ output_of zone rest) (sym end.0) ∙ way.whole in
+    subst (λ out. Appends before after out) all (subst (λ held. Appends before held way.done) (sym end.1) way.grown)
+
+-- a fact for each value that an option may have
+pub IfSome-each : (o : Option (List ℕ)) (P : List ℕ → Type 0) → ((xs : List ℕ) → o ≡ Some xs → P xs) → IfSome o P
+IfSome-each None P each = tt
+IfSome-each (Some xs) P each = each xs refl

@@ -1,0 +1,10 @@
+use Rattle.std.proofs.Common.{◌≡◌, ◌++◌, ℕ, List, Option, Some}
+use Rattle.std.specs.Io.KnownBytes.{Appends}
+use Rattle.dnsd.specs.Lines.{output_of}
+use Rattle.dnsd.proofs.LinesLemmas.{IsOnTheWay}
+use Rattle.dnsd.proofs.answer.run_answer.Given as goal
+
+-- what was written and what the rest will give are what the whole input gives
+abbrev pub invariant-loop : goal.invariant-loop
+invariant-loop g l =
+    (input : List ℕ) → g.R.Read.remaining l.initial.reader ≡ Some input → IsOnTheWay (g.Z.ZoneRead.records l.zone) input (g.R.Read.remaining l.reader) (g.W.Write.contents l.initial.writer) (g.W.Write.contents l.writer)

@@ -1,0 +1,150 @@
+//! Requests in hexadecimal, a line each, and their replies.
+ghost use Rattle.std.specs.Prelude.{◌≡◌, ℕ, ◌<◌, ◌≤◌, ◌*◌, ◌/◌, ◌↔◌, List, [], ◌∷◌, ◌++◌, length, take, Some, None, Ok, IfOk, OnOk, IfSome, MatchBool, MatchOption, codes};
+ghost use Rattle.std.specs.Io.BufRead.{strip_last};
+ghost use Rattle.std.specs.Io.KnownBytes.{Appends};
+ghost use Rattle.hex.specs.Hex.{decode_of, encode_lower};
+ghost use Rattle.dnsd.specs.Reply.{reply as reply_in};
+ghost use Rattle.dnsd.specs.Lines.{written, line_for, output_of, TakesLine, MOST_OCTETS};
+
+use crate::input::{MAX_READS, endless};
+use crate::reply::{UDP_LIMIT, respond};
+use std::alloc::Global;
+use std::io::{self, BufRead, Write};
+use zone_tree::ZoneRead;
+
+/// The most octets of a request (RFC 1035, 4.2.2).
+const MAX_REQUEST: usize = 65_535;
+
+/// The most digits of a reply.
+const MAX_DIGITS: usize = 2 * UDP_LIMIT;
+
+/// Buffers that are made once, so that no query takes memory when its line has been read.
+#[derive(Drop)]
+struct Buffers {
+    /// The line as it was read.
+    line: Vec<u8>,
+    /// The request's octets.
+    request: [u8; MAX_REQUEST],
+    /// The reply's octets.
+    reply: [u8; UDP_LIMIT],
+    /// The reply in hexadecimal.
+    digits: [u8; MAX_DIGITS],
+}
+
+/// Answers each line of the input, a request in hexadecimal, by a line: the reply in lower case, `-` where there is no
+/// reply, `!` where the line isn't hexadecimal of at most 65,535 octets.
+///
+/// An `Err` is a device's, want of memory, or an input that hasn't ended after 2^32 reads; what was written up to then is a
+/// beginning of the output.
+pub fn run_answer<Z: ZoneRead, R: BufRead, W: Write>(
+    alloc: Global,
+    zone: &Z,
+    reader: &mut R,
+    writer: &mut W,
+) -> io::Result<()>
+    // Where the reader tells its octets and the writer those that it holds.
+    ensures { OnOk result (IfSome (R.remaining reader.old) (λ input.
+        Appends (W.contents writer.old) (W.contents writer.new) (output_of (Z.records zone.now) input))) }
+{
+    let mut buffers = Buffers {
+        line: Vec::new(alloc),
+        request: [0; MAX_REQUEST],
+        reply: [0; UDP_LIMIT],
+        digits: [0; MAX_DIGITS],
+    };
+    for _ in 0..MAX_READS {
+        if !answer_next(zone, reader, writer, &mut buffers)? {
+            return Ok(());
+        }
+    }
+    Err(endless())
+}
+
+/// Answers the next line; false where there is none.
+fn answer_next<Z: ZoneRead, R: BufRead, W: Write>(
+    zone: &Z,
+    reader: &mut R,
+    writer: &mut W,
+    buffers: &mut Buffers,
+) -> io::Result<bool>
+    ensures { IfOk result (λ more. IfSome (R.remaining reader.old) (λ rest. MatchBool more
+        (TakesLine (Z.records zone.now) rest (R.remaining reader.new) (W.contents writer.old) (W.contents writer.new))
+        ((rest ≡ []) × (W.contents writer.new ≡ W.contents writer.old)))) }
+{
+    buffers.line.clear();
+    if reader.read_until(b'\n', &mut buffers.line)? == 0 {
+        return Ok(false);
+    }
+    write_line(zone, writer, buffers)?;
+    Ok(true)
+}
+
+/// Writes the line for the line that was read.
+fn write_line<Z: ZoneRead, W: Write>(zone: &Z, writer: &mut W, buffers: &mut Buffers) -> io::Result<()>
+    ensures { OnOk result (Appends (W.contents writer.old) (W.contents writer.new)
+        (line_for (Z.records zone.now) (strip_last 10 buffers.old.line.items) ++ 10 ∷ [])) }
+{
+    match request_of(without_lf(buffers.line.as_slice()), &mut buffers.request) {
+        None => writer.write_all(b"!\n"),
+        Some(len) => {
+            let request = &buffers.request[..len];
+            write_reply(zone, request, &mut buffers.reply, &mut buffers.digits, writer)
+        }
+    }
+}
+
+/// Writes the line for a request.
+fn write_reply<Z: ZoneRead, W: Write>(
+    zone: &Z,
+    request: &[u8],
+    reply: &mut [u8; UDP_LIMIT],
+    digits: &mut [u8; MAX_DIGITS],
+    writer: &mut W,
+) -> io::Result<()>
+    ensures { OnOk result (Appends (W.contents writer.old) (W.contents writer.new)
+        (written (reply_in (Z.records zone.now) request.now) ++ 10 ∷ [])) }
+{
+    match respond(zone, request, reply) {
+        None => writer.write_all(b"-\n"),
+        Some(len) => write_octets(&reply[..len], digits, writer),
+    }
+}
+
+/// Writes octets in hexadecimal, and a line end.
+fn write_octets<W: Write>(octets: &[u8], digits: &mut [u8; MAX_DIGITS], writer: &mut W) -> io::Result<()>
+    requires { length octets.now ≤ UDP_LIMIT }
+    ensures { OnOk result (Appends (W.contents writer.old) (W.contents writer.new)
+        (encode_lower octets.now ++ 10 ∷ [])) }
+{
+    let digits = &mut digits[..2 * octets.len()];
+    let _ = hex::encode_to_slice(octets, digits);
+    writer.write_all(digits)?;
+    writer.write_all(b"\n")
+}
+
+/// A line without the LF at its end.
+fn without_lf(line: &[u8]) -> &[u8]
+    ensures { result.now ≡ strip_last 10 line.now }
+{
+    match line {
+        [front @ .., b'\n'] => front,
+        _ => line,
+    }
+}
+
+/// The octets that a line of hexadecimal stands for, written into `out`, and how many they are; None where the line isn't
+/// hexadecimal or has more octets than there is room for.
+fn request_of(line: &[u8], out: &mut [u8]) -> Option<usize>
+    ensures { MatchOption result
+        ((octets : List ℕ) → decode_of line.now ≡ Ok octets → length out.old < length octets)
+        (λ len. (len ≤ length out.old) × (decode_of line.now ≡ Ok (take len out.new))) }
+{
+    let len = line.len() / 2;
+    if len > out.len() {
+        return None;
+    }
+    match hex::decode_to_slice(line, &mut out[..len]) {
+        Ok(()) => Some(len),
+        Err(_) => None,
+    }
+}

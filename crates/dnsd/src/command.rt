@@ -1,0 +1,81 @@
+//! The command line.
+use clap::{Arg, Command as Parser};
+use dns_name::{Name, NameFault};
+use std::alloc::{AllocError, Global};
+use std::convert::AsStr;
+
+/// Where the zone's text comes from.
+#[derive(Clone, Copy, Debug, PartialEq, Eq)]
+pub enum Source<'a> {
+    /// The front of standard input, up to a line `%` or its end.
+    Input,
+    /// A file.
+    File(&'a str),
+}
+
+/// A command that the program does.
+#[derive(Drop)]
+pub enum Command<'a> {
+    /// Replies to requests in hexadecimal.
+    Answer {
+        /// Where the zone's text comes from.
+        zone: Source<'a>,
+        /// The origin at the start of the zone's text.
+        origin: Name,
+    },
+}
+
+/// Why a command line is refused.
+#[derive(Drop)]
+pub enum CommandFault<'a> {
+    /// The words aren't those of a command, or help was asked for.
+    Words(clap::Error),
+    /// The origin is no name.
+    Origin(&'a str, NameFault),
+}
+
+impl From<clap::Error> for CommandFault<'_> {
+    fn from(fault: clap::Error) -> Self {
+        CommandFault::Words(fault)
+    }
+}
+
+impl From<AllocError> for CommandFault<'_> {
+    fn from(fault: AllocError) -> Self {
+        CommandFault::Words(clap::Error::from(fault))
+    }
+}
+
+/// The command that these words ask for, the program's own name first.
+pub fn parse_words<'a, S: AsStr>(alloc: Global, words: &'a [S]) -> Result<Command<'a>, CommandFault<'a>> {
+    let origin = Arg::new(alloc, "origin")
+        .long("origin")
+        .value_name("NAME")
+        .help("the origin at the start of the zone's text")
+        .default_value(".");
+    let zone = Arg::new(alloc, "zone")
+        .value_name("ZONE")
+        .help("the zone's text: a file, or - for standard input up to a line %")
+        .required(true);
+    let answer = Parser::new(alloc, "answer")
+        .about("replies to requests in hexadecimal, a line each")
+        .arg(origin)?
+        .arg(zone)?;
+    let parser = Parser::new(alloc, "dnsd")
+        .about("an authoritative name server for one zone")
+        .subcommand_required(true)
+        .arg_required_else_help(true)
+        .subcommand(answer)?;
+    let matches = parser.try_get_matches_from(words)?;
+    let Some((_, found)) = matches.subcommand() else {
+        return Err(CommandFault::from(AllocError));
+    };
+    let text = found.get_str("origin").unwrap_or(".");
+    let origin = Name::from_text(text.as_bytes(), &Name::root())
+        .map_err(|fault| CommandFault::Origin(text, fault))?;
+    let zone = match found.get_str("zone") {
+        Some("-") | None => Source::Input,
+        Some(path) => Source::File(path),
+    };
+    Ok(Command::Answer { zone, origin })
+}

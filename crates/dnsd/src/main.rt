@@ -1,0 +1,81 @@
+//! `dnsd`: an authoritative name server for one zone of class IN.
+//!
+//! The command line is parsed by `command`, the zone's text is read by `zone_text`, and `answer` replies to each request
+//! that it reads. All that a reply says is in `reply`, over the crates below.
+#![tactic(auto)]
+
+pub mod answer;
+pub mod command;
+mod input;
+mod lines;
+pub mod reply;
+pub mod run;
+pub mod zone_text;
+
+use command::{Command, CommandFault, Source, parse_words};
+use run::{BAD_COMMAND, DONE, FAILED, Fault, run_text, run_with_zone, tell};
+use std::io::{self, BufReader, BufWriter};
+use std::process::ExitCode;
+use std::rt::{Env, Files};
+use std::{env, fs};
+
+fn main(rt: HostRuntime) -> ExitCode {
+    match run_words(&rt) {
+        Ok(status) => ExitCode::from(status),
+        Err(fault) => {
+            let _ = eprintln!(rt; "dnsd: {fault}");
+            ExitCode::from(FAILED)
+        }
+    }
+}
+
+/// Does what the program's words ask for, and gives its status.
+fn run_words<R: Files + Env + Print + Eprint + Input + AllocGlobal>(rt: &R) -> io::Result<u8> {
+    let alloc = rt.alloc();
+    let words: Vec<String> = env::args(rt)?.collect(alloc)?;
+    match parse_words(alloc, words.as_slice()) {
+        Ok(command) => run_command(rt, &command),
+        Err(CommandFault::Words(fault)) => {
+            fault.print(rt)?;
+            Ok(status_of(&fault))
+        }
+        Err(CommandFault::Origin(word, fault)) => {
+            eprintln!(rt; "error: '{word}' is no name for --origin: {fault}")?;
+            Ok(BAD_COMMAND)
+        }
+    }
+}
+
+/// The status of a command line that clap refused: want of memory has one of its own.
+fn status_of(fault: &clap::Error) -> u8 {
+    match fault.kind() {
+        clap::error::ErrorKind::OutOfMemory => FAILED,
+        _ if fault.use_stderr() => BAD_COMMAND,
+        _ => DONE,
+    }
+}
+
+/// Does a command over standard input and output.
+fn run_command<R: Files + Print + Eprint + Input + AllocGlobal>(
+    rt: &R,
+    command: &Command<'_>,
+) -> io::Result<u8> {
+    let alloc = rt.alloc();
+    let mut reader = BufReader::new(alloc, rt.reader())?;
+    let mut writer = BufWriter::new(alloc, io::writer(rt))?;
+    let mut errors = Vec::new(alloc);
+    let Command::Answer { zone, .. } = command;
+    let status = match *zone {
+        Source::Input => run_text(alloc, command, &mut reader, &mut writer, &mut errors),
+        Source::File(path) => {
+            let text = fs::read(rt, path)?;
+            let done = run_with_zone(alloc, command, text.as_slice(), &mut reader, &mut writer);
+            tell(done, &mut errors)
+        }
+    };
+    rt.eprint(String::from_utf8_lossy(alloc, errors.as_slice())?)?;
+    Ok(status)
+}
+
+#[cfg(test)]
+mod tests;

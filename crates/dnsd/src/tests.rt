@@ -1,0 +1,256 @@
+//! The program's replies and refusals, by the octets that the standard gives for them.
+use crate::command::{Command, CommandFault, Source, parse_words};
+use crate::run::run_text;
+use dns_name::Name;
+use std::io::Cursor;
+use std::process::Abort;
+use std::test::Fail;
+
+/// The zone that the examples are asked of.
+const ZONE: &str = "\
+example.test. 3600 IN SOA ns1.example.test. admin.example.test. 1 7200 900 1209600 300\n\
+example.test. 3600 IN NS ns1.example.test.\n\
+a.b.example.test. 3600 IN TXT \"x\"\n\
+*.dyn.example.test. 3600 IN A 192.0.2.99\n\
+loop1.example.test. 3600 IN CNAME loop2.example.test.\n\
+loop2.example.test. 3600 IN CNAME loop1.example.test.\n\
+mail.example.test. 3600 IN MX 10 web.example.test.\n\
+ns1.example.test. 3600 IN A 192.0.2.1\n\
+out.example.test. 3600 IN CNAME host.example.net.\n\
+sub.example.test. 3600 IN NS ns.sub.example.test.\n\
+ns.sub.example.test. 3600 IN A 192.0.2.53\n\
+web.example.test. 3600 IN A 192.0.2.10\n\
+www.example.test. 3600 IN CNAME web.example.test.\n";
+
+/// The command `answer` over standard input, with an origin.
+fn answer(origin: &[u8]) -> Option<Command<'static>> {
+    let origin = Name::from_text(origin, &Name::root()).ok()?;
+    Some(Command::Answer {
+        zone: Source::Input,
+        origin,
+    })
+}
+
+/// What `answer` writes for a zone's text and requests, its status, and what it tells of errors.
+fn run(rt: &(impl AllocGlobal + Abort), zone: &str, requests: &str) -> Result<(u8, String, String), Fail> {
+    let alloc = rt.alloc();
+    let command = answer(b"example.test.").ok_or("an origin")?;
+    let input = format!(in alloc; "{zone}%\n{requests}")?;
+    let mut reader = Cursor::new(input.as_bytes());
+    let mut written = Vec::new(alloc);
+    let mut errors = Vec::new(alloc);
+    let status = run_text(alloc, &command, &mut reader, &mut written, &mut errors);
+    let written = String::from_utf8_lossy(alloc, written.as_slice())?;
+    let errors = String::from_utf8_lossy(alloc, errors.as_slice())?;
+    Ok((status, written, errors))
+}
+
+// The octets are put together by hand from RFC 1035, 4.1, names in full.
+#[test]
+fn replies(rt: HostRuntime) -> Result<(), Fail> {
+    let cases = [
+        ("an alias and the address of its target", "12340100000100000000000003777777076578616d706c6504746573740000010001", "12348500000100020000000003777777076578616d706c650474657374000001000103777777076578616d706c650474657374000005000100000e10001203776562076578616d706c6504746573740003776562076578616d706c650474657374000001000100000e100004c000020a"),
+        ("no such name: the SOA has the TTL MINIMUM", "123401000001000000000000046e6f7065076578616d706c6504746573740000010001", "123485030001000000010000046e6f7065076578616d706c6504746573740000010001076578616d706c65047465737400000600010000012c003a036e7331076578616d706c650474657374000561646d696e076578616d706c650474657374000000000100001c2000000384001275000000012c"),
+        ("an empty non-terminal exists", "1234010000010000000000000162076578616d706c6504746573740000010001", "1234850000010000000100000162076578616d706c6504746573740000010001076578616d706c65047465737400000600010000012c003a036e7331076578616d706c650474657374000561646d696e076578616d706c650474657374000000000100001c2000000384001275000000012c"),
+        ("below it no name", "123401000001000000000000027a7a0162076578616d706c6504746573740000010001", "123485030001000000010000027a7a0162076578616d706c6504746573740000010001076578616d706c65047465737400000600010000012c003a036e7331076578616d706c650474657374000561646d696e076578616d706c650474657374000000000100001c2000000384001275000000012c"),
+        ("two aliases of one another stop", "123401000001000000000000056c6f6f7031076578616d706c6504746573740000010001", "123485000001000200000000056c6f6f7031076578616d706c6504746573740000010001056c6f6f7031076578616d706c650474657374000005000100000e100014056c6f6f7032076578616d706c65047465737400056c6f6f7032076578616d706c650474657374000005000100000e100014056c6f6f7031076578616d706c65047465737400"),
+        ("an alias whose target is outside", "123401000001000000000000036f7574076578616d706c6504746573740000010001", "123485000001000100000000036f7574076578616d706c6504746573740000010001036f7574076578616d706c650474657374000005000100000e10001204686f7374076578616d706c65036e657400"),
+        ("the spelling asked is kept", "12340100000100000000000003577757076578616d706c6504746573740000010001", "12348500000100020000000003577757076578616d706c650474657374000001000103577757076578616d706c650474657374000005000100000e10001203776562076578616d706c6504746573740003776562076578616d706c650474657374000001000100000e100004c000020a"),
+        ("the alias itself is asked", "12340100000100000000000003777777076578616d706c6504746573740000050001", "12348500000100010000000003777777076578616d706c650474657374000005000103777777076578616d706c650474657374000005000100000e10001203776562076578616d706c65047465737400"),
+        ("all types at the apex, by number", "123401000001000000000000076578616d706c6504746573740000ff0001", "123485000001000200000000076578616d706c6504746573740000ff0001076578616d706c650474657374000002000100000e100012036e7331076578616d706c65047465737400076578616d706c650474657374000006000100000e10003a036e7331076578616d706c650474657374000561646d696e076578616d706c650474657374000000000100001c2000000384001275000000012c"),
+        ("no data of the type at a name", "12340100000100000000000003776562076578616d706c6504746573740000100001", "12348500000100000001000003776562076578616d706c6504746573740000100001076578616d706c65047465737400000600010000012c003a036e7331076578616d706c650474657374000561646d696e076578616d706c650474657374000000000100001c2000000384001275000000012c"),
+        ("below a zone cut", "123401000001000000000000017803737562076578616d706c6504746573740000010001", "123481020000000000000000"),
+        ("at a zone cut", "12340100000100000000000003737562076578616d706c6504746573740000020001", "123481020000000000000000"),
+        ("from a wildcard", "123401000001000000000000017001710364796e076578616d706c6504746573740000010001", "123481020000000000000000"),
+        ("a name outside", "12340100000100000000000004686f7374076578616d706c65036e65740000010001", "12348105000100000000000004686f7374076578616d706c65036e65740000010001"),
+        ("class 3", "12340100000100000000000003777777076578616d706c6504746573740000010003", "12348105000100000000000003777777076578616d706c6504746573740000010003"),
+        ("type 253", "12340100000100000000000003777777076578616d706c6504746573740000fd0001", "123481040000000000000000"),
+        ("type 254", "12340100000100000000000003777777076578616d706c6504746573740000fe0001", "123481040000000000000000"),
+        ("IXFR", "123401000001000000000000076578616d706c6504746573740000fb0001", "123481040000000000000000"),
+        ("AXFR", "123401000001000000000000076578616d706c6504746573740000fc0001", "123481040000000000000000"),
+        ("class 3 and AXFR", "123401000001000000000000076578616d706c6504746573740000fc0003", "123481040000000000000000"),
+        ("OPCODE 2", "12341100000100000000000003777777076578616d706c6504746573740000010001", "123491040000000000000000"),
+        ("OPCODE 5", "12342900000100000000000003777777076578616d706c6504746573740000010001", "1234a9040000000000000000"),
+        ("QDCOUNT 0", "12340100000000000000000003777777076578616d706c6504746573740000010001", "123481010000000000000000"),
+        ("QDCOUNT 2", "12340100000200000000000003777777076578616d706c6504746573740000010001", "123481010000000000000000"),
+        ("ARCOUNT 1", "12340100000100000000000103777777076578616d706c6504746573740000010001", "123481010000000000000000"),
+        ("a pointer", "123401000001000000000000c00c00010001", "123481010000000000000000"),
+        ("bits AA, TC, RA and Z are ignored, RD 0 is copied", "123406f0000100000000000003776562076578616d706c6504746573740000010001", "12348400000100010000000003776562076578616d706c650474657374000001000103776562076578616d706c650474657374000001000100000e100004c000020a"),
+        ("octets behind the question are ignored", "12340100000100000000000003776562076578616d706c6504746573740000010001ffff", "12348500000100010000000003776562076578616d706c650474657374000001000103776562076578616d706c650474657374000001000100000e100004c000020a"),
+    ];
+    for (what, request, reply) in cases {
+        let requests = format!(in rt.alloc(); "{request}\n")?;
+        let (status, written, errors) = run(&rt, ZONE, requests.as_str())?;
+        let want = format!(in rt.alloc(); "{reply}\n")?;
+        assert_eq!(rt; written.as_str(), want.as_str(), "{what}");
+        assert_eq!(rt; status, 0, "{what}");
+        assert!(rt; errors.is_empty(), "{what}");
+    }
+    Ok(())
+}
+
+#[test]
+fn lines(rt: HostRuntime) -> Result<(), Fail> {
+    let cases = [
+        ("no hexadecimal", "xy", "!"),
+        ("an odd number of digits", "123", "!"),
+        ("a CR before the line's end", "1234\r", "!"),
+        ("no octets", "", "-"),
+        ("eleven octets", "1234010000010000000000", "-"),
+        ("QR 1", "12348100000100000000000003777777076578616d706c6504746573740000010001", "-"),
+    ];
+    for (what, request, line) in cases {
+        let requests = format!(in rt.alloc(); "{request}\n")?;
+        let (status, written, _) = run(&rt, ZONE, requests.as_str())?;
+        let want = format!(in rt.alloc(); "{line}\n")?;
+        assert_eq!(rt; written.as_str(), want.as_str(), "{what}");
+        assert_eq!(rt; status, 0, "{what}");
+    }
+    // A last line without its end is a line, and there is none behind the last end.
+    let (_, written, _) = run(&rt, ZONE, "xy\n\n12")?;
+    assert_eq!(rt; written.as_str(), "!\n-\n-\n");
+    let (status, written, _) = run(&rt, ZONE, "")?;
+    assert_eq!(rt; (status, written.as_str()), (0, ""));
+    Ok(())
+}
+
+// RFC 1035, 4.2.1: 512 octets. Header and question of big.example.test. have 34, the record in front of its data 28.
+#[test]
+fn truncation(rt: HostRuntime) -> Result<(), Fail> {
+    let question = "03626967076578616d706c6504746573740000100001";
+    let request = format!(in rt.alloc(); "123401000001000000000000{question}\n")?;
+    let cut = format!(in rt.alloc(); "123487000001000000000000{question}\n")?;
+    for (len, fits) in [(193, true), (194, false)] {
+        let first = format!(in rt.alloc(); "{:x>255}", "")?;
+        let second = format!(in rt.alloc(); "{:x>len$}", "")?;
+        let zone = format!(in rt.alloc(); "{ZONE}big.example.test. 3600 IN TXT {first} \"{second}\"\n")?;
+        let (_, written, _) = run(&rt, zone.as_str(), request.as_str())?;
+        if fits {
+            assert_eq!(rt; written.len(), 2 * 512 + 1);
+        } else {
+            assert_eq!(rt; written.as_str(), cut.as_str());
+        }
+    }
+    Ok(())
+}
+
+#[test]
+fn refused_zones(rt: HostRuntime) -> Result<(), Fail> {
+    let cases = [
+        ("", "line 0: M11 Apex"),
+        ("a..b. 3600 IN A 192.0.2.1", "line 1: M2 BadName"),
+        ("\"a.\" 3600 IN A 192.0.2.1", "line 1: M2 BadName"),
+        ("a. 3600 IN NS b..c.", "line 1: M2 BadName"),
+        ("a. 2147483648 IN A 192.0.2.1", "line 1: M3 Number"),
+        ("a. 3600 IN MX 65536 b.", "line 1: M3 Number"),
+        ("a. 3600 IN MX ten b.", "line 1: M3 Number"),
+        ("a. 3600 IN SOA b. c. 1 2 3 4 4294967296", "line 1: M3 Number"),
+        ("a. 3600 CH A 192.0.2.1", "line 1: M4 BadClass"),
+        ("a. 3600 IN HINFO b c", "line 1: M5 UnknownType"),
+        ("a. 3600 IN A", "line 1: M6 BadData"),
+        ("a. 3600 IN A 192.0.2.256", "line 1: M6 BadData"),
+        ("a. 3600 IN A 192.0.2.01", "line 1: M6 BadData"),
+        ("a. 3600 IN A 192.0.2.1 b", "line 1: M6 BadData"),
+        ("a. 3600 IN TXT", "line 1: M6 BadData"),
+        ("a. 3600 IN TXT \\300", "line 1: M6 BadData"),
+        ("a 3600 IN A 192.0.2.1", "line 1: M6 BadData"),
+        ("a. IN A 192.0.2.1", "line 1: M6 BadData"),
+        ("a. 3600  IN A 192.0.2.1", "line 1: M6 BadData"),
+        ("a. 3600 IN A 192.0.2.1 ; b", "line 1: M6 BadData"),
+        ("$TTL 3600", "line 1: M6 BadData"),
+        ("a. 3600 IN TXT \"b", "line 1: M7 Unclosed"),
+    ];
+    for (line, fault) in cases {
+        let zone = format!(in rt.alloc(); "{line}\n")?;
+        let zone = if line.is_empty() { "" } else { zone.as_str() };
+        let told = format!(in rt.alloc(); "{fault}\n")?;
+        let (status, written, errors) = run(&rt, zone, "xy\n")?;
+        assert_eq!(rt; errors.as_str(), told.as_str(), "{line}");
+        assert_eq!(rt; status, 1, "{line}");
+        assert!(rt; written.is_empty(), "{line}");
+    }
+    Ok(())
+}
+
+// Each of these lines stands behind the zone's thirteen.
+#[test]
+fn refused_records(rt: HostRuntime) -> Result<(), Fail> {
+    let cases = [
+        ("", "line 14: M6 BadData"),
+        ("host.example.net. 3600 IN A 192.0.2.1", "line 14: M10 Outside"),
+        ("a.example.test. 3600 IN SOA b. c. 1 2 3 4 5", "line 14: M11 Apex"),
+        ("example.test. 3600 IN SOA b. c. 1 2 3 4 5", "line 14: M11 Apex"),
+        ("www.example.test. 3600 IN A 192.0.2.1", "line 14: M12 Conflict"),
+        ("web.example.test. 3600 IN CNAME www", "line 14: M12 Conflict"),
+        ("www.example.test. 3600 IN CNAME www", "line 14: M12 Conflict"),
+        ("*.a.example.test. 3600 IN NS www", "line 14: M12 Conflict"),
+    ];
+    for (line, fault) in cases {
+        let zone = format!(in rt.alloc(); "{ZONE}{line}\n")?;
+        let told = format!(in rt.alloc(); "{fault}\n")?;
+        let (status, _, errors) = run(&rt, zone.as_str(), "")?;
+        assert_eq!(rt; errors.as_str(), told.as_str(), "{line}");
+        assert_eq!(rt; status, 1, "{line}");
+    }
+    let (_, _, errors) = run(&rt, "a. 1 IN NS b.\n", "")?;
+    assert_eq!(rt; errors.as_str(), "line 0: M11 Apex\n", "no SOA");
+    let (_, _, errors) = run(&rt, "a. 1 IN SOA b. c. 1 2 3 4 5\n", "")?;
+    assert_eq!(rt; errors.as_str(), "line 0: M11 Apex\n", "no NS");
+    Ok(())
+}
+
+// A set has at most 256 records, and data at most 4,096 octets: sixteen strings of 255, each behind its length.
+#[test]
+fn limits(rt: HostRuntime) -> Result<(), Fail> {
+    let mut zone = format!(in rt.alloc(); "{ZONE}")?;
+    for i in 0..257 {
+        let line = format!(in rt.alloc(); "many.example.test. 3600 IN MX {i} web\n")?;
+        zone.push_str(line.as_str())?;
+    }
+    let (_, _, errors) = run(&rt, zone.as_str(), "")?;
+    assert_eq!(rt; errors.as_str(), "line 270: M13 Limit\n");
+    let mut long = format!(in rt.alloc(); "{ZONE}long.example.test. 3600 IN TXT")?;
+    for _ in 0..16 {
+        let string = format!(in rt.alloc(); " {:x>255}", "")?;
+        long.push_str(string.as_str())?;
+    }
+    let fits = format!(in rt.alloc(); "{long}\n")?;
+    let (status, _, _) = run(&rt, fits.as_str(), "")?;
+    assert_eq!(rt; status, 0);
+    let over = format!(in rt.alloc(); "{long} x\n")?;
+    let (_, _, errors) = run(&rt, over.as_str(), "")?;
+    assert_eq!(rt; errors.as_str(), "line 14: M13 Limit\n");
+    Ok(())
+}
+
+// A relative name in the data is under the origin; equal records are one, and the last one sets the TTL of its set.
+#[test]
+fn origin_and_ttl(rt: HostRuntime) -> Result<(), Fail> {
+    let zone = format!(in rt.alloc(); "{ZONE}new.example.test. 60 IN CNAME web\r\nWEB.example.test. 5 in a 192.0.2.10")?;
+    let request = "123401000001000000000000036e6577076578616d706c6504746573740000010001";
+    let reply = "123485000001000200000000036e6577076578616d706c6504746573740000010001036e6577076578616d706c65047465737400000500010000003c001203776562076578616d706c6504746573740003776562076578616d706c6504746573740000010001000000050004c000020a\n";
+    let zone = format!(in rt.alloc(); "{zone}\n")?;
+    let (status, written, _) = run(&rt, zone.as_str(), request)?;
+    assert_eq!(rt; written.as_str(), reply);
+    assert_eq!(rt; status, 0);
+    Ok(())
+}
+
+// The words after the program's name, and whether they are a command.
+#[test]
+fn command_lines(rt: HostRuntime) -> Result<(), Fail> {
+    let cases: [(&[&str], bool); 7] = [
+        (&["dnsd", "answer", "-"], true),
+        (&["dnsd", "answer", "--origin", "example.test", "zone"], true),
+        (&["dnsd", "answer"], false),
+        (&["dnsd", "answer", "--origin", "a..b", "-"], false),
+        (&["dnsd", "answer", "--other", "-"], false),
+        (&["dnsd", "other"], false),
+        (&["dnsd"], false),
+    ];
+    for (words, is_command) in cases {
+        let parsed = parse_words(rt.alloc(), words);
+        assert_eq!(rt; parsed.is_ok(), is_command, "{words:?}");
+    }
+    Ok(())
+}

@@ -1,0 +1,181 @@
+-- Laws of what is found at a name, and of chains.
+use Rattle.std.proofs.Common.{◌≡◌, ◌↔◌, ℕ, zero, suc, ◌+◌, ◌≤◌, Bool, true, false, not, ◌==◌, get_or, cond, ◌&&◌, if◌then◌else◌, List, [], ◌∷◌, ◌++◌, length, Option, None, Some, All, refl, sym, ap, ◌∙◌, inl, inr, arith, subst, length-append, append_assoc}
+use Rattle.std.proofs.lemmas.List.{length-map, get_or-append-add}
+use Rattle.std.proofs.lemmas.List.Elements.{All-append, All-map}
+use Rattle.dns_rdata.specs.Numbers.{type_CNAME}
+use Rattle.dns_rdata.specs.Record.{Record, shown_as}
+use Rattle.zone_tree.specs.Zone.{rrset_of, exists}
+use Rattle.lookup_core.specs.declared.aliases.TheConstants.{MOST_ALIASES}
+use Rattle.lookup_core.specs.Look.{Look, Cut, Alias, Data, NoData, NoName, look, cut_of, answering, found_at, source_of, is_synthesized, owned_by, is_none_of, follows_aliases, data_at}
+use Rattle.lookup_core.specs.Chain.{Chain, Found, Stop, target, is_final, onto, chain_from, chain}
+use Rattle.lookup_core.specs.Sections.{sections, data_of_end}
+use Rattle.lookup_core.specs.Laws.{HasSingleAliases, IsReached}
+
+-- a choice by a test
+by_test : {A : Type 0} (P : A → Type 0) (b : Bool) (x y : A) → (b ≡ true → P x) → (b ≡ false → P y) → P (cond b x y)
+by_test P true x y on_true on_false = on_true refl
+by_test P false x y on_true on_false = on_false refl
+
+-- whether there is no name
+abbrev is_no_name : Look → Bool
+is_no_name NoName = true
+is_no_name _ = false
+
+-- what is found at a name that answers is never that there is no name
+is_no_name-found_at : (zone : List Record) (at name : List (List ℕ)) (rtype : ℕ) → is_no_name (found_at zone at name rtype) ≡ false
+is_no_name-found_at zone at name rtype =
+    by_test (λ l. is_no_name l ≡ false) (follows_aliases rtype && not (is_none_of (rrset_of zone at type_CNAME))) (Alias (owned_by name (rrset_of zone at type_CNAME)))
+    (if is_none_of (data_at zone at rtype) then NoData else Data (owned_by name (data_at zone at rtype))) (λ _. refl)
+    (λ _. by_test (λ l. is_no_name l ≡ false) (is_none_of (data_at zone at rtype)) NoData (Data (owned_by name (data_at zone at rtype))) (λ _. refl) (λ _. refl))
+
+-- there is no name exactly where no name answers
+no_name_by : (zone : List Record) (name : List (List ℕ)) (rtype : ℕ) (o : Option (List (List ℕ)))
+    → (elim o [ None ↦ NoName | Some at ↦ found_at zone at name rtype ] ≡ NoName) ↔ (o ≡ None)
+no_name_by zone name rtype None = (λ _. refl, λ _. refl)
+no_name_by zone name rtype (Some at) = (λ h. absurd (cc (ap is_no_name h, is_no_name-found_at zone at name rtype)), λ h. absurd (cc))
+
+-- no name answers exactly where neither the name nor the source of synthesis exists
+source_by : (zone : List Record) (source : List (List ℕ)) (e : Bool) → (cond e (Some source) None ≡ None) ↔ (e ≡ false)
+source_by zone source true = (λ h. absurd (cc), λ h. absurd (cc))
+source_by zone source false = (λ _. refl, λ _. refl)
+
+answering_by : (zone : List Record) (name : List (List ℕ)) (b : Bool) (source : Option (List (List ℕ)))
+    → ((if b then Some name else elim source [ None ↦ None | Some s ↦ if exists zone s then Some s else None ]) ≡ None)
+    ↔ ((b ≡ false) × ((not b && elim source [ None ↦ false | Some s ↦ exists zone s ]) ≡ false))
+answering_by zone name true source = (λ h. absurd (cc), λ h. absurd (cc (h.0)))
+answering_by zone name false None = (λ _. (refl, refl), λ _. refl)
+answering_by zone name false (Some s) = (λ h. (refl, (source_by zone s (exists zone s)).0 h), λ h. (source_by zone s (exists zone s)).1 h.1)
+
+pub no_name : (zone : List Record) (name : List (List ℕ)) (rtype : ℕ) → cut_of zone name ≡ None
+    → (look zone name rtype ≡ NoName) ↔ ((exists zone name ≡ false) × (is_synthesized zone name ≡ false))
+no_name zone name rtype uncut =
+    let is : look zone name rtype ≡ elim (answering zone name) [ None ↦ NoName | Some at ↦ found_at zone at name rtype ] =
+    ap (λ o. elim o [ Some cut ↦ Cut cut | None ↦ elim (answering zone name) [ None ↦ NoName | Some at ↦ found_at zone at name rtype ] ]) uncut
+    in (
+      λ h. (answering_by zone name (exists zone name) (source_of zone name)).0 ((no_name_by zone name rtype (answering zone name)).0 (sym is ∙ h)),
+      λ h. is ∙ (no_name_by zone name rtype (answering zone name)).1 ((answering_by zone name (exists zone name) (source_of zone name)).1 h),
+    )
+
+-- what an alias found is: the set of an owner, under the name searched
+pub record IsAliasOf (zone : List Record) (name : List (List ℕ)) (rs : List Record) : Type 0 where
+  pub at : List (List ℕ)
+  pub is : rs ≡ owned_by name (rrset_of zone at type_CNAME)
+  pub some : is_none_of (rrset_of zone at type_CNAME) ≡ false
+
+-- what is found is under the name searched
+abbrev IsUnder : List Record → List (List ℕ) → Look → Type 0
+IsUnder zone name (Alias rs) = IsAliasOf zone name rs
+IsUnder zone name (Data rs) = (xs : List Record) × (rs ≡ owned_by name xs)
+IsUnder zone name _ = Unit {0}
+
+and_not : (a b : Bool) → (a && not b) ≡ true → b ≡ false
+and_not true true h = absurd (cc)
+and_not true false h = refl
+and_not false b h = absurd (cc)
+
+found_at-under : (zone : List Record) (at name : List (List ℕ)) (rtype : ℕ) → IsUnder zone name (found_at zone at name rtype)
+found_at-under zone at name rtype =
+    by_test (IsUnder zone name) (follows_aliases rtype && not (is_none_of (rrset_of zone at type_CNAME))) (Alias (owned_by name (rrset_of zone at type_CNAME)))
+    (if is_none_of (data_at zone at rtype) then NoData else Data (owned_by name (data_at zone at rtype)))
+    (λ h. record { at = at; is = refl; some = and_not (follows_aliases rtype) (is_none_of (rrset_of zone at type_CNAME)) h })
+    (λ _. by_test (IsUnder zone name) (is_none_of (data_at zone at rtype)) NoData (Data (owned_by name (data_at zone at rtype))) (λ _. tt) (λ _. (data_at zone at rtype, refl)))
+
+look-under : (zone : List Record) (name : List (List ℕ)) (rtype : ℕ) → IsUnder zone name (look zone name rtype)
+look-under zone name rtype =
+    elim (cut_of zone name) as (λ o. IsUnder zone name (elim o [ Some cut ↦ Cut cut | None ↦ elim (answering zone name) [ None ↦ NoName | Some at ↦ found_at zone at name rtype ] ])) [
+      | Some cut ↦ tt
+      | None ↦ elim (answering zone name) as (λ o. IsUnder zone name (elim o [ None ↦ NoName | Some at ↦ found_at zone at name rtype ])) [ None ↦ tt | Some at ↦ found_at-under zone at name rtype ]
+    ]
+
+-- the chain from a name on, by what is found there
+abbrev chain_at : List Record → ℕ → List (List (List ℕ)) → List (List ℕ) → ℕ → Look → Chain
+chain_at zone more searched name rtype found =
+    elim found [
+      | Alias alias ↦
+          onto alias
+          (if is_final zone (name ∷ searched) (target alias) then record { aliases = []; end = Stop }
+          else chain_from zone more (name ∷ searched) (target alias) rtype)
+      | Cut cut ↦ record { aliases = []; end = Found (Cut cut) }
+      | Data rs ↦ record { aliases = []; end = Found (Data rs) }
+      | NoData ↦ record { aliases = []; end = Found NoData }
+      | NoName ↦ record { aliases = []; end = Found NoName }
+    ]
+
+-- a chain of single aliases has no more of them than may follow
+short_at : (zone : List Record) (more : ℕ) (searched : List (List (List ℕ))) (name : List (List ℕ)) (rtype : ℕ) (found : Look) → HasSingleAliases zone → IsUnder zone name found
+    → ((before : List (List (List ℕ))) (next : List (List ℕ)) → length (chain_from zone more before next rtype).aliases ≤ more)
+    → length (chain_at zone more searched name rtype found).aliases ≤ suc more
+short_at zone more searched name rtype (Alias rs) single under rest =
+    let here : length rs ≤ 1 = subst (λ n. n ≤ 1) (sym (ap length under.is ∙ length-map (rrset_of zone under.at type_CNAME) (shown_as name None))) (single under.at) in
+    let behind : length (cond (is_final zone (name ∷ searched) (target rs)) (record { aliases = []; end = Stop }) (chain_from zone more (name ∷ searched) (target rs) rtype)).aliases ≤ more =
+    by_test (λ (c : Chain). length c.aliases ≤ more) (is_final zone (name ∷ searched) (target rs)) (record { aliases = []; end = Stop }) (chain_from zone more (name ∷ searched) (target rs) rtype) (λ _. omega arith)
+    (λ _. rest (name ∷ searched) (target rs))
+    in
+    omega (arith, length-append rs (cond (is_final zone (name ∷ searched) (target rs)) (record { aliases = []; end = Stop }) (chain_from zone more (name ∷ searched) (target rs) rtype)).aliases)
+short_at zone more searched name rtype (Cut cut) single under rest = omega arith
+short_at zone more searched name rtype (Data rs) single under rest = omega arith
+short_at zone more searched name rtype NoData single under rest = omega arith
+short_at zone more searched name rtype NoName single under rest = omega arith
+
+short_from : (zone : List Record) (more : ℕ) (searched : List (List (List ℕ))) (name : List (List ℕ)) (rtype : ℕ) → HasSingleAliases zone → length (chain_from zone more searched name rtype).aliases ≤ more
+short_from zone zero searched name rtype single = omega arith
+short_from zone (suc more) searched name rtype single =
+    short_at zone more searched name rtype (look zone name rtype) single (look-under zone name rtype) (λ before next. short_from zone more before next rtype single)
+
+pub short : (zone : List Record) (name : List (List ℕ)) (rtype : ℕ) → HasSingleAliases zone → length (chain zone name rtype).aliases ≤ 16
+unfolding chain
+short zone name rtype single = short_from zone MOST_ALIASES [] name rtype single
+
+-- each record that a chain shows stands at the name asked or at an alias's target
+abbrev IsTold : List (List ℕ) → Chain → Type 0
+IsTold name c = All (IsReached name c.aliases) (c.aliases ++ data_of_end c.end)
+
+-- nothing is shown
+nothing_told : (P : Record → Type 0) → All P []
+nothing_told P = λ k r below. absurd (omega arith)
+
+-- records under a name stand at it
+owned_by-owner : (name : List (List ℕ)) (aliases xs : List Record) → All (IsReached name aliases) (owned_by name xs)
+owned_by-owner name aliases xs = All-map (IsReached name aliases) _ xs (λ k r below. inl refl)
+
+-- what is reached from an alias's target is reached from the alias
+reached_behind : (name : List (List ℕ)) (a : Record) (rs aliases : List Record) (r : Record) → IsReached (target (a ∷ rs)) aliases r → IsReached name ((a ∷ rs) ++ aliases) r
+reached_behind name a rs aliases r (inl at) = inr (0, a, omega arith, refl, sym at)
+reached_behind name a rs aliases r (inr (k, x, below, is, aims)) =
+    inr (length (a ∷ rs) + k, x, omega (arith, length-append rs aliases, below), get_or-append-add (a ∷ rs) aliases k x ∙ is, aims)
+
+-- a chain behind an alias
+told_onto : (name : List (List ℕ)) (rs : List Record) (c : Chain) → All (IsReached name (rs ++ c.aliases)) rs → (is_none_of rs ≡ false) → IsTold (target rs) c → IsTold name (onto rs c)
+told_onto name [] c here some behind = absurd (cc)
+told_onto name (a ∷ rs) c here some behind =
+    subst (All (IsReached name ((a ∷ rs) ++ c.aliases))) (sym (append_assoc (a ∷ rs) c.aliases (data_of_end c.end)))
+    (All-append (IsReached name ((a ∷ rs) ++ c.aliases)) (a ∷ rs) (c.aliases ++ data_of_end c.end) here (λ k r below. reached_behind name a rs c.aliases (get_or (c.aliases ++ data_of_end c.end) k r) (behind k r below)))
+
+-- as many records under another owner
+is_none_of-owned_by : (name : List (List ℕ)) (xs : List Record) → is_none_of (owned_by name xs) ≡ is_none_of xs
+is_none_of-owned_by name xs = ap (λ n. n == 0) (length-map xs (shown_as name None))
+
+told_at : (zone : List Record) (more : ℕ) (searched : List (List (List ℕ))) (name : List (List ℕ)) (rtype : ℕ) (found : Look) → IsUnder zone name found
+    → ((before : List (List (List ℕ))) (next : List (List ℕ)) → IsTold next (chain_from zone more before next rtype)) → IsTold name (chain_at zone more searched name rtype found)
+told_at zone more searched name rtype (Alias rs) under rest =
+    let behind : IsTold (target rs) (cond (is_final zone (name ∷ searched) (target rs)) (record { aliases = []; end = Stop }) (chain_from zone more (name ∷ searched) (target rs) rtype)) =
+    by_test (IsTold (target rs)) (is_final zone (name ∷ searched) (target rs)) (record { aliases = []; end = Stop }) (chain_from zone more (name ∷ searched) (target rs) rtype)
+    (λ _. nothing_told (IsReached (target rs) [])) (λ _. rest (name ∷ searched) (target rs))
+    in
+    told_onto name rs (cond (is_final zone (name ∷ searched) (target rs)) (record { aliases = []; end = Stop }) (chain_from zone more (name ∷ searched) (target rs) rtype))
+    (subst (All (IsReached name (rs ++ (cond (is_final zone (name ∷ searched) (target rs)) (record { aliases = []; end = Stop }) (chain_from zone more (name ∷ searched) (target rs) rtype)).aliases))) (sym under.is)
+    (owned_by-owner name _ (rrset_of zone under.at type_CNAME)))
+    (ap is_none_of under.is ∙ is_none_of-owned_by name (rrset_of zone under.at type_CNAME) ∙ under.some) behind
+told_at zone more searched name rtype (Cut cut) under rest = nothing_told (IsReached name [])
+told_at zone more searched name rtype (Data rs) under rest = subst (All (IsReached name [])) (sym under.1) (owned_by-owner name [] under.0)
+told_at zone more searched name rtype NoData under rest = nothing_told (IsReached name [])
+told_at zone more searched name rtype NoName under rest = nothing_told (IsReached name [])
+
+told_from : (zone : List Record) (more : ℕ) (searched : List (List (List ℕ))) (name : List (List ℕ)) (rtype : ℕ) → IsTold name (chain_from zone more searched name rtype)
+told_from zone zero searched name rtype = nothing_told (IsReached name [])
+told_from zone (suc more) searched name rtype =
+    told_at zone more searched name rtype (look zone name rtype) (look-under zone name rtype) (λ before next. told_from zone more before next rtype)
+
+pub reached : (zone : List Record) (name : List (List ℕ)) (rtype : ℕ) → All (IsReached name (chain zone name rtype).aliases) (sections zone name rtype).answer
+unfolding chain
+reached zone name rtype = told_from zone MOST_ALIASES [] name rtype

@@ -1,0 +1,4 @@
+pub mod WalkLemmas
+pub mod AliasLemmas
+pub mod SectionLemmas
+pub mod LawLemmas

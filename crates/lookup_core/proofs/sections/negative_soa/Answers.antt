@@ -1,0 +1,10 @@
+use Rattle.lookup_core.proofs.SectionLemmas.{rtype_of-soa_of, negative_soa-shown}
+use Rattle.lookup_core.proofs.sections.negative_soa.Goals as goal
+
+pub negative_ttl-requires-clause-typed : goal.negative_ttl-requires-clause-typed
+negative_ttl-requires-clause-typed g c = rtype_of-soa_of (g.Z.ZoneRead.records c.args.zone.now) c.soa-soa.result.now c.soa-soa.ensures.set c.soa-soa.ensures.one
+
+pub returns : goal.returns
+returns g c =
+    rw (c.copy.ensures, c.owner.ensures.of)
+    (negative_soa-shown (g.Z.ZoneRead.records c.args.zone.now) c.soa-soa.result.now c.from_ref.result.now c.negative_ttl.result.0 c.soa-soa.ensures.set c.from_ref.ensures.value c.soa-soa.ensures.one c.negative_ttl.ensures)

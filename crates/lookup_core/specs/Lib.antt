@@ -1,0 +1,14 @@
+pub mod Look
+pub mod Chain
+pub mod Sections
+pub mod Waits
+pub mod Examples
+pub mod Found
+pub mod Followed
+pub mod Answered
+pub mod Laws
+pub use Rattle.zone_tree.specs.Zone
+pub use Rattle.dns_name.specs.Name
+pub use Rattle.dns_rdata.specs.Numbers
+pub use Rattle.dns_rdata.specs.Data
+pub use Rattle.dns_rdata.specs.Record

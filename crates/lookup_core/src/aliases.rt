@@ -1,0 +1,123 @@
+//! Aliases followed, and where a chain of them ends (RFC 1034, 3.6.2 and 4.3.2, step 3a).
+ghost use Rattle.std.specs.Prelude.{◌≡◌, ◌≤◌, ◌↔◌, IsTrue, length, IsNone, IfSome};
+ghost use Rattle.std.specs.List.{flat_map, list_any};
+ghost use Rattle.dns_name.specs.Name.{is_same};
+ghost use Rattle.dns_rdata.specs.Shown.{records_shown};
+ghost use Rattle.lookup_core.specs.Look.{owned_by};
+ghost use Rattle.lookup_core.specs.Chain.{target, is_final, chain};
+ghost use Rattle.lookup_core.specs.Waits.{waits};
+ghost use Rattle.lookup_core.specs.Followed.{searched_before, chain_shown};
+
+use crate::walk::{Look, look_up};
+use arrayvec::ArrayVec;
+use dns_name::Name;
+use dns_rdata::{RRset, RType, Shown};
+use std::slice;
+use zone_tree::ZoneRead;
+
+/// The most aliases that one answer follows (own).
+pub const MOST_ALIASES: usize = 16;
+
+/// The most sets that an answer section shows, ANY's counted as one: the aliases, and what is found at their end.
+pub const MOST_SHOWN: usize = MOST_ALIASES + 1;
+
+/// The end of a chain of aliases.
+#[derive(Drop)]
+pub(crate) enum End<'z> {
+    /// Data of the type asked.
+    Data(Shown<'z>),
+    /// The last name exists, without data of the type asked.
+    NoData,
+    /// The last name doesn't exist.
+    NoName,
+    /// The last alias's target isn't searched.
+    Stop,
+}
+
+/// A chain: its aliases in order, and its end.
+#[derive(Drop)]
+pub(crate) struct Chain<'z> {
+    pub(crate) aliases: ArrayVec<Shown<'z>, MOST_SHOWN>,
+    pub(crate) end: End<'z>,
+}
+
+/// The chain from the name asked. It stops at a target outside the zone, at one already searched, or after
+/// [`MOST_ALIASES`] aliases (own). None where a name that it looks up is left open.
+pub(crate) fn follow<'z, Z: ZoneRead>(zone: &'z Z, name: &Name, rtype: RType) -> Option<Chain<'z>>
+    ensures none { IsNone result ↔ IsTrue (waits (Z.records zone.now) name.now rtype.0) }
+    ensures chain { IfSome result (λ followed. chain_shown followed ≡ chain (Z.records zone.now) name.now rtype.0) }
+    ensures few { IfSome result (λ followed. length followed.aliases.items ≤ MOST_ALIASES) }
+{
+    let mut aliases = ArrayVec::new();
+    let mut searched = name.copy();
+    for _ in 0..MOST_ALIASES {
+        let end = match look_up(zone, &searched, rtype) {
+            Look::Open => return None,
+            Look::Alias(alias) => {
+                let target = target(alias);
+                aliases.push(under(searched, slice::from_ref(alias)));
+                if is_final(zone, aliases.as_slice(), &target) {
+                    return Some(Chain {
+                        aliases,
+                        end: End::Stop,
+                    });
+                }
+                searched = target;
+                continue;
+            }
+            Look::Data(sets) => End::Data(under(searched, sets)),
+            Look::NoData => End::NoData,
+            Look::NoName => End::NoName,
+        };
+        return Some(Chain { aliases, end });
+    }
+    Some(Chain {
+        aliases,
+        end: End::Stop,
+    })
+}
+
+/// Sets under the name searched, with their own TTLs (RFC 4592, 3.3).
+fn under<'z>(name: Name, sets: &'z [RRset]) -> Shown<'z>
+    ensures owner { result.owner ≡ name }
+    ensures records { records_shown result ≡ owned_by name (flat_map (λ set. set) sets.now) }
+{
+    Shown {
+        owner: name,
+        ttl: None,
+        sets,
+    }
+}
+
+/// The name that an alias stands for (RFC 1035, 3.3.1); the root where its data has no name, which no zone has.
+fn target(alias: &RRset) -> Name
+    ensures { result ≡ target alias.now }
+{
+    let name = alias
+        .data()
+        .first()
+        .and_then(|data| Name::from_wire(data.octets()));
+    match name {
+        Some((name, _)) => name,
+        None => Name::root(),
+    }
+}
+
+/// Whether a target isn't searched: it is outside the zone, or already searched (own).
+fn is_final<Z: ZoneRead>(zone: &Z, aliases: &[Shown<'_>], target: &Name) -> bool
+    ensures { result ≡ is_final (Z.records zone.now) (searched_before aliases.now) target.now }
+{
+    !target.is_under(zone.apex()) || is_searched(aliases, target)
+}
+
+/// Whether one of the aliases was found at a name.
+fn is_searched(aliases: &[Shown<'_>], name: &Name) -> bool
+    ensures { result ≡ list_any (λ before. is_same before name.now) (searched_before aliases.now) }
+{
+    for alias in aliases {
+        if alias.owner == *name {
+            return true;
+        }
+    }
+    false
+}

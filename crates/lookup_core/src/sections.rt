@@ -1,0 +1,59 @@
+//! What an answer says (RFC 1034, 4.3.2; RFC 2308, 2 and 3; RFC 6604, 3).
+ghost use Rattle.std.specs.Prelude.{◌≡◌, min, length, All};
+ghost use Rattle.dns_rdata.specs.Numbers.{type_SOA};
+ghost use Rattle.dns_rdata.specs.Data.{minimum_of};
+ghost use Rattle.dns_rdata.specs.Record.{rtype_of};
+ghost use Rattle.dns_rdata.specs.Shown.{records_shown};
+ghost use Rattle.lookup_core.specs.Sections.{rcode_of, negative_soa};
+ghost use Rattle.lookup_core.specs.Followed.{end_shown};
+
+use crate::aliases::{End, MOST_SHOWN};
+use arrayvec::ArrayVec;
+use dns_rdata::{RRset, Rcode, Shown, Ttl};
+use std::slice;
+use zone_tree::ZoneRead;
+
+/// What an answer says: borrowed sets, under the owners and with the TTLs that it shows. It has no additional section.
+#[derive(Drop)]
+pub struct Answer<'z> {
+    /// The reply code (RFC 1035, 4.1.1).
+    pub rcode: Rcode,
+    /// Whether the answer is authoritative (RFC 1035, 4.1.1).
+    pub aa: bool,
+    /// The answer section: the aliases followed, each alone, and then the data found.
+    pub answer: ArrayVec<Shown<'z>, MOST_SHOWN>,
+    /// The authority section: the SOA of a negative answer.
+    pub authority: ArrayVec<Shown<'z>, 1>,
+}
+
+/// The reply code is that of the last name looked up (RFC 2308, 2.1; RFC 6604, 3).
+pub(crate) fn rcode_of(end: &End<'_>) -> Rcode
+    ensures { result ≡ rcode_of (end_shown end.now) }
+{
+    match end {
+        End::NoName => Rcode::NxDomain,
+        End::Data(_) | End::NoData | End::Stop => Rcode::NoError,
+    }
+}
+
+/// The zone's SOA as a negative answer shows it: with the lesser of its TTL and MINIMUM (RFC 2308, 3 and 5).
+pub(crate) fn negative_soa<Z: ZoneRead>(zone: &Z) -> Shown<'_>
+    ensures { records_shown result ≡ negative_soa (Z.records zone.now) }
+{
+    let soa = zone.soa();
+    Shown {
+        owner: soa.owner().copy(),
+        ttl: Some(negative_ttl(soa)),
+        sets: slice::from_ref(soa),
+    }
+}
+
+/// The lesser of an SOA's TTL and its MINIMUM (RFC 2308, 3 and 5).
+fn negative_ttl(soa: &RRset) -> Ttl
+    requires typed { rtype_of soa.now ≡ type_SOA }
+    requires one { length soa.now ≡ 1 }
+    ensures { All (λ r. min r.ttl (minimum_of r.rdata) ≡ result.0) soa.now }
+{
+    let numbers = soa.data()[0].soa().unwrap();
+    Ttl(soa.ttl().0.min(numbers.minimum.0))
+}

@@ -1,0 +1,115 @@
+//! A small zone through each call, and lists that are no zone.
+use crate::fault::ZoneFault;
+use crate::read::ZoneRead;
+use crate::zone::Zone;
+use dns_name::Name;
+use dns_rdata::{RData, RRset, RType, Ttl};
+use std::alloc::Global;
+use std::test::Fail;
+
+const EXAMPLE: &[u8] = b"\x07example\0";
+
+const SOA: &[u8] = b"\0\0\0\0\0\x01\0\0\0\x02\0\0\0\x03\0\0\0\x04\0\0\0\x05";
+
+const NS: &[u8] = b"\x02ns\x07example\0";
+
+/// An owner, a type and data octets.
+type Row<'a> = (&'a [u8], RType, &'a [u8]);
+
+fn name(octets: &[u8]) -> Result<Name, Fail> {
+    let (name, _) = Name::from_wire(octets).ok_or("no name")?;
+    Ok(name)
+}
+
+/// The zone of sets of one record each.
+fn zone_of(alloc: Global, rows: &[Row]) -> Result<Result<Zone, ZoneFault>, Fail> {
+    let mut sets = Vec::new(alloc);
+    for (owner, rtype, octets) in rows {
+        let data = RData::from_wire(alloc, *rtype, octets)?;
+        let set = RRset::new(alloc, &name(owner)?, Ttl(3600), data)?;
+        sets.push(set)?;
+    }
+    Ok(Zone::new(sets))
+}
+
+// Names that exist and don't, with how many sets they own (RFC 4592, 2.2.1 to 2.2.3).
+#[test]
+fn looks_up(rt: HostRuntime) -> Result<(), Fail> {
+    let rows: [Row; 7] = [
+        (EXAMPLE, RType::NS, NS),
+        (EXAMPLE, RType::SOA, SOA),
+        (
+            b"\x01*\x07example\0",
+            RType::MX,
+            b"\0\x0a\x05host1\x07example\0",
+        ),
+        (b"\x01*\x07example\0", RType::TXT, b"\x02hi"),
+        (b"\x03sub\x01*\x07example\0", RType::TXT, b"\x02hi"),
+        (b"\x01a\x05host2\x07example\0", RType::A, &[192, 0, 2, 1]),
+        (b"\x06SUBDEL\x07example\0", RType::NS, NS),
+    ];
+    let zone = zone_of(rt.alloc(), &rows)??;
+    let cases: [(&[u8], bool, usize); 11] = [
+        (EXAMPLE, true, 2),
+        (b"\x07EXAMPLE\0", true, 2),
+        (b"\0", true, 0),
+        (b"\x01*\x07example\0", true, 2),
+        (b"\x03sub\x01*\x07example\0", true, 1),
+        (b"\x05host1\x07example\0", false, 0),
+        (b"\x05host2\x07example\0", true, 0),
+        (b"\x01a\x05host2\x07example\0", true, 1),
+        (b"\x01b\x05host2\x07example\0", false, 0),
+        (b"\x06subdel\x07example\0", true, 1),
+        (b"\x07exampla\0", false, 0),
+    ];
+    for (octets, exists, owned) in cases {
+        let name = name(octets)?;
+        assert_eq!(rt; zone.exists(&name), exists, "{octets:?}");
+        assert_eq!(rt; zone.rrsets_at(&name).len(), owned, "{octets:?}");
+    }
+    let wild = name(b"\x01*\x07example\0")?;
+    let found = zone.rrset(&wild, RType::TXT).ok_or("no set")?;
+    assert_eq!(rt; found.rtype(), RType::TXT);
+    assert!(rt; zone.rrset(&wild, RType::A).is_none());
+    assert_eq!(rt; zone.soa().rtype(), RType::SOA);
+    assert!(rt; *zone.apex() == name(EXAMPLE)?);
+    assert_eq!(rt; zone.walk().len(), 7);
+    Ok(())
+}
+
+// Each rule broken, and which is told.
+#[test]
+fn refuses(rt: HostRuntime) -> Result<(), Fail> {
+    let ns: Row = (EXAMPLE, RType::NS, NS);
+    let soa: Row = (EXAMPLE, RType::SOA, SOA);
+    let address: Row = (b"\x03www\x07example\0", RType::A, &[192, 0, 2, 1]);
+    let alias: Row = (b"\x03www\x07example\0", RType::CNAME, NS);
+    let cases: [(&[Row], ZoneFault); 10] = [
+        (&[soa, ns], ZoneFault::NotAscending),
+        (&[ns, soa, soa], ZoneFault::NotAscending),
+        (&[], ZoneFault::NoSoa),
+        (&[ns], ZoneFault::NoSoa),
+        (
+            &[ns, soa, (b"\x03www\x07example\0", RType::SOA, SOA)],
+            ZoneFault::SecondSoa,
+        ),
+        (&[(b"\0", RType::NS, NS), ns, soa], ZoneFault::Outside),
+        (&[soa, address], ZoneFault::NoNameServer),
+        (&[ns, soa, address, alias], ZoneFault::AliasNotAlone),
+        (
+            &[ns, soa, (EXAMPLE, RType::CNAME, NS)],
+            ZoneFault::NotAscending,
+        ),
+        (
+            &[ns, soa, (b"\x01*\x07example\0", RType::NS, NS)],
+            ZoneFault::WildCut,
+        ),
+    ];
+    for (rows, want) in cases {
+        match zone_of(rt.alloc(), rows)? {
+            Ok(_) => assert!(rt; false, "{want:?}"),
+            Err(fault) => assert_eq!(rt; fault, want),
+        }
+    }
+    Ok(())
+}
