@@ -12,7 +12,7 @@ use Rattle.dns_name.specs.Name.{wire_of, name_in}
 use Rattle.std.specs.List.{flat_map}
 use Rattle.dns_message.specs.Asked.{request_header, request_of, IsQuestion, IsAnswerTo}
 use Rattle.dns_message.specs.Message.{number_at, Message}
-use Rattle.dns_message.specs.Reads.{header_of, is_reply, question_of, question_in, query_of, reads}
+use Rattle.dns_message.specs.Reads.{header_of, copied, is_reply, question_of, question_in, query_of, reads}
 use Rattle.dns_rdata.specs.declared.numbers.Rcode.TheVariants.{FormErr, NotImp}
 use Rattle.dns_message.specs.declared.query.Parsed.{Parsed}
 use Rattle.dns_message.specs.declared.query.Parsed.TheVariants.{Silent, Fault, Query}
@@ -148,7 +148,7 @@ asks opcode false h = grind (arith, nat_tests)
 abbrev judged : Bool → Head → Bool → Option Question → Parsed
 judged silent head counts question =
     if silent then Silent
-    else if not (head.opcode == 0) then Fault head NotImp
+    else if not (head.opcode == 0) then Fault (copied head) NotImp
     else if not counts then Fault head FormErr
     else query_of head question
 

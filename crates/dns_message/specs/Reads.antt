@@ -20,6 +20,11 @@ header_of msg = record {
   four_bits = mod-lt (slice_index msg 2 / 8) (lit< tt);
 }
 
+-- what a reply copies from a header: all but the RD of an UPDATE, OPCODE 5, where that bit has no meaning
+-- (RFC 2136, 2.2; own)
+abbrev pub copied : Head → Head
+copied head = record { id = head.id; opcode = head.opcode; rd = head.rd && not (head.opcode == 5); four_bits = head.four_bits }
+
 -- QR, the top bit of the third octet: a reply, no request (RFC 1035, 4.1.1)
 abbrev pub is_reply : List ℕ → Bool
 is_reply msg = nat_le 128 (slice_index msg 2)
@@ -53,6 +58,6 @@ query_of head (Some q) = if asks_transfer q then Fault head NotImp else Query (r
 abbrev pub reads : List ℕ → Parsed
 reads msg =
     if nat_lt (length msg) 12 || is_reply msg then Silent
-    else if not ((header_of msg).opcode == 0) then Fault (header_of msg) NotImp
+    else if not ((header_of msg).opcode == 0) then Fault (copied (header_of msg)) NotImp
     else if not (counts_one_question msg) then Fault (header_of msg) FormErr
     else query_of (header_of msg) (question_in (drop 12 msg))

@@ -1,7 +1,7 @@
 //! How a request is read (RFC 1035, 4.1 and 4.2).
 ghost use Rattle.std.specs.Prelude.{◌≡◌, ◌+◌, ◌<◌, ◌≤◌, length, nat_le, Some, None, if◌then◌else◌};
 ghost use Rattle.dns_message.specs.Message.{number_at};
-ghost use Rattle.dns_message.specs.Reads.{header_of, is_reply, counts_one_question, question_in, asks_transfer, reads};
+ghost use Rattle.dns_message.specs.Reads.{header_of, copied, is_reply, counts_one_question, question_in, asks_transfer, reads};
 
 use crate::query::{Head, Parsed, Query, Question};
 use dns_name::Name;
@@ -22,6 +22,9 @@ const OPCODES: u8 = 16;
 /// The OPCODE of a standard query (RFC 1035, 4.1.1).
 const QUERY: u8 = 0;
 
+/// The OPCODE of a dynamic update (RFC 2136, 1.3).
+const UPDATE: u8 = 5;
+
 /// What octets say: a query; nothing that is answered, where they are fewer than twelve or a reply; or a request that
 /// gets a code alone (RFC 1035, 4.1).
 ///
@@ -36,7 +39,7 @@ pub fn parse(bytes: &[u8]) -> Parsed
     }
     let head = header_of(bytes);
     if head.opcode != QUERY {
-        return Parsed::Fault(head, Rcode::NotImp);
+        return Parsed::Fault(copied(head), Rcode::NotImp);
     }
     if !counts_one_question(bytes) {
         return Parsed::Fault(head, Rcode::FormErr);
@@ -73,6 +76,17 @@ fn header_of(bytes: &[u8]) -> Head
         id: u16::from_be_bytes([bytes[0], bytes[1]]),
         opcode: bytes[2] / OPCODE % OPCODES,
         rd: bytes[2] % 2 == 1,
+    }
+}
+
+/// What a reply copies from a header: all but the RD of an UPDATE, where that bit has no meaning (RFC 2136, 2.2; own).
+fn copied(head: Head) -> Head
+    ensures { result ≡ copied head }
+{
+    Head {
+        id: head.id,
+        opcode: head.opcode,
+        rd: head.rd && head.opcode != UPDATE,
     }
 }
 
