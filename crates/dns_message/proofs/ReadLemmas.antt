@@ -10,7 +10,7 @@ use Rattle.std.proofs.lemmas.Nat.{from_be_bytes-to_be_bytes_2, be_bytes_2}
 use Rattle.std.specs.Int.{to_be_bytes, from_be_bytes, w16}
 use Rattle.dns_name.specs.Name.{wire_of, name_in}
 use Rattle.std.specs.List.{flat_map}
-use Rattle.dns_message.specs.Asked.{request_header, request_of, IsQuestion, IsAnswerTo}
+use Rattle.dns_message.specs.Asked.{request_header, request_of, BeginsWith, IsQuestion, IsAnswerTo}
 use Rattle.dns_message.specs.Message.{number_at, Message}
 use Rattle.dns_message.specs.Reads.{header_of, copied, is_reply, question_of, question_in, query_of, reads}
 use Rattle.dns_rdata.specs.declared.numbers.Rcode.TheVariants.{FormErr, NotImp}
@@ -83,7 +83,7 @@ some_if true x q e = (refl, cc)
 some_if false x q e = cc
 
 -- a question of the numbers behind a name stands there
-asked-stands : (octets : List ℕ) (name : List (List ℕ)) → let n = length (wire_of name) in let q = asked name (number_at octets n) (number_at octets (n + 2)) in All (λ octet. octet < 2 ^ 8) octets → octets ≡ wire_of name ++ drop n octets → n + 4 ≤ length octets → octets ≡ question_text q ++ drop (length (question_text q)) octets
+asked-stands : (octets : List ℕ) (name : List (List ℕ)) → let n = length (wire_of name) in let q = asked name (number_at octets n) (number_at octets (n + 2)) in All (λ octet. octet < 2 ^ 8) octets → octets ≡ wire_of name ++ drop n octets → n + 4 ≤ length octets → BeginsWith octets q
 asked-stands octets name small e fits =
     let n = length (wire_of name) in
     let rest = drop n octets in
@@ -98,20 +98,20 @@ asked-stands octets name small e fits =
     ∙ sym (append_assoc (wire_of name ++ rtype) class _ ∙ append_assoc (wire_of name) rtype (class ++ _))
 
 -- a question that is read behind a name stands there
-question_of-stands : (octets : List ℕ) (name : List (List ℕ)) (q : Question) → All (λ octet. octet < 2 ^ 8) octets → octets ≡ wire_of name ++ drop (length (wire_of name)) octets → question_of octets name ≡ Some q → octets ≡ question_text q ++ drop (length (question_text q)) octets
+question_of-stands : (octets : List ℕ) (name : List (List ℕ)) (q : Question) → All (λ octet. octet < 2 ^ 8) octets → octets ≡ wire_of name ++ drop (length (wire_of name)) octets → question_of octets name ≡ Some q → BeginsWith octets q
 question_of-stands octets name q small e f =
     let n = length (wire_of name) in
     let found = some_if (nat_le (n + 4) (length octets)) (asked name (number_at octets n) (number_at octets (n + 2))) q f in
-    let P : Question → Type 0 = λ p. octets ≡ question_text p ++ drop (length (question_text p)) octets in
+    let P : Question → Type 0 = BeginsWith octets in
     subst P found.1 (asked-stands octets name small e (leb-true _ _ found.0))
 
 -- a question that is read stands in the octets
-question_in_some : (octets : List ℕ) (found : Option (List (List ℕ))) (q : Question) → found ≡ name_in octets → All (λ octet. octet < 2 ^ 8) octets → option_and_then (question_of octets) found ≡ Some q → octets ≡ question_text q ++ drop (length (question_text q)) octets
+question_in_some : (octets : List ℕ) (found : Option (List (List ℕ))) (q : Question) → found ≡ name_in octets → All (λ octet. octet < 2 ^ 8) octets → option_and_then (question_of octets) found ≡ Some q → BeginsWith octets q
 question_in_some octets None q e small f = cc
 question_in_some octets (Some name) q e small f =
     question_of-stands octets name q small (name_in-stands octets name (sym e)).1 f
 
-pub question_in-stands : (octets : List ℕ) (q : Question) → All (λ octet. octet < 2 ^ 8) octets → question_in octets ≡ Some q → octets ≡ question_text q ++ drop (length (question_text q)) octets
+pub question_in-stands : (octets : List ℕ) (q : Question) → All (λ octet. octet < 2 ^ 8) octets → question_in octets ≡ Some q → BeginsWith octets q
 question_in-stands octets q small f = question_in_some octets (name_in octets) q refl small f
 
 -- headers of the same parts are the same

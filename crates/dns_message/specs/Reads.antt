@@ -38,7 +38,9 @@ counts_one_question msg = number_at msg 4 == 1 && number_at msg 6 == 0 && number
 abbrev pub question_of : List ℕ → List (List ℕ) → Option Question
 question_of octets name =
     let at = length (wire_of name) in
-    if nat_le (at + 4) (length octets) then Some (record { name = name; rtype = record { 0 = number_at octets at }; class = record { 0 = number_at octets (at + 2) } }) else None
+    let rtype = number_at octets at in
+    let class = number_at octets (at + 2) in
+    if nat_le (at + 4) (length octets) then Some (record { name = name; rtype = record { 0 = rtype }; class = record { 0 = class } }) else None
 
 -- the question that the octets begin with: a name in full, a type, a class; what follows is ignored (RFC 1035, 4.1.2)
 abbrev pub question_in : List ℕ → Option Question

@@ -57,7 +57,9 @@ fn put_sets(
 ) -> Option<usize>
     requires at { at ≤ length out.old }
     requires most { length out.old < 2 ^ 16 }
-    ensures { Puts out.old out.new at (flat_map record_text (map (shown_as owner.now (option_map (λ t. t.0) ttl)) (flat_map (λ set. set) sets.now))) result }
+    ensures { Puts out.old out.new at
+        (flat_map record_text (map (shown_as owner.now (option_map (λ t. t.0) ttl)) (flat_map (λ set. set) sets.now)))
+        result }
 {
     let mut next = at;
     for set in sets {
@@ -70,7 +72,9 @@ fn put_sets(
 fn put_set(out: &mut [u8], at: usize, owner: &Name, ttl: Option<Ttl>, set: &RRset) -> Option<usize>
     requires at { at ≤ length out.old }
     requires most { length out.old < 2 ^ 16 }
-    ensures { Puts out.old out.new at (flat_map record_text (map (shown_as owner.now (option_map (λ t. t.0) ttl)) set.now)) result }
+    ensures { Puts out.old out.new at
+        (flat_map record_text (map (shown_as owner.now (option_map (λ t. t.0) ttl)) set.now))
+        result }
 {
     let rtype = set.rtype();
     let ttl = ttl.unwrap_or(set.ttl());
@@ -91,7 +95,9 @@ fn put_record(
     rdata: &[u8],
 ) -> Option<usize>
     requires { length out.old < 2 ^ 16 }
-    ensures { Puts out.old out.new at (record_text (record { owner = owner.now; rtype = rtype.0; ttl = ttl.0; rdata = rdata.now })) result }
+    ensures { Puts out.old out.new at
+        (record_text (record { owner = owner.now; rtype = rtype.0; ttl = ttl.0; rdata = rdata.now }))
+        result }
 {
     let len = u16::try_from(rdata.len()).ok()?;
     let at = put(out, at, owner.wire())?;

@@ -64,7 +64,9 @@ fn put_message(out: &mut [u8], reply: &Reply<'_>) -> Option<usize>
 
 /// The counts of a reply's sections, by their headings in order; None where one hasn't 16 bits (RFC 1035, 4.1.1).
 fn counts_of(reply: &Reply<'_>) -> Option<[u16; 4]>
-    ensures { MatchOption result (2 ^ 16 ≤ length (text (message_of reply.now))) (λ counts. counts ≡ counts_in (message_of reply.now)) }
+    ensures { MatchOption result
+        (2 ^ 16 ≤ length (text (message_of reply.now)))
+        (λ counts. counts ≡ counts_in (message_of reply.now)) }
 {
     Some([
         u16::from(reply.question.is_some()),
