@@ -5,7 +5,8 @@ use Rattle.std.proofs.lemmas.List.{length-append, length-drop, length-take-le}
 use Rattle.std.proofs.Math.Seq.{take-append_seam, drop-append_seam}
 use Rattle.dns_name.specs.Name.{wire_of, fold_name, name_in}
 use Rattle.dns_rdata.specs.Data.{names_then, parts, are_strings, data_of}
-use Rattle.dns_rdata.proofs.NameLemmas.{map_some, and_then_some, cond_some, fold_name-fold_name, length-wire_of-fold, IsName-fold, HasName-in, name_in-wire_of}
+use Rattle.dns_name.proofs.LawLemmas.{name_in-stands, name_in-wire_of, fold-IsName}
+use Rattle.dns_rdata.proofs.NameLemmas.{map_some, and_then_some, cond_some, fold_name-fold_name}
 
 -- a length octet begins a string, and each octet behind it takes one from what is left of it
 pub are_strings_start : (k octet : ℕ) (octets : List ℕ) → k ≡ 0 → are_strings k (octet ∷ octets) ≡ are_strings octet octets
@@ -29,17 +30,18 @@ IsRead-names zero back octets own e =
 IsRead-names (suc names) back octets own e =
     let name = and_then_some _ (name_in octets) own e in
     let rest = map_some _ (names_then names back (drop (length (wire_of name.0)) octets)) own name.2 in
-    let has = HasName-in octets name.0 name.1 in
+    let has = name_in-stands octets name.0 name.1 in
+    let kept = fold-IsName name.0 has.0 in
     let behind = IsRead-names names back (drop (length (wire_of name.0)) octets) rest.0 rest.1 in
     let folded = fold_name name.0 in
-    let reads = name_in-wire_of folded rest.0 (IsName-fold name.0 has.lawful) in
+    let reads = name_in-wire_of folded rest.0 kept.0 in
     let seam = drop-append_seam (wire_of folded) rest.0 in
     let twice = fold_name-fold_name name.0 in
     let more : names_then (suc names) back (wire_of folded ++ rest.0) ≡ Some (wire_of folded ++ rest.0) = rw (reads, seam, behind.again, twice) refl in
-    let all = ap length has.stands in
+    let all = ap length has.1 in
     let front = length-append (wire_of name.0) (drop (length (wire_of name.0)) octets) in
     let back = length-append (wire_of folded) rest.0 in
-    let same = length-wire_of-fold name.0 in
+    let same = kept.1 in
     let len : length (wire_of folded ++ rest.0) ≡ length octets = omega (arith, behind.len) in
     let is = rest.2 in
     record { again = cc; len = cc }

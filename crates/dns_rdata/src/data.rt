@@ -14,6 +14,9 @@ use thiserror::Error;
 /// The most octets of a record's data, uncompressed.
 pub const MAX_DATA: usize = 4096;
 
+/// The octets of the five numbers behind the names of an SOA's data (RFC 1035, 3.3.13).
+const SOA_NUMBERS: usize = 20;
+
 /// Why octets are no record's data. The form is judged before the length.
 #[derive(Clone, Copy, Debug, PartialEq, Eq, Error)]
 pub enum DataFault {
@@ -67,15 +70,20 @@ impl RData {
     /// `BadLength` where they haven't the type's form, else `TooLong` over [`MAX_DATA`] octets (RFC 1035, 3.3 and
     /// 3.4.1). `NoMemory` only where a growth was refused.
     pub fn from_wire(alloc: Global, rtype: RType, octets: &[u8]) -> Result<RData, DataFault>
-        ensures data { IfOk result (λ d. (d.rtype ≡ rtype.0) × (data_of rtype.0 octets.now ≡ Some d.octets) × (length d.octets ≤ MAX_DATA)) }
+        ensures data { IfOk result (λ d. (d.rtype ≡ rtype.0)
+            × (data_of rtype.0 octets.now ≡ Some d.octets)
+            × (length d.octets ≤ MAX_DATA)) }
 
         // The form decides first.
         ensures bad_length { IsErrOf result DataFault.BadLength → data_of rtype.0 octets.now ≡ None }
-        ensures no_form { data_of rtype.0 octets.now ≡ None → IsErrOf result DataFault.BadLength ⊎ IsErrOf result DataFault.NoMemory }
+        ensures no_form { data_of rtype.0 octets.now ≡ None
+            → IsErrOf result DataFault.BadLength ⊎ IsErrOf result DataFault.NoMemory }
 
         // Folding keeps the length.
-        ensures too_long { IsErrOf result DataFault.TooLong → IsSome (data_of rtype.0 octets.now) × (MAX_DATA < length octets.now) }
-        ensures long_form { IsSome (data_of rtype.0 octets.now) → MAX_DATA < length octets.now → IsErrOf result DataFault.TooLong ⊎ IsErrOf result DataFault.NoMemory }
+        ensures too_long { IsErrOf result DataFault.TooLong
+            → IsSome (data_of rtype.0 octets.now) × (MAX_DATA < length octets.now) }
+        ensures long_form { IsSome (data_of rtype.0 octets.now) → MAX_DATA < length octets.now
+            → IsErrOf result DataFault.TooLong ⊎ IsErrOf result DataFault.NoMemory }
     {
         let own = own_data(alloc, rtype, octets).map_err(|_| DataFault::NoMemory)?;
         let own = own.ok_or(DataFault::BadLength)?;
@@ -125,14 +133,25 @@ impl RData {
         if self.rtype != RType::SOA {
             return None;
         }
-        let octets = self.octets.as_slice();
-        Some(Soa {
-            serial: Serial(number_before_end(octets, 20)),
-            refresh: number_before_end(octets, 16),
-            retry: number_before_end(octets, 12),
-            expire: number_before_end(octets, 8),
-            minimum: Ttl(number_before_end(octets, 4)),
-        })
+        Some(soa_numbers(self.octets.as_slice()))
+    }
+}
+
+/// The numbers that an SOA's data ends in.
+fn soa_numbers(octets: &[u8]) -> Soa
+    requires { SOA_NUMBERS ≤ length octets.now }
+    ensures serial { result.serial.0 ≡ serial_of octets.now }
+    ensures refresh { result.refresh ≡ refresh_of octets.now }
+    ensures retry { result.retry ≡ retry_of octets.now }
+    ensures expire { result.expire ≡ expire_of octets.now }
+    ensures minimum { result.minimum.0 ≡ minimum_of octets.now }
+{
+    Soa {
+        serial: Serial(number_before_end(octets, SOA_NUMBERS)),
+        refresh: number_before_end(octets, 16),
+        retry: number_before_end(octets, 12),
+        expire: number_before_end(octets, 8),
+        minimum: Ttl(number_before_end(octets, 4)),
     }
 }
 
@@ -153,7 +172,7 @@ fn own_data(alloc: Global, rtype: RType, octets: &[u8]) -> Result<Option<Vec<u8>
     match rtype {
         RType::A => fold_parts(alloc, octets, 4, 0, 0),
         RType::NS | RType::CNAME => fold_parts(alloc, octets, 0, 1, 0),
-        RType::SOA => fold_parts(alloc, octets, 0, 2, 20),
+        RType::SOA => fold_parts(alloc, octets, 0, 2, SOA_NUMBERS),
         RType::MX => fold_parts(alloc, octets, 2, 1, 0),
         RType::TXT => copy_strings(alloc, octets),
         _ => Ok(None),
@@ -192,7 +211,8 @@ fn fold_parts(
 
 /// One string or more.
 fn copy_strings(alloc: Global, octets: &[u8]) -> Result<Option<Vec<u8>>, AllocError>
-    ensures { IfOk result (λ own. option_map (λ v. v.items) own ≡ (if nat_lt 0 (length octets.now) && are_strings 0 octets.now then Some octets.now else None)) }
+    ensures { IfOk result (λ own. option_map (λ v. v.items) own
+        ≡ (if nat_lt 0 (length octets.now) && are_strings 0 octets.now then Some octets.now else None)) }
 {
     if octets.is_empty() || !holds_strings(octets) {
         return Ok(None);

@@ -6,8 +6,10 @@ ghost use Rattle.dns_rdata.specs.Record.{Record, record_cmp, with_record, has_da
 
 /// Data that is read is as long as the octets that it is read from, and is read again as itself (RFC 4034, 6.2).
 pub fn read_again()
-    ensures again { (rtype : ℕ) (octets own : List ℕ) → data_of rtype octets ≡ Some own → data_of rtype own ≡ Some own }
-    ensures len { (rtype : ℕ) (octets own : List ℕ) → data_of rtype octets ≡ Some own → length own ≡ length octets }
+    ensures again { (rtype : ℕ) (octets own : List ℕ)
+        → data_of rtype octets ≡ Some own → data_of rtype own ≡ Some own }
+    ensures len { (rtype : ℕ) (octets own : List ℕ)
+        → data_of rtype octets ≡ Some own → length own ≡ length octets }
 {}
 
 /// The canonical order of records is total (RFC 4034, 6.1 and 6.3).
@@ -17,5 +19,6 @@ pub fn records_in_order()
 
 /// A set with one more record has that one and those that it had, and no other (RFC 2181, 5).
 pub fn one_more()
-    ensures { (r : Record) (rs : List Record) (octets : List ℕ) → has_data (with_record r rs) octets ≡ (bytes_eq octets r.rdata || has_data rs octets) }
+    ensures { (r : Record) (rs : List Record) (octets : List ℕ)
+        → has_data (with_record r rs) octets ≡ (bytes_eq octets r.rdata || has_data rs octets) }
 {}

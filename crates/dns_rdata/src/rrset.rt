@@ -52,7 +52,8 @@ impl RRset {
     /// The set of one record. Its owner is the name in lower case, and the TTL is in seconds.
     pub fn new(alloc: Global, owner: &Name, ttl: Ttl, rdata: RData) -> Result<RRset, AllocError>
         requires { ttl.0 < 2 ^ 31 }
-        ensures { IfOk result (λ set. set ≡ record { owner = fold_name owner.now; rtype = rdata.rtype; ttl = ttl.0; rdata = rdata.octets } ∷ []) }
+        ensures { IfOk result (λ set. set
+            ≡ record { owner = fold_name owner.now; rtype = rdata.rtype; ttl = ttl.0; rdata = rdata.octets } ∷ []) }
     {
         let rtype = rdata.rtype();
         let mut own = Vec::new(alloc);
@@ -93,7 +94,8 @@ impl RRset {
 
     /// The records' data, in strictly ascending order of their octets (RFC 4034, 6.3).
     pub fn data(&self) -> &[RData]
-        ensures records { self.now ≡ records_with (owner_of self.now) (rtype_of self.now) (ttl_of self.now) result.now }
+        ensures records { self.now
+            ≡ records_with (owner_of self.now) (rtype_of self.now) (ttl_of self.now) result.now }
         ensures some { 0 < length result.now }
         ensures few { length result.now ≤ MAX_SET }
         ensures typed { All (λ d. d.rtype ≡ rtype_of self.now) result.now }
@@ -107,9 +109,12 @@ impl RRset {
     /// `Limit` where the set has [`MAX_SET`] records and this would be another. Where it fails, the set is unchanged.
     pub fn insert(&mut self, rdata: RData) -> Result<bool, SetFault>
         requires { rdata.rtype ≡ rtype_of self.old }
-        ensures ok { OnOk result (self.new ≡ with_record (record { owner = owner_of self.old; rtype = rdata.rtype; ttl = ttl_of self.old; rdata = rdata.octets }) self.old) }
+        ensures ok { OnOk result (self.new ≡ with_record
+            (record { owner = owner_of self.old; rtype = rdata.rtype; ttl = ttl_of self.old; rdata = rdata.octets })
+            self.old) }
         ensures fresh { IfOk result (λ is_new. is_new ≡ not (has_data self.old rdata.octets)) }
-        ensures limit { IsErrOf result SetFault.Limit ↔ ((length self.old ≡ MAX_SET) × (has_data self.old rdata.octets ≡ false)) }
+        ensures limit { IsErrOf result SetFault.Limit
+            ↔ ((length self.old ≡ MAX_SET) × (has_data self.old rdata.octets ≡ false)) }
         ensures err { OnErr result (self.new ≡ self.old) }
     {
         let Err(place) = place_of(&self.rdata, &rdata) else {

@@ -1,5 +1,5 @@
 -- Requests and replies as lines of hexadecimal (own).
-use Rattle.std.specs.Prelude.{◌≡◌, ◌<◌, ℕ, ◌==◌, List, [], ◌∷◌, ◌++◌, length, flat_map, map, nat_le, Option, Some, None, Result, Ok, Err, if◌then◌else◌, codes}
+use Rattle.std.specs.Prelude.{◌≡◌, ◌<◌, ℕ, ◌==◌, List, [], ◌∷◌, ◌++◌, length, flat_map, map, nat_le, Option, Some, None, Result, Ok, Err, MatchResult, if◌then◌else◌, codes}
 use Rattle.std.specs.Io.BufRead.{drop_through, first_piece}
 use Rattle.std.specs.Io.KnownBytes.{Appends}
 use Rattle.hex.specs.declared.error.FromHexError.{FromHexError}
@@ -38,6 +38,17 @@ input_lines (octet ∷ input) = if octet == 10 then [] ∷ input_lines input els
 -- what is written for an input: a line for each of its lines
 abbrev pub output_of : List Record → List ℕ → List ℕ
 output_of zone input = flat_map (λ line. line_for zone line ++ 10 ∷ []) (input_lines input)
+
+-- what was written is a beginning of these octets
+pub record Begins (before after : Option (List ℕ)) (octets : List ℕ) : Type 0 where
+  pub done : List ℕ
+  pub rest : List ℕ
+  pub grown : Appends before after done
+  pub whole : done ++ rest ≡ octets
+
+-- these octets were written, or at an error a beginning of them
+abbrev pub Writes : {T E : Type 0} → Result T E → Option (List ℕ) → Option (List ℕ) → List ℕ → Type 0
+Writes result before after octets = MatchResult result (λ _. Appends before after octets) (λ _. Begins before after octets)
 
 -- the reader's next line is taken, and the line for it is written
 pub record TakesLine (zone : List Record) (rest : List ℕ) (left written_before written_after : Option (List ℕ)) : Type 0 where

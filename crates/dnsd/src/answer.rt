@@ -1,10 +1,10 @@
 //! Requests in hexadecimal, a line each, and their replies.
-ghost use Rattle.std.specs.Prelude.{◌≡◌, ℕ, ◌<◌, ◌≤◌, ◌*◌, ◌/◌, ◌↔◌, List, [], ◌∷◌, ◌++◌, length, take, Some, None, Ok, IfOk, OnOk, IfSome, MatchBool, MatchOption, codes};
+ghost use Rattle.std.specs.Prelude.{◌≡◌, ℕ, ◌<◌, ◌≤◌, ◌*◌, ◌/◌, ◌↔◌, List, [], ◌∷◌, ◌++◌, length, take, Some, None, Ok, IfOk, OnOk, OnErr, IfSome, MatchBool, MatchOption, codes};
 ghost use Rattle.std.specs.Io.BufRead.{strip_last};
 ghost use Rattle.std.specs.Io.KnownBytes.{Appends};
 ghost use Rattle.hex.specs.Hex.{decode_of, encode_lower};
 ghost use Rattle.dnsd.specs.Reply.{reply as reply_in};
-ghost use Rattle.dnsd.specs.Lines.{written, line_for, output_of, TakesLine, MOST_OCTETS};
+ghost use Rattle.dnsd.specs.Lines.{written, line_for, output_of, Begins, TakesLine, Writes};
 
 use crate::input::{MAX_READS, endless};
 use crate::reply::{UDP_LIMIT, respond};
@@ -15,8 +15,8 @@ use zone_tree::ZoneRead;
 /// The most octets of a request (RFC 1035, 4.2.2).
 const MAX_REQUEST: usize = 65_535;
 
-/// The most digits of a reply.
-const MAX_DIGITS: usize = 2 * UDP_LIMIT;
+/// The most octets of a line for a reply: its digits and a line end.
+const MAX_DIGITS: usize = 2 * UDP_LIMIT + 1;
 
 /// Buffers that are made once, so that no query takes memory when its line has been read.
 #[derive(Drop)]
@@ -27,7 +27,7 @@ struct Buffers {
     request: [u8; MAX_REQUEST],
     /// The reply's octets.
     reply: [u8; UDP_LIMIT],
-    /// The reply in hexadecimal.
+    /// The reply in hexadecimal, and a line end.
     digits: [u8; MAX_DIGITS],
 }
 
@@ -43,8 +43,10 @@ pub fn run_answer<Z: ZoneRead, R: BufRead, W: Write>(
     writer: &mut W,
 ) -> io::Result<()>
     // Where the reader tells its octets and the writer those that it holds.
-    ensures { OnOk result (IfSome (R.remaining reader.old) (λ input.
+    ensures ok { OnOk result (IfSome (R.remaining reader.old) (λ input.
         Appends (W.contents writer.old) (W.contents writer.new) (output_of (Z.records zone.now) input))) }
+    ensures err { OnErr result (IfSome (R.remaining reader.old) (λ input.
+        Begins (W.contents writer.old) (W.contents writer.new) (output_of (Z.records zone.now) input))) }
 {
     let mut buffers = Buffers {
         line: Vec::new(alloc),
@@ -67,9 +69,11 @@ fn answer_next<Z: ZoneRead, R: BufRead, W: Write>(
     writer: &mut W,
     buffers: &mut Buffers,
 ) -> io::Result<bool>
-    ensures { IfOk result (λ more. IfSome (R.remaining reader.old) (λ rest. MatchBool more
+    ensures ok { IfOk result (λ more. IfSome (R.remaining reader.old) (λ rest. MatchBool more
         (TakesLine (Z.records zone.now) rest (R.remaining reader.new) (W.contents writer.old) (W.contents writer.new))
         ((rest ≡ []) × (W.contents writer.new ≡ W.contents writer.old)))) }
+    ensures err { OnErr result (IfSome (R.remaining reader.old) (λ rest.
+        Begins (W.contents writer.old) (W.contents writer.new) (output_of (Z.records zone.now) rest))) }
 {
     buffers.line.clear();
     if reader.read_until(b'\n', &mut buffers.line)? == 0 {
@@ -80,15 +84,25 @@ fn answer_next<Z: ZoneRead, R: BufRead, W: Write>(
 }
 
 /// Writes the line for the line that was read.
-fn write_line<Z: ZoneRead, W: Write>(zone: &Z, writer: &mut W, buffers: &mut Buffers) -> io::Result<()>
-    ensures { OnOk result (Appends (W.contents writer.old) (W.contents writer.new)
-        (line_for (Z.records zone.now) (strip_last 10 buffers.old.line.items) ++ 10 ∷ [])) }
+fn write_line<Z: ZoneRead, W: Write>(
+    zone: &Z,
+    writer: &mut W,
+    buffers: &mut Buffers,
+) -> io::Result<()>
+    ensures { Writes result (W.contents writer.old) (W.contents writer.new)
+        (line_for (Z.records zone.now) (strip_last 10 buffers.old.line.items) ++ 10 ∷ []) }
 {
     match request_of(without_lf(buffers.line.as_slice()), &mut buffers.request) {
-        None => writer.write_all(b"!\n"),
+        None => write_whole(writer, b"!\n"),
         Some(len) => {
             let request = &buffers.request[..len];
-            write_reply(zone, request, &mut buffers.reply, &mut buffers.digits, writer)
+            write_reply(
+                zone,
+                request,
+                &mut buffers.reply,
+                &mut buffers.digits,
+                writer,
+            )
         }
     }
 }
@@ -101,25 +115,47 @@ fn write_reply<Z: ZoneRead, W: Write>(
     digits: &mut [u8; MAX_DIGITS],
     writer: &mut W,
 ) -> io::Result<()>
-    ensures { OnOk result (Appends (W.contents writer.old) (W.contents writer.new)
-        (written (reply_in (Z.records zone.now) request.now) ++ 10 ∷ [])) }
+    ensures { Writes result (W.contents writer.old) (W.contents writer.new)
+        (written (reply_in (Z.records zone.now) request.now) ++ 10 ∷ []) }
 {
     match respond(zone, request, reply) {
-        None => writer.write_all(b"-\n"),
+        None => write_whole(writer, b"-\n"),
         Some(len) => write_octets(&reply[..len], digits, writer),
     }
 }
 
 /// Writes octets in hexadecimal, and a line end.
-fn write_octets<W: Write>(octets: &[u8], digits: &mut [u8; MAX_DIGITS], writer: &mut W) -> io::Result<()>
+fn write_octets<W: Write>(
+    octets: &[u8],
+    digits: &mut [u8; MAX_DIGITS],
+    writer: &mut W,
+) -> io::Result<()>
     requires { length octets.now ≤ UDP_LIMIT }
-    ensures { OnOk result (Appends (W.contents writer.old) (W.contents writer.new)
-        (encode_lower octets.now ++ 10 ∷ [])) }
+    ensures { Writes result (W.contents writer.old) (W.contents writer.new) (encode_lower octets.now ++ 10 ∷ []) }
 {
-    let digits = &mut digits[..2 * octets.len()];
-    let _ = hex::encode_to_slice(octets, digits);
-    writer.write_all(digits)?;
-    writer.write_all(b"\n")
+    let len = 2 * octets.len();
+    let _ = hex::encode_to_slice(octets, &mut digits[..len]);
+    digits[len] = b'\n';
+    write_whole(writer, &digits[..len + 1])
+}
+
+/// Writes all these octets, in as many writes as the writer takes for them. At an error a beginning of them is written.
+fn write_whole<W: Write>(writer: &mut W, octets: &[u8]) -> io::Result<()>
+    ensures { Writes result (W.contents writer.old) (W.contents writer.new) octets.now }
+{
+    let mut rest = octets;
+    for _ in 0..MAX_READS {
+        if rest.is_empty() {
+            return Ok(());
+        }
+        match writer.write(rest) {
+            Ok(0) => return Err(io::Error::from(io::ErrorKind::WriteZero)),
+            Ok(len) => rest = &rest[len..],
+            Err(fault) if fault.kind() == io::ErrorKind::Interrupted => {}
+            Err(fault) => return Err(fault),
+        }
+    }
+    Err(endless())
 }
 
 /// A line without the LF at its end.

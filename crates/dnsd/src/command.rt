@@ -47,7 +47,10 @@ impl From<AllocError> for CommandFault<'_> {
 }
 
 /// The command that these words ask for, the program's own name first.
-pub fn parse_words<'a, S: AsStr>(alloc: Global, words: &'a [S]) -> Result<Command<'a>, CommandFault<'a>> {
+pub fn parse_words<'a, S: AsStr>(
+    alloc: Global,
+    words: &'a [S],
+) -> Result<Command<'a>, CommandFault<'a>> {
     let origin = Arg::new(alloc, "origin")
         .long("origin")
         .value_name("NAME")
@@ -71,8 +74,9 @@ pub fn parse_words<'a, S: AsStr>(alloc: Global, words: &'a [S]) -> Result<Comman
         return Err(CommandFault::from(AllocError));
     };
     let text = found.get_str("origin").unwrap_or(".");
-    let origin = Name::from_text(text.as_bytes(), &Name::root())
-        .map_err(|fault| CommandFault::Origin(text, fault))?;
+    let origin = Name::from_text(text.as_bytes(), &Name::root()).map_err(
+        |fault| CommandFault::Origin(text, fault),
+    )?;
     let zone = match found.get_str("zone") {
         Some("-") | None => Source::Input,
         Some(path) => Source::File(path),

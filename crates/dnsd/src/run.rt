@@ -66,6 +66,7 @@ pub fn run_with_zone<R: BufRead, W: Write>(
         Command::Answer { origin, .. } => {
             let zone = read_zone(alloc, text, origin)?;
             run_answer(alloc, &zone, reader, writer)?;
+            writer.flush()?;
             Ok(())
         }
     }

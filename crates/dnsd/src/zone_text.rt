@@ -9,10 +9,9 @@ mod gathered;
 mod record;
 mod words;
 
-pub use fault::{Cause, FileFault};
-
 use crate::lines::{Line, lines_of};
 use dns_name::Name;
+pub use fault::{Cause, FileFault};
 use gathered::Gathered;
 use record::read_record;
 use std::alloc::Global;

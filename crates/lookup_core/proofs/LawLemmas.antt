@@ -1,10 +1,13 @@
 -- Laws of what is found at a name, and of chains.
-use Rattle.std.proofs.Common.{◌≡◌, ◌↔◌, ℕ, zero, suc, ◌+◌, ◌≤◌, Bool, true, false, not, ◌==◌, get_or, cond, ◌&&◌, if◌then◌else◌, List, [], ◌∷◌, ◌++◌, length, Option, None, Some, All, refl, sym, ap, ◌∙◌, inl, inr, arith, subst, length-append, append_assoc}
+use Rattle.std.proofs.Common.{◌≡◌, ◌↔◌, ℕ, zero, suc, ◌+◌, ◌≤◌, Bool, true, false, not, ◌==◌, get_or, cond, ◌&&◌, if◌then◌else◌, List, [], ◌∷◌, ◌++◌, length, filter, ◌||◌, Option, None, Some, All, refl, sym, ap, ◌∙◌, inl, inr, arith, subst, length-append, append_assoc}
 use Rattle.std.proofs.lemmas.List.{length-map, get_or-append-add}
-use Rattle.std.proofs.lemmas.List.Elements.{All-append, All-map}
+use Rattle.std.proofs.lemmas.Bool.{eqb-true}
+use Rattle.std.proofs.lemmas.List.Elements.{All-append, All-map, All-filter, filter_passes}
+use Rattle.dns_name.specs.Name.{is_same}
+use Rattle.dns_name.specs.Order.{is_same_equiv}
 use Rattle.dns_rdata.specs.Numbers.{type_CNAME}
 use Rattle.dns_rdata.specs.Record.{Record, shown_as}
-use Rattle.zone_tree.specs.Zone.{rrset_of, exists}
+use Rattle.zone_tree.specs.Zone.{rrset_of, rrsets_of, exists, is_of, stands_at, is_alone, IsZone}
 use Rattle.lookup_core.specs.declared.aliases.TheConstants.{MOST_ALIASES}
 use Rattle.lookup_core.specs.Look.{Look, Cut, Alias, Data, NoData, NoName, look, cut_of, answering, found_at, source_of, is_synthesized, owned_by, is_none_of, follows_aliases, data_at}
 use Rattle.lookup_core.specs.Chain.{Chain, Found, Stop, target, is_final, onto, chain_from, chain}
@@ -179,3 +182,41 @@ told_from zone (suc more) searched name rtype =
 pub reached : (zone : List Record) (name : List (List ℕ)) (rtype : ℕ) → All (IsReached name (chain zone name rtype).aliases) (sections zone name rtype).answer
 unfolding chain
 reached zone name rtype = told_from zone MOST_ALIASES [] name rtype
+
+-- what passes one test only where it passes another is no more
+filter_more : {X : Type 0} (p q : X → Bool) → ((x : X) → p x ≡ true → q x ≡ true) → (xs : List X) → length (filter p xs) ≤ length (filter q xs)
+filter_more p q sub [] = omega arith
+filter_more p q sub (x ∷ xs) =
+    let rest : length (filter p xs) ≤ length (filter q xs) = filter_more p q sub xs in
+    by_test (λ l. length l ≤ length (filter q (x ∷ xs))) (p x) (x ∷ filter p xs) (filter p xs)
+    (λ h. subst (λ b. length (x ∷ filter p xs) ≤ length (cond b (x ∷ filter q xs) (filter q xs))) (sym (sub x h)) (omega arith))
+    (λ _. by_test (λ l. length (filter p xs) ≤ length l) (q x) (x ∷ filter q xs) (filter q xs) (λ _. omega arith) (λ _. rest))
+
+and_left : (a b : Bool) → (a && b) ≡ true → a ≡ true
+and_left true b h = refl
+and_left false b h = absurd (cc)
+
+and_right : (a b : Bool) → (a && b) ≡ true → b ≡ true
+and_right true b h = h
+and_right false b h = absurd (cc)
+
+unless : (a b : Bool) → (not a || b) ≡ true → a ≡ true → b ≡ true
+unless true b h a = h
+unless false b h a = absurd (cc)
+
+-- in a zone an alias stands alone, so no owner has two
+single_by : (zone : List Record) (owner : List (List ℕ)) (rs : List Record) → IsZone zone → rs ≡ rrset_of zone owner type_CNAME → length rs ≤ 1
+single_by zone owner [] is of = omega arith
+single_by zone owner (r ∷ rs) is of =
+    let passes : is_of owner type_CNAME r ≡ true = subst (All (λ x. is_of owner type_CNAME x ≡ true)) (sym of) (filter_passes (is_of owner type_CNAME) zone) 0 r (omega arith) in
+    let alone : is_alone zone r ≡ true = subst (All (λ x. is_alone zone x ≡ true)) (sym of) (All-filter (is_of owner type_CNAME) (λ x. is_alone zone x ≡ true) zone is.aliases_alone) 0 r (omega arith) in
+    let same : is_same r.owner owner ≡ true = and_left (is_same r.owner owner) (r.rtype == type_CNAME) passes in
+    let one : length (rrsets_of zone r.owner) ≡ 1 = eqb-true _ _ (unless (r.rtype == type_CNAME) (length (rrsets_of zone r.owner) == 1) alone (and_right (is_same r.owner owner) (r.rtype == type_CNAME) passes)) in
+    let fewer : length (rrset_of zone owner type_CNAME) ≤ length (rrsets_of zone r.owner) =
+    filter_more (is_of owner type_CNAME) (stands_at r.owner)
+    (λ x h. is_same_equiv.congr x.owner owner r.owner (and_left (is_same x.owner owner) (x.rtype == type_CNAME) h) ∙ is_same_equiv.symm owner r.owner ∙ same) zone
+    in
+    omega (arith, ap length of)
+
+pub single_aliases : (zone : List Record) → IsZone zone → HasSingleAliases zone
+single_aliases zone is owner = single_by zone owner (rrset_of zone owner type_CNAME) is refl

@@ -24,10 +24,11 @@ abbrev pub data_of_end : End → List Record
 data_of_end (Found (Data rs)) = rs
 data_of_end _ = []
 
--- the SOA of a negative answer: its TTL is the lesser of its own and MINIMUM (RFC 2308, 3 and 5)
+-- an SOA with the lesser of its TTL and its MINIMUM (RFC 2308, 3 and 5)
 abbrev pub with_negative_ttl : Record → Record
 with_negative_ttl r = record r { ttl = min r.ttl (minimum_of r.rdata) }
 
+-- the zone's SOA as a negative answer shows it
 abbrev pub negative_soa : List Record → List Record
 negative_soa zone = map with_negative_ttl (soa_of zone)
 

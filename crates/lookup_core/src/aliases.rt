@@ -18,7 +18,7 @@ use zone_tree::ZoneRead;
 /// The most aliases that one answer follows (own).
 pub const MOST_ALIASES: usize = 16;
 
-/// The most sets that an answer section shows, ANY's counted as one: the aliases, and what is found at their end.
+/// The most entries of an answer section: each alias, and what is found at their end.
 pub const MOST_SHOWN: usize = MOST_ALIASES + 1;
 
 /// The end of a chain of aliases.

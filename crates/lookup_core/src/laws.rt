@@ -1,7 +1,7 @@
 //! Laws of the definitions.
 ghost use Rattle.std.specs.Prelude.{◌≡◌, ◌↔◌, ◌≤◌, ℕ, false, List, length, All, None};
 ghost use Rattle.dns_rdata.specs.Record.{Record};
-ghost use Rattle.zone_tree.specs.Zone.{exists};
+ghost use Rattle.zone_tree.specs.Zone.{exists, IsZone};
 ghost use Rattle.lookup_core.specs.Look.{look, NoName, cut_of, is_synthesized};
 ghost use Rattle.lookup_core.specs.Chain.{chain};
 ghost use Rattle.lookup_core.specs.Sections.{sections};
@@ -13,9 +13,10 @@ pub fn names_without_existence()
     ensures { (zone : List Record) (name : List (List ℕ)) (rtype : ℕ) → cut_of zone name ≡ None → (look zone name rtype ≡ NoName) ↔ ((exists zone name ≡ false) × (is_synthesized zone name ≡ false)) }
 {}
 
-/// A chain has at most 16 aliases, where no owner has two (own).
+/// In a zone no owner has two aliases, and a chain has at most 16 (RFC 2181, 10.1; own).
 pub fn chains_are_short()
-    ensures { (zone : List Record) (name : List (List ℕ)) (rtype : ℕ) → HasSingleAliases zone → length (chain zone name rtype).aliases ≤ 16 }
+    ensures single { (zone : List Record) → IsZone zone → HasSingleAliases zone }
+    ensures short { (zone : List Record) (name : List (List ℕ)) (rtype : ℕ) → IsZone zone → length (chain zone name rtype).aliases ≤ 16 }
 {}
 
 /// Each record of an answer section stands at the name asked or at the target of an alias of the chain.

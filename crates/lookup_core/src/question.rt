@@ -11,7 +11,11 @@ use dns_name::Name;
 use dns_rdata::RType;
 use zone_tree::ZoneRead;
 
-/// The answer of a zone to a name and a type.
+/// The answer of a zone to a name and a type: aliases are followed to their end, and what is found there fills the
+/// sections (RFC 1034, 4.3.2; RFC 2308, 2; RFC 6604, 3). The first owner shown is the name as it is spelt here.
+///
+/// The zone speaks for names at or below its apex: whether the name is one, the caller asks first. None where a name
+/// that the chain looks up is at or below a zone cut, or a source of synthesis answers for it (own). No memory is taken.
 pub fn answer<'z, Z: ZoneRead>(zone: &'z Z, name: &Name, rtype: RType) -> Option<Answer<'z>>
     ensures none { IsNone result ↔ IsTrue (waits (Z.records zone.now) name.now rtype.0) }
     ensures sections { IfSome result (λ said. sections_shown said ≡ without_additional (sections (Z.records zone.now) name.now rtype.0)) }
@@ -29,6 +33,7 @@ pub fn answer<'z, Z: ZoneRead>(zone: &'z Z, name: &Name, rtype: RType) -> Option
     }
     Some(Answer {
         rcode,
+        // No chain ends in a referral here.
         aa: true,
         answer,
         authority,

@@ -6,11 +6,13 @@ use Rattle.std.specs.declared.cmp.Ordering.TheVariants.{Less, Equal, Greater}
 use Rattle.std.specs.Prelude.{bytes_eq}
 use Rattle.std.specs.Char.{to_ascii_lowercase}
 use Rattle.std.specs.Ordering.{nat_cmp, is_gt, is_eq, ordering_then, ordering_reverse}
-use Rattle.std.specs.Cmp.{IsTotalOrder, first_so, second_so, both_ways}
+use Rattle.std.specs.Cmp.{Equal-is, first_so, second_so}
 use Rattle.std.proofs.lemmas.List.{reverse-reverse, reverse-append}
-use Rattle.std.specs.Cmp.Lexicographic.{slice_cmp, pointwise_decides, bytes_decides, lists_ties, texts_ties}
-use Rattle.std.proofs.lemmas.Cmp.{lists_total, on_total, nat_list_cmp_total, tied_itself}
+use Rattle.std.specs.Cmp.Lexicographic.{slice_cmp, bytes_decides, texts_ties}
+use Rattle.std.proofs.lemmas.Cmp.{nat_list_cmp_total, tied_itself}
 use Rattle.dns_name.specs.Name.{fold_name, is_same, is_under, canonical_cmp}
+use Rattle.dns_name.specs.Order.{is_same_Decides, is_same_tied}
+pub use Rattle.dns_name.specs.Order.{canonical_total}
 
 -- a name's folded labels from the rightmost on
 abbrev pub key : List (List ℕ) → List (List ℕ)
@@ -23,30 +25,19 @@ label_cmp = slice_cmp nat_cmp
 abbrev pub keys_cmp : List (List ℕ) → List (List ℕ) → Ordering
 keys_cmp = slice_cmp label_cmp
 
--- the canonical order is a total order
-pub canonical_total : IsTotalOrder canonical_cmp
-canonical_total = on_total key (lists_total nat_list_cmp_total)
-
 -- names are the same exactly where their labels, folded, are
 pub folds_from_same : (a b : List (List ℕ)) → is_same a b ≡ true → fold_name a ≡ fold_name b
-folds_from_same a b e = (pointwise_decides bytes_decides (fold_name a) (fold_name b)).0 e
+folds_from_same a b e = (is_same_Decides a b).0 e
 
 pub same_from_folds : (a b : List (List ℕ)) → fold_name a ≡ fold_name b → is_same a b ≡ true
-same_from_folds a b e = (pointwise_decides bytes_decides (fold_name a) (fold_name b)).1 e
-
-pub folds_from_keys : (a b : List (List ℕ)) → key a ≡ key b → fold_name a ≡ fold_name b
-folds_from_keys a b e = sym (reverse-reverse (fold_name a)) ∙ ap reverse e ∙ reverse-reverse (fold_name b)
-
--- keys that tie are equal
-pub keys_from_tie : (xs ys : List (List ℕ)) → keys_cmp xs ys ≡ Equal → xs ≡ ys
-keys_from_tie xs ys e = (pointwise_decides bytes_decides xs ys).0 (lists_ties label_cmp texts_ties xs ys ∙ ap is_eq e)
+same_from_folds a b e = (is_same_Decides a b).1 e
 
 -- the order ties exactly the names that are the same
 pub same_from_tie : (a b : List (List ℕ)) → canonical_cmp a b ≡ Equal → is_same a b ≡ true
-same_from_tie a b e = same_from_folds a b (folds_from_keys a b (keys_from_tie (key a) (key b) e))
+same_from_tie a b e = is_same_tied a b ∙ ap is_eq e
 
 pub tie_from_same : (a b : List (List ℕ)) → is_same a b ≡ true → canonical_cmp a b ≡ Equal
-tie_from_same a b e = ap (λ k. keys_cmp (key a) (reverse k)) (sym (folds_from_same a b e)) ∙ tied_itself canonical_total a
+tie_from_same a b e = (Equal-is (canonical_cmp a b)).0 (sym (is_same_tied a b) ∙ e)
 
 -- whether a list of labels begins with another
 abbrev pub begins : List (List ℕ) → List (List ℕ) → Bool
@@ -143,9 +134,3 @@ under_not_before name other e = begun_not_before (key other) (key name) (begins_
 pub under_between : (other name far : List (List ℕ)) → is_under far other ≡ true → is_gt (canonical_cmp other name) ≡ false → is_gt (canonical_cmp name far) ≡ false → is_under name other ≡ true
 under_between other name far e low high =
     under_from_begins name other (begins_between (key other) (key name) (key far) (begins_from_under far other e) low high)
-
--- names that are the same are under the same names
-pub under_same : (name other far : List (List ℕ)) → is_same name other ≡ true → is_under name far ≡ is_under other far
-under_same name other far e = both_ways (is_under name far) (is_under other far)
-    (λ u. let front = front_from_under name far u in under_from_front other far front.0 (sym (folds_from_same name other e) ∙ front.1))
-    (λ u. let front = front_from_under other far u in under_from_front name far front.0 (folds_from_same name other e ∙ front.1))

@@ -2,10 +2,9 @@
 -- each to all behind it.
 use Rattle.std.proofs.Common.{◌≡◌, refl, sym, ap, ◌∙◌, ℕ, zero, suc, ◌+◌, ◌-◌, ◌<◌, ◌≤◌, Bool, true, false, ◌&&◌, ◌||◌, cond, List, [], ◌∷◌, ◌++◌, map, length, get_or, take, drop, true≢false, arith, Some}
 use Rattle.std.specs.Option.{IfSome, option_to_list}
-use Rattle.std.specs.List.{filter, find, list_any, list_all, AllPairs, AllAdjacentBelow, AllWithin, AllByRecursion, flat_map}
-use Rattle.std.proofs.lemmas.List.Folds.{list_any-append, list_all-append}
+use Rattle.std.specs.List.{filter, find, list_any, AllPairs, AllAdjacentBelow, AllWithin, AllByRecursion, flat_map}
+use Rattle.std.proofs.lemmas.List.Folds.{list_any-append}
 use Rattle.std.proofs.lemmas.List.Elements.{All-from_recursion, recursion_from_All, filter-append}
-use Rattle.std.specs.Cmp.{first_so, second_so}
 
 module _ {X : Type 0} (p : X → Bool) where
   -- where a test answers alike along a list, a filter keeps all or none
@@ -15,18 +14,12 @@ module _ {X : Type 0} (p : X → Bool) where
   filter_alike true (x ∷ xs) h = rw h.0 (ap (λ l. x ∷ l) (filter_alike true xs h.1))
   filter_alike false (x ∷ xs) h = rw h.0 (filter_alike false xs h.1)
 
-  -- and of such a list that isn't empty, any and all answer so too
+  -- and of such a list that isn't empty, any answers so too
   pub any_alike : (b : Bool) (xs : List X) → 0 < length xs → AllByRecursion (λ x. p x ≡ b) xs → list_any p xs ≡ b
   any_alike b [] l h = absurd (omega arith)
   any_alike true (x ∷ xs) l h = rw h.0 refl
   any_alike false (x ∷ []) l h = rw h.0 refl
   any_alike false (x ∷ y ∷ xs) l h = rw h.0 (any_alike false (y ∷ xs) (omega arith) h.1)
-
-  pub all_alike : (b : Bool) (xs : List X) → 0 < length xs → AllByRecursion (λ x. p x ≡ b) xs → list_all p xs ≡ b
-  all_alike b [] l h = absurd (omega arith)
-  all_alike false (x ∷ xs) l h = rw h.0 refl
-  all_alike true (x ∷ []) l h = rw h.0 refl
-  all_alike true (x ∷ y ∷ xs) l h = rw h.0 (all_alike true (y ∷ xs) (omega arith) h.1)
 
   -- a filter keeps the front, where the test passes there and nowhere behind
   pub filter_front : (xs : List X) (high : ℕ) → high ≤ length xs → AllWithin (λ x. p x ≡ true) xs 0 high → AllWithin (λ x. p x ≡ false) xs high (length xs) → filter p xs ≡ take high xs
@@ -68,20 +61,6 @@ module _ {X : Type 0} (p : X → Bool) where
   any_from_place [] low e l h k = absurd (omega arith)
   any_from_place (x ∷ xs) zero e l h k = or_first (p x) (list_any p xs) (λ any. let found = place_from_any xs x any in k (suc found.0) x (omega arith) (omega (arith, found.1)) found.2)
   any_from_place (x ∷ xs) (suc low) e l h k = rw (h 0 x (omega arith) (omega arith)) (any_from_place xs low e (omega arith) (λ i d a b. h (suc i) d (omega arith) (omega arith)) (λ i d a b. k (suc i) d (omega arith) (omega arith)))
-
-  -- where all pass, each does
-  pub each_from_all : (xs : List X) → list_all p xs ≡ true → AllByRecursion (λ x. p x ≡ true) xs
-  each_from_all [] h = tt
-  each_from_all (x ∷ xs) h = (first_so (p x) (list_all p xs) h, each_from_all xs (second_so (p x) (list_all p xs) h))
-
--- a filter by two tests, one after the other
-pub filter_both : {X : Type 0} (p q : X → Bool) (xs : List X) → filter (λ x. p x && q x) xs ≡ filter q (filter p xs)
-filter_both p q [] = refl
-filter_both {X} p q (x ∷ xs) = by (p x) (filter_both p q xs)
-  where
-    by : (b : Bool) → filter (λ x. p x && q x) xs ≡ filter q (filter p xs) → cond (b && q x) (x ∷ filter (λ x. p x && q x) xs) (filter (λ x. p x && q x) xs) ≡ filter q (cond b (x ∷ filter p xs) (filter p xs))
-    by true e = ap (λ l. cond (q x) (x ∷ l) l) e
-    by false e = e
 
 -- facts by recursion on a list
 module _ {X : Type 0} where
@@ -195,7 +174,3 @@ module _ {X : Type 0} where
     pub any_joined : (xss : List (List X)) → AllByRecursion (λ xs. 0 < length xs) xss → Agree xss → list_any p (flat_map (λ xs. xs) xss) ≡ list_any f xss
     any_joined [] s h = refl
     any_joined (xs ∷ xss) s h = list_any-append p xs (flat_map (λ ys. ys) xss) ∙ rw (any_alike p (f xs) xs s.0 h.0, any_joined xss s.1 h.1) refl
-
-    pub all_joined : (xss : List (List X)) → AllByRecursion (λ xs. 0 < length xs) xss → Agree xss → list_all p (flat_map (λ xs. xs) xss) ≡ list_all f xss
-    all_joined [] s h = refl
-    all_joined (xs ∷ xss) s h = list_all-append p xs (flat_map (λ ys. ys) xss) ∙ rw (all_alike p (f xs) xs s.0 h.0, all_joined xss s.1 h.1) refl

@@ -2,7 +2,7 @@
 use Rattle.std.proofs.Common.{◌≡◌, refl, sym, ap, ℕ, ◌<◌, Bool, true, List, length, true≢false}
 use Rattle.std.specs.declared.cmp.Ordering.{Ordering}
 use Rattle.std.specs.declared.cmp.Ordering.TheVariants.{Less, Equal, Greater}
-use Rattle.std.specs.List.{filter, list_any, list_all, All, AllByRecursion}
+use Rattle.std.specs.List.{filter, list_any, All, AllByRecursion}
 use Rattle.std.specs.Ordering.{is_lt}
 use Rattle.std.specs.Cmp.{IsTotalOrder}
 use Rattle.std.proofs.lemmas.Cmp.{on_total, then_total, nat_cmp_total, nat_list_cmp_total}
@@ -10,7 +10,7 @@ use Rattle.std.proofs.lemmas.List.Elements.{recursion_from_All}
 use Rattle.dns_rdata.specs.Record.{Record, record_cmp, owner_of, rtype_of}
 use Rattle.zone_tree.specs.Sets.{records_in, set_cmp, IsSetBefore, IsOf, IsRRset}
 use Rattle.zone_tree.proofs.NameOrder.{canonical_total}
-use Rattle.zone_tree.proofs.Rising.{each_weaker, Agree, filter_joined, any_joined, all_joined}
+use Rattle.zone_tree.proofs.Rising.{each_weaker, Agree, filter_joined, any_joined}
 
 -- the order of sets is a total order
 pub set_total : IsTotalOrder set_cmp
@@ -38,12 +38,9 @@ owners_agree q sets h =
     (λ set k. each_weaker (IsOf set) (λ r. q r.owner r.rtype ≡ q (owner_of set) (rtype_of set)) (λ r m. λ i. q (m.owner i) (m.rtype i)) set (recursion_from_All (IsOf set) set k.shared))
     sets (recursion_from_All IsRRset sets h)
 
--- what a test of owner and type keeps of the records, and whether any or all pass, by the sets
+-- what a test of owner and type keeps of the records, and whether any pass, by the sets
 pub filter_by_sets : (q : List (List ℕ) → ℕ → Bool) (sets : List (List Record)) → All IsRRset sets → filter (λ r. q r.owner r.rtype) (records_in sets) ≡ records_in (filter (λ set. q (owner_of set) (rtype_of set)) sets)
 filter_by_sets q sets h = filter_joined (λ r. q r.owner r.rtype) (λ set. q (owner_of set) (rtype_of set)) sets (owners_agree q sets h)
 
 pub any_by_sets : (q : List (List ℕ) → ℕ → Bool) (sets : List (List Record)) → All IsRRset sets → list_any (λ r. q r.owner r.rtype) (records_in sets) ≡ list_any (λ set. q (owner_of set) (rtype_of set)) sets
 any_by_sets q sets h = any_joined (λ r. q r.owner r.rtype) (λ set. q (owner_of set) (rtype_of set)) sets (some_each sets h) (owners_agree q sets h)
-
-pub all_by_sets : (q : List (List ℕ) → ℕ → Bool) (sets : List (List Record)) → All IsRRset sets → list_all (λ r. q r.owner r.rtype) (records_in sets) ≡ list_all (λ set. q (owner_of set) (rtype_of set)) sets
-all_by_sets q sets h = all_joined (λ r. q r.owner r.rtype) (λ set. q (owner_of set) (rtype_of set)) sets (some_each sets h) (owners_agree q sets h)

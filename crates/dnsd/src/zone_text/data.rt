@@ -69,11 +69,7 @@ fn push_soa(octets: &mut Vec<u8>, words: &mut Words<'_>, origin: &Name) -> Resul
 }
 
 /// Strings, one or more, each of at most 255 octets behind its length (RFC 1035, 3.3.14).
-fn push_strings(
-    alloc: Global,
-    octets: &mut Vec<u8>,
-    words: &mut Words<'_>,
-) -> Result<(), Cause> {
+fn push_strings(alloc: Global, octets: &mut Vec<u8>, words: &mut Words<'_>) -> Result<(), Cause> {
     let mut word = Some(words.due()?);
     for _ in 0..u64::MAX {
         let Some(written) = word else {

@@ -1,6 +1,6 @@
 //! What is wrong with a zone's text.
-use dns_rdata::{DataFault, SetFault};
 use dns_name::NameFault;
+use dns_rdata::{DataFault, SetFault};
 use std::alloc::AllocError;
 use thiserror::Error;
 

@@ -91,7 +91,11 @@ impl Gathered {
         let Some(apex) = &self.apex else {
             return Err(told(0, Cause::Apex));
         };
-        if !self.owners.get(apex).is_some_and(|owner| owner.has(RType::NS)) {
+        if !self
+            .owners
+            .get(apex)
+            .is_some_and(|owner| owner.has(RType::NS))
+        {
             return Err(told(0, Cause::Apex));
         }
         if let Some(line) = self.first_outside(apex) {
@@ -139,9 +143,7 @@ impl Owner {
             }
         }
         let set = RRset::new(alloc, &owner, ttl, data)?;
-        self.sets
-            .insert(place, set)
-            .map_err(|_| Cause::NoMemory)?;
+        self.sets.insert(place, set).map_err(|_| Cause::NoMemory)?;
         Ok(true)
     }
 

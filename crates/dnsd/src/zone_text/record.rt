@@ -1,5 +1,6 @@
 //! A record as a line of text.
 ghost use Rattle.std.specs.Prelude.{◌<◌, ◌^◌, IfOk};
+
 use super::data::read_data;
 use super::fault::Cause;
 use super::words::{Word, Words, is_number, number};
@@ -49,14 +50,22 @@ fn owner(word: Word<'_>, origin: &Name) -> Result<Name, Cause> {
         return Err(Cause::BadData);
     }
     let owner = Name::from_text(text, origin)?;
-    if is_whole(text) { Ok(owner) } else { Err(Cause::BadData) }
+    if is_whole(text) {
+        Ok(owner)
+    } else {
+        Err(Cause::BadData)
+    }
 }
 
 /// Whether a name's text has a final dot, one that no backslash stands before.
 fn is_whole(text: &[u8]) -> bool {
     match text {
         [front @ .., b'.'] => {
-            let escapes = front.iter().rev().take_while(|octet| **octet == b'\\').count();
+            let escapes = front
+                .iter()
+                .rev()
+                .take_while(|octet| **octet == b'\\')
+                .count();
             escapes % 2 == 0
         }
         _ => false,

@@ -1,5 +1,6 @@
 //! The words of a line.
 ghost use Rattle.std.specs.Prelude.{◌<◌, ◌≤◌, length, IfOk, IfSome};
+
 use super::fault::Cause;
 use dns_name::Name;
 use std::alloc::Global;
@@ -102,9 +103,7 @@ pub fn number(word: Word<'_>, most: u32) -> Result<u32, Cause>
     ensures { IfOk result (λ n. n ≤ most) }
 {
     match word {
-        Word::Plain(digits) if is_number(digits) => {
-            decimal(digits, most).ok_or(Cause::Number)
-        }
+        Word::Plain(digits) if is_number(digits) => { decimal(digits, most).ok_or(Cause::Number) }
         _ => Err(Cause::Number),
     }
 }

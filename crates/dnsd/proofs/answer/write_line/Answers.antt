@@ -11,7 +11,7 @@ returns-in-None g c =
     let line_is = c.without_lf.ensures ∙ ap (strip_last 10) c.as_slice.ensures.value in
     let room : length c.args.buffers.now.request ≡ 65535 = omega arith in
     let refused = line_for-refused (g.Z.ZoneRead.records c.args.zone.now) (strip_last 10 c.args.buffers.now.line.items) (λ octets e. let long : length c.args.buffers.now.request < length octets = c.in-None.ensures octets (ap decode_of line_is ∙ e) in omega (arith, long, room)) in
-    rw refused c.write_all.ensures.bytes
+    rw refused c.write_whole.ensures
 
 pub returns-in-Some : goal.returns-in-Some
 returns-in-Some g c =
