@@ -1,5 +1,5 @@
 -- The reply to a request (RFC 1034, 4.3.2; RFC 1035, 4.1; the order of the refusals is our own choice).
-use Rattle.std.specs.Prelude.{ℕ, Bool, true, false, ◌||◌, not, ◌==◌, List, [], Option, Some, None, if◌then◌else◌}
+use Rattle.std.specs.Prelude.{ℕ, false, ◌||◌, not, ◌==◌, List, [], Option, Some, None, if◌then◌else◌}
 use Rattle.dns_name.specs.Name.{is_under}
 use Rattle.dns_rdata.specs.declared.numbers.Rcode.{Rcode}
 use Rattle.dns_rdata.specs.declared.numbers.Rcode.TheVariants.{ServFail, NotImp, Refused}

@@ -1,6 +1,4 @@
-use Rattle.std.proofs.Common.{◌≡◌, ◌++◌, ℕ, List, Option, Some}
-use Rattle.std.specs.Io.KnownBytes.{Appends}
-use Rattle.dnsd.specs.Lines.{output_of}
+use Rattle.std.proofs.Common.{◌≡◌, ℕ, List, Some}
 use Rattle.dnsd.proofs.LinesLemmas.{IsOnTheWay}
 use Rattle.dnsd.proofs.answer.run_answer.Given as goal
 

@@ -1,7 +1,6 @@
-use Rattle.std.proofs.Common.{◌≡◌, ◌<◌, ◌≤◌, arith, sym, ap, ◌∙◌, Ok, length, take, ℕ, List}
+use Rattle.std.proofs.Common.{◌≡◌, ◌<◌, arith, sym, ap, ◌∙◌, length, take}
 use Rattle.std.specs.Io.BufRead.{strip_last}
 use Rattle.hex.specs.Hex.{decode_of}
-use Rattle.dnsd.specs.Lines.{line_for, written, MOST_OCTETS}
 use Rattle.std.proofs.lemmas.List.{length-take}
 use Rattle.dnsd.proofs.LinesLemmas.{line_for-refused, line_for-request}
 use Rattle.dnsd.proofs.answer.write_line.Goals as goal
