@@ -1,4 +1,5 @@
 pub mod Asked
+pub mod Examples
 pub mod Message
 pub mod Puts
 pub mod Reads

@@ -11,10 +11,12 @@ mod query;
 mod read;
 mod records;
 mod reply;
+mod worked;
 mod write;
 
 pub use laws::{one_question, question_is_read_again, silent_is_short_or_reply};
 pub use query::{Head, Parsed, Query, Question};
 pub use read::{HEADER, parse};
 pub use reply::Reply;
+pub use worked::examples;
 pub use write::{MAX_LIMIT, MIN_LIMIT, write_reply};

@@ -2,6 +2,7 @@
 use crate::command::{Command, CommandFault, Source, parse_words};
 use crate::run::run_text;
 use dns_name::Name;
+use std::alloc::AllocError;
 use std::io::Cursor;
 use std::process::Abort;
 use std::test::Fail;
@@ -23,12 +24,11 @@ web.example.test. 3600 IN A 192.0.2.10\n\
 www.example.test. 3600 IN CNAME web.example.test.\n";
 
 /// The command `answer` over standard input, with an origin.
-fn answer(origin: &[u8]) -> Option<Command<'static>> {
-    let origin = Name::from_text(origin, &Name::root()).ok()?;
-    Some(Command::Answer {
+fn answer(rt: &impl Abort, origin: &[u8]) -> Command<'static> {
+    Command::Answer {
         zone: Source::Input,
-        origin,
-    })
+        origin: Name::from_text(origin, &Name::root()).expect(rt, "an origin"),
+    }
 }
 
 /// What `answer` writes for a zone's text and requests, its status, and what it tells of errors.
@@ -36,9 +36,9 @@ fn run(
     rt: &(impl AllocGlobal + Abort),
     zone: &str,
     requests: &str,
-) -> Result<(u8, String, String), Fail> {
+) -> Result<(u8, String, String), AllocError> {
     let alloc = rt.alloc();
-    let command = answer(b"example.test.").ok_or("an origin")?;
+    let command = answer(rt, b"example.test.");
     let input = format!(in alloc; "{zone}%\n{requests}")?;
     let mut reader = Cursor::new(input.as_bytes());
     let mut written = Vec::new(alloc);
@@ -402,4 +402,29 @@ fn command_lines(rt: HostRuntime) -> Result<(), Fail> {
         assert_eq!(rt; parsed.is_ok(), is_command, "{words:?}");
     }
     Ok(())
+}
+
+/// Whether a run wrote the reply; else it said that it had no memory, and wrote nothing, or the test itself had none.
+fn wrote_or_had_no_memory(rt: &(impl AllocGlobal + Abort), request: &str, reply: &str) -> bool {
+    let Ok((status, written, errors)) = run(rt, ZONE, request) else {
+        return false;
+    };
+    if status == 0 {
+        assert!(rt; written.as_str() == reply);
+        return true;
+    }
+    assert!(rt; written.is_empty() || reply.starts_with(written.as_str()));
+    assert!(rt; status == 3 || errors.as_str().ends_with(": M14 NoMemory\n"));
+    false
+}
+
+// Under a request for memory that is refused: that run says so, and the other of the two is as ever.
+#[test]
+fn refused_growth(rt: HostRuntime) {
+    let request = "12340100000100000000000003776562076578616d706c6504746573740000010001\n";
+    let reply =
+        "12348500000100010000000003776562076578616d706c650474657374000001000103776562076578616d706c650474657374000001000100000e100004c000020a\n";
+    let first = wrote_or_had_no_memory(&rt, request, reply);
+    let second = wrote_or_had_no_memory(&rt, request, reply);
+    assert!(rt; first || second);
 }
