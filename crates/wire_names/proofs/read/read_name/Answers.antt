@@ -1,0 +1,65 @@
+use Rattle.std.proofs.Common.{Ok, ap, sym, ◌∙◌}
+use Rattle.std.proofs.lemmas.Result.{err_from_is_err_and}
+use Rattle.wire_names.specs.Spells.{Refuses, no_part}
+use Rattle.wire_names.specs.declared.part.NameReadFault.TheVariants.{BadPointer, TooLong}
+use Rattle.wire_names.proofs.GrammarLemmas.{IsLabelAt-part, computed_fault}
+use Rattle.wire_names.proofs.ReadLemmas.{IsClosed, UnderWay-put, UnderWay-pointer, IsClosed-way, computed_closed, refused_label, Refused-pointer, name_in-way, some_name, named}
+use Rattle.wire_names.proofs.read.read_name.Goals as goal
+
+pub returns-in_err-part_at-clause-refused : goal.returns-in_err-part_at-clause-refused
+returns-in_err-part_at-clause-refused c =
+    let p = err_from_is_err_and c.from_residual.result c.from_residual.ensures.1 in
+    rw (p.1, p.2) (c.loop-octets.invariant.refused _ (no_part (sym c.part_at.ensures ∙ c.in_err-part_at.was)))
+
+pub returns-in_err-part_at-clause-computed : goal.returns-in_err-part_at-clause-computed
+returns-in_err-part_at-clause-computed c =
+    let p = err_from_is_err_and c.from_residual.result c.from_residual.ensures.1 in
+    rw (p.1, p.2) (sym (computed_fault _ _ _ (c.loop-octets.invariant.refused _ (no_part (sym c.part_at.ensures ∙ c.in_err-part_at.was)))))
+
+pub unwrap-name-requires : goal.unwrap-name-requires
+unwrap-name-requires c =
+    some_name c.from_wire.result c.as_slice.result.now _ c.from_wire.ensures.name (name_in-way _ _ _ _ _ _ _ c.loop-octets.invariant (c.as_slice.ensures.value ∙ c.push.ensures.items))
+
+closed : (c : goal.After-unwrap_or) → IsClosed c.args.msg.now c.args.at c.unwrap-name.result.0 c.unwrap_or.result
+closed c =
+    IsClosed-way _ _ _ _ _ _ _ c.as_slice.result.now _ c.loop-octets.invariant (sym c.part_at.ensures ∙ c.in_ok-part_at.was ∙ ap Ok c.in-Closing.is) (c.as_slice.ensures.value ∙ c.push.ensures.items) (named c.from_wire.result c.unwrap-name.result c.as_slice.result.now c.unwrap-name.ensures c.from_wire.ensures.name) c.unwrap_or.ensures
+
+pub returns-in-Closing-clause-found : goal.returns-in-Closing-clause-found
+returns-in-Closing-clause-found c = (closed c).spells
+
+pub returns-in-Closing-clause-lawful : goal.returns-in-Closing-clause-lawful
+returns-in-Closing-clause-lawful c = (closed c).lawful
+
+pub returns-in-Closing-clause-computed : goal.returns-in-Closing-clause-computed
+returns-in-Closing-clause-computed c = computed_closed _ _ _ _ (closed c)
+
+pub label_at-requires : goal.label_at-requires
+label_at-requires c =
+    let is = IsLabelAt-part c.args.msg.now c.loop-octets.place c.in-Label.len (sym c.part_at.ensures ∙ c.in_ok-part_at.was ∙ ap Ok c.in-Label.is) in
+    is.within
+
+long : (c : goal.Then-not-put_label) → Refuses c.args.msg.now c.args.at c.args.at 0 TooLong
+long c = refused_label _ _ _ _ _ _ _ _ _ c.loop-octets.invariant (sym c.part_at.ensures ∙ c.in_ok-part_at.was ∙ ap Ok c.in-Label.is) c.label_at.ensures c.if-not-put_label.true c.put_label.ensures.room.1
+
+pub returns-then-not-put_label-clause-refused : goal.returns-then-not-put_label-clause-refused
+returns-then-not-put_label-clause-refused c = long c
+
+pub returns-then-not-put_label-clause-computed : goal.returns-then-not-put_label-clause-computed
+returns-then-not-put_label-clause-computed c = sym (computed_fault _ _ _ (long c))
+
+pub loop-octets-preserved-in-Label : goal.loop-octets-preserved-in-Label
+loop-octets-preserved-in-Label c =
+    UnderWay-put _ _ _ _ _ _ _ _ _ _ c.loop-octets.invariant (sym c.part_at.ensures ∙ c.in_ok-part_at.was ∙ ap Ok c.in-Label.is) c.label_at.ensures c.if-not-put_label.false c.put_label.ensures.room.0 c.put_label.ensures.put
+
+up : (c : goal.Then-target-run) → Refuses c.args.msg.now c.args.at c.args.at 0 BadPointer
+up c = Refused-pointer _ _ _ _ _ _ _ c.loop-octets.invariant (sym c.part_at.ensures ∙ c.in_ok-part_at.was ∙ ap Ok c.in-Pointer.is) c.if-target-run.true
+
+pub returns-then-target-run-clause-refused : goal.returns-then-target-run-clause-refused
+returns-then-target-run-clause-refused c = up c
+
+pub returns-then-target-run-clause-computed : goal.returns-then-target-run-clause-computed
+returns-then-target-run-clause-computed c = sym (computed_fault _ _ _ (up c))
+
+pub loop-octets-preserved : goal.loop-octets-preserved
+loop-octets-preserved c =
+    UnderWay-pointer _ _ _ _ _ _ _ _ c.loop-octets.invariant (sym c.part_at.ensures ∙ c.in_ok-part_at.was ∙ ap Ok c.in-Pointer.is) c.if-target-run.false c.unwrap_or-in-Pointer.ensures

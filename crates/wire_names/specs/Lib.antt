@@ -1,0 +1,3 @@
+pub mod NameAt
+pub mod Parts
+pub mod Spells

@@ -1,0 +1,36 @@
+//! Laws of the definitions, each the contract of a function that does nothing, and worked examples.
+ghost use Rattle.std.specs.Prelude.{◌≡◌, ℕ, ◌+◌, ◌≤◌, ◌↔◌, List, [], ◌∷◌, length, All, Ok, Err};
+ghost use Rattle.dns_name.specs.Name.{wire_of, IsLabel};
+ghost use Rattle.wire_names.specs.declared.part.NameReadFault.{NameReadFault};
+ghost use Rattle.wire_names.specs.declared.part.NameReadFault.TheVariants.{Short, BadLength, BadPointer};
+ghost use Rattle.wire_names.specs.NameAt.{name_at};
+ghost use Rattle.wire_names.specs.Spells.{Spells, Refuses};
+
+/// A place spells at most one name, of lawful labels, and reading goes on at one place; what it spells isn't refused
+/// where it fits into 255 octets (RFC 1035, 4.1.4).
+pub fn one_reading()
+    ensures once { (msg : List ℕ) (run at next beyond : ℕ) (name other : List (List ℕ)) → Spells msg run at name next → Spells msg run at other beyond → (name ≡ other) × (next ≡ beyond) }
+    ensures labels { (msg : List ℕ) (run at next : ℕ) (name : List (List ℕ)) → Spells msg run at name next → All IsLabel name }
+    ensures apart { (msg : List ℕ) (run at used next : ℕ) (name : List (List ℕ)) (fault : NameReadFault) → Spells msg run at name next → used + length (wire_of name) ≤ 255 → Refuses msg run at used fault → ⊥ }
+{}
+
+/// A place has at most one fault: the first in reading order.
+pub fn one_fault()
+    ensures { (msg : List ℕ) (at : ℕ) (fault other : NameReadFault) → Refuses msg at at 0 fault → Refuses msg at at 0 other → fault ≡ other }
+{}
+
+/// What is computed at a place is the name that it spells, where that fits into 255 octets, and else its fault.
+pub fn name_at_is()
+    ensures spelt { (msg : List ℕ) (at next : ℕ) (name : List (List ℕ)) → (name_at msg at ≡ Ok (name, next)) ↔ (Spells msg at at name next × (length (wire_of name) ≤ 255)) }
+    ensures refused { (msg : List ℕ) (at : ℕ) (fault : NameReadFault) → (name_at msg at ≡ Err fault) ↔ Refuses msg at at 0 fault }
+{}
+
+/// Worked examples of the definitions: a label before a pointer down to a zero octet, a pointer to its own run's
+/// start, a length octet of 64, and a label that is cut (RFC 1035, 4.1.4).
+#[tactic(auto, unfolding(crate::specs::NameAt::name_at, crate::specs::NameAt::name_from))]
+pub fn examples()
+    ensures down { name_at (0 ∷ 1 ∷ 97 ∷ 192 ∷ 0 ∷ []) 1 ≡ Ok ((97 ∷ []) ∷ [], 5) }
+    ensures own_start { name_at (0 ∷ 1 ∷ 97 ∷ 192 ∷ 1 ∷ []) 1 ≡ Err BadPointer }
+    ensures bits { name_at (64 ∷ []) 0 ≡ Err BadLength }
+    ensures cut { name_at (1 ∷ 97 ∷ []) 0 ≡ Err Short }
+{}

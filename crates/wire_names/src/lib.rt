@@ -1,0 +1,15 @@
+//! Names inside messages: reading them through pointers (RFC 1035, 4.1.4).
+//!
+//! Contracts see a message as the list of its octets and a name as the list of its labels. No call takes memory.
+#![tactic(auto)]
+
+mod laws;
+mod part;
+mod read;
+
+pub use laws::{examples, name_at_is, one_fault, one_reading};
+pub use part::NameReadFault;
+pub use read::read_name;
+
+#[cfg(test)]
+mod tests;

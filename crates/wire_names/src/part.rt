@@ -1,0 +1,101 @@
+//! What stands at one place of a name: its end, a label or a pointer (RFC 1035, 4.1.4).
+ghost use Rattle.std.specs.Prelude.{◌≡◌, ◌+◌, ◌<◌, ◌≤◌, length};
+ghost use Rattle.wire_names.specs.Parts.{part_at, part_of, label_of, pointer_of, label_at};
+
+use dns_name::MAX_LABEL;
+use thiserror::Error;
+
+/// The least first octet of a pointer: its two highest bits are ones (RFC 1035, 4.1.4).
+const POINTER: usize = 192;
+
+/// How many places the second octet of a pointer tells apart.
+const SECOND_OCTET: usize = 256;
+
+/// Why octets spell no name. The first fault in reading order is told.
+#[derive(Clone, Copy, Debug, PartialEq, Eq, Error)]
+pub enum NameReadFault {
+    /// The message ends inside the name.
+    #[error("F1 Short")]
+    Short,
+    /// The two highest bits of a length octet are 01 or 10, which stand for nothing (RFC 1035, 4.1.4).
+    #[error("F2 BadLength")]
+    BadLength,
+    /// A pointer's target isn't below the place where its run of labels began (RFC 1035, 4.1.4; own).
+    #[error("F3 BadPointer")]
+    BadPointer,
+    /// More than 255 octets once written in full, the closing zero octet counted at each label (RFC 1035, 2.3.4).
+    #[error("F4 TooLong")]
+    TooLong,
+}
+
+/// What stands at one place of a name.
+#[derive(Clone, Copy)]
+pub(crate) enum Part {
+    /// The zero octet that closes the name.
+    Closing,
+    /// A label of this many octets, behind its length octet.
+    Label(usize),
+    /// A pointer to this position.
+    Pointer(usize),
+}
+
+/// What stands at a position of the message. Short where the message ends inside it, BadLength where it is neither
+/// a label nor a pointer (RFC 1035, 4.1.4).
+pub(crate) fn part_at(msg: &[u8], at: usize) -> Result<Part, NameReadFault>
+    ensures { result ≡ part_at msg.now at }
+{
+    if at >= msg.len() {
+        return Err(NameReadFault::Short);
+    }
+    part_of(&msg[at..])
+}
+
+/// What the octets begin with.
+fn part_of(octets: &[u8]) -> Result<Part, NameReadFault>
+    ensures { result ≡ part_of octets.now }
+{
+    let [first, rest @ ..] = octets else {
+        return Err(NameReadFault::Short);
+    };
+    let first = usize::from(*first);
+    if first == 0 {
+        return Ok(Part::Closing);
+    }
+    if first <= MAX_LABEL {
+        return label_of(first, rest);
+    }
+    if first < POINTER {
+        return Err(NameReadFault::BadLength);
+    }
+    pointer_of(first - POINTER, rest)
+}
+
+/// A label of so many octets, where they are there.
+fn label_of(len: usize, rest: &[u8]) -> Result<Part, NameReadFault>
+    ensures { result ≡ label_of len rest.now }
+{
+    if len <= rest.len() {
+        Ok(Part::Label(len))
+    } else {
+        Err(NameReadFault::Short)
+    }
+}
+
+/// The pointer whose first octet has these six low bits, where its second octet is there.
+fn pointer_of(high: usize, rest: &[u8]) -> Result<Part, NameReadFault>
+    requires { high < 64 }
+    ensures { result ≡ pointer_of high rest.now }
+{
+    match rest {
+        [low, ..] => Ok(Part::Pointer(high * SECOND_OCTET + usize::from(*low))),
+        [] => Err(NameReadFault::Short),
+    }
+}
+
+/// The octets of a label of so many octets whose length octet stands at a position.
+pub(crate) fn label_at(msg: &[u8], at: usize, len: usize) -> &[u8]
+    requires { at + 1 + len ≤ length msg.now }
+    ensures { result.now ≡ label_at msg.now at len }
+{
+    &msg[at + 1..at + 1 + len]
+}

@@ -1,0 +1,112 @@
+//! Outside values.
+use crate::part::NameReadFault;
+use crate::read::read_name;
+use std::test::Fail;
+
+/// The message of RFC 1035, 4.1.4, with names at the positions 20, 40, 64 and 92.
+fn rfc_message() -> [u8; 93] {
+    let mut msg = [0; 93];
+    msg[20..32].copy_from_slice(b"\x01F\x03ISI\x04ARPA\x00");
+    msg[40..46].copy_from_slice(b"\x03FOO\xc0\x14");
+    msg[64..66].copy_from_slice(b"\xc0\x1a");
+    msg
+}
+
+#[test]
+fn names_of_the_rfc(rt: HostRuntime) -> Result<(), Fail> {
+    // RFC 1035, 4.1.4: a position, the name there in full, and the position where reading goes on.
+    let cases = [
+        (20, b"\x01F\x03ISI\x04ARPA\x00".as_slice(), 32),
+        (40, b"\x03FOO\x01F\x03ISI\x04ARPA\x00".as_slice(), 46),
+        (64, b"\x04ARPA\x00".as_slice(), 66),
+        (92, b"\x00".as_slice(), 93),
+    ];
+    let msg = rfc_message();
+    for (at, wire, behind) in cases {
+        let (name, next) = read_name(&msg, at)?;
+        assert_eq!(rt; name.wire(), wire, "at {at}");
+        assert_eq!(rt; next, behind, "at {at}");
+    }
+    Ok(())
+}
+
+#[test]
+fn faults(rt: HostRuntime) -> Result<(), Fail> {
+    // RFC 1035, 4.1.4: octets, a position, and what is wrong with the name there.
+    let cases = [
+        (b"".as_slice(), 0, NameReadFault::Short),
+        (b"\x00".as_slice(), 1, NameReadFault::Short),
+        (b"\x01a".as_slice(), 0, NameReadFault::Short),
+        (b"\x02a".as_slice(), 0, NameReadFault::Short),
+        (b"\x00\xc0".as_slice(), 1, NameReadFault::Short),
+        (b"\x40".as_slice(), 0, NameReadFault::BadLength),
+        (b"\x80".as_slice(), 0, NameReadFault::BadLength),
+        (b"\xc0\x00".as_slice(), 0, NameReadFault::BadPointer),
+        (b"\xc0\x02\x00".as_slice(), 0, NameReadFault::BadPointer),
+        (b"\x01a\xc0\x00".as_slice(), 0, NameReadFault::BadPointer),
+        (
+            b"\x00\x01a\xff\xff".as_slice(),
+            1,
+            NameReadFault::BadPointer,
+        ),
+    ];
+    for (octets, at, want) in cases {
+        let fault = read_name(octets, at).err();
+        assert_eq!(rt; fault, Some(want), "{octets:?} at {at}");
+    }
+    Ok(())
+}
+
+#[test]
+fn limits(rt: HostRuntime) -> Result<(), Fail> {
+    // RFC 1035, 2.3.4: the lengths of labels, and whether they are a name; a cut label is told first.
+    let cases = [
+        ([63, 63, 63, 61], 255, None),
+        ([63, 63, 63, 62], 256, Some(NameReadFault::TooLong)),
+        ([63, 63, 63, 62], 254, Some(NameReadFault::Short)),
+    ];
+    for (lens, octets, want) in cases {
+        let mut msg = Vec::new(rt.alloc());
+        for len in lens {
+            msg.push(len)?;
+            for _ in 0..len {
+                msg.push(b'a')?;
+            }
+        }
+        msg.push(0)?;
+        msg.truncate(octets);
+        assert_eq!(rt; read_name(&msg, 0).err(), want, "{lens:?}");
+    }
+    Ok(())
+}
+
+#[test]
+fn chain_of_pointers(rt: HostRuntime) -> Result<(), Fail> {
+    // A zero octet, then 4,000 pointers, each to the one before it.
+    let mut msg = Vec::new(rt.alloc());
+    msg.push(0)?;
+    msg.extend_from_slice(b"\xc0\x00")?;
+    for k in 0..3999_u16 {
+        let before = 2 * k + 1;
+        msg.extend_from_slice(&(0xc000 | before).to_be_bytes())?;
+    }
+    let (name, next) = read_name(&msg, 7999)?;
+    assert!(rt; name.is_root());
+    assert_eq!(rt; next, 8001);
+    Ok(())
+}
+
+#[test]
+fn texts(rt: HostRuntime) -> Result<(), Fail> {
+    let cases = [
+        (NameReadFault::Short, "F1 Short"),
+        (NameReadFault::BadLength, "F2 BadLength"),
+        (NameReadFault::BadPointer, "F3 BadPointer"),
+        (NameReadFault::TooLong, "F4 TooLong"),
+    ];
+    for (fault, text) in cases {
+        let told = format!(in rt.alloc(); "{fault}")?;
+        assert_eq!(rt; told.as_str(), text);
+    }
+    Ok(())
+}
