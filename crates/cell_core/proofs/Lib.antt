@@ -1,0 +1,3 @@
+pub mod CountLemmas
+pub mod LawLemmas
+pub mod MachineLemmas

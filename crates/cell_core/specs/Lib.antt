@@ -1,0 +1,4 @@
+pub mod Cell
+pub mod Example
+pub mod Kept
+pub mod Steps

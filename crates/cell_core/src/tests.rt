@@ -1,0 +1,138 @@
+//! The worked example on a machine, and refused growth.
+use crate::follows::Follows;
+use crate::laws::{
+    buried_was_published, examples, follows_goes_on, last_is_not_buried, only_grows,
+    owned_is_not_buried, owned_was_published, owners_keep_their_value, up_gives_that_number,
+};
+use crate::machine::Machine;
+use crate::step::{Event, Step, StepFault};
+use std::alloc::Global;
+use std::process::Abort;
+use std::test::Fail;
+
+/// Numbers that never fall.
+struct Rising;
+
+impl Follows<u64> for Rising {
+    ghost use Rattle.std.specs.Prelude.{◌≤◌};
+
+    ghost follows = { λ value next. value ≤ next };
+}
+
+// The first value is loaded, published over and buried when it has lost its two owners, the loader and the publisher.
+#[test]
+fn worked_example(rt: HostRuntime) -> Result<(), Fail> {
+    let mut machine = Machine::new(rt.alloc(), 10u64)?;
+    let cases = [
+        (Step::Load, Ok(Event::Loaded(0))),
+        (Step::Bury(0), Err(StepFault::NotEnabled)),
+        (Step::Publish(20), Ok(Event::Published(0))),
+        (Step::Load, Ok(Event::Loaded(1))),
+        (Step::Drop(0), Ok(Event::Dropped)),
+        (Step::Bury(0), Err(StepFault::NotEnabled)),
+        (Step::Drop(0), Ok(Event::Dropped)),
+        (Step::Drop(0), Err(StepFault::NotEnabled)),
+        (Step::Bury(0), Ok(Event::Buried)),
+        (Step::Bury(0), Err(StepFault::NotEnabled)),
+        (Step::Bury(1), Err(StepFault::NotEnabled)),
+        (Step::Bury(u64::MAX), Err(StepFault::NotEnabled)),
+        (Step::Drop(1), Ok(Event::Dropped)),
+    ];
+    for (step, want) in cases {
+        assert_eq!(rt; machine.step(step), want);
+    }
+    assert_eq!(rt; machine.last(), 1);
+    assert_eq!(rt; machine.value(0).copied(), Some(10));
+    assert_eq!(rt; machine.value(1).copied(), Some(20));
+    assert_eq!(rt; machine.value(2).copied(), None);
+    Ok(())
+}
+
+// Values that borrow.
+#[test]
+fn borrowed_values(rt: HostRuntime) -> Result<(), Fail> {
+    let mut machine = Machine::new(rt.alloc(), "one")?;
+    assert_eq!(rt; machine.step(Step::Publish("two")), Ok(Event::Published(0)));
+    assert_eq!(rt; machine.step(Step::Drop(0)), Ok(Event::Dropped));
+    assert_eq!(rt; machine.step(Step::Bury(0)), Ok(Event::Buried));
+    assert_eq!(rt; machine.value(0).copied(), Some("one"));
+    assert_eq!(rt; machine.value(1).copied(), Some("two"));
+    assert_eq!(rt; machine.last(), 1);
+    Ok(())
+}
+
+/// Makes a step, once more where a growth was refused: the machine was then as before.
+fn made<R: Abort>(rt: &R, machine: &mut Machine<u64>, step: Step<u64>, again: Step<u64>) -> Event {
+    let last = machine.last();
+    match machine.step(step) {
+        Ok(event) => event,
+        Err(fault) => {
+            assert_eq!(rt; fault, StepFault::NoMemory);
+            assert_eq!(rt; machine.last(), last);
+            machine.step(again).expect(rt, "memory")
+        }
+    }
+}
+
+/// The machine in which 0 is published, made once more where a growth was refused.
+fn started<R: Abort>(rt: &R, alloc: Global) -> Machine<u64> {
+    match Machine::new(alloc, 0) {
+        Ok(machine) => machine,
+        Err(fault) => {
+            assert_eq!(rt; fault, StepFault::NoMemory);
+            Machine::new(alloc, 0).expect(rt, "memory")
+        }
+    }
+}
+
+// With any one growth refused, the fault is NoMemory, the same step works once more, and in the end each number has its
+// two owners and no other: the refused steps gave none.
+#[test]
+fn refused_growth(rt: HostRuntime) {
+    let mut machine = started(&rt, rt.alloc());
+    for value in 1..40u64 {
+        let loaded = made(&rt, &mut machine, Step::Load, Step::Load);
+        assert_eq!(rt; loaded, Event::Loaded(value - 1));
+        let published = made(
+            &rt,
+            &mut machine,
+            Step::Publish(value),
+            Step::Publish(value),
+        );
+        assert_eq!(rt; published, Event::Published(value - 1));
+        assert_eq!(rt; machine.value(value).copied(), Some(value));
+    }
+    for number in 0..39u64 {
+        assert_eq!(rt; machine.step(Step::Drop(number)), Ok(Event::Dropped));
+        assert_eq!(rt; machine.step(Step::Drop(number)), Ok(Event::Dropped));
+        assert_eq!(rt; machine.step(Step::Bury(number)), Ok(Event::Buried));
+    }
+    assert_eq!(rt; machine.last(), 39);
+}
+
+// The words of the faults.
+#[test]
+fn words(rt: HostRuntime) -> Result<(), Fail> {
+    let cases = [
+        (StepFault::NotEnabled, "C1 NotEnabled"),
+        (StepFault::NoMemory, "C2 NoMemory"),
+    ];
+    for (fault, words) in cases {
+        assert_eq!(rt; format!(in rt.alloc(); "{fault}")?.as_str(), words);
+    }
+    Ok(())
+}
+
+// Each law at a type.
+#[test]
+fn laws() {
+    only_grows::<u64>();
+    owners_keep_their_value::<u64>();
+    owned_is_not_buried::<u64>();
+    last_is_not_buried::<u64>();
+    buried_was_published::<u64>();
+    owned_was_published::<u64>();
+    up_gives_that_number::<u64>();
+    follows_goes_on::<u64, Rising>();
+    examples();
+}
