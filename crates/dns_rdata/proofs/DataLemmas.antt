@@ -84,13 +84,17 @@ IsRead-none : (octets own : List ℕ) → none octets ≡ Some own → IsRead no
 IsRead-none octets own e = cc
 
 pub IsRead-data : (rtype : ℕ) (octets own : List ℕ) → data_of rtype octets ≡ Some own → IsRead (data_of rtype) octets own
+unfolding data_of
 IsRead-data rtype octets own e =
     IsRead-if (rtype == 1) (parts 4 0 0) _ octets own (IsRead-parts 4 0 0 octets own)
     (IsRead-if (rtype == 2) (parts 0 1 0) _ octets own (IsRead-parts 0 1 0 octets own)
     (IsRead-if (rtype == 5) (parts 0 1 0) _ octets own (IsRead-parts 0 1 0 octets own)
     (IsRead-if (rtype == 6) (parts 0 2 20) _ octets own (IsRead-parts 0 2 20 octets own)
+    (IsRead-if (rtype == 12) (parts 0 1 0) _ octets own (IsRead-parts 0 1 0 octets own)
     (IsRead-if (rtype == 15) (parts 2 1 0) _ octets own (IsRead-parts 2 1 0 octets own)
-    (IsRead-if (rtype == 16) strings none octets own (IsRead-strings octets own) (IsRead-none octets own))))))
+    (IsRead-if (rtype == 16) strings _ octets own (IsRead-strings octets own)
+    (IsRead-if (rtype == 28) (parts 16 0 0) _ octets own (IsRead-parts 16 0 0 octets own)
+    (IsRead-if (rtype == 33) (parts 6 1 0) none octets own (IsRead-parts 6 1 0 octets own) (IsRead-none octets own)))))))))
     e
 
 -- behind the names stand as many octets as are to
@@ -109,6 +113,7 @@ names_then_long (suc names) back octets own e =
 
 -- an SOA's data ends in 20 octets of numbers
 pub soa_long : (rtype : ℕ) (octets own : List ℕ) → rtype ≡ 6 → data_of rtype octets ≡ Some own → 20 ≤ length own
+unfolding data_of
 soa_long rtype octets own soa e =
     let formed : parts 0 2 20 octets ≡ Some own = rw soa at e in
     let test = cond_some (nat_le 0 (length octets)) _ own formed in

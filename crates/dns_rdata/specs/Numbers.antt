@@ -1,5 +1,5 @@
--- The numbers of record types (RFC 1035, 3.2.2 and 3.2.3; RFC 1995, 4), classes (RFC 1035, 3.2.4) and reply
--- codes (RFC 1035, 4.1.1).
+-- The numbers of record types (RFC 1035, 3.2.2 and 3.2.3; RFC 1995, 4; RFC 2782; RFC 3596, 2.1), classes
+-- (RFC 1035, 3.2.4) and reply codes (RFC 1035, 4.1.1).
 use Rattle.std.specs.Prelude.{ℕ}
 use Rattle.dns_rdata.specs.declared.numbers.Rcode.{Rcode}
 use Rattle.dns_rdata.specs.declared.numbers.Rcode.TheVariants.{NoError, FormErr, ServFail, NxDomain, NotImp, Refused}
@@ -16,6 +16,9 @@ type_CNAME = 5
 abbrev pub type_SOA : ℕ
 type_SOA = 6
 
+abbrev pub type_PTR : ℕ
+type_PTR = 12
+
 abbrev pub type_MX : ℕ
 type_MX = 15
 
@@ -28,8 +31,29 @@ type_AAAA = 28
 abbrev pub type_SRV : ℕ
 type_SRV = 33
 
+-- the type of what a message says of its sender's extensions (RFC 6891, 6.1.1)
+abbrev pub type_OPT : ℕ
+type_OPT = 41
+
+-- the types that a question alone may have
+abbrev pub type_IXFR : ℕ
+type_IXFR = 251
+
+abbrev pub type_AXFR : ℕ
+type_AXFR = 252
+
+abbrev pub type_MAILB : ℕ
+type_MAILB = 253
+
+abbrev pub type_MAILA : ℕ
+type_MAILA = 254
+
 abbrev pub type_ANY : ℕ
 type_ANY = 255
+
+-- the class of the Internet (RFC 1035, 3.2.4)
+abbrev pub class_IN : ℕ
+class_IN = 1
 
 -- the number of a reply code (RFC 1035, 4.1.1)
 abbrev pub rcode_number : Rcode → ℕ

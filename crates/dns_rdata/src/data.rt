@@ -1,4 +1,4 @@
-//! A record's data (RFC 1035, 3.3 and 3.4.1).
+//! A record's data (RFC 1035, 3.3 and 3.4.1; RFC 2782; RFC 3596, 2.2).
 ghost use Rattle.std.specs.Prelude.{◌≡◌, ◌<◌, ◌≤◌, ◌⊎◌, ◌↔◌, ◌==◌, ◌&&◌, nat_lt, if◌then◌else◌, length, IfOk, IfSome, Some, None, IsSome};
 ghost use Rattle.std.specs.Result.{IsErrOf};
 ghost use Rattle.std.specs.Option.{option_map};
@@ -68,7 +68,7 @@ impl RData {
     /// The data that these octets spell for a type, names in full: the same octets with the names in lower case.
     ///
     /// `BadLength` where they haven't the type's form, else `TooLong` over [`MAX_DATA`] octets (RFC 1035, 3.3 and
-    /// 3.4.1). `NoMemory` only where a growth was refused.
+    /// 3.4.1; RFC 2782; RFC 3596, 2.2). `NoMemory` only where a growth was refused.
     pub fn from_wire(alloc: Global, rtype: RType, octets: &[u8]) -> Result<RData, DataFault>
         ensures data { IfOk result (λ d. (d.rtype ≡ rtype.0)
             × (data_of rtype.0 octets.now ≡ Some d.octets)
@@ -110,6 +110,7 @@ impl RData {
     }
 
     /// The name that an alias stands for; None of any type but CNAME (RFC 1035, 3.3.1).
+    #[tactic(auto, unfolding(crate::specs::Data::data_of))]
     pub fn target(&self) -> Option<Name>
         ensures target { result ≡ (if self.now.rtype == type_CNAME then target_of self.now.octets else None) }
         ensures named { self.now.rtype ≡ type_CNAME → IsSome result }
@@ -166,15 +167,19 @@ fn number_before_end(octets: &[u8], before: usize) -> u32
 }
 
 /// The data octets of a type that these octets spell; None where they haven't the type's form.
+#[tactic(auto, unfolding(crate::specs::Data::data_of))]
 fn own_data(alloc: Global, rtype: RType, octets: &[u8]) -> Result<Option<Vec<u8>>, AllocError>
     ensures { IfOk result (λ own. option_map (λ v. v.items) own ≡ data_of rtype.0 octets.now) }
 {
     match rtype {
         RType::A => fold_parts(alloc, octets, 4, 0, 0),
-        RType::NS | RType::CNAME => fold_parts(alloc, octets, 0, 1, 0),
+        RType::NS | RType::CNAME | RType::PTR => fold_parts(alloc, octets, 0, 1, 0),
         RType::SOA => fold_parts(alloc, octets, 0, 2, SOA_NUMBERS),
         RType::MX => fold_parts(alloc, octets, 2, 1, 0),
         RType::TXT => copy_strings(alloc, octets),
+        RType::AAAA => fold_parts(alloc, octets, 16, 0, 0),
+        // Priority, weight and port, and then the target.
+        RType::SRV => fold_parts(alloc, octets, 6, 1, 0),
         _ => Ok(None),
     }
 }

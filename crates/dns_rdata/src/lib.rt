@@ -1,5 +1,5 @@
 //! Records: their types, classes and TTLs, their data, and the sets that share an owner and a type (RFC 1034, 3.6;
-//! RFC 1035, 3.2 and 3.3; RFC 2181, 5).
+//! RFC 1035, 3.2 and 3.3; RFC 2181, 5; RFC 2782; RFC 3596).
 //!
 //! Contracts see an [`RRset`] as the list of its records, ordered by their data octets, and an [`RData`] as its type
 //! and its octets. Data lies uncompressed, with the names in it in lower case.

@@ -14,10 +14,18 @@ impl RType {
     pub const CNAME: RType = RType(5);
     /// The start of a zone of authority (RFC 1035, 3.3.13).
     pub const SOA: RType = RType(6);
+    /// A pointer to another name (RFC 1035, 3.3.12).
+    pub const PTR: RType = RType(12);
     /// A mail exchange (RFC 1035, 3.3.9).
     pub const MX: RType = RType(15);
     /// Text strings (RFC 1035, 3.3.14).
     pub const TXT: RType = RType(16);
+    /// A host address of version 6 (RFC 3596, 2.1).
+    pub const AAAA: RType = RType(28);
+    /// Where a service is found (RFC 2782).
+    pub const SRV: RType = RType(33);
+    /// What a message says of its sender's extensions; no record of a zone (RFC 6891, 6.1.1).
+    pub const OPT: RType = RType(41);
     /// A request for an incremental transfer (RFC 1995, 4).
     pub const IXFR: RType = RType(251);
     /// A request for a transfer of the whole zone (RFC 1035, 3.2.3).

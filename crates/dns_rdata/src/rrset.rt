@@ -1,9 +1,8 @@
 //! The records that share an owner and a type (RFC 2181, 5).
 ghost use Rattle.std.specs.Prelude.{◌≡◌, ◌↔◌, ◌<◌, ◌≤◌, ◌^◌, false, not, [], ◌∷◌, length, map, insert, All, IfOk, OnOk, OnErr, MatchResult};
-ghost use Rattle.std.specs.List.{AllPairs};
 ghost use Rattle.std.specs.Result.{IsErrOf};
 ghost use Rattle.dns_name.specs.Name.{fold_name};
-ghost use Rattle.dns_rdata.specs.Record.{Record, records_with, owner_of, rtype_of, ttl_of, IsBefore, with_data, with_record, has_data};
+ghost use Rattle.dns_rdata.specs.Record.{Record, records_with, owner_of, rtype_of, ttl_of, IsSet, with_data, with_record, has_data};
 
 use crate::data::RData;
 use crate::numbers::{RType, Ttl};
@@ -96,10 +95,7 @@ impl RRset {
     pub fn data(&self) -> &[RData]
         ensures records { self.now
             ≡ records_with (owner_of self.now) (rtype_of self.now) (ttl_of self.now) result.now }
-        ensures some { 0 < length result.now }
-        ensures few { length result.now ≤ MAX_SET }
-        ensures typed { All (λ d. d.rtype ≡ rtype_of self.now) result.now }
-        ensures ascending { AllPairs IsBefore result.now }
+        ensures lawful { IsSet (owner_of self.now) (rtype_of self.now) (ttl_of self.now) result.now }
     {
         self.rdata.as_slice()
     }
