@@ -3,7 +3,7 @@ use Rattle.std.specs.Prelude.{◌≡◌, ℕ, ◌+◌, ◌*◌, ◌^◌, ◌<◌
 use Rattle.std.specs.Int.{to_be_bytes, w16}
 use Rattle.std.specs.List.{flat_map}
 use Rattle.dns_name.specs.Name.{IsName}
-use Rattle.dns_message.specs.Message.{Message}
+use Rattle.dns_message.specs.Message.{opcode_QUERY, Message}
 use Rattle.dns_message.specs.Reads.{asks_transfer}
 use Rattle.dns_message.specs.Text.{bit, question_text, text}
 use Rattle.dns_message.specs.declared.query.Head.{Head}
@@ -34,4 +34,4 @@ pub record IsAnswerTo (m : Message) (question : Question) : Type 0 where
   pub lawful : IsQuestion question
   pub lookup : asks_transfer question ≡ false
   pub id : m.head.id < 2 ^ 16
-  pub standard : m.head.opcode ≡ 0
+  pub standard : m.head.opcode ≡ opcode_QUERY

@@ -11,6 +11,14 @@ use Rattle.dns_message.specs.declared.query.Head.{Head}
 use Rattle.dns_message.specs.declared.query.Question.{Question}
 use Rattle.dns_message.specs.declared.reply.Reply.{Reply}
 
+-- the OPCODE of a standard query (RFC 1035, 4.1.1)
+abbrev pub opcode_QUERY : ℕ
+opcode_QUERY = 0
+
+-- the OPCODE of a dynamic update (RFC 2136, 1.3)
+abbrev pub opcode_UPDATE : ℕ
+opcode_UPDATE = 5
+
 -- the number of 16 bits at a position (RFC 1035, 2.3.2)
 abbrev pub number_at : List ℕ → ℕ → ℕ
 number_at msg at = from_be_bytes w16 (take 2 (drop at msg))

@@ -4,7 +4,8 @@ use Rattle.std.proofs.Common.{lit<}
 use Rattle.std.proofs.Math.Nat.{mod-lt}
 use Rattle.dns_name.specs.Name.{wire_of, name_in}
 use Rattle.dns_rdata.specs.declared.numbers.Rcode.TheVariants.{FormErr, NotImp}
-use Rattle.dns_message.specs.Message.{number_at}
+use Rattle.dns_rdata.specs.Numbers.{type_IXFR, type_AXFR}
+use Rattle.dns_message.specs.Message.{opcode_QUERY, opcode_UPDATE, number_at}
 use Rattle.dns_message.specs.declared.query.Head.{Head}
 use Rattle.dns_message.specs.declared.query.Question.{Question}
 use Rattle.dns_message.specs.declared.query.Parsed.{Parsed}
@@ -20,10 +21,9 @@ header_of msg = record {
   four_bits = mod-lt (slice_index msg 2 / 8) (lit< tt);
 }
 
--- what a reply copies from a header: all but the RD of an UPDATE, OPCODE 5, where that bit has no meaning
--- (RFC 2136, 2.2; own)
+-- what a reply copies from a header: all but the RD of an UPDATE, where that bit has no meaning (RFC 2136, 2.2; own)
 abbrev pub copied : Head → Head
-copied head = record { id = head.id; opcode = head.opcode; rd = head.rd && not (head.opcode == 5); four_bits = head.four_bits }
+copied head = record { id = head.id; opcode = head.opcode; rd = head.rd && not (head.opcode == opcode_UPDATE); four_bits = head.four_bits }
 
 -- QR, the top bit of the third octet: a reply, no request (RFC 1035, 4.1.1)
 abbrev pub is_reply : List ℕ → Bool
@@ -46,9 +46,9 @@ question_of octets name =
 abbrev pub question_in : List ℕ → Option Question
 question_in octets = option_and_then (question_of octets) (name_in octets)
 
--- whether a question asks for a transfer: IXFR 251 or AXFR 252 (RFC 1995, 4; RFC 5936, 2)
+-- whether a question asks for a transfer: IXFR or AXFR (RFC 1995, 4; RFC 5936, 2)
 abbrev pub asks_transfer : Question → Bool
-asks_transfer q = q.rtype.0 == 251 || q.rtype.0 == 252
+asks_transfer q = q.rtype.0 == type_IXFR || q.rtype.0 == type_AXFR
 
 -- what a header and the question behind it say (RFC 1035, 4.1; own)
 abbrev pub query_of : Head → Option Question → Parsed
@@ -60,6 +60,6 @@ query_of head (Some q) = if asks_transfer q then Fault head NotImp else Query (r
 abbrev pub reads : List ℕ → Parsed
 reads msg =
     if nat_lt (length msg) 12 || is_reply msg then Silent
-    else if not ((header_of msg).opcode == 0) then Fault (copied (header_of msg)) NotImp
+    else if not ((header_of msg).opcode == opcode_QUERY) then Fault (copied (header_of msg)) NotImp
     else if not (counts_one_question msg) then Fault (header_of msg) FormErr
     else query_of (header_of msg) (question_in (drop 12 msg))

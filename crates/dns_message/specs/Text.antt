@@ -3,7 +3,7 @@ use Rattle.std.specs.Prelude.{ℕ, Bool, true, ◌+◌, ◌*◌, List, [], ◌�
 use Rattle.std.specs.Int.{to_be_bytes, w16, w32}
 use Rattle.std.specs.List.{flat_map}
 use Rattle.dns_name.specs.Name.{wire_of}
-use Rattle.dns_rdata.specs.Numbers.{rcode_number}
+use Rattle.dns_rdata.specs.Numbers.{class_IN, rcode_number}
 use Rattle.dns_rdata.specs.Record.{Record}
 use Rattle.dns_message.specs.Message.{Message}
 use Rattle.dns_message.specs.declared.query.Question.{Question}
@@ -23,7 +23,7 @@ question_text q = wire_of q.name ++ to_be_bytes w16 q.rtype.0 ++ to_be_bytes w16
 -- a record: its owner in full, its type, class IN, its TTL, how many octets its data has, and these (RFC 1035, 4.1.3)
 abbrev pub record_text : Record → List ℕ
 record_text r =
-    wire_of r.owner ++ to_be_bytes w16 r.rtype ++ to_be_bytes w16 1 ++ to_be_bytes w32 r.ttl ++ to_be_bytes w16 (length r.rdata) ++ r.rdata
+    wire_of r.owner ++ to_be_bytes w16 r.rtype ++ to_be_bytes w16 class_IN ++ to_be_bytes w32 r.ttl ++ to_be_bytes w16 (length r.rdata) ++ r.rdata
 
 -- the question section
 abbrev pub questions : Option Question → List Question

@@ -6,7 +6,7 @@ use Rattle.std.proofs.lemmas.List.Elements.{All-append, All-map, All-filter, fil
 use Rattle.dns_name.specs.Name.{is_same}
 use Rattle.dns_name.specs.Order.{is_same_equiv}
 use Rattle.dns_rdata.specs.Numbers.{type_CNAME}
-use Rattle.dns_rdata.specs.Record.{Record, shown_as}
+use Rattle.dns_rdata.specs.Record.{Record, rtype_of, shown_as}
 use Rattle.zone_tree.specs.Zone.{rrset_of, rrsets_of, exists, is_of, stands_at, is_alone, IsZone}
 use Rattle.lookup_core.specs.declared.aliases.TheConstants.{MOST_ALIASES}
 use Rattle.lookup_core.specs.Look.{Look, Cut, Alias, Data, NoData, NoName, look, cut_of, answering, found_at, source_of, is_synthesized, owned_by, is_none_of, follows_aliases, data_at}
@@ -220,3 +220,20 @@ single_by zone owner (r ∷ rs) is of =
 
 pub single_aliases : (zone : List Record) → IsZone zone → HasSingleAliases zone
 single_aliases zone is owner = single_by zone owner (rrset_of zone owner type_CNAME) is refl
+
+-- the type of a set doesn't depend on the name that it is shown under
+rtype_of-owned_by : (name : List (List ℕ)) (rs : List Record) → rtype_of (owned_by name rs) ≡ rtype_of rs
+rtype_of-owned_by name [] = refl
+rtype_of-owned_by name (r ∷ rs) = refl
+
+rtype_of-rrset_of : (owner : List (List ℕ)) (rtype : ℕ) (rs : List Record) → is_none_of rs ≡ false → All (λ r. is_of owner rtype r ≡ true) rs → rtype_of rs ≡ rtype
+rtype_of-rrset_of owner rtype [] some of = absurd (cc)
+rtype_of-rrset_of owner rtype (r ∷ rs) some of = eqb-true r.rtype rtype (and_right (is_same r.owner owner) (r.rtype == rtype) (of 0 r (omega arith)))
+
+-- a set that is found as an alias is of type CNAME
+pub rtype_of-alias : (zone : List Record) (name : List (List ℕ)) (rtype : ℕ) (set : List Record) → look zone name rtype ≡ Alias (owned_by name set) → rtype_of set ≡ type_CNAME
+rtype_of-alias zone name rtype set found =
+    let under : IsAliasOf zone name (owned_by name set) = subst (IsUnder zone name) found (look-under zone name rtype) in
+    let aliases = rrset_of zone under.at type_CNAME in
+    sym (rtype_of-owned_by name set) ∙ ap rtype_of under.is ∙ rtype_of-owned_by name aliases
+    ∙ rtype_of-rrset_of under.at type_CNAME aliases under.some (filter_passes (is_of under.at type_CNAME) zone)

@@ -2,6 +2,8 @@
 ghost use Rattle.std.specs.Prelude.{◌≡◌, ◌≤◌, ◌↔◌, IsTrue, length, IsNone, IfSome};
 ghost use Rattle.std.specs.List.{flat_map, list_any};
 ghost use Rattle.dns_name.specs.Name.{is_same};
+ghost use Rattle.dns_rdata.specs.Numbers.{type_CNAME};
+ghost use Rattle.dns_rdata.specs.Record.{rtype_of};
 ghost use Rattle.dns_rdata.specs.Shown.{records_shown};
 ghost use Rattle.lookup_core.specs.Look.{owned_by};
 ghost use Rattle.lookup_core.specs.Chain.{target, is_final, chain};
@@ -89,18 +91,12 @@ fn under<'z>(name: Name, sets: &'z [RRset]) -> Shown<'z>
     }
 }
 
-/// The name that an alias stands for (RFC 1035, 3.3.1); the root where its data has no name, which no zone has.
+/// The name that an alias stands for (RFC 1035, 3.3.1).
 fn target(alias: &RRset) -> Name
+    requires { rtype_of alias.now ≡ type_CNAME }
     ensures { result ≡ target alias.now }
 {
-    let name = alias
-        .data()
-        .first()
-        .and_then(|data| Name::from_wire(data.octets()));
-    match name {
-        Some((name, _)) => name,
-        None => Name::root(),
-    }
+    alias.data()[0].target().unwrap()
 }
 
 /// Whether a target isn't searched: it is outside the zone, or already searched (own).

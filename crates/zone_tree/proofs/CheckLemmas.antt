@@ -1,5 +1,5 @@
 -- Facts on the steps that try a zone's rules.
-use Rattle.std.proofs.Common.{◌≡◌, refl, sym, ap, ◌∙◌, subst, ℕ, zero, suc, ◌+◌, ◌-◌, ◌<◌, ◌≤◌, ◌^◌, Bool, true, false, List, [], ◌∷◌, map, length, get_or, take, drop, arith, length-append, append-nil, true≢false, Option, Some, None, cond, ◌||◌, ltb-true, ltb-false}
+use Rattle.std.proofs.Common.{◌≡◌, refl, sym, ap, ◌∙◌, subst, ℕ, zero, suc, ◌+◌, ◌-◌, ◌<◌, ◌≤◌, Bool, true, false, List, [], ◌∷◌, map, length, get_or, take, drop, arith, length-append, append-nil, true≢false, Option, Some, None, cond, ◌||◌, ltb-true, ltb-false}
 use Rattle.std.specs.Prelude.{◌==◌, nat_lt, not}
 use Rattle.std.specs.Option.{MatchOption}
 use Rattle.std.proofs.lemmas.List.{length-map, get_or_read}
@@ -7,10 +7,9 @@ use Rattle.std.specs.List.{filter, list_any, position, position_or_len, AllPairs
 use Rattle.std.specs.Ordering.{is_lt}
 use Rattle.std.proofs.lemmas.Cmp.{tied_itself, nat_cmp_total}
 use Rattle.std.proofs.lemmas.List.Elements.{All-from_recursion, All-filter}
-use Rattle.dns_name.specs.Name.{fold_name}
 use Rattle.dns_rdata.specs.Data.{Data}
 use Rattle.dns_rdata.specs.Numbers.{type_SOA}
-use Rattle.dns_rdata.specs.Record.{Record, records_with, owner_of, rtype_of, ttl_of, IsBefore as IsDataBefore}
+use Rattle.dns_rdata.specs.Record.{Record, records_with, owner_of, rtype_of, ttl_of, IsSet, IsBefore as IsDataBefore}
 use Rattle.zone_tree.specs.Zone.{IsBefore, soa_of}
 use Rattle.zone_tree.specs.Sets.{records_in, set_cmp, IsSetBefore, IsOf, IsRRset, AreAscending, AreUnsplit}
 use Rattle.zone_tree.proofs.NameOrder.{canonical_total}
@@ -26,18 +25,18 @@ with_data owner rtype ttl d = record { owner = owner; rtype = rtype; ttl = ttl; 
 data_before : (owner : List (List ℕ)) (rtype ttl : ℕ) (c d : Data) → IsDataBefore c d → IsBefore (with_data owner rtype ttl c) (with_data owner rtype ttl d)
 data_before owner rtype ttl c d h = rw (tied_itself canonical_total owner, tied_itself nat_cmp_total rtype) h
 
--- what the calls of a set say makes it one
-pub rrset_from_calls : (set : List Record) (ds : List Data) → set ≡ records_with (owner_of set) (rtype_of set) (ttl_of set) ds → 0 < length ds → length ds ≤ 256 → AllPairs IsDataBefore ds → owner_of set ≡ fold_name (owner_of set) → ttl_of set < 2 ^ 31 → IsRRset set
-rrset_from_calls set ds e some few rise folded lasts =
+-- records of a set's data are a set
+pub rrset_from_data : (set : List Record) (ds : List Data) → set ≡ records_with (owner_of set) (rtype_of set) (ttl_of set) ds → IsSet (owner_of set) (rtype_of set) (ttl_of set) ds → IsRRset set
+rrset_from_data set ds e lawful =
     let f = with_data (owner_of set) (rtype_of set) (ttl_of set) in
     let long : length set ≡ length ds = ap length e ∙ length-map ds f in
     record {
-      some = omega arith;
-      few = omega arith;
+      some = omega (arith, lawful.some);
+      few = omega (arith, lawful.few);
       shared = subst (All (IsOf set)) (sym e) (All-from_recursion (IsOf set) (map f ds) (each_map (IsOf set) f ds (each_always (λ d. IsOf set (f d)) (λ d. record { owner = refl; rtype = refl; ttl = refl }) ds)));
-      folded = folded;
-      lasts = lasts;
-      ascending = subst (AllPairs IsBefore) (sym e) (pairs_from_rises IsBefore (map f ds) (Rises-map IsBefore f ds (rises_weaker IsDataBefore (λ c d. IsBefore (f c) (f d)) (data_before (owner_of set) (rtype_of set) (ttl_of set)) ds (rises_from_pairs IsDataBefore ds rise))));
+      folded = lawful.folded;
+      lasts = lawful.lasts;
+      ascending = subst (AllPairs IsBefore) (sym e) (pairs_from_rises IsBefore (map f ds) (Rises-map IsBefore f ds (rises_weaker IsDataBefore (λ c d. IsBefore (f c) (f d)) (data_before (owner_of set) (rtype_of set) (ttl_of set)) ds (rises_from_pairs IsDataBefore ds lawful.ascending))));
     }
 
 -- the records of one more set, and of the first sets

@@ -27,8 +27,6 @@ pub(crate) fn len_of(set: &RRset) -> usize
     ensures len { result ≡ length set.now }
     ensures lawful { IsRRset set.now }
 {
-    let _owner = set.owner();
-    let _ttl = set.ttl();
     set.data().len()
 }
 

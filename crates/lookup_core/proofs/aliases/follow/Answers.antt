@@ -5,6 +5,7 @@ use Rattle.lookup_core.specs.Look.{owned_by, Data, NoData, NoName}
 use Rattle.lookup_core.specs.Chain.{Found, Stop}
 use Rattle.lookup_core.specs.Followed.{end_shown}
 use Rattle.lookup_core.proofs.AliasLemmas.{begins, stays_open, goes_on, stops, ends, ends_so, runs_out, shown_alone, target-owned_by, none_open, none_closed, Ends}
+use Rattle.lookup_core.proofs.LawLemmas.{rtype_of-alias}
 use Rattle.lookup_core.proofs.aliases.follow.Goals as goal
 use Rattle.lookup_core.proofs.aliases.follow.Goals.{in-Data, in-NoData, in-NoName}
 
@@ -17,6 +18,9 @@ loop-init g c = record {
 pub returns-in-Open-clause-none : goal.returns-in-Open-clause-none
 returns-in-Open-clause-none g c =
     none_open _ (stays_open _ _ _ _ (15 - c.loop.counter) _ (c.loop.invariant.way (suc (15 - c.loop.counter)) (omega arith)) c.in-Open.ensures)
+
+pub target-target-requires : goal.target-target-requires
+target-target-requires g c = rtype_of-alias (g.Z.ZoneRead.records c.args.zone.now) c.loop.searched c.args.rtype.0 c.in-Alias.alias.now c.in-Alias.ensures.look
 
 -- the alias found is the next one, and its target is searched
 pub loop-preserved : goal.loop-preserved
