@@ -1,2 +1,6 @@
+pub mod DraftLemmas
 pub mod GrammarLemmas
+pub mod LongerLemmas
 pub mod ReadLemmas
+pub mod TableLemmas
+pub mod WrittenLemmas

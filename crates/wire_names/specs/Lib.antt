@@ -1,3 +1,5 @@
 pub mod NameAt
 pub mod Parts
 pub mod Spells
+pub mod Table
+pub mod Written

@@ -1,10 +1,12 @@
 //! Laws of the definitions, each the contract of a function that does nothing, and worked examples.
-ghost use Rattle.std.specs.Prelude.{◌≡◌, ℕ, ◌+◌, ◌≤◌, ◌↔◌, List, [], ◌∷◌, length, All, Ok, Err};
-ghost use Rattle.dns_name.specs.Name.{wire_of, IsLabel};
+ghost use Rattle.std.specs.Prelude.{◌≡◌, ℕ, ◌+◌, ◌≤◌, ◌↔◌, Bool, List, [], ◌∷◌, ◌++◌, length, All, Ok, Err};
+ghost use Rattle.dns_name.specs.Name.{wire_of, IsLabel, IsName};
 ghost use Rattle.wire_names.specs.declared.part.NameReadFault.{NameReadFault};
 ghost use Rattle.wire_names.specs.declared.part.NameReadFault.TheVariants.{Short, BadLength, BadPointer};
 ghost use Rattle.wire_names.specs.NameAt.{name_at};
 ghost use Rattle.wire_names.specs.Spells.{Spells, Refuses};
+ghost use Rattle.wire_names.specs.Table.{IsTable, table_of};
+ghost use Rattle.wire_names.specs.Written.{written};
 
 /// A place spells at most one name, of lawful labels, and reading goes on at one place; what it spells isn't refused
 /// where it fits into 255 octets (RFC 1035, 4.1.4).
@@ -23,6 +25,16 @@ pub fn one_fault()
 pub fn name_at_is()
     ensures spelt { (msg : List ℕ) (at next : ℕ) (name : List (List ℕ)) → (name_at msg at ≡ Ok (name, next)) ↔ (Spells msg at at name next × (length (wire_of name) ≤ 255)) }
     ensures refused { (msg : List ℕ) (at : ℕ) (fault : NameReadFault) → (name_at msg at ≡ Err fault) ↔ Refuses msg at at 0 fault }
+{}
+
+/// A name that was written is spelt at its place, whatever follows (RFC 1035, 4.1.4).
+pub fn written_is_spelt()
+    ensures { (compress : Bool) (msg positions behind : List ℕ) (name : List (List ℕ)) → IsTable msg positions → IsName name → Spells (msg ++ (written compress (table_of msg positions) name ++ behind)) (length msg) (length msg) name (length msg + length (written compress (table_of msg positions) name)) }
+{}
+
+/// A table stays what it is while its message goes on.
+pub fn table_stays()
+    ensures { (msg more positions : List ℕ) → IsTable msg positions → IsTable (msg ++ more) positions × (table_of (msg ++ more) positions ≡ table_of msg positions) }
 {}
 
 /// Worked examples of the definitions: a label before a pointer down to a zero octet, a pointer to its own run's

@@ -1,4 +1,4 @@
-//! Names inside messages: reading them through pointers (RFC 1035, 4.1.4).
+//! Names inside messages: reading them through pointers, and writing them with pointers (RFC 1035, 4.1.4).
 //!
 //! Contracts see a message as the list of its octets and a name as the list of its labels. No call takes memory.
 #![tactic(auto)]
@@ -6,10 +6,13 @@
 mod laws;
 mod part;
 mod read;
+mod table;
+mod write;
 
-pub use laws::{examples, name_at_is, one_fault, one_reading};
+pub use laws::{examples, name_at_is, one_fault, one_reading, table_stays, written_is_spelt};
 pub use part::NameReadFault;
 pub use read::read_name;
+pub use write::NameWriter;
 
 #[cfg(test)]
 mod tests;

@@ -6,7 +6,7 @@ use dns_name::MAX_LABEL;
 use thiserror::Error;
 
 /// The least first octet of a pointer: its two highest bits are ones (RFC 1035, 4.1.4).
-const POINTER: usize = 192;
+pub(crate) const POINTER: usize = 192;
 
 /// How many places the second octet of a pointer tells apart.
 const SECOND_OCTET: usize = 256;

@@ -1,6 +1,8 @@
 //! Outside values.
 use crate::part::NameReadFault;
 use crate::read::read_name;
+use crate::write::NameWriter;
+use dns_name::Name;
 use std::test::Fail;
 
 /// The message of RFC 1035, 4.1.4, with names at the positions 20, 40, 64 and 92.
@@ -108,5 +110,121 @@ fn texts(rt: HostRuntime) -> Result<(), Fail> {
         let told = format!(in rt.alloc(); "{fault}")?;
         assert_eq!(rt; told.as_str(), text);
     }
+    Ok(())
+}
+
+fn name(wire: &[u8]) -> Result<Name, Fail> {
+    let (name, _) = Name::from_wire(wire).ok_or("no name")?;
+    Ok(name)
+}
+
+#[test]
+fn names_of_the_rfc_are_written(rt: HostRuntime) -> Result<(), Fail> {
+    // RFC 1035, 4.1.4: the names behind one another, so that the pointers are to 20 and 26.
+    let mut out = [0; 41];
+    let mut writer = NameWriter::new();
+    let whole = name(b"\x01F\x03ISI\x04ARPA\x00")?;
+    let longer = name(b"\x03FOO\x01F\x03ISI\x04ARPA\x00")?;
+    let shorter = name(b"\x04ARPA\x00")?;
+    let at = writer.write(&whole, true, &mut out, 20).ok_or("full")?;
+    let at = writer.write(&longer, true, &mut out, at).ok_or("full")?;
+    let at = writer.write(&shorter, true, &mut out, at).ok_or("full")?;
+    let at = writer
+        .write(&Name::root(), true, &mut out, at)
+        .ok_or("full")?;
+    assert_eq!(rt; at, 41);
+    assert_eq!(rt;
+        &out[20..],
+        b"\x01F\x03ISI\x04ARPA\x00\x03FOO\xc0\x14\xc0\x1a\x00".as_slice()
+    );
+    Ok(())
+}
+
+#[test]
+fn names_in_full(rt: HostRuntime) -> Result<(), Fail> {
+    // RFC 2782: without compression the name is written in full, and nothing points to it; case tells names apart.
+    let mut out = [0; 32];
+    let mut writer = NameWriter::default();
+    let target = name(b"\x01a\x01b\x00")?;
+    let other = name(b"\x01A\x01b\x00")?;
+    let at = writer.write(&target, false, &mut out, 0).ok_or("full")?;
+    let at = writer.write(&target, true, &mut out, at).ok_or("full")?;
+    let at = writer.write(&target, false, &mut out, at).ok_or("full")?;
+    let at = writer.write(&other, true, &mut out, at).ok_or("full")?;
+    let at = writer.write(&target, true, &mut out, at).ok_or("full")?;
+    let wire = b"\x01a\x01b\x00\x01a\x01b\x00\x01a\x01b\x00\x01A\xc0\x07\xc0\x05";
+    assert_eq!(rt; &out[..at], wire.as_slice());
+    Ok(())
+}
+
+#[test]
+fn positions_of_14_bits(rt: HostRuntime) -> Result<(), Fail> {
+    // RFC 1035, 4.1.4: a pointer to the position 16383 is 0xffff; no pointer is to 16384.
+    let mut out = [0; 16400];
+    let mut writer = NameWriter::new();
+    let first = name(b"\x01a\x01b\x00")?;
+    let last = name(b"\x01b\x00")?;
+    let at = writer.write(&first, true, &mut out, 16383).ok_or("full")?;
+    let at = writer.write(&first, true, &mut out, at).ok_or("full")?;
+    let at = writer.write(&last, true, &mut out, at).ok_or("full")?;
+    assert_eq!(rt; at, 16393);
+    assert_eq!(rt;
+        &out[16383..16393],
+        b"\x01a\x01b\x00\xff\xff\x01b\x00".as_slice()
+    );
+    Ok(())
+}
+
+/// A name of 127 labels, each of this one octet.
+fn long_name(rt: &HostRuntime, octet: u8) -> Result<Name, Fail> {
+    let mut wire = Vec::new(rt.alloc());
+    for _ in 0..127 {
+        wire.push(1)?;
+        wire.push(octet)?;
+    }
+    wire.push(0)?;
+    name(&wire)
+}
+
+#[test]
+fn room_for_256_positions(rt: HostRuntime) -> Result<(), Fail> {
+    // Twice 127 labels, then the 255th and the 256th position; the 257th isn't entered.
+    let mut out = [0; 600];
+    let mut writer = NameWriter::new();
+    let at = writer
+        .write(&long_name(&rt, b'a')?, true, &mut out, 0)
+        .ok_or("full")?;
+    let at = writer
+        .write(&long_name(&rt, b'b')?, true, &mut out, at)
+        .ok_or("full")?;
+    assert_eq!(rt; at, 510);
+    let at = writer
+        .write(&name(b"\x01x\x01y\x01z\x00")?, true, &mut out, at)
+        .ok_or("full")?;
+    let at = writer
+        .write(&name(b"\x01y\x01z\x00")?, true, &mut out, at)
+        .ok_or("full")?;
+    let at = writer
+        .write(&name(b"\x01z\x00")?, true, &mut out, at)
+        .ok_or("full")?;
+    assert_eq!(rt;
+        &out[510..at],
+        b"\x01x\x01y\x01z\x00\xc2\x00\x01z\x00".as_slice()
+    );
+    Ok(())
+}
+
+#[test]
+fn no_room(rt: HostRuntime) -> Result<(), Fail> {
+    let mut out = [7; 6];
+    let mut writer = NameWriter::new();
+    let label = name(b"\x01a\x00")?;
+    let longer = name(b"\x01b\x01a\x00")?;
+    let at = writer.write(&label, true, &mut out, 0).ok_or("full")?;
+    assert_eq!(rt; at, 3);
+    assert_eq!(rt; writer.write(&longer, true, &mut out, at), None);
+    assert_eq!(rt; out.as_slice(), b"\x01a\x00\x07\x07\x07".as_slice());
+    let at = writer.write(&label, true, &mut out, at).ok_or("full")?;
+    assert_eq!(rt; &out[..at], b"\x01a\x00\xc0\x00".as_slice());
     Ok(())
 }

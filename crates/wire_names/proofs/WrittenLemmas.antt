@@ -1,0 +1,263 @@
+-- A name that is written is spelt at its place, and so are the suffixes that it enters.
+use Rattle.std.proofs.Common.{◌≡◌, ℕ, ◌+◌, ◌-◌, ◌*◌, ◌/◌, ◌%◌, ◌<◌, ◌≤◌, ◌==◌, ◌&&◌, Bool, true, false, nat_lt, nat_le, cond, List, [], ◌∷◌, ◌++◌, length, take, drop, map, All, Option, Some, None, Ok, refl, sym, ap, subst, ◌∙◌, arith}
+use Rattle.std.proofs.Math.Seq.{drop-append_seam}
+use Rattle.std.proofs.lemmas.Bool.Decides.{nat_tests}
+use Rattle.std.proofs.lemmas.List.{length-append, length-take-le, append_assoc, append-nil, take_at, drop_at, length-map, map-append}
+use Rattle.std.proofs.lemmas.List.Elements.{All-nil, All-cons, All-head, All-tail, All-append}
+use Rattle.dns_name.specs.Name.{wire_of, IsLabel, IsName}
+use Rattle.wire_names.specs.Parts.{part_at, part_of, label_at}
+use Rattle.wire_names.specs.Spells.{Spells, closing, label, pointer}
+use Rattle.wire_names.specs.Table.{Table, IsTable, IsTarget, spelt_at, table_of, position_in, enter, entered}
+use Rattle.wire_names.specs.Written.{pointer_to, name_text, new_entries, written, entries_of, table_after, IsPut}
+use Rattle.wire_names.specs.declared.part.Part.TheVariants.{Label, Pointer}
+use Rattle.wire_names.proofs.DraftLemmas.{places, text_none, text_some, entries_none, entries_some}
+use Rattle.wire_names.proofs.LongerLemmas.{spells_longer, spells_within, ReadsName, ReadsName-spells, IsTable-longer, table_longer}
+use Rattle.wire_names.proofs.TableLemmas.{target_spells, position_in-found}
+
+-- what stands behind a message is its next part
+part_behind : (front octets : List ℕ) → part_at (front ++ octets) (length front) ≡ part_of octets
+part_behind front octets = ap part_of (drop-append_seam front octets)
+
+-- a label that is written is a part
+part_of-label : (own rest : List ℕ) → IsLabel own → part_of (length own ∷ own ++ rest) ≡ Ok (Label (length own))
+part_of-label own rest is =
+    let both = length-append own rest in
+    let some = is.some in
+    let short = is.short in
+    let zero_test : (length own == 0) ≡ false = grind (arith, nat_tests) in
+    let short_test : nat_lt (length own) 64 ≡ true = grind (arith, nat_tests) in
+    let whole_test : nat_le (length own) (length (own ++ rest)) ≡ true = grind (arith, nat_tests) in
+    rw (zero_test, short_test, whole_test)
+
+pointer_value : (target : ℕ) → target < 16384 → (192 + target / 256 - 192) * 256 + target % 256 ≡ target
+pointer_value target h = omega arith
+
+-- so is a pointer
+part_of-pointer : (target : ℕ) (rest : List ℕ) → target < 16384 → part_of (pointer_to target ++ rest) ≡ Ok (Pointer target)
+part_of-pointer target rest h =
+    let zero_test : ((192 + target / 256) == 0) ≡ false = grind (arith, nat_tests) in
+    let short_test : nat_lt (192 + target / 256) 64 ≡ false = grind (arith, nat_tests) in
+    let bits_test : nat_lt (192 + target / 256) 192 ≡ false = grind (arith, nat_tests) in
+    let value = pointer_value target h in
+    rw (zero_test, short_test, bits_test) (ap (λ (x : ℕ). Ok (Pointer x)) value)
+
+-- the octets of the label behind a message
+label_behind : (front own rest : List ℕ) → label_at (front ++ (length own ∷ own ++ rest)) (length front) (length own) ≡ own
+label_behind front own rest =
+    let more = append_assoc front (length own ∷ []) (own ++ rest) in
+    let len = length-append front (length own ∷ []) in
+    let skip : drop (length front + 1) (front ++ (length own ∷ own ++ rest)) ≡ own ++ rest =
+    ap (drop (length front + 1)) (sym more) ∙ drop_at (front ++ length own ∷ []) (own ++ rest) (length front + 1) len in
+    ap (take (length own)) skip ∙ take_at own rest (length own) refl
+
+-- a message with the table's message in front, which a name is written behind
+pub record IsBehind (msg : List ℕ) (positions : List ℕ) (front : List ℕ) (run : ℕ) : Type 0 where
+  pub table : IsTable msg positions
+  pub more : List ℕ
+  pub front_is : front ≡ msg ++ more
+  pub run_is : length msg ≤ run
+
+-- a pointer to a suffix of the table spells it
+spells_pointer_to : (msg positions front behind : List ℕ) (run target : ℕ) (name : List (List ℕ)) → IsBehind msg positions front run → position_in (table_of msg positions) name ≡ Some target → Spells (front ++ (pointer_to target ++ behind)) run (length front) name (length front + 2)
+spells_pointer_to msg positions front behind run target name is e =
+    let found = position_in-found msg positions target name is.table e in
+    let own = target_spells msg target found.target in
+    let there = subst (λ (x : List (List ℕ)). Spells msg target target x own.0) found.spelt own.1 in
+    let within = spells_within msg target target own.0 name there in
+    let run_is = is.run_is in
+    let longer = spells_longer msg (is.more ++ (pointer_to target ++ behind)) target target own.0 name there in
+    let same : msg ++ (is.more ++ (pointer_to target ++ behind)) ≡ front ++ (pointer_to target ++ behind) =
+    sym (append_assoc msg is.more (pointer_to target ++ behind)) ∙ ap (λ (x : List ℕ). x ++ (pointer_to target ++ behind)) (sym is.front_is) in
+    let whole = subst (λ (x : List ℕ). Spells x target target name own.0) same longer in
+    let part = part_behind front (pointer_to target ++ behind) ∙ part_of-pointer target behind found.target.low in
+    pointer part (omega arith) whole refl
+
+IsBehind-label : (msg positions front own : List ℕ) (run next : ℕ) → IsBehind msg positions front run → run ≤ next → IsBehind msg positions (front ++ length own ∷ own) next
+IsBehind-label msg positions front own run next is h =
+    let run_is = is.run_is in
+    record {
+      table = is.table;
+      more = is.more ++ length own ∷ own;
+      front_is = ap (λ (x : List ℕ). x ++ length own ∷ own) is.front_is ∙ append_assoc msg is.more (length own ∷ own);
+      run_is = omega arith;
+    }
+
+regroup : (front own text behind : List ℕ) → (front ++ length own ∷ own) ++ (text ++ behind) ≡ front ++ ((length own ∷ own ++ text) ++ behind)
+regroup front own text behind =
+    append_assoc front (length own ∷ own) (text ++ behind) ∙ ap (λ (x : List ℕ). front ++ (length own ∷ x)) (sym (append_assoc own text behind))
+
+-- a label that is written, and what is written behind it
+spells_label_put : (front own text behind : List ℕ) (run next : ℕ) (name : List (List ℕ)) → IsLabel own → Spells ((front ++ length own ∷ own) ++ (text ++ behind)) run (length (front ++ length own ∷ own)) name next → Spells (front ++ ((length own ∷ own ++ text) ++ behind)) run (length front) (own ∷ name) next
+spells_label_put front own text behind run next name is rest =
+    let same = regroup front own text behind in
+    let len = length-append front (length own ∷ own) in
+    let place : length (front ++ length own ∷ own) ≡ length front + 1 + length own = omega arith in
+    let on = subst (λ (x : ℕ). Spells (front ++ ((length own ∷ own ++ text) ++ behind)) run x name next) place
+    (subst (λ (x : List ℕ). Spells x run (length (front ++ length own ∷ own)) name next) same rest) in
+    let joined : (length own ∷ own ++ text) ++ behind ≡ length own ∷ own ++ (text ++ behind) = ap (λ (x : List ℕ). length own ∷ x) (append_assoc own text behind) in
+    let part = ap (λ (x : List ℕ). part_at (front ++ x) (length front)) joined ∙ part_behind front (length own ∷ own ++ (text ++ behind)) ∙ part_of-label own (text ++ behind) is in
+    let octets = ap (λ (x : List ℕ). label_at (front ++ x) (length front) (length own)) joined ∙ label_behind front own (text ++ behind) in
+    label part (sym octets) on
+
+label_spelt : (msg positions front behind own : List ℕ) (run : ℕ) (name : List (List ℕ)) (found : Option ℕ) → position_in (table_of msg positions) (own ∷ name) ≡ found → IsBehind msg positions front run → All IsLabel (own ∷ name) → Spells ((front ++ length own ∷ own) ++ (name_text (table_of msg positions) name ++ behind)) run (length (front ++ length own ∷ own)) name (length (front ++ length own ∷ own) + length (name_text (table_of msg positions) name)) → Spells (front ++ (name_text (table_of msg positions) (own ∷ name) ++ behind)) run (length front) (own ∷ name) (length front + length (name_text (table_of msg positions) (own ∷ name)))
+label_spelt msg positions front behind own run name (Some target) e is lawful rest =
+    let text = text_some (table_of msg positions) own name target e in
+    subst (λ (x : List ℕ). Spells (front ++ (x ++ behind)) run (length front) (own ∷ name) (length front + length x)) (sym text)
+    (spells_pointer_to msg positions front behind run target (own ∷ name) is e)
+label_spelt msg positions front behind own run name None e is lawful rest =
+    let text = text_none (table_of msg positions) own name e in
+    let whole = spells_label_put front own (name_text (table_of msg positions) name) behind run _ name (All-head IsLabel own name lawful) rest in
+    let len = length-append front (length own ∷ own) in
+    let both = length-append own (name_text (table_of msg positions) name) in
+    let next : length (front ++ length own ∷ own) + length (name_text (table_of msg positions) name) ≡ length front + length (length own ∷ own ++ name_text (table_of msg positions) name) = omega arith in
+    subst (λ (x : List ℕ). Spells (front ++ (x ++ behind)) run (length front) (own ∷ name) (length front + length x)) (sym text)
+    (subst (λ (x : ℕ). Spells (front ++ ((length own ∷ own ++ name_text (table_of msg positions) name) ++ behind)) run (length front) (own ∷ name) x) next whole)
+
+-- a name that is written is spelt at its place
+pub name_spelt : (msg positions front behind : List ℕ) (run : ℕ) (name : List (List ℕ)) → IsBehind msg positions front run → All IsLabel name → Spells (front ++ (name_text (table_of msg positions) name ++ behind)) run (length front) name (length front + length (name_text (table_of msg positions) name))
+name_spelt msg positions front behind run [] is lawful = closing (part_behind front (0 ∷ behind)) refl
+name_spelt msg positions front behind run (own ∷ name) is lawful =
+    label_spelt msg positions front behind own run name (position_in (table_of msg positions) (own ∷ name)) refl is lawful
+    (name_spelt msg positions (front ++ length own ∷ own) behind run name (IsBehind-label msg positions front own run run is (omega arith)) (All-tail IsLabel own name lawful))
+
+-- a shorter suffix has fewer octets
+below_short : (own : List ℕ) (name : List (List ℕ)) → length (wire_of (own ∷ name)) ≤ 255 → length (wire_of name) ≤ 255
+below_short own name h = let both = length-append own (wire_of name) in omega arith
+
+-- entries of a message
+abbrev AreRead : List ℕ → Table → Type 0
+AreRead msg entries = All (λ entry. ReadsName msg entry.0 entry.1) entries
+
+entries_if : (msg positions front behind own : List ℕ) (name : List (List ℕ)) (found : Option ℕ) → position_in (table_of msg positions) (own ∷ name) ≡ found → ReadsName (front ++ (name_text (table_of msg positions) (own ∷ name) ++ behind)) (length front) (own ∷ name) → AreRead ((front ++ length own ∷ own) ++ (name_text (table_of msg positions) name ++ behind)) (new_entries (table_of msg positions) (length (front ++ length own ∷ own)) name) → AreRead (front ++ (name_text (table_of msg positions) (own ∷ name) ++ behind)) (new_entries (table_of msg positions) (length front) (own ∷ name))
+entries_if msg positions front behind own name (Some target) e first rest =
+    subst (AreRead (front ++ (name_text (table_of msg positions) (own ∷ name) ++ behind))) (sym (entries_some (table_of msg positions) (length front) own name target e)) (All-nil (λ (entry : ℕ × List (List ℕ)). ReadsName (front ++ (name_text (table_of msg positions) (own ∷ name) ++ behind)) entry.0 entry.1))
+entries_if msg positions front behind own name None e first rest =
+    let table = table_of msg positions in
+    let text = text_none table own name e in
+    let same : (front ++ length own ∷ own) ++ (name_text table name ++ behind) ≡ front ++ (name_text table (own ∷ name) ++ behind) =
+    regroup front own (name_text table name) behind ∙ ap (λ (x : List ℕ). front ++ (x ++ behind)) (sym text) in
+    let len = length-append front (length own ∷ own) in
+    let place : length (front ++ length own ∷ own) ≡ length front + 1 + length own = omega arith in
+    let more = subst (λ (x : ℕ). AreRead (front ++ (name_text table (own ∷ name) ++ behind)) (new_entries table x name)) place
+    (subst (λ (x : List ℕ). AreRead x (new_entries table (length (front ++ length own ∷ own)) name)) same rest) in
+    subst (AreRead (front ++ (name_text table (own ∷ name) ++ behind))) (sym (entries_none table (length front) own name e))
+    (All-cons (λ (entry : ℕ × List (List ℕ)). ReadsName (front ++ (name_text table (own ∷ name) ++ behind)) entry.0 entry.1) (length front, own ∷ name) (new_entries table (length front + 1 + length own) name) first more)
+
+-- the suffixes that a name enters are spelt at their positions
+entries_read : (msg positions front behind : List ℕ) (name : List (List ℕ)) → IsBehind msg positions front (length front) → All IsLabel name → length (wire_of name) ≤ 255 → AreRead (front ++ (name_text (table_of msg positions) name ++ behind)) (new_entries (table_of msg positions) (length front) name)
+entries_read msg positions front behind [] is lawful short = All-nil (λ (entry : ℕ × List (List ℕ)). ReadsName (front ++ (0 ∷ behind)) entry.0 entry.1)
+entries_read msg positions front behind (own ∷ name) is lawful short =
+    let whole = name_spelt msg positions front behind (length front) (own ∷ name) is lawful in
+    let first = ReadsName-spells (front ++ (name_text (table_of msg positions) (own ∷ name) ++ behind)) (length front) _ (own ∷ name) whole short in
+    let len = length-append front (length own ∷ own) in
+    let next = IsBehind-label msg positions front own (length front) (length (front ++ length own ∷ own)) is (omega arith) in
+    let rest = entries_read msg positions (front ++ length own ∷ own) behind name next (All-tail IsLabel own name lawful) (below_short own name short) in
+    entries_if msg positions front behind own name (position_in (table_of msg positions) (own ∷ name)) refl first rest
+
+-- positions, each with a name
+abbrev paired : (ℕ → List (List ℕ)) → List ℕ → Table
+paired g xs = map (λ p. (p, g p)) xs
+
+-- the table is entered as its positions are
+enter_if : (g : ℕ → List (List ℕ)) (xs : List ℕ) (x : ℕ) (b : Bool) → paired g (cond b (xs ++ x ∷ []) xs) ≡ cond b (paired g xs ++ (x, g x) ∷ []) (paired g xs)
+enter_if g xs x true = map-append {B = ℕ × List (List ℕ)} (λ p. (p, g p)) xs (x ∷ [])
+enter_if g xs x false = refl
+
+enter_places : (g : ℕ → List (List ℕ)) (xs : List ℕ) (x : ℕ) → paired g (enter (λ p. p) xs x) ≡ enter (λ entry. entry.0) (paired g xs) (x, g x)
+enter_places g xs x =
+    let len : length (paired g xs) ≡ length xs = length-map xs (λ p. (p, g p)) in
+    enter_if g xs x (nat_lt (length xs) 256 && nat_le x 16383)
+    ∙ ap (λ (n : ℕ). cond (nat_lt n 256 && nat_le x 16383) (paired g xs ++ (x, g x) ∷ []) (paired g xs)) (sym len)
+
+entered_places : (g : ℕ → List (List ℕ)) (xs ys : List ℕ) → paired g (entered (λ p. p) xs ys) ≡ entered (λ entry. entry.0) (paired g xs) (paired g ys)
+entered_places g xs [] = refl
+entered_places g xs (y ∷ ys) =
+    entered_places g (enter (λ p. p) xs y) ys
+    ∙ ap (λ (t : Table). entered (λ entry. entry.0) t (paired g ys)) (enter_places g xs y)
+
+enter_all_if : (P : ℕ → Type 0) (xs : List ℕ) (y : ℕ) (a b : Bool) → nat_le y 16383 ≡ b → All P xs → (y < 16384 → P y) → All P (cond (a && b) (xs ++ y ∷ []) xs)
+enter_all_if P xs y true true t all one =
+    let low : y < 16384 = grind (arith, nat_tests) in
+    All-append P xs (y ∷ []) all (All-cons P y [] (one low) (All-nil P))
+enter_all_if P xs y true false t all one = all
+enter_all_if P xs y false true t all one = all
+enter_all_if P xs y false false t all one = all
+
+entered_all : (P : ℕ → Type 0) (xs ys : List ℕ) → All P xs → All (λ y. y < 16384 → P y) ys → All P (entered (λ p. p) xs ys)
+entered_all P xs [] all more = all
+entered_all P xs (y ∷ ys) all more =
+    let one = All-head (λ (x : ℕ). x < 16384 → P x) y ys more in
+    entered_all P (enter (λ p. p) xs y) ys (enter_all_if P xs y (nat_lt (length xs) 256) (nat_le y 16383) refl all one) (All-tail (λ (x : ℕ). x < 16384 → P x) y ys more)
+
+-- positions where suffixes are spelt stand for these entries
+entries_same : (msg : List ℕ) (entries : Table) → AreRead msg entries → table_of msg (places entries) ≡ entries
+entries_same msg [] all = refl
+entries_same msg (entry ∷ entries) all =
+    let first = All-head (λ (e : ℕ × List (List ℕ)). ReadsName msg e.0 e.1) entry entries all in
+    let rest = entries_same msg entries (All-tail (λ (e : ℕ × List (List ℕ)). ReadsName msg e.0 e.1) entry entries all) in
+    ap (λ (n : List (List ℕ)). (entry.0, n) ∷ table_of msg (places entries)) first.spelt ∙ ap (λ (t : Table). entry ∷ t) rest
+
+entries_targets : (msg : List ℕ) (entries : Table) → AreRead msg entries → All (λ y. y < 16384 → IsTarget msg y) (places entries)
+entries_targets msg [] all = All-nil (λ (y : ℕ). y < 16384 → IsTarget msg y)
+entries_targets msg (entry ∷ entries) all =
+    let first = All-head (λ (e : ℕ × List (List ℕ)). ReadsName msg e.0 e.1) entry entries all in
+    All-cons (λ (y : ℕ). y < 16384 → IsTarget msg y) entry.0 (places entries)
+    (λ low. record { low = low; read = first.read })
+    (entries_targets msg entries (All-tail (λ (e : ℕ × List (List ℕ)). ReadsName msg e.0 e.1) entry entries all))
+
+-- positions of a message that stand for this table
+pub record IsTableOf (msg positions : List ℕ) (table : Table) : Type 0 where
+  pub all : IsTable msg positions
+  pub is : table_of msg positions ≡ table
+
+after_entries : (msg more positions : List ℕ) (entries : Table) → IsTable msg positions → AreRead (msg ++ more) entries → IsTableOf (msg ++ more) (entered (λ p. p) positions (places entries)) (entered (λ entry. entry.0) (table_of msg positions) entries)
+after_entries msg more positions entries table all =
+    let old = table_longer msg more positions table in
+    let new = entries_same (msg ++ more) entries all in
+    record {
+      all = entered_all (IsTarget (msg ++ more)) positions (places entries) (IsTable-longer msg more positions table) (entries_targets (msg ++ more) entries all);
+      is = entered_places (spelt_at (msg ++ more)) positions (places entries)
+          ∙ ap (λ (t : Table). entered (λ entry. entry.0) t (table_of (msg ++ more) (places entries))) old
+          ∙ ap (λ (t : Table). entered (λ entry. entry.0) (table_of msg positions) t) new;
+    }
+
+IsBehind-none : (msg positions : List ℕ) → IsTable msg positions → IsBehind msg positions msg (length msg)
+IsBehind-none msg positions table = record { table = table; more = []; front_is = sym (append-nil msg); run_is = omega arith }
+
+written_read : (compress : Bool) (msg positions : List ℕ) (name : List (List ℕ)) → IsTable msg positions → IsName name → AreRead (msg ++ written compress (table_of msg positions) name) (entries_of compress (table_of msg positions) (length msg) name)
+written_read true msg positions name table lawful =
+    let all = entries_read msg positions msg [] name (IsBehind-none msg positions table) lawful.labels lawful.short in
+    subst (λ (x : List ℕ). AreRead (msg ++ x) (new_entries (table_of msg positions) (length msg) name)) (append-nil (name_text (table_of msg positions) name)) all
+written_read false msg positions name table lawful = All-nil (λ (entry : ℕ × List (List ℕ)). ReadsName (msg ++ wire_of name) entry.0 entry.1)
+
+-- what a write leaves
+pub after_write : (compress : Bool) (msg whole positions starts own : List ℕ) (name : List (List ℕ)) → IsTable msg positions → IsName name → whole ≡ msg ++ written compress (table_of msg positions) name → map (λ start. length msg + start) starts ≡ places (entries_of compress (table_of msg positions) (length msg) name) → own ≡ entered (λ p. p) positions (map (λ start. length msg + start) starts) → IsTableOf whole own (table_after compress (table_of msg positions) (length msg) name)
+after_write compress msg whole positions starts own name table lawful text places_are own_is =
+    let after = after_entries msg (written compress (table_of msg positions) name) positions (entries_of compress (table_of msg positions) (length msg) name) table (written_read compress msg positions name table lawful) in
+    let same : own ≡ entered (λ p. p) positions (places (entries_of compress (table_of msg positions) (length msg) name)) = own_is ∙ ap (λ (x : List ℕ). entered (λ p. p) positions x) places_are in
+    subst (λ (x : List ℕ). IsTableOf x own (table_after compress (table_of msg positions) (length msg) name)) (sym text)
+    (subst (λ (x : List ℕ). IsTableOf (msg ++ written compress (table_of msg positions) name) x (table_after compress (table_of msg positions) (length msg) name)) (sym same) after)
+
+-- a name in full is one under an empty table
+wire_text : (name : List (List ℕ)) → name_text [] name ≡ wire_of name
+wire_text [] = refl
+wire_text (own ∷ name) = ap (λ (x : List ℕ). length own ∷ own ++ x) (wire_text name)
+
+-- what is written is spelt at its place, whatever follows
+pub written_spelt : (compress : Bool) (msg positions behind : List ℕ) (name : List (List ℕ)) → IsTable msg positions → IsName name → Spells (msg ++ (written compress (table_of msg positions) name ++ behind)) (length msg) (length msg) name (length msg + length (written compress (table_of msg positions) name))
+written_spelt true msg positions behind name table lawful = name_spelt msg positions msg behind (length msg) name (IsBehind-none msg positions table) lawful.labels
+written_spelt false msg positions behind name table lawful =
+    let whole = name_spelt msg [] msg behind (length msg) name (IsBehind-none msg [] (All-nil (IsTarget msg))) lawful.labels in
+    subst (λ (x : List ℕ). Spells (msg ++ (x ++ behind)) (length msg) (length msg) name (length msg + length x)) (wire_text name) whole
+
+-- the same of a buffer that is written into
+pub after_put : (compress : Bool) (out new positions inside octets text starts own_starts own : List ℕ) (at next : ℕ) (name : List (List ℕ)) → at ≤ length out → IsTable (take at out) positions → inside ≡ positions → IsName name → IsPut out new at octets next → octets ≡ text → text ≡ written compress (table_of (take at out) positions) name → map (λ start. length (take at out) + start) starts ≡ places (entries_of compress (table_of (take at out) positions) (length (take at out)) name) → own_starts ≡ starts → own ≡ entered (λ p. p) inside (map (λ start. at + start) own_starts) → IsTableOf (take next new) own (table_after compress (table_of (take at out) positions) at name)
+after_put compress out new positions inside octets text starts own_starts own at next name within table same lawful put o t p s e =
+    let len : length (take at out) ≡ at = length-take-le at out within in
+    let whole : take next new ≡ take at out ++ written compress (table_of (take at out) positions) name = put.octets_are ∙ ap (λ (x : List ℕ). take at out ++ x) (o ∙ t) in
+    let own_is : own ≡ entered (λ p. p) positions (map (λ start. length (take at out) + start) starts) =
+    e ∙ ap (λ (x : List ℕ). entered (λ p. p) x (map (λ (start : ℕ). at + start) own_starts)) same
+    ∙ ap (λ (x : List ℕ). entered (λ p. p) positions (map (λ (start : ℕ). at + start) x)) s
+    ∙ ap (λ (n : ℕ). entered (λ p. p) positions (map (λ (start : ℕ). n + start) starts)) (sym len) in
+    let after = after_write compress (take at out) (take next new) positions starts own name table lawful whole p own_is in
+    subst (λ (n : ℕ). IsTableOf (take next new) own (table_after compress (table_of (take at out) positions) n name)) len after

@@ -1,0 +1,43 @@
+-- The table of a message's names that pointers can name (RFC 1035, 4.1.4).
+use Rattle.std.specs.Prelude.{ℕ, ◌<◌, Bool, ◌&&◌, List, [], ◌∷◌, ◌++◌, length, map, find, All, nat_lt, nat_le, if◌then◌else◌, Option, option_map, Ok, Err, bytes_eq}
+use Rattle.std.specs.Cmp.Lexicographic.{pointwise}
+use Rattle.std.specs.Result.{IsOk}
+use Rattle.wire_names.specs.NameAt.{name_at}
+
+-- the table: positions of a message, each with the name that is spelt there, in the order in which they were entered
+abbrev pub Table : Type 0
+Table = List (ℕ × List (List ℕ))
+
+-- whether two names are spelt the same, case included
+abbrev pub same_spelling : List (List ℕ) → List (List ℕ) → Bool
+same_spelling name other = pointwise bytes_eq name other
+
+-- the earliest position at which a name is spelt
+abbrev pub position_in : Table → List (List ℕ) → Option ℕ
+position_in table name = option_map (λ entry. entry.0) (find (λ entry. same_spelling entry.1 name) table)
+
+-- a list with one more position: up to 256 of them (own), none over 16383, since a pointer has 14 bits (RFC 1035, 4.1.4)
+abbrev pub enter : {A : Type 0} → (A → ℕ) → List A → A → List A
+enter position xs x = if nat_lt (length xs) 256 && nat_le (position x) 16383 then xs ++ x ∷ [] else xs
+
+-- a list with more positions, one after another
+abbrev pub entered : {A : Type 0} → (A → ℕ) → List A → List A → List A
+entered position xs [] = xs
+entered position xs (y ∷ ys) = entered position (enter position xs y) ys
+
+-- the name at a position of a message; the root where there is none
+abbrev pub spelt_at : List ℕ → ℕ → List (List ℕ)
+spelt_at msg at = elim (name_at msg at) [ Ok read ↦ read.0 | Err fault ↦ [] ]
+
+-- the table that positions of a message stand for
+abbrev pub table_of : List ℕ → List ℕ → Table
+table_of msg positions = map (λ at. (at, spelt_at msg at)) positions
+
+-- a pointer can name the position, and a name is spelt there
+pub record IsTarget (msg : List ℕ) (at : ℕ) : Type 0 where
+  pub low : at < 16384
+  pub read : IsOk (name_at msg at)
+
+-- positions of a message that make a table
+abbrev pub IsTable : List ℕ → List ℕ → Type 0
+IsTable msg positions = All (IsTarget msg) positions

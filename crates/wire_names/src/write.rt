@@ -1,0 +1,169 @@
+//! Writing a name into a message, with pointers to names in front of it (RFC 1035, 4.1.4).
+ghost use Rattle.std.specs.Prelude.{◌≡◌, ◌+◌, ◌<◌, ◌≤◌, ◌++◌, ◌∷◌, [], length, map, take, IfSome, IsNone};
+ghost use Rattle.dns_name.specs.Name.{wire_of, IsName};
+ghost use Rattle.wire_names.specs.Table.{IsTable, table_of};
+ghost use Rattle.wire_names.specs.Written.{name_text, new_entries, pointer_to, written, entries_of, table_after, Puts};
+
+use crate::part::POINTER;
+use crate::table::Positions;
+use arrayvec::ArrayVec;
+use dns_name::{MAX_NAME, Name};
+use std::marker::Model;
+
+/// Writes names into one message, and keeps the positions of those that pointers can name (RFC 1035, 4.1.4). Contracts
+/// see it as the list of the positions, in the order in which they were entered. It takes no memory.
+#[derive(Drop)]
+pub struct NameWriter {
+    positions: Positions,
+}
+
+impl Model for NameWriter {
+    ghost use Rattle.std.specs.Prelude.{List, ℕ};
+
+    ghost Value = { List ℕ };
+
+    ghost view = { λ a. a.positions };
+}
+
+/// A name as it is to be written, and how many octets of it stand before each label that is written out.
+#[derive(Drop)]
+struct Draft {
+    text: ArrayVec<u8, MAX_NAME>,
+    starts: ArrayVec<u8, MAX_NAME>,
+}
+
+impl NameWriter {
+    /// For a message that has no name.
+    pub fn new() -> NameWriter
+        ensures { result ≡ [] }
+    {
+        NameWriter {
+            positions: Positions::new(),
+        }
+    }
+
+    /// Writes the name behind the message, which is the first `at` octets of `out`, and gives the position behind the
+    /// name. With `compress`, the longest suffix that stands in the message is a pointer to its earliest position, and
+    /// the positions of the labels in front of it can be pointed to from then on; without it the name is written in
+    /// full, and nothing points to it. None where the name doesn't fit into `out`: nothing is written then
+    /// (RFC 1035, 4.1.4; RFC 2782).
+    pub fn write(&mut self, name: &Name, compress: bool, out: &mut [u8], at: usize) -> Option<usize>
+        requires within { at ≤ length out.old }
+        requires table { IsTable (take at out.old) self.old }
+        ensures text { Puts out.old out.new at (written compress (table_of (take at out.old) self.old) name.now) result }
+        ensures table { IfSome result (λ next. IsTable (take next out.new) self.new) }
+        ensures entered { IfSome result (λ next. table_of (take next out.new) self.new ≡ table_after compress (table_of (take at out.old) self.old) at name.now) }
+        ensures unchanged { IsNone result → (out.new ≡ out.old) × (self.new ≡ self.old) }
+    {
+        let draft = self.draft(&out[..at], name, compress);
+        let next = put(out, at, draft.text.as_slice())?;
+        self.positions.enter(at, draft.starts.as_slice());
+        Some(next)
+    }
+
+    /// The name as it is written behind the message.
+    fn draft(&self, msg: &[u8], name: &Name, compress: bool) -> Draft
+        requires { IsTable msg.now self.now }
+        ensures text { result.text.items ≡ written compress (table_of msg.now self.now) name.now }
+        ensures starts { map (λ start. length msg.now + start) result.starts.items ≡ map (λ entry. entry.0) (entries_of compress (table_of msg.now self.now) (length msg.now) name.now) }
+        ensures lawful { IsName name.now }
+    {
+        let wire = name.wire();
+        if compress {
+            self.compressed(msg, name)
+        } else {
+            Draft::whole(wire)
+        }
+    }
+
+    /// The name as it is written behind the message with compression.
+    fn compressed(&self, msg: &[u8], name: &Name) -> Draft
+        requires table { IsTable msg.now self.now }
+        requires lawful { IsName name.now }
+        ensures text { result.text.items ≡ name_text (table_of msg.now self.now) name.now }
+        ensures starts { map (λ start. length msg.now + start) result.starts.items ≡ map (λ entry. entry.0) (new_entries (table_of msg.now self.now) (length msg.now) name.now) }
+    {
+        let mut draft = Draft::empty();
+        let mut rest = name.copy();
+        while let Some(behind) = rest.parent() {
+            if let Some(target) = self.positions.position_of(msg, &rest) {
+                draft.put_pointer(target);
+                return draft;
+            }
+            let octets = rest.wire();
+            draft.put_label(&octets[..octets.len() - behind.wire().len()]);
+            rest = behind;
+        }
+        draft.text.push(0);
+        draft
+    }
+}
+
+impl Default for NameWriter {
+    ghost is_default = { λ writer. writer ≡ [] };
+
+    /// For a message that has no name.
+    fn default() -> NameWriter {
+        NameWriter::new()
+    }
+}
+
+impl Draft {
+    /// Nothing.
+    fn empty() -> Draft
+        ensures text { result.text.items ≡ [] }
+        ensures starts { result.starts.items ≡ [] }
+    {
+        Draft {
+            text: ArrayVec::new(),
+            starts: ArrayVec::new(),
+        }
+    }
+
+    /// A name in full, with no label that can be pointed to.
+    fn whole(wire: &[u8]) -> Draft
+        requires { length wire.now ≤ MAX_NAME }
+        ensures text { result.text.items ≡ wire.now }
+        ensures starts { result.starts.items ≡ [] }
+    {
+        let mut draft = Draft::empty();
+        let _ = draft.text.try_extend_from_slice(wire);
+        draft
+    }
+
+    /// Puts a label behind the others, its length octet in front.
+    fn put_label(&mut self, octets: &[u8])
+        requires text { length self.old.text.items + length octets.now ≤ MAX_NAME }
+        requires starts { length self.old.starts.items < MAX_NAME }
+        ensures text { self.new.text.items ≡ self.old.text.items ++ octets.now }
+        ensures starts { self.new.starts.items ≡ self.old.starts.items ++ length self.old.text.items ∷ [] }
+    {
+        self.starts.push(self.text.len() as u8);
+        let _ = self.text.try_extend_from_slice(octets);
+    }
+
+    /// Puts a pointer behind the labels.
+    fn put_pointer(&mut self, target: u16)
+        requires low { target < 16384 }
+        requires text { length self.old.text.items + 2 ≤ MAX_NAME }
+        ensures text { self.new.text.items ≡ self.old.text.items ++ pointer_to target }
+        ensures starts { self.new.starts.items ≡ self.old.starts.items }
+    {
+        self.text.push(POINTER as u8 + (target / 256) as u8);
+        self.text.push((target % 256) as u8);
+    }
+}
+
+/// Puts octets at a position: the position behind them, or None where they don't fit, and then nothing is written.
+fn put(out: &mut [u8], at: usize, octets: &[u8]) -> Option<usize>
+    requires { at ≤ length out.old }
+    ensures put { Puts out.old out.new at octets.now result }
+    ensures unchanged { IsNone result → out.new ≡ out.old }
+{
+    let len = octets.len();
+    if len > out.len() - at {
+        return None;
+    }
+    out[at..at + len].copy_from_slice(octets);
+    Some(at + len)
+}
