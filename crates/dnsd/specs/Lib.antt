@@ -1,2 +1,9 @@
+pub mod Input
 pub mod Lines
 pub mod Reply
+pub mod Run
+pub mod Script
+pub mod World
+pub mod WorldPlay
+pub mod WorldReplies
+pub mod WorldSteps

@@ -3,6 +3,7 @@ use Rattle.std.specs.Prelude.{ℕ, false, ◌||◌, not, ◌==◌, List, [], Opt
 use Rattle.dns_name.specs.Name.{is_under}
 use Rattle.dns_rdata.specs.declared.numbers.Rcode.{Rcode}
 use Rattle.dns_rdata.specs.declared.numbers.Rcode.TheVariants.{ServFail, NotImp, Refused}
+use Rattle.dns_rdata.specs.Numbers.{class_IN, type_MAILB, type_MAILA}
 use Rattle.dns_rdata.specs.Record.{Record}
 use Rattle.dns_message.specs.declared.query.Head.{Head}
 use Rattle.dns_message.specs.declared.query.Question.{Question}
@@ -39,8 +40,8 @@ answered_in zone head question =
 -- else the zone's answer (RFC 1034, 4.3.2; own)
 abbrev pub reply_to : List Record → QueryAsked → Message
 reply_to zone query =
-    if not (query.question.class.0 == 1) then refused query.head query.question
-    else if query.question.rtype.0 == 253 || query.question.rtype.0 == 254 then bare query.head NotImp
+    if not (query.question.class.0 == class_IN) then refused query.head query.question
+    else if query.question.rtype.0 == type_MAILB || query.question.rtype.0 == type_MAILA then bare query.head NotImp
     else if not (is_under query.question.name (apex_of zone)) then refused query.head query.question
     else answered_in zone query.head query.question
 

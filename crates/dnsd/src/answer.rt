@@ -13,7 +13,7 @@ use std::io::{self, BufRead, Write};
 use zone_tree::ZoneRead;
 
 /// The most octets of a request (RFC 1035, 4.2.2).
-const MAX_REQUEST: usize = 65_535;
+pub const MAX_REQUEST: usize = 65_535;
 
 /// The most octets of a line for a reply: its digits and a line end.
 const MAX_DIGITS: usize = 2 * UDP_LIMIT + 1;
@@ -140,7 +140,7 @@ fn write_octets<W: Write>(
 }
 
 /// Writes all these octets, in as many writes as the writer takes for them. At an error a beginning of them is written.
-fn write_whole<W: Write>(writer: &mut W, octets: &[u8]) -> io::Result<()>
+pub fn write_whole<W: Write>(writer: &mut W, octets: &[u8]) -> io::Result<()>
     ensures { Writes result (W.contents writer.old) (W.contents writer.new) octets.now }
 {
     let mut rest = octets;
@@ -159,7 +159,7 @@ fn write_whole<W: Write>(writer: &mut W, octets: &[u8]) -> io::Result<()>
 }
 
 /// A line without the LF at its end.
-fn without_lf(line: &[u8]) -> &[u8]
+pub fn without_lf(line: &[u8]) -> &[u8]
     ensures { result.now ≡ strip_last 10 line.now }
 {
     match line {

@@ -1,4 +1,7 @@
 //! The command line.
+ghost use Rattle.std.specs.Prelude.{◌≡◌};
+ghost use Rattle.dnsd.specs.Run.{source_of, origin_of};
+
 use clap::{Arg, Command as Parser};
 use dns_name::{Name, NameFault};
 use std::alloc::{AllocError, Global};
@@ -23,6 +26,33 @@ pub enum Command<'a> {
         /// The origin at the start of the zone's text.
         origin: Name,
     },
+    /// Plays a script of steps over the versions of a zone.
+    Steps {
+        /// Where the zone's text comes from.
+        zone: Source<'a>,
+        /// The origin at the start of the zone's text.
+        origin: Name,
+    },
+}
+
+impl<'a> Command<'a> {
+    /// Where the zone's text comes from.
+    pub fn zone(&self) -> Source<'a>
+        ensures { result ≡ source_of self.now }
+    {
+        match self {
+            Command::Answer { zone, .. } | Command::Steps { zone, .. } => *zone,
+        }
+    }
+
+    /// The origin at the start of the zone's text.
+    pub fn origin(&self) -> &Name
+        ensures { result.now ≡ origin_of self.now }
+    {
+        match self {
+            Command::Answer { origin, .. } | Command::Steps { origin, .. } => origin,
+        }
+    }
 }
 
 /// Why a command line is refused.
@@ -51,26 +81,20 @@ pub fn parse_words<'a, S: AsStr>(
     alloc: Global,
     words: &'a [S],
 ) -> Result<Command<'a>, CommandFault<'a>> {
-    let origin = Arg::new(alloc, "origin")
-        .long("origin")
-        .value_name("NAME")
-        .help("the origin at the start of the zone's text")
-        .default_value(".");
-    let zone = Arg::new(alloc, "zone")
-        .value_name("ZONE")
-        .help("the zone's text: a file, or - for standard input up to a line %")
-        .required(true);
-    let answer = Parser::new(alloc, "answer")
-        .about("replies to requests in hexadecimal, a line each")
-        .arg(origin)?
-        .arg(zone)?;
+    let answer = subcommand(
+        alloc,
+        "answer",
+        "replies to requests in hexadecimal, a line each",
+    )?;
+    let steps = subcommand(alloc, "steps", "plays a script of steps, a line each")?;
     let parser = Parser::new(alloc, "dnsd")
         .about("an authoritative name server for one zone")
         .subcommand_required(true)
         .arg_required_else_help(true)
-        .subcommand(answer)?;
+        .subcommand(answer)?
+        .subcommand(steps)?;
     let matches = parser.try_get_matches_from(words)?;
-    let Some((_, found)) = matches.subcommand() else {
+    let Some((name, found)) = matches.subcommand() else {
         return Err(CommandFault::from(AllocError));
     };
     let text = found.get_str("origin").unwrap_or(".");
@@ -81,5 +105,28 @@ pub fn parse_words<'a, S: AsStr>(
         Some("-") | None => Source::Input,
         Some(path) => Source::File(path),
     };
-    Ok(Command::Answer { zone, origin })
+    if name == "steps" {
+        Ok(Command::Steps { zone, origin })
+    } else {
+        Ok(Command::Answer { zone, origin })
+    }
+}
+
+/// A command over a zone.
+fn subcommand<'a>(alloc: Global, name: &'a str, about: &'a str) -> Result<Parser<'a>, AllocError> {
+    let origin = Arg::new(alloc, "origin")
+        .long("origin")
+        .value_name("NAME")
+        .help("the origin at the start of the zone's text")
+        .default_value(".");
+    let zone = Arg::new(alloc, "zone")
+        .value_name("ZONE")
+        .help("the zone's text: a file, or - for standard input up to a line %")
+        .required(true);
+    Ok(
+        Parser::new(alloc, name)
+            .about(about)
+            .arg(origin)?
+            .arg(zone)?,
+    )
 }

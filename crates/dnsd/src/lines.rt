@@ -1,6 +1,7 @@
 //! The lines of a text.
-ghost use Rattle.std.specs.Prelude.{length};
+ghost use Rattle.std.specs.Prelude.{◌≡◌, length};
 ghost use Rattle.std.specs.Iterator.{at_most};
+ghost use Rattle.dnsd.specs.Input.{without_end as line_without_end};
 
 /// A line of a text, without its end.
 #[derive(Clone, Copy)]
@@ -27,7 +28,9 @@ pub fn lines_of(text: &[u8]) -> Lines<'_> {
 }
 
 /// A line's octets without the LF, or the CR and LF, at its end.
-pub fn without_end(line: &[u8]) -> &[u8] {
+pub fn without_end(line: &[u8]) -> &[u8]
+    ensures { result.now ≡ line_without_end line.now }
+{
     match line {
         [front @ .., b'\r', b'\n'] | [front @ .., b'\n'] => front,
         _ => line,

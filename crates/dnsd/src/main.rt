@@ -1,7 +1,8 @@
 //! `dnsd`: an authoritative name server for one zone of class IN.
 //!
 //! The command line is parsed by `command`, the zone's text is read by `zone_text`, and `answer` replies to each request
-//! that it reads. All that a reply says is in `reply`, over the crates below.
+//! that it reads. `steps` plays a `script`: names come into use for versions of the zone, as `world` keeps them, and requests
+//! are answered in them. All that a reply says is in `reply`, over the crates below.
 #![tactic(auto)]
 
 pub mod answer;
@@ -10,6 +11,9 @@ mod input;
 mod lines;
 pub mod reply;
 pub mod run;
+pub mod script;
+pub mod steps;
+pub mod world;
 pub mod zone_text;
 
 use command::{Command, CommandFault, Source, parse_words};
@@ -64,8 +68,7 @@ fn run_command<R: Files + Print + Eprint + Input + AllocGlobal>(
     let mut reader = BufReader::new(alloc, rt.reader())?;
     let mut writer = BufWriter::new(alloc, io::writer(rt))?;
     let mut errors = Vec::new(alloc);
-    let Command::Answer { zone, .. } = command;
-    let status = match *zone {
+    let status = match command.zone() {
         Source::Input => run_text(alloc, command, &mut reader, &mut writer, &mut errors),
         Source::File(path) => {
             let text = fs::read(rt, path)?;

@@ -1,6 +1,8 @@
 //! The program's replies and refusals, by the octets that the standard gives for them.
 use crate::command::{Command, CommandFault, Source, parse_words};
 use crate::run::run_text;
+use crate::world::{self, Handle, WorldReply, WorldStep};
+use crate::zone_text::read_zone;
 use dns_name::Name;
 use std::alloc::AllocError;
 use std::io::Cursor;
@@ -31,19 +33,36 @@ fn answer(rt: &impl Abort, origin: &[u8]) -> Command<'static> {
     }
 }
 
+/// The command `steps` over standard input.
+fn steps() -> Command<'static> {
+    Command::Steps {
+        zone: Source::Input,
+        origin: Name::root(),
+    }
+}
+
 /// What `answer` writes for a zone's text and requests, its status, and what it tells of errors.
 fn run(
     rt: &(impl AllocGlobal + Abort),
     zone: &str,
     requests: &str,
 ) -> Result<(u8, String, String), AllocError> {
+    run_command(rt, &answer(rt, b"example.test."), zone, requests)
+}
+
+/// What a command writes for a zone's text and its input, its status, and what it tells of errors.
+fn run_command(
+    rt: &(impl AllocGlobal + Abort),
+    command: &Command<'_>,
+    zone: &str,
+    input: &str,
+) -> Result<(u8, String, String), AllocError> {
     let alloc = rt.alloc();
-    let command = answer(rt, b"example.test.");
-    let input = format!(in alloc; "{zone}%\n{requests}")?;
+    let input = format!(in alloc; "{zone}%\n{input}")?;
     let mut reader = Cursor::new(input.as_bytes());
     let mut written = Vec::new(alloc);
     let mut errors = Vec::new(alloc);
-    let status = run_text(alloc, &command, &mut reader, &mut written, &mut errors);
+    let status = run_text(alloc, command, &mut reader, &mut written, &mut errors);
     let written = String::from_utf8_lossy(alloc, written.as_slice())?;
     let errors = String::from_utf8_lossy(alloc, errors.as_slice())?;
     Ok((status, written, errors))
@@ -385,8 +404,10 @@ fn origin_and_ttl(rt: HostRuntime) -> Result<(), Fail> {
 // The words after the program's name, and whether they are a command.
 #[test]
 fn command_lines(rt: HostRuntime) -> Result<(), Fail> {
-    let cases: [(&[&str], bool); 7] = [
+    let cases: [(&[&str], bool); 9] = [
         (&["dnsd", "answer", "-"], true),
+        (&["dnsd", "steps", "--origin", "example.test", "-"], true),
+        (&["dnsd", "steps"], false),
         (
             &["dnsd", "answer", "--origin", "example.test", "zone"],
             true,
@@ -401,6 +422,127 @@ fn command_lines(rt: HostRuntime) -> Result<(), Fail> {
         let parsed = parse_words(rt.alloc(), words);
         assert_eq!(rt; parsed.is_ok(), is_command, "{words:?}");
     }
+    Ok(())
+}
+
+/// The query for www.example.test., type A, and its reply.
+const WWW: &str = "12340100000100000000000003777777076578616d706c6504746573740000010001";
+
+const WWW_REPLY: &str =
+    "12348500000100020000000003777777076578616d706c650474657374000001000103777777076578616d706c650474657374000005000100000e10001203776562076578616d706c6504746573740003776562076578616d706c650474657374000001000100000e100004c000020a";
+
+// The replies' octets are those of RFC 1035, 4.1; the words are our own.
+#[test]
+fn scripts(rt: HostRuntime) -> Result<(), Fail> {
+    let script = format!(in rt.alloc();
+        "load a\nask a {WWW}\nask b {WWW}\nask a 00\nload a\nload b2345678\ndrop a\ndrop a\ndrop b2345678"
+    )?;
+    let told = format!(in rt.alloc();
+        "a 0\n{WWW_REPLY}\nnot enabled\n-\nnot enabled\nb2345678 0\nleft\nnot enabled\nleft\n"
+    )?;
+    let (status, written, errors) = run_command(&rt, &steps(), ZONE, script.as_str())?;
+    assert_eq!(rt; written.as_str(), told.as_str());
+    assert_eq!(rt; status, 0);
+    assert!(rt; errors.is_empty());
+    let (status, written, _) = run_command(&rt, &steps(), ZONE, "")?;
+    assert_eq!(rt; (status, written.as_str()), (0, ""));
+    Ok(())
+}
+
+// Each line stands behind one that says a step, and in front of a bad one, which isn't told.
+#[test]
+fn bad_lines(rt: HostRuntime) -> Result<(), Fail> {
+    let lines = [
+        "",
+        "load",
+        "load ",
+        "load  a",
+        " load a",
+        "load a ",
+        "load a\r",
+        "load a b",
+        "load A",
+        "load a-b",
+        "load abcdefghi",
+        "LOAD a",
+        "loada",
+        "drop",
+        "drop a b",
+        "ask a",
+        "ask a ",
+        "ask a 0",
+        "ask a 0g",
+        "ask a  00",
+        "ask a 00 ",
+        "ask a 00 00",
+        "ask A 00",
+        "ask",
+        "update",
+        "copy a b",
+        "begin",
+        "publish",
+        "%",
+    ];
+    for line in lines {
+        let script = format!(in rt.alloc(); "load a\n{line}\nbad\n")?;
+        let (status, written, errors) = run_command(&rt, &steps(), ZONE, script.as_str())?;
+        assert_eq!(rt; errors.as_str(), "line 2: bad\n", "{line}");
+        assert_eq!(rt; status, 1, "{line}");
+        assert!(rt; written.is_empty(), "{line}");
+    }
+    // 65,535 octets are a request, and 65,536 are none.
+    let longest = format!(in rt.alloc(); "load a\nask a {:0>65535}{:0>65535}\n", "", "")?;
+    let (status, written, _) = run_command(&rt, &steps(), ZONE, longest.as_str())?;
+    assert_eq!(rt; status, 0);
+    assert!(rt; written.as_str().starts_with("a 0\n0000"));
+    let longer = format!(in rt.alloc(); "load a\nask a {:0>65535}{:0>65535}00\n", "", "")?;
+    let (_, _, errors) = run_command(&rt, &steps(), ZONE, longer.as_str())?;
+    assert_eq!(rt; errors.as_str(), "line 2: bad\n");
+    Ok(())
+}
+
+// A name that only the second version has: asked of the first it is a name error (RFC 1035, 4.1.1: RCODE 3), of the second
+// it has its address. The first version is buried when nobody owns it any more.
+#[test]
+fn versions(rt: HostRuntime) -> Result<(), Fail> {
+    let alloc = rt.alloc();
+    let query =
+        b"\x12\x34\x01\x00\x00\x01\x00\x00\x00\x00\x00\x00\x03new\x07example\x04test\x00\x00\x01\x00\x01";
+    let first = read_zone(alloc, ZONE.as_bytes(), &Name::root()).expect(&rt, "a zone");
+    let text = format!(in alloc; "{ZONE}new.example.test. 3600 IN A 192.0.2.77\n")?;
+    let second = read_zone(alloc, text.as_bytes(), &Name::root()).expect(&rt, "a zone");
+    let (a, b) = (Handle(b"a"), Handle(b"b"));
+    let steps = [
+        WorldStep::Load(a),
+        WorldStep::Publish(&second),
+        WorldStep::Load(b),
+        WorldStep::Ask(a, query),
+        WorldStep::Ask(b, query),
+        WorldStep::Drop(a),
+        WorldStep::Drop(b),
+    ];
+    let replies = world::run(alloc, &first, &steps).expect(&rt, "memory");
+    let WorldReply::Answer(in_first) = &replies[3] else {
+        return Err(Fail::from("no answer"));
+    };
+    let WorldReply::Answer(in_second) = &replies[4] else {
+        return Err(Fail::from("no answer"));
+    };
+    assert!(rt; matches!(&replies[0], WorldReply::Owner(0)));
+    assert!(rt; matches!(&replies[2], WorldReply::Owner(1)));
+    assert!(rt;
+        in_first
+            .as_slice()
+            .starts_with(b"\x12\x34\x85\x03\x00\x01\x00\x00")
+    );
+    assert!(rt;
+        in_second
+            .as_slice()
+            .starts_with(b"\x12\x34\x85\x00\x00\x01\x00\x01")
+    );
+    assert!(rt; in_second.as_slice().ends_with(b"\x00\x04\xc0\x00\x02\x4d"));
+    assert!(rt; matches!(&replies[5], WorldReply::Buried(0)));
+    assert!(rt; matches!(&replies[6], WorldReply::Left));
     Ok(())
 }
 
@@ -426,5 +568,28 @@ fn refused_growth(rt: HostRuntime) {
         "12348500000100010000000003776562076578616d706c650474657374000001000103776562076578616d706c650474657374000001000100000e100004c000020a\n";
     let first = wrote_or_had_no_memory(&rt, request, reply);
     let second = wrote_or_had_no_memory(&rt, request, reply);
+    assert!(rt; first || second);
+}
+
+/// Whether a script was played; else it said that it had no memory, and wrote nothing, or the test itself had none.
+fn played_or_had_no_memory(rt: &(impl AllocGlobal + Abort), script: &str, told: &str) -> bool {
+    let Ok((status, written, errors)) = run_command(rt, &steps(), ZONE, script) else {
+        return false;
+    };
+    if status == 0 {
+        assert!(rt; written.as_str() == told);
+        return true;
+    }
+    assert!(rt; told.starts_with(written.as_str()));
+    assert!(rt; status == 3 || errors.as_str().ends_with(" NoMemory\n"));
+    false
+}
+
+#[test]
+fn refused_growth_in_scripts(rt: HostRuntime) {
+    let script = "load a\nask a 00\ndrop a\n";
+    let told = "a 0\n-\nleft\n";
+    let first = played_or_had_no_memory(&rt, script, told);
+    let second = played_or_had_no_memory(&rt, script, told);
     assert!(rt; first || second);
 }

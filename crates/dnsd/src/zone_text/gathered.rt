@@ -1,4 +1,7 @@
 //! The records of a text, gathered by owner and type while it is read.
+ghost use Rattle.std.specs.Prelude.{IfOk};
+ghost use Rattle.zone_tree.specs.Zone.{IsZone};
+
 use super::fault::{Cause, FileFault};
 use super::record::Entry;
 use dns_name::Name;
@@ -83,7 +86,9 @@ impl Gathered {
     }
 
     /// The zone of all the records: `Apex`, `Outside` and `Conflict` are tried in this order.
-    pub fn into_zone(self, alloc: Global) -> Result<Zone, FileFault> {
+    pub fn into_zone(self, alloc: Global) -> Result<Zone, FileFault>
+        ensures { IfOk result (λ zone. IsZone zone) }
+    {
         let told = |line, cause| FileFault { line, cause };
         if let Some(line) = self.second_soa {
             return Err(told(line, Cause::Apex));

@@ -1,0 +1,27 @@
+-- The zone versions and the names in use, as a world.
+use Rattle.std.specs.Prelude.{ℕ, List, map}
+use Rattle.std.proofs.Common.{Bor}
+use Rattle.cell_core.specs.Cell.{Cell}
+use Rattle.cell_core.specs.Kept.{cell_of}
+use Rattle.dns_rdata.specs.Record.{Record}
+use Rattle.dnsd.specs.declared.world.play.Entry.{Entry}
+use Rattle.dnsd.specs.declared.world.play.Play.{Play}
+use Rattle.dnsd.specs.World.{World}
+
+-- a cell of zones as one of their records (own)
+abbrev pub zones_of : Cell (Bor (List Record)) → Cell (List Record)
+zones_of cell =
+    record {
+      published = map (λ zone. zone.now) cell.published;
+      buried = cell.buried;
+      strong = cell.strong;
+      weak = cell.weak;
+    }
+
+-- the names in use, with their numbers (own)
+abbrev pub names_in_use : List Entry → List (List ℕ × ℕ)
+names_in_use entries = map (λ entry. (entry.handle.0.now, entry.number)) entries
+
+-- the versions and the names in use as a world (own)
+abbrev pub world_of : Play → World
+world_of play = record { cell = zones_of (cell_of play.machine); handles = names_in_use play.entries.items }

@@ -1,0 +1,188 @@
+//! Scripts: steps as lines of text.
+//!
+//! A line is `load NAME`, `drop NAME` or `ask NAME HEX`, its words with one space between; a name is 1 to 8 lower-case
+//! letters and digits, and HEX a request of 1 to 65,535 octets in hexadecimal. The last line may want its LF.
+ghost use Rattle.std.specs.Prelude.{◌≡◌, ◌==◌, ◌++◌, ◌∷◌, [], Ok, Err, OnOk, IfOk, IfErr, IfSome, map};
+ghost use Rattle.std.specs.List.{list_all, position};
+ghost use Rattle.std.specs.Option.{option_map};
+ghost use Rattle.dnsd.specs.declared.script.ScriptFault.TheVariants.{Device};
+ghost use Rattle.dnsd.specs.Script.{AtBad};
+ghost use Rattle.dnsd.specs.Script.{word_of, behind_word, is_name as says_name, is_name_octet as says_name_octet, ask_of as ask_in, step_of as step_in, script_of, said_by, named_by};
+ghost use Rattle.dnsd.specs.WorldSteps.{turn_of};
+
+use crate::answer::{MAX_REQUEST, without_lf};
+use crate::input::{MAX_READS, endless};
+use crate::world::{Handle, WorldStep};
+use hex::FromHexError;
+use std::alloc::{AllocError, Global};
+use std::io::{self, BufRead};
+
+/// The most octets of a strong owner's name.
+const MAX_NAME: usize = 8;
+
+/// A step that a script may say.
+#[derive(Drop)]
+pub enum ScriptStep {
+    /// A strong owner of the last version, under this name.
+    Load(Vec<u8>),
+    /// The strong owner of this name is given up.
+    Drop(Vec<u8>),
+    /// A request over UDP, answered in the version of the strong owner of this name.
+    Ask(Vec<u8>, Vec<u8>),
+}
+
+/// Why a script isn't read.
+#[derive(Drop)]
+pub enum ScriptFault {
+    /// A line that says no step, by its number, counted from 1; it is the first one.
+    Bad(u64),
+    /// A device's fault, or want of memory.
+    Device(io::Error),
+}
+
+impl From<io::Error> for ScriptFault {
+    ghost from_gives = { λ fault given. given ≡ Device fault };
+
+    fn from(fault: io::Error) -> Self {
+        ScriptFault::Device(fault)
+    }
+}
+
+impl ScriptStep {
+    /// The name of the strong owner.
+    pub fn name(&self) -> &[u8]
+        ensures { result.now ≡ named_by (said_by self.now) }
+    {
+        match self {
+            ScriptStep::Load(name) | ScriptStep::Drop(name) | ScriptStep::Ask(name, _) => {
+                name.as_slice()
+            }
+        }
+    }
+
+    /// The step as the world takes one.
+    pub fn as_world(&self) -> WorldStep<'_>
+        ensures { turn_of result ≡ said_by self.now }
+    {
+        match self {
+            ScriptStep::Load(name) => WorldStep::Load(Handle(name.as_slice())),
+            ScriptStep::Drop(name) => WorldStep::Drop(Handle(name.as_slice())),
+            ScriptStep::Ask(name, request) => {
+                WorldStep::Ask(Handle(name.as_slice()), request.as_slice())
+            }
+        }
+    }
+}
+
+/// The steps of a script, which is read to its end or to the first line that says none.
+///
+/// A `Device` is also want of memory, or an input that hasn't ended after 2^32 reads.
+pub fn read_script<R: BufRead>(
+    alloc: Global,
+    reader: &mut R,
+) -> Result<Vec<ScriptStep>, ScriptFault>
+    // Where the reader tells its octets.
+    ensures ok { IfOk result (λ steps. IfSome (R.remaining reader.old) (λ input.
+        script_of input ≡ Ok (map said_by steps.items))) }
+    ensures bad { IfErr result (λ fault. AtBad fault (λ line. IfSome (R.remaining reader.old) (λ input.
+        script_of input ≡ Err line))) }
+{
+    let mut steps = Vec::new(alloc);
+    let mut line = Vec::new(alloc);
+    for read in 0..MAX_READS {
+        line.clear();
+        if reader.read_until(b'\n', &mut line)? == 0 {
+            return Ok(steps);
+        }
+        match step_of(alloc, without_lf(line.as_slice()))? {
+            Some(step) => push(&mut steps, step)?,
+            None => return Err(ScriptFault::Bad(read + 1)),
+        }
+    }
+    Err(ScriptFault::Device(endless()))
+}
+
+/// One more step; want of memory is an error of the device.
+fn push(steps: &mut Vec<ScriptStep>, step: ScriptStep) -> io::Result<()>
+    ensures { OnOk result (steps.new.items ≡ steps.old.items ++ step ∷ []) }
+{
+    steps.push(step)?;
+    Ok(())
+}
+
+/// The step that a line says; None where it says none.
+#[tactic(auto, unfolding(crate::specs::Script::step_of))]
+fn step_of(alloc: Global, line: &[u8]) -> io::Result<Option<ScriptStep>>
+    ensures { IfOk result (λ step. option_map said_by step ≡ step_in line.now) }
+{
+    let (word, rest) = split_word(line);
+    if word == b"load".as_slice() && is_name(rest) {
+        return Ok(Some(ScriptStep::Load(Vec::from_slice(alloc, rest)?)));
+    }
+    if word == b"drop".as_slice() && is_name(rest) {
+        return Ok(Some(ScriptStep::Drop(Vec::from_slice(alloc, rest)?)));
+    }
+    if word == b"ask".as_slice() {
+        return ask_of(alloc, rest);
+    }
+    Ok(None)
+}
+
+/// The step that a name and a request in hexadecimal say, with one space between; None where they say none.
+#[tactic(auto, unfolding(crate::specs::Script::ask_of))]
+fn ask_of(alloc: Global, words: &[u8]) -> io::Result<Option<ScriptStep>>
+    ensures { IfOk result (λ step. option_map said_by step ≡ ask_in words.now) }
+{
+    let (name, digits) = split_word(words);
+    if !is_name(name) {
+        return Ok(None);
+    }
+    match hex::decode(alloc, digits) {
+        Ok(octets) if !octets.is_empty() && octets.len() <= MAX_REQUEST => {
+            let name = Vec::from_slice(alloc, name)?;
+            Ok(Some(ScriptStep::Ask(name, octets)))
+        }
+        Err(FromHexError::OutOfMemory) => Err(io::Error::from(AllocError)),
+        _ => Ok(None),
+    }
+}
+
+/// The first word of a line, up to a space, and what stands behind that space.
+fn split_word(line: &[u8]) -> (&[u8], &[u8])
+    ensures word { result.0.now ≡ word_of line.now }
+    ensures rest { result.1.now ≡ behind_word line.now }
+{
+    match first_space(line) {
+        Some(at) => (&line[..at], &line[at + 1..]),
+        None => (line, &[]),
+    }
+}
+
+/// The place of the first space.
+fn first_space(line: &[u8]) -> Option<usize>
+    ensures { result ≡ position (λ octet. octet == 32) line.now }
+{
+    line.iter().position(|octet| *octet == b' ')
+}
+
+/// Whether a word is a strong owner's name: 1 to 8 lower-case letters and digits.
+#[tactic(auto, unfolding(crate::specs::Script::is_name))]
+fn is_name(word: &[u8]) -> bool
+    ensures { result ≡ says_name word.now }
+{
+    !word.is_empty() && word.len() <= MAX_NAME && are_name_octets(word)
+}
+
+/// Whether octets are lower-case letters and digits.
+fn are_name_octets(word: &[u8]) -> bool
+    ensures { result ≡ list_all says_name_octet word.now }
+{
+    word.iter().all(|octet| is_name_octet(*octet))
+}
+
+/// Whether an octet is a lower-case letter or a digit.
+fn is_name_octet(octet: u8) -> bool
+    ensures { result ≡ says_name_octet octet }
+{
+    octet.is_ascii_lowercase() || octet.is_ascii_digit()
+}

@@ -1,0 +1,44 @@
+//! What the definitions say of a play, each the contract of a function that does nothing.
+ghost use Rattle.std.specs.Prelude.{◌≡◌, ℕ, false, List, [], ◌∷◌, ◌++◌, None, codes};
+ghost use Rattle.dns_rdata.specs.Record.{Record};
+ghost use Rattle.dnsd.specs.declared.world.step.WorldReply.{WorldReply};
+ghost use Rattle.dnsd.specs.declared.world.step.WorldReply.TheVariants.{Owner, Left, Buried, Published, NotEnabled};
+ghost use Rattle.dnsd.specs.Reply.{reply};
+ghost use Rattle.dnsd.specs.World.{World, started, PlaysFrom, Plays, BuriesTheUnused};
+ghost use Rattle.dnsd.specs.WorldReplies.{loading, drops, latest, reply_at, replies_of};
+ghost use Rattle.dnsd.specs.WorldSteps.{Turn, answer_of};
+
+/// The replies of a play are those that the steps alone tell.
+pub fn replies_are_told()
+    ensures { (first : List Record) (turns : List Turn) (replies : List WorldReply)
+        → Plays first turns replies → replies ≡ replies_of first turns }
+{}
+
+/// Whatever is done after a name was loaded, short of dropping it, its requests are answered in the zone that was published
+/// last when it was loaded.
+pub fn asks_keep_their_version()
+    ensures { (first : List Record) (earlier later : List Turn) (name request : List ℕ)
+        → loading name earlier ≡ None → drops name later ≡ false
+        → reply_at first (later ++ Turn.Load name ∷ earlier) (Turn.Ask name request)
+        ≡ answer_of (reply (latest first earlier) request) }
+{}
+
+/// After any steps the versions that are buried are those that no name is in use for, without the last.
+pub fn unused_versions_are_buried()
+    ensures { (first : List Record) (turns : List Turn) (replies : List WorldReply) (after : World)
+        → PlaysFrom (started first) turns replies after → BuriesTheUnused after }
+{}
+
+/// Worked examples: an older version outlives its successor for whom it was loaded, and the last name that is in use for it
+/// buries it.
+pub fn examples()
+    ensures two_versions { (first second : List Record) (request : List ℕ)
+        → replies_of first (Turn.Load (codes "a") ∷ Turn.Publish second ∷ Turn.Load (codes "b")
+        ∷ Turn.Ask (codes "a") request ∷ Turn.Ask (codes "b") request ∷ Turn.Drop (codes "a") ∷ Turn.Drop (codes "a") ∷ [])
+        ≡ (Owner 0 ∷ Published ∷ Owner 1 ∷ answer_of (reply first request) ∷ answer_of (reply second request)
+        ∷ Buried 0 ∷ NotEnabled ∷ []) }
+    ensures two_names { (first second : List Record)
+        → replies_of first (Turn.Load (codes "a") ∷ Turn.Load (codes "a") ∷ Turn.Load (codes "b") ∷ Turn.Publish second
+        ∷ Turn.Drop (codes "a") ∷ Turn.Load (codes "a") ∷ Turn.Drop (codes "b") ∷ Turn.Drop (codes "a") ∷ [])
+        ≡ (Owner 0 ∷ NotEnabled ∷ Owner 0 ∷ Published ∷ Left ∷ Owner 1 ∷ Buried 0 ∷ Left ∷ []) }
+{}
