@@ -1,3 +1,4 @@
+pub mod Examples
 pub mod NameAt
 pub mod Parts
 pub mod Spells

@@ -43,10 +43,11 @@ impl NameWriter {
     }
 
     /// Writes the name behind the message, which is the first `at` octets of `out`, and gives the position behind the
-    /// name. With `compress`, the longest suffix that stands in the message is a pointer to its earliest position, and
-    /// the positions of the labels in front of it can be pointed to from then on; without it the name is written in
-    /// full, and nothing points to it. None where the name doesn't fit into `out`: nothing is written then
-    /// (RFC 1035, 4.1.4; RFC 2782).
+    /// name. None where the name doesn't fit into `out`: nothing is written or entered then.
+    ///
+    /// With `compress`, the longest suffix that the table has is a pointer to its earliest position, and the positions
+    /// of the labels in front of it are entered into the table: up to 256 (own), and none over 16,383 (RFC 1035, 4.1.4).
+    /// Names are told apart by case. Without `compress` the name is written in full, and nothing is entered (RFC 2782).
     pub fn write(&mut self, name: &Name, compress: bool, out: &mut [u8], at: usize) -> Option<usize>
         requires within { at ≤ length out.old }
         requires table { IsTable (take at out.old) self.old }
@@ -149,8 +150,9 @@ impl Draft {
         ensures text { self.new.text.items ≡ self.old.text.items ++ pointer_to target }
         ensures starts { self.new.starts.items ≡ self.old.starts.items }
     {
-        self.text.push(POINTER as u8 + (target / 256) as u8);
-        self.text.push((target % 256) as u8);
+        let [high, low] = target.to_be_bytes();
+        self.text.push(POINTER as u8 + high);
+        self.text.push(low);
     }
 }
 

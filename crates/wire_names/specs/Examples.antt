@@ -1,0 +1,6 @@
+-- The name of the worked examples (RFC 1035, 4.1.4).
+use Rattle.std.specs.Prelude.{ℕ, List, [], ◌∷◌, codes}
+
+-- F.ISI.ARPA
+abbrev pub f_isi_arpa : List (List ℕ)
+f_isi_arpa = codes "F" ∷ codes "ISI" ∷ codes "ARPA" ∷ []
