@@ -1,10 +1,12 @@
 #!/usr/bin/env bash
 # Makes a zone and queries, runs the proved program over them, and prints records read a second, queries answered a second
-# and peak memory. Usage: bench/answer.sh [RECORDS ..], by default 1000 and 100000. `make demo` builds the program.
+# and peak memory; then, over a zone of a dozen records, messages parsed and replies written a second.
+# Usage: [DNSD=PROGRAM] bench/answer.sh [RECORDS ..], by default 1000 and 100000. `make demo` builds the program.
 set -euo pipefail
 cd "$(dirname "$0")/.."
-program=$PWD/crates/dnsd/out/dnsd
-queries=10000
+program=${DNSD:-$PWD/crates/dnsd/out/dnsd}
+queries=500000
+messages=1000000
 work=$(mktemp -d)
 trap 'rm -rf "$work"' EXIT
 [ -x "$program" ] || { echo "bench: no program at $program: run make demo first" >&2; exit 1; }
@@ -35,6 +37,20 @@ requests() {
     }'
 }
 
+# A zone in which `m` has ten mail exchanges.
+exchanges() {
+    echo "example.test. 3600 IN SOA ns1.example.test. admin.example.test. 1 7200 900 1209600 300"
+    echo "example.test. 3600 IN NS ns1.example.test."
+    for i in 0 1 2 3 4 5 6 7 8 9; do echo "m.example.test. 3600 IN MX 10 mx$i.example.test."; done
+}
+
+# So many requests for `m`, with these flags and of this type, in hexadecimal.
+asked() {
+    awk -v q="$messages" -v flags="$1" -v type="$2" 'BEGIN {
+        for (i = 0; i < q; i++) printf "%04x%s0001000000000000016d076578616d706c65047465737400%s0001\n", i % 65536, flags, type
+    }'
+}
+
 # Runs the program over a zone's text and requests, and prints seconds and peak memory in KiB.
 measure() {
     python3 - "$program" "$1" "$2" <<'PY'
@@ -57,3 +73,17 @@ for n in "${@:-1000 100000}"; do for records in $n; do
         printf "%d records: %d records read a second, %d queries answered a second, %.1f MiB at most\n", n, n / r, q / (b > r ? b - r : 0.001), m / 1024
     }'
 done; done
+
+# Each figure has the line's reading and the reply's writing in it. A reply (QR 1) is read and not answered. Of an IXFR (type 251)
+# the whole request is parsed and a header alone is written; a query of type MX (15) is parsed, looked up and answered by ten
+# records.
+exchanges > "$work/zone"
+asked 8100 000f > "$work/none"
+asked 0100 00fb > "$work/parsed"
+asked 0100 000f > "$work/written"
+read -r none _ < <(measure "$work/zone" "$work/none")
+read -r parsed _ < <(measure "$work/zone" "$work/parsed")
+read -r written _ < <(measure "$work/zone" "$work/written")
+awk -v q="$messages" -v n="$none" -v p="$parsed" -v w="$written" 'BEGIN {
+    printf "%d messages a second passed over, %d parsed, %d answered by ten records\n", q / n, q / p, q / w
+}'

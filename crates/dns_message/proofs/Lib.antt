@@ -1,4 +1,11 @@
+pub mod AgainLemmas
+pub mod AskedLemmas
 pub mod CountLemmas
+pub mod DataLemmas
+pub mod KeepsLemmas
+pub mod NamesLemmas
 pub mod PutsLemmas
 pub mod ReadLemmas
+pub mod SectionLemmas
+pub mod SetLemmas
 pub mod TextLemmas

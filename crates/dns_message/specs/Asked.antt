@@ -1,11 +1,11 @@
--- The request that a reply answers.
-use Rattle.std.specs.Prelude.{◌≡◌, ℕ, ◌+◌, ◌*◌, ◌^◌, ◌<◌, false, List, [], ◌∷◌, ◌++◌, length, drop, Some}
+-- The request that a reply answers (RFC 1035, 4.1).
+use Rattle.std.specs.Prelude.{◌≡◌, ℕ, ◌+◌, ◌*◌, ◌^◌, ◌<◌, false, List, [], ◌∷◌, ◌++◌, drop, Some}
 use Rattle.std.specs.Int.{to_be_bytes, w16}
 use Rattle.std.specs.List.{flat_map}
-use Rattle.dns_name.specs.Name.{IsName}
+use Rattle.dns_name.specs.Name.{wire_of, IsName}
 use Rattle.dns_message.specs.Message.{opcode_QUERY, Message}
 use Rattle.dns_message.specs.Reads.{asks_transfer}
-use Rattle.dns_message.specs.Text.{bit, question_text, text}
+use Rattle.dns_message.specs.Text.{bit, text}
 use Rattle.dns_message.specs.declared.query.Head.{Head}
 use Rattle.dns_message.specs.declared.query.Question.{Question}
 
@@ -17,10 +17,6 @@ request_header head =
 -- a reply's octets with a request's header in place of its own
 abbrev pub request_of : Message → List ℕ
 request_of m = request_header m.head ++ drop 12 (text m)
-
--- octets begin with those of a question
-abbrev pub BeginsWith : List ℕ → Question → Type 0
-BeginsWith octets question = octets ≡ question_text question ++ drop (length (question_text question)) octets
 
 -- the parts of a question are what its octets can say (RFC 1035, 4.1.2)
 pub record IsQuestion (question : Question) : Type 0 where
@@ -35,3 +31,7 @@ pub record IsAnswerTo (m : Message) (question : Question) : Type 0 where
   pub lookup : asks_transfer question ≡ false
   pub id : m.head.id < 2 ^ 16
   pub standard : m.head.opcode ≡ opcode_QUERY
+
+-- the octets of a question whose name is in full (RFC 1035, 4.1.2)
+abbrev pub question_in_full : Question → List ℕ
+question_in_full question = wire_of question.name ++ (to_be_bytes w16 question.rtype.0 ++ to_be_bytes w16 question.class.0)

@@ -2,6 +2,7 @@
 use Rattle.std.specs.Prelude.{ℕ, true, false, List, [], ◌∷◌, ◌++◌, Some, codes}
 use Rattle.std.proofs.Common.{lit<}
 use Rattle.dns_rdata.specs.declared.numbers.Rcode.TheVariants.{NoError}
+use Rattle.dns_name.specs.Name.{wire_of}
 use Rattle.dns_rdata.specs.Record.{Record}
 use Rattle.dns_message.specs.declared.query.Head.{Head}
 use Rattle.dns_message.specs.declared.query.Question.{Question}
@@ -24,17 +25,53 @@ asked = record { name = www; rtype = record { 0 = 1 }; class = record { 0 = 1 } 
 abbrev pub asker : Head
 asker = record { id = 4660; opcode = 0; rd = true; four_bits = lit< tt }
 
--- 192.0.2.10 for an hour
+abbrev pub web : List (List ℕ)
+web = codes "web" ∷ codes "example" ∷ codes "test" ∷ []
+
+-- www is an alias of web, whose address is 192.0.2.10, each for an hour
+abbrev pub alias : Record
+alias = record { owner = www; rtype = 5; ttl = 3600; rdata = wire_of web }
+
 abbrev pub address : Record
-address = record { owner = www; rtype = 1; ttl = 3600; rdata = 192 ∷ 0 ∷ 2 ∷ 10 ∷ [] }
+address = record { owner = web; rtype = 1; ttl = 3600; rdata = 192 ∷ 0 ∷ 2 ∷ 10 ∷ [] }
 
 abbrev pub answer : Message
-answer = record { head = asker; rcode = NoError; aa = true; tc = false; question = Some asked; answer = address ∷ []; authority = []; additional = [] }
+answer = record { head = asker; rcode = NoError; aa = true; tc = false; question = Some asked; answer = alias ∷ address ∷ []; authority = []; additional = [] }
 
--- the reply's octets: flags QR, AA and RD, and the counts 1, 1, 0, 0
+-- the alias: its owner is at position 12, and example.test behind www at 16
+abbrev pub alias_octets : List ℕ
+alias_octets = 192 ∷ 12 ∷ 0 ∷ 5 ∷ 0 ∷ 1 ∷ 0 ∷ 0 ∷ 14 ∷ 16 ∷ 0 ∷ 6 ∷ 3 ∷ 119 ∷ 101 ∷ 98 ∷ 192 ∷ 16 ∷ []
+
+-- the address: its owner is in the alias' data, at position 46
+abbrev pub address_octets : List ℕ
+address_octets = 192 ∷ 46 ∷ 0 ∷ 1 ∷ 0 ∷ 1 ∷ 0 ∷ 0 ∷ 14 ∷ 16 ∷ 0 ∷ 4 ∷ 192 ∷ 0 ∷ 2 ∷ 10 ∷ []
+
+-- the reply's octets: flags QR, AA and RD, and the counts 1, 2, 0, 0
 abbrev pub answer_octets : List ℕ
-answer_octets = (18 ∷ 52 ∷ 133 ∷ 0 ∷ 0 ∷ 1 ∷ 0 ∷ 1 ∷ 0 ∷ 0 ∷ 0 ∷ 0 ∷ []) ++ question_octets ++ (3 ∷ 119 ∷ 119 ∷ 119 ∷ 7 ∷ 101 ∷ 120 ∷ 97 ∷ 109 ∷ 112 ∷ 108 ∷ 101 ∷ 4 ∷ 116 ∷ 101 ∷ 115 ∷ 116 ∷ 0 ∷ 0 ∷ 1 ∷ 0 ∷ 1 ∷ 0 ∷ 0 ∷ 14 ∷ 16 ∷ 0 ∷ 4 ∷ 192 ∷ 0 ∷ 2 ∷ 10 ∷ [])
+answer_octets = (18 ∷ 52 ∷ 133 ∷ 0 ∷ 0 ∷ 1 ∷ 0 ∷ 2 ∷ 0 ∷ 0 ∷ 0 ∷ 0 ∷ []) ++ question_octets ++ alias_octets ++ address_octets
 
 -- the same with TC and no record
 abbrev pub cut_octets : List ℕ
 cut_octets = (18 ∷ 52 ∷ 135 ∷ 0 ∷ 0 ∷ 1 ∷ 0 ∷ 0 ∷ 0 ∷ 0 ∷ 0 ∷ 0 ∷ []) ++ question_octets
+
+-- the service s.example.test is at port 53 of web, with priority 1 and weight 2
+abbrev pub service : List (List ℕ)
+service = codes "s" ∷ codes "example" ∷ codes "test" ∷ []
+
+abbrev pub asked_service : Question
+asked_service = record { name = service; rtype = record { 0 = 33 }; class = record { 0 = 1 } }
+
+abbrev pub place : Record
+place = record { owner = service; rtype = 33; ttl = 3600; rdata = 0 ∷ 1 ∷ 0 ∷ 2 ∷ 0 ∷ 53 ∷ wire_of web }
+
+abbrev pub service_answer : Message
+service_answer = record { head = asker; rcode = NoError; aa = true; tc = false; question = Some asked_service; answer = place ∷ []; authority = []; additional = address ∷ [] }
+
+-- the target is in full, and the address' owner, which has a pointer to example.test at 14, has none to it
+abbrev pub service_octets : List ℕ
+service_octets =
+    (18 ∷ 52 ∷ 133 ∷ 0 ∷ 0 ∷ 1 ∷ 0 ∷ 1 ∷ 0 ∷ 0 ∷ 0 ∷ 1 ∷ [])
+    ++ (1 ∷ 115 ∷ 7 ∷ 101 ∷ 120 ∷ 97 ∷ 109 ∷ 112 ∷ 108 ∷ 101 ∷ 4 ∷ 116 ∷ 101 ∷ 115 ∷ 116 ∷ 0 ∷ 0 ∷ 33 ∷ 0 ∷ 1 ∷ [])
+    ++ (192 ∷ 12 ∷ 0 ∷ 33 ∷ 0 ∷ 1 ∷ 0 ∷ 0 ∷ 14 ∷ 16 ∷ 0 ∷ 24 ∷ 0 ∷ 1 ∷ 0 ∷ 2 ∷ 0 ∷ 53 ∷ [])
+    ++ (3 ∷ 119 ∷ 101 ∷ 98 ∷ 7 ∷ 101 ∷ 120 ∷ 97 ∷ 109 ∷ 112 ∷ 108 ∷ 101 ∷ 4 ∷ 116 ∷ 101 ∷ 115 ∷ 116 ∷ 0 ∷ [])
+    ++ (3 ∷ 119 ∷ 101 ∷ 98 ∷ 192 ∷ 14 ∷ 0 ∷ 1 ∷ 0 ∷ 1 ∷ 0 ∷ 0 ∷ 14 ∷ 16 ∷ 0 ∷ 4 ∷ 192 ∷ 0 ∷ 2 ∷ 10 ∷ [])

@@ -1,6 +1,9 @@
+pub mod Again
 pub mod Asked
 pub mod Examples
+pub mod Frame
 pub mod Message
+pub mod Put
 pub mod Puts
 pub mod Reads
 pub mod Text

@@ -1,11 +1,14 @@
 -- How a request is read (RFC 1035, 4.1 and 4.2; the order of the refusals is our own choice).
-use Rattle.std.specs.Prelude.{ℕ, Bool, ◌+◌, ◌/◌, ◌%◌, ◌&&◌, ◌||◌, not, ◌==◌, List, length, drop, nat_lt, nat_le, Option, Some, None, option_and_then, slice_index, if◌then◌else◌}
+use Rattle.std.specs.Prelude.{ℕ, zero, suc, Bool, ◌+◌, ◌/◌, ◌%◌, ◌&&◌, ◌||◌, not, ◌==◌, List, [], ◌∷◌, length, take, drop, nat_lt, nat_le, Option, Some, None, option_map, option_and_then, Result, Ok, Err, slice_index, if◌then◌else◌}
+use Rattle.std.specs.Int.{from_be_bytes, w32}
+use Rattle.std.specs.List.{list_any}
 use Rattle.std.proofs.Common.{lit<}
 use Rattle.std.proofs.Math.Nat.{mod-lt}
-use Rattle.dns_name.specs.Name.{wire_of, name_in}
 use Rattle.dns_rdata.specs.declared.numbers.Rcode.TheVariants.{FormErr, NotImp}
-use Rattle.dns_rdata.specs.Numbers.{type_IXFR, type_AXFR}
-use Rattle.dns_message.specs.Message.{opcode_QUERY, opcode_UPDATE, number_at}
+use Rattle.dns_rdata.specs.Numbers.{type_OPT, type_IXFR, type_AXFR}
+use Rattle.wire_names.specs.NameAt.{name_at}
+use Rattle.wire_names.specs.declared.part.NameReadFault.{NameReadFault}
+use Rattle.dns_message.specs.Message.{Entry, Request, opcode_QUERY, opcode_UPDATE, number_at}
 use Rattle.dns_message.specs.declared.query.Head.{Head}
 use Rattle.dns_message.specs.declared.query.Question.{Question}
 use Rattle.dns_message.specs.declared.query.Parsed.{Parsed}
@@ -29,37 +32,81 @@ copied head = record { id = head.id; opcode = head.opcode; rd = head.rd && not (
 abbrev pub is_reply : List ℕ → Bool
 is_reply msg = nat_le 128 (slice_index msg 2)
 
--- whether the counts say one question and no records (RFC 1035, 4.1.1)
-abbrev pub counts_one_question : List ℕ → Bool
-counts_one_question msg = number_at msg 4 == 1 && number_at msg 6 == 0 && number_at msg 8 == 0 && number_at msg 10 == 0
+-- the question whose name was read, with its type and its class behind the name, and the position behind these; none
+-- where the name has a fault or the octets end before (RFC 1035, 4.1.2)
+abbrev pub question_of : List ℕ → Result (List (List ℕ) × ℕ) NameReadFault → Option (Question × ℕ)
+question_of msg (Err fault) = None
+question_of msg (Ok r) =
+    let rtype = number_at msg r.1 in
+    let class = number_at msg (r.1 + 2) in
+    if nat_le (r.1 + 4) (length msg) then Some (record { name = r.0; rtype = record { 0 = rtype }; class = record { 0 = class } }, r.1 + 4) else None
 
--- the question of a name, behind which its type and its class stand in the octets; none where these end before
--- (RFC 1035, 4.1.2)
-abbrev pub question_of : List ℕ → List (List ℕ) → Option Question
-question_of octets name =
-    let at = length (wire_of name) in
-    let rtype = number_at octets at in
-    let class = number_at octets (at + 2) in
-    if nat_le (at + 4) (length octets) then Some (record { name = name; rtype = record { 0 = rtype }; class = record { 0 = class } }) else None
+-- the question at a position of a message, its name through pointers, and the position behind it (RFC 1035, 4.1.2)
+abbrev pub question_at : List ℕ → ℕ → Option (Question × ℕ)
+question_at msg at = question_of msg (name_at msg at)
 
--- the question that the octets begin with: a name in full, a type, a class; what follows is ignored (RFC 1035, 4.1.2)
-abbrev pub question_in : List ℕ → Option Question
-question_in octets = option_and_then (question_of octets) (name_in octets)
+-- the number of 32 bits at a position (RFC 1035, 2.3.2)
+abbrev pub long_number_at : List ℕ → ℕ → ℕ
+long_number_at msg at = from_be_bytes w32 (take 4 (drop at msg))
+
+-- the record whose owner was read: behind the name its type, its class, its TTL, how many octets its data has, and so
+-- many octets, as they stand; and the position behind these; none where the name has a fault or the octets end before
+-- (RFC 1035, 4.1.3)
+abbrev pub record_of : List ℕ → Result (List (List ℕ) × ℕ) NameReadFault → Option (Entry × ℕ)
+record_of msg (Err fault) = None
+record_of msg (Ok r) =
+    let size = number_at msg (r.1 + 8) in
+    let next = r.1 + 10 + size in
+    if nat_le next (length msg)
+    then Some (record { owner = r.0; rtype = number_at msg r.1; class = number_at msg (r.1 + 2); ttl = long_number_at msg (r.1 + 4); rdata = take size (drop (r.1 + 10) msg) }, next)
+    else None
+
+-- the record at a position of a message, its owner through pointers, and the position behind it (RFC 1035, 4.1.3)
+abbrev pub record_at : List ℕ → ℕ → Option (Entry × ℕ)
+record_at msg at = record_of msg (name_at msg at)
+
+-- so many records, one after another from a position on, and the position behind the last; none where one can't be read
+unfoldable pub records_at : ℕ → List ℕ → ℕ → Option (List Entry × ℕ)
+records_at zero msg at = Some ([], at)
+records_at (suc count) msg at =
+    option_and_then (λ r. option_map (λ rest. (r.0 ∷ rest.0, rest.1)) (records_at count msg r.1)) (record_at msg at)
+
+-- what stands behind the header, by its counts QDCOUNT, ANCOUNT, NSCOUNT and ARCOUNT: one question and three sections
+-- of records; octets behind these are ignored (RFC 1035, 4.1; one question: own)
+unfoldable pub request_in : List ℕ → Option Request
+request_in msg =
+    if number_at msg 4 == 1
+    then option_and_then (λ q.
+    option_and_then (λ answer.
+    option_and_then (λ authority.
+    option_map (λ additional. record { question = q.0; answer = answer.0; authority = authority.0; additional = additional.0 })
+    (records_at (number_at msg 10) msg authority.1))
+    (records_at (number_at msg 8) msg answer.1))
+    (records_at (number_at msg 6) msg q.1))
+    (question_at msg 12)
+    else None
+
+-- whether an OPT is among records (RFC 6891, 6.1.1)
+abbrev pub has_opt : List Entry → Bool
+has_opt records = list_any (λ r. r.rtype == type_OPT) records
 
 -- whether a question asks for a transfer: IXFR or AXFR (RFC 1995, 4; RFC 5936, 2)
 abbrev pub asks_transfer : Question → Bool
 asks_transfer q = q.rtype.0 == type_IXFR || q.rtype.0 == type_AXFR
 
--- what a header and the question behind it say (RFC 1035, 4.1; own)
-abbrev pub query_of : Head → Option Question → Parsed
+-- what a header and what stands behind it say: FORMERR where that can't be read, or has an OPT in its additional
+-- section, as of a server without EDNS (RFC 6891, 7); NOTIMP of a transfer; else a query (RFC 1035, 4.1; own)
+abbrev pub query_of : Head → Option Request → Parsed
 query_of head None = Fault head FormErr
-query_of head (Some q) = if asks_transfer q then Fault head NotImp else Query (record { head = head; question = q })
+query_of head (Some r) =
+    if has_opt r.additional then Fault head FormErr
+    else if asks_transfer r.question then Fault head NotImp
+    else Query (record { head = head; question = r.question })
 
--- how octets are read: fewer than twelve, or a reply, are silent; another OPCODE than QUERY is NOTIMP; other counts, or
--- a question that can't be read, are FORMERR; a transfer is NOTIMP (RFC 1035, 4.1.1; own)
+-- how octets are read: fewer than twelve, or a reply, are silent; another OPCODE than QUERY is NOTIMP; else it is as the
+-- header and what stands behind it say (RFC 1035, 4.1.1; own)
 abbrev pub reads : List ℕ → Parsed
 reads msg =
     if nat_lt (length msg) 12 || is_reply msg then Silent
     else if not ((header_of msg).opcode == opcode_QUERY) then Fault (copied (header_of msg)) NotImp
-    else if not (counts_one_question msg) then Fault (header_of msg) FormErr
-    else query_of (header_of msg) (question_in (drop 12 msg))
+    else query_of (header_of msg) (request_in msg)

@@ -1,11 +1,12 @@
 -- The octets of a reply (RFC 1035, 4.1), and how it is cut to a limit (RFC 1035, 4.1.1 and 4.2.1; RFC 2181, 9).
-use Rattle.std.specs.Prelude.{ℕ, Bool, true, ◌+◌, ◌*◌, List, [], ◌∷◌, ◌++◌, length, nat_le, Option, Some, None, if◌then◌else◌}
+use Rattle.std.specs.Prelude.{ℕ, zero, suc, Bool, true, false, ◌+◌, ◌*◌, ◌==◌, List, [], ◌∷◌, ◌++◌, length, take, drop, nat_le, Option, Some, None, if◌then◌else◌}
 use Rattle.std.specs.Int.{to_be_bytes, w16, w32}
 use Rattle.std.specs.List.{flat_map}
-use Rattle.dns_name.specs.Name.{wire_of}
-use Rattle.dns_rdata.specs.Numbers.{class_IN, rcode_number}
+use Rattle.dns_name.specs.Name.{wire_of, name_in}
+use Rattle.dns_rdata.specs.Numbers.{type_NS, type_CNAME, type_SOA, type_PTR, type_MX, type_SRV, class_IN, rcode_number}
 use Rattle.dns_rdata.specs.Record.{Record}
 use Rattle.dns_message.specs.Message.{Message}
+use Rattle.dns_message.specs.Put.{Put, these, named, before, measured, each}
 use Rattle.dns_message.specs.declared.query.Question.{Question}
 
 -- a flag, as a bit
@@ -16,14 +17,42 @@ bit flag = if flag then 1 else 0
 abbrev pub flags_text : Message → List ℕ
 flags_text m = (128 + 8 * m.head.opcode + 4 * bit m.aa + 2 * bit m.tc + bit m.head.rd) ∷ rcode_number m.rcode ∷ []
 
--- a question: its name in full, its type, its class (RFC 1035, 4.1.2)
-abbrev pub question_text : Question → List ℕ
-question_text q = wire_of q.name ++ to_be_bytes w16 q.rtype.0 ++ to_be_bytes w16 q.class.0
+-- a question: its name, its type, its class (RFC 1035, 4.1.2)
+unfoldable pub question_text : Question → Put
+question_text q = before (named true q.name) (these (to_be_bytes w16 q.rtype.0 ++ to_be_bytes w16 q.class.0))
 
--- a record: its owner in full, its type, class IN, its TTL, how many octets its data has, and these (RFC 1035, 4.1.3)
-abbrev pub record_text : Record → List ℕ
-record_text r =
-    wire_of r.owner ++ to_be_bytes w16 r.rtype ++ to_be_bytes w16 class_IN ++ to_be_bytes w32 r.ttl ++ to_be_bytes w16 (length r.rdata) ++ r.rdata
+-- so many names at the front of data octets, each with pointers or in full, and behind them the octets as they are
+unfoldable pub names_text : Bool → ℕ → List ℕ → Put
+names_text compress zero octets = these octets
+names_text compress (suc names) octets =
+    elim (name_in octets) [
+      | None ↦ these octets
+      | Some name ↦ before (named compress name) (names_text compress names (drop (length (wire_of name)) octets))
+    ]
+
+-- so many octets of data as they are, and behind them a name and what follows it
+unfoldable pub name_behind : ℕ → Bool → List ℕ → Put
+name_behind front compress octets = before (these (take front octets)) (names_text compress 1 (drop front octets))
+
+-- a record's data: with pointers in the types of RFC 1035 that have names, the target of an SRV in full, other data as
+-- they are (RFC 1035, 3.3 and 4.1.4; RFC 2782; RFC 3597, 4)
+unfoldable pub data_text : ℕ → List ℕ → Put
+data_text rtype octets =
+    if rtype == type_NS then names_text true 1 octets
+    else if rtype == type_CNAME then names_text true 1 octets
+    else if rtype == type_SOA then names_text true 2 octets
+    else if rtype == type_PTR then names_text true 1 octets
+    else if rtype == type_MX then name_behind 2 true octets
+    else if rtype == type_SRV then name_behind 6 false octets
+    else these octets
+
+-- what stands between a record's owner and the length of its data: its type, class IN, its TTL (RFC 1035, 4.1.3)
+abbrev pub fixed_text : Record → List ℕ
+fixed_text r = to_be_bytes w16 r.rtype ++ to_be_bytes w16 class_IN ++ to_be_bytes w32 r.ttl
+
+-- a record: its owner, its type, class IN, its TTL, how many octets its data has, and these (RFC 1035, 4.1.3)
+unfoldable pub record_text : Record → Put
+record_text r = before (named true r.owner) (before (these (fixed_text r)) (measured (data_text r.rtype r.rdata)))
 
 -- the question section
 abbrev pub questions : Option Question → List Question
@@ -38,11 +67,17 @@ counts_in m = length (questions m.question) ∷ length m.answer ∷ length m.aut
 abbrev pub header_text : Message → List ℕ → List ℕ
 header_text m counts = to_be_bytes w16 m.head.id ++ flags_text m ++ flat_map (to_be_bytes w16) counts
 
--- a reply's octets: the header, then the sections (RFC 1035, 4.1)
+-- the four sections (RFC 1035, 4.1)
+unfoldable pub sections_text : Message → Put
+sections_text m =
+    before (each question_text (questions m.question))
+    (before (each record_text m.answer)
+    (before (each record_text m.authority)
+    (each record_text m.additional)))
+
+-- a reply's octets: the header, then the sections, whose table of names is its own (RFC 1035, 4.1 and 4.1.4)
 abbrev pub text : Message → List ℕ
-text m =
-    header_text m (counts_in m) ++ flat_map question_text (questions m.question)
-    ++ flat_map record_text m.answer ++ flat_map record_text m.authority ++ flat_map record_text m.additional
+text m = header_text m (counts_in m) ++ (sections_text m [] 12).0
 
 -- the header and the question alone, with TC 1; AA and the code are kept (RFC 2181, 9; own)
 abbrev pub truncated : Message → Message

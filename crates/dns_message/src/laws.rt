@@ -1,10 +1,14 @@
 //! Laws of how requests are read and replies are written.
-ghost use Rattle.std.specs.Prelude.{◌≡◌, ◌↔◌, ◌⊎◌, ℕ, ◌^◌, ◌<◌, ◌≤◌, List, ◌++◌, length, slice_index, All, Some};
-ghost use Rattle.dns_message.specs.Asked.{request_of, BeginsWith, IsQuestion, IsAnswerTo};
+ghost use Rattle.std.specs.Prelude.{◌≡◌, ◌↔◌, ◌⊎◌, ℕ, ◌+◌, ◌^◌, ◌<◌, ◌≤◌, List, ◌++◌, length, slice_index, Some};
+ghost use Rattle.dns_rdata.specs.Record.{Record};
+ghost use Rattle.wire_names.specs.Table.{Table};
+ghost use Rattle.dns_message.specs.Again.{IsRecord, IsReply, IsTrueOf, IsReadAgain, behind, names_of, names_in_data, names_at, names_start, octets_at, data_at, entry_at, request_written};
+ghost use Rattle.dns_message.specs.Asked.{request_of, question_in_full, IsQuestion, IsAnswerTo};
 ghost use Rattle.dns_message.specs.Message.{Message};
-ghost use Rattle.dns_message.specs.Reads.{question_in, reads};
-ghost use Rattle.dns_message.specs.Text.{question_text};
+ghost use Rattle.dns_message.specs.Text.{record_text, text};
 ghost use Rattle.dns_message.specs.declared.query.Question.{Question};
+ghost use Rattle.dns_message.specs.Frame.{frame_of, frame_in};
+ghost use Rattle.dns_message.specs.Reads.{question_at, record_at, request_in, reads};
 
 use crate::query::Parsed;
 use crate::read::{HEADER, QR};
@@ -14,13 +18,15 @@ pub fn silent_is_short_or_reply()
     ensures { (msg : List ℕ) → (reads msg ≡ Parsed.Silent) ↔ ((length msg < HEADER) ⊎ (QR ≤ slice_index msg 2)) }
 {}
 
-/// What octets are read as is a question whose name, type and class they begin with; and a question's octets are read
-/// as that question, whatever stands behind them (RFC 1035, 4.1.2).
-pub fn one_question()
-    ensures stands { (octets : List ℕ) (question : Question) → All (λ octet. octet < 2 ^ 8) octets
-        → question_in octets ≡ Some question → BeginsWith octets question }
-    ensures back { (question : Question) (rest : List ℕ) → IsQuestion question
-        → question_in (question_text question ++ rest) ≡ Some question }
+/// Octets that begin with the frame of a message give that message and the octets behind the frame (RFC 1035, 4.2.2).
+pub fn frame_is_taken_again()
+    ensures { (message rest : List ℕ) → length message ≤ 65535 → frame_in (frame_of message ++ rest) ≡ Some (message, rest) }
+{}
+
+/// A question whose name is in full is read as itself, whatever stands in front of it and behind it (RFC 1035, 4.1.2).
+pub fn question_in_full_is_read()
+    ensures { (front rest : List ℕ) (question : Question) → IsQuestion question
+        → question_at (front ++ (question_in_full question ++ rest)) (length front) ≡ Some (question, length front + length (question_in_full question)) }
 {}
 
 /// The question that a reply repeats is read, behind a request's header, as the question that it is, whatever records
@@ -28,4 +34,27 @@ pub fn one_question()
 pub fn question_is_read_again()
     ensures { (m : Message) (question : Question) → IsAnswerTo m question
         → reads (request_of m) ≡ Parsed.Query (record { head = m.head; question = question }) }
+{}
+
+/// A record that is written behind a message is read as itself, its data as they were written, whatever follows it; and
+/// its names are in the table behind it (RFC 1035, 4.1.3 and 4.1.4).
+pub fn record_is_read_again()
+    ensures read { (msg rest : List ℕ) (table : Table) (r : Record) → IsTrueOf msg table → IsRecord r → length (data_at r (table, length msg)) < 2 ^ 16
+        → record_at (msg ++ (octets_at (record_text r) (table, length msg) ++ rest)) (length msg) ≡ Some (entry_at r (table, length msg), (behind (record_text r) (table, length msg)).1) }
+    ensures table { (msg : List ℕ) (table : Table) (r : Record) → IsTrueOf msg table → IsRecord r
+        → IsTrueOf (msg ++ octets_at (record_text r) (table, length msg)) (behind (record_text r) (table, length msg)).0 }
+{}
+
+/// The names in the data of a record that is written are read at their places, through pointers, as they are in full:
+/// those of NS, CNAME, SOA, PTR, MX and SRV data (RFC 1035, 3.3 and 4.1.4; RFC 2782).
+pub fn names_in_data_are_read_again()
+    ensures { (msg rest : List ℕ) (table : Table) (r : Record) → IsTrueOf msg table → IsRecord r → (names_of r.rtype).0 ≤ length r.rdata
+        → names_at (length (names_in_data r)) (msg ++ (octets_at (record_text r) (table, length msg) ++ rest)) (names_start r (table, length msg)) ≡ Some (names_in_data r) }
+{}
+
+/// The sections of a reply that is written are read as those that were written, one after another to its end, and so
+/// they are by the counts of its header (RFC 1035, 4.1).
+pub fn sections_are_read_again()
+    ensures sections { (m : Message) (question : Question) → IsReply m question → IsReadAgain m question }
+    ensures counted { (m : Message) (question : Question) → IsReply m question → request_in (text m) ≡ Some (request_written m question) }
 {}

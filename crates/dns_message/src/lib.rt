@@ -1,10 +1,13 @@
-//! Messages: how a request is read, and how a reply is written (RFC 1035, 4.1 and 4.2).
+//! Messages: how a request is read, how a reply is written, and their frames over TCP (RFC 1035, 4.1 and 4.2).
 //!
 //! Contracts see a request as what its octets say ([`Parsed`]), and a reply as its header, its question and the lists of
-//! its records. Names are written in full. No call takes memory.
+//! its records. Names are read through pointers, and written with pointers to names in front of them (RFC 1035, 4.1.4).
+//! No call takes memory.
 #![tactic(auto)]
 
 mod count;
+mod data;
+mod frame;
 mod laws;
 mod octets;
 mod query;
@@ -14,9 +17,17 @@ mod reply;
 mod worked;
 mod write;
 
-pub use laws::{one_question, question_is_read_again, silent_is_short_or_reply};
+pub use frame::{put_frame, take_frame};
+pub use laws::{
+    frame_is_taken_again, names_in_data_are_read_again, question_in_full_is_read,
+    question_is_read_again, record_is_read_again, sections_are_read_again,
+    silent_is_short_or_reply,
+};
 pub use query::{Head, Parsed, Query, Question};
 pub use read::{HEADER, parse};
 pub use reply::Reply;
-pub use worked::examples;
+pub use worked::{examples, read_examples};
 pub use write::{MAX_LIMIT, MIN_LIMIT, write_reply};
+
+#[cfg(test)]
+mod tests;

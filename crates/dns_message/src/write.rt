@@ -1,14 +1,17 @@
 //! How a reply is written (RFC 1035, 4.1 and 4.2.1).
 ghost use Rattle.std.specs.Prelude.{◌≡◌, ◌≤◌, ◌<◌, ◌^◌, length, take, MatchOption};
-ghost use Rattle.dns_message.specs.Message.{message_of, section_of};
-ghost use Rattle.dns_message.specs.Puts.{Puts, IsPut};
-ghost use Rattle.dns_message.specs.Text.{bit, counts_in, flags_text, header_text, text, truncated, fit};
+ghost use Rattle.wire_names.specs.Table.{IsTable};
+ghost use Rattle.wire_names.specs.Written.{Puts, IsPut};
+ghost use Rattle.dns_message.specs.Message.{message_of};
+ghost use Rattle.dns_message.specs.Puts.{Goes};
+ghost use Rattle.dns_message.specs.Text.{bit, counts_in, flags_text, header_text, sections_text, text, truncated, fit};
 
 use crate::count::count_section;
 use crate::octets::{put, put_u16};
 use crate::read::{OPCODE, QR};
 use crate::records::{put_questions, put_section};
 use crate::reply::Reply;
+use wire_names::NameWriter;
 
 /// The least limit of a reply, in octets: what each UDP reader takes (RFC 1035, 4.2.1).
 pub const MIN_LIMIT: usize = 512;
@@ -24,6 +27,9 @@ const TC: u8 = 2;
 
 /// Writes a reply to the front of `out`, and gives how many octets it has: the whole reply where it fits the limit, else
 /// its header and question alone with TC 1 (RFC 1035, 4.1 and 4.2.1; RFC 2181, 9). It takes no memory.
+///
+/// The names of the question, of owners and of NS, CNAME, SOA, PTR and MX data have pointers to names in front of them
+/// in the reply (RFC 1035, 4.1.4); the target of an SRV is written in full (RFC 2782).
 pub fn write_reply(reply: &Reply<'_>, limit: usize, out: &mut [u8]) -> usize
     requires least { MIN_LIMIT ≤ limit }
     requires most { limit ≤ MAX_LIMIT }
@@ -46,7 +52,8 @@ fn put_truncated(out: &mut [u8], reply: &Reply<'_>) -> usize
 {
     let counts = [u16::from(reply.question.is_some()), 0, 0, 0];
     let at = put_header(out, reply, true, counts).unwrap();
-    put_questions(out, at, reply.question).unwrap()
+    let mut names = NameWriter::new();
+    put_questions(out, at, &mut names, reply.question).unwrap()
 }
 
 /// Writes the whole reply to the front of a buffer, as `put` does.
@@ -56,10 +63,26 @@ fn put_message(out: &mut [u8], reply: &Reply<'_>) -> Option<usize>
 {
     let counts = counts_of(reply)?;
     let at = put_header(out, reply, false, counts)?;
-    let at = put_questions(out, at, reply.question)?;
-    let at = put_section(out, at, reply.answer)?;
-    let at = put_section(out, at, reply.authority)?;
-    put_section(out, at, reply.additional)
+    let mut names = NameWriter::new();
+    put_sections(out, at, &mut names, reply)
+}
+
+/// Writes the four sections at a position, as `put_name` does (RFC 1035, 4.1).
+fn put_sections(
+    out: &mut [u8],
+    at: usize,
+    names: &mut NameWriter,
+    reply: &Reply<'_>,
+) -> Option<usize>
+    requires within { at ≤ length out.old }
+    requires most { length out.old ≤ MAX_LIMIT }
+    requires table { IsTable (take at out.old) names.old }
+    ensures { Goes (sections_text (message_of reply.now)) out.old out.new at names.old names.new result }
+{
+    let at = put_questions(out, at, names, reply.question)?;
+    let at = put_section(out, at, names, reply.answer)?;
+    let at = put_section(out, at, names, reply.authority)?;
+    put_section(out, at, names, reply.additional)
 }
 
 /// The counts of a reply's sections, by their headings in order; None where one hasn't 16 bits (RFC 1035, 4.1.1).
@@ -117,43 +140,54 @@ mod tests {
     use std::alloc::Global;
     use std::test::Fail;
 
-    fn question() -> Result<Question, Fail> {
-        Ok(Question {
-            name: name(b"\x03www\x07example\x04test\x00")?,
-            rtype: RType::A,
-            class: Class::IN,
-        })
-    }
-
     fn name(octets: &[u8]) -> Result<Name, Fail> {
         let (name, _) = Name::from_wire(octets).ok_or("no name")?;
         Ok(name)
     }
 
+    fn question(octets: &[u8], rtype: RType) -> Result<Question, Fail> {
+        Ok(Question {
+            name: name(octets)?,
+            rtype,
+            class: Class::IN,
+        })
+    }
+
+    /// A record of an hour.
+    fn one(alloc: Global, owner: &Name, rtype: RType, octets: &[u8]) -> Result<RRset, Fail> {
+        let data = RData::from_wire(alloc, rtype, octets)?;
+        Ok(RRset::new(alloc, owner, Ttl(3600), data)?)
+    }
+
+    /// One more record.
+    fn more(alloc: Global, set: &mut RRset, octets: &[u8]) -> Result<(), Fail> {
+        let next = RData::from_wire(alloc, set.rtype(), octets)?;
+        if set.rtype() == next.rtype() {
+            set.insert(next)?;
+        }
+        Ok(())
+    }
+
     /// So many addresses of 192.0.2.0/24 (RFC 5737, 3), from 192.0.2.1 on.
     fn addresses(alloc: Global, owner: &Name, count: u8) -> Result<RRset, Fail> {
-        let first = RData::from_wire(alloc, RType::A, b"\xc0\x00\x02\x01")?;
-        let mut set = RRset::new(alloc, owner, Ttl(3600), first)?;
+        let mut set = one(alloc, owner, RType::A, &[192, 0, 2, 1])?;
         for last in 2..=count {
-            let next = RData::from_wire(alloc, RType::A, &[192, 0, 2, last])?;
-            if set.rtype() == next.rtype() {
-                set.insert(next)?;
-            }
+            more(alloc, &mut set, &[192, 0, 2, last])?;
         }
         Ok(set)
     }
 
-    // By the diagrams of RFC 1035, 4.1.
-    #[test]
-    fn one_address(rt: HostRuntime) -> Result<(), Fail> {
-        let question = question()?;
-        let sets = [addresses(rt.alloc(), &question.name, 1)?];
-        let answer = [Shown {
-            owner: question.name.copy(),
+    fn shown<'a>(owner: &Name, sets: &'a [RRset]) -> Shown<'a> {
+        Shown {
+            owner: owner.copy(),
             ttl: None,
-            sets: &sets,
-        }];
-        let reply = Reply {
+            sets,
+        }
+    }
+
+    /// A reply to a query with RD, without records.
+    fn reply_to(question: &Question) -> Reply<'_> {
+        Reply {
             head: Head {
                 id: 0x1234,
                 opcode: 0,
@@ -161,38 +195,106 @@ mod tests {
             },
             rcode: Rcode::NoError,
             aa: true,
-            question: Some(&question),
-            answer: &answer,
+            question: Some(question),
+            answer: &[],
             authority: &[],
             additional: &[],
+        }
+    }
+
+    // By the diagrams of RFC 1035, 4.1 and 4.1.4: the alias' owner is at 12, what is behind www in it at 16, and the
+    // address' owner in the alias' data at 46.
+    #[test]
+    fn alias_and_address(rt: HostRuntime) -> Result<(), Fail> {
+        let question = question(b"\x03www\x07example\x04test\x00", RType::A)?;
+        let web = name(b"\x03web\x07example\x04test\x00")?;
+        let sets = [
+            one(rt.alloc(), &question.name, RType::CNAME, web.wire())?,
+            one(rt.alloc(), &web, RType::A, b"\xc0\x00\x02\x0a")?,
+        ];
+        let (alias, address) = sets.split_at(1);
+        let answer = [shown(&question.name, alias), shown(&web, address)];
+        let reply = Reply {
+            answer: &answer,
+            ..reply_to(&question)
         };
         let mut out = [0xee; MIN_LIMIT];
         let len = write_reply(&reply, MIN_LIMIT, &mut out);
-        let want = b"\x12\x34\x85\x00\x00\x01\x00\x01\x00\x00\x00\x00\
+        let want = b"\x12\x34\x85\x00\x00\x01\x00\x02\x00\x00\x00\x00\
             \x03www\x07example\x04test\x00\x00\x01\x00\x01\
-            \x03www\x07example\x04test\x00\x00\x01\x00\x01\x00\x00\x0e\x10\x00\x04\xc0\x00\x02\x01";
+            \xc0\x0c\x00\x05\x00\x01\x00\x00\x0e\x10\x00\x06\x03web\xc0\x10\
+            \xc0\x2e\x00\x01\x00\x01\x00\x00\x0e\x10\x00\x04\xc0\x00\x02\x0a";
         assert_eq!(rt; &out[..len], want.as_slice());
         Ok(())
     }
 
-    // A name error's SOA would stand where the NS stands here; the TTL shown is the one given (RFC 2308, 3).
+    // A name error with its SOA, whose TTL is the one given (RFC 2308, 3); both names of its data have pointers.
+    #[test]
+    fn name_error(rt: HostRuntime) -> Result<(), Fail> {
+        let question = question(b"\x04nope\x07example\x04test\x00", RType::A)?;
+        let zone = name(b"\x07example\x04test\x00")?;
+        let start = [one(
+            rt.alloc(),
+            &zone,
+            RType::SOA,
+            b"\x03ns1\x07example\x04test\x00\x05admin\x07example\x04test\x00\
+            \x00\x00\x00\x01\x00\x00\x1c\x20\x00\x00\x03\x84\x00\x12\x75\x00\x00\x00\x01\x2c",
+        )?];
+        let authority = [Shown {
+            owner: zone,
+            ttl: Some(Ttl(300)),
+            sets: &start,
+        }];
+        let reply = Reply {
+            rcode: Rcode::NxDomain,
+            authority: &authority,
+            ..reply_to(&question)
+        };
+        let mut out = [0xee; MIN_LIMIT];
+        let len = write_reply(&reply, MIN_LIMIT, &mut out);
+        let want = b"\x12\x34\x85\x03\x00\x01\x00\x00\x00\x01\x00\x00\
+            \x04nope\x07example\x04test\x00\x00\x01\x00\x01\
+            \xc0\x11\x00\x06\x00\x01\x00\x00\x01\x2c\x00\x22\x03ns1\xc0\x11\x05admin\xc0\x11\
+            \x00\x00\x00\x01\x00\x00\x1c\x20\x00\x00\x03\x84\x00\x12\x75\x00\x00\x00\x01\x2c";
+        assert_eq!(rt; &out[..len], want.as_slice());
+        Ok(())
+    }
+
+    // The target of an SRV is written in full, and nothing points to it (RFC 2782).
+    #[test]
+    fn service(rt: HostRuntime) -> Result<(), Fail> {
+        let question = question(b"\x01s\x07example\x04test\x00", RType::SRV)?;
+        let web = name(b"\x03web\x07example\x04test\x00")?;
+        let data = b"\x00\x01\x00\x02\x00\x35\x03web\x07example\x04test\x00";
+        let service = [one(rt.alloc(), &question.name, RType::SRV, data)?];
+        let address = [one(rt.alloc(), &web, RType::A, b"\xc0\x00\x02\x0a")?];
+        let answer = [shown(&question.name, &service)];
+        let additional = [shown(&web, &address)];
+        let reply = Reply {
+            answer: &answer,
+            additional: &additional,
+            ..reply_to(&question)
+        };
+        let mut out = [0xee; MIN_LIMIT];
+        let len = write_reply(&reply, MIN_LIMIT, &mut out);
+        let want = b"\x12\x34\x85\x00\x00\x01\x00\x01\x00\x00\x00\x01\
+            \x01s\x07example\x04test\x00\x00\x21\x00\x01\
+            \xc0\x0c\x00\x21\x00\x01\x00\x00\x0e\x10\x00\x18\
+            \x00\x01\x00\x02\x00\x35\x03web\x07example\x04test\x00\
+            \x03web\xc0\x0e\x00\x01\x00\x01\x00\x00\x0e\x10\x00\x04\xc0\x00\x02\x0a";
+        assert_eq!(rt; &out[..len], want.as_slice());
+        Ok(())
+    }
+
+    // Without a question the first name is at 12; the name of the NS data, at 28, is the owner behind it.
     #[test]
     fn sections_in_order(rt: HostRuntime) -> Result<(), Fail> {
         let zone = name(b"\x04test\x00")?;
         let server = name(b"\x02ns\x04test\x00")?;
-        let named = RData::from_wire(rt.alloc(), RType::NS, server.wire())?;
-        let servers = [RRset::new(rt.alloc(), &zone, Ttl(3600), named)?];
+        let servers = [one(rt.alloc(), &zone, RType::NS, server.wire())?];
         let glue = [addresses(rt.alloc(), &server, 1)?];
-        let authority = [Shown {
-            owner: zone,
-            ttl: Some(Ttl(60)),
-            sets: &servers,
-        }];
-        let additional = [Shown {
-            owner: server,
-            ttl: None,
-            sets: &glue,
-        }];
+        let authority = [shown(&zone, &servers)];
+        let additional = [shown(&server, &glue)];
         let reply = Reply {
             head: Head {
                 id: 0xfedc,
@@ -209,42 +311,78 @@ mod tests {
         let mut out = [0xee; MIN_LIMIT];
         let len = write_reply(&reply, MIN_LIMIT, &mut out);
         let want = b"\xfe\xdc\x90\x03\x00\x00\x00\x00\x00\x01\x00\x01\
-            \x04test\x00\x00\x02\x00\x01\x00\x00\x00\x3c\x00\x09\x02ns\x04test\x00\
-            \x02ns\x04test\x00\x00\x01\x00\x01\x00\x00\x0e\x10\x00\x04\xc0\x00\x02\x01";
+            \x04test\x00\x00\x02\x00\x01\x00\x00\x0e\x10\x00\x05\x02ns\xc0\x0c\
+            \xc0\x1c\x00\x01\x00\x01\x00\x00\x0e\x10\x00\x04\xc0\x00\x02\x01";
         assert_eq!(rt; &out[..len], want.as_slice());
         Ok(())
     }
 
-    // Fifteen addresses are 34 octets and 15 records of 32: 514 (RFC 1035, 4.2.1).
+    // A label is shared as it is spelt: the owner shown has its own first label before the name at 16.
+    #[test]
+    fn case_is_kept_apart(rt: HostRuntime) -> Result<(), Fail> {
+        let question = question(b"\x03WWW\x07example\x04test\x00", RType::A)?;
+        let sets = [addresses(rt.alloc(), &question.name, 1)?];
+        let owner = name(b"\x03www\x07example\x04test\x00")?;
+        let answer = [shown(&owner, &sets)];
+        let reply = Reply {
+            answer: &answer,
+            ..reply_to(&question)
+        };
+        let mut out = [0xee; MIN_LIMIT];
+        let len = write_reply(&reply, MIN_LIMIT, &mut out);
+        let want = b"\x03www\xc0\x10\x00\x01\x00\x01\x00\x00\x0e\x10\x00\x04\xc0\x00\x02\x01";
+        assert_eq!(rt; len, 54);
+        assert_eq!(rt; &out[34..54], want.as_slice());
+        Ok(())
+    }
+
+    // Thirty addresses are 34 octets and 30 records of 16: 514 (RFC 1035, 4.2.1).
     #[test]
     fn cut_to_the_limit(rt: HostRuntime) -> Result<(), Fail> {
-        let question = question()?;
-        let sets = [addresses(rt.alloc(), &question.name, 15)?];
-        let answer = [Shown {
-            owner: question.name.copy(),
-            ttl: None,
-            sets: &sets,
-        }];
+        let question = question(b"\x03www\x07example\x04test\x00", RType::A)?;
+        let sets = [addresses(rt.alloc(), &question.name, 30)?];
+        let answer = [shown(&question.name, &sets)];
         let reply = Reply {
-            head: Head {
-                id: 0x1234,
-                opcode: 0,
-                rd: false,
-            },
-            rcode: Rcode::NoError,
-            aa: true,
-            question: Some(&question),
             answer: &answer,
-            authority: &[],
-            additional: &[],
+            ..reply_to(&question)
         };
         let mut out = [0xee; 600];
         assert_eq!(rt; write_reply(&reply, 514, &mut out), 514);
-        assert_eq!(rt; &out[..8], b"\x12\x34\x84\x00\x00\x01\x00\x0f".as_slice());
+        assert_eq!(rt; &out[..8], b"\x12\x34\x85\x00\x00\x01\x00\x1e".as_slice());
         let len = write_reply(&reply, 513, &mut out);
         let want =
-            b"\x12\x34\x86\x00\x00\x01\x00\x00\x00\x00\x00\x00\x03www\x07example\x04test\x00\x00\x01\x00\x01";
+            b"\x12\x34\x87\x00\x00\x01\x00\x00\x00\x00\x00\x00\x03www\x07example\x04test\x00\x00\x01\x00\x01";
         assert_eq!(rt; &out[..len], want.as_slice());
+        Ok(())
+    }
+
+    // Four texts of 4096 octets reach over position 16,383, where no pointer can lead: the owner of the addresses
+    // behind them is written out at each (RFC 1035, 4.1.4).
+    #[test]
+    fn names_too_far_for_pointers(rt: HostRuntime) -> Result<(), Fail> {
+        let question = question(b"\x03www\x07example\x04test\x00", RType::TXT)?;
+        let server = name(b"\x02ns\x07example\x04test\x00")?;
+        let mut text = [255; 4096];
+        let mut set = one(rt.alloc(), &question.name, RType::TXT, &text)?;
+        for mark in 0..3 {
+            text[1] = mark;
+            more(rt.alloc(), &mut set, &text)?;
+        }
+        let texts = [set];
+        let glue = [addresses(rt.alloc(), &server, 2)?];
+        let answer = [shown(&question.name, &texts)];
+        let additional = [shown(&server, &glue)];
+        let reply = Reply {
+            answer: &answer,
+            additional: &additional,
+            ..reply_to(&question)
+        };
+        let mut out = [0xee; MAX_LIMIT];
+        let len = write_reply(&reply, MAX_LIMIT, &mut out);
+        assert_eq!(rt; len, 34 + 4 * 4108 + 2 * 19);
+        let want = b"\x02ns\xc0\x10\x00\x01\x00\x01\x00\x00\x0e\x10\x00\x04\xc0\x00\x02\x01\
+            \x02ns\xc0\x10\x00\x01\x00\x01\x00\x00\x0e\x10\x00\x04\xc0\x00\x02\x02";
+        assert_eq!(rt; &out[16466..16504], want.as_slice());
         Ok(())
     }
 }

@@ -7,23 +7,24 @@ use Rattle.std.proofs.lemmas.List.{take-append-drop}
 use Rattle.hex.specs.declared.error.FromHexError.{FromHexError}
 use Rattle.hex.specs.Hex.{decode_of}
 use Rattle.dns_rdata.specs.Record.{Record}
+use Rattle.dnsd.specs.declared.transport.Transport.{Transport}
 use Rattle.dnsd.specs.Reply.{reply}
 use Rattle.dnsd.specs.Lines.{TakesLine, Begins, line_of, line_for, written, input_lines, output_of, onto_first, MOST_OCTETS}
 
 -- what is no hexadecimal of so many octets gets `!`
-line_of-refused : (zone : List Record) (r : Result (List ℕ) FromHexError) → ((octets : List ℕ) → r ≡ Ok octets → MOST_OCTETS < length octets) → line_of zone r ≡ codes "!"
-line_of-refused zone (Err fault) long = refl
-line_of-refused zone (Ok octets) long = cond-false _ _ _ (lt-leb _ _ (long octets refl))
+line_of-refused : (transport : Transport) (zone : List Record) (r : Result (List ℕ) FromHexError) → ((octets : List ℕ) → r ≡ Ok octets → MOST_OCTETS < length octets) → line_of transport zone r ≡ codes "!"
+line_of-refused transport zone (Err fault) long = refl
+line_of-refused transport zone (Ok octets) long = cond-false _ _ _ (lt-leb _ _ (long octets refl))
 
 -- a line that is no hexadecimal of so many octets gets `!`
-pub line_for-refused : (zone : List Record) (line : List ℕ) → ((octets : List ℕ) → decode_of line ≡ Ok octets → MOST_OCTETS < length octets) → line_for zone line ≡ codes "!"
+pub line_for-refused : (transport : Transport) (zone : List Record) (line : List ℕ) → ((octets : List ℕ) → decode_of line ≡ Ok octets → MOST_OCTETS < length octets) → line_for transport zone line ≡ codes "!"
 unfolding line_for
-line_for-refused zone line long = line_of-refused zone (decode_of line) long
+line_for-refused transport zone line long = line_of-refused transport zone (decode_of line) long
 
 -- a line that is hexadecimal of so many octets gets their reply
-pub line_for-request : (zone : List Record) (line octets : List ℕ) → decode_of line ≡ Ok octets → length octets ≤ MOST_OCTETS → line_for zone line ≡ written (reply zone octets)
+pub line_for-request : (transport : Transport) (zone : List Record) (line octets : List ℕ) → decode_of line ≡ Ok octets → length octets ≤ MOST_OCTETS → line_for transport zone line ≡ written (reply transport zone octets)
 unfolding line_for
-line_for-request zone line octets e short = ap (line_of zone) e ∙ cond-true _ _ _ (le-leb _ _ short)
+line_for-request transport zone line octets e short = ap (line_of transport zone) e ∙ cond-true _ _ _ (le-leb _ _ short)
 
 -- the end is cut off a longer list as off its rest
 pub strip_last-cons : (byte c x : ℕ) (xs : List ℕ) → strip_last byte (c ∷ x ∷ xs) ≡ c ∷ strip_last byte (x ∷ xs)
@@ -65,12 +66,12 @@ input_lines-first c (d ∷ ds) = at_test (eqb c 10) refl (input_lines-first d ds
         at_list ts f = rw (f, strip_last-cons 10 c some.0 some.1) refl
 
 -- the output so far, for an input of which the rest is left: the rest's output completes the whole
-pub record IsOnTheWay (zone : List Record) (input : List ℕ) (left written_before written_after : Option (List ℕ)) : Type 0 where
+pub record IsOnTheWay (transport : Transport) (zone : List Record) (input : List ℕ) (left written_before written_after : Option (List ℕ)) : Type 0 where
   pub rest : List ℕ
   pub done : List ℕ
   pub is_left : left ≡ Some rest
   pub grown : Appends written_before written_after done
-  pub whole : done ++ output_of zone rest ≡ output_of zone input
+  pub whole : done ++ output_of transport zone rest ≡ output_of transport zone input
 
 -- bytes that grow twice grow by both in turn
 pub Appends-twice : (before between after : Option (List ℕ)) (first second : List ℕ) → Appends before between first → Appends between after second → Appends before after (first ++ second)
@@ -80,9 +81,9 @@ Appends-twice (Some xs) (Some ys) None first second a b = absurd b
 Appends-twice (Some xs) (Some ys) (Some zs) first second a b = b ∙ ap (λ us. us ++ second) a ∙ append_assoc xs first second
 
 -- the output for what is left is the line for its first line, and then the output for what follows that
-output_of-first : (zone : List Record) (rest : List ℕ) → 0 < length rest → output_of zone rest ≡ (line_for zone (first_piece 10 rest) ++ 10 ∷ []) ++ output_of zone (drop_through 10 rest)
-output_of-first zone [] some = absurd (omega arith)
-output_of-first zone (c ∷ cs) some = ap (flat_map (λ line. line_for zone line ++ 10 ∷ [])) (input_lines-first c cs)
+output_of-first : (transport : Transport) (zone : List Record) (rest : List ℕ) → 0 < length rest → output_of transport zone rest ≡ (line_for transport zone (first_piece 10 rest) ++ 10 ∷ []) ++ output_of transport zone (drop_through 10 rest)
+output_of-first transport zone [] some = absurd (omega arith)
+output_of-first transport zone (c ∷ cs) some = ap (flat_map (λ line. line_for transport zone line ++ 10 ∷ [])) (input_lines-first c cs)
 
 -- a writer that keeps its bytes has grown by none
 pub Appends-none : (before : Option (List ℕ)) → Appends before before []
@@ -132,29 +133,29 @@ Appends-written before after octets rest is none =
     subst (λ out. Appends before after out) all is.grown
 
 -- what a turn of the loop does: it takes a line and answers it, or nothing is left and nothing is written
-abbrev pub TurnOf : List Record → Option (List ℕ) → Option (List ℕ) → Option (List ℕ) → Option (List ℕ) → Bool → Type 0
-TurnOf zone left rest_left between after more =
-    IfSome left (λ rest. MatchBool more (TakesLine zone rest rest_left between after) ((rest ≡ []) × (after ≡ between)))
+abbrev pub TurnOf : Transport → List Record → Option (List ℕ) → Option (List ℕ) → Option (List ℕ) → Option (List ℕ) → Bool → Type 0
+TurnOf transport zone left rest_left between after more =
+    IfSome left (λ rest. MatchBool more (TakesLine transport zone rest rest_left between after) ((rest ≡ []) × (after ≡ between)))
 
 -- one more line is taken and answered
-pub IsOnTheWay-line : (zone : List Record) (input : List ℕ) (left rest_left before between after : Option (List ℕ)) (more : Bool) → IsOnTheWay zone input left before between
-    → more ≡ true → TurnOf zone left rest_left between after more → IsOnTheWay zone input rest_left before after
-IsOnTheWay-line zone input left rest_left before between after more way is_more turn =
-    let line : TakesLine zone way.rest rest_left between after = rw (way.is_left, is_more) at turn in
+pub IsOnTheWay-line : (transport : Transport) (zone : List Record) (input : List ℕ) (left rest_left before between after : Option (List ℕ)) (more : Bool) → IsOnTheWay transport zone input left before between
+    → more ≡ true → TurnOf transport zone left rest_left between after more → IsOnTheWay transport zone input rest_left before after
+IsOnTheWay-line transport zone input left rest_left before between after more way is_more turn =
+    let line : TakesLine transport zone way.rest rest_left between after = rw (way.is_left, is_more) at turn in
     record {
       rest = drop_through 10 way.rest;
-      done = way.done ++ (line_for zone (first_piece 10 way.rest) ++ 10 ∷ []);
+      done = way.done ++ (line_for transport zone (first_piece 10 way.rest) ++ 10 ∷ []);
       is_left = line.taken;
       grown = Appends-twice before between after _ _ way.grown line.line;
-      whole = append_assoc way.done _ _ ∙ ap (λ out. way.done ++ out) (sym (output_of-first zone way.rest line.some)) ∙ way.whole;
+      whole = append_assoc way.done _ _ ∙ ap (λ out. way.done ++ out) (sym (output_of-first transport zone way.rest line.some)) ∙ way.whole;
     }
 
 -- where nothing is left, the whole output was written
-pub IsOnTheWay-end : (zone : List Record) (input : List ℕ) (left rest_left before between after : Option (List ℕ)) (more : Bool) → IsOnTheWay zone input left before between
-    → more ≡ false → TurnOf zone left rest_left between after more → Appends before after (output_of zone input)
-IsOnTheWay-end zone input left rest_left before between after more way is_end turn =
+pub IsOnTheWay-end : (transport : Transport) (zone : List Record) (input : List ℕ) (left rest_left before between after : Option (List ℕ)) (more : Bool) → IsOnTheWay transport zone input left before between
+    → more ≡ false → TurnOf transport zone left rest_left between after more → Appends before after (output_of transport zone input)
+IsOnTheWay-end transport zone input left rest_left before between after more way is_end turn =
     let end : (way.rest ≡ []) × (after ≡ between) = rw (way.is_left, is_end) at turn in
-    let all : way.done ≡ output_of zone input = sym (append-nil way.done) ∙ ap (λ rest. way.done ++ output_of zone rest) (sym end.0) ∙ way.whole in
+    let all : way.done ≡ output_of transport zone input = sym (append-nil way.done) ∙ ap (λ rest. way.done ++ output_of transport zone rest) (sym end.0) ∙ way.whole in
     subst (λ out. Appends before after out) all (subst (λ held. Appends before held way.done) (sym end.1) way.grown)
 
 -- a fact for each value that an option may have
@@ -163,20 +164,20 @@ IfSome-each None P each = tt
 IfSome-each (Some xs) P each = each xs refl
 
 -- at an error in the middle of a line a beginning of the output for what is left is written
-pub Begins-line : (zone : List Record) (rest : List ℕ) (before after : Option (List ℕ)) → 0 < length rest
-    → Begins before after (line_for zone (first_piece 10 rest) ++ 10 ∷ []) → Begins before after (output_of zone rest)
-Begins-line zone rest before after some begins = record {
+pub Begins-line : (transport : Transport) (zone : List Record) (rest : List ℕ) (before after : Option (List ℕ)) → 0 < length rest
+    → Begins before after (line_for transport zone (first_piece 10 rest) ++ 10 ∷ []) → Begins before after (output_of transport zone rest)
+Begins-line transport zone rest before after some begins = record {
   done = begins.done;
-  rest = begins.rest ++ output_of zone (drop_through 10 rest);
+  rest = begins.rest ++ output_of transport zone (drop_through 10 rest);
   grown = begins.grown;
-  whole = sym (append_assoc begins.done begins.rest _) ∙ ap (λ line. line ++ output_of zone (drop_through 10 rest)) begins.whole ∙ sym (output_of-first zone rest some);
+  whole = sym (append_assoc begins.done begins.rest _) ∙ ap (λ line. line ++ output_of transport zone (drop_through 10 rest)) begins.whole ∙ sym (output_of-first transport zone rest some);
 }
 
 -- and then a beginning of the whole output
-pub Begins-on_the_way : (zone : List Record) (input : List ℕ) (left before between after : Option (List ℕ)) → IsOnTheWay zone input left before between
-    → IfSome left (λ rest. Begins between after (output_of zone rest)) → Begins before after (output_of zone input)
-Begins-on_the_way zone input left before between after way begins =
-    let last : Begins between after (output_of zone way.rest) = rw way.is_left at begins in
+pub Begins-on_the_way : (transport : Transport) (zone : List Record) (input : List ℕ) (left before between after : Option (List ℕ)) → IsOnTheWay transport zone input left before between
+    → IfSome left (λ rest. Begins between after (output_of transport zone rest)) → Begins before after (output_of transport zone input)
+Begins-on_the_way transport zone input left before between after way begins =
+    let last : Begins between after (output_of transport zone way.rest) = rw way.is_left at begins in
     record {
       done = way.done ++ last.done;
       rest = last.rest;
@@ -185,20 +186,20 @@ Begins-on_the_way zone input left before between after way begins =
     }
 
 -- where the loop ends early, a beginning of the output is written
-pub Begins-early : (zone : List Record) (input : List ℕ) (left before after : Option (List ℕ)) → IsOnTheWay zone input left before after → Begins before after (output_of zone input)
-Begins-early zone input left before after way = record { done = way.done; rest = output_of zone way.rest; grown = way.grown; whole = way.whole }
+pub Begins-early : (transport : Transport) (zone : List Record) (input : List ℕ) (left before after : Option (List ℕ)) → IsOnTheWay transport zone input left before after → Begins before after (output_of transport zone input)
+Begins-early transport zone input left before after way = record { done = way.done; rest = output_of transport zone way.rest; grown = way.grown; whole = way.whole }
 
 -- the same from what was read of a line
-pub Begins-read : (zone : List Record) (left : Option (List ℕ)) (cleared line : List ℕ) (before after : Option (List ℕ)) → cleared ≡ []
+pub Begins-read : (transport : Transport) (zone : List Record) (left : Option (List ℕ)) (cleared line : List ℕ) (before after : Option (List ℕ)) → cleared ≡ []
     → IfSome left (λ rest. line ≡ cleared ++ take_through 10 rest) → 0 < length line
-    → Begins before after (line_for zone (strip_last 10 line) ++ 10 ∷ []) → IfSome left (λ rest. Begins before after (output_of zone rest))
-Begins-read zone None cleared line before after none read some begins = tt
-Begins-read zone (Some []) cleared line before after none read some begins =
+    → Begins before after (line_for transport zone (strip_last 10 line) ++ 10 ∷ []) → IfSome left (λ rest. Begins before after (output_of transport zone rest))
+Begins-read transport zone None cleared line before after none read some begins = tt
+Begins-read transport zone (Some []) cleared line before after none read some begins =
     let e : length line ≡ 0 = ap length read ∙ ap (λ xs. length (xs ++ [])) none in absurd (omega (arith, e))
-Begins-read zone (Some (c ∷ cs)) cleared line before after none read some begins =
+Begins-read transport zone (Some (c ∷ cs)) cleared line before after none read some begins =
     let is : line ≡ take_through 10 (c ∷ cs) = read ∙ ap (λ xs. xs ++ take_through 10 (c ∷ cs)) none in
-    Begins-line zone (c ∷ cs) before after (omega arith)
-    (subst (λ taken. Begins before after (line_for zone (strip_last 10 taken) ++ 10 ∷ [])) is begins)
+    Begins-line transport zone (c ∷ cs) before after (omega arith)
+    (subst (λ taken. Begins before after (line_for transport zone (strip_last 10 taken) ++ 10 ∷ [])) is begins)
 
 -- a fact that stands at an error stands where there is one
 pub OnErr-each : {T E : Type 0} (r : Result T E) (P : Type 0) → P → OnErr r P

@@ -8,6 +8,7 @@ use Rattle.cell_core.specs.Cell.{Cell, IsLast, with_strong, without_strong, with
 use Rattle.dns_rdata.specs.Record.{Record}
 use Rattle.dnsd.specs.declared.world.step.WorldReply.{WorldReply}
 use Rattle.dnsd.specs.declared.world.step.WorldReply.TheVariants.{Owner, Left, Buried, NotEnabled}
+use Rattle.dnsd.specs.declared.transport.Transport.TheVariants.{Udp}
 use Rattle.dnsd.specs.Reply.{reply}
 use Rattle.dnsd.specs.WorldSteps.{Turn, answer_of}
 use Rattle.dnsd.specs.WorldSteps.Turn.{Load, Drop, Ask, Publish}
@@ -62,9 +63,9 @@ asked_none : (first : List Record) (o : Option (List Turn)) (request : List ℕ)
 asked_none first None request e = refl
 asked_none first (Some past) request e = absurd (let wrong = e in cc)
 
-asked_some : (first : List Record) (o : Option (List Turn)) (request : List ℕ) (zone : List Record) → option_map (latest first) o ≡ Some zone → answer_of (reply zone request) ≡ asked first o request
+asked_some : (first : List Record) (o : Option (List Turn)) (request : List ℕ) (zone : List Record) → option_map (latest first) o ≡ Some zone → answer_of (reply Udp zone request) ≡ asked first o request
 asked_some first None request zone e = absurd (let wrong = e in cc)
-asked_some first (Some past) request zone e = let same : zone ≡ latest first past = cc in ap (λ (z : List Record). answer_of (reply z request)) same
+asked_some first (Some past) request zone e = let same : zone ≡ latest first past = cc in ap (λ (z : List Record). answer_of (reply Udp z request)) same
 
 ask_told : (first : List Record) (earlier : List Turn) (before : World) (name request : List ℕ) (given : WorldReply) (after : World) (zone : List Record) → IsAt first earlier before.cell before.handles → zone_of name before ≡ Some zone → Asks before zone request given after → IsTold first earlier (Ask name request) given after
 ask_told first earlier before name request given after zone s e a =
@@ -213,5 +214,5 @@ pub plays_told : (first : List Record) (turns : List Turn) (replies : List World
 plays_told first turns replies p = (plays_behind first [] (started first) turns replies p.0 (at_start first) p.1).told
 
 -- an ask of a name that was loaded and not dropped
-pub asked_later : (first : List Record) (earlier later : List Turn) (name request : List ℕ) → loading name earlier ≡ None → drops name later ≡ false → reply_at first (later ++ Load name ∷ earlier) (Ask name request) ≡ answer_of (reply (latest first earlier) request)
+pub asked_later : (first : List Record) (earlier later : List Turn) (name request : List ℕ) → loading name earlier ≡ None → drops name later ≡ false → reply_at first (later ++ Load name ∷ earlier) (Ask name request) ≡ answer_of (reply Udp (latest first earlier) request)
 asked_later first earlier later name request free kept = let is = loading_later name earlier later free kept in rw is refl

@@ -5,6 +5,7 @@ use Rattle.std.specs.Io.KnownBytes.{Appends}
 use Rattle.hex.specs.declared.error.FromHexError.{FromHexError}
 use Rattle.hex.specs.Hex.{decode_of, encode_lower}
 use Rattle.dns_rdata.specs.Record.{Record}
+use Rattle.dnsd.specs.declared.transport.Transport.{Transport}
 use Rattle.dnsd.specs.Reply.{reply}
 
 -- the most octets of a request (RFC 1035, 4.2.2)
@@ -17,13 +18,13 @@ written None = codes "-"
 written (Some octets) = encode_lower octets
 
 -- the line for what a line of hexadecimal stands for: the reply, or `!` where it is no hexadecimal of so many octets at most
-abbrev pub line_of : List Record → Result (List ℕ) FromHexError → List ℕ
-line_of zone (Err fault) = codes "!"
-line_of zone (Ok request) = if nat_le (length request) MOST_OCTETS then written (reply zone request) else codes "!"
+abbrev pub line_of : Transport → List Record → Result (List ℕ) FromHexError → List ℕ
+line_of transport zone (Err fault) = codes "!"
+line_of transport zone (Ok request) = if nat_le (length request) MOST_OCTETS then written (reply transport zone request) else codes "!"
 
 -- the line for a line
-unfoldable pub line_for : List Record → List ℕ → List ℕ
-line_for zone line = line_of zone (decode_of line)
+unfoldable pub line_for : Transport → List Record → List ℕ → List ℕ
+line_for transport zone line = line_of transport zone (decode_of line)
 
 -- an octet in front of the first line
 abbrev pub onto_first : ℕ → List (List ℕ) → List (List ℕ)
@@ -36,8 +37,8 @@ input_lines [] = []
 input_lines (octet ∷ input) = if octet == 10 then [] ∷ input_lines input else onto_first octet (input_lines input)
 
 -- what is written for an input: a line for each of its lines
-abbrev pub output_of : List Record → List ℕ → List ℕ
-output_of zone input = flat_map (λ line. line_for zone line ++ 10 ∷ []) (input_lines input)
+abbrev pub output_of : Transport → List Record → List ℕ → List ℕ
+output_of transport zone input = flat_map (λ line. line_for transport zone line ++ 10 ∷ []) (input_lines input)
 
 -- what was written is a beginning of these octets
 pub record Begins (before after : Option (List ℕ)) (octets : List ℕ) : Type 0 where
@@ -51,7 +52,7 @@ abbrev pub Writes : {T E : Type 0} → Result T E → Option (List ℕ) → Opti
 Writes result before after octets = MatchResult result (λ _. Appends before after octets) (λ _. Begins before after octets)
 
 -- the reader's next line is taken, and the line for it is written
-pub record TakesLine (zone : List Record) (rest : List ℕ) (left written_before written_after : Option (List ℕ)) : Type 0 where
+pub record TakesLine (transport : Transport) (zone : List Record) (rest : List ℕ) (left written_before written_after : Option (List ℕ)) : Type 0 where
   pub some : 0 < length rest
   pub taken : left ≡ Some (drop_through 10 rest)
-  pub line : Appends written_before written_after (line_for zone (first_piece 10 rest) ++ 10 ∷ [])
+  pub line : Appends written_before written_after (line_for transport zone (first_piece 10 rest) ++ 10 ∷ [])

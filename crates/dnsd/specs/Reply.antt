@@ -16,7 +16,8 @@ use Rattle.dns_message.specs.Text.{fit}
 use Rattle.zone_tree.specs.Zone.{apex_of}
 use Rattle.lookup_core.specs.Sections.{Sections, sections, without_additional}
 use Rattle.lookup_core.specs.Waits.{waits}
-use Rattle.dnsd.specs.declared.reply.TheConstants.{UDP_LIMIT}
+use Rattle.dnsd.specs.declared.transport.Transport.{Transport}
+use Rattle.dnsd.specs.Transport.{limit_of}
 
 -- a header alone, with a code
 abbrev pub bare : Head → Rcode → Message
@@ -45,12 +46,12 @@ reply_to zone query =
     else if not (is_under query.question.name (apex_of zone)) then refused query.head query.question
     else answered_in zone query.head query.question
 
--- the octets for what a request says, over UDP; none where there is no reply (RFC 1035, 4.2.1)
-abbrev pub reply_for : List Record → Parsed → Option (List ℕ)
-reply_for zone Silent = None
-reply_for zone (Fault head rcode) = Some (fit (bare head rcode) UDP_LIMIT)
-reply_for zone (Query query) = Some (fit (reply_to zone query) UDP_LIMIT)
+-- the octets for what a request says, over a transport; none where there is no reply (RFC 1035, 4.2.1 and 4.2.2)
+abbrev pub reply_for : Transport → List Record → Parsed → Option (List ℕ)
+reply_for transport zone Silent = None
+reply_for transport zone (Fault head rcode) = Some (fit (bare head rcode) (limit_of transport))
+reply_for transport zone (Query query) = Some (fit (reply_to zone query) (limit_of transport))
 
--- the octets that answer a request in a zone, over UDP; none where there is no reply (RFC 1035, 4.2.1)
-unfoldable pub reply : List Record → List ℕ → Option (List ℕ)
-reply zone request = reply_for zone (reads request)
+-- the octets that answer a request in a zone, over a transport; none where there is no reply (RFC 1035, 4.2.1 and 4.2.2)
+unfoldable pub reply : Transport → List Record → List ℕ → Option (List ℕ)
+reply transport zone request = reply_for transport zone (reads request)

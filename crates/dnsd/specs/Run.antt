@@ -48,17 +48,17 @@ AtDevice fault fact = Unit
 
 -- where a command's zone comes from
 abbrev pub source_of : Command → Source
-source_of (Answer zone origin) = zone
+source_of (Answer zone origin transport) = zone
 source_of (Steps zone origin) = zone
 
 -- the origin at the start of a command's zone's text
 abbrev pub origin_of : Command → List (List ℕ)
-origin_of (Answer zone origin) = origin
+origin_of (Answer zone origin transport) = origin
 origin_of (Steps zone origin) = origin
 
 -- what a command writes for an input in a zone
 abbrev pub output_for : Command → List Record → List ℕ → List ℕ
-output_for (Answer zone origin) records input = output_of records input
+output_for (Answer zone origin transport) records input = output_of transport records input
 output_for (Steps zone origin) records input = script_output records input
 
 -- for some zone, what a command writes for an input was written

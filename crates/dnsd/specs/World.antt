@@ -7,6 +7,7 @@ use Rattle.cell_core.specs.Cell.{Cell, CellStep, IsLast, Steps, HasStep, start}
 use Rattle.dns_rdata.specs.Record.{Record}
 use Rattle.dnsd.specs.declared.world.step.WorldReply.{WorldReply}
 use Rattle.dnsd.specs.declared.world.step.WorldReply.TheVariants.{Owner, Left, Buried, Published, NotEnabled}
+use Rattle.dnsd.specs.declared.transport.Transport.TheVariants.{Udp}
 use Rattle.dnsd.specs.Reply.{reply}
 use Rattle.dnsd.specs.WorldSteps.{Turn, answer_of}
 use Rattle.dnsd.specs.WorldSteps.Turn.{Load, Drop, Ask, Publish}
@@ -59,9 +60,9 @@ pub record Drops (before : World) (name : List ℕ) (number : ℕ) (reply_given 
   pub handles : after.handles ≡ without name before.handles
   pub told : reply_given ≡ (if is_buried then Buried number else Left)
 
--- a request is answered in a zone, and changes nothing (own)
+-- a request over UDP is answered in a zone, and changes nothing (own)
 pub record Asks (before : World) (zone : List Record) (request : List ℕ) (reply_given : WorldReply) (after : World) : Type 0 where
-  pub told : reply_given ≡ answer_of (reply zone request)
+  pub told : reply_given ≡ answer_of (reply Udp zone request)
   pub unchanged : after ≡ before
 
 -- a version more, and the publisher gives up the one that was last (own)

@@ -5,6 +5,7 @@ use Rattle.std.specs.List.{list_any}
 use Rattle.dns_rdata.specs.Record.{Record}
 use Rattle.dnsd.specs.declared.world.step.WorldReply.{WorldReply}
 use Rattle.dnsd.specs.declared.world.step.WorldReply.TheVariants.{Owner, Left, Buried, Published, NotEnabled}
+use Rattle.dnsd.specs.declared.transport.Transport.TheVariants.{Udp}
 use Rattle.dnsd.specs.Reply.{reply}
 use Rattle.dnsd.specs.WorldSteps.{Turn, answer_of}
 use Rattle.dnsd.specs.WorldSteps.Turn.{Load, Drop, Ask, Publish}
@@ -72,10 +73,10 @@ dropped name None earlier = NotEnabled
 dropped name (Some past) earlier =
     if publishes past == publishes earlier || has_other name (publishes past) earlier then Left else Buried (publishes past)
 
--- the reply to a request: that in the zone which was published last when the name came into use (own)
+-- the reply to a request over UDP: that in the zone which was published last when the name came into use (own)
 abbrev pub asked : List Record → Option (List Turn) → List ℕ → WorldReply
 asked first None request = NotEnabled
-asked first (Some past) request = answer_of (reply (latest first past) request)
+asked first (Some past) request = answer_of (reply Udp (latest first past) request)
 
 -- the reply to a step, told from those made earlier (own)
 abbrev pub reply_at : List Record → List Turn → Turn → WorldReply

@@ -3,11 +3,15 @@ ghost use Rattle.std.specs.Prelude.{◌≡◌, ℕ, ◌<◌, ◌≤◌, ◌*◌,
 ghost use Rattle.std.specs.Io.BufRead.{strip_last};
 ghost use Rattle.std.specs.Io.KnownBytes.{Appends};
 ghost use Rattle.hex.specs.Hex.{decode_of, encode_lower};
+ghost use Rattle.dnsd.specs.declared.answer.TheConstants.{MAX_REQUEST, MAX_DIGITS};
+ghost use Rattle.dnsd.specs.declared.transport.TheConstants.{TCP_LIMIT};
 ghost use Rattle.dnsd.specs.Reply.{reply as reply_in};
 ghost use Rattle.dnsd.specs.Lines.{written, line_for, output_of, Begins, TakesLine, Writes};
+ghost use Rattle.dnsd.specs.Transport.{limit_of};
 
 use crate::input::{MAX_READS, endless};
-use crate::reply::{UDP_LIMIT, respond};
+use crate::reply::respond;
+use crate::transport::{TCP_LIMIT, Transport};
 use std::alloc::Global;
 use std::io::{self, BufRead, Write};
 use zone_tree::ZoneRead;
@@ -16,7 +20,7 @@ use zone_tree::ZoneRead;
 pub const MAX_REQUEST: usize = 65_535;
 
 /// The most octets of a line for a reply: its digits and a line end.
-const MAX_DIGITS: usize = 2 * UDP_LIMIT + 1;
+const MAX_DIGITS: usize = 2 * TCP_LIMIT + 1;
 
 /// Buffers that are made once, so that no query takes memory when its line has been read.
 #[derive(Drop)]
@@ -24,38 +28,49 @@ struct Buffers {
     /// The line as it was read.
     line: Vec<u8>,
     /// The request's octets.
-    request: [u8; MAX_REQUEST],
+    request: Vec<u8>,
     /// The reply's octets.
-    reply: [u8; UDP_LIMIT],
+    reply: Vec<u8>,
     /// The reply in hexadecimal, and a line end.
-    digits: [u8; MAX_DIGITS],
+    digits: Vec<u8>,
+    ghost request_room: { length request.items ≡ MAX_REQUEST },
+    ghost reply_room: { length reply.items ≡ TCP_LIMIT },
+    ghost digits_room: { length digits.items ≡ MAX_DIGITS },
 }
 
-/// Answers each line of the input, a request in hexadecimal, by a line: the reply in lower case, `-` where there is no
-/// reply, `!` where the line isn't hexadecimal of at most 65,535 octets.
+impl Buffers {
+    /// Room for the longest request and the longest reply.
+    fn new(alloc: Global) -> io::Result<Buffers> {
+        Ok(Buffers {
+            line: Vec::new(alloc),
+            request: vec![in alloc; 0u8; MAX_REQUEST]?,
+            reply: vec![in alloc; 0u8; TCP_LIMIT]?,
+            digits: vec![in alloc; 0u8; MAX_DIGITS]?,
+        })
+    }
+}
+
+/// Answers each line of the input, a request in hexadecimal, by a line: the reply over the transport in lower case, `-` where
+/// there is no reply, `!` where the line isn't hexadecimal of at most 65,535 octets.
 ///
 /// An `Err` is a device's, want of memory, or an input that hasn't ended after 2^32 reads; what was written up to then is a
 /// beginning of the output.
 pub fn run_answer<Z: ZoneRead, R: BufRead, W: Write>(
     alloc: Global,
     zone: &Z,
+    transport: Transport,
     reader: &mut R,
     writer: &mut W,
 ) -> io::Result<()>
     // Where the reader tells its octets and the writer those that it holds.
     ensures ok { OnOk result (IfSome (R.remaining reader.old) (λ input.
-        Appends (W.contents writer.old) (W.contents writer.new) (output_of (Z.records zone.now) input))) }
+        Appends (W.contents writer.old) (W.contents writer.new) (output_of transport (Z.records zone.now) input))) }
     ensures err { OnErr result (IfSome (R.remaining reader.old) (λ input.
-        Begins (W.contents writer.old) (W.contents writer.new) (output_of (Z.records zone.now) input))) }
+        Begins (W.contents writer.old) (W.contents writer.new) (output_of transport (Z.records zone.now) input))) }
 {
-    let mut buffers = Buffers {
-        line: Vec::new(alloc),
-        request: [0; MAX_REQUEST],
-        reply: [0; UDP_LIMIT],
-        digits: [0; MAX_DIGITS],
-    };
+    let mut buffers = Buffers::new(alloc)?;
     for _ in 0..MAX_READS {
-        if !answer_next(zone, reader, writer, &mut buffers)? {
+        if !answer_next(zone, transport, reader, writer, &mut buffers)? {
             return Ok(());
         }
     }
@@ -65,32 +80,34 @@ pub fn run_answer<Z: ZoneRead, R: BufRead, W: Write>(
 /// Answers the next line; false where there is none.
 fn answer_next<Z: ZoneRead, R: BufRead, W: Write>(
     zone: &Z,
+    transport: Transport,
     reader: &mut R,
     writer: &mut W,
     buffers: &mut Buffers,
 ) -> io::Result<bool>
     ensures ok { IfOk result (λ more. IfSome (R.remaining reader.old) (λ rest. MatchBool more
-        (TakesLine (Z.records zone.now) rest (R.remaining reader.new) (W.contents writer.old) (W.contents writer.new))
+        (TakesLine transport (Z.records zone.now) rest (R.remaining reader.new) (W.contents writer.old) (W.contents writer.new))
         ((rest ≡ []) × (W.contents writer.new ≡ W.contents writer.old)))) }
     ensures err { OnErr result (IfSome (R.remaining reader.old) (λ rest.
-        Begins (W.contents writer.old) (W.contents writer.new) (output_of (Z.records zone.now) rest))) }
+        Begins (W.contents writer.old) (W.contents writer.new) (output_of transport (Z.records zone.now) rest))) }
 {
     buffers.line.clear();
     if reader.read_until(b'\n', &mut buffers.line)? == 0 {
         return Ok(false);
     }
-    write_line(zone, writer, buffers)?;
+    write_line(zone, transport, writer, buffers)?;
     Ok(true)
 }
 
 /// Writes the line for the line that was read.
 fn write_line<Z: ZoneRead, W: Write>(
     zone: &Z,
+    transport: Transport,
     writer: &mut W,
     buffers: &mut Buffers,
 ) -> io::Result<()>
     ensures { Writes result (W.contents writer.old) (W.contents writer.new)
-        (line_for (Z.records zone.now) (strip_last 10 buffers.old.line.items) ++ 10 ∷ []) }
+        (line_for transport (Z.records zone.now) (strip_last 10 buffers.old.line.items) ++ 10 ∷ []) }
 {
     match request_of(without_lf(buffers.line.as_slice()), &mut buffers.request) {
         None => write_whole(writer, b"!\n"),
@@ -98,6 +115,7 @@ fn write_line<Z: ZoneRead, W: Write>(
             let request = &buffers.request[..len];
             write_reply(
                 zone,
+                transport,
                 request,
                 &mut buffers.reply,
                 &mut buffers.digits,
@@ -110,27 +128,26 @@ fn write_line<Z: ZoneRead, W: Write>(
 /// Writes the line for a request.
 fn write_reply<Z: ZoneRead, W: Write>(
     zone: &Z,
+    transport: Transport,
     request: &[u8],
-    reply: &mut [u8; UDP_LIMIT],
-    digits: &mut [u8; MAX_DIGITS],
+    reply: &mut [u8],
+    digits: &mut [u8],
     writer: &mut W,
 ) -> io::Result<()>
+    requires reply_room { limit_of transport ≤ length reply.old }
+    requires digits_room { 2 * limit_of transport < length digits.old }
     ensures { Writes result (W.contents writer.old) (W.contents writer.new)
-        (written (reply_in (Z.records zone.now) request.now) ++ 10 ∷ []) }
+        (written (reply_in transport (Z.records zone.now) request.now) ++ 10 ∷ []) }
 {
-    match respond(zone, request, reply) {
+    match respond(zone, transport, request, reply) {
         None => write_whole(writer, b"-\n"),
         Some(len) => write_octets(&reply[..len], digits, writer),
     }
 }
 
 /// Writes octets in hexadecimal, and a line end.
-fn write_octets<W: Write>(
-    octets: &[u8],
-    digits: &mut [u8; MAX_DIGITS],
-    writer: &mut W,
-) -> io::Result<()>
-    requires { length octets.now ≤ UDP_LIMIT }
+fn write_octets<W: Write>(octets: &[u8], digits: &mut [u8], writer: &mut W) -> io::Result<()>
+    requires { 2 * length octets.now < length digits.old }
     ensures { Writes result (W.contents writer.old) (W.contents writer.new) (encode_lower octets.now ++ 10 ∷ []) }
 {
     let len = 2 * octets.len();

@@ -2,7 +2,8 @@
 ghost use Rattle.std.specs.Prelude.{◌≡◌};
 ghost use Rattle.dnsd.specs.Run.{source_of, origin_of};
 
-use clap::{Arg, Command as Parser};
+use crate::transport::Transport;
+use clap::{Arg, ArgAction, Command as Parser};
 use dns_name::{Name, NameFault};
 use std::alloc::{AllocError, Global};
 use std::convert::AsStr;
@@ -25,6 +26,8 @@ pub enum Command<'a> {
         zone: Source<'a>,
         /// The origin at the start of the zone's text.
         origin: Name,
+        /// What carries the requests and replies.
+        transport: Transport,
     },
     /// Plays a script of steps over the versions of a zone.
     Steps {
@@ -81,19 +84,7 @@ pub fn parse_words<'a, S: AsStr>(
     alloc: Global,
     words: &'a [S],
 ) -> Result<Command<'a>, CommandFault<'a>> {
-    let answer = subcommand(
-        alloc,
-        "answer",
-        "replies to requests in hexadecimal, a line each",
-    )?;
-    let steps = subcommand(alloc, "steps", "plays a script of steps, a line each")?;
-    let parser = Parser::new(alloc, "dnsd")
-        .about("an authoritative name server for one zone")
-        .subcommand_required(true)
-        .arg_required_else_help(true)
-        .subcommand(answer)?
-        .subcommand(steps)?;
-    let matches = parser.try_get_matches_from(words)?;
+    let matches = program(alloc)?.try_get_matches_from(words)?;
     let Some((name, found)) = matches.subcommand() else {
         return Err(CommandFault::from(AllocError));
     };
@@ -106,10 +97,44 @@ pub fn parse_words<'a, S: AsStr>(
         Some(path) => Source::File(path),
     };
     if name == "steps" {
-        Ok(Command::Steps { zone, origin })
-    } else {
-        Ok(Command::Answer { zone, origin })
+        return Ok(Command::Steps { zone, origin });
     }
+    let transport = if found.get_flag("tcp") {
+        Transport::Tcp
+    } else {
+        Transport::Udp
+    };
+    Ok(Command::Answer {
+        zone,
+        origin,
+        transport,
+    })
+}
+
+/// The program's command line.
+fn program<'a>(alloc: Global) -> Result<Parser<'a>, AllocError> {
+    let tcp = Arg::new(alloc, "tcp")
+        .long("tcp")
+        .help("replies as over TCP, of at most 65535 octets; else as over UDP, of at most 512")
+        .action(ArgAction::SetTrue);
+    let answer = subcommand(
+        alloc,
+        "answer",
+        "replies to requests in hexadecimal, a line each",
+    )?;
+    let steps = subcommand(
+        alloc,
+        "steps",
+        "plays a script of steps, a line each; its requests come over UDP",
+    )?;
+    Ok(
+        Parser::new(alloc, "dnsd")
+            .about("an authoritative name server for one zone")
+            .subcommand_required(true)
+            .arg_required_else_help(true)
+            .subcommand(answer.arg(tcp)?)?
+            .subcommand(steps)?,
+    )
 }
 
 /// A command over a zone.

@@ -156,7 +156,9 @@ fn do_command<R: BufRead, W: Write>(
         Begins (W.contents writer.old) (W.contents writer.new) (output_for command.now zone.now input)))) }
 {
     match command {
-        Command::Answer { .. } => Ok(run_answer(alloc, zone, reader, writer)?),
+        Command::Answer { transport, .. } => {
+            Ok(run_answer(alloc, zone, *transport, reader, writer)?)
+        }
         Command::Steps { .. } => run_steps(alloc, zone, reader, writer),
     }
 }

@@ -1,6 +1,7 @@
 //! The program's replies and refusals, by the octets that the standard gives for them.
 use crate::command::{Command, CommandFault, Source, parse_words};
 use crate::run::run_text;
+use crate::transport::Transport;
 use crate::world::{self, Handle, WorldReply, WorldStep};
 use crate::zone_text::read_zone;
 use dns_name::Name;
@@ -25,11 +26,12 @@ ns.sub.example.test. 3600 IN A 192.0.2.53\n\
 web.example.test. 3600 IN A 192.0.2.10\n\
 www.example.test. 3600 IN CNAME web.example.test.\n";
 
-/// The command `answer` over standard input, with an origin.
-fn answer(rt: &impl Abort, origin: &[u8]) -> Command<'static> {
+/// The command `answer` over standard input, with the origin of the examples.
+fn answer(rt: &impl Abort, transport: Transport) -> Command<'static> {
     Command::Answer {
         zone: Source::Input,
-        origin: Name::from_text(origin, &Name::root()).expect(rt, "an origin"),
+        origin: Name::from_text(b"example.test.", &Name::root()).expect(rt, "an origin"),
+        transport,
     }
 }
 
@@ -41,13 +43,13 @@ fn steps() -> Command<'static> {
     }
 }
 
-/// What `answer` writes for a zone's text and requests, its status, and what it tells of errors.
+/// What `answer` writes over UDP for a zone's text and requests, its status, and what it tells of errors.
 fn run(
     rt: &(impl AllocGlobal + Abort),
     zone: &str,
     requests: &str,
 ) -> Result<(u8, String, String), AllocError> {
-    run_command(rt, &answer(rt, b"example.test."), zone, requests)
+    run_command(rt, &answer(rt, Transport::Udp), zone, requests)
 }
 
 /// What a command writes for a zone's text and its input, its status, and what it tells of errors.
@@ -68,59 +70,59 @@ fn run_command(
     Ok((status, written, errors))
 }
 
-// The octets are put together by hand from RFC 1035, 4.1, names in full.
+// The octets are put together by hand from RFC 1035, 4.1.
 #[test]
 fn replies(rt: HostRuntime) -> Result<(), Fail> {
     let cases = [
         (
             "an alias and the address of its target",
             "12340100000100000000000003777777076578616d706c6504746573740000010001",
-            "12348500000100020000000003777777076578616d706c650474657374000001000103777777076578616d706c650474657374000005000100000e10001203776562076578616d706c6504746573740003776562076578616d706c650474657374000001000100000e100004c000020a",
+            "12348500000100020000000003777777076578616d706c6504746573740000010001c00c0005000100000e10000603776562c010c02e0001000100000e100004c000020a",
         ),
         (
             "no such name: the SOA has the TTL MINIMUM",
             "123401000001000000000000046e6f7065076578616d706c6504746573740000010001",
-            "123485030001000000010000046e6f7065076578616d706c6504746573740000010001076578616d706c65047465737400000600010000012c003a036e7331076578616d706c650474657374000561646d696e076578616d706c650474657374000000000100001c2000000384001275000000012c",
+            "123485030001000000010000046e6f7065076578616d706c6504746573740000010001c011000600010000012c0022036e7331c0110561646d696ec0110000000100001c2000000384001275000000012c",
         ),
         (
             "an empty non-terminal exists",
             "1234010000010000000000000162076578616d706c6504746573740000010001",
-            "1234850000010000000100000162076578616d706c6504746573740000010001076578616d706c65047465737400000600010000012c003a036e7331076578616d706c650474657374000561646d696e076578616d706c650474657374000000000100001c2000000384001275000000012c",
+            "1234850000010000000100000162076578616d706c6504746573740000010001c00e000600010000012c0022036e7331c00e0561646d696ec00e0000000100001c2000000384001275000000012c",
         ),
         (
             "below it no name",
             "123401000001000000000000027a7a0162076578616d706c6504746573740000010001",
-            "123485030001000000010000027a7a0162076578616d706c6504746573740000010001076578616d706c65047465737400000600010000012c003a036e7331076578616d706c650474657374000561646d696e076578616d706c650474657374000000000100001c2000000384001275000000012c",
+            "123485030001000000010000027a7a0162076578616d706c6504746573740000010001c011000600010000012c0022036e7331c0110561646d696ec0110000000100001c2000000384001275000000012c",
         ),
         (
             "two aliases of one another stop",
             "123401000001000000000000056c6f6f7031076578616d706c6504746573740000010001",
-            "123485000001000200000000056c6f6f7031076578616d706c6504746573740000010001056c6f6f7031076578616d706c650474657374000005000100000e100014056c6f6f7032076578616d706c65047465737400056c6f6f7032076578616d706c650474657374000005000100000e100014056c6f6f7031076578616d706c65047465737400",
+            "123485000001000200000000056c6f6f7031076578616d706c6504746573740000010001c00c0005000100000e100008056c6f6f7032c012c0300005000100000e100002c00c",
         ),
         (
             "an alias whose target is outside",
             "123401000001000000000000036f7574076578616d706c6504746573740000010001",
-            "123485000001000100000000036f7574076578616d706c6504746573740000010001036f7574076578616d706c650474657374000005000100000e10001204686f7374076578616d706c65036e657400",
+            "123485000001000100000000036f7574076578616d706c6504746573740000010001c00c0005000100000e10001204686f7374076578616d706c65036e657400",
         ),
         (
             "the spelling asked is kept",
             "12340100000100000000000003577757076578616d706c6504746573740000010001",
-            "12348500000100020000000003577757076578616d706c650474657374000001000103577757076578616d706c650474657374000005000100000e10001203776562076578616d706c6504746573740003776562076578616d706c650474657374000001000100000e100004c000020a",
+            "12348500000100020000000003577757076578616d706c6504746573740000010001c00c0005000100000e10000603776562c010c02e0001000100000e100004c000020a",
         ),
         (
             "the alias itself is asked",
             "12340100000100000000000003777777076578616d706c6504746573740000050001",
-            "12348500000100010000000003777777076578616d706c650474657374000005000103777777076578616d706c650474657374000005000100000e10001203776562076578616d706c65047465737400",
+            "12348500000100010000000003777777076578616d706c6504746573740000050001c00c0005000100000e10000603776562c010",
         ),
         (
             "all types at the apex, by number",
             "123401000001000000000000076578616d706c6504746573740000ff0001",
-            "123485000001000200000000076578616d706c6504746573740000ff0001076578616d706c650474657374000002000100000e100012036e7331076578616d706c65047465737400076578616d706c650474657374000006000100000e10003a036e7331076578616d706c650474657374000561646d696e076578616d706c650474657374000000000100001c2000000384001275000000012c",
+            "123485000001000200000000076578616d706c6504746573740000ff0001c00c0002000100000e100006036e7331c00cc00c0006000100000e10001ec02a0561646d696ec00c0000000100001c2000000384001275000000012c",
         ),
         (
             "no data of the type at a name",
             "12340100000100000000000003776562076578616d706c6504746573740000100001",
-            "12348500000100000001000003776562076578616d706c6504746573740000100001076578616d706c65047465737400000600010000012c003a036e7331076578616d706c650474657374000561646d696e076578616d706c650474657374000000000100001c2000000384001275000000012c",
+            "12348500000100000001000003776562076578616d706c6504746573740000100001c010000600010000012c0022036e7331c0100561646d696ec0100000000100001c2000000384001275000000012c",
         ),
         (
             "below a zone cut",
@@ -198,19 +200,39 @@ fn replies(rt: HostRuntime) -> Result<(), Fail> {
             "123481010000000000000000",
         ),
         (
-            "a pointer",
+            "an OPT in the additional section",
+            "12340100000100000000000103777777076578616d706c65047465737400000100010000291000000000000000",
+            "123481010000000000000000",
+        ),
+        (
+            "an OPT in the answer section is passed over",
+            "12340100000100010000000003776562076578616d706c65047465737400000100010000291000000000000000",
+            "12348500000100010000000003776562076578616d706c6504746573740000010001c00c0001000100000e100004c000020a",
+        ),
+        (
+            "a record of the authority section is passed over, with its pointer and its data",
+            "12340100000100000001000003776562076578616d706c6504746573740000010001c010ff0000010000000000020102",
+            "12348500000100010000000003776562076578616d706c6504746573740000010001c00c0001000100000e100004c000020a",
+        ),
+        (
+            "a pointer to itself",
             "123401000001000000000000c00c00010001",
             "123481010000000000000000",
         ),
         (
+            "a pointer to a zero octet of the header is the root",
+            "123401000001000000000000c00300020001",
+            "1234810500010000000000000000020001",
+        ),
+        (
             "bits AA, TC, RA and Z are ignored, RD 0 is copied",
             "123406f0000100000000000003776562076578616d706c6504746573740000010001",
-            "12348400000100010000000003776562076578616d706c650474657374000001000103776562076578616d706c650474657374000001000100000e100004c000020a",
+            "12348400000100010000000003776562076578616d706c6504746573740000010001c00c0001000100000e100004c000020a",
         ),
         (
             "octets behind the question are ignored",
             "12340100000100000000000003776562076578616d706c6504746573740000010001ffff",
-            "12348500000100010000000003776562076578616d706c650474657374000001000103776562076578616d706c650474657374000001000100000e100004c000020a",
+            "12348500000100010000000003776562076578616d706c6504746573740000010001c00c0001000100000e100004c000020a",
         ),
     ];
     for (what, request, reply) in cases {
@@ -253,13 +275,13 @@ fn lines(rt: HostRuntime) -> Result<(), Fail> {
     Ok(())
 }
 
-// RFC 1035, 4.2.1: 512 octets. Header and question of big.example.test. have 34, the record in front of its data 28.
+// RFC 1035, 4.2.1: 512 octets. Header and question of big.example.test. have 34, the record in front of its data 12.
 #[test]
 fn truncation(rt: HostRuntime) -> Result<(), Fail> {
     let question = "03626967076578616d706c6504746573740000100001";
     let request = format!(in rt.alloc(); "123401000001000000000000{question}\n")?;
     let cut = format!(in rt.alloc(); "123487000001000000000000{question}\n")?;
-    for (len, fits) in [(193, true), (194, false)] {
+    for (len, fits) in [(209, true), (210, false)] {
         let first = format!(in rt.alloc(); "{:x>255}", "")?;
         let second = format!(in rt.alloc(); "{:x>len$}", "")?;
         let zone = format!(in rt.alloc();
@@ -271,6 +293,94 @@ fn truncation(rt: HostRuntime) -> Result<(), Fail> {
         } else {
             assert_eq!(rt; written.as_str(), cut.as_str());
         }
+    }
+    Ok(())
+}
+
+// RFC 1035, 4.2.1 and 4.2.2: a reply of over 512 octets is cut over UDP, and whole over TCP.
+#[test]
+fn transports(rt: HostRuntime) -> Result<(), Fail> {
+    let question = "03626967076578616d706c6504746573740000100001";
+    let request = format!(in rt.alloc(); "123401000001000000000000{question}\n")?;
+    let cut = format!(in rt.alloc(); "123487000001000000000000{question}\n")?;
+    let head = format!(in rt.alloc(); "123485000001000100000000{question}c00c")?;
+    let first = format!(in rt.alloc(); "{:x>255}", "")?;
+    let second = format!(in rt.alloc(); "{:x>210}", "")?;
+    let zone = format!(in rt.alloc(); "{ZONE}big.example.test. 3600 IN TXT {first} {second}\n")?;
+    // TYPE, CLASS, TTL and RDLENGTH, and then each string behind its length (RFC 1035, 3.3.14 and 4.1.3).
+    let first = hex::encode(rt.alloc(), first.as_bytes())?;
+    let second = hex::encode(rt.alloc(), second.as_bytes())?;
+    let data = format!(in rt.alloc(); "0010000100000e1001d3ff{first}d2{second}\n")?;
+    let (_, written, _) = run(&rt, zone.as_str(), request.as_str())?;
+    assert_eq!(rt; written.as_str(), cut.as_str());
+    let tcp = answer(&rt, Transport::Tcp);
+    let (status, written, _) = run_command(&rt, &tcp, zone.as_str(), request.as_str())?;
+    assert_eq!(rt; status, 0);
+    let whole = format!(in rt.alloc(); "{head}{data}")?;
+    assert_eq!(rt; written.as_str(), whole.as_str());
+    Ok(())
+}
+
+// RFC 1035, 4.2.2: a length of 16 bits. What stands behind the question is ignored, and class 3 is refused.
+#[test]
+fn longest_request(rt: HostRuntime) -> Result<(), Fail> {
+    let question = "03777777076578616d706c6504746573740000010003";
+    let longest = format!(in rt.alloc();
+        "123401000001000000000000{question}{:0>65501}{:0>65501}",
+        "", ""
+    )?;
+    assert_eq!(rt; longest.len(), 2 * 65_535);
+    let requests = format!(in rt.alloc(); "{longest}\n{longest}00\n")?;
+    let told = format!(in rt.alloc(); "123481050001000000000000{question}\n!\n")?;
+    for transport in [Transport::Udp, Transport::Tcp] {
+        let command = answer(&rt, transport);
+        let (status, written, _) = run_command(&rt, &command, ZONE, requests.as_str())?;
+        assert_eq!(rt; written.as_str(), told.as_str(), "{transport:?}");
+        assert_eq!(rt; status, 0, "{transport:?}");
+    }
+    Ok(())
+}
+
+// RFC 1035, 3.3.12; RFC 3596, 2.2; RFC 2782. The addresses are written as in RFC 4291, 2.2.
+#[test]
+fn data_of_types(rt: HostRuntime) -> Result<(), Fail> {
+    let cases = [
+        (
+            "AAAA 2001:db8::1",
+            "001c",
+            "001020010db8000000000000000000000001",
+        ),
+        ("aaaa ::", "001c", "001000000000000000000000000000000000"),
+        (
+            "AAAA ::ffff:192.0.2.1",
+            "001c",
+            "001000000000000000000000ffffc0000201",
+        ),
+        (
+            "AAAA 1:02:003:0004:A:b:Cd:eF0",
+            "001c",
+            "00100001000200030004000a000b00cd0ef0",
+        ),
+        ("PTR Host.Other.", "000c", "000c04686f7374056f7468657200"),
+        (
+            "SRV 1 2 65535 host",
+            "0021",
+            "001900010002ffff04686f7374076578616d706c65047465737400",
+        ),
+        ("SRV 0 0 0 .", "0021", "000700000000000000"),
+    ];
+    for (written, rtype, data) in cases {
+        let zone = format!(in rt.alloc(); "{ZONE}new.example.test. 3600 IN {written}\n")?;
+        let request = format!(in rt.alloc();
+            "123401000001000000000000036e6577076578616d706c65047465737400{rtype}0001"
+        )?;
+        let (_, reply, _) = run(&rt, zone.as_str(), request.as_str())?;
+        let end = format!(in rt.alloc(); "{rtype}000100000e10{data}\n")?;
+        assert!(rt;
+            reply.as_str().starts_with("123485000001000100000000"),
+            "{written}"
+        );
+        assert!(rt; reply.as_str().ends_with(end.as_str()), "{written}");
     }
     Ok(())
 }
@@ -291,6 +401,25 @@ fn refused_zones(rt: HostRuntime) -> Result<(), Fail> {
         ),
         ("a. 3600 CH A 192.0.2.1", "line 1: M4 BadClass"),
         ("a. 3600 IN HINFO b c", "line 1: M5 UnknownType"),
+        ("a. 3600 IN TYPE28 ::1", "line 1: M5 UnknownType"),
+        ("a. 3600 IN AAAA 1::2::3", "line 1: M6 BadData"),
+        ("a. 3600 IN AAAA 1:2:3:4:5:6:7", "line 1: M6 BadData"),
+        ("a. 3600 IN AAAA 1:2:3:4:5:6:7::8", "line 1: M6 BadData"),
+        ("a. 3600 IN AAAA 12345::", "line 1: M6 BadData"),
+        ("a. 3600 IN AAAA 192.0.2.1", "line 1: M6 BadData"),
+        ("a. 3600 IN AAAA fe80::1%1", "line 1: M6 BadData"),
+        ("a. 3600 IN AAAA fe80::/10", "line 1: M6 BadData"),
+        ("a. 3600 IN AAAA [::1]", "line 1: M6 BadData"),
+        ("a. 3600 IN AAAA \"::1\"", "line 1: M6 BadData"),
+        ("a. 3600 IN AAAA ::1 b", "line 1: M6 BadData"),
+        ("a. 3600 IN PTR", "line 1: M6 BadData"),
+        ("a. 3600 IN PTR b..c.", "line 1: M2 BadName"),
+        ("a. 3600 IN SRV 65536 0 0 b.", "line 1: M3 Number"),
+        ("a. 3600 IN SRV 0 65536 0 b.", "line 1: M3 Number"),
+        ("a. 3600 IN SRV 0 0 65536 b.", "line 1: M3 Number"),
+        ("a. 3600 IN SRV 0 0 b.", "line 1: M3 Number"),
+        ("a. 3600 IN SRV 0 0 0", "line 1: M6 BadData"),
+        ("a. 3600 IN SRV 0 0 0 b. c", "line 1: M6 BadData"),
         ("a. 3600 IN A", "line 1: M6 BadData"),
         ("a. 3600 IN A 192.0.2.256", "line 1: M6 BadData"),
         ("a. 3600 IN A 192.0.2.01", "line 1: M6 BadData"),
@@ -326,6 +455,10 @@ fn refused_records(rt: HostRuntime) -> Result<(), Fail> {
             "line 14: M10 Outside",
         ),
         (
+            "host.example.net. 3600 IN SRV 0 0 0 web",
+            "line 14: M10 Outside",
+        ),
+        (
             "a.example.test. 3600 IN SOA b. c. 1 2 3 4 5",
             "line 14: M11 Apex",
         ),
@@ -335,6 +468,10 @@ fn refused_records(rt: HostRuntime) -> Result<(), Fail> {
         ),
         (
             "www.example.test. 3600 IN A 192.0.2.1",
+            "line 14: M12 Conflict",
+        ),
+        (
+            "www.example.test. 3600 IN AAAA 2001:db8::1",
             "line 14: M12 Conflict",
         ),
         (
@@ -364,13 +501,16 @@ fn refused_records(rt: HostRuntime) -> Result<(), Fail> {
 // A set has at most 256 records, and data at most 4,096 octets: sixteen strings of 255, each behind its length.
 #[test]
 fn limits(rt: HostRuntime) -> Result<(), Fail> {
-    let mut zone = format!(in rt.alloc(); "{ZONE}")?;
-    for i in 0..257 {
-        let line = format!(in rt.alloc(); "many.example.test. 3600 IN MX {i} web\n")?;
-        zone.push_str(line.as_str())?;
+    let many = [("MX ", " web"), ("SRV 0 0 ", " web"), ("AAAA ::", "")];
+    for (front, back) in many {
+        let mut zone = format!(in rt.alloc(); "{ZONE}")?;
+        for i in 0..257 {
+            let line = format!(in rt.alloc(); "many.example.test. 3600 IN {front}{i}{back}\n")?;
+            zone.push_str(line.as_str())?;
+        }
+        let (_, _, errors) = run(&rt, zone.as_str(), "")?;
+        assert_eq!(rt; errors.as_str(), "line 270: M13 Limit\n", "{front}");
     }
-    let (_, _, errors) = run(&rt, zone.as_str(), "")?;
-    assert_eq!(rt; errors.as_str(), "line 270: M13 Limit\n");
     let mut long = format!(in rt.alloc(); "{ZONE}long.example.test. 3600 IN TXT")?;
     for _ in 0..16 {
         let string = format!(in rt.alloc(); " {:x>255}", "")?;
@@ -393,7 +533,7 @@ fn origin_and_ttl(rt: HostRuntime) -> Result<(), Fail> {
     )?;
     let request = "123401000001000000000000036e6577076578616d706c6504746573740000010001";
     let reply =
-        "123485000001000200000000036e6577076578616d706c6504746573740000010001036e6577076578616d706c65047465737400000500010000003c001203776562076578616d706c6504746573740003776562076578616d706c6504746573740000010001000000050004c000020a\n";
+        "123485000001000200000000036e6577076578616d706c6504746573740000010001c00c000500010000003c000603776562c010c02e00010001000000050004c000020a\n";
     let zone = format!(in rt.alloc(); "{zone}\n")?;
     let (status, written, _) = run(&rt, zone.as_str(), request)?;
     assert_eq!(rt; written.as_str(), reply);
@@ -404,8 +544,11 @@ fn origin_and_ttl(rt: HostRuntime) -> Result<(), Fail> {
 // The words after the program's name, and whether they are a command.
 #[test]
 fn command_lines(rt: HostRuntime) -> Result<(), Fail> {
-    let cases: [(&[&str], bool); 9] = [
+    let cases: [(&[&str], bool); 12] = [
         (&["dnsd", "answer", "-"], true),
+        (&["dnsd", "answer", "--tcp", "-"], true),
+        (&["dnsd", "answer", "--tcp=1", "-"], false),
+        (&["dnsd", "steps", "--tcp", "-"], false),
         (&["dnsd", "steps", "--origin", "example.test", "-"], true),
         (&["dnsd", "steps"], false),
         (
@@ -425,11 +568,30 @@ fn command_lines(rt: HostRuntime) -> Result<(), Fail> {
     Ok(())
 }
 
+// The words after the program's name, and what carries the replies.
+#[test]
+fn command_transports(rt: HostRuntime) -> Result<(), Fail> {
+    let cases: [(&[&str], Transport); 3] = [
+        (&["dnsd", "answer", "-"], Transport::Udp),
+        (&["dnsd", "answer", "--tcp", "-"], Transport::Tcp),
+        (&["dnsd", "answer", "-", "--tcp"], Transport::Tcp),
+    ];
+    for (words, asked) in cases {
+        match parse_words(rt.alloc(), words) {
+            Ok(Command::Answer { transport, .. }) => {
+                assert_eq!(rt; transport, asked, "{words:?}")
+            }
+            _ => return Err(Fail::from("no command")),
+        }
+    }
+    Ok(())
+}
+
 /// The query for www.example.test., type A, and its reply.
 const WWW: &str = "12340100000100000000000003777777076578616d706c6504746573740000010001";
 
 const WWW_REPLY: &str =
-    "12348500000100020000000003777777076578616d706c650474657374000001000103777777076578616d706c650474657374000005000100000e10001203776562076578616d706c6504746573740003776562076578616d706c650474657374000001000100000e100004c000020a";
+    "12348500000100020000000003777777076578616d706c6504746573740000010001c00c0005000100000e10000603776562c010c02e0001000100000e100004c000020a";
 
 // The replies' octets are those of RFC 1035, 4.1; the words are our own.
 #[test]
@@ -565,7 +727,7 @@ fn wrote_or_had_no_memory(rt: &(impl AllocGlobal + Abort), request: &str, reply:
 fn refused_growth(rt: HostRuntime) {
     let request = "12340100000100000000000003776562076578616d706c6504746573740000010001\n";
     let reply =
-        "12348500000100010000000003776562076578616d706c650474657374000001000103776562076578616d706c650474657374000001000100000e100004c000020a\n";
+        "12348500000100010000000003776562076578616d706c6504746573740000010001c00c0001000100000e100004c000020a\n";
     let first = wrote_or_had_no_memory(&rt, request, reply);
     let second = wrote_or_had_no_memory(&rt, request, reply);
     assert!(rt; first || second);

@@ -230,10 +230,15 @@ written_read true msg positions name table lawful =
     subst (λ (x : List ℕ). AreRead (msg ++ x) (new_entries (table_of msg positions) (length msg) name)) (append-nil (name_text (table_of msg positions) name)) all
 written_read false msg positions name table lawful = All-nil (λ (entry : ℕ × List (List ℕ)). ReadsName (msg ++ wire_of name) entry.0 entry.1)
 
+-- what a name that is written leaves of the table
+pub after_name : (compress : Bool) (msg positions : List ℕ) (name : List (List ℕ)) → IsTable msg positions → IsName name → IsTableOf (msg ++ written compress (table_of msg positions) name) (entered (λ p. p) positions (places (entries_of compress (table_of msg positions) (length msg) name))) (table_after compress (table_of msg positions) (length msg) name)
+after_name compress msg positions name table lawful =
+    after_entries msg (written compress (table_of msg positions) name) positions (entries_of compress (table_of msg positions) (length msg) name) table (written_read compress msg positions name table lawful)
+
 -- what a write leaves
 pub after_write : (compress : Bool) (msg whole positions starts own : List ℕ) (name : List (List ℕ)) → IsTable msg positions → IsName name → whole ≡ msg ++ written compress (table_of msg positions) name → map (λ start. length msg + start) starts ≡ places (entries_of compress (table_of msg positions) (length msg) name) → own ≡ entered (λ p. p) positions (map (λ start. length msg + start) starts) → IsTableOf whole own (table_after compress (table_of msg positions) (length msg) name)
 after_write compress msg whole positions starts own name table lawful text places_are own_is =
-    let after = after_entries msg (written compress (table_of msg positions) name) positions (entries_of compress (table_of msg positions) (length msg) name) table (written_read compress msg positions name table lawful) in
+    let after = after_name compress msg positions name table lawful in
     let same : own ≡ entered (λ p. p) positions (places (entries_of compress (table_of msg positions) (length msg) name)) = own_is ∙ ap (λ (x : List ℕ). entered (λ p. p) positions x) places_are in
     subst (λ (x : List ℕ). IsTableOf x own (table_after compress (table_of msg positions) (length msg) name)) (sym text)
     (subst (λ (x : List ℕ). IsTableOf (msg ++ written compress (table_of msg positions) name) x (table_after compress (table_of msg positions) (length msg) name)) (sym same) after)

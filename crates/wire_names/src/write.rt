@@ -55,6 +55,7 @@ impl NameWriter {
         ensures table { IfSome result (λ next. IsTable (take next out.new) self.new) }
         ensures entered { IfSome result (λ next. table_of (take next out.new) self.new ≡ table_after compress (table_of (take at out.old) self.old) at name.now) }
         ensures unchanged { IsNone result → (out.new ≡ out.old) × (self.new ≡ self.old) }
+        ensures lawful { IsName name.now }
     {
         let draft = self.draft(&out[..at], name, compress);
         let next = put(out, at, draft.text.as_slice())?;

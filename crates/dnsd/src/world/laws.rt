@@ -3,6 +3,7 @@ ghost use Rattle.std.specs.Prelude.{◌≡◌, ℕ, false, List, [], ◌∷◌, 
 ghost use Rattle.dns_rdata.specs.Record.{Record};
 ghost use Rattle.dnsd.specs.declared.world.step.WorldReply.{WorldReply};
 ghost use Rattle.dnsd.specs.declared.world.step.WorldReply.TheVariants.{Owner, Left, Buried, Published, NotEnabled};
+ghost use Rattle.dnsd.specs.declared.transport.Transport.TheVariants.{Udp};
 ghost use Rattle.dnsd.specs.Reply.{reply};
 ghost use Rattle.dnsd.specs.World.{World, started, PlaysFrom, Plays, BuriesTheUnused};
 ghost use Rattle.dnsd.specs.WorldReplies.{loading, drops, latest, reply_at, replies_of};
@@ -20,7 +21,7 @@ pub fn asks_keep_their_version()
     ensures { (first : List Record) (earlier later : List Turn) (name request : List ℕ)
         → loading name earlier ≡ None → drops name later ≡ false
         → reply_at first (later ++ Turn.Load name ∷ earlier) (Turn.Ask name request)
-        ≡ answer_of (reply (latest first earlier) request) }
+        ≡ answer_of (reply Udp (latest first earlier) request) }
 {}
 
 /// After any steps the versions that are buried are those that no name is in use for, without the last.
@@ -35,7 +36,7 @@ pub fn examples()
     ensures two_versions { (first second : List Record) (request : List ℕ)
         → replies_of first (Turn.Load (codes "a") ∷ Turn.Publish second ∷ Turn.Load (codes "b")
         ∷ Turn.Ask (codes "a") request ∷ Turn.Ask (codes "b") request ∷ Turn.Drop (codes "a") ∷ Turn.Drop (codes "a") ∷ [])
-        ≡ (Owner 0 ∷ Published ∷ Owner 1 ∷ answer_of (reply first request) ∷ answer_of (reply second request)
+        ≡ (Owner 0 ∷ Published ∷ Owner 1 ∷ answer_of (reply Udp first request) ∷ answer_of (reply Udp second request)
         ∷ Buried 0 ∷ NotEnabled ∷ []) }
     ensures two_names { (first second : List Record)
         → replies_of first (Turn.Load (codes "a") ∷ Turn.Load (codes "a") ∷ Turn.Load (codes "b") ∷ Turn.Publish second

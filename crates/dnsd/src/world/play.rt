@@ -2,6 +2,7 @@
 ghost use Rattle.std.specs.Prelude.{◌≡◌, IfOk, filter, not, bytes_eq};
 ghost use Rattle.std.specs.Option.{option_copied};
 ghost use Rattle.cell_core.specs.Kept.{cell_of};
+ghost use Rattle.dnsd.specs.declared.transport.Transport.TheVariants.{Udp};
 ghost use Rattle.dnsd.specs.Reply.{reply};
 ghost use Rattle.dnsd.specs.World.{started, number_of, zone_of, GivesUp, Turns};
 ghost use Rattle.dnsd.specs.WorldPlay.{world_of, names_in_use};
@@ -9,7 +10,8 @@ ghost use Rattle.dnsd.specs.WorldSteps.{Turn, turn_of, answer_of};
 
 use super::fault::WorldFault;
 use super::step::{Handle, Octets, WorldReply, WorldStep};
-use crate::reply::{UDP_LIMIT, respond};
+use crate::reply::respond;
+use crate::transport::{Transport, UDP_LIMIT};
 use cell_core::{Machine, Step, StepFault};
 use std::alloc::Global;
 use zone_tree::Zone;
@@ -166,12 +168,12 @@ fn release(machine: &mut Machine<&Zone>, number: u64) -> Result<bool, WorldFault
     }
 }
 
-/// The reply to a request in a zone.
+/// The reply to a request over UDP in a zone.
 fn answer_in(alloc: Global, zone: &Zone, request: &[u8]) -> Result<WorldReply, WorldFault>
-    ensures { IfOk result (λ told. told ≡ answer_of (reply zone.now request.now)) }
+    ensures { IfOk result (λ told. told ≡ answer_of (reply Udp zone.now request.now)) }
 {
     let mut out = [0; UDP_LIMIT];
-    let Some(len) = respond(zone, request, &mut out) else {
+    let Some(len) = respond(zone, Transport::Udp, request, &mut out) else {
         return Ok(WorldReply::Silent);
     };
     match out[..len].to_vec(alloc) {

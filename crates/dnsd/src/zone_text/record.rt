@@ -21,13 +21,16 @@ pub struct Entry {
 }
 
 /// The types of which a zone's text may have records, and how they are written.
-const TYPES: [(&[u8], RType); 6] = [
+const TYPES: [(&[u8], RType); 9] = [
     (b"A", RType::A),
     (b"NS", RType::NS),
     (b"CNAME", RType::CNAME),
     (b"SOA", RType::SOA),
+    (b"PTR", RType::PTR),
     (b"MX", RType::MX),
     (b"TXT", RType::TXT),
+    (b"AAAA", RType::AAAA),
+    (b"SRV", RType::SRV),
 ];
 
 /// The record that a line stands for, its words judged from left to right.

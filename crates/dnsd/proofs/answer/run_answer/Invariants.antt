@@ -5,4 +5,4 @@ use Rattle.dnsd.proofs.answer.run_answer.Given as goal
 -- what was written and what the rest will give are what the whole input gives
 abbrev pub invariant-loop : goal.invariant-loop
 invariant-loop g l =
-    (input : List ℕ) → g.R.Read.remaining l.initial.reader ≡ Some input → IsOnTheWay (g.Z.ZoneRead.records l.zone) input (g.R.Read.remaining l.reader) (g.W.Write.contents l.initial.writer) (g.W.Write.contents l.writer)
+    (input : List ℕ) → g.R.Read.remaining l.initial.reader ≡ Some input → IsOnTheWay l.transport (g.Z.ZoneRead.records l.zone) input (g.R.Read.remaining l.reader) (g.W.Write.contents l.initial.writer) (g.W.Write.contents l.writer)
