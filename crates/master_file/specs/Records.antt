@@ -1,0 +1,127 @@
+-- A zone's text as records in order, or its first fault (RFC 1035, 5.1; RFC 2308, 4).
+use Rattle.std.specs.Prelude.{◌≡◌, ◌<◌, ◌^◌, ℕ, Bool, true, false, List, [], ◌∷◌, ◌++◌, codes, bytes_eq, if◌then◌else◌, Option, Some, None, unwrap_or, IfSome, Result, Ok, Err, ok_or}
+use Rattle.std.specs.Option.{option_or}
+use Rattle.dns_name.specs.Name.{fold_name}
+use Rattle.dns_rdata.specs.declared.numbers.Ttl.{Ttl}
+use Rattle.master_file.specs.declared.fault.Cause.{Cause}
+use Rattle.master_file.specs.declared.fault.Cause.TheVariants.{Directive, BadData, Unclosed, NoTtl, NoOwner}
+use Rattle.master_file.specs.declared.fault.FileFault.{FileFault}
+use Rattle.master_file.specs.declared.force.Force.{Force}
+use Rattle.master_file.specs.declared.placed.Placed.{Placed}
+use Rattle.master_file.specs.declared.entry.EntryHead.{EntryHead}
+use Rattle.master_file.specs.Data.{data_of_words, surplus_of}
+use Rattle.master_file.specs.Entries.{Entry, entries_of}
+use Rattle.master_file.specs.Front.{ttl_of, front_of}
+use Rattle.master_file.specs.Items.{begins_with}
+use Rattle.master_file.specs.NameWord.{owner_of}
+use Rattle.master_file.specs.Word.{Written, on_ok, and_then}
+use Rattle.master_file.specs.Word.Written.{Plain}
+use Rattle.master_file.specs.Word.Written.{Unclosed as no_word}
+
+-- what is read of an argument, where no word stands behind it
+abbrev pub alone : {A : Type 0} → A → List Written → Result A Cause
+alone x [] = Ok x
+alone x (word ∷ words) = Err (surplus_of word)
+
+-- what a directive's one argument is; a missing one is a fault of the directive
+abbrev pub argument_of : {A : Type 0} → (Written → Result A Cause) → List Written → Result A Cause
+argument_of read [] = Err Directive
+argument_of read (word ∷ words) = and_then (read word) (λ x. alone x words)
+
+-- what is in force behind a directive: `$ORIGIN` has a name, relative to the origin before it, and `$TTL` a TTL; both are
+-- read in upper case alone (RFC 1035, 5.1; RFC 2308, 4; own)
+unfoldable pub directed : Force → List ℕ → List Written → Result Force Cause
+directed force directive arguments =
+    if bytes_eq directive (codes "$ORIGIN") then on_ok (λ name. record force { origin = name }) (argument_of (owner_of force.origin) arguments)
+    else if bytes_eq directive (codes "$TTL") then on_ok (λ ttl. record force { default_ttl = Some ttl }) (argument_of ttl_of arguments)
+    else Err Directive
+
+-- the directive that an entry's words begin with, and its arguments: a word outside quotes that begins with `$`, on a
+-- line that begins with no blank (RFC 1035, 5.1)
+abbrev pub directive_of : Bool → List Written → Option (List ℕ × List Written)
+directive_of true words = None
+directive_of false (Plain text ∷ words) = if begins_with 36 text then Some (text, words) else None
+directive_of false words = None
+
+-- the owner of a record, and the words behind it: a line that begins with a blank takes the owner of the record before
+-- (RFC 1035, 5.1). Owners are in lower case
+abbrev pub owned_of : Force → Bool → List Written → Result (List (List ℕ) × List Written) Cause
+owned_of force true words = on_ok (λ owner. (owner, words)) (ok_or force.owner NoOwner)
+owned_of force false [] = Err BadData
+owned_of force false (word ∷ words) = on_ok (λ owner. (fold_name owner, words)) (owner_of force.origin word)
+
+-- the TTL of a record: its own, else that of `$TTL`, else that of the record before (RFC 2308, 4; RFC 1035, 5.1)
+abbrev pub ttl_in : Force → Option Ttl → Result Ttl Cause
+ttl_in force own = ok_or (option_or own (option_or force.default_ttl force.ttl)) NoTtl
+
+-- the record of an owner that words stand for: TTL, class and type, then its data
+abbrev pub placed_of : Force → ℕ → List (List ℕ) → List Written → Result Placed Cause
+placed_of force line owner words =
+    and_then (front_of words) (λ front. and_then (ttl_in force front.ttl) (λ ttl.
+    on_ok (λ octets. record { line = line; owner = owner; ttl = ttl; rdata = record { rtype = front.rtype; octets = octets } })
+    (data_of_words front.rtype force.origin front.words)))
+
+-- the record that an entry's words stand for; whether its line begins with a blank
+abbrev pub record_of : Force → ℕ → Bool → List Written → Result Placed Cause
+record_of force line indented words = and_then (owned_of force indented words) (λ owned. placed_of force line owned.0 owned.1)
+
+-- what is in force behind a record
+abbrev pub behind : Force → Placed → Force
+behind force placed = record force { owner = Some placed.owner; ttl = Some placed.ttl }
+
+-- what is in force behind an entry, and its record where it has one
+abbrev pub judged : Force → ℕ → Bool → List Written → Result (Force × Option Placed) Cause
+judged force line indented words = elim (directive_of indented words) [
+  | Some directive ↦ on_ok (λ next. (next, None)) (directed force directive.0 directive.1)
+  | None ↦ on_ok (λ placed. (behind force placed, Some placed)) (record_of force line indented words)
+]
+
+-- the words of an entry; a quote or a parenthesis without its other one stands behind them
+abbrev pub words_of : Entry → List Written
+words_of entry = elim entry.unclosed [ None ↦ entry.words | Some line ↦ entry.words ++ no_word ∷ [] ]
+
+-- the line of a fault of an entry: its own, and that of a quote or a parenthesis without its other one where that is the
+-- fault
+abbrev pub fault_line : ℕ → Option ℕ → Cause → ℕ
+fault_line line unclosed Unclosed = unwrap_or unclosed line
+fault_line line unclosed cause = line
+
+-- a fault of an entry, by its line and that of a quote or a parenthesis without its other one
+abbrev pub fault_at : ℕ → Option ℕ → Cause → FileFault
+fault_at line unclosed cause = record { line = fault_line line unclosed cause; cause = cause }
+
+-- the records of entries, in order; the first fault is told
+abbrev pub records_from : Force → List Entry → Result (List Placed) FileFault
+records_from force [] = Ok []
+records_from force (entry ∷ entries) = elim (judged force entry.line entry.indented (words_of entry)) [
+  | Err cause ↦ Err (fault_at entry.line entry.unclosed cause)
+  | Ok (next, None) ↦ records_from next entries
+  | Ok (next, Some placed) ↦ on_ok (λ rest. placed ∷ rest) (records_from next entries)
+]
+
+-- what is in force where a text begins
+abbrev pub start : List (List ℕ) → Force
+start origin = record { origin = origin; default_ttl = None; owner = None; ttl = None }
+
+-- the records of a zone's text, in order, or its first fault (RFC 1035, 5.1)
+abbrev pub records_of : List (List ℕ) → List ℕ → Result (List Placed) FileFault
+records_of origin text = records_from (start origin) (entries_of text)
+
+-- an entry stands before the others, with these words
+pub record IsFirst (before after : List Entry) (head : EntryHead) (words : List Written) : Type 0 where
+  pub entry : Entry
+  pub first : before ≡ entry ∷ after
+  pub line : entry.line ≡ head.line
+  pub indented : entry.indented ≡ head.indented
+  pub unclosed : entry.unclosed ≡ head.unclosed
+  pub all : words ≡ words_of entry
+
+-- what is left of a text: its records, or the first fault among them; and how many entries
+pub record Left : Type 0 where
+  pub records : Result (List Placed) FileFault
+  pub entries : ℕ
+
+-- the TTLs in force last at most 2^31 - 1 seconds (RFC 2181, 8)
+pub record AreLasting (force : Force) : Type 0 where
+  pub default_ttl : IfSome force.default_ttl (λ ttl. ttl.0 < 2 ^ 31)
+  pub ttl : IfSome force.ttl (λ ttl. ttl.0 < 2 ^ 31)

@@ -1,0 +1,135 @@
+//! A zone's text, read record by record (RFC 1035, 5.1; RFC 2308, 4).
+ghost use Rattle.std.specs.Prelude.{◌≡◌, ◌<◌, ◌^◌, ◌∷◌, ◌⊎◌, List, [], map, Some, Ok, Err, IfOk, IfErr, OnErr, IfSome, MatchOption};
+ghost use Rattle.master_file.specs.declared.fault.Cause.TheVariants.{NoMemory};
+ghost use Rattle.master_file.specs.Data.{IsToldOf};
+ghost use Rattle.master_file.specs.Entries.{first_line};
+ghost use Rattle.master_file.specs.Records.{records_of, judged, fault_at, IsFirst, AreLasting};
+ghost use Rattle.master_file.specs.Word.{written, on_ok};
+
+use crate::entries::Entries;
+use crate::entry::EntryHead;
+use crate::fault::{Cause, FileFault};
+use crate::force::{Force, directive};
+use crate::placed::{Placed, read_record};
+use crate::word::Word;
+use dns_name::Name;
+use std::alloc::Global;
+use std::marker::Model;
+
+/// The records of a zone's text that are left. Contracts see the list of them, or the first fault among them; and how many
+/// entries are left.
+#[derive(Drop)]
+pub struct Records<'a> {
+    entries: Entries<'a>,
+    words: Vec<Word<'a>>,
+    force: Force,
+}
+
+impl<'a> Model for Records<'a> {
+    ghost use Rattle.std.specs.Prelude.{length};
+    ghost use Rattle.master_file.specs.Records.{Left, records_from, AreLasting};
+
+    ghost Value = { Left };
+
+    ghost view = { λ a. record { records = records_from a.force a.entries; entries = length a.entries } };
+
+    ghost invariant = { λ a. AreLasting a.force };
+}
+
+impl<'a> Records<'a> {
+    /// The records of a text, its names relative to the origin.
+    pub fn new(alloc: Global, text: &'a [u8], origin: &Name) -> Records<'a>
+        ensures { result.records ≡ records_of origin.now text.now }
+    {
+        Records {
+            entries: Entries::new(text),
+            words: Vec::new(alloc),
+            force: Force::new(origin),
+        }
+    }
+
+    /// The next record; None behind the last. Entries are judged in order and the words of each from left to right, and
+    /// the first fault is told (RFC 1035, 5.1).
+    ///
+    /// `NoMemory` only where a growth was refused, on the line of the entry that wanted it. Nothing is said of the
+    /// records behind a fault.
+    pub fn next(&mut self, alloc: Global) -> Result<Option<Placed>, FileFault>
+        ensures record { IfOk result (λ found. MatchOption found
+            ((self.old.records ≡ Ok []) × (self.new.records ≡ Ok []))
+            (λ placed. self.old.records ≡ on_ok (λ rest. placed ∷ rest) self.new.records)) }
+        ensures less { IfOk result (λ found. IfSome found (λ _. self.new.entries < self.old.entries)) }
+        ensures lasts { IfOk result (λ found. IfSome found (λ placed. placed.ttl.0 < 2 ^ 31)) }
+        ensures fault { IfErr result (λ fault. (fault.cause ≡ NoMemory) ⊎ (self.old.records ≡ Err fault)) }
+    {
+        loop {
+            let Some(head) = next_entry(&mut self.entries, &mut self.words)? else {
+                return Ok(None);
+            };
+            match judge(alloc, &mut self.force, head, &self.words) {
+                Ok(Some(placed)) => return Ok(Some(placed)),
+                Ok(None) => {}
+                Err(cause) => return Err(fault(head, cause)),
+            }
+        }
+    }
+}
+
+/// The next entry, with its words in the list that is given; a quote or a parenthesis without its other one stands
+/// behind them.
+fn next_entry<'a>(
+    entries: &mut Entries<'a>,
+    words: &mut Vec<Word<'a>>,
+) -> Result<Option<EntryHead>, FileFault>
+    ensures first { IfOk result (λ found. MatchOption found
+        ((entries.old ≡ []) × (entries.new ≡ []))
+        (λ head. IsFirst entries.old entries.new head (map written words.new.items))) }
+    ensures fault { IfErr result (λ fault. fault.cause ≡ NoMemory) }
+    ensures line { IfErr result (λ fault. first_line entries.old ≡ Some fault.line) }
+{
+    let Some(head) = entries.next(words)? else {
+        return Ok(None);
+    };
+    if head.unclosed.is_some() {
+        let Ok(()) = words.push(Word::Unclosed) else {
+            return Err(fault(head, Cause::NoMemory));
+        };
+    }
+    Ok(Some(head))
+}
+
+/// A fault of an entry, on its line; that of a quote or a parenthesis without its other one on the line of that.
+fn fault(head: EntryHead, cause: Cause) -> FileFault
+    ensures { result ≡ fault_at head.line head.unclosed cause }
+{
+    let line = match cause {
+        Cause::Unclosed => head.unclosed.unwrap_or(head.line),
+        _ => head.line,
+    };
+    FileFault { line, cause }
+}
+
+/// Judges an entry's words: a directive is put in force, and a record is read; None where there is none.
+fn judge(
+    alloc: Global,
+    force: &mut Force,
+    head: EntryHead,
+    words: &[Word<'_>],
+) -> Result<Option<Placed>, Cause>
+    requires lasting { AreLasting force.old }
+    ensures judged { IfOk result (λ found. judged force.old head.line head.indented (map written words.now) ≡ Ok (force.new, found)) }
+    ensures lasts { IfOk result (λ found. IfSome found (λ placed. placed.ttl.0 < 2 ^ 31)) }
+    ensures fault { IfErr result (IsToldOf (judged force.old head.line head.indented (map written words.now))) }
+    ensures lasting { AreLasting force.new }
+{
+    if let Some((directive, arguments)) = directive(head.indented, words) {
+        force.direct(directive, arguments)?;
+        return Ok(None);
+    }
+    let placed = read_record(alloc, force, head.line, head.indented, words)?;
+    force.owner = Some(placed.owner.copy());
+    force.ttl = Some(placed.ttl);
+    Ok(Some(placed))
+}
+
+#[cfg(test)]
+mod tests;
