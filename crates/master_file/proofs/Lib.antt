@@ -5,10 +5,14 @@ pub mod DataLemmas
 pub mod EntryLemmas
 pub mod FieldLemmas
 pub mod FormLemmas
+pub mod GatherLemmas
 pub mod ItemLemmas
+pub mod KeptLemmas
+pub mod NotesLemmas
 pub mod NumberLemmas
 pub mod RecordLemmas
 pub mod ScanLemmas
+pub mod SetLemmas
 pub mod SpellingLemmas
 pub mod SpeltLemmas
 pub mod StepLemmas

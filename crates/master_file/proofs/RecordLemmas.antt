@@ -1,23 +1,22 @@
 -- The records of entries, entry by entry.
-use Rattle.std.proofs.Common.{◌≡◌, ℕ, ◌⊎◌, inl, inr, Bool, Option, Some, None, MatchOption, List, [], ◌∷◌, map, Result, Ok, Err, sym, ap, subst, ◌∙◌}
+use Rattle.std.proofs.Common.{◌≡◌, ℕ, ◌⊎◌, inl, inr, Bool, Option, Some, None, MatchOption, List, [], map, Result, Ok, Err, sym, ap, subst, ◌∙◌}
 use Rattle.master_file.specs.declared.fault.Cause.{Cause}
 use Rattle.master_file.specs.declared.fault.Cause.TheVariants.{NoMemory}
-use Rattle.master_file.specs.declared.fault.FileFault.{FileFault}
 use Rattle.master_file.specs.declared.force.Force.{Force}
 use Rattle.master_file.specs.declared.placed.Placed.{Placed}
 use Rattle.master_file.specs.declared.entry.EntryHead.{EntryHead}
 use Rattle.master_file.specs.declared.word.Word.{Word}
 use Rattle.master_file.specs.Data.{IsToldOf}
 use Rattle.master_file.specs.Entries.{Entry}
-use Rattle.master_file.specs.Records.{judged, fault_at, records_from, IsFirst}
-use Rattle.master_file.specs.Word.{Written, written, on_ok}
+use Rattle.master_file.specs.Records.{Read, faulty, in_front, judged, fault_at, records_from, IsFirst}
+use Rattle.master_file.specs.Word.{Written, written}
 
 -- what the first entry's judgement makes of the records
-abbrev then : ℕ → Option ℕ → List Entry → Result (Force × Option Placed) Cause → Result (List Placed) FileFault
+abbrev then : ℕ → Option ℕ → List Entry → Result (Force × Option Placed) Cause → Read
 then line unclosed entries r = elim r [
-  | Err cause ↦ Err (fault_at line unclosed cause)
+  | Err cause ↦ faulty (fault_at line unclosed cause)
   | Ok (next, None) ↦ records_from next entries
-  | Ok (next, Some placed) ↦ on_ok (λ (rest : List Placed). placed ∷ rest) (records_from next entries)
+  | Ok (next, Some placed) ↦ in_front placed (records_from next entries)
 ]
 
 -- the records from the first entry on, by what its words are judged to be
@@ -33,7 +32,7 @@ first_of : (before after : List Entry) (head : EntryHead) (found : Option EntryH
 first_of before after head found words e h = subst (λ (o : Option EntryHead). MatchOption o ((before ≡ []) × (after ≡ [])) (λ (h : EntryHead). IsFirst before after h words)) e h
 
 -- a fault of the first entry is that of the whole
-pub fault_first : (force : Force) (before after : List Entry) (head : EntryHead) (found : Option EntryHead) (items words : List Word) (cause : Cause) → found ≡ Some head → MatchOption found ((before ≡ []) × (after ≡ [])) (λ (h : EntryHead). IsFirst before after h (map written items)) → words ≡ items → IsToldOf (judged force head.line head.indented (map written words)) cause → (cause ≡ NoMemory) ⊎ (records_from force before ≡ Err (fault_at head.line head.unclosed cause))
+pub fault_first : (force : Force) (before after : List Entry) (head : EntryHead) (found : Option EntryHead) (items words : List Word) (cause : Cause) → found ≡ Some head → MatchOption found ((before ≡ []) × (after ≡ [])) (λ (h : EntryHead). IsFirst before after h (map written items)) → words ≡ items → IsToldOf (judged force head.line head.indented (map written words)) cause → (cause ≡ NoMemory) ⊎ (records_from force before ≡ faulty (fault_at head.line head.unclosed cause))
 fault_first force before after head found items words cause e h same (inl none) = inl none
 fault_first force before after head found items words cause e h same (inr told) =
     inr (from_first force before after head (map written items) (first_of before after head found (map written items) e h)

@@ -27,7 +27,7 @@ use Rattle.master_file.specs.Items.{begins_with}
 use Rattle.master_file.specs.Kind.{type_named, class_named}
 use Rattle.master_file.specs.NameWord.{name_named, owner_of}
 use Rattle.master_file.specs.Number.{are_digits}
-use Rattle.master_file.specs.Records.{directive_of, directed, owned_of, ttl_in, placed_of, record_of, behind, judged, fault_at, records_from}
+use Rattle.master_file.specs.Records.{directive_of, directed, owned_of, ttl_in, placed_of, record_of, behind, judged, fault_at, records_from, Read, faulty, in_front}
 use Rattle.master_file.specs.Spelling.{one_a_line}
 use Rattle.master_file.specs.Text.{words_of}
 use Rattle.master_file.specs.Word.{Written, on_ok, and_then}
@@ -183,15 +183,15 @@ record_judged force line r h =
     ∙ ap (on_ok (λ (placed : Placed). (behind force placed, Some placed))) (record_is force line r h)
 
 -- the records of lines
-abbrev then : ℕ → List Entry → Result (Force × Option Placed) Cause → Result (List Placed) FileFault
+abbrev then : ℕ → List Entry → Result (Force × Option Placed) Cause → Read
 then line entries r = elim r [
-  | Err cause ↦ Err (fault_at line None cause)
+  | Err cause ↦ faulty (fault_at line None cause)
   | Ok (next, None) ↦ records_from next entries
-  | Ok (next, Some placed) ↦ on_ok (λ (rest : List Placed). placed ∷ rest) (records_from next entries)
+  | Ok (next, Some placed) ↦ in_front placed (records_from next entries)
 ]
 
-pub records_are : (force : Force) (line : ℕ) (rs : List Record) → All IsLawful rs → records_from force (one_a_line line (map line_words rs)) ≡ Ok (placed_from line rs)
+pub records_are : (force : Force) (line : ℕ) (rs : List Record) → All IsLawful rs → records_from force (one_a_line line (map line_words rs)) ≡ record { placed = placed_from line rs; fault = None }
 records_are force line [] h = refl
 records_are force line (r ∷ rs) h =
     ap (then line (one_a_line (line + 1) (map line_words rs))) (record_judged force line r (All-head IsLawful r rs h))
-    ∙ ap (on_ok (λ (rest : List Placed). placed_at line r ∷ rest)) (records_are (behind force (placed_at line r)) (line + 1) rs (All-tail IsLawful r rs h))
+    ∙ ap (in_front (placed_at line r)) (records_are (behind force (placed_at line r)) (line + 1) rs (All-tail IsLawful r rs h))

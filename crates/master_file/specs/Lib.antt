@@ -4,11 +4,14 @@ pub mod Entries
 pub mod Examples
 pub mod Fault
 pub mod Front
+pub mod Gathered
 pub mod Items
 pub mod Kind
 pub mod NameWord
+pub mod Noted
 pub mod Number
 pub mod Order
+pub mod RecordOrder
 pub mod Records
 pub mod Spelling
 pub mod Steps

@@ -1,4 +1,4 @@
--- A zone's text as records in order, or its first fault (RFC 1035, 5.1; RFC 2308, 4).
+-- A zone's text as records in order, up to its first fault (RFC 1035, 5.1; RFC 2308, 4).
 use Rattle.std.specs.Prelude.{◌≡◌, ◌<◌, ◌^◌, ℕ, Bool, true, false, List, [], ◌∷◌, ◌++◌, codes, bytes_eq, if◌then◌else◌, Option, Some, None, unwrap_or, IfSome, Result, Ok, Err, ok_or}
 use Rattle.std.specs.Option.{option_or}
 use Rattle.dns_name.specs.Name.{fold_name}
@@ -90,21 +90,37 @@ fault_line line unclosed cause = line
 abbrev pub fault_at : ℕ → Option ℕ → Cause → FileFault
 fault_at line unclosed cause = record { line = fault_line line unclosed cause; cause = cause }
 
--- the records of entries, in order; the first fault is told
-abbrev pub records_from : Force → List Entry → Result (List Placed) FileFault
-records_from force [] = Ok []
+-- what is read of a text: its records in order, up to its first fault, and that fault
+pub record Read : Type 0 where
+  pub placed : List Placed
+  pub fault : Option FileFault
+
+-- what is read where nothing is left, and where the first that is left is a fault
+abbrev pub nothing : Read
+nothing = record { placed = []; fault = None }
+
+abbrev pub faulty : FileFault → Read
+faulty fault = record { placed = []; fault = Some fault }
+
+-- one record in front of what is read
+abbrev pub in_front : Placed → Read → Read
+in_front placed rest = record { placed = placed ∷ rest.placed; fault = rest.fault }
+
+-- the records of entries, in order, up to the first fault
+abbrev pub records_from : Force → List Entry → Read
+records_from force [] = nothing
 records_from force (entry ∷ entries) = elim (judged force entry.line entry.indented (words_of entry)) [
-  | Err cause ↦ Err (fault_at entry.line entry.unclosed cause)
+  | Err cause ↦ faulty (fault_at entry.line entry.unclosed cause)
   | Ok (next, None) ↦ records_from next entries
-  | Ok (next, Some placed) ↦ on_ok (λ rest. placed ∷ rest) (records_from next entries)
+  | Ok (next, Some placed) ↦ in_front placed (records_from next entries)
 ]
 
 -- what is in force where a text begins
 abbrev pub start : List (List ℕ) → Force
 start origin = record { origin = origin; default_ttl = None; owner = None; ttl = None }
 
--- the records of a zone's text, in order, or its first fault (RFC 1035, 5.1)
-abbrev pub records_of : List (List ℕ) → List ℕ → Result (List Placed) FileFault
+-- the records of a zone's text, in order, up to its first fault (RFC 1035, 5.1)
+abbrev pub records_of : List (List ℕ) → List ℕ → Read
 records_of origin text = records_from (start origin) (entries_of text)
 
 -- an entry stands before the others, with these words
@@ -115,11 +131,6 @@ pub record IsFirst (before after : List Entry) (head : EntryHead) (words : List 
   pub indented : entry.indented ≡ head.indented
   pub unclosed : entry.unclosed ≡ head.unclosed
   pub all : words ≡ words_of entry
-
--- what is left of a text: its records, or the first fault among them; and how many entries
-pub record Left : Type 0 where
-  pub records : Result (List Placed) FileFault
-  pub entries : ℕ
 
 -- the TTLs in force last at most 2^31 - 1 seconds (RFC 2181, 8)
 pub record AreLasting (force : Force) : Type 0 where

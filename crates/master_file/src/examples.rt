@@ -1,7 +1,7 @@
 //! Worked examples of the definitions.
-ghost use Rattle.std.specs.Prelude.{◌≡◌, codes, Ok, Err};
+ghost use Rattle.std.specs.Prelude.{◌≡◌, codes, None};
 ghost use Rattle.master_file.specs.Examples.{origin, text, records, unclosed_text};
-ghost use Rattle.master_file.specs.Records.{records_of};
+ghost use Rattle.master_file.specs.Records.{records_of, faulty};
 
 use crate::fault::Cause;
 
@@ -9,7 +9,7 @@ use crate::fault::Cause;
 /// RFC 2308, 4); and faults told from left to right.
 #[tactic(auto, unfolding(crate::specs::Records::directed, crate::specs::Number::decimal_of, crate::specs::Kind::type_named, crate::specs::Kind::class_named, crate::specs::NameWord::name_named, crate::specs::Data::octets_of_words, crate::specs::Data::form_of, crate::specs::Data::as_data, dns_rdata::specs::Data::data_of))]
 pub fn examples_of_records()
-    ensures records { records_of origin text ≡ Ok records }
-    ensures unclosed { records_of origin (unclosed_text (codes "b")) ≡ Err (record { line = 2; cause = Cause.Unclosed }) }
-    ensures to_the_left { records_of origin (unclosed_text (codes "..")) ≡ Err (record { line = 1; cause = Cause.BadName }) }
+    ensures records { records_of origin text ≡ record { placed = records; fault = None } }
+    ensures unclosed { records_of origin (unclosed_text (codes "b")) ≡ faulty (record { line = 2; cause = Cause.Unclosed }) }
+    ensures to_the_left { records_of origin (unclosed_text (codes "..")) ≡ faulty (record { line = 1; cause = Cause.BadName }) }
 {}

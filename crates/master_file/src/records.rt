@@ -1,10 +1,10 @@
 //! A zone's text, read record by record (RFC 1035, 5.1; RFC 2308, 4).
-ghost use Rattle.std.specs.Prelude.{◌≡◌, ◌<◌, ◌^◌, ◌∷◌, ◌⊎◌, List, [], map, Some, Ok, Err, IfOk, IfErr, OnErr, IfSome, MatchOption};
+ghost use Rattle.std.specs.Prelude.{◌≡◌, ◌<◌, ◌^◌, ◌⊎◌, List, [], map, Some, Ok, Err, IfOk, IfErr, OnErr, IfSome, MatchOption};
 ghost use Rattle.master_file.specs.declared.fault.Cause.TheVariants.{NoMemory};
 ghost use Rattle.master_file.specs.Data.{IsToldOf};
 ghost use Rattle.master_file.specs.Entries.{first_line};
-ghost use Rattle.master_file.specs.Records.{records_of, judged, fault_at, IsFirst, AreLasting};
-ghost use Rattle.master_file.specs.Word.{written, on_ok};
+ghost use Rattle.master_file.specs.Records.{records_of, nothing, faulty, in_front, judged, fault_at, IsFirst, AreLasting};
+ghost use Rattle.master_file.specs.Word.{written};
 
 use crate::entries::Entries;
 use crate::entry::EntryHead;
@@ -16,8 +16,8 @@ use dns_name::Name;
 use std::alloc::Global;
 use std::marker::Model;
 
-/// The records of a zone's text that are left. Contracts see the list of them, or the first fault among them; and how many
-/// entries are left.
+/// The records of a zone's text that are left. Contracts see the list of them, up to the first fault, and that
+/// fault.
 #[derive(Drop)]
 pub struct Records<'a> {
     entries: Entries<'a>,
@@ -26,12 +26,11 @@ pub struct Records<'a> {
 }
 
 impl<'a> Model for Records<'a> {
-    ghost use Rattle.std.specs.Prelude.{length};
-    ghost use Rattle.master_file.specs.Records.{Left, records_from, AreLasting};
+    ghost use Rattle.master_file.specs.Records.{Read, records_from, AreLasting};
 
-    ghost Value = { Left };
+    ghost Value = { Read };
 
-    ghost view = { λ a. record { records = records_from a.force a.entries; entries = length a.entries } };
+    ghost view = { λ a. records_from a.force a.entries };
 
     ghost invariant = { λ a. AreLasting a.force };
 }
@@ -39,7 +38,7 @@ impl<'a> Model for Records<'a> {
 impl<'a> Records<'a> {
     /// The records of a text, its names relative to the origin.
     pub fn new(alloc: Global, text: &'a [u8], origin: &Name) -> Records<'a>
-        ensures { result.records ≡ records_of origin.now text.now }
+        ensures { result ≡ records_of origin.now text.now }
     {
         Records {
             entries: Entries::new(text),
@@ -55,11 +54,10 @@ impl<'a> Records<'a> {
     /// records behind a fault.
     pub fn next(&mut self, alloc: Global) -> Result<Option<Placed>, FileFault>
         ensures record { IfOk result (λ found. MatchOption found
-            ((self.old.records ≡ Ok []) × (self.new.records ≡ Ok []))
-            (λ placed. self.old.records ≡ on_ok (λ rest. placed ∷ rest) self.new.records)) }
-        ensures less { IfOk result (λ found. IfSome found (λ _. self.new.entries < self.old.entries)) }
+            (self.old ≡ nothing)
+            (λ placed. self.old ≡ in_front placed self.new)) }
         ensures lasts { IfOk result (λ found. IfSome found (λ placed. placed.ttl.0 < 2 ^ 31)) }
-        ensures fault { IfErr result (λ fault. (fault.cause ≡ NoMemory) ⊎ (self.old.records ≡ Err fault)) }
+        ensures fault { IfErr result (λ fault. (fault.cause ≡ NoMemory) ⊎ (self.old ≡ faulty fault)) }
     {
         loop {
             let Some(head) = next_entry(&mut self.entries, &mut self.words)? else {

@@ -1,5 +1,5 @@
 //! Laws of a zone's text: each is the contract of a function that does nothing.
-ghost use Rattle.std.specs.Prelude.{◌≡◌, ℕ, false, List, Some, map, All, Ok};
+ghost use Rattle.std.specs.Prelude.{◌≡◌, ℕ, false, List, Some, None, map, All, Ok};
 ghost use Rattle.dns_rdata.specs.Record.{Record};
 ghost use Rattle.master_file.specs.Entries.{entries_of};
 ghost use Rattle.master_file.specs.declared.force.Force.{Force};
@@ -19,5 +19,5 @@ pub fn written_zone_has_an_entry_a_record()
 pub fn written_zone_is_read_back()
     ensures record { (force : Force) (line : ℕ) (r : Record) → IsLawful r
         → judged force line false (line_words r) ≡ Ok (behind force (placed_at line r), Some (placed_at line r)) }
-    ensures records { (zone : List Record) (origin : List (List ℕ)) → All IsLawful zone → records_of origin (zone_text zone) ≡ Ok (placed_from 1 (soa_first zone)) }
+    ensures records { (zone : List Record) (origin : List (List ℕ)) → All IsLawful zone → records_of origin (zone_text zone) ≡ record { placed = placed_from 1 (soa_first zone); fault = None } }
 {}

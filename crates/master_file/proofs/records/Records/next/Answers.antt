@@ -1,5 +1,6 @@
-use Rattle.std.proofs.Common.{inl, inr, Err, ap, sym, ◌∙◌}
+use Rattle.std.proofs.Common.{inl, inr, ap, sym, ◌∙◌}
 use Rattle.master_file.specs.declared.fault.FileFault.{FileFault}
+use Rattle.master_file.specs.Records.{faulty}
 use Rattle.master_file.proofs.RecordLemmas.{fault_first}
 use Rattle.master_file.proofs.records.Records.next.Goals as goal
 
@@ -7,5 +8,5 @@ pub returns-in-Err-clause-fault : goal.returns-in-Err-clause-fault
 returns-in-Err-clause-fault c =
     elim (fault_first c.loop-head.self-inside.force c.loop-head.self-inside.entries c.next_entry.new.entries c.in-Some.head c.in_ok-head.field-0 c.next_entry.new.words.items c.deref.result.now c.in-Err.cause c.in-Some.is c.in_ok-head.ensures.first c.deref.ensures.value c.in-Err.ensures.fault) [
       | inl none ↦ inl (ap (λ (f : FileFault). f.cause) c.fault.ensures ∙ none)
-      | inr told ↦ inr (sym c.loop-head.invariant.left ∙ told ∙ ap Err (sym c.fault.ensures))
+      | inr told ↦ inr (sym c.loop-head.invariant.left ∙ told ∙ ap faulty (sym c.fault.ensures))
     ]

@@ -1,11 +1,10 @@
-use Rattle.std.proofs.Common.{◌≡◌, ◌≤◌, length}
+use Rattle.std.proofs.Common.{◌≡◌, length}
 use Rattle.master_file.specs.Records.{records_from, AreLasting}
 use Rattle.master_file.proofs.records.Records.next.Given as goal
 
 abbrev pub invariant-loop-head : goal.invariant-loop-head
 invariant-loop-head l = record {
-  left : records_from l.self-inside.force l.self-inside.entries ≡ l.fn.self.records;
-  fewer : length l.self-inside.entries ≤ l.fn.self.entries;
+  left : records_from l.self-inside.force l.self-inside.entries ≡ l.fn.self;
   lasting : AreLasting l.self-inside.force;
 }
 

@@ -1,0 +1,101 @@
+-- A zone's text as a zone, or the fault that is told of it (RFC 1035, 5.1 and 5.2; RFC 2181, 5.2 and 10.1).
+use Rattle.std.specs.Prelude.{ℕ, Bool, true, false, ◌&&◌, ◌||◌, not, ◌==◌, nat_lt, List, [], ◌∷◌, length, map, if◌then◌else◌, Option, Some, None, Result, Ok, Err}
+use Rattle.std.specs.BTreeSet.{insert_key}
+use Rattle.std.specs.List.{list_any}
+use Rattle.std.specs.Ordering.{is_eq}
+use Rattle.dns_name.specs.Name.{is_under, fold_name}
+use Rattle.dns_rdata.specs.Numbers.{type_NS, type_CNAME, type_SOA}
+use Rattle.dns_rdata.specs.Record.{Record, record_cmp}
+use Rattle.zone_tree.specs.Zone.{stands_at, is_of, rrset_of, soa_of, apex_of, is_wild}
+use Rattle.master_file.specs.declared.fault.Cause.{Cause}
+use Rattle.master_file.specs.declared.fault.Cause.TheVariants.{Outside, Apex, Conflict, Limit}
+use Rattle.master_file.specs.declared.fault.FileFault.{FileFault}
+use Rattle.master_file.specs.declared.placed.Placed.{Placed}
+use Rattle.master_file.specs.Records.{Read, records_of}
+
+-- a record of a text, without its line
+abbrev pub record_in : Placed → Record
+record_in placed = record { owner = placed.owner; rtype = placed.rdata.rtype; ttl = placed.ttl.0; rdata = placed.rdata.octets }
+
+-- records in canonical order with one more; records of equal owner, type and data are one (RFC 2181, 5)
+abbrev pub with_one : List Record → Placed → List Record
+with_one kept placed = insert_key record_cmp kept (record_in placed)
+
+-- records in canonical order with those of a text
+abbrev pub with_all : List Record → List Placed → List Record
+with_all kept [] = kept
+with_all kept (placed ∷ rest) = with_all (with_one kept placed) rest
+
+-- the line of the first record of a text that a test shows, which sees the records read before it, in canonical order
+abbrev pub first_line : (List Record → Placed → Bool) → List Record → List Placed → Option ℕ
+first_line test kept [] = None
+first_line test kept (placed ∷ rest) = if test kept placed then Some placed.line else first_line test (with_one kept placed) rest
+
+-- whether a record isn't read before
+abbrev pub is_new : List Record → Placed → Bool
+is_new kept placed = not (list_any (λ r. is_eq (record_cmp (record_in placed) r)) kept)
+
+-- whether a record is one too many: of its owner and type, or in all (own)
+abbrev pub is_too_many : List Record → Placed → Bool
+is_too_many kept placed = is_new kept placed
+    && (length (rrset_of kept placed.owner placed.rdata.rtype) == 256 || length kept == 1000000)
+
+-- whether a record is an SOA beside another (RFC 1035, 5.2)
+abbrev pub is_second_soa : List Record → Placed → Bool
+is_second_soa kept placed = is_new kept placed && (placed.rdata.rtype == type_SOA && nat_lt 0 (length (soa_of kept)))
+
+-- whether a record is an alias beside other data, or other data beside an alias (RFC 1034, 3.6.2; RFC 2181, 10.1)
+abbrev pub is_beside_alias : List Record → Placed → Bool
+is_beside_alias kept placed = is_new kept placed
+    && ((placed.rdata.rtype == type_CNAME && list_any (stands_at placed.owner) kept) || nat_lt 0 (length (rrset_of kept placed.owner type_CNAME)))
+
+-- whether a record is in conflict with those before it, or is an NS at an owner whose first label is `*` (own)
+abbrev pub is_conflict : List Record → Placed → Bool
+is_conflict kept placed = is_beside_alias kept placed || (is_wild placed.owner && placed.rdata.rtype == type_NS)
+
+-- the line of the first record that isn't at or below the apex (RFC 1035, 5.2)
+abbrev pub outside_line : List (List ℕ) → List Placed → Option ℕ
+outside_line apex [] = None
+outside_line apex (placed ∷ rest) = if is_under placed.owner apex then outside_line apex rest else Some placed.line
+
+-- a record with the TTL of the last record of a text that has its owner and type (RFC 2181, 5.2)
+abbrev pub timed : List Placed → Record → Record
+timed [] r = r
+timed (placed ∷ rest) r = timed rest (if is_of r.owner r.rtype (record_in placed) then record r { ttl = placed.ttl.0 } else r)
+
+-- a record with its owner in lower case (RFC 4343, 3)
+abbrev pub in_lower : Record → Record
+in_lower r = record r { owner = fold_name r.owner }
+
+-- the records of a text as a zone's: distinct, in canonical order, with one TTL in a set
+abbrev pub zone_records : List Placed → List Record
+zone_records placed = map (λ r. in_lower (timed placed r)) (with_all [] placed)
+
+-- a fault, at a line that shows it, or else what follows
+abbrev pub told : Cause → Option ℕ → Result (List Record) FileFault → Result (List Record) FileFault
+told cause None next = next
+told cause (Some line) next = Err (record { line = line; cause = cause })
+
+-- and at line 0 where a test shows it
+abbrev pub told_whole : Bool → Result (List Record) FileFault → Result (List Record) FileFault
+told_whole true next = Err (record { line = 0; cause = Apex })
+told_whole false next = next
+
+-- the zone of a text's records: a second SOA, no SOA, no NS at the apex, an owner outside the apex and a conflict are
+-- tried in this order (own)
+abbrev pub zone_of_all : List Placed → Result (List Record) FileFault
+zone_of_all placed = let kept = with_all [] placed in
+    told Apex (first_line is_second_soa [] placed)
+    (told_whole (length (soa_of kept) == 0)
+    (told_whole (length (rrset_of kept (apex_of kept) type_NS) == 0)
+    (told Outside (outside_line (apex_of kept) placed)
+    (told Conflict (first_line is_conflict [] placed)
+    (Ok (zone_records placed))))))
+
+-- the zone of what is read of a text: a record too many stands before a fault of the text
+abbrev pub zone_of_read : Read → Result (List Record) FileFault
+zone_of_read read = told Limit (first_line is_too_many [] read.placed) (elim read.fault [ Some fault ↦ Err fault | None ↦ zone_of_all read.placed ])
+
+-- the zone of a text, or the fault that is told (RFC 1035, 5)
+abbrev pub zone_of_text : List (List ℕ) → List ℕ → Result (List Record) FileFault
+zone_of_text origin text = zone_of_read (records_of origin text)

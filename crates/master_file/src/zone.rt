@@ -1,0 +1,140 @@
+//! A zone's text as a zone (RFC 1035, 5).
+ghost use Rattle.std.specs.Prelude.{◌≡◌, ◌⊎◌, [], map, None, Some, Ok, Err, IfOk, IfErr, OnOk};
+ghost use Rattle.master_file.specs.declared.fault.Cause.TheVariants.{NoMemory};
+ghost use Rattle.master_file.specs.Gathered.{outside_line, zone_of_text, zone_records};
+ghost use Rattle.master_file.specs.Noted.{AreNotes, LastsEach, IsGathered, shown_by, zone_gathered};
+ghost use Rattle.zone_tree.specs.Sets.{records_in};
+ghost use Rattle.zone_tree.specs.Zone.{IsZone};
+ghost use Rattle.master_file.specs.Records.{records_of};
+
+use crate::fault::{Cause, FileFault};
+use crate::gathered::Gathered;
+use crate::records::Records;
+use crate::sets::put_behind;
+use dns_name::Name;
+use dns_rdata::{RRset, RType};
+use std::alloc::{AllocError, Global};
+use zone_tree::Zone;
+
+/// The records of a text, gathered; else its first fault, or the first record too many.
+fn gather(alloc: Global, text: &[u8], origin: &Name) -> Result<Gathered, FileFault>
+    ensures gathered { IfOk result (IsGathered (records_of origin.now text.now).placed []) }
+    ensures whole { IfOk result (λ gathered. (records_of origin.now text.now).fault ≡ None) }
+    ensures fault { IfErr result (λ fault. (fault.cause ≡ NoMemory) ⊎ (zone_of_text origin.now text.now ≡ Err fault)) }
+{
+    let mut records = Records::new(alloc, text, origin);
+    let mut gathered = Gathered::new(alloc);
+    loop {
+        let Some(placed) = records.next(alloc)? else {
+            return Ok(gathered);
+        };
+        let line = placed.line;
+        if let Err(cause) = gathered.put(placed) {
+            return Err(FileFault { line, cause });
+        }
+    }
+}
+
+/// The line of the first record of a text that isn't at or below the apex. It reads the text once more.
+fn first_outside(
+    alloc: Global,
+    text: &[u8],
+    origin: &Name,
+    apex: &Name,
+) -> Result<Option<u64>, FileFault>
+    ensures line { IfOk result (λ line. line ≡ outside_line apex.now (records_of origin.now text.now).placed) }
+    ensures fault { IfErr result (λ fault. (fault.cause ≡ NoMemory) ⊎ ((records_of origin.now text.now).fault ≡ Some fault)) }
+{
+    let mut records = Records::new(alloc, text, origin);
+    loop {
+        let Some(placed) = records.next(alloc)? else {
+            return Ok(None);
+        };
+        if !placed.owner.is_under(apex) {
+            return Ok(Some(placed.line));
+        }
+    }
+}
+
+/// The records of a text that is a zone, gathered; else the fault that is told (RFC 1035, 5).
+fn gather_zone(alloc: Global, text: &[u8], origin: &Name) -> Result<Gathered, FileFault>
+    ensures gathered { IfOk result (IsGathered (records_of origin.now text.now).placed []) }
+    ensures zone { OnOk result (zone_of_text origin.now text.now ≡ Ok (zone_records (records_of origin.now text.now).placed)) }
+    ensures fault { IfErr result (λ fault. (fault.cause ≡ NoMemory) ⊎ (zone_of_text origin.now text.now ≡ Err fault)) }
+{
+    let gathered = gather(alloc, text, origin)?;
+    judge(alloc, text, origin, &gathered)?;
+    Ok(gathered)
+}
+
+/// The zone of a text, its names relative to the origin; else the fault that is told (RFC 1035, 5).
+///
+/// A record too many and a fault of an entry are told at the first entry that has one. After the whole text a second SOA,
+/// no SOA or no NS at the apex, an owner outside the apex and a conflict are tried in this order. `NoMemory` where a growth
+/// was refused. Its time is that of sorting the records.
+pub fn read_zone(alloc: Global, text: &[u8], origin: &Name) -> Result<Zone, FileFault>
+    ensures zone { IfOk result (λ zone. zone_of_text origin.now text.now ≡ Ok zone) }
+    ensures lawful { IfOk result (λ zone. IsZone zone) }
+    ensures fault { IfErr result (λ fault. (fault.cause ≡ NoMemory) ⊎ (zone_of_text origin.now text.now ≡ Err fault)) }
+{
+    let gathered = gather_zone(alloc, text, origin)?;
+    let Ok(sets) = build(alloc, gathered) else {
+        return Err(told(0, Cause::NoMemory));
+    };
+    match Zone::new(sets) {
+        Ok(zone) => Ok(zone),
+        Err(_) => Err(told(0, Cause::NoMemory)),
+    }
+}
+
+/// The sets of what is gathered.
+fn build(alloc: Global, gathered: Gathered) -> Result<Vec<RRset>, AllocError>
+    requires { LastsEach gathered.notes }
+    ensures { IfOk result (λ sets. records_in sets.items ≡ map (shown_by gathered.notes) gathered.kept.keys) }
+{
+    let Gathered { kept, notes, .. } = gathered;
+    let mut sets = Vec::new(alloc);
+    for record in kept {
+        let Some(noted) = notes.at(&record.owner, record.rdata.rtype()) else {
+            return Err(AllocError);
+        };
+        put_behind(alloc, &mut sets, record, noted.ttl)?;
+    }
+    Ok(sets)
+}
+
+/// The fault of a text that is told after the whole of it: a second SOA, no SOA, no NS at the apex, an owner outside the
+/// apex and a conflict are tried in this order.
+fn judge(alloc: Global, text: &[u8], origin: &Name, gathered: &Gathered) -> Result<(), FileFault>
+    requires whole { (records_of origin.now text.now).fault ≡ None }
+    requires notes { AreNotes gathered.now.kept.keys gathered.now.notes }
+    ensures zone { OnOk result (zone_gathered (records_of origin.now text.now).placed gathered.now ≡ Ok (zone_records (records_of origin.now text.now).placed)) }
+    ensures fault { IfErr result (λ fault. (fault.cause ≡ NoMemory) ⊎ (zone_gathered (records_of origin.now text.now).placed gathered.now ≡ Err fault)) }
+{
+    if let Some(line) = gathered.second_soa {
+        return Err(told(line, Cause::Apex));
+    }
+    let Some(apex) = gathered.apex() else {
+        return Err(told(0, Cause::Apex));
+    };
+    if gathered.count(&apex, RType::NS) == 0 {
+        return Err(told(0, Cause::Apex));
+    }
+    if let Some(line) = first_outside(alloc, text, origin, &apex)? {
+        return Err(told(line, Cause::Outside));
+    }
+    if let Some(line) = gathered.conflict {
+        return Err(told(line, Cause::Conflict));
+    }
+    Ok(())
+}
+
+/// A fault, at its line.
+fn told(line: u64, cause: Cause) -> FileFault
+    ensures { result ≡ record { line = line; cause = cause } }
+{
+    FileFault { line, cause }
+}
+
+#[cfg(test)]
+mod tests;
