@@ -1,8 +1,16 @@
-# Two commands: `make demo` proves, builds and runs the program; `make test` is the whole gate.
-.PHONY: demo test
+# `make demo` shows two requests with their replies, from the program as compiled, before any proof; `make dnsd` proves and builds
+# the program; `make test` is the gate; `make mistakes [CRATE="NAME .."]` tries the edits that the gate leaves out.
+.PHONY: demo dnsd test mistakes
 
 demo:
 	./demo.sh
 
+dnsd:
+	cd crates/dnsd && rt run -- --help >/dev/null
+	@echo "the proved program is crates/dnsd/out/dnsd"
+
 test:
 	rt ci
+
+mistakes:
+	./mistakes.sh $(CRATE)
