@@ -1,5 +1,6 @@
 -- The table of a message's names that pointers can name (RFC 1035, 4.1.4).
-use Rattle.std.specs.Prelude.{ℕ, ◌<◌, Bool, ◌&&◌, List, [], ◌∷◌, ◌++◌, length, map, find, All, nat_lt, nat_le, if◌then◌else◌, Option, option_map, Ok, Err, bytes_eq}
+use Rattle.std.specs.Prelude.{ℕ, ◌<◌, Bool, ◌&&◌, List, [], ◌∷◌, ◌++◌, length, map, min, All, nat_lt, nat_le, if◌then◌else◌, Option, Ok, Err, bytes_eq}
+use Rattle.std.specs.List.{filter, reduce}
 use Rattle.std.specs.Cmp.Lexicographic.{pointwise}
 use Rattle.std.specs.Result.{IsOk}
 use Rattle.wire_names.specs.NameAt.{name_at}
@@ -12,9 +13,13 @@ Table = List (ℕ × List (List ℕ))
 abbrev pub same_spelling : List (List ℕ) → List (List ℕ) → Bool
 same_spelling name other = pointwise bytes_eq name other
 
--- the earliest position at which a name is spelt
+-- the positions at which a name is spelt
+abbrev pub positions_in : Table → List (List ℕ) → List ℕ
+positions_in table name = map (λ entry. entry.0) (filter (λ entry. same_spelling entry.1 name) table)
+
+-- the earliest position at which a name is spelt: the least of them
 abbrev pub position_in : Table → List (List ℕ) → Option ℕ
-position_in table name = option_map (λ entry. entry.0) (find (λ entry. same_spelling entry.1 name) table)
+position_in table name = reduce min (positions_in table name)
 
 -- a list with one more position: up to 256 of them (own), none over 16383, since a pointer has 14 bits (RFC 1035, 4.1.4)
 abbrev pub enter : {A : Type 0} → (A → ℕ) → List A → A → List A
