@@ -1,10 +1,11 @@
 -- How octets and the labels in them go together.
-use Rattle.std.proofs.Common.{◌≡◌, ℕ, ◌*◌, ◌<◌, List, [], ◌∷◌, ◌++◌, length, take, drop, map, All, Option, Some, None, refl, sym, ap, subst, ◌∙◌, arith}
+use Rattle.std.proofs.Common.{◌≡◌, ℕ, ◌*◌, ◌<◌, List, [], ◌∷◌, ◌++◌, length, take, drop, map, nat_lt, Bool, true, false, ◌≤◌, All, Option, Some, None, refl, sym, ap, subst, ◌∙◌, arith}
 use Rattle.std.specs.Char.{to_ascii_lowercase}
 use Rattle.std.specs.List.{refill}
 use Rattle.std.proofs.lemmas.List.{length-append, length-map, drop_all, append-nil, take_all, take_at, drop_at, map-append}
-use Rattle.std.proofs.lemmas.List.Elements.{All-head, All-tail, All-map, All-weaker}
-use Rattle.std.proofs.lemmas.Str.Ascii.{lowercase_is}
+use Rattle.std.proofs.lemmas.List.Elements.{All-nil, All-cons, All-head, All-tail, All-map, All-weaker}
+use Rattle.std.proofs.lemmas.Str.Ascii.{lowercase_is, lowercase_ascii}
+use Rattle.std.proofs.lemmas.Bool.Decides.{nat_tests}
 use Rattle.dns_name.specs.Labels.{labels_in, IsWhole}
 use Rattle.dns_name.specs.Name.{wire_of, IsLabel, fold_name, labels_read}
 use Rattle.dns_name.proofs.ReadLemmas.{wire_some, IsRead-from, labels_read-wire_of}
@@ -56,16 +57,6 @@ pub fold_labels : (name : List (List ℕ)) → All IsLabel name → All IsLabel 
 fold_labels name h =
     All-map IsLabel (map to_ascii_lowercase) name
     (All-weaker IsLabel (λ (label : List ℕ). IsLabel (map to_ascii_lowercase label)) (λ (label : List ℕ) is. let len = length-map label to_ascii_lowercase in record { some = omega (arith, is.some); short = omega (arith, is.short) }) name h)
-
-folded_octets : (octets : List ℕ) → IsWhole octets → wire_of (fold_name (labels_in octets)) ≡ map to_ascii_lowercase octets
-folded_octets octets h = wire_of-fold (labels_in octets) (IsLabel_each octets h) ∙ ap (map to_ascii_lowercase) (wire_of-labels_in octets h)
-
-pub IsWhole-fold : (octets : List ℕ) → IsWhole octets → IsWhole (map to_ascii_lowercase octets)
-IsWhole-fold octets h = subst IsWhole (folded_octets octets h) (IsWhole-wire_of (fold_name (labels_in octets)) (fold_labels (labels_in octets) (IsLabel_each octets h)))
-
--- the labels in folded octets are the folded labels
-pub labels_in-fold : (octets : List ℕ) → IsWhole octets → labels_in (map to_ascii_lowercase octets) ≡ fold_name (labels_in octets)
-labels_in-fold octets h = ap labels_in (sym (folded_octets octets h)) ∙ labels_in-wire_of (fold_name (labels_in octets)) (fold_labels (labels_in octets) (IsLabel_each octets h))
 
 -- what stands at a length octet: the label behind it, then whole labels again
 pub record HasFirst (n : ℕ) (octets : List ℕ) : Type 0 where
@@ -123,21 +114,6 @@ refill_folded octets folded e =
     let all = take_all (length octets) folded (omega arith) in
     cc
 
--- folding keeps the octets of a name whole and short, and folds its labels
-pub record IsFolded (octets after : List ℕ) : Type 0 where
-  pub whole : IsWhole after
-  pub len : length after ≡ length octets
-  pub labels : labels_in after ≡ fold_name (labels_in octets)
-
-pub IsFolded-refill : (octets lent folded : List ℕ) → lent ≡ octets → folded ≡ map to_ascii_lowercase lent → IsWhole octets → IsFolded octets (refill (length octets) octets folded)
-IsFolded-refill octets lent folded same e h =
-    let is : folded ≡ map to_ascii_lowercase octets = cc in
-    rw (refill_folded octets folded is) (record {
-      whole = IsWhole-fold octets h;
-      len = length-map octets to_ascii_lowercase;
-      labels = labels_in-fold octets h;
-    })
-
 -- whole octets are at least two for each label, and one
 few_of : (name : List (List ℕ)) → All IsLabel name → 2 * length name < length (wire_of name)
 few_of [] h = omega arith
@@ -153,3 +129,37 @@ labels_few octets h =
     let few = few_of (labels_in octets) (IsLabel_each octets h) in
     let len = ap length (wire_of-labels_in octets h) in
     omega arith
+
+-- octets are below 256
+abbrev AreOctets : List ℕ → Type 0
+AreOctets octets = All (λ octet. octet < 256) octets
+
+octets_front : (xs ys : List ℕ) → AreOctets (xs ++ ys) → AreOctets xs
+octets_front [] ys h = All-nil (λ (octet : ℕ). octet < 256)
+octets_front (x ∷ xs) ys h =
+    All-cons (λ (octet : ℕ). octet < 256) x xs (All-head (λ (octet : ℕ). octet < 256) x (xs ++ ys) h)
+    (octets_front xs ys (All-tail (λ (octet : ℕ). octet < 256) x (xs ++ ys) h))
+
+octets_back : (xs ys : List ℕ) → AreOctets (xs ++ ys) → AreOctets ys
+octets_back [] ys h = h
+octets_back (x ∷ xs) ys h = octets_back xs ys (All-tail (λ (octet : ℕ). octet < 256) x (xs ++ ys) h)
+
+-- what is below 256 on the wire is so in the labels
+pub AreOctets-name : (name : List (List ℕ)) → All (λ octet. octet < 256) (wire_of name) → All (All (λ octet. octet < 256)) name
+AreOctets-name [] h = All-nil AreOctets
+AreOctets-name (label ∷ name) h =
+    let behind = All-tail (λ (octet : ℕ). octet < 256) (length label) (label ++ wire_of name) h in
+    All-cons AreOctets label name (octets_front label (wire_of name) behind) (AreOctets-name name (octets_back label (wire_of name) behind))
+
+-- folding keeps octets below 256
+lower_octet_by : (c : ℕ) (b : Bool) → nat_lt c 128 ≡ b → c < 256 → to_ascii_lowercase c < 256
+lower_octet_by c true t h = let few : c < 128 = grind (arith, nat_tests) in omega (arith, lowercase_ascii c few)
+lower_octet_by c false t h = let more : 128 ≤ c = grind (arith, nat_tests) in rw ((lowercase_is c).2 (omega arith)) h
+
+AreOctets-label : (label : List ℕ) → AreOctets label → AreOctets (map to_ascii_lowercase label)
+AreOctets-label label h =
+    All-map (λ (octet : ℕ). octet < 256) to_ascii_lowercase label
+    (All-weaker (λ (octet : ℕ). octet < 256) (λ (octet : ℕ). to_ascii_lowercase octet < 256) (λ (c : ℕ) small. lower_octet_by c (nat_lt c 128) refl small) label h)
+
+pub AreOctets-fold : (name : List (List ℕ)) → All (All (λ octet. octet < 256)) name → All (All (λ octet. octet < 256)) (fold_name name)
+AreOctets-fold name h = All-map AreOctets (map to_ascii_lowercase) name (All-weaker AreOctets (λ (label : List ℕ). AreOctets (map to_ascii_lowercase label)) AreOctets-label name h)
