@@ -1,5 +1,5 @@
 //! The name itself.
-ghost use Rattle.std.specs.Prelude.{IsTrue, ◌≡◌, ◌+◌, ◌<◌, ◌≤◌, List, [], ◌∷◌, ◌++◌, length, drop, take, IsNone, IfSome, ◌↔◌, Option, option_map, MatchOption};
+ghost use Rattle.std.specs.Prelude.{All, IsTrue, ◌≡◌, ◌+◌, ◌<◌, ◌≤◌, List, [], ◌∷◌, ◌++◌, length, drop, take, IsNone, IfSome, ◌↔◌, Option, option_map, MatchOption};
 ghost use Rattle.dns_name.specs.Labels.{labels_in, IsWhole};
 ghost use Rattle.dns_name.specs.Name.{wire_of, IsName, fold_name, parent_of, name_in, asterisk, is_under, canonical_cmp};
 
@@ -32,9 +32,9 @@ impl Model for Name {
 
     ghost Value = { List (List ℕ) };
 
-    ghost view = { λ a. labels_in 0 a.octets.items };
+    ghost view = { λ a. labels_in a.octets.items };
 
-    ghost invariant = { λ a. IsWhole 0 a.octets.items × (length a.octets.items ≤ MAX_NAME) };
+    ghost invariant = { λ a. IsWhole a.octets.items × (length a.octets.items ≤ MAX_NAME) };
 }
 
 impl Name {
@@ -49,18 +49,18 @@ impl Name {
 
     /// The octets, of which the name's labels are.
     pub(crate) fn octets(&self) -> &[u8]
-        ensures whole { IsWhole 0 result.now }
+        ensures whole { IsWhole result.now }
         ensures short { length result.now ≤ MAX_NAME }
-        ensures labels { labels_in 0 result.now ≡ self.now }
+        ensures labels { labels_in result.now ≡ self.now }
     {
         self.octets.as_slice()
     }
 
     /// The name whose octets these are.
     pub(crate) fn from_octets(octets: ArrayVec<u8, MAX_NAME>) -> Name
-        requires whole { IsWhole 0 octets.items }
+        requires whole { IsWhole octets.items }
         requires short { length octets.items ≤ MAX_NAME }
-        ensures { result ≡ labels_in 0 octets.items }
+        ensures { result ≡ labels_in octets.items }
     {
         Name { octets }
     }
@@ -69,8 +69,10 @@ impl Name {
     pub fn wire(&self) -> &[u8]
         ensures octets { result.now ≡ wire_of self.now }
         ensures lawful { IsName self.now }
+        ensures bytes { All (All (λ octet. octet < 256)) self.now }
     {
-        self.octets()
+        let octets = self.octets();
+        octets
     }
 
     /// The same name, spelt the same. It takes no memory.
@@ -84,11 +86,14 @@ impl Name {
 
     /// The name in lower case (RFC 4343, 3).
     pub fn fold(&self) -> Name
-        ensures { result ≡ fold_name self.now }
+        ensures folded { result ≡ fold_name self.now }
+        ensures lawful { IsName result }
+        ensures bytes { All (All (λ octet. octet < 256)) result }
     {
-        let mut folded = self.copy();
-        folded.octets.as_mut_slice().make_ascii_lowercase();
-        folded
+        let mut octets = ArrayVec::new();
+        append(&mut octets, self.wire());
+        octets.as_mut_slice().make_ascii_lowercase();
+        Name { octets }
     }
 
     /// Whether this is the root.
