@@ -7,4 +7,5 @@ pub mod Transport
 pub mod World
 pub mod WorldPlay
 pub mod WorldReplies
+pub mod WorldRuns
 pub mod WorldSteps

@@ -14,7 +14,9 @@ mod play;
 mod step;
 
 pub use fault::WorldFault;
-pub use laws::{asks_keep_their_version, examples, replies_are_told, unused_versions_are_buried};
+pub use laws::{
+    asks_keep_their_version, examples, plays_are_runs, replies_are_told, unused_versions_are_buried,
+};
 use play::Play;
 use std::alloc::Global;
 pub use step::{Handle, Octets, WorldReply, WorldStep};
