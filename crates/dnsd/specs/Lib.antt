@@ -3,6 +3,7 @@ pub mod Lines
 pub mod Reply
 pub mod Run
 pub mod Script
+pub mod Told
 pub mod Transport
 pub mod World
 pub mod WorldPlay
