@@ -1,12 +1,13 @@
 -- What runs of a cell keep.
 use Rattle.std.proofs.Common.{◌≡◌, refl, sym, ap, ◌∙◌, subst, ℕ, zero, suc, ◌+◌, ◌<◌, true, false, inl, inr, List, [], ◌∷◌, ◌++◌, length, arith, append_assoc, length-append, true≢false}
-use Rattle.std.specs.Prelude.{Option, ◌==◌}
+use Rattle.std.specs.Prelude.{Option, Some, ◌==◌}
 use Rattle.std.specs.List.{slice_get}
 use Rattle.std.proofs.lemmas.List.{append-nil}
 use Rattle.std.proofs.lemmas.Bool.{cases_Bool}
 use Rattle.std.proofs.lemmas.Bool.Decides.{eqb_tells}
 use Rattle.cell_core.specs.Cell.{Cell, CellStep, IsLast, Steps, Runs, IsReached, start, with_strong, without_strong, with_weak, without_weak, with_value, with_buried, EachFollows}
 use Rattle.cell_core.specs.Cell.CellStep.{Load, Publish, Clone, Drop, Bury, Down, Up, Fade}
+use Rattle.cell_core.specs.Loaded.{loaded, IsLoad, WasLast}
 use Rattle.cell_core.proofs.CountLemmas.{one_more_some, one_less_some}
 
 -- more may be published and buried, and nothing less
@@ -55,6 +56,19 @@ pub run_keeps_values : {T : Type 0} (before after : Cell T) (run : List (CellSte
 run_keeps_values before after run r k h =
     let grown = (run_grows before after run r).published in
     ap (λ l. slice_get l k) grown.1 ∙ get_before_more before.published grown.0 k h
+
+-- a load of a run, at its place
+pub run_loads : {T : Type 0} (before after : Cell T) (run : List (CellStep T × Option ℕ)) (place : ℕ) → Runs before run after → IsLoad run place → (number : ℕ) × (loaded run place ≡ Some number) × WasLast before run after place number
+run_loads before after [] place r l = absurd (let wrong = l in cc)
+run_loads before after ((step, given) ∷ more) zero r l =
+    let is : step ≡ Load = (let e = l in cc) in
+    let made = rw is at r.1 in
+    let within : made.0 < length before.published = omega (arith, made.1) in
+    (made.0, made.2, record { between = before; made = refl; last = made.1; value = run_keeps_values before after ((step, given) ∷ more) r made.0 within })
+run_loads before after ((step, given) ∷ more) (suc place) r l =
+    let found = run_loads r.0 after more place r.2 l in
+    let was = found.2 in
+    (found.0, found.1, record { between = was.between; made = (r.0, r.1, was.made); last = was.last; value = was.value })
 
 -- what holds of each cell that is reached
 pub record Sound {T : Type 0} (cell : Cell T) : Type 0 where

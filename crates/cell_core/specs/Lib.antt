@@ -1,4 +1,5 @@
 pub mod Cell
 pub mod Example
 pub mod Kept
+pub mod Loaded
 pub mod Steps

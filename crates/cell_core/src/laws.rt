@@ -2,6 +2,7 @@
 ghost use Rattle.std.specs.Prelude.{◌≡◌, ℕ, ◌+◌, ◌<◌, true, false, List, [], ◌∷◌, ◌++◌, length, Option, None, Some, ◌⊎◌};
 ghost use Rattle.std.specs.List.{slice_get};
 ghost use Rattle.cell_core.specs.Cell.{Cell, CellStep, IsLast, Steps, HasStep, Runs, IsReached, EachFollows, with_strong};
+ghost use Rattle.cell_core.specs.Loaded.{loaded, IsLoad, WasLast};
 ghost use Rattle.cell_core.specs.Example.{one_value, two_values, to_two_values, one_weak, to_one_weak, one_buried};
 
 use crate::follows::Follows;
@@ -48,6 +49,13 @@ pub fn up_gives_that_number<T>()
         → (given ≡ Some k) ⊎ ((given ≡ None) × (cell.buried k ≡ true)) }
 {}
 
+/// A handle that a load gave owns the number that was last at that load, whatever is done behind it, and its value is the
+/// one that was last then.
+pub fn load_gives_the_last<T>()
+    ensures { (before after : Cell T) (run : List (CellStep T × Option ℕ)) (place : ℕ) → Runs before run after → IsLoad run place
+        → (number : ℕ) × (loaded run place ≡ Some number) × WasLast before run after place number }
+{}
+
 /// Where each value follows the one before it, and one more follows the last, each of them does.
 pub fn follows_goes_on<T, F: Follows<T>>()
     ensures { (values : List T) (last next : T) → EachFollows F.follows (values ++ last ∷ []) → F.follows last next
@@ -60,6 +68,7 @@ pub fn examples()
     ensures two_values { Runs one_value to_two_values two_values }
     ensures one_weak { Runs two_values to_one_weak one_weak }
     ensures buried { Steps one_weak (CellStep.Bury 0) None one_buried }
+    ensures loaded { (loaded to_one_weak 0 ≡ Some 1) × (loaded to_one_weak 2 ≡ None) × (loaded to_one_weak 4 ≡ None) }
     ensures counts { (two_values.strong 0 ≡ 2) × (one_weak.strong 0 ≡ 0) × (one_weak.strong 1 ≡ 1) × (one_weak.weak 0 ≡ 1) }
     ensures kept { (one_buried.published ≡ 10 ∷ 20 ∷ []) × (one_buried.buried 0 ≡ true) × (one_buried.buried 1 ≡ false) }
     ensures up { Steps one_weak (CellStep.Up 0) (Some 0) (with_strong 0 one_weak) }

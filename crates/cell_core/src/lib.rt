@@ -13,8 +13,9 @@ mod step;
 
 pub use follows::Follows;
 pub use laws::{
-    buried_was_published, examples, follows_goes_on, last_is_not_buried, only_grows,
-    owned_is_not_buried, owned_was_published, owners_keep_their_value, up_gives_that_number,
+    buried_was_published, examples, follows_goes_on, last_is_not_buried, load_gives_the_last,
+    only_grows, owned_is_not_buried, owned_was_published, owners_keep_their_value,
+    up_gives_that_number,
 };
 pub use machine::Machine;
 pub use step::{Event, Step, StepFault};

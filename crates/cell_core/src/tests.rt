@@ -1,8 +1,9 @@
 //! The worked example on a machine, and refused growth.
 use crate::follows::Follows;
 use crate::laws::{
-    buried_was_published, examples, follows_goes_on, last_is_not_buried, only_grows,
-    owned_is_not_buried, owned_was_published, owners_keep_their_value, up_gives_that_number,
+    buried_was_published, examples, follows_goes_on, last_is_not_buried, load_gives_the_last,
+    only_grows, owned_is_not_buried, owned_was_published, owners_keep_their_value,
+    up_gives_that_number,
 };
 use crate::machine::Machine;
 use crate::step::{Event, Step, StepFault};
@@ -133,6 +134,7 @@ fn laws() {
     buried_was_published::<u64>();
     owned_was_published::<u64>();
     up_gives_that_number::<u64>();
+    load_gives_the_last::<u64>();
     follows_goes_on::<u64, Rising>();
     examples();
 }

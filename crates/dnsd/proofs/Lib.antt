@@ -6,4 +6,5 @@ pub mod WorldHandles
 pub mod WorldKept
 pub mod WorldLaws
 pub mod WorldPast
+pub mod WorldRuns
 pub mod WorldZones

@@ -2,9 +2,7 @@
 use Rattle.std.proofs.Common.{◌≡◌, ℕ, suc, ◌+◌, ◌<◌, ◌≤◌, Bool, true, false, cond, List, [], ◌∷◌, ◌++◌, length, map, drop, Option, Some, None, Result, Ok, Err, IfSome, refl, sym, ap, ◌∙◌, arith, append_assoc}
 use Rattle.std.specs.Io.BufRead.{take_through, drop_through, strip_last}
 use Rattle.std.specs.Io.KnownBytes.{Appends}
-use Rattle.std.specs.List.{position, position_or_len}
-use Rattle.std.proofs.Common.{nat_lt, get_or, drop-cons}
-use Rattle.std.proofs.lemmas.Bool.{ltb-false}
+use Rattle.std.proofs.Common.{get_or, drop-cons}
 use Rattle.std.proofs.lemmas.List.{length-map, map-append}
 use Rattle.dns_rdata.specs.Record.{Record}
 use Rattle.dnsd.proofs.LinesLemmas.{input_lines-first, IsWritten, Appends-twice}
@@ -77,22 +75,6 @@ IsOnTheWayThroughScript-line input left after cleared line done step number way 
       is_left = read.taken;
       whole = behind_one_more done step number others ∙ ap (behind_steps done) (ap (λ said. onto_steps number said others) (sym is) ∙ sym (steps_from-first number way.rest cleared line read.none read.more read.some)) ∙ way.whole;
     }
-
--- where a first element passes, it is at the place that is found
-pub position-Some : (p : ℕ → Bool) (xs : List ℕ) (at : ℕ) → position p xs ≡ Some at → position_or_len p xs ≡ at
-position-Some p xs at = at_test (nat_lt (position_or_len p xs) (length xs))
-  where
-    at_test : (b : Bool) → cond b (Some (position_or_len p xs)) None ≡ Some at → position_or_len p xs ≡ at
-    at_test true e = cc
-    at_test false e = cc
-
--- where none is found, all stand before it
-pub position-None : (p : ℕ → Bool) (xs : List ℕ) → position p xs ≡ None → length xs ≤ position_or_len p xs
-position-None p xs = at_test (nat_lt (position_or_len p xs) (length xs)) refl
-  where
-    at_test : (b : Bool) → nat_lt (position_or_len p xs) (length xs) ≡ b → cond b (Some (position_or_len p xs)) None ≡ None → length xs ≤ position_or_len p xs
-    at_test true is e = cc
-    at_test false is e = ltb-false _ _ is
 
 -- there are as many replies as steps
 length-replies_behind : (first : List Record) (earlier turns : List Turn) → length (replies_behind first earlier turns) ≡ length turns

@@ -1,14 +1,15 @@
 -- What is buried of the versions of a play: each but the last that no name is in use for, and no other.
 use Rattle.std.proofs.Common.{◌≡◌, ◌≢◌, refl, sym, ap, ◌∙◌, ℕ, ◌+◌, ◌<◌, Bool, true, false, List, [], ◌∷◌, length, length-append, true≢false, arith, eqb-true, eq-eqb, None}
-use Rattle.std.specs.Prelude.{◌==◌}
+use Rattle.std.specs.Prelude.{◌==◌, Option}
 use Rattle.cell_core.specs.Cell.{Cell, IsLast, with_strong, without_strong, with_value, with_buried}
 use Rattle.dns_rdata.specs.Record.{Record}
 use Rattle.dnsd.specs.declared.world.step.WorldReply.{WorldReply}
 use Rattle.dnsd.specs.WorldSteps.{Turn}
 use Rattle.dnsd.specs.WorldSteps.Turn.{Load, Drop, Ask, Publish}
-use Rattle.dnsd.specs.World.{World, started, number_of, zone_of, GivesUp, Turns, PlaysFrom, BuriesTheUnused}
+use Rattle.dnsd.specs.World.{World, started, zone_of, GivesUp, Turns, PlaysFrom, BuriesTheUnused}
 use Rattle.dnsd.proofs.WorldHandles.{at_test, not_true, not_false, nobody, by_use, owners, owners_some, owner_found}
-use Rattle.dnsd.proofs.WorldKept.{at_start}
+use Rattle.dnsd.specs.WorldPlay.{number_of}
+use Rattle.dnsd.proofs.WorldKept.{world_at_start}
 use Rattle.dnsd.proofs.WorldLaws.{plays_behind}
 
 -- each version but the last that nobody owns is buried
@@ -55,11 +56,11 @@ none_left-publish cell value n last none k lt unowned =
 
 none_left-turn : (before : World) (turn : Turn) (given : WorldReply) (after : World) → NoneIsLeft before.cell → Turns before turn given after → NoneIsLeft after.cell
 none_left-turn before (Load name) given after none t =
-    by_use (number_of name before.handles) _ _ _ t
+    by_use (before.handles name) _ _ _ t
     (λ absent l. let is = l.step.3 in rw is (none_left-load before.cell l.step.0 none))
     (λ n e r. let same = r.unchanged in rw same none)
 none_left-turn before (Drop name) given after none t =
-    by_use (number_of name before.handles) _ _ _ t
+    by_use (before.handles name) _ _ _ t
     (λ absent r. let same = r.unchanged in rw same none)
     (λ n e d. none_left-give_up before.cell after.cell n d.is_buried none d.gone)
 none_left-turn before (Ask name request) given after none t =
@@ -81,11 +82,13 @@ none_left before (turn ∷ turns) (given ∷ replies) after none p =
 -- what is buried of the versions of a play
 pub buries_the_unused : (first : List Record) (turns : List Turn) (replies : List WorldReply) (after : World) → PlaysFrom (started first) turns replies after → BuriesTheUnused after
 buries_the_unused first turns replies after p =
-    let played = plays_behind first [] (started first) turns replies after (at_start first) p in
-    let s = played.at in
+    let played = plays_behind first [] (started first) turns replies after (world_at_start first) p in
+    let list = played.at.list in
+    let s = played.at.at in
+    let known = λ (name : List ℕ). let is : after.handles name ≡ number_of name list = ap (λ (h : List ℕ → Option ℕ). h name) played.at.handles in is in
     let left = none_left (started first) turns replies after (λ k lt unowned. absurd (omega (arith, lt))) p in
     record {
-      in_use = λ k used. not_true (after.cell.buried k) (λ b. omega (arith, (s.buried k b).0, s.strong k, owners_some after.handles used.0 k used.1));
+      in_use = λ k used. not_true (after.cell.buried k) (λ b. omega (arith, (s.buried k b).0, s.strong k, owners_some list used.0 k (sym (known used.0) ∙ used.1)));
       last = λ k last. not_true (after.cell.buried k) (λ b. omega (arith, (s.buried k b).1, last));
-      unused = λ k lt free. left k lt (s.strong k ∙ nobody (owners k after.handles) (λ some. free (owner_found after.handles k s.distinct some)));
+      unused = λ k lt free. left k lt (s.strong k ∙ nobody (owners k list) (λ some. let found = owner_found list k s.distinct some in free (found.0, known found.0 ∙ found.1)));
     }

@@ -1,9 +1,11 @@
 -- Facts on the strong owners of the world: each name is in use at most once, and a number has as many strong owners as there
 -- are names in use for it.
 use Rattle.std.proofs.Common.{◌≡◌, refl, sym, ap, ◌∙◌, ℕ, zero, suc, ◌+◌, ◌-◌, ◌<◌, Bool, true, false, cond, List, [], ◌∷◌, ◌++◌, true≢false, arith, eqb-true, eq-eqb, Option, Some, None}
-use Rattle.std.specs.Prelude.{◌==◌, bytes_eq, MatchOption}
+use Rattle.std.specs.Prelude.{◌==◌, bytes_eq, not, filter, MatchOption}
+use Rattle.std.proofs.Math.Path.{fun_ext}
 use Rattle.std.specs.Cmp.Lexicographic.{bytes_decides}
-use Rattle.dnsd.specs.World.{number_of, without}
+use Rattle.dnsd.specs.World.{with_name, without_name}
+use Rattle.dnsd.specs.WorldPlay.{number_of, handles_of}
 
 -- cases by a test
 pub at_test : (b : Bool) (P : Type 0) → (b ≡ true → P) → (b ≡ false → P) → P
@@ -28,6 +30,10 @@ nobody (suc n) h = absurd (h (omega arith))
 pub by_use : {X : Type 0} (o : Option X) (P : Type 0) (Q : X → Type 0) (R : Type 0) → MatchOption o P Q → (o ≡ None → P → R) → ((x : X) → o ≡ Some x → Q x → R) → R
 by_use None P Q R m none some = none refl m
 by_use (Some x) P Q R m none some = some x refl m
+
+-- the names in a list without one
+abbrev pub without : List ℕ → List (List ℕ × ℕ) → List (List ℕ × ℕ)
+without name handles = filter (λ handle. not (bytes_eq handle.0 name)) handles
 
 -- equal octets, and octets that aren't
 pub same_octets : (a b : List ℕ) → bytes_eq a b ≡ true → a ≡ b
@@ -67,6 +73,24 @@ number_of-without (h ∷ hs) name other =
     (at_test (bytes_eq h.0 other) _
     (λ yes. let apart : bytes_eq name other ≡ false = ap (bytes_eq name) (sym (same_octets h.0 other yes)) ∙ apart_turned h.0 name kept in rw (yes, apart) refl)
     (λ no. rw no (number_of-without hs name other))))
+
+or_else_none : (x : Option ℕ) → or_else x None ≡ x
+or_else_none None = refl
+or_else_none (Some n) = refl
+
+-- a list with a name more, and without one, as functions from names to numbers
+pub handles_of-append : (hs : List (List ℕ × ℕ)) (name : List ℕ) (n : ℕ) → number_of name hs ≡ None → handles_of (hs ++ (name, n) ∷ []) ≡ with_name name n (handles_of hs)
+handles_of-append hs name n absent =
+    fun_ext λ other.
+    number_of-append hs name other n
+    ∙ at_test (bytes_eq name other) _
+    (λ yes.
+    let free : number_of other hs ≡ None = ap (λ (a : List ℕ). number_of a hs) (sym (same_octets name other yes)) ∙ absent in
+    rw (yes, free) refl)
+    (λ no. rw no (or_else_none (number_of other hs)))
+
+pub handles_of-without : (hs : List (List ℕ × ℕ)) (name : List ℕ) → handles_of (without name hs) ≡ without_name name (handles_of hs)
+handles_of-without hs name = fun_ext λ other. number_of-without hs name other
 
 -- each name is in use at most once
 abbrev pub AreDistinct : List (List ℕ × ℕ) → Type 0

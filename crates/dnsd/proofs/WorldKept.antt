@@ -5,19 +5,25 @@ use Rattle.cell_core.specs.Cell.{Cell, IsLast, with_strong, without_strong, with
 use Rattle.dns_rdata.specs.Record.{Record}
 use Rattle.dnsd.specs.WorldSteps.{Turn}
 use Rattle.dnsd.specs.WorldSteps.Turn.{Load, Drop, Ask, Publish}
-use Rattle.dnsd.specs.World.{number_of, without}
-use Rattle.dnsd.specs.WorldReplies.{loading, publishes}
-use Rattle.dnsd.proofs.WorldHandles.{at_test, not_true, same_octets, or_else, number_of-append, number_of-without, AreDistinct, distinct_append, distinct_without, owners, owners_without}
-use Rattle.dnsd.proofs.WorldPast.{versions, length-versions, number_then}
+use Rattle.dnsd.specs.World.{World, started}
+use Rattle.dnsd.specs.WorldPlay.{number_of, handles_of}
+use Rattle.dnsd.specs.WorldReplies.{published, last_number, owned}
+use Rattle.dnsd.proofs.WorldHandles.{at_test, not_true, same_octets, or_else, number_of-append, number_of-without, without, AreDistinct, distinct_append, distinct_without, owners, owners_without}
 
 -- the versions are those published, each name is in use for the version that was last when it was loaded, and a version has
 -- as many strong owners as there are names in use for it; what is buried is neither owned nor last
 pub record IsAt (first : List Record) (earlier : List Turn) (cell : Cell (List Record)) (handles : List (List ℕ × ℕ)) : Type 0 where
-  pub published : cell.published ≡ versions first earlier
+  pub published : cell.published ≡ published first earlier
   pub distinct : AreDistinct handles
-  pub in_use : (name : List ℕ) → number_of name handles ≡ number_then (loading name earlier)
+  pub in_use : (name : List ℕ) → number_of name handles ≡ owned first name earlier
   pub strong : (k : ℕ) → cell.strong k ≡ owners k handles
   pub buried : (k : ℕ) → cell.buried k ≡ true → (cell.strong k ≡ 0) × (k + 1 < length cell.published)
+
+-- the same of a world, whose names in use are those of a list
+pub record IsWorldAt (first : List Record) (earlier : List Turn) (world : World) : Type 0 where
+  pub list : List (List ℕ × ℕ)
+  pub at : IsAt first earlier world.cell list
+  pub handles : world.handles ≡ handles_of list
 
 pub at_start : (first : List Record) → IsAt first [] (start first) []
 at_start first = record {
@@ -28,9 +34,12 @@ at_start first = record {
   buried = λ k b. absurd (true≢false (sym b));
 }
 
+pub world_at_start : (first : List Record) → IsWorldAt first [] (started first)
+world_at_start first = record { list = []; at = at_start first; handles = refl }
+
 -- the last version's number
-pub last_number : (first : List Record) (earlier : List Turn) (cell : Cell (List Record)) (handles : List (List ℕ × ℕ)) (k : ℕ) → IsAt first earlier cell handles → IsLast cell k → k ≡ publishes earlier
-last_number first earlier cell handles k s last = omega (arith, last, ap length s.published, length-versions first earlier)
+pub last_is : (first : List Record) (earlier : List Turn) (cell : Cell (List Record)) (handles : List (List ℕ × ℕ)) (k : ℕ) → IsAt first earlier cell handles → IsLast cell k → k ≡ last_number (published first earlier)
+last_is first earlier cell handles k s last = omega (arith, last, ap length s.published)
 
 -- a strong owner more
 owners-append : (hs : List (List ℕ × ℕ)) (name : List ℕ) (n j : ℕ) → owners j (hs ++ (name, n) ∷ []) ≡ cond (j == n) (owners j hs + 1) (owners j hs)
@@ -44,25 +53,25 @@ owners-append (h ∷ hs) name n j =
     (at_test (h.1 == j) _ (λ yes. rw yes (at_test (j == n) _ (λ same. rw same refl) (λ other. rw other refl))) (λ no. rw no refl))
 
 -- a name comes into use
-in_use-load : (o : Option (List Turn)) (earlier : List Turn) (same : Bool) (k : ℕ) → k ≡ publishes earlier → or_else (number_then o) (cond same (Some k) None) ≡ number_then (cond same (Some (unwrap_or o earlier)) o)
-in_use-load None earlier true k e = ap Some e
-in_use-load None earlier false k e = refl
-in_use-load (Some past) earlier true k e = refl
-in_use-load (Some past) earlier false k e = refl
+in_use-load : (o : Option ℕ) (same : Bool) (k last : ℕ) → k ≡ last → or_else o (cond same (Some k) None) ≡ cond same (Some (unwrap_or o last)) o
+in_use-load None true k last e = ap Some e
+in_use-load None false k last e = refl
+in_use-load (Some n) true k last e = refl
+in_use-load (Some n) false k last e = refl
 
 pub at_load : (first : List Record) (earlier : List Turn) (cell : Cell (List Record)) (handles : List (List ℕ × ℕ)) (name : List ℕ) (k : ℕ) → IsAt first earlier cell handles → IsLast cell k → number_of name handles ≡ None → IsAt first (Load name ∷ earlier) (with_strong k cell) (handles ++ (name, k) ∷ [])
 at_load first earlier cell handles name k s last absent = record {
   published = s.published;
   distinct = distinct_append handles name k s.distinct absent;
-  in_use = λ other. number_of-append handles name other k ∙ ap (λ o. or_else o (cond (bytes_eq name other) (Some k) None)) (s.in_use other) ∙ in_use-load (loading other earlier) earlier (bytes_eq name other) k (last_number first earlier cell handles k s last);
+  in_use = λ other. number_of-append handles name other k ∙ ap (λ o. or_else o (cond (bytes_eq name other) (Some k) None)) (s.in_use other) ∙ in_use-load (owned first other earlier) (bytes_eq name other) k _ (last_is first earlier cell handles k s last);
   strong = λ j. rw (owners-append handles name k j, s.strong j) refl;
   buried = λ j b. let h = s.buried j b in let not_last : (j == k) ≡ false = not_true (j == k) (λ t. let is : j ≡ k = eqb-true j k t in omega (arith, h.1, last)) in (rw not_last h.0, h.1);
 }
 
 -- a name that is in use already isn't loaded
-in_use-again : (o : Option (List Turn)) (earlier : List Turn) (n : ℕ) → number_then o ≡ Some n → number_then o ≡ number_then (Some (unwrap_or o earlier))
-in_use-again None earlier n e = absurd (let wrong = e in cc)
-in_use-again (Some past) earlier n e = refl
+in_use-again : (o : Option ℕ) (last n : ℕ) → o ≡ Some n → o ≡ Some (unwrap_or o last)
+in_use-again None last n e = absurd (let wrong = e in cc)
+in_use-again (Some k) last n e = refl
 
 pub at_load_refused : (first : List Record) (earlier : List Turn) (cell : Cell (List Record)) (handles : List (List ℕ × ℕ)) (name : List ℕ) (n : ℕ) → IsAt first earlier cell handles → number_of name handles ≡ Some n → IsAt first (Load name ∷ earlier) cell handles
 at_load_refused first earlier cell handles name n s e = record {
@@ -71,7 +80,7 @@ at_load_refused first earlier cell handles name n s e = record {
   in_use = λ other.
       s.in_use other
       ∙ at_test (bytes_eq name other) _
-      (λ yes. let known : number_then (loading other earlier) ≡ Some n = sym (s.in_use other) ∙ ap (λ (a : List ℕ). number_of a handles) (sym (same_octets name other yes)) ∙ e in rw yes (in_use-again (loading other earlier) earlier n known))
+      (λ yes. let known : owned first other earlier ≡ Some n = sym (s.in_use other) ∙ ap (λ (a : List ℕ). number_of a handles) (sym (same_octets name other yes)) ∙ e in rw yes (in_use-again (owned first other earlier) _ n known))
       (λ no. rw no refl);
   strong = s.strong;
   buried = s.buried;

@@ -1,18 +1,19 @@
 -- Steps of a cell of zones are steps of the cell of their records.
 use Rattle.std.proofs.Common.{◌≡◌, refl, sym, ap, ◌∙◌, ℕ, ◌+◌, ◌<◌, Bool, true, false, not, List, [], ◌∷◌, ◌++◌, map, filter, length, take, get_or, arith, Option, Some, None, Bor}
 use Rattle.std.specs.Prelude.{bytes_eq, if◌then◌else◌}
+use Rattle.std.specs.Prelude.{is_some as has_some}
 use Rattle.std.proofs.lemmas.List.{length-map, map-append, take_more}
 use Rattle.cell_core.specs.Cell.{Cell, CellStep, IsLast, Steps, HasStep, with_strong, with_value, with_buried}
 use Rattle.cell_core.specs.Kept.{Kept, cell_of}
 use Rattle.dns_rdata.specs.Record.{Record}
 use Rattle.dnsd.specs.declared.world.play.Entry.{Entry}
 use Rattle.dnsd.specs.declared.world.step.WorldReply.{WorldReply}
-use Rattle.dnsd.specs.declared.world.step.WorldReply.TheVariants.{Left, Buried}
+use Rattle.dnsd.specs.declared.world.step.WorldReply.TheVariants.{Owner, Left, Buried}
 use Rattle.dnsd.specs.declared.world.step.WorldStep.{WorldStep}
 use Rattle.dnsd.specs.WorldSteps.{Turn, turn_of}
-use Rattle.dnsd.specs.World.{World, number_of, without, GivesUp, Turns, PlaysFrom}
-use Rattle.dnsd.specs.WorldPlay.{zones_of, names_in_use}
-use Rattle.dnsd.proofs.WorldHandles.{at_test}
+use Rattle.dnsd.specs.World.{World, GivesUp, Turns, PlaysFrom}
+use Rattle.dnsd.specs.WorldPlay.{zones_of, names_in_use, number_of, handles_of}
+use Rattle.dnsd.proofs.WorldHandles.{at_test, without, handles_of-append, handles_of-without}
 
 -- as many zones as their lists of records
 same_length : (cell : Cell (Bor (List Record))) → length (zones_of cell).published ≡ length cell.published
@@ -63,19 +64,48 @@ plays_next steps i step replies before between after given lt is p t =
     let turns : map turn_of (take (i + 1) steps) ≡ map turn_of (take i steps) ++ turn_of step ∷ [] = ap (map turn_of) next ∙ map-append turn_of (take i steps) (step ∷ []) in
     rw turns (plays_more (map turn_of (take i steps)) replies before between after (turn_of step) given p t)
 
+load_zones : (before after : Cell (Bor (List Record))) (given : Option ℕ) (last : ℕ) → IsLast before last → Steps before CellStep.Load given after → Steps (zones_of before) CellStep.Load (Some last) (zones_of after)
+load_zones before after given last is_last s =
+    let same : s.0 ≡ last = omega (arith, s.1, is_last) in
+    let there : IsLast (zones_of before) last = same_length before ∙ is_last in
+    (last, there, refl, ap zones_of s.3 ∙ ap (λ n. zones_of (with_strong n before)) same)
+
+-- a name comes into use
+pub load_told : (machine machine_after : Kept (Bor (List Record))) (entries entries_after : List Entry) (entry : Entry) (given : Option ℕ)
+    → number_of entry.handle.0.now (names_in_use entries) ≡ None
+    → IsLast (cell_of machine) entry.number
+    → Steps (cell_of machine) CellStep.Load given (cell_of machine_after)
+    → entries_after ≡ entries ++ entry ∷ []
+    → Turns (record { cell = zones_of (cell_of machine); handles = handles_of (names_in_use entries) }) (Turn.Load entry.handle.0.now) (Owner entry.number) (record { cell = zones_of (cell_of machine_after); handles = handles_of (names_in_use entries_after) })
+load_told machine machine_after entries entries_after entry given absent last step longer =
+    let names : names_in_use entries_after ≡ names_in_use entries ++ (entry.handle.0.now, entry.number) ∷ [] =
+    ap names_in_use longer ∙ map-append (λ (e : Entry). (e.handle.0.now, e.number)) entries (entry ∷ []) in
+    rw absent
+    (record {
+      number = entry.number;
+      step = load_zones (cell_of machine) (cell_of machine_after) given entry.number last step;
+      handle = ap handles_of names ∙ handles_of-append (names_in_use entries) entry.handle.0.now entry.number absent;
+      told = refl;
+    })
+
+-- a name that isn't found isn't in use
+pub names_unknown : (entries list : List Entry) (name : List ℕ) (found : Option ℕ) (is_some : Bool) → list ≡ entries → found ≡ number_of name (names_in_use list) → is_some ≡ has_some found → is_some ≡ false → number_of name (names_in_use entries) ≡ None
+names_unknown entries list name None is_some same e t f = ap (λ (es : List Entry). number_of name (names_in_use es)) (sym same) ∙ sym e
+names_unknown entries list name (Some n) is_some same e t f = absurd (let wrong : true ≡ false = sym t ∙ f in cc)
+
 -- a name goes out of use
 pub give_up_told : (machine machine_after : Kept (Bor (List Record))) (entries entries_after : List Entry) (name : List ℕ) (number : ℕ) (is_buried : Bool) (given : WorldReply)
     → number_of name (names_in_use entries) ≡ Some number
     → GivesUp (cell_of machine) number is_buried (cell_of machine_after)
     → entries_after ≡ filter (λ entry. not (bytes_eq entry.handle.0.now name)) entries
     → given ≡ (if is_buried then Buried number else Left)
-    → Turns (record { cell = zones_of (cell_of machine); handles = names_in_use entries }) (Turn.Drop name) given (record { cell = zones_of (cell_of machine_after); handles = names_in_use entries_after })
+    → Turns (record { cell = zones_of (cell_of machine); handles = handles_of (names_in_use entries) }) (Turn.Drop name) given (record { cell = zones_of (cell_of machine_after); handles = handles_of (names_in_use entries_after) })
 give_up_told machine machine_after entries entries_after name number is_buried given known gone left told =
     rw known
     (record {
       is_buried = is_buried;
       gone = gives_up_zones (cell_of machine) (cell_of machine_after) number is_buried gone;
-      handles = ap names_in_use left ∙ names_without name entries;
+      handles = ap (λ (list : List Entry). handles_of (names_in_use list)) left ∙ ap handles_of (names_without name entries) ∙ handles_of-without (names_in_use entries) name;
       told = told;
     })
 

@@ -1,30 +1,25 @@
 -- What a run of the program comes to (own).
-use Rattle.std.specs.Prelude.{ℕ, List, Option, Result, Ok, Err}
+use Rattle.std.specs.Prelude.{◌≡◌, ℕ, ◌⊎◌, List, Option, IfSome, Result, Ok, Err, IsOk}
 use Rattle.std.specs.Io.KnownBytes.{Appends}
 use Rattle.dns_rdata.specs.Record.{Record}
 use Rattle.zone_tree.specs.Zone.{IsZone}
 use Rattle.dnsd.specs.declared.command.Source.{Source}
 use Rattle.dnsd.specs.declared.command.Command.{Command}
 use Rattle.dnsd.specs.declared.command.Command.TheVariants.{Answer, Steps}
-use Rattle.dnsd.specs.declared.run.Fault.{Fault}
-use Rattle.dnsd.specs.declared.run.Fault.TheVariants.{Zone, Script, World, Device}
-use Rattle.dnsd.specs.declared.run.TheConstants.{DONE, REFUSED, FAILED}
+use Rattle.dnsd.specs.declared.fault.Fault.{Fault}
+use Rattle.dnsd.specs.declared.fault.Fault.TheVariants.{Zone, Script, World, Device}
 use Rattle.dnsd.specs.declared.script.ScriptFault.{ScriptFault}
 use Rattle.dnsd.specs.declared.script.ScriptFault.TheVariants as script
 use Rattle.dnsd.specs.Lines.{output_of, Begins}
-use Rattle.dnsd.specs.Script.{script_output}
+use Rattle.dnsd.specs.Script.{script_of, script_output}
+use Rattle.dnsd.specs.Told.{IsTold}
 
--- the status with which the program ends at a fault
+-- the status with which the program ends at a fault: 1 where the zone or the script is refused, 3 at a device's fault
 abbrev pub status_of : Fault → ℕ
-status_of (Zone fault) = REFUSED
-status_of (Script line) = REFUSED
-status_of (World fault) = REFUSED
-status_of (Device fault) = FAILED
-
--- the status of what was done
-abbrev pub status_of_done : {T : Type 0} → Result T Fault → ℕ
-status_of_done (Ok done) = DONE
-status_of_done (Err fault) = status_of fault
+status_of (Zone fault) = 1
+status_of (Script line) = 1
+status_of (World fault) = 1
+status_of (Device fault) = 3
 
 -- a script's fault as the program's
 abbrev pub fault_of : ScriptFault → Fault
@@ -36,15 +31,46 @@ abbrev pub AtRefusedZone : Fault → Type 0 → Type 0
 AtRefusedZone (Zone fault) fact = fact
 AtRefusedZone fault fact = Unit
 
--- a fact of the line of a script that says no step
-abbrev pub AtBadLine : Fault → (ℕ → Type 0) → Type 0
-AtBadLine (Script line) fact = fact line
-AtBadLine fault fact = Unit
-
 -- a fact where a device fails, or memory is wanted
 abbrev pub AtDevice : Fault → Type 0 → Type 0
 AtDevice (Device fault) fact = fact
 AtDevice fault fact = Unit
+
+-- a fault that steps may be given: want of memory, or a device's fault
+abbrev pub IsOfPlay : Fault → Type 0
+IsOfPlay (Zone fault) = ⊥
+IsOfPlay (Script line) = ⊥
+IsOfPlay (World fault) = Unit
+IsOfPlay (Device fault) = Unit
+
+-- a fault that a script may be given: its first line that says no step, or want of memory while its steps are played
+abbrev pub IsOfScript : List ℕ → Fault → Type 0
+IsOfScript input (Zone fault) = ⊥
+IsOfScript input (Script line) = script_of input ≡ Err line
+IsOfScript input (World fault) = IsOk (script_of input)
+IsOfScript input (Device fault) = Unit
+
+-- a fault that a command may be given for its input: requests are never refused
+abbrev pub IsOfInput : Command → List ℕ → Fault → Type 0
+IsOfInput (Answer zone origin transport) input (Device fault) = Unit
+IsOfInput (Answer zone origin transport) input fault = ⊥
+IsOfInput (Steps zone origin) input fault = IsOfScript input fault
+
+-- a fault that a command may be given, whose zone's text was read: that text's, or one of its input's
+abbrev pub IsOfRun : Command → List ℕ → Fault → Type 0
+IsOfRun command input (Zone fault) = Unit
+IsOfRun command input fault = IsOfInput command input fault
+
+-- a fault was told on a line, and its status given; or it couldn't be told, and the status is a device's fault's
+abbrev pub EndsBy : Fault → ℕ → Option (List ℕ) → Option (List ℕ) → Type 0
+EndsBy fault status before after = ((status ≡ status_of fault) × IsTold fault before after) ⊎ (status ≡ 3)
+
+-- a fault with status 1 was told on a line, and is one that a command may be given
+pub record Refuses (command : Command) (input before after : Option (List ℕ)) : Type 0 where
+  pub fault : Fault
+  pub status : status_of fault ≡ 1
+  pub told : IsTold fault before after
+  pub is : IfSome input (λ octets. IsOfRun command octets fault)
 
 -- where a command's zone comes from
 abbrev pub source_of : Command → Source

@@ -1,6 +1,6 @@
 -- Scripts: steps as lines of text, and what is printed of the replies (own).
 use Rattle.std.specs.Prelude.{ℕ, ◌+◌, Bool, ◌&&◌, ◌||◌, ◌==◌, nat_le, List, [], ◌∷◌, ◌++◌, length, bytes_eq, codes, decimal, Option, Some, None, Result, Ok, Err, if◌then◌else◌}
-use Rattle.std.specs.List.{list_all, before_first, after_first}
+use Rattle.std.specs.List.{list_all, slice_split}
 use Rattle.hex.specs.declared.error.FromHexError.{FromHexError}
 use Rattle.hex.specs.Hex.{decode_of, encode_lower}
 use Rattle.dns_rdata.specs.Record.{Record}
@@ -15,13 +15,9 @@ use Rattle.dnsd.specs.WorldReplies.{replies_of}
 use Rattle.dnsd.specs.WorldSteps.{Turn}
 use Rattle.dnsd.specs.WorldSteps.Turn.{Load, Drop, Ask, Publish}
 
--- the first word of a line, up to a space
-abbrev pub word_of : List ℕ → List ℕ
-word_of line = before_first (λ octet. octet == 32) line
-
--- what stands behind that space
-abbrev pub behind_word : List ℕ → List ℕ
-behind_word line = after_first (λ octet. octet == 32) line
+-- the words of a line, with one space between: between two spaces stands an empty word
+abbrev pub words_of : List ℕ → List (List ℕ)
+words_of line = slice_split (λ octet. octet == 32) line
 
 -- whether an octet is a lower-case letter or a digit
 abbrev pub is_name_octet : ℕ → Bool
@@ -41,17 +37,19 @@ abbrev pub asking : List ℕ → Option (List ℕ) → Option Turn
 asking name None = None
 asking name (Some request) = Some (Ask name request)
 
--- the step that a name and a request, with one space between, say
-unfoldable pub ask_of : List ℕ → Option Turn
-ask_of words = if is_name (word_of words) then asking (word_of words) (request_in (decode_of (behind_word words))) else None
-
--- the step that a line says: `load NAME`, `drop NAME` or `ask NAME HEX`; none where it is another line
-unfoldable pub step_of : List ℕ → Option Turn
-step_of line =
-    if bytes_eq (word_of line) (codes "load") && is_name (behind_word line) then Some (Load (behind_word line))
-    else if bytes_eq (word_of line) (codes "drop") && is_name (behind_word line) then Some (Drop (behind_word line))
-    else if bytes_eq (word_of line) (codes "ask") then ask_of (behind_word line)
+-- the step that words say, `load NAME`, `drop NAME` or `ask NAME HEX`; none where they are others
+unfoldable pub step_in : List (List ℕ) → Option Turn
+step_in (word ∷ name ∷ []) =
+    if bytes_eq word (codes "load") && is_name name then Some (Load name)
+    else if bytes_eq word (codes "drop") && is_name name then Some (Drop name)
     else None
+step_in (word ∷ name ∷ digits ∷ []) =
+    if bytes_eq word (codes "ask") && is_name name then asking name (request_in (decode_of digits)) else None
+step_in words = None
+
+-- the step that a line says; none where it says none
+abbrev pub step_of : List ℕ → Option Turn
+step_of line = step_in (words_of line)
 
 -- a line's step in front of those of the lines behind it, or the number of the first line that says none
 abbrev pub onto_steps : ℕ → Option Turn → Result (List Turn) ℕ → Result (List Turn) ℕ

@@ -1,6 +1,6 @@
 -- Strong owners of zone versions, by name, while further versions are published: what steps make of them, one after the
 -- other, and their replies (own).
-use Rattle.std.specs.Prelude.{◌≡◌, ℕ, ◌+◌, ◌<◌, Bool, true, false, not, List, [], ◌∷◌, ◌++◌, length, filter, bytes_eq, Option, Some, None, MatchOption, if◌then◌else◌}
+use Rattle.std.specs.Prelude.{◌≡◌, ℕ, ◌+◌, ◌<◌, Bool, true, false, List, [], ◌∷◌, length, bytes_eq, Option, Some, None, MatchOption, if◌then◌else◌}
 use Rattle.std.specs.List.{slice_get}
 use Rattle.std.specs.Option.{option_and_then}
 use Rattle.cell_core.specs.Cell.{Cell, CellStep, IsLast, Steps, HasStep, start}
@@ -12,27 +12,26 @@ use Rattle.dnsd.specs.Reply.{reply}
 use Rattle.dnsd.specs.WorldSteps.{Turn, answer_of}
 use Rattle.dnsd.specs.WorldSteps.Turn.{Load, Drop, Ask, Publish}
 
--- the zone versions, and the number that each name's strong owner has (own)
+-- the zone versions, and the number that each name's strong owner has; none where the name isn't in use (own)
 pub record World : Type 0 where
   pub cell : Cell (List Record)
-  pub handles : List (List ℕ × ℕ)
+  pub handles : List ℕ → Option ℕ
 
 -- the world in which one version is published, and no name is in use (own)
 abbrev pub started : List Record → World
-started first = record { cell = start first; handles = [] }
+started first = record { cell = start first; handles = λ name. None }
 
--- the number that a name's strong owner has; none where the name isn't in use (own)
-abbrev pub number_of : List ℕ → List (List ℕ × ℕ) → Option ℕ
-number_of name [] = None
-number_of name (handle ∷ handles) = if bytes_eq handle.0 name then Some handle.1 else number_of name handles
-
--- the zone that a name's strong owner has; none where the name isn't in use (own)
+-- the zone that a name's strong owner has: the version at that number; none where the name isn't in use (own)
 abbrev pub zone_of : List ℕ → World → Option (List Record)
-zone_of name world = option_and_then (slice_get world.cell.published) (number_of name world.handles)
+zone_of name world = option_and_then (slice_get world.cell.published) (world.handles name)
 
--- the strong owners, without that of a name (own)
-abbrev pub without : List ℕ → List (List ℕ × ℕ) → List (List ℕ × ℕ)
-without name handles = filter (λ handle. not (bytes_eq handle.0 name)) handles
+-- the names in use with one more, for a number (own)
+abbrev pub with_name : List ℕ → ℕ → (List ℕ → Option ℕ) → List ℕ → Option ℕ
+with_name name number handles = λ other. if bytes_eq name other then Some number else handles other
+
+-- the names in use without one (own)
+abbrev pub without_name : List ℕ → (List ℕ → Option ℕ) → List ℕ → Option ℕ
+without_name name handles = λ other. if bytes_eq name other then None else handles other
 
 -- a version loses a strong owner, and is buried where that is a step then (own)
 abbrev pub GivesUp : {T : Type 0} → Cell T → ℕ → Bool → Cell T → Type 0
@@ -50,14 +49,14 @@ pub record Refuses (before : World) (reply_given : WorldReply) (after : World) :
 pub record Loads (before : World) (name : List ℕ) (reply_given : WorldReply) (after : World) : Type 0 where
   pub number : ℕ
   pub step : Steps before.cell CellStep.Load (Some number) after.cell
-  pub handle : after.handles ≡ before.handles ++ (name, number) ∷ []
+  pub handle : after.handles ≡ with_name name number before.handles
   pub told : reply_given ≡ Owner number
 
 -- a name goes out of use, and its version loses the strong owner (own)
 pub record Drops (before : World) (name : List ℕ) (number : ℕ) (reply_given : WorldReply) (after : World) : Type 0 where
   pub is_buried : Bool
   pub gone : GivesUp before.cell number is_buried after.cell
-  pub handles : after.handles ≡ without name before.handles
+  pub handles : after.handles ≡ without_name name before.handles
   pub told : reply_given ≡ (if is_buried then Buried number else Left)
 
 -- a request over UDP is answered in a zone, and changes nothing (own)
@@ -79,9 +78,9 @@ pub record Publishes (before : World) (zone : List Record) (reply_given : WorldR
 -- dropped nor asked (own)
 abbrev pub Turns : World → Turn → WorldReply → World → Type 0
 Turns before (Load name) given after =
-    MatchOption (number_of name before.handles) (Loads before name given after) (λ number. Refuses before given after)
+    MatchOption (before.handles name) (Loads before name given after) (λ number. Refuses before given after)
 Turns before (Drop name) given after =
-    MatchOption (number_of name before.handles) (Refuses before given after) (λ number. Drops before name number given after)
+    MatchOption (before.handles name) (Refuses before given after) (λ number. Drops before name number given after)
 Turns before (Ask name request) given after =
     MatchOption (zone_of name before) (Refuses before given after) (λ zone. Asks before zone request given after)
 Turns before (Publish zone) given after = Publishes before zone given after
@@ -99,7 +98,7 @@ Plays first turns replies = (after : World) × PlaysFrom (started first) turns r
 
 -- a name is in use for a version (own)
 abbrev pub IsInUse : World → ℕ → Type 0
-IsInUse world number = (name : List ℕ) × (number_of name world.handles ≡ Some number)
+IsInUse world number = (name : List ℕ) × (world.handles name ≡ Some number)
 
 -- what is buried of a world's versions: each but the last that no name is in use for, and no other (own)
 pub record BuriesTheUnused (world : World) : Type 0 where

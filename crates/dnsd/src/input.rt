@@ -9,6 +9,8 @@ use std::io::{self, BufRead};
 /// After how many reads an input that hasn't ended is a device's fault.
 pub const MAX_READS: u64 = 1 << 32;
 
+const _: () = prove!(MAX_READS == 4_294_967_296);
+
 /// The error of an input that hasn't ended after the reads that are made.
 pub fn endless() -> io::Error {
     io::Error::from(io::ErrorKind::TimedOut)

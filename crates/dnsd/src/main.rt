@@ -8,6 +8,7 @@
 
 pub mod answer;
 pub mod command;
+pub mod fault;
 mod input;
 mod lines;
 pub mod reply;
@@ -19,7 +20,8 @@ pub mod world;
 pub mod zone_text;
 
 use command::{Command, CommandFault, Source, parse_words};
-use run::{BAD_COMMAND, DONE, FAILED, Fault, run_text, run_with_zone, tell};
+use fault::{BAD_COMMAND, DONE, FAILED};
+use run::{run_text, run_with_zone, tell};
 use std::io::{self, BufReader, BufWriter};
 use std::process::ExitCode;
 use std::rt::{Env, Files};

@@ -3,11 +3,12 @@
 //! A line is `load NAME`, `drop NAME` or `ask NAME HEX`, its words with one space between; a name is 1 to 8 lower-case
 //! letters and digits, and HEX a request of 1 to 65,535 octets in hexadecimal. The last line may want its LF.
 ghost use Rattle.std.specs.Prelude.{◌≡◌, ◌==◌, ◌++◌, ◌∷◌, [], Ok, Err, OnOk, IfOk, IfErr, IfSome, map};
-ghost use Rattle.std.specs.List.{list_all, position};
+ghost use Rattle.std.specs.List.{list_all};
 ghost use Rattle.std.specs.Option.{option_map};
 ghost use Rattle.dnsd.specs.declared.script.ScriptFault.TheVariants.{Device};
 ghost use Rattle.dnsd.specs.Script.{AtBad};
-ghost use Rattle.dnsd.specs.Script.{word_of, behind_word, is_name as says_name, is_name_octet as says_name_octet, ask_of as ask_in, step_of as step_in, script_of, said_by, named_by};
+ghost use Rattle.dnsd.specs.Script.{words_of as words_on, is_name as says_name, is_name_octet as says_name_octet, request_in, asking, step_in as says_step, step_of as step_on, script_of, said_by, named_by};
+ghost use Rattle.hex.specs.Hex.{decode_of};
 ghost use Rattle.dnsd.specs.WorldSteps.{turn_of};
 
 use crate::answer::{MAX_REQUEST, without_lf};
@@ -111,32 +112,43 @@ fn push(steps: &mut Vec<ScriptStep>, step: ScriptStep) -> io::Result<()>
 }
 
 /// The step that a line says; None where it says none.
-#[tactic(auto, unfolding(crate::specs::Script::step_of))]
 fn step_of(alloc: Global, line: &[u8]) -> io::Result<Option<ScriptStep>>
-    ensures { IfOk result (λ step. option_map said_by step ≡ step_in line.now) }
+    ensures { IfOk result (λ step. option_map said_by step ≡ step_on line.now) }
 {
-    let (word, rest) = split_word(line);
-    if word == b"load".as_slice() && is_name(rest) {
-        return Ok(Some(ScriptStep::Load(Vec::from_slice(alloc, rest)?)));
-    }
-    if word == b"drop".as_slice() && is_name(rest) {
-        return Ok(Some(ScriptStep::Drop(Vec::from_slice(alloc, rest)?)));
-    }
-    if word == b"ask".as_slice() {
-        return ask_of(alloc, rest);
-    }
-    Ok(None)
+    let words = words_of(alloc, line)?;
+    step_in(alloc, words.as_slice())
 }
 
-/// The step that a name and a request in hexadecimal say, with one space between; None where they say none.
-#[tactic(auto, unfolding(crate::specs::Script::ask_of))]
-fn ask_of(alloc: Global, words: &[u8]) -> io::Result<Option<ScriptStep>>
-    ensures { IfOk result (λ step. option_map said_by step ≡ ask_in words.now) }
+/// The words of a line, with one space between: between two spaces stands an empty word.
+fn words_of<'a>(alloc: Global, line: &'a [u8]) -> io::Result<Vec<&'a [u8]>>
+    ensures { IfOk result (λ words. map (λ word. word.now) words.items ≡ words_on line.now) }
 {
-    let (name, digits) = split_word(words);
-    if !is_name(name) {
-        return Ok(None);
+    Ok(line.split(|octet| *octet == b' ').collect(alloc)?)
+}
+
+/// The step that words say; None where they say none.
+#[tactic(auto, unfolding(crate::specs::Script::step_in))]
+fn step_in(alloc: Global, words: &[&[u8]]) -> io::Result<Option<ScriptStep>>
+    ensures { IfOk result (λ step. option_map said_by step ≡ says_step (map (λ word. word.now) words.now)) }
+{
+    match words {
+        [word, name] if *word == b"load".as_slice() && is_name(name) => {
+            Ok(Some(ScriptStep::Load(Vec::from_slice(alloc, name)?)))
+        }
+        [word, name] if *word == b"drop".as_slice() && is_name(name) => {
+            Ok(Some(ScriptStep::Drop(Vec::from_slice(alloc, name)?)))
+        }
+        [word, name, digits] if *word == b"ask".as_slice() && is_name(name) => {
+            ask_of(alloc, name, digits)
+        }
+        _ => Ok(None),
     }
+}
+
+/// A request in hexadecimal, asked of a strong owner; None where it is none of 1 to 65,535 octets.
+fn ask_of(alloc: Global, name: &[u8], digits: &[u8]) -> io::Result<Option<ScriptStep>>
+    ensures { IfOk result (λ step. option_map said_by step ≡ asking name.now (request_in (decode_of digits.now))) }
+{
     match hex::decode(alloc, digits) {
         Ok(octets) if !octets.is_empty() && octets.len() <= MAX_REQUEST => {
             let name = Vec::from_slice(alloc, name)?;
@@ -145,24 +157,6 @@ fn ask_of(alloc: Global, words: &[u8]) -> io::Result<Option<ScriptStep>>
         Err(FromHexError::OutOfMemory) => Err(io::Error::from(AllocError)),
         _ => Ok(None),
     }
-}
-
-/// The first word of a line, up to a space, and what stands behind that space.
-fn split_word(line: &[u8]) -> (&[u8], &[u8])
-    ensures word { result.0.now ≡ word_of line.now }
-    ensures rest { result.1.now ≡ behind_word line.now }
-{
-    match first_space(line) {
-        Some(at) => (&line[..at], &line[at + 1..]),
-        None => (line, &[]),
-    }
-}
-
-/// The place of the first space.
-fn first_space(line: &[u8]) -> Option<usize>
-    ensures { result ≡ position (λ octet. octet == 32) line.now }
-{
-    line.iter().position(|octet| *octet == b' ')
 }
 
 /// Whether a word is a strong owner's name: 1 to 8 lower-case letters and digits.

@@ -2,15 +2,14 @@
 ghost use Rattle.std.specs.Prelude.{◌≡◌, ◌++◌, ◌∷◌, [], length, map, Err, OnOk, OnErr, IfOk, IfErr, IfSome, decimal};
 ghost use Rattle.std.specs.Io.KnownBytes.{Appends};
 ghost use Rattle.hex.specs.Hex.{encode_lower};
-ghost use Rattle.dnsd.specs.declared.run.TheConstants.{REFUSED};
 ghost use Rattle.dnsd.specs.Lines.{Begins};
-ghost use Rattle.dnsd.specs.Run.{status_of, AtRefusedZone, AtBadLine, AtDevice};
+ghost use Rattle.dnsd.specs.Run.{status_of, AtRefusedZone, AtDevice, IsOfScript, IsOfPlay};
 ghost use Rattle.dnsd.specs.Script.{script_of, script_output, said_by, named_by, printed, printed_lines};
 ghost use Rattle.dnsd.specs.WorldReplies.{replies_of};
 ghost use Rattle.dnsd.specs.WorldSteps.{turn_of};
 
 use crate::answer::write_whole;
-use crate::run::Fault;
+use crate::fault::Fault;
 use crate::script::{ScriptStep, read_script};
 use crate::world::{self, WorldReply, WorldStep};
 use std::alloc::Global;
@@ -33,9 +32,8 @@ pub fn run_steps<R: BufRead, W: Write>(
     ensures ok { OnOk result (IfSome (R.remaining reader.old) (λ input.
         Appends (W.contents writer.old) (W.contents writer.new) (script_output zone.now input))) }
     ensures zone { IfErr result (λ fault. AtRefusedZone fault ⊥) }
-    ensures bad { IfErr result (λ fault. AtBadLine fault (λ line. IfSome (R.remaining reader.old) (λ input.
-        script_of input ≡ Err line))) }
-    ensures refused { IfErr result (λ fault. status_of fault ≡ REFUSED → W.contents writer.new ≡ W.contents writer.old) }
+    ensures fault { IfErr result (λ fault. IfSome (R.remaining reader.old) (λ input. IsOfScript input fault)) }
+    ensures unwritten { IfErr result (λ fault. status_of fault ≡ 1 → W.contents writer.new ≡ W.contents writer.old) }
     ensures failed { IfErr result (λ fault. AtDevice fault (IfSome (R.remaining reader.old) (λ input.
         Begins (W.contents writer.old) (W.contents writer.new) (script_output zone.now input)))) }
 {
@@ -52,8 +50,7 @@ fn play<'a>(
     script: &'a [ScriptStep],
 ) -> Result<Vec<WorldReply>, Fault>
     ensures replies { IfOk result (λ replies. replies.items ≡ replies_of zone.now (map said_by script.now)) }
-    ensures zone { IfErr result (λ fault. AtRefusedZone fault ⊥) }
-    ensures script { IfErr result (λ fault. AtBadLine fault (λ line. ⊥)) }
+    ensures fault { IfErr result (λ fault. IsOfPlay fault) }
 {
     let steps = world_steps(alloc, script)?;
     let replies = world::run(alloc, zone, steps.as_slice())?;

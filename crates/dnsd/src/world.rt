@@ -3,7 +3,7 @@
 //!
 //! Contracts see the versions as a cell, and the names in use with their numbers (`World`). What a list of steps gives is
 //! told twice: step by step (`Plays`), and from the steps alone (`replies_of`).
-ghost use Rattle.std.specs.Prelude.{◌≡◌, IfOk, map};
+ghost use Rattle.std.specs.Prelude.{◌≡◌, IfOk, IfErr, map};
 ghost use Rattle.dnsd.specs.World.{Plays};
 ghost use Rattle.dnsd.specs.WorldReplies.{replies_of};
 ghost use Rattle.dnsd.specs.WorldSteps.{turn_of};
@@ -14,7 +14,9 @@ mod play;
 mod step;
 
 pub use fault::WorldFault;
-pub use laws::{asks_keep_their_version, examples, replies_are_told, unused_versions_are_buried};
+pub use laws::{
+    asks_keep_their_version, examples, plays_are_runs, replies_are_told, unused_versions_are_buried,
+};
 use play::Play;
 use std::alloc::Global;
 pub use step::{Handle, Octets, WorldReply, WorldStep};
@@ -30,6 +32,7 @@ pub fn run<'a>(
 ) -> Result<Vec<WorldReply>, WorldFault>
     ensures plays { IfOk result (λ replies. Plays zone.now (map turn_of steps.now) replies.items) }
     ensures told { IfOk result (λ replies. replies.items ≡ replies_of zone.now (map turn_of steps.now)) }
+    ensures no_memory { IfErr result (λ fault. fault ≡ WorldFault.NoMemory) }
 {
     let mut play = Play::new(alloc, zone)?;
     let mut replies = Vec::new(alloc);

@@ -1,12 +1,15 @@
 //! What the definitions say of a play, each the contract of a function that does nothing.
-ghost use Rattle.std.specs.Prelude.{◌≡◌, ℕ, false, List, [], ◌∷◌, ◌++◌, None, codes};
+ghost use Rattle.std.specs.Prelude.{◌≡◌, ℕ, false, List, [], ◌∷◌, ◌++◌, Option, None, Some, codes};
+ghost use Rattle.std.specs.List.{slice_get};
+ghost use Rattle.cell_core.specs.Cell.{CellStep};
 ghost use Rattle.dns_rdata.specs.Record.{Record};
 ghost use Rattle.dnsd.specs.declared.world.step.WorldReply.{WorldReply};
 ghost use Rattle.dnsd.specs.declared.world.step.WorldReply.TheVariants.{Owner, Left, Buried, Published, NotEnabled};
 ghost use Rattle.dnsd.specs.declared.transport.Transport.TheVariants.{Udp};
 ghost use Rattle.dnsd.specs.Reply.{reply};
 ghost use Rattle.dnsd.specs.World.{World, started, PlaysFrom, Plays, BuriesTheUnused};
-ghost use Rattle.dnsd.specs.WorldReplies.{loading, drops, latest, reply_at, replies_of};
+ghost use Rattle.dnsd.specs.WorldReplies.{published, last_number, owned, drops, reply_at, replies_of};
+ghost use Rattle.dnsd.specs.WorldRuns.{IsShownBy};
 ghost use Rattle.dnsd.specs.WorldSteps.{Turn, answer_of};
 
 /// The replies of a play are those that the steps alone tell.
@@ -15,13 +18,20 @@ pub fn replies_are_told()
         → Plays first turns replies → replies ≡ replies_of first turns }
 {}
 
-/// Whatever is done after a name was loaded, short of dropping it, its requests are answered in the zone that was published
-/// last when it was loaded.
+/// Whatever is done after a name was loaded, short of dropping it, its requests are answered in the version that was
+/// published last when it was loaded.
 pub fn asks_keep_their_version()
-    ensures { (first : List Record) (earlier later : List Turn) (name request : List ℕ)
-        → loading name earlier ≡ None → drops name later ≡ false
-        → reply_at first (later ++ Turn.Load name ∷ earlier) (Turn.Ask name request)
-        ≡ answer_of (reply Udp (latest first earlier) request) }
+    ensures { (first zone : List Record) (earlier later : List Turn) (name request : List ℕ)
+        → owned first name earlier ≡ None → drops name later ≡ false
+        → slice_get (published first earlier) (last_number (published first earlier)) ≡ Some zone
+        → reply_at first (later ++ Turn.Load name ∷ earlier) (Turn.Ask name request) ≡ answer_of (reply Udp zone request) }
+{}
+
+/// A play makes a run of the cell: each name in use has the number that was last at a load of that run.
+pub fn plays_are_runs()
+    ensures { (first : List Record) (turns : List Turn) (replies : List WorldReply) (after : World)
+        → PlaysFrom (started first) turns replies after
+        → (run : List (CellStep (List Record) × Option ℕ)) × IsShownBy first run after }
 {}
 
 /// After any steps the versions that are buried are those that no name is in use for, without the last.

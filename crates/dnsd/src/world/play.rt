@@ -4,8 +4,8 @@ ghost use Rattle.std.specs.Option.{option_copied};
 ghost use Rattle.cell_core.specs.Kept.{cell_of};
 ghost use Rattle.dnsd.specs.declared.transport.Transport.TheVariants.{Udp};
 ghost use Rattle.dnsd.specs.Reply.{reply};
-ghost use Rattle.dnsd.specs.World.{started, number_of, zone_of, GivesUp, Turns};
-ghost use Rattle.dnsd.specs.WorldPlay.{world_of, names_in_use};
+ghost use Rattle.dnsd.specs.World.{started, zone_of, GivesUp, Turns};
+ghost use Rattle.dnsd.specs.WorldPlay.{world_of, names_in_use, number_of};
 ghost use Rattle.dnsd.specs.WorldSteps.{Turn, turn_of, answer_of};
 
 use super::fault::WorldFault;

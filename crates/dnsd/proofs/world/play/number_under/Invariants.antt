@@ -1,6 +1,5 @@
 use Rattle.std.proofs.Common.{◌≡◌, drop}
-use Rattle.dnsd.specs.World.{number_of}
-use Rattle.dnsd.specs.WorldPlay.{names_in_use}
+use Rattle.dnsd.specs.WorldPlay.{names_in_use, number_of}
 use Rattle.dnsd.proofs.world.play.number_under.Given as goal
 
 -- the name isn't among those passed

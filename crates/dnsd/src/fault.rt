@@ -1,0 +1,119 @@
+//! Why a command isn't done, and the statuses with which the program ends.
+ghost use Rattle.std.specs.Prelude.{◌≡◌};
+ghost use Rattle.dnsd.specs.declared.fault.Fault.TheVariants.{Zone, World, Device};
+ghost use Rattle.dnsd.specs.Run.{status_of, fault_of};
+ghost use Rattle.dnsd.specs.Told.{cause_words, told};
+
+use crate::script::ScriptFault;
+use crate::world::WorldFault;
+use crate::zone_text::{Cause, FileFault};
+use std::error::Error;
+use std::{fmt, io};
+
+/// The status of a command that was done.
+pub const DONE: u8 = 0;
+/// The status of a zone or a script that was refused.
+pub const REFUSED: u8 = 1;
+/// The status of a command line that was refused.
+pub const BAD_COMMAND: u8 = 2;
+/// The status of a device's fault, or of want of memory that has no code.
+pub const FAILED: u8 = 3;
+
+const _: () = prove!(BAD_COMMAND == 2);
+
+/// Why a command isn't done.
+#[derive(Debug, Drop)]
+pub enum Fault {
+    /// The zone's text is refused.
+    Zone(FileFault),
+    /// The line of a script, counted from 1, that says no step.
+    Script(u64),
+    /// The steps of a script aren't played.
+    World(WorldFault),
+    /// A device's fault, or want of memory.
+    Device(io::Error),
+}
+
+impl Fault {
+    /// The status with which the program ends.
+    pub fn status(&self) -> u8
+        ensures { result ≡ status_of self.now }
+    {
+        match self {
+            Fault::Zone(_) | Fault::Script(_) | Fault::World(_) => REFUSED,
+            Fault::Device(_) => FAILED,
+        }
+    }
+}
+
+impl fmt::Display for Fault {
+    ghost output = { λ fault. told fault };
+
+    fn fmt<W: fmt::Write>(&self, f: &mut fmt::Formatter<W>) -> fmt::Result {
+        match self {
+            Fault::Zone(FileFault { line, cause }) => {
+                let words = words_of(*cause);
+                write!(f, "line {line}: {words}")
+            }
+            Fault::Script(line) => write!(f, "line {line}: bad"),
+            Fault::World(fault) => write!(f, "{fault}"),
+            Fault::Device(fault) => write!(f, "{fault}"),
+        }
+    }
+}
+
+impl Error for Fault {}
+
+/// The code and the name of what is wrong with a zone's text.
+fn words_of(cause: Cause) -> &'static str
+    ensures { result.now ≡ cause_words cause }
+{
+    match cause {
+        Cause::BadName => "M2 BadName",
+        Cause::Number => "M3 Number",
+        Cause::BadClass => "M4 BadClass",
+        Cause::UnknownType => "M5 UnknownType",
+        Cause::BadData => "M6 BadData",
+        Cause::Unclosed => "M7 Unclosed",
+        Cause::Outside => "M10 Outside",
+        Cause::Apex => "M11 Apex",
+        Cause::Conflict => "M12 Conflict",
+        Cause::Limit => "M13 Limit",
+        Cause::NoMemory => "M14 NoMemory",
+    }
+}
+
+impl From<FileFault> for Fault {
+    ghost from_gives = { λ fault given. given ≡ Zone fault };
+
+    fn from(fault: FileFault) -> Fault {
+        Fault::Zone(fault)
+    }
+}
+
+impl From<ScriptFault> for Fault {
+    ghost from_gives = { λ fault given. given ≡ fault_of fault };
+
+    fn from(fault: ScriptFault) -> Fault {
+        match fault {
+            ScriptFault::Bad(line) => Fault::Script(line),
+            ScriptFault::Device(fault) => Fault::Device(fault),
+        }
+    }
+}
+
+impl From<WorldFault> for Fault {
+    ghost from_gives = { λ fault given. given ≡ World fault };
+
+    fn from(fault: WorldFault) -> Fault {
+        Fault::World(fault)
+    }
+}
+
+impl From<io::Error> for Fault {
+    ghost from_gives = { λ fault given. given ≡ Device fault };
+
+    fn from(fault: io::Error) -> Fault {
+        Fault::Device(fault)
+    }
+}
