@@ -10,8 +10,7 @@ use Rattle.dns_rdata.specs.declared.layout.Layout.TheVariants.{Fields, Strings}
 use Rattle.dns_rdata.specs.Layout.{layout_of}
 use Rattle.dns_rdata.specs.Data.{names_then, parts, are_strings, data_by, data_of}
 use Rattle.std.proofs.lemmas.List.Elements.{All-append, All-drop, All-take}
-use Rattle.dns_name.proofs.LabelLemmas.{octets_front, AreOctets-label}
-use Rattle.dns_name.proofs.SameLemmas.{wire_of-fold}
+use Rattle.dns_name.proofs.LabelLemmas.{octets_front, AreOctets-label, wire_of-fold}
 use Rattle.dns_name.proofs.LawLemmas.{name_in-stands, name_in-wire_of, fold-IsName}
 use Rattle.dns_rdata.proofs.NameLemmas.{map_some, and_then_some, cond_some, fold_name-fold_name}
 
