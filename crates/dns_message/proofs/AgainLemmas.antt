@@ -17,9 +17,9 @@ use Rattle.wire_names.proofs.WrittenLemmas.{written_spelt}
 use Rattle.dns_message.specs.Again.{IsRecord, IsTrueOf, Place, behind, data_at, entry_at, entries_at}
 use Rattle.dns_message.specs.Asked.{question_in_full, IsQuestion}
 use Rattle.dns_message.specs.Message.{Entry, number_at}
-use Rattle.dns_message.specs.Put.{these, named, before, measured, each}
+use Rattle.dns_message.specs.Encoding.{these, named, before, measured, each}
 use Rattle.dns_message.specs.Reads.{question_of, question_at, long_number_at, record_of, record_at, records_at}
-use Rattle.dns_message.specs.Text.{question_text, data_text, fixed_text, record_text}
+use Rattle.dns_message.specs.Octets.{question_octets, data_octets, fixed_octets, record_octets}
 use Rattle.dns_message.specs.declared.query.Question.{Question}
 use Rattle.dns_message.proofs.KeepsLemmas.{Holds, Holds-nothing, Keeps-record}
 
@@ -75,8 +75,8 @@ question_behind compress msg rest whole table n q at is h lawful =
     ∙ question_numbers (msg ++ name) rest q.name q.rtype.0 q.class.0 lawful.rtype lawful.class
     ∙ ap (λ k. Some (q, k)) end
 
-pub question_again : (msg rest whole : List ℕ) (table : Table) (n : ℕ) (q : Question) → n ≡ length msg → whole ≡ msg ++ ((question_text q table n).0 ++ rest) → Holds msg table → IsQuestion q → question_at whole n ≡ Some (q, n + length (question_text q table n).0)
-unfolding question_text before named these
+pub question_again : (msg rest whole : List ℕ) (table : Table) (n : ℕ) (q : Question) → n ≡ length msg → whole ≡ msg ++ ((question_octets q table n).0 ++ rest) → Holds msg table → IsQuestion q → question_at whole n ≡ Some (q, n + length (question_octets q table n).0)
+unfolding question_octets before named these
 question_again msg rest whole table n q at is h lawful = question_behind true msg rest whole table n q at is h lawful
 
 pub question_full_again : (front rest : List ℕ) (q : Question) → IsQuestion q → question_at (front ++ (question_in_full q ++ rest)) (length front) ≡ Some (q, length front + length (question_in_full q))
@@ -110,15 +110,15 @@ record_numbers front rest rdata owner rtype class ttl h1 h2 h3 h4 =
     ∙ rw fits (ap (λ d. Some (entry owner rtype class ttl d, n + 10 + length rdata)) e5)
 
 -- a record is its owner, its numbers, and its data behind their length
-pub record_parts : (r : Record) (table : Table) (n : ℕ) → (record_text r table n).0 ≡ written true table r.owner ++ (fixed_text r ++ (to_be_bytes w16 (length (data_at r (table, n))) ++ data_at r (table, n)))
-unfolding record_text before named these measured
+pub record_parts : (r : Record) (table : Table) (n : ℕ) → (record_octets r table n).0 ≡ written true table r.owner ++ (fixed_octets r ++ (to_be_bytes w16 (length (data_at r (table, n))) ++ data_at r (table, n)))
+unfolding record_octets before named these measured
 record_parts r table n =
     let owner = written true table r.owner in
     let after = table_after true table n r.owner in
-    let place : n + length owner + length (fixed_text r) + 2 ≡ n + length owner + 10 = omega arith in
-    ap (λ k. owner ++ (fixed_text r ++ (to_be_bytes w16 (length (data_text r.rtype r.rdata after k).0) ++ (data_text r.rtype r.rdata after k).0))) place
+    let place : n + length owner + length (fixed_octets r) + 2 ≡ n + length owner + 10 = omega arith in
+    ap (λ k. owner ++ (fixed_octets r ++ (to_be_bytes w16 (length (data_octets r.rtype r.rdata after k).0) ++ (data_octets r.rtype r.rdata after k).0))) place
 
-pub record_again : (msg rest whole : List ℕ) (table : Table) (n : ℕ) (r : Record) → n ≡ length msg → whole ≡ msg ++ ((record_text r table n).0 ++ rest) → Holds msg table → IsRecord r → length (data_at r (table, n)) < 2 ^ 16 → record_at whole n ≡ Some (entry_at r (table, n), n + length (record_text r table n).0)
+pub record_again : (msg rest whole : List ℕ) (table : Table) (n : ℕ) (r : Record) → n ≡ length msg → whole ≡ msg ++ ((record_octets r table n).0 ++ rest) → Holds msg table → IsRecord r → length (data_at r (table, n)) < 2 ^ 16 → record_at whole n ≡ Some (entry_at r (table, n), n + length (record_octets r table n).0)
 record_again msg rest whole table n r at is h lawful short =
     let owner = written true table r.owner in
     let rdata = data_at r (table, n) in
@@ -127,7 +127,7 @@ record_again msg rest whole table n r at is h lawful short =
     let to_owner : whole ≡ msg ++ (owner ++ behind_owner) = is ∙ ap (λ t. msg ++ (t ++ rest)) parts ∙ simp append_assoc in
     let to_numbers : whole ≡ (msg ++ owner) ++ behind_owner = to_owner ∙ sym (append_assoc msg owner behind_owner) in
     let there : n + length owner ≡ length (msg ++ owner) = ap (λ k. k + length owner) at ∙ sym (length-append msg owner) in
-    let size : length (record_text r table n).0 ≡ length owner + 10 + length rdata = ap length parts ∙ omega (arith, length-append owner (fixed_text r ++ (to_be_bytes w16 (length rdata) ++ rdata))) in
+    let size : length (record_octets r table n).0 ≡ length owner + 10 + length rdata = ap length parts ∙ omega (arith, length-append owner (fixed_octets r ++ (to_be_bytes w16 (length rdata) ++ rdata))) in
     ap (record_of whole) (name_again true msg behind_owner whole table n r.owner at to_owner h lawful.owner)
     ∙ ap (λ o. record_of o (Ok (r.owner, n + length owner))) to_numbers
     ∙ ap (λ k. record_of ((msg ++ owner) ++ behind_owner) (Ok (r.owner, k))) there
@@ -135,14 +135,14 @@ record_again msg rest whole table n r at is h lawful short =
     ∙ ap (λ k. Some (entry_at r (table, n), k)) (omega (arith, there, size))
 
 -- a record has at least ten octets, and those of its data
-record_long : (r : Record) (table : Table) (n : ℕ) → 10 + length (data_at r (table, n)) ≤ length (record_text r table n).0
+record_long : (r : Record) (table : Table) (n : ℕ) → 10 + length (data_at r (table, n)) ≤ length (record_octets r table n).0
 record_long r table n =
     let owner = written true table r.owner in
     let rdata = data_at r (table, n) in
-    omega (arith, ap length (record_parts r table n), length-append owner (fixed_text r ++ (to_be_bytes w16 (length rdata) ++ rdata)))
+    omega (arith, ap length (record_parts r table n), length-append owner (fixed_octets r ++ (to_be_bytes w16 (length rdata) ++ rdata)))
 
 -- the octets of one record and of those behind it
-each_one : (r : Record) (rs : List Record) (table : Table) (n : ℕ) → let next = record_text r table n in (each record_text (r ∷ rs) table n).0 ≡ next.0 ++ (each record_text rs next.1 (n + length next.0)).0
+each_one : (r : Record) (rs : List Record) (table : Table) (n : ℕ) → let next = record_octets r table n in (each record_octets (r ∷ rs) table n).0 ≡ next.0 ++ (each record_octets rs next.1 (n + length next.0)).0
 unfolding each before
 each_one r rs table n = refl
 
@@ -156,7 +156,7 @@ one_more count msg n next end e es first others =
     ap (option_and_then (λ r. option_map (λ rest. (r.0 ∷ rest.0, rest.1)) (records_at count msg r.1))) first
     ∙ ap (option_map (λ rest. (e ∷ rest.0, rest.1))) others
 
-no_octets : (table : Table) (n : ℕ) → length (each record_text [] table n).0 ≡ 0
+no_octets : (table : Table) (n : ℕ) → length (each record_octets [] table n).0 ≡ 0
 unfolding each these
 no_octets table n = refl
 
@@ -164,44 +164,44 @@ no_entries : (place : Place) → entries_at [] place ≡ []
 unfolding entries_at
 no_entries place = refl
 
-entries_one : (r : Record) (rs : List Record) (place : Place) → entries_at (r ∷ rs) place ≡ entry_at r place ∷ entries_at rs (behind (record_text r) place)
+entries_one : (r : Record) (rs : List Record) (place : Place) → entries_at (r ∷ rs) place ≡ entry_at r place ∷ entries_at rs (behind (record_octets r) place)
 unfolding entries_at
 entries_one r rs place = refl
 
 -- records are read where they were written
-pub records_again : (rs : List Record) (msg rest whole : List ℕ) (table : Table) (n : ℕ) → n ≡ length msg → whole ≡ msg ++ ((each record_text rs table n).0 ++ rest) → Holds msg table → All IsRecord rs → length (each record_text rs table n).0 < 2 ^ 16 → records_at (length rs) whole n ≡ Some (entries_at rs (table, n), n + length (each record_text rs table n).0)
+pub records_again : (rs : List Record) (msg rest whole : List ℕ) (table : Table) (n : ℕ) → n ≡ length msg → whole ≡ msg ++ ((each record_octets rs table n).0 ++ rest) → Holds msg table → All IsRecord rs → length (each record_octets rs table n).0 < 2 ^ 16 → records_at (length rs) whole n ≡ Some (entries_at rs (table, n), n + length (each record_octets rs table n).0)
 records_again [] msg rest whole table n at is h all short =
     none_more whole n
     ∙ ap (λ es. Some (es, n)) (sym (no_entries (table, n)))
     ∙ ap (λ k. Some (entries_at [] (table, n), k)) (omega (arith, no_octets table n))
 records_again (r ∷ rs) msg rest whole table n at is h all short =
-    let next = record_text r table n in
-    let others = (each record_text rs next.1 (n + length next.0)).0 in
+    let next = record_octets r table n in
+    let others = (each record_octets rs next.1 (n + length next.0)).0 in
     let octets = each_one r rs table n in
-    let size : length (each record_text (r ∷ rs) table n).0 ≡ length next.0 + length others = ap length octets ∙ length-append next.0 others in
+    let size : length (each record_octets (r ∷ rs) table n).0 ≡ length next.0 + length others = ap length octets ∙ length-append next.0 others in
     let lawful : IsRecord r = All-head IsRecord r rs all in
     let split : whole ≡ msg ++ (next.0 ++ (others ++ rest)) = is ∙ ap (λ t. msg ++ (t ++ rest)) octets ∙ ap (λ t. msg ++ t) (append_assoc next.0 others rest) in
     let here = record_again msg (others ++ rest) whole table n r at split h lawful (omega (arith, record_long r table n)) in
     let there : n + length next.0 ≡ length (msg ++ next.0) = ap (λ k. k + length next.0) at ∙ sym (length-append msg next.0) in
-    let kept : Holds (msg ++ next.0) next.1 = let P : ℕ → Type 0 = λ k. Holds (msg ++ (record_text r table k).0) (record_text r table k).1 in subst P (sym at) ((Keeps-record r lawful.owner).kept msg table h) in
+    let kept : Holds (msg ++ next.0) next.1 = let P : ℕ → Type 0 = λ k. Holds (msg ++ (record_octets r table k).0) (record_octets r table k).1 in subst P (sym at) ((Keeps-record r lawful.owner).kept msg table h) in
     let back = records_again rs (msg ++ next.0) rest whole next.1 (n + length next.0) there (split ∙ sym (append_assoc msg next.0 (others ++ rest))) kept (All-tail IsRecord r rs all) (omega arith) in
-    one_more (length rs) whole n (n + length next.0) (n + length next.0 + length others) (entry_at r (table, n)) (entries_at rs (behind (record_text r) (table, n))) here back
+    one_more (length rs) whole n (n + length next.0) (n + length next.0 + length others) (entry_at r (table, n)) (entries_at rs (behind (record_octets r) (table, n))) here back
     ∙ ap (λ es. Some (es, n + length next.0 + length others)) (sym (entries_one r rs (table, n)))
     ∙ ap (λ k. Some (entries_at (r ∷ rs) (table, n), k)) (omega (arith, size))
 
 -- there are no more records than octets
-pub few_records : (rs : List Record) (table : Table) (n : ℕ) → length rs ≤ length (each record_text rs table n).0
+pub few_records : (rs : List Record) (table : Table) (n : ℕ) → length rs ≤ length (each record_octets rs table n).0
 few_records [] table n = omega arith
 few_records (r ∷ rs) table n =
-    let next = record_text r table n in
-    omega (arith, record_long r table n, ap length (each_one r rs table n), length-append next.0 (each record_text rs next.1 (n + length next.0)).0, few_records rs next.1 (n + length next.0))
+    let next = record_octets r table n in
+    omega (arith, record_long r table n, ap length (each_one r rs table n), length-append next.0 (each record_octets rs next.1 (n + length next.0)).0, few_records rs next.1 (n + length next.0))
 
 -- a record that is written behind a message of which a table is true
-pub record_read : (msg rest : List ℕ) (table : Table) (r : Record) → IsTrueOf msg table → IsRecord r → length (data_at r (table, length msg)) < 2 ^ 16 → record_at (msg ++ ((record_text r table (length msg)).0 ++ rest)) (length msg) ≡ Some (entry_at r (table, length msg), length msg + length (record_text r table (length msg)).0)
+pub record_read : (msg rest : List ℕ) (table : Table) (r : Record) → IsTrueOf msg table → IsRecord r → length (data_at r (table, length msg)) < 2 ^ 16 → record_at (msg ++ ((record_octets r table (length msg)).0 ++ rest)) (length msg) ≡ Some (entry_at r (table, length msg), length msg + length (record_octets r table (length msg)).0)
 record_read msg rest table r true_of lawful short =
     record_again msg rest _ table (length msg) r refl refl (record { all = true_of.targets; is = true_of.names }) lawful short
 
-pub record_enters : (msg : List ℕ) (table : Table) (r : Record) → IsTrueOf msg table → IsRecord r → IsTrueOf (msg ++ (record_text r table (length msg)).0) (record_text r table (length msg)).1
+pub record_enters : (msg : List ℕ) (table : Table) (r : Record) → IsTrueOf msg table → IsRecord r → IsTrueOf (msg ++ (record_octets r table (length msg)).0) (record_octets r table (length msg)).1
 record_enters msg table r true_of lawful =
     let kept = (Keeps-record r lawful.owner).kept msg table (record { all = true_of.targets; is = true_of.names }) in
     record { targets = kept.all; names = kept.is }

@@ -8,14 +8,14 @@ use Rattle.dns_rdata.specs.declared.numbers.Rcode.TheVariants.{NotImp}
 use Rattle.dns_message.specs.Asked.{request_header, request_of, IsAnswerTo}
 use Rattle.dns_message.specs.Message.{Request, Message}
 use Rattle.dns_message.specs.Reads.{header_of, copied, is_reply, request_in, query_of, reads}
-use Rattle.dns_message.specs.Text.{bit, text}
+use Rattle.dns_message.specs.Octets.{bit, reply_octets}
 use Rattle.dns_message.specs.declared.query.Head.{Head}
 use Rattle.dns_message.specs.declared.query.Question.{Question}
 use Rattle.dns_message.specs.declared.query.Parsed.{Parsed}
 use Rattle.dns_message.specs.declared.query.Parsed.TheVariants.{Silent, Fault, Query}
 use Rattle.dns_message.proofs.AgainLemmas.{none_more}
 use Rattle.dns_message.proofs.KeepsLemmas.{Holds-nothing}
-use Rattle.dns_message.proofs.SectionLemmas.{Stands, asked_again, question_octets, answer_octets, authority_octets, additional_octets, sections_parts, request_parts}
+use Rattle.dns_message.proofs.SectionLemmas.{Stands, asked_again, question_part, answer_part, authority_part, additional_part, sections_parts, request_parts}
 
 -- a header of these parts
 abbrev head_with : ℕ → Bool → (opcode : ℕ) → opcode < 16 → Head
@@ -71,11 +71,11 @@ reads-request head rest h z =
     ∙ judged_standard head (request_in msg) z
 
 -- behind a request's header stands the question that the reply repeats
-question_stands : (m : Message) → Stands (request_of m) (request_header m.head) (question_octets m ++ (answer_octets m ++ (authority_octets m ++ additional_octets m))) [] 12
+question_stands : (m : Message) → Stands (request_of m) (request_header m.head) (question_part m ++ (answer_part m ++ (authority_part m ++ additional_part m))) [] 12
 question_stands m = record { at = refl; is = ap (λ t. request_header m.head ++ t) (sections_parts m); holds = Holds-nothing (request_header m.head) }
 
 request_in_of : (m : Message) (q : Question) → IsAnswerTo m q → request_in (request_of m) ≡ Some (record { question = q; answer = []; authority = []; additional = [] })
-unfolding question_octets
+unfolding question_part
 request_in_of m q h =
     request_parts (request_of m) q 0 0 0 _ _ _ _ [] [] [] refl refl refl refl
     (asked_again m.question q _ _ _ _ _ h.asked h.lawful (question_stands m))
@@ -84,6 +84,6 @@ request_in_of m q h =
 -- the question that a reply repeats is read as itself
 pub reads-request_of : (m : Message) (q : Question) → IsAnswerTo m q → reads (request_of m) ≡ Query (record { head = m.head; question = q })
 reads-request_of m q h =
-    reads-request m.head (drop 12 (text m)) h.id h.standard
+    reads-request m.head (drop 12 (reply_octets m)) h.id h.standard
     ∙ ap (query_of m.head) (request_in_of m q h)
     ∙ rw h.lookup

@@ -12,8 +12,8 @@ use Rattle.wire_names.proofs.LongerLemmas.{IsTable-longer, table_longer}
 use Rattle.wire_names.proofs.WrittenLemmas.{IsTableOf, after_name}
 use Rattle.dns_message.specs.declared.query.Question.{Question}
 use Rattle.dns_message.specs.Message.{Message}
-use Rattle.dns_message.specs.Put.{Put, these, named, before, measured, each}
-use Rattle.dns_message.specs.Text.{question_text, names_text, name_behind, data_text, fixed_text, record_text, questions, sections_text}
+use Rattle.dns_message.specs.Encoding.{Encoding, these, named, before, measured, each}
+use Rattle.dns_message.specs.Octets.{question_octets, names_octets, name_behind, data_octets, fixed_octets, record_octets, questions, sections_octets}
 
 -- a table is true of a message: each entry has a position below 16384, at which its name is read
 abbrev pub Holds : List ℕ → Table → Type 0
@@ -41,7 +41,7 @@ Holds-more msg more table h =
     record { all = IsTable-longer msg more (places table) h.all; is = table_longer msg more (places table) h.all ∙ h.is }
 
 -- what is written behind a message of which the table is true leaves one of which the table behind it is true
-pub record Keeps (p : Put) : Type 0 where
+pub record Keeps (p : Encoding) : Type 0 where
   pub kept : (msg : List ℕ) (table : Table) → Holds msg table → Holds (msg ++ (p table (length msg)).0) (p table (length msg)).1
 
 pub Keeps-these : (octets : List ℕ) → Keeps (these octets)
@@ -56,7 +56,7 @@ Keeps-named compress name lawful = record {
       (Holds-positions _ _ _ (after_name compress msg (places table) name h.all lawful));
 }
 
-pub Keeps-before : (p q : Put) → Keeps p → Keeps q → Keeps (before p q)
+pub Keeps-before : (p q : Encoding) → Keeps p → Keeps q → Keeps (before p q)
 unfolding before
 Keeps-before p q k l = record {
   kept = λ msg table h.
@@ -67,42 +67,42 @@ Keeps-before p q k l = record {
       subst (λ (octets : List ℕ). Holds octets (q next (length msg + length first)).1) (append_assoc msg first (q next (length msg + length first)).0) there;
 }
 
-pub Keeps-measured : (p : Put) → Keeps p → Keeps (measured p)
+pub Keeps-measured : (p : Encoding) → Keeps p → Keeps (measured p)
 unfolding measured these before
 Keeps-measured p k = record {
   kept = λ msg table h.
       (Keeps-before (these (to_be_bytes w16 (length (p table (length msg + 2)).0))) p (Keeps-these _) k).kept msg table h;
 }
 
-pub Keeps-each : {A : Type 0} (put : A → Put) (xs : List A) → All (λ x. Keeps (put x)) xs → Keeps (each put xs)
+pub Keeps-each : {A : Type 0} (put : A → Encoding) (xs : List A) → All (λ x. Keeps (put x)) xs → Keeps (each put xs)
 unfolding each
 Keeps-each put [] all = Keeps-these []
 Keeps-each put (x ∷ xs) all =
     Keeps-before (put x) (each put xs) (All-head (λ y. Keeps (put y)) x xs all) (Keeps-each put xs (All-tail (λ y. Keeps (put y)) x xs all))
 
 -- the names at the front of data
-Keeps-name_in : (compress : Bool) (names : ℕ) (octets : List ℕ) (found : Option (List (List ℕ))) → name_in octets ≡ found → ((rest : List ℕ) → Keeps (names_text compress names rest)) → Keeps (elim found as (λ _. Put) [ None ↦ these octets | Some name ↦ before (named compress name) (names_text compress names (drop (length (wire_of name)) octets)) ])
+Keeps-name_in : (compress : Bool) (names : ℕ) (octets : List ℕ) (found : Option (List (List ℕ))) → name_in octets ≡ found → ((rest : List ℕ) → Keeps (names_octets compress names rest)) → Keeps (elim found as (λ _. Encoding) [ None ↦ these octets | Some name ↦ before (named compress name) (names_octets compress names (drop (length (wire_of name)) octets)) ])
 Keeps-name_in compress names octets None e rest = Keeps-these octets
 Keeps-name_in compress names octets (Some name) e rest =
     Keeps-before (named compress name) _ (Keeps-named compress name (name_in-stands octets name e).0) (rest (drop (length (wire_of name)) octets))
 
-pub Keeps-names : (compress : Bool) (names : ℕ) (octets : List ℕ) → Keeps (names_text compress names octets)
-unfolding names_text
+pub Keeps-names : (compress : Bool) (names : ℕ) (octets : List ℕ) → Keeps (names_octets compress names octets)
+unfolding names_octets
 Keeps-names compress zero octets = Keeps-these octets
 Keeps-names compress (suc names) octets = Keeps-name_in compress names octets (name_in octets) refl (Keeps-names compress names)
 
 Keeps-behind : (front : ℕ) (compress : Bool) (octets : List ℕ) → Keeps (name_behind front compress octets)
 unfolding name_behind
 Keeps-behind front compress octets =
-    Keeps-before (these (take front octets)) (names_text compress 1 (drop front octets)) (Keeps-these _) (Keeps-names compress 1 (drop front octets))
+    Keeps-before (these (take front octets)) (names_octets compress 1 (drop front octets)) (Keeps-these _) (Keeps-names compress 1 (drop front octets))
 
-Keeps-if : (b : Bool) (p q : Put) → Keeps p → Keeps q → Keeps (cond b p q)
+Keeps-if : (b : Bool) (p q : Encoding) → Keeps p → Keeps q → Keeps (cond b p q)
 Keeps-if true p q k l = k
 Keeps-if false p q k l = l
 
 -- data
-pub Keeps-data : (rtype : ℕ) (octets : List ℕ) → Keeps (data_text rtype octets)
-unfolding data_text
+pub Keeps-data : (rtype : ℕ) (octets : List ℕ) → Keeps (data_octets rtype octets)
+unfolding data_octets
 Keeps-data rtype octets =
     let name = Keeps-names true 1 octets in
     Keeps-if (rtype == 2) _ _ name
@@ -113,20 +113,20 @@ Keeps-data rtype octets =
     (Keeps-if (rtype == 33) _ _ (Keeps-behind 6 false octets) (Keeps-these octets))))))
 
 -- a question
-pub Keeps-question : (q : Question) → IsName q.name → Keeps (question_text q)
-unfolding question_text
+pub Keeps-question : (q : Question) → IsName q.name → Keeps (question_octets q)
+unfolding question_octets
 Keeps-question q lawful = Keeps-before (named true q.name) _ (Keeps-named true q.name lawful) (Keeps-these _)
 
 -- a record
-pub Keeps-record : (r : Record) → IsName r.owner → Keeps (record_text r)
-unfolding record_text
+pub Keeps-record : (r : Record) → IsName r.owner → Keeps (record_octets r)
+unfolding record_octets
 Keeps-record r lawful =
     Keeps-before (named true r.owner) _ (Keeps-named true r.owner lawful)
-    (Keeps-before (these (fixed_text r)) _ (Keeps-these _) (Keeps-measured (data_text r.rtype r.rdata) (Keeps-data r.rtype r.rdata)))
+    (Keeps-before (these (fixed_octets r)) _ (Keeps-these _) (Keeps-measured (data_octets r.rtype r.rdata) (Keeps-data r.rtype r.rdata)))
 
 -- records of lawful owners
-pub Keeps-records : (rs : List Record) → All (λ r. IsName r.owner) rs → Keeps (each record_text rs)
-Keeps-records rs all = Keeps-each record_text rs (λ k d h. Keeps-record _ (all k d h))
+pub Keeps-records : (rs : List Record) → All (λ r. IsName r.owner) rs → Keeps (each record_octets rs)
+Keeps-records rs all = Keeps-each record_octets rs (λ k d h. Keeps-record _ (all k d h))
 
 -- the names of a message's question and owners are lawful
 pub record IsLawful (m : Message) : Type 0 where
@@ -136,9 +136,9 @@ pub record IsLawful (m : Message) : Type 0 where
   pub additional : All (λ r. IsName r.owner) m.additional
 
 -- the sections of a message
-pub Keeps-sections : (m : Message) → IsLawful m → Keeps (sections_text m)
-unfolding sections_text
+pub Keeps-sections : (m : Message) → IsLawful m → Keeps (sections_octets m)
+unfolding sections_octets
 Keeps-sections m lawful =
-    Keeps-before (each question_text (questions m.question)) _ (Keeps-each question_text (questions m.question) (λ k d h. Keeps-question _ (lawful.question k d h)))
-    (Keeps-before (each record_text m.answer) _ (Keeps-records m.answer lawful.answer)
-    (Keeps-before (each record_text m.authority) _ (Keeps-records m.authority lawful.authority) (Keeps-records m.additional lawful.additional)))
+    Keeps-before (each question_octets (questions m.question)) _ (Keeps-each question_octets (questions m.question) (λ k d h. Keeps-question _ (lawful.question k d h)))
+    (Keeps-before (each record_octets m.answer) _ (Keeps-records m.answer lawful.answer)
+    (Keeps-before (each record_octets m.authority) _ (Keeps-records m.authority lawful.authority) (Keeps-records m.additional lawful.additional)))

@@ -4,8 +4,8 @@ pub mod CountLemmas
 pub mod DataLemmas
 pub mod KeepsLemmas
 pub mod NamesLemmas
-pub mod PutsLemmas
+pub mod EncodedLemmas
 pub mod ReadLemmas
 pub mod SectionLemmas
 pub mod SetLemmas
-pub mod TextLemmas
+pub mod OctetsLemmas

@@ -7,9 +7,9 @@ use Rattle.wire_names.specs.NameAt.{name_at}
 use Rattle.wire_names.specs.Table.{Table, IsTable, table_of}
 use Rattle.dns_message.specs.Asked.{IsQuestion}
 use Rattle.dns_message.specs.Message.{Entry, Request, Message}
-use Rattle.dns_message.specs.Put.{Put, named, each}
+use Rattle.dns_message.specs.Encoding.{Encoding, named, each}
 use Rattle.dns_message.specs.Reads.{question_at, records_at}
-use Rattle.dns_message.specs.Text.{data_text, question_text, questions, record_text, text}
+use Rattle.dns_message.specs.Octets.{data_octets, question_octets, questions, record_octets, reply_octets}
 use Rattle.dns_message.specs.declared.query.Question.{Question}
 
 -- the parts of a record are what its octets can say (RFC 1035, 4.1.3)
@@ -25,7 +25,7 @@ pub record IsReply (m : Message) (question : Question) : Type 0 where
   pub answer : All IsRecord m.answer
   pub authority : All IsRecord m.authority
   pub additional : All IsRecord m.additional
-  pub carried : length (text m) < 2 ^ 16
+  pub carried : length (reply_octets m) < 2 ^ 16
 
 -- a table is true of a message: at each of its positions, which a pointer can name, its name is read (RFC 1035, 4.1.4)
 pub record IsTrueOf (msg : List ℕ) (table : Table) : Type 0 where
@@ -37,11 +37,11 @@ abbrev pub Place : Type 0
 Place = Table × ℕ
 
 -- the place behind something that is written at a place
-abbrev pub behind : Put → Place → Place
+abbrev pub behind : Encoding → Place → Place
 behind put place = let written = put place.0 place.1 in (written.1, place.1 + length written.0)
 
 -- the octets of something that is written at a place
-abbrev pub octets_at : Put → Place → List ℕ
+abbrev pub octets_at : Encoding → Place → List ℕ
 octets_at put place = (put place.0 place.1).0
 
 -- the octets of a record's data where the record is written at a place, names with pointers as they stand: behind the
@@ -49,7 +49,7 @@ octets_at put place = (put place.0 place.1).0
 abbrev pub data_at : Record → Place → List ℕ
 data_at r place =
     let owner = behind (named true r.owner) place in
-    (data_text r.rtype r.rdata owner.0 (owner.1 + 10)).0
+    (data_octets r.rtype r.rdata owner.0 (owner.1 + 10)).0
 
 -- so many names in full at the front of data octets (RFC 1035, 3.3)
 unfoldable pub names_in : ℕ → List ℕ → List (List (List ℕ))
@@ -97,29 +97,29 @@ entry_at r place = record { owner = r.owner; rtype = r.rtype; class = class_IN; 
 -- records as they stand one after another from a place on
 unfoldable pub entries_at : List Record → Place → List Entry
 entries_at [] place = []
-entries_at (r ∷ rs) place = entry_at r place ∷ entries_at rs (behind (record_text r) place)
+entries_at (r ∷ rs) place = entry_at r place ∷ entries_at rs (behind (record_octets r) place)
 
 -- the places behind a reply's question, answer, authority and additional sections; the question is behind the header,
 -- with an empty table (RFC 1035, 4.1)
 abbrev pub question_end : Message → Place
-question_end m = behind (each question_text (questions m.question)) ([], 12)
+question_end m = behind (each question_octets (questions m.question)) ([], 12)
 
 abbrev pub answer_end : Message → Place
-answer_end m = behind (each record_text m.answer) (question_end m)
+answer_end m = behind (each record_octets m.answer) (question_end m)
 
 abbrev pub authority_end : Message → Place
-authority_end m = behind (each record_text m.authority) (answer_end m)
+authority_end m = behind (each record_octets m.authority) (answer_end m)
 
 abbrev pub additional_end : Message → Place
-additional_end m = behind (each record_text m.additional) (authority_end m)
+additional_end m = behind (each record_octets m.additional) (authority_end m)
 
 -- the sections that are read where a reply was written are those that were written, and reading ends with the octets
 pub record IsReadAgain (m : Message) (q : Question) : Type 0 where
-  pub question : question_at (text m) 12 ≡ Some (q, (question_end m).1)
-  pub answer : records_at (length m.answer) (text m) (question_end m).1 ≡ Some (entries_at m.answer (question_end m), (answer_end m).1)
-  pub authority : records_at (length m.authority) (text m) (answer_end m).1 ≡ Some (entries_at m.authority (answer_end m), (authority_end m).1)
-  pub additional : records_at (length m.additional) (text m) (authority_end m).1 ≡ Some (entries_at m.additional (authority_end m), (additional_end m).1)
-  pub whole : (additional_end m).1 ≡ length (text m)
+  pub question : question_at (reply_octets m) 12 ≡ Some (q, (question_end m).1)
+  pub answer : records_at (length m.answer) (reply_octets m) (question_end m).1 ≡ Some (entries_at m.answer (question_end m), (answer_end m).1)
+  pub authority : records_at (length m.authority) (reply_octets m) (answer_end m).1 ≡ Some (entries_at m.authority (answer_end m), (authority_end m).1)
+  pub additional : records_at (length m.additional) (reply_octets m) (authority_end m).1 ≡ Some (entries_at m.additional (authority_end m), (additional_end m).1)
+  pub whole : (additional_end m).1 ≡ length (reply_octets m)
 
 -- what stands behind a reply's header
 abbrev pub request_written : Message → Question → Request

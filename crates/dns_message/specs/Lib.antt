@@ -3,10 +3,10 @@ pub mod Asked
 pub mod Examples
 pub mod Frame
 pub mod Message
-pub mod Put
-pub mod Puts
+pub mod Encoding
+pub mod Encoded
 pub mod Reads
-pub mod Text
+pub mod Octets
 pub use Rattle.dns_name.specs.Name
 pub use Rattle.dns_rdata.specs.Numbers
 pub use Rattle.dns_rdata.specs.Record

@@ -2,9 +2,9 @@
 ghost use Rattle.std.specs.Prelude.{◌+◌, ◌≤◌, ◌<◌, ◌^◌, length, take};
 ghost use Rattle.dns_name.specs.Name.{IsName};
 ghost use Rattle.wire_names.specs.Table.{IsTable};
-ghost use Rattle.dns_message.specs.Put.{named, measured};
-ghost use Rattle.dns_message.specs.Puts.{Goes};
-ghost use Rattle.dns_message.specs.Text.{names_text, name_behind, data_text};
+ghost use Rattle.dns_message.specs.Encoding.{named, measured};
+ghost use Rattle.dns_message.specs.Encoded.{WritesEncoding};
+ghost use Rattle.dns_message.specs.Octets.{names_octets, name_behind, data_octets};
 
 use crate::octets::{put, put_u16, set_u16};
 use dns_name::Name;
@@ -22,7 +22,7 @@ pub(crate) fn put_name(
 ) -> Option<usize>
     requires within { at ≤ length out.old }
     requires table { IsTable (take at out.old) names.old }
-    ensures put { Goes (named compress name.now) out.old out.new at names.old names.new result }
+    ensures put { WritesEncoding (named compress name.now) out.old out.new at names.old names.new result }
     ensures lawful { IsName name.now }
 {
     names.write(name, compress, out, at)
@@ -39,7 +39,7 @@ pub(crate) fn put_measured(
     requires within { at ≤ length out.old }
     requires most { length out.old < 2 ^ 16 }
     requires table { IsTable (take at out.old) names.old }
-    ensures { Goes (measured (data_text rtype.0 octets.now)) out.old out.new at names.old names.new result }
+    ensures { WritesEncoding (measured (data_octets rtype.0 octets.now)) out.old out.new at names.old names.new result }
 {
     let start = put_u16(out, at, 0)?;
     let next = put_data(out, start, names, rtype, octets)?;
@@ -49,7 +49,7 @@ pub(crate) fn put_measured(
 
 /// Writes the data of a type, as [`put_name`] does: the names of NS, CNAME, SOA, PTR and MX data with pointers, the
 /// target of an SRV in full, all else as it is (RFC 1035, 3.3 and 4.1.4; RFC 2782; RFC 3597, 4).
-#[tactic(auto, unfolding(crate::specs::Text::data_text))]
+#[tactic(auto, unfolding(crate::specs::Octets::data_octets))]
 fn put_data(
     out: &mut [u8],
     at: usize,
@@ -59,7 +59,7 @@ fn put_data(
 ) -> Option<usize>
     requires within { at ≤ length out.old }
     requires table { IsTable (take at out.old) names.old }
-    ensures { Goes (data_text rtype.0 octets.now) out.old out.new at names.old names.new result }
+    ensures { WritesEncoding (data_octets rtype.0 octets.now) out.old out.new at names.old names.new result }
 {
     match rtype {
         RType::NS | RType::CNAME | RType::PTR => put_names(out, at, names, true, 1, octets),
@@ -83,7 +83,7 @@ fn put_name_behind(
 ) -> Option<usize>
     requires within { at ≤ length out.old }
     requires table { IsTable (take at out.old) names.old }
-    ensures { Goes (name_behind front compress octets.now) out.old out.new at names.old names.new result }
+    ensures { WritesEncoding (name_behind front compress octets.now) out.old out.new at names.old names.new result }
 {
     let (head, rest) = octets.split_at(front.min(octets.len()));
     let at = put(out, at, head)?;
@@ -101,7 +101,7 @@ fn put_names(
 ) -> Option<usize>
     requires within { at ≤ length out.old }
     requires table { IsTable (take at out.old) names.old }
-    ensures { Goes (names_text compress count octets.now) out.old out.new at names.old names.new result }
+    ensures { WritesEncoding (names_octets compress count octets.now) out.old out.new at names.old names.new result }
 {
     let mut rest = octets;
     let mut next = at;

@@ -3,8 +3,8 @@ ghost use Rattle.std.specs.Prelude.{◌≡◌, ◌≤◌, ◌<◌, ◌^◌, leng
 ghost use Rattle.wire_names.specs.Table.{IsTable};
 ghost use Rattle.wire_names.specs.Written.{Puts, IsPut};
 ghost use Rattle.dns_message.specs.Message.{message_of};
-ghost use Rattle.dns_message.specs.Puts.{Goes};
-ghost use Rattle.dns_message.specs.Text.{bit, counts_in, flags_text, header_text, sections_text, text, truncated, fit};
+ghost use Rattle.dns_message.specs.Encoded.{WritesEncoding};
+ghost use Rattle.dns_message.specs.Octets.{bit, counts_in, flags_octets, header_octets, sections_octets, reply_octets, truncated, fit};
 
 use crate::count::count_section;
 use crate::octets::{put, put_u16};
@@ -48,7 +48,7 @@ pub fn write_reply(reply: &Reply<'_>, limit: usize, out: &mut [u8]) -> usize
 fn put_truncated(out: &mut [u8], reply: &Reply<'_>) -> usize
     requires least { MIN_LIMIT ≤ length out.old }
     requires most { length out.old ≤ MAX_LIMIT }
-    ensures { IsPut out.old out.new 0 (text (truncated (message_of reply.now))) result }
+    ensures { IsPut out.old out.new 0 (reply_octets (truncated (message_of reply.now))) result }
 {
     let counts = [u16::from(reply.question.is_some()), 0, 0, 0];
     let at = put_header(out, reply, true, counts).unwrap();
@@ -59,7 +59,7 @@ fn put_truncated(out: &mut [u8], reply: &Reply<'_>) -> usize
 /// Writes the whole reply to the front of a buffer, as `put` does.
 fn put_message(out: &mut [u8], reply: &Reply<'_>) -> Option<usize>
     requires { length out.old ≤ MAX_LIMIT }
-    ensures { Puts out.old out.new 0 (text (message_of reply.now)) result }
+    ensures { Puts out.old out.new 0 (reply_octets (message_of reply.now)) result }
 {
     let counts = counts_of(reply)?;
     let at = put_header(out, reply, false, counts)?;
@@ -77,7 +77,7 @@ fn put_sections(
     requires within { at ≤ length out.old }
     requires most { length out.old ≤ MAX_LIMIT }
     requires table { IsTable (take at out.old) names.old }
-    ensures { Goes (sections_text (message_of reply.now)) out.old out.new at names.old names.new result }
+    ensures { WritesEncoding (sections_octets (message_of reply.now)) out.old out.new at names.old names.new result }
 {
     let at = put_questions(out, at, names, reply.question)?;
     let at = put_section(out, at, names, reply.answer)?;
@@ -88,7 +88,7 @@ fn put_sections(
 /// The counts of a reply's sections, by their headings in order; None where one hasn't 16 bits (RFC 1035, 4.1.1).
 fn counts_of(reply: &Reply<'_>) -> Option<[u16; 4]>
     ensures { MatchOption result
-        (2 ^ 16 ≤ length (text (message_of reply.now)))
+        (2 ^ 16 ≤ length (reply_octets (message_of reply.now)))
         (λ counts. counts ≡ counts_in (message_of reply.now)) }
 {
     Some([
@@ -101,7 +101,7 @@ fn counts_of(reply: &Reply<'_>) -> Option<[u16; 4]>
 
 /// Writes a reply's header, with this TC and these counts, to the front of a buffer, as `put` does (RFC 1035, 4.1.1).
 fn put_header(out: &mut [u8], reply: &Reply<'_>, tc: bool, counts: [u16; 4]) -> Option<usize>
-    ensures { Puts out.old out.new 0 (header_text (record (message_of reply.now) { tc = tc }) counts) result }
+    ensures { Puts out.old out.new 0 (header_octets (record (message_of reply.now) { tc = tc }) counts) result }
 {
     let [questions, answers, authorities, additionals] = counts;
     let at = put_u16(out, 0, reply.head.id)?;
@@ -114,7 +114,7 @@ fn put_header(out: &mut [u8], reply: &Reply<'_>, tc: bool, counts: [u16; 4]) -> 
 
 /// The two octets of a reply's flags (RFC 1035, 4.1.1).
 fn flags_of(reply: &Reply<'_>, tc: bool) -> [u8; 2]
-    ensures { result ≡ flags_text (record (message_of reply.now) { tc = tc }) }
+    ensures { result ≡ flags_octets (record (message_of reply.now) { tc = tc }) }
 {
     let front = QR
         + OPCODE * reply.head.opcode

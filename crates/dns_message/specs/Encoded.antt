@@ -2,20 +2,20 @@
 use Rattle.std.specs.Prelude.{◌≡◌, ℕ, ◌+◌, ◌^◌, ◌<◌, ◌≤◌, List, length, take, Option, Some, None}
 use Rattle.wire_names.specs.Table.{Table, IsTable, table_of}
 use Rattle.wire_names.specs.Written.{IsPut}
-use Rattle.dns_message.specs.Put.{Put}
+use Rattle.dns_message.specs.Encoding.{Encoding}
 
--- a text, which is octets and a table, was written at a position of a buffer: the octets end before the next position,
+-- octets, and a table behind them, were written at a position of a buffer: the octets end before the next position,
 -- and these positions of names stand for the table
-pub record IsWritten (written : List ℕ × Table) (old new : List ℕ) (at : ℕ) (positions : List ℕ) (next : ℕ) : Type 0 where
+pub record IsEncoded (written : List ℕ × Table) (old new : List ℕ) (at : ℕ) (positions : List ℕ) (next : ℕ) : Type 0 where
   pub octets : IsPut old new at written.0 next
   pub lawful : IsTable (take next new) positions
   pub table : table_of (take next new) positions ≡ written.1
 
 -- whether something was written at a position of a buffer that has names at the positions before: none where it doesn't
 -- fit the buffer, else the position behind it, and names at the positions after
-abbrev pub Goes : Put → List ℕ → List ℕ → ℕ → List ℕ → List ℕ → Option ℕ → Type 0
-Goes put old new at before after None = length old < at + length (put (table_of (take at old) before) at).0
-Goes put old new at before after (Some next) = IsWritten (put (table_of (take at old) before) at) old new at after next
+abbrev pub WritesEncoding : Encoding → List ℕ → List ℕ → ℕ → List ℕ → List ℕ → Option ℕ → Type 0
+WritesEncoding put old new at before after None = length old < at + length (put (table_of (take at old) before) at).0
+WritesEncoding put old new at before after (Some next) = IsEncoded (put (table_of (take at old) before) at) old new at after next
 
 -- a count, of 16 bits: none of more
 abbrev pub Counts : ℕ → Option ℕ → Type 0
