@@ -3,7 +3,6 @@ use Rattle.std.proofs.Common.{◌≡◌, ℕ, zero, suc, ◌+◌, ◌<◌, ◌�
 use Rattle.std.proofs.lemmas.Bool.{le-leb}
 use Rattle.std.proofs.lemmas.List.{drop_at, drop-drop}
 use Rattle.std.proofs.lemmas.List.Elements.{All-head, All-tail}
-use Rattle.std.proofs.Math.Seq.{take-append_seam}
 use Rattle.std.proofs.lemmas.Nat.{from_be_bytes-to_be_bytes_2, from_be_bytes-to_be_bytes_4}
 use Rattle.std.specs.Int.{to_be_bytes, from_be_bytes, w16, w32}
 use Rattle.dns_name.specs.Name.{IsName}
@@ -82,17 +81,13 @@ question_again msg rest whole table n q at is h lawful = question_behind true ms
 pub question_full_again : (front rest : List ℕ) (q : Question) → IsQuestion q → question_at (front ++ (question_in_full q ++ rest)) (length front) ≡ Some (q, length front + length (question_in_full q))
 question_full_again front rest q lawful = question_behind false front rest _ [] (length front) q refl refl (Holds-nothing front) lawful
 
--- a record of these parts
-abbrev entry : List (List ℕ) → ℕ → ℕ → ℕ → List ℕ → Entry
-entry owner rtype class ttl rdata = record { owner = owner; rtype = rtype; class = class; ttl = ttl; rdata = rdata }
-
 -- a record of these numbers whose owner ends at a position of the octets
 abbrev built : List ℕ → List (List ℕ) → ℕ → ℕ → ℕ → ℕ → ℕ → Option (Entry × ℕ)
 built octets owner n rtype class ttl size =
-    if nat_le (n + 10 + size) (length octets) then Some (entry owner rtype class ttl (take size (drop (n + 10) octets)), n + 10 + size) else None
+    if nat_le (n + 10 + size) (length octets) then Some (record { owner = owner; rtype = rtype; class = class; ttl = ttl; at = n + 10; size = size }, n + 10 + size) else None
 
--- its numbers and its data are read behind its owner
-record_numbers : (front rest rdata : List ℕ) (owner : List (List ℕ)) (rtype class ttl : ℕ) → rtype < 2 ^ 16 → class < 2 ^ 16 → ttl < 2 ^ 32 → length rdata < 2 ^ 16 → record_of (front ++ (to_be_bytes w16 rtype ++ (to_be_bytes w16 class ++ (to_be_bytes w32 ttl ++ (to_be_bytes w16 (length rdata) ++ (rdata ++ rest)))))) (Ok (owner, length front)) ≡ Some (entry owner rtype class ttl rdata, length front + 10 + length rdata)
+-- its numbers are read behind its owner
+record_numbers : (front rest rdata : List ℕ) (owner : List (List ℕ)) (rtype class ttl : ℕ) → rtype < 2 ^ 16 → class < 2 ^ 16 → ttl < 2 ^ 32 → length rdata < 2 ^ 16 → record_of (front ++ (to_be_bytes w16 rtype ++ (to_be_bytes w16 class ++ (to_be_bytes w32 ttl ++ (to_be_bytes w16 (length rdata) ++ (rdata ++ rest)))))) (Ok (owner, length front)) ≡ Some (record { owner = owner; rtype = rtype; class = class; ttl = ttl; at = length front + 10; size = length rdata }, length front + 10 + length rdata)
 record_numbers front rest rdata owner rtype class ttl h1 h2 h3 h4 =
     let tail = to_be_bytes w16 rtype ++ (to_be_bytes w16 class ++ (to_be_bytes w32 ttl ++ (to_be_bytes w16 (length rdata) ++ (rdata ++ rest)))) in
     let octets = front ++ tail in
@@ -101,13 +96,12 @@ record_numbers front rest rdata owner rtype class ttl h1 h2 h3 h4 =
     let e2 : number_at octets (n + 2) ≡ class = number_behind front tail 2 ∙ from_be_bytes-to_be_bytes_2 class h2 in
     let e3 : long_number_at octets (n + 4) ≡ ttl = ap (λ t. from_be_bytes w32 (take 4 t)) (behind_front front tail 4) ∙ from_be_bytes-to_be_bytes_4 ttl h3 in
     let e4 : number_at octets (n + 8) ≡ length rdata = number_behind front tail 8 ∙ from_be_bytes-to_be_bytes_2 (length rdata) h4 in
-    let e5 : take (length rdata) (drop (n + 10) octets) ≡ rdata = ap (take (length rdata)) (behind_front front tail 10) ∙ take-append_seam rdata rest in
     let fits : nat_le (n + 10 + length rdata) (length octets) ≡ true = le-leb _ _ (omega (arith, length-append front tail, length-append rdata rest)) in
     ap (λ a. built octets owner n a (number_at octets (n + 2)) (long_number_at octets (n + 4)) (number_at octets (n + 8))) e1
     ∙ ap (λ a. built octets owner n rtype a (long_number_at octets (n + 4)) (number_at octets (n + 8))) e2
     ∙ ap (λ a. built octets owner n rtype class a (number_at octets (n + 8))) e3
     ∙ ap (λ a. built octets owner n rtype class ttl a) e4
-    ∙ rw fits (ap (λ d. Some (entry owner rtype class ttl d, n + 10 + length rdata)) e5)
+    ∙ rw fits
 
 -- a record is its owner, its numbers, and its data behind their length
 pub record_parts : (r : Record) (table : Table) (n : ℕ) → (record_octets r table n).0 ≡ written true table r.owner ++ (fixed_octets r ++ (to_be_bytes w16 (length (data_at r (table, n))) ++ data_at r (table, n)))
@@ -118,7 +112,12 @@ record_parts r table n =
     let place : n + length owner + length (fixed_octets r) + 2 ≡ n + length owner + 10 = omega arith in
     ap (λ k. owner ++ (fixed_octets r ++ (to_be_bytes w16 (length (data_octets r.rtype r.rdata after k).0) ++ (data_octets r.rtype r.rdata after k).0))) place
 
+-- the record whose owner ends at a position, with so many octets of data
+abbrev entry_to : Record → ℕ → ℕ → Entry
+entry_to r end size = record { owner = r.owner; rtype = r.rtype; class = 1; ttl = r.ttl; at = end + 10; size = size }
+
 pub record_again : (msg rest whole : List ℕ) (table : Table) (n : ℕ) (r : Record) → n ≡ length msg → whole ≡ msg ++ ((record_octets r table n).0 ++ rest) → Holds msg table → IsRecord r → length (data_at r (table, n)) < 2 ^ 16 → record_at whole n ≡ Some (entry_at r (table, n), n + length (record_octets r table n).0)
+unfolding named
 record_again msg rest whole table n r at is h lawful short =
     let owner = written true table r.owner in
     let rdata = data_at r (table, n) in
@@ -132,7 +131,8 @@ record_again msg rest whole table n r at is h lawful short =
     ∙ ap (λ o. record_of o (Ok (r.owner, n + length owner))) to_numbers
     ∙ ap (λ k. record_of ((msg ++ owner) ++ behind_owner) (Ok (r.owner, k))) there
     ∙ record_numbers (msg ++ owner) rest rdata r.owner r.rtype 1 r.ttl lawful.rtype (lit< tt) lawful.ttl short
-    ∙ ap (λ k. Some (entry_at r (table, n), k)) (omega (arith, there, size))
+    ∙ ap (λ k. Some (entry_to r k (length rdata), k + 10 + length rdata)) (sym there)
+    ∙ ap (λ k. Some (entry_to r (n + length owner) (length rdata), k)) (omega (arith, size))
 
 -- a record has at least ten octets, and those of its data
 record_long : (r : Record) (table : Table) (n : ℕ) → 10 + length (data_at r (table, n)) ≤ length (record_octets r table n).0

@@ -1,16 +1,16 @@
 -- The sections of a written reply are read again.
-use Rattle.std.proofs.Common.{◌≡◌, ◌==◌, ℕ, ◌+◌, ◌<◌, ◌≤◌, ◌^◌, true, eq-eqb, All, List, [], ◌∷◌, ◌++◌, length, Option, Some, refl, sym, ap, subst, ◌∙◌, arith, option_map, option_and_then, length-append, append_assoc}
+use Rattle.std.proofs.Common.{◌≡◌, ℕ, ◌+◌, ◌<◌, ◌≤◌, ◌^◌, All, List, [], ◌∷◌, ◌++◌, length, Option, Some, refl, sym, ap, subst, ◌∙◌, arith, option_map, option_and_then, length-append, append_assoc}
 use Rattle.std.proofs.lemmas.List.{append-nil}
 use Rattle.std.proofs.lemmas.Nat.{from_be_bytes-to_be_bytes_2}
 use Rattle.std.specs.Int.{to_be_bytes, from_be_bytes, w16}
 use Rattle.dns_name.specs.Name.{IsName}
 use Rattle.dns_rdata.specs.Record.{Record}
 use Rattle.wire_names.specs.Table.{Table}
-use Rattle.dns_message.specs.Again.{IsRecord, IsReply, IsReadAgain, entries_at, question_end, answer_end, authority_end, additional_end, request_written}
+use Rattle.dns_message.specs.Again.{IsRecord, IsReply, IsReadAgain, entries_at, question_end, answer_end, authority_end, additional_end, body_written}
 use Rattle.dns_message.specs.Asked.{IsQuestion}
-use Rattle.dns_message.specs.Message.{Entry, Request, Message, number_at}
+use Rattle.dns_message.specs.Message.{Entry, Body, Message, number_at}
 use Rattle.dns_message.specs.Encoding.{Encoding, these, before, each}
-use Rattle.dns_message.specs.Reads.{question_at, records_at, request_in}
+use Rattle.dns_message.specs.Reads.{question_at, questions_at, records_at, body_in}
 use Rattle.dns_message.specs.Octets.{question_octets, questions, record_octets, sections_octets, counts_in, header_octets, reply_octets}
 use Rattle.dns_message.specs.declared.query.Question.{Question}
 use Rattle.dns_message.proofs.AgainLemmas.{question_again, records_again, few_records}
@@ -116,41 +116,45 @@ sections_again m q h = record {
   whole = (at_end m q h).at ∙ ap length (sym ((at_end m q h).is ∙ append-nil _));
 }
 
--- what stands behind a header, where its parts are read
-abbrev request_from : List ℕ → ℕ → ℕ → ℕ → Option (Question × ℕ) → Option Request
-request_from msg answers authorities additions o =
-    option_and_then (λ q.
+-- one question
+pub one_question : (msg : List ℕ) (n next : ℕ) (q : Question) → question_at msg n ≡ Some (q, next) → questions_at 1 msg n ≡ Some (q ∷ [], next)
+unfolding questions_at
+one_question msg n next q e = ap (option_and_then (λ p. option_map (λ rest. (p.0 ∷ rest.0, rest.1)) (questions_at 0 msg p.1))) e
+
+-- what stands behind a header, where its questions are read
+abbrev body_from : List ℕ → ℕ → ℕ → ℕ → Option (List Question × ℕ) → Option Body
+body_from msg answers authorities additions o =
+    option_and_then (λ questions.
     option_and_then (λ answer.
     option_and_then (λ authority.
-    option_map (λ additional. record { question = q.0; answer = answer.0; authority = authority.0; additional = additional.0 })
+    option_map (λ additional. record { questions = questions.0; answer = answer.0; authority = authority.0; additional = additional.0 })
     (records_at additions msg authority.1))
     (records_at authorities msg answer.1))
-    (records_at answers msg q.1))
+    (records_at answers msg questions.1))
     o
 
-request_numbers : (msg : List ℕ) (answers authorities additions : ℕ) → number_at msg 4 ≡ 1 → number_at msg 6 ≡ answers → number_at msg 8 ≡ authorities → number_at msg 10 ≡ additions → request_in msg ≡ request_from msg answers authorities additions (question_at msg 12)
-unfolding request_in
-request_numbers msg answers authorities additions one e1 e2 e3 =
-    let counted : (number_at msg 4 == 1) ≡ true = eq-eqb _ _ one in
-    rw counted
-    (ap (λ k. request_from msg k (number_at msg 8) (number_at msg 10) (question_at msg 12)) e1
-    ∙ ap (λ k. request_from msg answers k (number_at msg 10) (question_at msg 12)) e2
-    ∙ ap (λ k. request_from msg answers authorities k (question_at msg 12)) e3)
+body_numbers : (msg : List ℕ) (answers authorities additions : ℕ) → number_at msg 4 ≡ 1 → number_at msg 6 ≡ answers → number_at msg 8 ≡ authorities → number_at msg 10 ≡ additions → body_in msg ≡ body_from msg answers authorities additions (questions_at 1 msg 12)
+unfolding body_in
+body_numbers msg answers authorities additions one e1 e2 e3 =
+    ap (λ k. body_from msg (number_at msg 6) (number_at msg 8) (number_at msg 10) (questions_at k msg 12)) one
+    ∙ ap (λ k. body_from msg k (number_at msg 8) (number_at msg 10) (questions_at 1 msg 12)) e1
+    ∙ ap (λ k. body_from msg answers k (number_at msg 10) (questions_at 1 msg 12)) e2
+    ∙ ap (λ k. body_from msg answers authorities k (questions_at 1 msg 12)) e3
 
 -- what stands behind a question, and so on
-abbrev after_authority : Question → List Entry → List Entry → Option (List Entry × ℕ) → Option Request
-after_authority q answer authority o = option_map (λ additional. record { question = q; answer = answer; authority = authority; additional = additional.0 }) o
+abbrev after_authority : Question → List Entry → List Entry → Option (List Entry × ℕ) → Option Body
+after_authority q answer authority o = option_map (λ additional. record { questions = q ∷ []; answer = answer; authority = authority; additional = additional.0 }) o
 
-abbrev after_answer : List ℕ → ℕ → Question → List Entry → Option (List Entry × ℕ) → Option Request
+abbrev after_answer : List ℕ → ℕ → Question → List Entry → Option (List Entry × ℕ) → Option Body
 after_answer msg additions q answer o = option_and_then (λ authority. after_authority q answer authority.0 (records_at additions msg authority.1)) o
 
-abbrev after_question : List ℕ → ℕ → ℕ → Question → Option (List Entry × ℕ) → Option Request
+abbrev after_question : List ℕ → ℕ → ℕ → Question → Option (List Entry × ℕ) → Option Body
 after_question msg authorities additions q o = option_and_then (λ answer. after_answer msg additions q answer.0 (records_at authorities msg answer.1)) o
 
-pub request_parts : (msg : List ℕ) (q : Question) (answers authorities additions n1 n2 n3 n4 : ℕ) (answer authority additional : List Entry) → number_at msg 4 ≡ 1 → number_at msg 6 ≡ answers → number_at msg 8 ≡ authorities → number_at msg 10 ≡ additions → question_at msg 12 ≡ Some (q, n1) → records_at answers msg n1 ≡ Some (answer, n2) → records_at authorities msg n2 ≡ Some (authority, n3) → records_at additions msg n3 ≡ Some (additional, n4) → request_in msg ≡ Some (record { question = q; answer = answer; authority = authority; additional = additional })
-request_parts msg q answers authorities additions n1 n2 n3 n4 answer authority additional one e1 e2 e3 f0 f1 f2 f3 =
-    request_numbers msg answers authorities additions one e1 e2 e3
-    ∙ ap (request_from msg answers authorities additions) f0
+pub body_parts : (msg : List ℕ) (q : Question) (answers authorities additions n1 n2 n3 n4 : ℕ) (answer authority additional : List Entry) → number_at msg 4 ≡ 1 → number_at msg 6 ≡ answers → number_at msg 8 ≡ authorities → number_at msg 10 ≡ additions → question_at msg 12 ≡ Some (q, n1) → records_at answers msg n1 ≡ Some (answer, n2) → records_at authorities msg n2 ≡ Some (authority, n3) → records_at additions msg n3 ≡ Some (additional, n4) → body_in msg ≡ Some (record { questions = q ∷ []; answer = answer; authority = authority; additional = additional })
+body_parts msg q answers authorities additions n1 n2 n3 n4 answer authority additional one e1 e2 e3 f0 f1 f2 f3 =
+    body_numbers msg answers authorities additions one e1 e2 e3
+    ∙ ap (body_from msg answers authorities additions) (one_question msg 12 n1 q f0)
     ∙ ap (after_question msg authorities additions q) f1
     ∙ ap (after_answer msg additions q answer) f2
     ∙ ap (after_authority q answer authority) f3
@@ -164,11 +168,11 @@ count_again m rs front rest table n short s =
 one_asked : (o : Option Question) (q : Question) → o ≡ Some q → from_be_bytes w16 (to_be_bytes w16 (length (questions o))) ≡ 1
 one_asked o q e = ap (λ a. from_be_bytes w16 (to_be_bytes w16 (length (questions a)))) e
 
-pub request_again : (m : Message) (q : Question) → IsReply m q → request_in (reply_octets m) ≡ Some (request_written m q)
+pub body_again : (m : Message) (q : Question) → IsReply m q → body_in (reply_octets m) ≡ Some (body_written m q)
 unfolding answer_part authority_part additional_part
-request_again m q h =
+body_again m q h =
     let again = sections_again m q h in
-    request_parts (reply_octets m) q (length m.answer) (length m.authority) (length m.additional) _ _ _ _ _ _ _
+    body_parts (reply_octets m) q (length m.answer) (length m.authority) (length m.additional) _ _ _ _ _ _ _
     (one_asked m.question q h.asked)
     (count_again m m.answer _ _ _ _ h.carried (at_answer m q h))
     (count_again m m.authority _ _ _ _ h.carried (at_authority m q h))

@@ -6,7 +6,7 @@ use Rattle.dns_rdata.specs.Record.{Record}
 use Rattle.wire_names.specs.NameAt.{name_at}
 use Rattle.wire_names.specs.Table.{Table, IsTable, table_of}
 use Rattle.dns_message.specs.Asked.{IsQuestion}
-use Rattle.dns_message.specs.Message.{Entry, Request, Message}
+use Rattle.dns_message.specs.Message.{Entry, Body, Message}
 use Rattle.dns_message.specs.Encoding.{Encoding, named, each}
 use Rattle.dns_message.specs.Reads.{question_at, records_at}
 use Rattle.dns_message.specs.Octets.{data_octets, question_octets, questions, record_octets, reply_octets}
@@ -44,12 +44,14 @@ behind put place = let written = put place.0 place.1 in (written.1, place.1 + le
 abbrev pub octets_at : Encoding → Place → List ℕ
 octets_at put place = (put place.0 place.1).0
 
--- the octets of a record's data where the record is written at a place, names with pointers as they stand: behind the
--- owner are the type, the class, the TTL and the length of the data, ten octets (RFC 1035, 4.1.3)
+-- where a record's data begin where the record is written at a place: behind the owner are the type, the class, the TTL
+-- and the length of the data, ten octets (RFC 1035, 4.1.3)
+abbrev pub data_place : Record → Place → Place
+data_place r place = let owner = behind (named true r.owner) place in (owner.0, owner.1 + 10)
+
+-- the octets of its data there, names with pointers as they stand
 abbrev pub data_at : Record → Place → List ℕ
-data_at r place =
-    let owner = behind (named true r.owner) place in
-    (data_octets r.rtype r.rdata owner.0 (owner.1 + 10)).0
+data_at r place = octets_at (data_octets r.rtype r.rdata) (data_place r place)
 
 -- so many names in full at the front of data octets (RFC 1035, 3.3)
 unfoldable pub names_in : ℕ → List ℕ → List (List (List ℕ))
@@ -92,7 +94,7 @@ names_start r place = (behind (named true r.owner) place).1 + 10 + (names_of r.r
 
 -- a record as it stands at a place
 abbrev pub entry_at : Record → Place → Entry
-entry_at r place = record { owner = r.owner; rtype = r.rtype; class = class_IN; ttl = r.ttl; rdata = data_at r place }
+entry_at r place = record { owner = r.owner; rtype = r.rtype; class = class_IN; ttl = r.ttl; at = (data_place r place).1; size = length (data_at r place) }
 
 -- records as they stand one after another from a place on
 unfoldable pub entries_at : List Record → Place → List Entry
@@ -122,9 +124,9 @@ pub record IsReadAgain (m : Message) (q : Question) : Type 0 where
   pub whole : (additional_end m).1 ≡ length (reply_octets m)
 
 -- what stands behind a reply's header
-abbrev pub request_written : Message → Question → Request
-request_written m question = record {
-  question = question;
+abbrev pub body_written : Message → Question → Body
+body_written m question = record {
+  questions = question ∷ [];
   answer = entries_at m.answer (question_end m);
   authority = entries_at m.authority (answer_end m);
   additional = entries_at m.additional (authority_end m);

@@ -2,13 +2,13 @@
 ghost use Rattle.std.specs.Prelude.{◌≡◌, ◌↔◌, ◌⊎◌, ℕ, ◌+◌, ◌^◌, ◌<◌, ◌≤◌, List, ◌++◌, length, slice_index, Some};
 ghost use Rattle.dns_rdata.specs.Record.{Record};
 ghost use Rattle.wire_names.specs.Table.{Table};
-ghost use Rattle.dns_message.specs.Again.{IsRecord, IsReply, IsTrueOf, IsReadAgain, behind, names_of, names_in_data, names_at, names_start, octets_at, data_at, entry_at, request_written};
+ghost use Rattle.dns_message.specs.Again.{IsRecord, IsReply, IsTrueOf, IsReadAgain, behind, names_of, names_in_data, names_at, names_start, octets_at, data_at, entry_at, body_written};
 ghost use Rattle.dns_message.specs.Asked.{request_of, question_in_full, IsQuestion, IsAnswerTo};
 ghost use Rattle.dns_message.specs.Message.{Message};
 ghost use Rattle.dns_message.specs.Octets.{record_octets, reply_octets};
 ghost use Rattle.dns_message.specs.declared.query.Question.{Question};
 ghost use Rattle.dns_message.specs.Frame.{frame_of, frame_in};
-ghost use Rattle.dns_message.specs.Reads.{question_at, record_at, request_in, reads};
+ghost use Rattle.dns_message.specs.Reads.{question_at, record_at, body_in, reads};
 
 use crate::query::Parsed;
 use crate::read::{HEADER, QR};
@@ -56,5 +56,5 @@ pub fn names_in_data_are_read_again()
 /// they are by the counts of its header (RFC 1035, 4.1).
 pub fn sections_are_read_again()
     ensures sections { (m : Message) (question : Question) → IsReply m question → IsReadAgain m question }
-    ensures counted { (m : Message) (question : Question) → IsReply m question → request_in (reply_octets m) ≡ Some (request_written m question) }
+    ensures counted { (m : Message) (question : Question) → IsReply m question → body_in (reply_octets m) ≡ Some (body_written m question) }
 {}

@@ -8,7 +8,7 @@ ghost use Rattle.dns_message.specs.Examples.{request_front, asked_octets, asked,
 
 /// A request, and what stands for other octets: fewer than twelve, no question, a question whose name points to itself,
 /// one whose name points to a zero octet of the header, and an OPT (RFC 1035, 4.1 and 4.1.4; RFC 6891, 6.1.2 and 7).
-#[tactic(auto, unfolding(crate::specs::Reads::records_at, crate::specs::Reads::request_in, wire_names::specs::NameAt::name_at, wire_names::specs::NameAt::name_from))]
+#[tactic(auto, unfolding(crate::specs::Reads::records_at, crate::specs::Reads::questions_at, crate::specs::Reads::body_in, wire_names::specs::NameAt::name_at, wire_names::specs::NameAt::name_from))]
 pub fn read_examples()
     ensures id { (header_of request_front).id ≡ 4660 }
     ensures opcode { (header_of request_front).opcode ≡ 0 }
