@@ -1,6 +1,7 @@
 pub mod DraftLemmas
 pub mod GrammarLemmas
 pub mod LongerLemmas
+pub mod OverwrittenLemmas
 pub mod ReadLemmas
 pub mod TableLemmas
 pub mod WrittenLemmas

@@ -6,7 +6,7 @@ ghost use Rattle.wire_names.specs.declared.part.NameReadFault.TheVariants.{Short
 ghost use Rattle.wire_names.specs.NameAt.{name_at};
 ghost use Rattle.wire_names.specs.Spells.{Spells, Refuses};
 ghost use Rattle.wire_names.specs.Table.{IsTable, table_of};
-ghost use Rattle.wire_names.specs.Written.{written, name_text, new_entries};
+ghost use Rattle.wire_names.specs.Written.{written, name_octets, new_entries};
 ghost use Rattle.wire_names.specs.Examples.{f_isi_arpa};
 
 /// A place spells at most one name, of lawful labels, and reading goes on at one place; what it spells isn't refused
@@ -46,8 +46,8 @@ pub fn examples()
     ensures own_start { name_at (0 ∷ 1 ∷ 97 ∷ 192 ∷ 1 ∷ []) 1 ≡ Err BadPointer }
     ensures bits { name_at (64 ∷ []) 0 ≡ Err BadLength }
     ensures cut { name_at (1 ∷ 97 ∷ []) 0 ≡ Err Short }
-    ensures first { name_text [] f_isi_arpa ≡ 1 ∷ codes "F" ++ 3 ∷ codes "ISI" ++ 4 ∷ codes "ARPA" ++ 0 ∷ [] }
-    ensures suffix { name_text (new_entries [] 20 f_isi_arpa) (codes "FOO" ∷ f_isi_arpa) ≡ 3 ∷ codes "FOO" ++ 192 ∷ 20 ∷ [] }
-    ensures whole { name_text (new_entries [] 20 f_isi_arpa) (codes "ARPA" ∷ []) ≡ 192 ∷ 26 ∷ [] }
-    ensures case { name_text (new_entries [] 20 f_isi_arpa) (codes "arpa" ∷ []) ≡ 4 ∷ codes "arpa" ++ 0 ∷ [] }
+    ensures first { name_octets [] f_isi_arpa ≡ 1 ∷ codes "F" ++ 3 ∷ codes "ISI" ++ 4 ∷ codes "ARPA" ++ 0 ∷ [] }
+    ensures suffix { name_octets (new_entries [] 20 f_isi_arpa) (codes "FOO" ∷ f_isi_arpa) ≡ 3 ∷ codes "FOO" ++ 192 ∷ 20 ∷ [] }
+    ensures whole { name_octets (new_entries [] 20 f_isi_arpa) (codes "ARPA" ∷ []) ≡ 192 ∷ 26 ∷ [] }
+    ensures case { name_octets (new_entries [] 20 f_isi_arpa) (codes "arpa" ∷ []) ≡ 4 ∷ codes "arpa" ++ 0 ∷ [] }
 {}
