@@ -10,25 +10,26 @@ use Rattle.dns_rdata.specs.Record.{Record}
 use Rattle.wire_names.specs.NameAt.{name_at}
 use Rattle.wire_names.specs.Table.{Table}
 use Rattle.wire_names.specs.Written.{written, table_after}
-use Rattle.wire_names.proofs.DraftLemmas.{places}
 use Rattle.wire_names.proofs.GrammarLemmas.{computed_spelt}
 use Rattle.wire_names.proofs.WrittenLemmas.{written_spelt}
-use Rattle.dns_message.specs.Again.{IsRecord, IsTrueOf, Place, behind, data_at, entry_at, entries_at}
+use Rattle.dns_message.specs.Again.{IsRecord, Place, behind, data_at, entry_at, entries_at}
 use Rattle.dns_message.specs.Asked.{question_in_full, IsQuestion}
+use Rattle.dns_message.specs.Encoded.{positions_of, IsTrueOf}
 use Rattle.dns_message.specs.Message.{Entry, number_at}
 use Rattle.dns_message.specs.Encoding.{these, named, before, measured, each}
 use Rattle.dns_message.specs.Reads.{question_of, question_at, long_number_at, record_of, record_at, records_at}
 use Rattle.dns_message.specs.Octets.{question_octets, data_octets, fixed_octets, record_octets}
 use Rattle.dns_message.specs.declared.query.Question.{Question}
-use Rattle.dns_message.proofs.KeepsLemmas.{Holds, Holds-nothing, Keeps-record}
+use Rattle.dns_message.proofs.KeepsLemmas.{Keeps-record}
+use Rattle.dns_message.proofs.TrueLemmas.{IsTrueOf-nothing}
 
 -- a name is read where it was written
-name_again_here : (compress : Bool) (msg rest : List ℕ) (table : Table) (name : List (List ℕ)) → Holds msg table → IsName name → name_at (msg ++ (written compress table name ++ rest)) (length msg) ≡ Ok (name, length msg + length (written compress table name))
+name_again_here : (compress : Bool) (msg rest : List ℕ) (table : Table) (name : List (List ℕ)) → IsTrueOf msg table → IsName name → name_at (msg ++ (written compress table name ++ rest)) (length msg) ≡ Ok (name, length msg + length (written compress table name))
 name_again_here compress msg rest table name h lawful =
     let P : Table → Type 0 = λ t. name_at (msg ++ (written compress t name ++ rest)) (length msg) ≡ Ok (name, length msg + length (written compress t name)) in
-    subst P h.is (computed_spelt _ _ _ name (written_spelt compress msg (places table) rest name h.all lawful) lawful.short)
+    subst P h.names (computed_spelt _ _ _ name (written_spelt compress msg (positions_of table) rest name h.targets lawful) lawful.short)
 
-pub name_again : (compress : Bool) (msg rest whole : List ℕ) (table : Table) (n : ℕ) (name : List (List ℕ)) → n ≡ length msg → whole ≡ msg ++ (written compress table name ++ rest) → Holds msg table → IsName name → name_at whole n ≡ Ok (name, n + length (written compress table name))
+pub name_again : (compress : Bool) (msg rest whole : List ℕ) (table : Table) (n : ℕ) (name : List (List ℕ)) → n ≡ length msg → whole ≡ msg ++ (written compress table name ++ rest) → IsTrueOf msg table → IsName name → name_at whole n ≡ Ok (name, n + length (written compress table name))
 name_again compress msg rest whole table n name at is h lawful =
     ap (λ o. name_at o n) is
     ∙ ap (name_at (msg ++ (written compress table name ++ rest))) at
@@ -60,7 +61,7 @@ question_numbers front rest name rtype class h k =
     rw fits (ap (λ n. Some (asked name n (number_at octets (length front + 2)), length front + 4)) first ∙ ap (λ n. Some (asked name rtype n, length front + 4)) second)
 
 -- behind a name that is written with pointers or in full
-question_behind : (compress : Bool) (msg rest whole : List ℕ) (table : Table) (n : ℕ) (q : Question) → n ≡ length msg → whole ≡ msg ++ ((written compress table q.name ++ (to_be_bytes w16 q.rtype.0 ++ to_be_bytes w16 q.class.0)) ++ rest) → Holds msg table → IsQuestion q → question_at whole n ≡ Some (q, n + length (written compress table q.name ++ (to_be_bytes w16 q.rtype.0 ++ to_be_bytes w16 q.class.0)))
+question_behind : (compress : Bool) (msg rest whole : List ℕ) (table : Table) (n : ℕ) (q : Question) → n ≡ length msg → whole ≡ msg ++ ((written compress table q.name ++ (to_be_bytes w16 q.rtype.0 ++ to_be_bytes w16 q.class.0)) ++ rest) → IsTrueOf msg table → IsQuestion q → question_at whole n ≡ Some (q, n + length (written compress table q.name ++ (to_be_bytes w16 q.rtype.0 ++ to_be_bytes w16 q.class.0)))
 question_behind compress msg rest whole table n q at is h lawful =
     let name = written compress table q.name in
     let numbers = to_be_bytes w16 q.rtype.0 ++ to_be_bytes w16 q.class.0 in
@@ -74,12 +75,12 @@ question_behind compress msg rest whole table n q at is h lawful =
     ∙ question_numbers (msg ++ name) rest q.name q.rtype.0 q.class.0 lawful.rtype lawful.class
     ∙ ap (λ k. Some (q, k)) end
 
-pub question_again : (msg rest whole : List ℕ) (table : Table) (n : ℕ) (q : Question) → n ≡ length msg → whole ≡ msg ++ ((question_octets q table n).0 ++ rest) → Holds msg table → IsQuestion q → question_at whole n ≡ Some (q, n + length (question_octets q table n).0)
+pub question_again : (msg rest whole : List ℕ) (table : Table) (n : ℕ) (q : Question) → n ≡ length msg → whole ≡ msg ++ ((question_octets q table n).0 ++ rest) → IsTrueOf msg table → IsQuestion q → question_at whole n ≡ Some (q, n + length (question_octets q table n).0)
 unfolding question_octets before named these
 question_again msg rest whole table n q at is h lawful = question_behind true msg rest whole table n q at is h lawful
 
 pub question_full_again : (front rest : List ℕ) (q : Question) → IsQuestion q → question_at (front ++ (question_in_full q ++ rest)) (length front) ≡ Some (q, length front + length (question_in_full q))
-question_full_again front rest q lawful = question_behind false front rest _ [] (length front) q refl refl (Holds-nothing front) lawful
+question_full_again front rest q lawful = question_behind false front rest _ [] (length front) q refl refl (IsTrueOf-nothing front) lawful
 
 -- a record of these numbers whose owner ends at a position of the octets
 abbrev built : List ℕ → List (List ℕ) → ℕ → ℕ → ℕ → ℕ → ℕ → Option (Entry × ℕ)
@@ -116,7 +117,7 @@ record_parts r table n =
 abbrev entry_to : Record → ℕ → ℕ → Entry
 entry_to r end size = record { owner = r.owner; rtype = r.rtype; class = 1; ttl = r.ttl; at = end + 10; size = size }
 
-pub record_again : (msg rest whole : List ℕ) (table : Table) (n : ℕ) (r : Record) → n ≡ length msg → whole ≡ msg ++ ((record_octets r table n).0 ++ rest) → Holds msg table → IsRecord r → length (data_at r (table, n)) < 2 ^ 16 → record_at whole n ≡ Some (entry_at r (table, n), n + length (record_octets r table n).0)
+pub record_again : (msg rest whole : List ℕ) (table : Table) (n : ℕ) (r : Record) → n ≡ length msg → whole ≡ msg ++ ((record_octets r table n).0 ++ rest) → IsTrueOf msg table → IsRecord r → length (data_at r (table, n)) < 2 ^ 16 → record_at whole n ≡ Some (entry_at r (table, n), n + length (record_octets r table n).0)
 unfolding named
 record_again msg rest whole table n r at is h lawful short =
     let owner = written true table r.owner in
@@ -169,7 +170,7 @@ unfolding entries_at
 entries_one r rs place = refl
 
 -- records are read where they were written
-pub records_again : (rs : List Record) (msg rest whole : List ℕ) (table : Table) (n : ℕ) → n ≡ length msg → whole ≡ msg ++ ((each record_octets rs table n).0 ++ rest) → Holds msg table → All IsRecord rs → length (each record_octets rs table n).0 < 2 ^ 16 → records_at (length rs) whole n ≡ Some (entries_at rs (table, n), n + length (each record_octets rs table n).0)
+pub records_again : (rs : List Record) (msg rest whole : List ℕ) (table : Table) (n : ℕ) → n ≡ length msg → whole ≡ msg ++ ((each record_octets rs table n).0 ++ rest) → IsTrueOf msg table → All IsRecord rs → length (each record_octets rs table n).0 < 2 ^ 16 → records_at (length rs) whole n ≡ Some (entries_at rs (table, n), n + length (each record_octets rs table n).0)
 records_again [] msg rest whole table n at is h all short =
     none_more whole n
     ∙ ap (λ es. Some (es, n)) (sym (no_entries (table, n)))
@@ -183,7 +184,7 @@ records_again (r ∷ rs) msg rest whole table n at is h all short =
     let split : whole ≡ msg ++ (next.0 ++ (others ++ rest)) = is ∙ ap (λ t. msg ++ (t ++ rest)) octets ∙ ap (λ t. msg ++ t) (append_assoc next.0 others rest) in
     let here = record_again msg (others ++ rest) whole table n r at split h lawful (omega (arith, record_long r table n)) in
     let there : n + length next.0 ≡ length (msg ++ next.0) = ap (λ k. k + length next.0) at ∙ sym (length-append msg next.0) in
-    let kept : Holds (msg ++ next.0) next.1 = let P : ℕ → Type 0 = λ k. Holds (msg ++ (record_octets r table k).0) (record_octets r table k).1 in subst P (sym at) ((Keeps-record r lawful.owner).kept msg table h) in
+    let kept : IsTrueOf (msg ++ next.0) next.1 = let P : ℕ → Type 0 = λ k. IsTrueOf (msg ++ (record_octets r table k).0) (record_octets r table k).1 in subst P (sym at) ((Keeps-record r lawful.owner).kept msg table h) in
     let back = records_again rs (msg ++ next.0) rest whole next.1 (n + length next.0) there (split ∙ sym (append_assoc msg next.0 (others ++ rest))) kept (All-tail IsRecord r rs all) (omega arith) in
     one_more (length rs) whole n (n + length next.0) (n + length next.0 + length others) (entry_at r (table, n)) (entries_at rs (behind (record_octets r) (table, n))) here back
     ∙ ap (λ es. Some (es, n + length next.0 + length others)) (sym (entries_one r rs (table, n)))
@@ -199,9 +200,8 @@ few_records (r ∷ rs) table n =
 -- a record that is written behind a message of which a table is true
 pub record_read : (msg rest : List ℕ) (table : Table) (r : Record) → IsTrueOf msg table → IsRecord r → length (data_at r (table, length msg)) < 2 ^ 16 → record_at (msg ++ ((record_octets r table (length msg)).0 ++ rest)) (length msg) ≡ Some (entry_at r (table, length msg), length msg + length (record_octets r table (length msg)).0)
 record_read msg rest table r true_of lawful short =
-    record_again msg rest _ table (length msg) r refl refl (record { all = true_of.targets; is = true_of.names }) lawful short
+    record_again msg rest _ table (length msg) r refl refl true_of lawful short
 
 pub record_enters : (msg : List ℕ) (table : Table) (r : Record) → IsTrueOf msg table → IsRecord r → IsTrueOf (msg ++ (record_octets r table (length msg)).0) (record_octets r table (length msg)).1
 record_enters msg table r true_of lawful =
-    let kept = (Keeps-record r lawful.owner).kept msg table (record { all = true_of.targets; is = true_of.names }) in
-    record { targets = kept.all; names = kept.is }
+    (Keeps-record r lawful.owner).kept msg table true_of

@@ -14,8 +14,9 @@ use Rattle.dns_message.specs.declared.query.Question.{Question}
 use Rattle.dns_message.specs.declared.query.Parsed.{Parsed}
 use Rattle.dns_message.specs.declared.query.Parsed.TheVariants.{Silent, Fault, Query}
 use Rattle.dns_message.proofs.AgainLemmas.{none_more}
-use Rattle.dns_message.proofs.KeepsLemmas.{Holds-nothing}
-use Rattle.dns_message.proofs.SectionLemmas.{Stands, asked_again, question_part, answer_part, authority_part, additional_part, sections_parts, body_parts}
+use Rattle.dns_message.proofs.TrueLemmas.{IsTrueOf-nothing}
+use Rattle.dns_message.proofs.KeepsLemmas.{Stands}
+use Rattle.dns_message.proofs.SectionLemmas.{asked_again, question_part, answer_part, authority_part, additional_part, sections_parts, body_parts}
 
 -- a header of these parts
 abbrev head_with : ℕ → Bool → (opcode : ℕ) → opcode < 16 → Head
@@ -73,7 +74,7 @@ reads-request head rest h z =
 
 -- behind a request's header stands the question that the reply repeats
 question_stands : (m : Message) → Stands (request_of m) (request_header m.head) (question_part m ++ (answer_part m ++ (authority_part m ++ additional_part m))) [] 12
-question_stands m = record { at = refl; is = ap (λ t. request_header m.head ++ t) (sections_parts m); holds = Holds-nothing (request_header m.head) }
+question_stands m = record { at = refl; is = ap (λ t. request_header m.head ++ t) (sections_parts m); holds = IsTrueOf-nothing (request_header m.head) }
 
 body_in_of : (m : Message) (q : Question) → IsAnswerTo m q → body_in (request_of m) ≡ Some (record { questions = q ∷ []; answer = []; authority = []; additional = [] })
 unfolding question_part

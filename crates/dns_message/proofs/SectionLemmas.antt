@@ -1,5 +1,5 @@
 -- The sections of a written reply are read again.
-use Rattle.std.proofs.Common.{◌≡◌, ℕ, ◌+◌, ◌<◌, ◌≤◌, ◌^◌, All, List, [], ◌∷◌, ◌++◌, length, Option, Some, refl, sym, ap, subst, ◌∙◌, arith, option_map, option_and_then, length-append, append_assoc}
+use Rattle.std.proofs.Common.{◌≡◌, ℕ, ◌+◌, ◌<◌, ◌≤◌, ◌^◌, All, List, [], ◌∷◌, ◌++◌, length, Option, Some, refl, sym, ap, subst, ◌∙◌, arith, option_map, option_and_then, length-append}
 use Rattle.std.proofs.lemmas.List.{append-nil}
 use Rattle.std.proofs.lemmas.Nat.{from_be_bytes-to_be_bytes_2}
 use Rattle.std.specs.Int.{to_be_bytes, from_be_bytes, w16}
@@ -9,29 +9,14 @@ use Rattle.wire_names.specs.Table.{Table}
 use Rattle.dns_message.specs.Again.{IsRecord, IsReply, IsReadAgain, entries_at, question_end, answer_end, authority_end, additional_end, body_written}
 use Rattle.dns_message.specs.Asked.{IsQuestion}
 use Rattle.dns_message.specs.Message.{Entry, Body, Message, number_at}
-use Rattle.dns_message.specs.Encoding.{Encoding, these, before, each}
+use Rattle.dns_message.specs.Encoding.{these, before, each}
 use Rattle.dns_message.specs.Reads.{question_at, questions_at, records_at, body_in}
 use Rattle.dns_message.specs.Octets.{question_octets, questions, record_octets, sections_octets, counts_in, header_octets, reply_octets}
 use Rattle.dns_message.specs.declared.query.Question.{Question}
 use Rattle.dns_message.proofs.AgainLemmas.{question_again, records_again, few_records}
-use Rattle.dns_message.proofs.KeepsLemmas.{Holds, Holds-nothing, Keeps, Keeps-these, Keeps-before, Keeps-question, Keeps-records}
-
--- in a message, octets of which a table is true end at a position, and the rest stand behind it
-pub record Stands (whole front rest : List ℕ) (table : Table) (n : ℕ) : Type 0 where
-  pub at : n ≡ length front
-  pub is : whole ≡ front ++ rest
-  pub holds : Holds front table
-
--- and so it is behind what was written there
-pub Stands-behind : (p : Encoding) (whole front rest : List ℕ) (table : Table) (n : ℕ) → Keeps p → Stands whole front ((p table n).0 ++ rest) table n → Stands whole (front ++ (p table n).0) rest (p table n).1 (n + length (p table n).0)
-Stands-behind p whole front rest table n keeps s =
-    let octets = (p table n).0 in
-    let P : ℕ → Type 0 = λ k. Holds (front ++ (p table k).0) (p table k).1 in
-    record {
-      at = ap (λ k. k + length octets) s.at ∙ sym (length-append front octets);
-      is = s.is ∙ sym (append_assoc front octets rest);
-      holds = subst P (sym s.at) (keeps.kept front table s.holds);
-    }
+use Rattle.dns_message.proofs.TrueLemmas.{IsTrueOf-nothing}
+use Rattle.dns_message.proofs.ExpandedLemmas.{records_data}
+use Rattle.dns_message.proofs.KeepsLemmas.{Stands, Stands-behind, Keeps, Keeps-these, Keeps-before, Keeps-question, Keeps-records}
 
 -- one question
 Keeps-one : (q : Question) → IsName q.name → Keeps (each question_octets (q ∷ []))
@@ -86,7 +71,7 @@ header m = header_octets m (counts_in m)
 
 at_question : (m : Message) → Stands (reply_octets m) (header m) (question_part m ++ (answer_part m ++ (authority_part m ++ additional_part m))) [] 12
 unfolding header
-at_question m = record { at = refl; is = ap (λ t. header m ++ t) (sections_parts m); holds = Holds-nothing (header m) }
+at_question m = record { at = refl; is = ap (λ t. header m ++ t) (sections_parts m); holds = IsTrueOf-nothing (header m) }
 
 at_answer : (m : Message) (q : Question) → IsReply m q → Stands (reply_octets m) (header m ++ question_part m) (answer_part m ++ (authority_part m ++ additional_part m)) (question_end m).0 (question_end m).1
 unfolding question_part
@@ -113,6 +98,9 @@ sections_again m q h = record {
   answer = section_again m.answer _ _ _ _ _ h.answer h.carried (at_answer m q h);
   authority = section_again m.authority _ _ _ _ _ h.authority h.carried (at_authority m q h);
   additional = section_again m.additional _ _ _ _ _ h.additional h.carried (at_additional m q h);
+  answer_data = records_data m.answer _ _ _ _ _ h.answer (at_answer m q h);
+  authority_data = records_data m.authority _ _ _ _ _ h.authority (at_authority m q h);
+  additional_data = records_data m.additional _ _ _ _ _ h.additional (at_additional m q h);
   whole = (at_end m q h).at ∙ ap length (sym ((at_end m q h).is ∙ append-nil _));
 }
 

@@ -1,10 +1,11 @@
 pub mod Again
 pub mod Asked
+pub mod Encoded
+pub mod Encoding
 pub mod Examples
+pub mod Expanded
 pub mod Frame
 pub mod Message
-pub mod Encoding
-pub mod Encoded
 pub mod Reads
 pub mod Octets
 pub use Rattle.dns_name.specs.Name

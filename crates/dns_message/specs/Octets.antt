@@ -1,9 +1,12 @@
 -- The octets of a reply (RFC 1035, 4.1), and how it is cut to a limit (RFC 1035, 4.1.1 and 4.2.1; RFC 2181, 9).
-use Rattle.std.specs.Prelude.{ℕ, zero, suc, Bool, true, false, ◌+◌, ◌*◌, ◌==◌, List, [], ◌∷◌, ◌++◌, length, take, drop, nat_le, Option, Some, None, if◌then◌else◌}
+use Rattle.std.specs.Prelude.{ℕ, Bool, true, ◌+◌, ◌*◌, List, [], ◌∷◌, ◌++◌, length, take, drop, nat_le, min, Option, Some, None, if◌then◌else◌}
 use Rattle.std.specs.Int.{to_be_bytes, w16, w32}
 use Rattle.std.specs.List.{flat_map}
-use Rattle.dns_name.specs.Name.{wire_of, name_in}
-use Rattle.dns_rdata.specs.Numbers.{type_NS, type_CNAME, type_SOA, type_PTR, type_MX, type_SRV, class_IN, rcode_number}
+use Rattle.dns_name.specs.Name.{wire_of}
+use Rattle.dns_rdata.specs.declared.layout.Layout.{Layout}
+use Rattle.dns_rdata.specs.declared.layout.Layout.TheVariants.{Fields, Strings}
+use Rattle.dns_rdata.specs.Layout.{layout_of, names_in}
+use Rattle.dns_rdata.specs.Numbers.{class_IN, rcode_number}
 use Rattle.dns_rdata.specs.Record.{Record}
 use Rattle.dns_message.specs.Message.{Message}
 use Rattle.dns_message.specs.Encoding.{Encoding, these, named, before, measured, each}
@@ -21,30 +24,27 @@ flags_octets m = (128 + 8 * m.head.opcode + 4 * bit m.aa + 2 * bit m.tc + bit m.
 unfoldable pub question_octets : Question → Encoding
 question_octets q = before (named true q.name) (these (to_be_bytes w16 q.rtype.0 ++ to_be_bytes w16 q.class.0))
 
--- so many names at the front of data octets, each with pointers or in full, and behind them the octets as they are
+-- so many names that octets begin with, with pointers or in full, and the octets behind these as they are; names from the
+-- first on that can't be read are as they are
 unfoldable pub names_octets : Bool → ℕ → List ℕ → Encoding
-names_octets compress zero octets = these octets
-names_octets compress (suc names) octets =
-    elim (name_in octets) [
-      | None ↦ these octets
-      | Some name ↦ before (named compress name) (names_octets compress names (drop (length (wire_of name)) octets))
-    ]
+names_octets compress count octets =
+    let names = names_in count octets in
+    before (each (named compress) names) (these (drop (length (flat_map wire_of names)) octets))
 
--- so many octets of data as they are, and behind them a name and what follows it
-unfoldable pub name_behind : ℕ → Bool → List ℕ → Encoding
-name_behind front compress octets = before (these (take front octets)) (names_octets compress 1 (drop front octets))
+-- data that lies by a layout: the octets in front of its names as they are, and then the names; strings as they are
+abbrev pub octets_by : Layout → List ℕ → Encoding
+octets_by (Fields front names back compressed) octets = before (these (take front octets)) (names_octets compressed names (drop front octets))
+octets_by Strings octets = these octets
+
+-- data of a type that has this layout, or none, and then it is as it is (RFC 3597, 4)
+abbrev pub data_laid : Option Layout → List ℕ → Encoding
+data_laid None octets = these octets
+data_laid (Some layout) octets = octets_by layout octets
 
 -- a record's data: with pointers in the types of RFC 1035 that have names, the target of an SRV in full, other data as
 -- they are (RFC 1035, 3.3 and 4.1.4; RFC 2782; RFC 3597, 4)
 unfoldable pub data_octets : ℕ → List ℕ → Encoding
-data_octets rtype octets =
-    if rtype == type_NS then names_octets true 1 octets
-    else if rtype == type_CNAME then names_octets true 1 octets
-    else if rtype == type_SOA then names_octets true 2 octets
-    else if rtype == type_PTR then names_octets true 1 octets
-    else if rtype == type_MX then name_behind 2 true octets
-    else if rtype == type_SRV then name_behind 6 false octets
-    else these octets
+data_octets rtype octets = data_laid (layout_of rtype) octets
 
 -- what stands between a record's owner and the length of its data: its type, class IN, its TTL (RFC 1035, 4.1.3)
 abbrev pub fixed_octets : Record → List ℕ
@@ -83,7 +83,15 @@ reply_octets m = header_octets m (counts_in m) ++ (sections_octets m [] 12).0
 abbrev pub truncated : Message → Message
 truncated m = record m { tc = true; answer = []; authority = []; additional = [] }
 
+-- how many octets a reply may have under a limit: no message has over 65535 (RFC 1035, 4.2.2)
+abbrev pub room_under : ℕ → ℕ
+room_under limit = min limit 65535
+
+-- whether the whole reply fits a limit
+abbrev pub fits : Message → ℕ → Bool
+fits m limit = nat_le (length (reply_octets m)) (room_under limit)
+
 -- the octets that are sent under a limit: all of them where they fit it, else those of the truncated reply
 -- (RFC 1035, 4.2.1; RFC 2181, 9)
 abbrev pub fit : Message → ℕ → List ℕ
-fit m limit = if nat_le (length (reply_octets m)) limit then reply_octets m else reply_octets (truncated m)
+fit m limit = if fits m limit then reply_octets m else reply_octets (truncated m)

@@ -22,7 +22,7 @@ pub fn read_examples()
 {}
 
 /// Replies, whose names have pointers (RFC 1035, 4.1 and 4.1.4; RFC 2782).
-#[tactic(auto, unfolding(crate::specs::Encoding::these, crate::specs::Encoding::named, crate::specs::Encoding::before, crate::specs::Encoding::measured, crate::specs::Encoding::each, crate::specs::Octets::question_octets, crate::specs::Octets::names_octets, crate::specs::Octets::name_behind, crate::specs::Octets::data_octets, crate::specs::Octets::record_octets, crate::specs::Octets::sections_octets))]
+#[tactic(auto, unfolding(crate::specs::Encoding::these, crate::specs::Encoding::named, crate::specs::Encoding::before, crate::specs::Encoding::measured, crate::specs::Encoding::each, crate::specs::Octets::question_octets, crate::specs::Octets::names_octets, dns_rdata::specs::Layout::layout_of, crate::specs::Octets::data_octets, crate::specs::Octets::record_octets, crate::specs::Octets::sections_octets))]
 pub fn examples()
     ensures octets { reply_octets answer ≡ answer_octets }
     ensures whole { fit answer 512 ≡ answer_octets }

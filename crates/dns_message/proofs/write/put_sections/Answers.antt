@@ -12,7 +12,7 @@ returns-in_err-at c =
     let asked = each question_octets (questions m.question) in
     let rest = before (each record_octets m.answer) (before (each record_octets m.authority) (each record_octets m.additional)) in
     let new = c.put_questions.new in
-    rw c.from_residual.ensures (WritesEncoding-stop asked rest c.args.out.now new.out new.out c.args.at c.args.names.now new.names new.names c.in_err-at.ensures.put)
+    rw c.from_residual.ensures (WritesEncoding-stop asked rest c.args.out.now new.out c.args.at c.args.names.now new.names new.names c.in_err-at.ensures.put)
 
 pub returns-in_err-at-2 : goal.returns-in_err-at-2
 unfolding sections_octets
@@ -23,7 +23,7 @@ returns-in_err-at-2 c =
     let rest = before (each record_octets m.authority) (each record_octets m.additional) in
     let first = c.put_questions.new in
     let new = c.put_section.new in
-    let stops = WritesEncoding-stop answer rest first.out new.out new.out c.in_ok-at.at first.names new.names new.names c.in_err-at-2.ensures in
+    let stops = WritesEncoding-stop answer rest first.out new.out c.in_ok-at.at first.names new.names new.names c.in_err-at-2.ensures in
     rw c.from_residual-in_err-at-2.ensures (WritesEncoding-then asked (before answer rest) c.args.out.now first.out new.out c.args.at c.in_ok-at.at c.args.names.now first.names new.names None c.in_ok-at.ensures.put stops)
 
 pub returns-in_err-at-3 : goal.returns-in_err-at-3
@@ -37,7 +37,7 @@ returns-in_err-at-3 c =
     let first = c.put_questions.new in
     let second = c.put_section.new in
     let new = c.put_section-2.new in
-    let stops = WritesEncoding-stop authority rest second.out new.out new.out c.in_ok-at-2.at second.names new.names new.names c.in_err-at-3.ensures in
+    let stops = WritesEncoding-stop authority rest second.out new.out c.in_ok-at-2.at second.names new.names new.names c.in_err-at-3.ensures in
     let more = WritesEncoding-then answer (before authority rest) first.out second.out new.out c.in_ok-at.at c.in_ok-at-2.at first.names second.names new.names None c.in_ok-at-2.ensures stops in
     rw c.from_residual-in_err-at-3.ensures (WritesEncoding-then asked (before answer (before authority rest)) c.args.out.now first.out new.out c.args.at c.in_ok-at.at c.args.names.now first.names new.names None c.in_ok-at.ensures.put more)
 
