@@ -61,12 +61,14 @@ fn put_data(
     ensures { WritesEncoding (data_octets rtype.0 octets.now) out.old out.new at names.old names.new result }
 {
     match rtype.layout() {
-        Some(Layout::Fields {
-            front,
-            names: count,
-            compressed,
-            ..
-        }) => put_fields(out, at, names, front, count, compressed, octets),
+        Some(
+            Layout::Fields {
+                front,
+                names: count,
+                compressed,
+                ..
+            },
+        ) => put_fields(out, at, names, front, count, compressed, octets),
         Some(Layout::Strings) => put(out, at, octets),
         None => put(out, at, octets),
     }
