@@ -1,6 +1,6 @@
 -- What a record's data is: which octets have the form of their type, with names written in full (RFC 1035, 3.3 and
 -- 3.4.1; RFC 2782; RFC 3596, 2.2), and what stands in them.
-use Rattle.std.specs.Prelude.{ℕ, zero, suc, ◌-◌, Bool, ◌&&◌, ◌==◌, List, [], ◌∷◌, ◌++◌, length, take, drop, nat_lt, nat_le, if◌then◌else◌, Option, Some, None}
+use Rattle.std.specs.Prelude.{◌≡◌, ℕ, zero, suc, ◌-◌, ◌<◌, ◌≤◌, Bool, ◌&&◌, ◌==◌, List, [], ◌∷◌, ◌++◌, length, take, drop, nat_lt, nat_le, if◌then◌else◌, Option, Some, None, All}
 use Rattle.std.specs.Option.{option_map, option_and_then}
 use Rattle.std.specs.Int.{from_be_bytes, w32}
 use Rattle.dns_name.specs.Name.{wire_of, fold_name, name_in}
@@ -40,6 +40,12 @@ data_of rtype octets = option_and_then (λ layout. data_by layout octets) (layou
 pub record Data : Type 0 where
   pub rtype : ℕ
   pub octets : List ℕ
+
+-- what a record's data keeps: the form of its type, names in lower case, and at most 4,096 octets (RFC 1035, 3.3; own)
+pub record IsData (d : Data) : Type 0 where
+  pub form : data_of d.rtype d.octets ≡ Some d.octets
+  pub short : length d.octets ≤ 4096
+  pub bytes : All (λ octet. octet < 256) d.octets
 
 -- the name that an alias stands for (RFC 1035, 3.3.1)
 abbrev pub target_of : List ℕ → Option (List (List ℕ))

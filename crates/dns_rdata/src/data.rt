@@ -2,7 +2,7 @@
 ghost use Rattle.std.specs.Prelude.{◌≡◌, ◌<◌, ◌≤◌, ◌⊎◌, ◌↔◌, ◌==◌, ◌&&◌, nat_lt, if◌then◌else◌, length, IfOk, IfSome, Some, None, IsSome};
 ghost use Rattle.std.specs.Result.{IsErrOf};
 ghost use Rattle.std.specs.Option.{option_map};
-ghost use Rattle.dns_rdata.specs.Data.{data_of, are_strings, parts, target_of, number_before_end, serial_of, refresh_of, retry_of, expire_of, minimum_of};
+ghost use Rattle.dns_rdata.specs.Data.{IsData, data_of, are_strings, parts, target_of, number_before_end, serial_of, refresh_of, retry_of, expire_of, minimum_of};
 ghost use Rattle.dns_rdata.specs.Numbers.{type_CNAME, type_SOA};
 
 use crate::layout::{Layout, SOA_NUMBERS};
@@ -37,14 +37,13 @@ pub struct RData {
 }
 
 impl Model for RData {
-    ghost use Rattle.std.specs.Prelude.{◌≡◌, ◌≤◌, Some, length};
-    ghost use Rattle.dns_rdata.specs.Data.{Data, data_of};
+    ghost use Rattle.dns_rdata.specs.Data.{Data, IsData};
 
     ghost Value = { Data };
 
     ghost view = { λ a. record { rtype = a.rtype.0; octets = a.octets.items } };
 
-    ghost invariant = { λ a. (data_of a.rtype.0 a.octets.items ≡ Some a.octets.items) × (length a.octets.items ≤ 4096) };
+    ghost invariant = { λ a. IsData (record { rtype = a.rtype.0; octets = a.octets.items }) };
 }
 
 /// The numbers at the end of an SOA's data (RFC 1035, 3.3.13).
@@ -93,7 +92,8 @@ impl RData {
 
     /// The type that the octets have the form of.
     pub fn rtype(&self) -> RType
-        ensures { result.0 ≡ self.now.rtype }
+        ensures rtype { result.0 ≡ self.now.rtype }
+        ensures lawful { IsData self.now }
     {
         self.rtype
     }
@@ -101,8 +101,7 @@ impl RData {
     /// The octets, uncompressed, with the names in them in lower case.
     pub fn octets(&self) -> &[u8]
         ensures octets { result.now ≡ self.now.octets }
-        ensures formed { data_of self.now.rtype result.now ≡ Some result.now }
-        ensures short { length result.now ≤ MAX_DATA }
+        ensures lawful { IsData self.now }
     {
         &self.octets
     }
