@@ -1,3 +1,4 @@
+pub mod AscendLemmas
 pub mod DraftLemmas
 pub mod GrammarLemmas
 pub mod LongerLemmas

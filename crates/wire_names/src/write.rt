@@ -11,7 +11,8 @@ use dns_name::{MAX_NAME, Name};
 use std::marker::Model;
 
 /// Writes names into one message, and keeps the positions of those that pointers can name (RFC 1035, 4.1.4). Contracts
-/// see it as the list of the positions, in the order in which they were entered. It takes no memory.
+/// see it as the list of the positions, in the order in which they were entered: each is above those before it. It
+/// takes no memory.
 #[derive(Drop)]
 pub struct NameWriter {
     positions: Positions,
@@ -19,10 +20,13 @@ pub struct NameWriter {
 
 impl Model for NameWriter {
     ghost use Rattle.std.specs.Prelude.{List, ℕ};
+    ghost use Rattle.std.specs.List.Sorted.{IsStrictlyIncreasing};
 
     ghost Value = { List ℕ };
 
     ghost view = { λ a. a.positions };
+
+    ghost invariant = { λ a. IsStrictlyIncreasing a.positions };
 }
 
 /// A name as it is to be written, and how many octets of it stand before each label that is written out.

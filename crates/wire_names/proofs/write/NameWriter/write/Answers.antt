@@ -1,6 +1,7 @@
 use Rattle.wire_names.specs.Table.{table_of}
 use Rattle.wire_names.specs.Written.{table_after}
 use Rattle.std.proofs.Common.{take}
+use Rattle.wire_names.proofs.AscendLemmas.{positions_ascend}
 use Rattle.wire_names.proofs.WrittenLemmas.{IsTableOf, after_put}
 use Rattle.wire_names.proofs.write.NameWriter.write.Goals as goal
 
@@ -13,3 +14,7 @@ returns-clause-table c = (after c).all
 
 pub returns-clause-entered : goal.returns-clause-entered
 returns-clause-entered c = (after c).is
+
+pub invariant_of-self : goal.invariant_of-self
+invariant_of-self c =
+    positions_ascend c.args.compress _ _ c.self.inside.positions _ c.as_slice-2.result.now _ c.args.at c.args.name.now c.requires.within c.requires.table c.self.view_is c.self.invariant c.draft-draft.ensures.starts c.as_slice-2.ensures.value c.enter.ensures
