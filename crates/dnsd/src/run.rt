@@ -1,5 +1,6 @@
 //! Doing a command.
-ghost use Rattle.std.specs.Prelude.{◌≡◌, ◌⊎◌, OnOk, IfErr, IfSome};
+ghost use Rattle.std.specs.Prelude.{◌≡◌, ◌⊎◌, [], Ok, Err, OnOk, OnErr, IfOk, IfErr, IfSome};
+ghost use Rattle.std.specs.Io.Buffered.{writer_buffer, writer_contents};
 ghost use Rattle.std.specs.Option.{option_map};
 ghost use Rattle.std.specs.Io.KnownBytes.{Appends};
 ghost use Rattle.dnsd.specs.Input.{behind_zone_text};
@@ -11,31 +12,32 @@ use crate::command::Command;
 use crate::fault::{DONE, FAILED, Fault};
 use crate::input::read_zone_text;
 use crate::steps::run_steps;
-use crate::zone_text::read_zone;
+use crate::zone_text::{FileFault, read_zone};
 use std::alloc::Global;
-use std::io::{BufRead, Write};
+use std::io::{BufRead, BufWriter, Write};
 use zone_tree::Zone;
 
 /// Does one parsed command whose zone's text is the front of the reader, up to a line `%` or its end; the command's input
 /// follows it. What is wrong goes to `errors`, a sentence on a line. Gives the program's status: 0 done, 1 the zone or the
-/// script is refused, 3 a device's fault or want of memory.
-pub fn run_text<R: BufRead, W: Write, E: Write>(
+/// script is refused, 3 a device's fault or want of memory. At 0 nothing that was written is left in the buffer.
+pub fn run_text<R: BufRead, W: Write + Drop, E: Write>(
     alloc: Global,
     command: &Command<'_>,
     reader: &mut R,
-    writer: &mut W,
+    writer: &mut BufWriter<W>,
     errors: &mut E,
 ) -> u8
     // Where the reader tells its octets, and the writers those that they hold.
     ensures done { result ≡ 0 → IfSome (R.remaining reader.old) (λ input.
-        Does command.now (behind_zone_text input) (W.contents writer.old) (W.contents writer.new)) }
+        Does command.now (behind_zone_text input) (writer_contents W.contents writer.old) (writer_contents W.contents writer.new)) }
+    ensures flushed { result ≡ 0 → writer_buffer writer.new ≡ [] }
     ensures quiet { result ≡ 0 → E.contents errors.new ≡ E.contents errors.old }
     ensures refused { result ≡ 1 → Refuses command.now (option_map behind_zone_text (R.remaining reader.old))
         (E.contents errors.old) (E.contents errors.new) }
-    ensures unwritten { result ≡ 1 → W.contents writer.new ≡ W.contents writer.old }
-    ensures failed { result ≡ 3 → (W.contents writer.new ≡ W.contents writer.old)
+    ensures unwritten { result ≡ 1 → writer_contents W.contents writer.new ≡ writer_contents W.contents writer.old }
+    ensures failed { result ≡ 3 → (writer_contents W.contents writer.new ≡ writer_contents W.contents writer.old)
         ⊎ IfSome (R.remaining reader.old) (λ input.
-        BeginsToDo command.now (behind_zone_text input) (W.contents writer.old) (W.contents writer.new)) }
+        BeginsToDo command.now (behind_zone_text input) (writer_contents W.contents writer.old) (writer_contents W.contents writer.new)) }
     ensures statuses { (result ≡ 0) ⊎ (result ≡ 1) ⊎ (result ≡ 3) }
 {
     let done = match read_zone_text(alloc, reader) {
@@ -45,25 +47,74 @@ pub fn run_text<R: BufRead, W: Write, E: Write>(
     tell(done, errors)
 }
 
-/// Does one parsed command over a zone's text that was read already.
-pub fn run_with_zone<R: BufRead, W: Write>(
+/// Does one parsed command over a zone's text that was read already, as `run_text` does it.
+pub fn run_with_zone<R: BufRead, W: Write + Drop>(
     alloc: Global,
     command: &Command<'_>,
     text: &[u8],
     reader: &mut R,
-    writer: &mut W,
+    writer: &mut BufWriter<W>,
 ) -> Result<(), Fault>
     // Where the reader tells its octets and the writer those that it holds.
     ensures ok { OnOk result (IfSome (R.remaining reader.old) (λ input.
-        Does command.now input (W.contents writer.old) (W.contents writer.new))) }
+        Does command.now input (writer_contents W.contents writer.old) (writer_contents W.contents writer.new))) }
+    ensures flushed { OnOk result (writer_buffer writer.new ≡ []) }
     ensures fault { IfErr result (λ fault. IfSome (R.remaining reader.old) (λ input. IsOfRun command.now input fault)) }
     ensures unread { IfErr result (λ fault. AtRefusedZone fault (R.remaining reader.new ≡ R.remaining reader.old)) }
-    ensures unwritten { IfErr result (λ fault. status_of fault ≡ 1 → W.contents writer.new ≡ W.contents writer.old) }
+    ensures unwritten { IfErr result (λ fault. status_of fault ≡ 1
+        → writer_contents W.contents writer.new ≡ writer_contents W.contents writer.old) }
     ensures failed { IfErr result (λ fault. AtDevice fault (IfSome (R.remaining reader.old) (λ input.
-        BeginsToDo command.now input (W.contents writer.old) (W.contents writer.new)))) }
+        BeginsToDo command.now input (writer_contents W.contents writer.old) (writer_contents W.contents writer.new)))) }
 {
-    let zone = read_zone(alloc, text, command.origin())?;
-    do_command(alloc, command, &zone, reader, writer)?;
+    let read = read_zone(alloc, text, command.origin());
+    run_read(alloc, command, read, reader, writer)
+}
+
+/// Does one parsed command over what was read of a zone's text.
+fn run_read<R: BufRead, W: Write + Drop>(
+    alloc: Global,
+    command: &Command<'_>,
+    read: Result<Zone, FileFault>,
+    reader: &mut R,
+    writer: &mut BufWriter<W>,
+) -> Result<(), Fault>
+    // Where the reader tells its octets and the writer those that it holds.
+    ensures refused { IfErr read (λ fault. result ≡ Err (Fault.Zone fault)) }
+    ensures unread { OnErr read (R.remaining reader.new ≡ R.remaining reader.old) }
+    ensures zone { OnOk read (IfErr result (λ fault. AtRefusedZone fault ⊥)) }
+    ensures ok { IfOk read (λ zone. OnOk result (IfSome (R.remaining reader.old) (λ input.
+        Appends (writer_contents W.contents writer.old) (writer_contents W.contents writer.new) (output_for command.now zone input)))) }
+    ensures flushed { OnOk result (writer_buffer writer.new ≡ []) }
+    ensures fault { IfErr result (λ fault. IfSome (R.remaining reader.old) (λ input. IsOfRun command.now input fault)) }
+    ensures unwritten { IfErr result (λ fault. status_of fault ≡ 1
+        → writer_contents W.contents writer.new ≡ writer_contents W.contents writer.old) }
+    ensures failed { IfOk read (λ zone. IfErr result (λ fault. AtDevice fault (IfSome (R.remaining reader.old) (λ input.
+        Begins (writer_contents W.contents writer.old) (writer_contents W.contents writer.new) (output_for command.now zone input))))) }
+{
+    let zone = read?;
+    run_over(alloc, command, &zone, reader, writer)
+}
+
+/// Does one parsed command over a zone, and flushes the writer.
+fn run_over<R: BufRead, W: Write + Drop>(
+    alloc: Global,
+    command: &Command<'_>,
+    zone: &Zone,
+    reader: &mut R,
+    writer: &mut BufWriter<W>,
+) -> Result<(), Fault>
+    // Where the reader tells its octets and the writer those that it holds.
+    ensures ok { OnOk result (IfSome (R.remaining reader.old) (λ input.
+        Appends (writer_contents W.contents writer.old) (writer_contents W.contents writer.new) (output_for command.now zone.now input))) }
+    ensures flushed { OnOk result (writer_buffer writer.new ≡ []) }
+    ensures fault { IfErr result (λ fault. IfSome (R.remaining reader.old) (λ input. IsOfInput command.now input fault)) }
+    ensures zone { IfErr result (λ fault. AtRefusedZone fault ⊥) }
+    ensures unwritten { IfErr result (λ fault. status_of fault ≡ 1
+        → writer_contents W.contents writer.new ≡ writer_contents W.contents writer.old) }
+    ensures failed { IfErr result (λ fault. AtDevice fault (IfSome (R.remaining reader.old) (λ input.
+        Begins (writer_contents W.contents writer.old) (writer_contents W.contents writer.new) (output_for command.now zone.now input)))) }
+{
+    do_command(alloc, command, zone, reader, writer)?;
     writer.flush()?;
     Ok(())
 }

@@ -1,4 +1,6 @@
 //! The program's replies and refusals, by the octets that the standard gives for them.
+mod faults;
+
 use crate::command::{Command, CommandFault, Source, parse_words};
 use crate::run::run_text;
 use crate::transport::Transport;
@@ -6,7 +8,7 @@ use crate::world::{self, Handle, WorldReply, WorldStep};
 use crate::zone_text::read_zone;
 use dns_name::Name;
 use std::alloc::AllocError;
-use std::io::Cursor;
+use std::io::{BufWriter, Cursor};
 use std::process::Abort;
 use std::test::Fail;
 
@@ -62,9 +64,11 @@ fn run_command(
     let alloc = rt.alloc();
     let input = format!(in alloc; "{zone}%\n{input}")?;
     let mut reader = Cursor::new(input.as_bytes());
-    let mut written = Vec::new(alloc);
+    let mut writer = BufWriter::new(alloc, Vec::new(alloc)).map_err(|_| AllocError)?;
     let mut errors = Vec::new(alloc);
-    let status = run_text(alloc, command, &mut reader, &mut written, &mut errors);
+    let status = run_text(alloc, command, &mut reader, &mut writer, &mut errors);
+    let (written, held) = writer.into_parts();
+    assert!(rt; status != 0 || held.is_empty());
     let written = String::from_utf8_lossy(alloc, written.as_slice())?;
     let errors = String::from_utf8_lossy(alloc, errors.as_slice())?;
     Ok((status, written, errors))
