@@ -11,8 +11,8 @@ use Rattle.lookup_core.specs.declared.aliases.TheConstants.{MOST_ALIASES}
 use Rattle.lookup_core.specs.Look.{Look, Cut, Alias, Data, NoData, NoName, look, owned_by}
 use Rattle.lookup_core.specs.Chain.{Chain, End, Found, Stop, onto, target, is_final, chain_from, chain}
 use Rattle.lookup_core.specs.Waits.{looked_up_from, is_left_open, waits}
-use Rattle.lookup_core.specs.Found.{IsSeen}
-use Rattle.lookup_core.specs.Followed.{searched_before}
+use Rattle.lookup_core.specs.Shown.{IsSeen}
+use Rattle.lookup_core.specs.Shown.{searched_before}
 use Rattle.lookup_core.proofs.WalkLemmas.{list_any-reverse}
 
 -- whether a name is among those searched doesn't depend on their order

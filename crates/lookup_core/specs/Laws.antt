@@ -1,5 +1,6 @@
 -- What holds of each answer.
-use Rattle.std.specs.Prelude.{◌≡◌, ℕ, ◌≤◌, ◌⊎◌, List, [], ◌∷◌, length, Any}
+use Rattle.std.specs.Prelude.{◌≡◌, ◌≤◌, ◌⊎◌, List, [], ◌∷◌, length, Any}
+use Rattle.dns_name.specs.Name.{Name}
 use Rattle.dns_rdata.specs.Numbers.{type_CNAME}
 use Rattle.dns_rdata.specs.Record.{Record}
 use Rattle.zone_tree.specs.Zone.{rrset_of}
@@ -7,8 +8,8 @@ use Rattle.lookup_core.specs.Chain.{target}
 
 -- no owner has two aliases (RFC 2181, 10.1)
 abbrev pub HasSingleAliases : List Record → Type 0
-HasSingleAliases zone = (owner : List (List ℕ)) → length (rrset_of zone owner type_CNAME) ≤ 1
+HasSingleAliases zone = (owner : Name) → length (rrset_of zone owner type_CNAME) ≤ 1
 
 -- a record stands at the name asked, or at the target of one of the aliases
-abbrev pub IsReached : List (List ℕ) → List Record → Record → Type 0
+abbrev pub IsReached : Name → List Record → Record → Type 0
 IsReached name aliases r = (r.owner ≡ name) ⊎ Any (λ alias. target (alias ∷ []) ≡ r.owner) aliases

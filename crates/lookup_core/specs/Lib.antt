@@ -3,9 +3,7 @@ pub mod Chain
 pub mod Sections
 pub mod Waits
 pub mod Examples
-pub mod Found
-pub mod Followed
-pub mod Answered
+pub mod Shown
 pub mod Laws
 pub use Rattle.zone_tree.specs.Zone
 pub use Rattle.dns_name.specs.Name

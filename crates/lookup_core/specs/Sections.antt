@@ -1,10 +1,11 @@
 -- The sections of an answer (RFC 1034, 4.3.2; RFC 2308, 2 and 3; RFC 6604, 3).
-use Rattle.std.specs.Prelude.{ℕ, Bool, true, false, ◌&&◌, ◌||◌, not, ◌==◌, min, List, [], ◌∷◌, ◌++◌, map, filter, flat_map, take, drop, Some, None, if◌then◌else◌}
+use Rattle.std.specs.Prelude.{ℕ, Bool, true, false, ◌&&◌, ◌||◌, not, ◌==◌, min, List, [], ◌∷◌, ◌++◌, map, filter, flat_map, take, if◌then◌else◌}
 use Rattle.std.specs.List.{list_any}
-use Rattle.dns_name.specs.Name.{is_same, name_in}
+use Rattle.dns_name.specs.Name.{Name, is_same}
 use Rattle.dns_rdata.specs.declared.numbers.Rcode.{Rcode}
 use Rattle.dns_rdata.specs.declared.numbers.Rcode.TheVariants.{NoError, NxDomain}
 use Rattle.dns_rdata.specs.Numbers.{type_A, type_NS, type_MX, type_AAAA, type_SRV}
+use Rattle.dns_rdata.specs.Layout.{names_in_data}
 use Rattle.dns_rdata.specs.Data.{minimum_of}
 use Rattle.dns_rdata.specs.Record.{Record}
 use Rattle.zone_tree.specs.Zone.{is_of, rrset_of, soa_of}
@@ -50,21 +51,20 @@ abbrev pub is_referral : End → Bool
 is_referral (Found (Cut cut)) = true
 is_referral _ = false
 
--- the names in the data of NS, MX and SRV records (RFC 1035, 3.3; RFC 2782)
-abbrev pub names_in : Record → List (List (List ℕ))
-names_in r =
-    elim (if r.rtype == type_NS then name_in r.rdata else if r.rtype == type_MX then name_in (drop 2 r.rdata) else if r.rtype == type_SRV then name_in (drop 6 r.rdata) else None) [ None ↦ [] | Some name ↦ name ∷ [] ]
+-- the names in the data of NS, MX and SRV records, whose addresses come along (RFC 1035, 3.3.9 and 3.3.11; RFC 2782)
+abbrev pub names_in : Record → List Name
+names_in r = if r.rtype == type_NS || r.rtype == type_MX || r.rtype == type_SRV then names_in_data r.rtype r.rdata else []
 
 -- the addresses at a name: A, then AAAA
-abbrev pub addresses : List (List ℕ) → List (List (List ℕ) × ℕ)
+abbrev pub addresses : Name → List (Name × ℕ)
 addresses name = (name, type_A) ∷ (name, type_AAAA) ∷ []
 
 -- whether two sets are of one owner and type
-abbrev pub is_same_set : List (List ℕ) × ℕ → List (List ℕ) × ℕ → Bool
+abbrev pub is_same_set : Name × ℕ → Name × ℕ → Bool
 is_same_set a b = is_same a.0 b.0 && a.1 == b.1
 
 -- the sets that are not among those before, each once, in their order
-abbrev pub each_once : List (List (List ℕ) × ℕ) → List (List (List ℕ) × ℕ) → List (List (List ℕ) × ℕ)
+abbrev pub each_once : List (Name × ℕ) → List (Name × ℕ) → List (Name × ℕ)
 each_once before [] = []
 each_once before (set ∷ sets) = if list_any (is_same_set set) before then each_once before sets else set ∷ each_once (set ∷ before) sets
 
@@ -99,5 +99,5 @@ abbrev pub without_additional : Sections → Sections
 without_additional said = record said { additional = [] }
 
 -- the answer of a zone to a name and a type (RFC 1034, 4.3.2)
-abbrev pub sections : List Record → List (List ℕ) → ℕ → Sections
+abbrev pub sections : List Record → Name → ℕ → Sections
 sections zone name rtype = sections_of zone (chain zone name rtype)

@@ -2,13 +2,14 @@
 -- from a source of synthesis.
 use Rattle.std.specs.Prelude.{ℕ, zero, suc, Bool, ◌||◌, ◌∷◌, List, [], is_some, if◌then◌else◌}
 use Rattle.std.specs.List.{list_any}
+use Rattle.dns_name.specs.Name.{Name}
 use Rattle.dns_rdata.specs.Record.{Record}
 use Rattle.lookup_core.specs.Look.{Cut, Alias, Data, NoData, NoName, look, cut_of, is_synthesized}
 use Rattle.lookup_core.specs.declared.aliases.TheConstants.{MOST_ALIASES}
 use Rattle.lookup_core.specs.Chain.{target, is_final}
 
 -- the names that a chain looks up, from a name on, when these names were searched before it and so many aliases may follow
-abbrev pub looked_up_from : List Record → ℕ → List (List (List ℕ)) → List (List ℕ) → ℕ → List (List (List ℕ))
+abbrev pub looked_up_from : List Record → ℕ → List Name → Name → ℕ → List Name
 looked_up_from zone zero searched name rtype = []
 looked_up_from zone (suc more) searched name rtype =
     name ∷ (elim (look zone name rtype) [
@@ -22,9 +23,9 @@ looked_up_from zone (suc more) searched name rtype =
     ])
 
 -- whether a name is at or below a zone cut, or doesn't exist while the source of synthesis does
-abbrev pub is_left_open : List Record → List (List ℕ) → Bool
+abbrev pub is_left_open : List Record → Name → Bool
 is_left_open zone name = is_some (cut_of zone name) || is_synthesized zone name
 
 -- whether a name that the chain looks up is left open
-unfoldable pub waits : List Record → List (List ℕ) → ℕ → Bool
+unfoldable pub waits : List Record → Name → ℕ → Bool
 waits zone name rtype = list_any (is_left_open zone) (looked_up_from zone MOST_ALIASES [] name rtype)

@@ -8,7 +8,7 @@ ghost use Rattle.dns_rdata.specs.Shown.{records_shown};
 ghost use Rattle.lookup_core.specs.Look.{owned_by};
 ghost use Rattle.lookup_core.specs.Chain.{target, is_final, chain};
 ghost use Rattle.lookup_core.specs.Waits.{waits};
-ghost use Rattle.lookup_core.specs.Followed.{searched_before, chain_shown};
+ghost use Rattle.lookup_core.specs.Shown.{searched_before, chain_shown};
 
 use crate::walk::{Look, look_up};
 use arrayvec::ArrayVec;

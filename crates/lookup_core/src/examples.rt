@@ -2,16 +2,22 @@
 ghost use Rattle.std.specs.Prelude.{◌≡◌, ◌∷◌, [], codes, true, false, Some};
 ghost use Rattle.dns_rdata.specs.Numbers.{type_A, type_CNAME, type_MX, type_TXT, type_SRV, type_ANY};
 ghost use Rattle.dns_rdata.specs.declared.numbers.Rcode.TheVariants.{NoError, NxDomain};
+ghost use Rattle.zone_tree.specs.Zone.{IsZone};
 ghost use Rattle.lookup_core.specs.Look.{look, closest_encloser, Cut, Data, NoData, NoName};
 ghost use Rattle.lookup_core.specs.Chain.{chain, Found, Stop};
 ghost use Rattle.lookup_core.specs.Sections.{sections};
 ghost use Rattle.lookup_core.specs.Waits.{waits};
-ghost use Rattle.lookup_core.specs.Examples.{is_ascending, address, ns, alias, mx, txt, apex, below, under, outside, small_soa, small_zone, example, in_example, at_wildcard, service_at, wildcard_zone};
+ghost use Rattle.lookup_core.specs.Examples.{address, ns, alias, mx, txt, apex, below, under, outside, small_soa, small_zone, example, in_example, at_wildcard, service_at, wildcard_zone};
+
+/// The records of the worked examples are zones.
+pub fn examples_are_zones()
+    ensures small { IsZone small_zone }
+    ensures wildcards { IsZone wildcard_zone }
+{}
 
 /// What is found in the zone of RFC 4592, 2.2.1, which tells this of it: the first three are synthesized, and the
 /// others aren't.
 pub fn examples_of_wildcards()
-    ensures ascending { is_ascending wildcard_zone ≡ true }
     ensures exchange { look wildcard_zone (in_example "host3") type_MX ≡ Data (mx (in_example "host3") 10 (in_example "host1") ∷ []) }
     ensures no_address { look wildcard_zone (in_example "host3") type_A ≡ NoData }
     ensures text { look wildcard_zone (codes "foo" ∷ in_example "bar") type_TXT ≡ Data (txt (codes "foo" ∷ in_example "bar") "this is a wildcard" ∷ []) }
@@ -23,9 +29,8 @@ pub fn examples_of_wildcards()
 {}
 
 /// The answers of a small zone: each case of an answer, and what comes with it.
-#[tactic(auto, unfolding(crate::specs::Chain::chain))]
+#[tactic(auto, unfolding(crate::specs::Chain::chain, dns_rdata::specs::Layout::layout_of))]
 pub fn examples_of_answers()
-    ensures ascending { is_ascending small_zone ≡ true }
     ensures aliased { sections small_zone (below "www") type_A ≡ record { rcode = NoError; aa = true; answer = alias (below "www") (below "web") ∷ address (below "web") 10 ∷ []; authority = []; additional = [] } }
     ensures alias_itself { sections small_zone (below "www") type_CNAME ≡ record { rcode = NoError; aa = true; answer = alias (below "www") (below "web") ∷ []; authority = []; additional = [] } }
     ensures no_name { sections small_zone (below "nope") type_A ≡ record { rcode = NxDomain; aa = true; answer = []; authority = record small_soa { ttl = 300 } ∷ []; additional = [] } }

@@ -2,7 +2,7 @@
 ghost use Rattle.std.specs.Prelude.{◌≡◌, ◌↔◌, IsTrue, IsNone, IfSome};
 ghost use Rattle.lookup_core.specs.Sections.{sections, without_additional};
 ghost use Rattle.lookup_core.specs.Waits.{waits};
-ghost use Rattle.lookup_core.specs.Answered.{sections_shown};
+ghost use Rattle.lookup_core.specs.Shown.{sections_shown};
 
 use crate::aliases::{Chain, End, follow};
 use crate::sections::{Answer, negative_soa, rcode_of};

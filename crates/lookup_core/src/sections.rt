@@ -5,7 +5,7 @@ ghost use Rattle.dns_rdata.specs.Data.{minimum_of};
 ghost use Rattle.dns_rdata.specs.Record.{rtype_of};
 ghost use Rattle.dns_rdata.specs.Shown.{records_shown};
 ghost use Rattle.lookup_core.specs.Sections.{rcode_of, negative_soa};
-ghost use Rattle.lookup_core.specs.Followed.{end_shown};
+ghost use Rattle.lookup_core.specs.Shown.{end_shown};
 
 use crate::aliases::{End, MOST_SHOWN};
 use arrayvec::ArrayVec;

@@ -4,7 +4,7 @@ ghost use Rattle.std.specs.List.{flat_map};
 ghost use Rattle.dns_name.specs.Name.{wire_of};
 ghost use Rattle.lookup_core.specs.Look.{is_cut, cut_of, closest_encloser, source_of, is_synthesized, data_at, follows_aliases};
 ghost use Rattle.lookup_core.specs.Waits.{is_left_open};
-ghost use Rattle.lookup_core.specs.Found.{IsFound};
+ghost use Rattle.lookup_core.specs.Shown.{IsFound};
 
 use dns_name::{MAX_BELOW_ASTERISK, MAX_NAME, Name};
 use dns_rdata::{RRset, RType};

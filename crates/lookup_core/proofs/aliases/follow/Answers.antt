@@ -3,7 +3,7 @@ use Rattle.std.specs.List.{flat_map}
 use Rattle.dns_rdata.specs.Shown.{records_shown}
 use Rattle.lookup_core.specs.Look.{owned_by, Data, NoData, NoName}
 use Rattle.lookup_core.specs.Chain.{Found, Stop}
-use Rattle.lookup_core.specs.Followed.{end_shown}
+use Rattle.lookup_core.specs.Shown.{end_shown}
 use Rattle.lookup_core.proofs.AliasLemmas.{begins, stays_open, goes_on, stops, ends, ends_so, runs_out, shown_alone, target-owned_by, none_open, none_closed, Ends}
 use Rattle.lookup_core.proofs.LawLemmas.{rtype_of-alias}
 use Rattle.lookup_core.proofs.aliases.follow.Goals as goal
