@@ -7,7 +7,7 @@ use Rattle.std.proofs.lemmas.List.{length-append, length-drop, map-append, drop-
 use Rattle.std.proofs.Math.Seq.{take-length, take-append-add, drop-append-add}
 use Rattle.dns_name.specs.Name.{wire_of, fold_name, name_in}
 use Rattle.dns_name.proofs.LawLemmas.{name_in-stands}
-use Rattle.dns_name.proofs.SameLemmas.{wire_of-fold}
+use Rattle.dns_name.proofs.LabelLemmas.{wire_of-fold}
 use Rattle.dns_rdata.specs.declared.layout.Layout.{Layout}
 use Rattle.dns_rdata.specs.declared.layout.Layout.TheVariants.{Fields}
 use Rattle.dns_rdata.specs.Layout.{layout_of}
