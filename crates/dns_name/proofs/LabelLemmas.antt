@@ -131,16 +131,16 @@ labels_few octets h =
     omega arith
 
 -- octets are below 256
-abbrev pub AreOctets : List ℕ → Type 0
+abbrev AreOctets : List ℕ → Type 0
 AreOctets octets = All (λ octet. octet < 256) octets
 
-pub octets_front : (xs ys : List ℕ) → AreOctets (xs ++ ys) → AreOctets xs
+pub octets_front : (xs ys : List ℕ) → All (λ octet. octet < 256) (xs ++ ys) → All (λ octet. octet < 256) xs
 octets_front [] ys h = All-nil (λ (octet : ℕ). octet < 256)
 octets_front (x ∷ xs) ys h =
     All-cons (λ (octet : ℕ). octet < 256) x xs (All-head (λ (octet : ℕ). octet < 256) x (xs ++ ys) h)
     (octets_front xs ys (All-tail (λ (octet : ℕ). octet < 256) x (xs ++ ys) h))
 
-pub octets_back : (xs ys : List ℕ) → AreOctets (xs ++ ys) → AreOctets ys
+pub octets_back : (xs ys : List ℕ) → All (λ octet. octet < 256) (xs ++ ys) → All (λ octet. octet < 256) ys
 octets_back [] ys h = h
 octets_back (x ∷ xs) ys h = octets_back xs ys (All-tail (λ (octet : ℕ). octet < 256) x (xs ++ ys) h)
 
@@ -156,7 +156,7 @@ lower_octet_by : (c : ℕ) (b : Bool) → nat_lt c 128 ≡ b → c < 256 → to_
 lower_octet_by c true t h = let few : c < 128 = grind (arith, nat_tests) in omega (arith, lowercase_ascii c few)
 lower_octet_by c false t h = let more : 128 ≤ c = grind (arith, nat_tests) in rw ((lowercase_is c).2 (omega arith)) h
 
-pub AreOctets-label : (label : List ℕ) → AreOctets label → AreOctets (map to_ascii_lowercase label)
+pub AreOctets-label : (label : List ℕ) → All (λ octet. octet < 256) label → All (λ octet. octet < 256) (map to_ascii_lowercase label)
 AreOctets-label label h =
     All-map (λ (octet : ℕ). octet < 256) to_ascii_lowercase label
     (All-weaker (λ (octet : ℕ). octet < 256) (λ (octet : ℕ). to_ascii_lowercase octet < 256) (λ (c : ℕ) small. lower_octet_by c (nat_lt c 128) refl small) label h)

@@ -7,7 +7,8 @@ use Rattle.std.proofs.lemmas.Bool.Decides.{same_from_decides}
 use Rattle.dns_name.specs.Labels.{labels_in, IsWhole, IsFirstLabel}
 use Rattle.dns_name.specs.Name.{wire_of, IsLabel, IsName, is_same, is_under}
 use Rattle.dns_name.specs.Order.{is_same_Decides}
-use Rattle.dns_name.proofs.LabelLemmas.{labels_in-wire_of, wire_of-labels_in, wire_of-fold, fold_labels, IsWhole_longer, IsLabel_each, alone_root}
+pub use Rattle.dns_name.proofs.LabelLemmas.{wire_of-fold, fold_labels}
+use Rattle.dns_name.proofs.LabelLemmas.{labels_in-wire_of, wire_of-labels_in, IsWhole_longer, IsLabel_each, alone_root}
 
 -- names have the same octets only where they are equal
 pub wire_of_injective : (name other : List (List ℕ)) → All IsLabel name → All IsLabel other → wire_of name ≡ wire_of other → name ≡ other
