@@ -70,7 +70,7 @@ impl RData {
     pub fn from_wire(alloc: Global, rtype: RType, octets: &[u8]) -> Result<RData, DataFault>
         ensures data { IfOk result (λ d. (d.rtype ≡ rtype.0)
             × (data_of rtype.0 octets.now ≡ Some d.octets)
-            × (length d.octets ≤ MAX_DATA)) }
+            × (length d.octets ≤ 4096)) }
 
         // The form decides first, and neither judgement takes memory.
         ensures bad_length { IsErrOf result DataFault.BadLength → data_of rtype.0 octets.now ≡ None }
@@ -78,8 +78,8 @@ impl RData {
 
         // Folding keeps the length.
         ensures too_long { IsErrOf result DataFault.TooLong
-            → IsSome (data_of rtype.0 octets.now) × (MAX_DATA < length octets.now) }
-        ensures long_form { IsSome (data_of rtype.0 octets.now) → MAX_DATA < length octets.now
+            → IsSome (data_of rtype.0 octets.now) × (4096 < length octets.now) }
+        ensures long_form { IsSome (data_of rtype.0 octets.now) → 4096 < length octets.now
             → IsErrOf result DataFault.TooLong }
     {
         if !has_form(rtype, octets) {
