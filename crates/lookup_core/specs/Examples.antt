@@ -1,62 +1,55 @@
 -- Two zones to read the definitions by: a small one, and that of RFC 4592, 2.2.1. All TTLs are 3600.
 use Prim.Native.String.{String}
-use Rattle.std.specs.Prelude.{ℕ, Bool, true, ◌&&◌, List, [], ◌∷◌, ◌++◌, length, codes}
-use Rattle.std.specs.List.{list_all}
+use Rattle.std.specs.Prelude.{ℕ, List, [], ◌∷◌, ◌++◌, length, codes}
 use Rattle.std.specs.Int.{w16, w32, to_be_bytes}
-use Rattle.std.specs.Ordering.{is_lt}
-use Rattle.dns_name.specs.Name.{wire_of}
+use Rattle.dns_name.specs.Name.{Name, wire_of}
 use Rattle.dns_rdata.specs.Numbers.{type_A, type_NS, type_CNAME, type_SOA, type_MX, type_TXT, type_SRV}
-use Rattle.dns_rdata.specs.Record.{Record, record_cmp}
-
--- whether records are in strictly ascending order
-abbrev pub is_ascending : List Record → Bool
-is_ascending [] = true
-is_ascending (r ∷ rs) = list_all (λ s. is_lt (record_cmp r s)) rs && is_ascending rs
+use Rattle.dns_rdata.specs.Record.{Record}
 
 -- records by what a zone file would say of them; an address is one of 192.0.2.0/24 by its last octet
-abbrev pub standing : List (List ℕ) → ℕ → List ℕ → Record
+abbrev pub standing : Name → ℕ → List ℕ → Record
 standing owner rtype rdata = record { owner = owner; rtype = rtype; ttl = 3600; rdata = rdata }
 
-abbrev pub address : List (List ℕ) → ℕ → Record
+abbrev pub address : Name → ℕ → Record
 address owner last = standing owner type_A (192 ∷ 0 ∷ 2 ∷ last ∷ [])
 
-abbrev pub ns : List (List ℕ) → List (List ℕ) → Record
+abbrev pub ns : Name → Name → Record
 ns owner server = standing owner type_NS (wire_of server)
 
-abbrev pub alias : List (List ℕ) → List (List ℕ) → Record
+abbrev pub alias : Name → Name → Record
 alias owner target = standing owner type_CNAME (wire_of target)
 
-abbrev pub soa : List (List ℕ) → List (List ℕ) → List (List ℕ) → ℕ → Record
+abbrev pub soa : Name → Name → Name → ℕ → Record
 soa owner server mailbox minimum =
     standing owner type_SOA
     (wire_of server ++ wire_of mailbox ++ to_be_bytes w32 1 ++ to_be_bytes w32 7200 ++ to_be_bytes w32 900 ++ to_be_bytes w32 1209600
     ++ to_be_bytes w32 minimum)
 
-abbrev pub mx : List (List ℕ) → ℕ → List (List ℕ) → Record
+abbrev pub mx : Name → ℕ → Name → Record
 mx owner preference host = standing owner type_MX (to_be_bytes w16 preference ++ wire_of host)
 
-abbrev pub txt : List (List ℕ) → String → Record
+abbrev pub txt : Name → String → Record
 txt owner text = standing owner type_TXT (length (codes text) ∷ codes text)
 
-abbrev pub srv : List (List ℕ) → ℕ → List (List ℕ) → Record
+abbrev pub srv : Name → ℕ → Name → Record
 srv owner port host = standing owner type_SRV (to_be_bytes w16 0 ++ to_be_bytes w16 0 ++ to_be_bytes w16 port ++ wire_of host)
 
 -- a name two labels long
-abbrev pub pair : String → String → List (List ℕ)
+abbrev pub pair : String → String → Name
 pair label parent = codes label ∷ codes parent ∷ []
 
 -- the names of the small zone: its apex `example.test.`, and what is one label and two labels below it
-abbrev pub apex : List (List ℕ)
+abbrev pub apex : Name
 apex = pair "example" "test"
 
-abbrev pub below : String → List (List ℕ)
+abbrev pub below : String → Name
 below label = codes label ∷ apex
 
-abbrev pub under : String → String → List (List ℕ)
+abbrev pub under : String → String → Name
 under label parent = codes label ∷ below parent
 
 -- a name outside the small zone
-abbrev pub outside : List (List ℕ)
+abbrev pub outside : Name
 outside = codes "host" ∷ pair "example" "net"
 
 -- the small zone, and its SOA by the SOA's TTL
@@ -81,16 +74,16 @@ small_zone =
     ∷ []
 
 -- the names of the zone of RFC 4592, 2.2.1: its apex `example.`, and what is one and two labels below it
-abbrev pub example : List (List ℕ)
+abbrev pub example : Name
 example = codes "example" ∷ []
 
-abbrev pub in_example : String → List (List ℕ)
+abbrev pub in_example : String → Name
 in_example label = codes label ∷ example
 
-abbrev pub at_wildcard : String → List (List ℕ)
+abbrev pub at_wildcard : String → Name
 at_wildcard label = codes label ∷ in_example "*"
 
-abbrev pub service_at : String → String → List (List ℕ)
+abbrev pub service_at : String → String → Name
 service_at service host = codes service ∷ codes "_tcp" ∷ in_example host
 
 -- the zone of RFC 4592, 2.2.1

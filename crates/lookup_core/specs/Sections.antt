@@ -1,5 +1,6 @@
 -- The sections of an answer (RFC 1034, 4.3.2; RFC 2308, 2 and 3; RFC 6604, 3).
 use Rattle.std.specs.Prelude.{ℕ, Bool, true, false, ◌||◌, not, min, List, [], ◌++◌, map}
+use Rattle.dns_name.specs.Name.{Name}
 use Rattle.dns_rdata.specs.declared.numbers.Rcode.{Rcode}
 use Rattle.dns_rdata.specs.declared.numbers.Rcode.TheVariants.{NoError, NxDomain}
 use Rattle.dns_rdata.specs.Numbers.{type_NS}
@@ -67,5 +68,5 @@ sections_of zone chain =
     }
 
 -- the answer of a zone to a name and a type (RFC 1034, 4.3.2)
-abbrev pub sections : List Record → List (List ℕ) → ℕ → Sections
+abbrev pub sections : List Record → Name → ℕ → Sections
 sections zone name rtype = sections_of zone (chain zone name rtype)

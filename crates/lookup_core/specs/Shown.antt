@@ -1,6 +1,7 @@
 -- What the code's values say, in the words of `Look`, `Chain` and `Sections`: the records that they show.
-use Rattle.std.specs.Prelude.{◌≡◌, ℕ, ◌-◌, List, ◌++◌, length, take, map, reverse}
+use Rattle.std.specs.Prelude.{◌≡◌, ◌-◌, List, ◌++◌, length, take, map, reverse}
 use Rattle.std.specs.List.{flat_map}
+use Rattle.dns_name.specs.Name.{Name}
 use Rattle.dns_rdata.specs.declared.shown.Shown.{Shown}
 use Rattle.dns_rdata.specs.Record.{Record}
 use Rattle.dns_rdata.specs.Shown.{records_shown}
@@ -20,7 +21,7 @@ abbrev pub section_shown : List Shown → List Record
 section_shown section = flat_map records_shown section
 
 -- what is found at a name, with the records under that name
-abbrev pub look_shown : List (List ℕ) → Look → look.Look
+abbrev pub look_shown : Name → Look → look.Look
 look_shown name (Cut cut) = look.Cut cut
 look_shown name (Alias set) = look.Alias (look.owned_by name set.now)
 look_shown name (Data sets) = look.Data (look.owned_by name (flat_map (λ set. set) sets.now))
@@ -28,7 +29,7 @@ look_shown name NoData = look.NoData
 look_shown name NoName = look.NoName
 
 -- the names at which aliases were found, the last one first
-abbrev pub searched_before : List Shown → List (List (List ℕ))
+abbrev pub searched_before : List Shown → List Name
 searched_before aliases = reverse (map (λ alias. alias.owner) aliases)
 
 -- the end of a chain, with the records that it shows

@@ -4,13 +4,13 @@ ghost use Rattle.std.specs.List.{flat_map, list_any};
 ghost use Rattle.dns_rdata.specs.Record.{owner_of, rtype_of};
 ghost use Rattle.dns_rdata.specs.Shown.{records_shown};
 ghost use Rattle.zone_tree.specs.Zone.{is_of, rrset_of};
-ghost use Rattle.lookup_core.specs.Additional.{hosts_in, hosts_of, is_same_set, is_wanted, wanted_sets, additional_of};
+ghost use Rattle.lookup_core.specs.Additional.{has_hosts, hosts_in, hosts_of, is_same_set, is_wanted, wanted_sets, additional_of};
 ghost use Rattle.lookup_core.specs.Shown.{section_shown, with_more};
 
 use crate::sections::standing;
 use arrayvec::ArrayVec;
 use dns_name::Name;
-use dns_rdata::{RData, RRset, RType, Shown};
+use dns_rdata::{Layout, RData, RRset, RType, Shown};
 use std::marker::Model;
 use zone_tree::ZoneRead;
 
@@ -167,18 +167,28 @@ fn add_addresses<'z, Z: ZoneRead>(
     add_rrset(zone, answer, host, RType::AAAA, additional);
 }
 
-/// The name in data whose addresses come along: of NS, MX and SRV (RFC 1035, 3.3.9 and 3.3.11; RFC 2782).
+/// The name in data whose addresses come along: that of NS, MX and SRV (RFC 1035, 3.3.9 and 3.3.11; RFC 2782).
+#[tactic(auto, unfolding(dns_rdata::specs::Layout::layout_of))]
 fn host_in(rdata: &RData) -> Option<Name>
     ensures { option_to_list result ≡ hosts_in rdata.now.rtype rdata.now.octets }
 {
-    let front = match rdata.rtype() {
-        RType::NS => 0,
-        RType::MX => 2,
-        RType::SRV => 6,
-        _ => return None,
+    let rtype = rdata.rtype();
+    if !has_hosts(rtype) {
+        return None;
+    }
+    let Layout::Fields { front, .. } = rtype.layout()? else {
+        return None;
     };
     let (name, _) = Name::from_wire(rdata.octets().get(front..)?)?;
     Some(name)
+}
+
+/// Whether the addresses of names in data of a type come along: NS, MX and SRV, which have one name (RFC 1035, 3.3.9 and
+/// 3.3.11; RFC 2782).
+fn has_hosts(rtype: RType) -> bool
+    ensures { result ≡ has_hosts rtype.0 }
+{
+    rtype == RType::NS || rtype == RType::MX || rtype == RType::SRV
 }
 
 /// Adds the set of a type that stands at exactly a name, unless it stands in the answer.

@@ -4,15 +4,21 @@ ghost use Rattle.dns_rdata.specs.Numbers.{type_A, type_CNAME, type_MX, type_TXT,
 ghost use Rattle.dns_rdata.specs.declared.numbers.Rcode.TheVariants.{NoError, NxDomain};
 ghost use Rattle.lookup_core.specs.Place.{place, closest_encloser};
 ghost use Rattle.lookup_core.specs.declared.matched.Place.TheVariants as at;
+ghost use Rattle.zone_tree.specs.Zone.{IsZone};
 ghost use Rattle.lookup_core.specs.Look.{look, Cut, Data, NoData, NoName};
 ghost use Rattle.lookup_core.specs.Chain.{chain, Found, Stop};
 ghost use Rattle.lookup_core.specs.Sections.{sections};
-ghost use Rattle.lookup_core.specs.Examples.{is_ascending, address, ns, alias, mx, txt, apex, below, under, outside, small_soa, small_zone, example, in_example, at_wildcard, service_at, wildcard_zone};
+ghost use Rattle.lookup_core.specs.Examples.{address, ns, alias, mx, txt, apex, below, under, outside, small_soa, small_zone, example, in_example, at_wildcard, service_at, wildcard_zone};
+
+/// The records of the worked examples are zones.
+pub fn examples_are_zones()
+    ensures small { IsZone small_zone }
+    ensures wildcards { IsZone wildcard_zone }
+{}
 
 /// What is found in the zone of RFC 4592, 2.2.1, which tells this of it: the first three are synthesized, and the
 /// others aren't.
 pub fn examples_of_wildcards()
-    ensures ascending { is_ascending wildcard_zone ≡ true }
     ensures exchange { look wildcard_zone (in_example "host3") type_MX ≡ Data (mx (in_example "host3") 10 (in_example "host1") ∷ []) }
     ensures no_address { look wildcard_zone (in_example "host3") type_A ≡ NoData }
     ensures text { look wildcard_zone (codes "foo" ∷ in_example "bar") type_TXT ≡ Data (txt (codes "foo" ∷ in_example "bar") "this is a wildcard" ∷ []) }
@@ -24,9 +30,8 @@ pub fn examples_of_wildcards()
 {}
 
 /// The answers of a small zone: each case of an answer, and what comes with it.
-#[tactic(auto, unfolding(crate::specs::Chain::chain))]
+#[tactic(auto, unfolding(crate::specs::Chain::chain, dns_rdata::specs::Layout::layout_of))]
 pub fn examples_of_answers()
-    ensures ascending { is_ascending small_zone ≡ true }
     ensures outside { place small_zone outside ≡ at.Outside }
     ensures apex_is_no_cut { place small_zone apex ≡ at.Exact }
     ensures cut { place small_zone (under "x" "sub") ≡ at.Cut (below "sub") }

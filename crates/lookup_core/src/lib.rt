@@ -18,7 +18,9 @@ mod walk;
 
 pub use additional::MOST_ADDITIONAL;
 pub use aliases::{MOST_ALIASES, MOST_SHOWN};
-pub use examples::{examples_of_answers, examples_of_chains, examples_of_wildcards};
+pub use examples::{
+    examples_are_zones, examples_of_answers, examples_of_chains, examples_of_wildcards,
+};
 pub use laws::{chains_are_short, names_without_existence, owners_are_reached};
 pub use matched::Place;
 pub use question::answer;
