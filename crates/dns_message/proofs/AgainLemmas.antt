@@ -3,7 +3,6 @@ use Rattle.std.proofs.Common.{◌≡◌, ℕ, zero, suc, ◌+◌, ◌<◌, ◌�
 use Rattle.std.proofs.lemmas.Bool.{le-leb}
 use Rattle.std.proofs.lemmas.List.{drop_at, drop-drop}
 use Rattle.std.proofs.lemmas.List.Elements.{All-head, All-tail}
-use Rattle.std.proofs.Math.Seq.{take-append_seam}
 use Rattle.std.proofs.lemmas.Nat.{from_be_bytes-to_be_bytes_2, from_be_bytes-to_be_bytes_4}
 use Rattle.std.specs.Int.{to_be_bytes, from_be_bytes, w16, w32}
 use Rattle.dns_name.specs.Name.{IsName}
@@ -11,25 +10,26 @@ use Rattle.dns_rdata.specs.Record.{Record}
 use Rattle.wire_names.specs.NameAt.{name_at}
 use Rattle.wire_names.specs.Table.{Table}
 use Rattle.wire_names.specs.Written.{written, table_after}
-use Rattle.wire_names.proofs.DraftLemmas.{places}
 use Rattle.wire_names.proofs.GrammarLemmas.{computed_spelt}
 use Rattle.wire_names.proofs.WrittenLemmas.{written_spelt}
-use Rattle.dns_message.specs.Again.{IsRecord, IsTrueOf, Place, behind, data_at, entry_at, entries_at}
+use Rattle.dns_message.specs.Again.{IsRecord, Place, behind, data_at, entry_at, entries_at}
 use Rattle.dns_message.specs.Asked.{question_in_full, IsQuestion}
+use Rattle.dns_message.specs.Encoded.{positions_of, IsTrueOf}
 use Rattle.dns_message.specs.Message.{Entry, number_at}
-use Rattle.dns_message.specs.Put.{these, named, before, measured, each}
+use Rattle.dns_message.specs.Encoding.{these, named, before, measured, each}
 use Rattle.dns_message.specs.Reads.{question_of, question_at, long_number_at, record_of, record_at, records_at}
-use Rattle.dns_message.specs.Text.{question_text, data_text, fixed_text, record_text}
+use Rattle.dns_message.specs.Octets.{question_octets, data_octets, fixed_octets, record_octets}
 use Rattle.dns_message.specs.declared.query.Question.{Question}
-use Rattle.dns_message.proofs.KeepsLemmas.{Holds, Holds-nothing, Keeps-record}
+use Rattle.dns_message.proofs.KeepsLemmas.{Keeps-record}
+use Rattle.dns_message.proofs.TrueLemmas.{IsTrueOf-nothing}
 
 -- a name is read where it was written
-name_again_here : (compress : Bool) (msg rest : List ℕ) (table : Table) (name : List (List ℕ)) → Holds msg table → IsName name → name_at (msg ++ (written compress table name ++ rest)) (length msg) ≡ Ok (name, length msg + length (written compress table name))
+name_again_here : (compress : Bool) (msg rest : List ℕ) (table : Table) (name : List (List ℕ)) → IsTrueOf msg table → IsName name → name_at (msg ++ (written compress table name ++ rest)) (length msg) ≡ Ok (name, length msg + length (written compress table name))
 name_again_here compress msg rest table name h lawful =
     let P : Table → Type 0 = λ t. name_at (msg ++ (written compress t name ++ rest)) (length msg) ≡ Ok (name, length msg + length (written compress t name)) in
-    subst P h.is (computed_spelt _ _ _ name (written_spelt compress msg (places table) rest name h.all lawful) lawful.short)
+    subst P h.names (computed_spelt _ _ _ name (written_spelt compress msg (positions_of table) rest name h.targets lawful) lawful.short)
 
-pub name_again : (compress : Bool) (msg rest whole : List ℕ) (table : Table) (n : ℕ) (name : List (List ℕ)) → n ≡ length msg → whole ≡ msg ++ (written compress table name ++ rest) → Holds msg table → IsName name → name_at whole n ≡ Ok (name, n + length (written compress table name))
+pub name_again : (compress : Bool) (msg rest whole : List ℕ) (table : Table) (n : ℕ) (name : List (List ℕ)) → n ≡ length msg → whole ≡ msg ++ (written compress table name ++ rest) → IsTrueOf msg table → IsName name → name_at whole n ≡ Ok (name, n + length (written compress table name))
 name_again compress msg rest whole table n name at is h lawful =
     ap (λ o. name_at o n) is
     ∙ ap (name_at (msg ++ (written compress table name ++ rest))) at
@@ -61,7 +61,7 @@ question_numbers front rest name rtype class h k =
     rw fits (ap (λ n. Some (asked name n (number_at octets (length front + 2)), length front + 4)) first ∙ ap (λ n. Some (asked name rtype n, length front + 4)) second)
 
 -- behind a name that is written with pointers or in full
-question_behind : (compress : Bool) (msg rest whole : List ℕ) (table : Table) (n : ℕ) (q : Question) → n ≡ length msg → whole ≡ msg ++ ((written compress table q.name ++ (to_be_bytes w16 q.rtype.0 ++ to_be_bytes w16 q.class.0)) ++ rest) → Holds msg table → IsQuestion q → question_at whole n ≡ Some (q, n + length (written compress table q.name ++ (to_be_bytes w16 q.rtype.0 ++ to_be_bytes w16 q.class.0)))
+question_behind : (compress : Bool) (msg rest whole : List ℕ) (table : Table) (n : ℕ) (q : Question) → n ≡ length msg → whole ≡ msg ++ ((written compress table q.name ++ (to_be_bytes w16 q.rtype.0 ++ to_be_bytes w16 q.class.0)) ++ rest) → IsTrueOf msg table → IsQuestion q → question_at whole n ≡ Some (q, n + length (written compress table q.name ++ (to_be_bytes w16 q.rtype.0 ++ to_be_bytes w16 q.class.0)))
 question_behind compress msg rest whole table n q at is h lawful =
     let name = written compress table q.name in
     let numbers = to_be_bytes w16 q.rtype.0 ++ to_be_bytes w16 q.class.0 in
@@ -75,24 +75,20 @@ question_behind compress msg rest whole table n q at is h lawful =
     ∙ question_numbers (msg ++ name) rest q.name q.rtype.0 q.class.0 lawful.rtype lawful.class
     ∙ ap (λ k. Some (q, k)) end
 
-pub question_again : (msg rest whole : List ℕ) (table : Table) (n : ℕ) (q : Question) → n ≡ length msg → whole ≡ msg ++ ((question_text q table n).0 ++ rest) → Holds msg table → IsQuestion q → question_at whole n ≡ Some (q, n + length (question_text q table n).0)
-unfolding question_text before named these
+pub question_again : (msg rest whole : List ℕ) (table : Table) (n : ℕ) (q : Question) → n ≡ length msg → whole ≡ msg ++ ((question_octets q table n).0 ++ rest) → IsTrueOf msg table → IsQuestion q → question_at whole n ≡ Some (q, n + length (question_octets q table n).0)
+unfolding question_octets before named these
 question_again msg rest whole table n q at is h lawful = question_behind true msg rest whole table n q at is h lawful
 
 pub question_full_again : (front rest : List ℕ) (q : Question) → IsQuestion q → question_at (front ++ (question_in_full q ++ rest)) (length front) ≡ Some (q, length front + length (question_in_full q))
-question_full_again front rest q lawful = question_behind false front rest _ [] (length front) q refl refl (Holds-nothing front) lawful
-
--- a record of these parts
-abbrev entry : List (List ℕ) → ℕ → ℕ → ℕ → List ℕ → Entry
-entry owner rtype class ttl rdata = record { owner = owner; rtype = rtype; class = class; ttl = ttl; rdata = rdata }
+question_full_again front rest q lawful = question_behind false front rest _ [] (length front) q refl refl (IsTrueOf-nothing front) lawful
 
 -- a record of these numbers whose owner ends at a position of the octets
 abbrev built : List ℕ → List (List ℕ) → ℕ → ℕ → ℕ → ℕ → ℕ → Option (Entry × ℕ)
 built octets owner n rtype class ttl size =
-    if nat_le (n + 10 + size) (length octets) then Some (entry owner rtype class ttl (take size (drop (n + 10) octets)), n + 10 + size) else None
+    if nat_le (n + 10 + size) (length octets) then Some (record { owner = owner; rtype = rtype; class = class; ttl = ttl; at = n + 10; size = size }, n + 10 + size) else None
 
--- its numbers and its data are read behind its owner
-record_numbers : (front rest rdata : List ℕ) (owner : List (List ℕ)) (rtype class ttl : ℕ) → rtype < 2 ^ 16 → class < 2 ^ 16 → ttl < 2 ^ 32 → length rdata < 2 ^ 16 → record_of (front ++ (to_be_bytes w16 rtype ++ (to_be_bytes w16 class ++ (to_be_bytes w32 ttl ++ (to_be_bytes w16 (length rdata) ++ (rdata ++ rest)))))) (Ok (owner, length front)) ≡ Some (entry owner rtype class ttl rdata, length front + 10 + length rdata)
+-- its numbers are read behind its owner
+record_numbers : (front rest rdata : List ℕ) (owner : List (List ℕ)) (rtype class ttl : ℕ) → rtype < 2 ^ 16 → class < 2 ^ 16 → ttl < 2 ^ 32 → length rdata < 2 ^ 16 → record_of (front ++ (to_be_bytes w16 rtype ++ (to_be_bytes w16 class ++ (to_be_bytes w32 ttl ++ (to_be_bytes w16 (length rdata) ++ (rdata ++ rest)))))) (Ok (owner, length front)) ≡ Some (record { owner = owner; rtype = rtype; class = class; ttl = ttl; at = length front + 10; size = length rdata }, length front + 10 + length rdata)
 record_numbers front rest rdata owner rtype class ttl h1 h2 h3 h4 =
     let tail = to_be_bytes w16 rtype ++ (to_be_bytes w16 class ++ (to_be_bytes w32 ttl ++ (to_be_bytes w16 (length rdata) ++ (rdata ++ rest)))) in
     let octets = front ++ tail in
@@ -101,24 +97,28 @@ record_numbers front rest rdata owner rtype class ttl h1 h2 h3 h4 =
     let e2 : number_at octets (n + 2) ≡ class = number_behind front tail 2 ∙ from_be_bytes-to_be_bytes_2 class h2 in
     let e3 : long_number_at octets (n + 4) ≡ ttl = ap (λ t. from_be_bytes w32 (take 4 t)) (behind_front front tail 4) ∙ from_be_bytes-to_be_bytes_4 ttl h3 in
     let e4 : number_at octets (n + 8) ≡ length rdata = number_behind front tail 8 ∙ from_be_bytes-to_be_bytes_2 (length rdata) h4 in
-    let e5 : take (length rdata) (drop (n + 10) octets) ≡ rdata = ap (take (length rdata)) (behind_front front tail 10) ∙ take-append_seam rdata rest in
     let fits : nat_le (n + 10 + length rdata) (length octets) ≡ true = le-leb _ _ (omega (arith, length-append front tail, length-append rdata rest)) in
     ap (λ a. built octets owner n a (number_at octets (n + 2)) (long_number_at octets (n + 4)) (number_at octets (n + 8))) e1
     ∙ ap (λ a. built octets owner n rtype a (long_number_at octets (n + 4)) (number_at octets (n + 8))) e2
     ∙ ap (λ a. built octets owner n rtype class a (number_at octets (n + 8))) e3
     ∙ ap (λ a. built octets owner n rtype class ttl a) e4
-    ∙ rw fits (ap (λ d. Some (entry owner rtype class ttl d, n + 10 + length rdata)) e5)
+    ∙ rw fits
 
 -- a record is its owner, its numbers, and its data behind their length
-pub record_parts : (r : Record) (table : Table) (n : ℕ) → (record_text r table n).0 ≡ written true table r.owner ++ (fixed_text r ++ (to_be_bytes w16 (length (data_at r (table, n))) ++ data_at r (table, n)))
-unfolding record_text before named these measured
+pub record_parts : (r : Record) (table : Table) (n : ℕ) → (record_octets r table n).0 ≡ written true table r.owner ++ (fixed_octets r ++ (to_be_bytes w16 (length (data_at r (table, n))) ++ data_at r (table, n)))
+unfolding record_octets before named these measured
 record_parts r table n =
     let owner = written true table r.owner in
     let after = table_after true table n r.owner in
-    let place : n + length owner + length (fixed_text r) + 2 ≡ n + length owner + 10 = omega arith in
-    ap (λ k. owner ++ (fixed_text r ++ (to_be_bytes w16 (length (data_text r.rtype r.rdata after k).0) ++ (data_text r.rtype r.rdata after k).0))) place
+    let place : n + length owner + length (fixed_octets r) + 2 ≡ n + length owner + 10 = omega arith in
+    ap (λ k. owner ++ (fixed_octets r ++ (to_be_bytes w16 (length (data_octets r.rtype r.rdata after k).0) ++ (data_octets r.rtype r.rdata after k).0))) place
 
-pub record_again : (msg rest whole : List ℕ) (table : Table) (n : ℕ) (r : Record) → n ≡ length msg → whole ≡ msg ++ ((record_text r table n).0 ++ rest) → Holds msg table → IsRecord r → length (data_at r (table, n)) < 2 ^ 16 → record_at whole n ≡ Some (entry_at r (table, n), n + length (record_text r table n).0)
+-- the record whose owner ends at a position, with so many octets of data
+abbrev entry_to : Record → ℕ → ℕ → Entry
+entry_to r end size = record { owner = r.owner; rtype = r.rtype; class = 1; ttl = r.ttl; at = end + 10; size = size }
+
+pub record_again : (msg rest whole : List ℕ) (table : Table) (n : ℕ) (r : Record) → n ≡ length msg → whole ≡ msg ++ ((record_octets r table n).0 ++ rest) → IsTrueOf msg table → IsRecord r → length (data_at r (table, n)) < 2 ^ 16 → record_at whole n ≡ Some (entry_at r (table, n), n + length (record_octets r table n).0)
+unfolding named
 record_again msg rest whole table n r at is h lawful short =
     let owner = written true table r.owner in
     let rdata = data_at r (table, n) in
@@ -127,22 +127,23 @@ record_again msg rest whole table n r at is h lawful short =
     let to_owner : whole ≡ msg ++ (owner ++ behind_owner) = is ∙ ap (λ t. msg ++ (t ++ rest)) parts ∙ simp append_assoc in
     let to_numbers : whole ≡ (msg ++ owner) ++ behind_owner = to_owner ∙ sym (append_assoc msg owner behind_owner) in
     let there : n + length owner ≡ length (msg ++ owner) = ap (λ k. k + length owner) at ∙ sym (length-append msg owner) in
-    let size : length (record_text r table n).0 ≡ length owner + 10 + length rdata = ap length parts ∙ omega (arith, length-append owner (fixed_text r ++ (to_be_bytes w16 (length rdata) ++ rdata))) in
+    let size : length (record_octets r table n).0 ≡ length owner + 10 + length rdata = ap length parts ∙ omega (arith, length-append owner (fixed_octets r ++ (to_be_bytes w16 (length rdata) ++ rdata))) in
     ap (record_of whole) (name_again true msg behind_owner whole table n r.owner at to_owner h lawful.owner)
     ∙ ap (λ o. record_of o (Ok (r.owner, n + length owner))) to_numbers
     ∙ ap (λ k. record_of ((msg ++ owner) ++ behind_owner) (Ok (r.owner, k))) there
     ∙ record_numbers (msg ++ owner) rest rdata r.owner r.rtype 1 r.ttl lawful.rtype (lit< tt) lawful.ttl short
-    ∙ ap (λ k. Some (entry_at r (table, n), k)) (omega (arith, there, size))
+    ∙ ap (λ k. Some (entry_to r k (length rdata), k + 10 + length rdata)) (sym there)
+    ∙ ap (λ k. Some (entry_to r (n + length owner) (length rdata), k)) (omega (arith, size))
 
 -- a record has at least ten octets, and those of its data
-record_long : (r : Record) (table : Table) (n : ℕ) → 10 + length (data_at r (table, n)) ≤ length (record_text r table n).0
+record_long : (r : Record) (table : Table) (n : ℕ) → 10 + length (data_at r (table, n)) ≤ length (record_octets r table n).0
 record_long r table n =
     let owner = written true table r.owner in
     let rdata = data_at r (table, n) in
-    omega (arith, ap length (record_parts r table n), length-append owner (fixed_text r ++ (to_be_bytes w16 (length rdata) ++ rdata)))
+    omega (arith, ap length (record_parts r table n), length-append owner (fixed_octets r ++ (to_be_bytes w16 (length rdata) ++ rdata)))
 
 -- the octets of one record and of those behind it
-each_one : (r : Record) (rs : List Record) (table : Table) (n : ℕ) → let next = record_text r table n in (each record_text (r ∷ rs) table n).0 ≡ next.0 ++ (each record_text rs next.1 (n + length next.0)).0
+each_one : (r : Record) (rs : List Record) (table : Table) (n : ℕ) → let next = record_octets r table n in (each record_octets (r ∷ rs) table n).0 ≡ next.0 ++ (each record_octets rs next.1 (n + length next.0)).0
 unfolding each before
 each_one r rs table n = refl
 
@@ -156,7 +157,7 @@ one_more count msg n next end e es first others =
     ap (option_and_then (λ r. option_map (λ rest. (r.0 ∷ rest.0, rest.1)) (records_at count msg r.1))) first
     ∙ ap (option_map (λ rest. (e ∷ rest.0, rest.1))) others
 
-no_octets : (table : Table) (n : ℕ) → length (each record_text [] table n).0 ≡ 0
+no_octets : (table : Table) (n : ℕ) → length (each record_octets [] table n).0 ≡ 0
 unfolding each these
 no_octets table n = refl
 
@@ -164,44 +165,43 @@ no_entries : (place : Place) → entries_at [] place ≡ []
 unfolding entries_at
 no_entries place = refl
 
-entries_one : (r : Record) (rs : List Record) (place : Place) → entries_at (r ∷ rs) place ≡ entry_at r place ∷ entries_at rs (behind (record_text r) place)
+entries_one : (r : Record) (rs : List Record) (place : Place) → entries_at (r ∷ rs) place ≡ entry_at r place ∷ entries_at rs (behind (record_octets r) place)
 unfolding entries_at
 entries_one r rs place = refl
 
 -- records are read where they were written
-pub records_again : (rs : List Record) (msg rest whole : List ℕ) (table : Table) (n : ℕ) → n ≡ length msg → whole ≡ msg ++ ((each record_text rs table n).0 ++ rest) → Holds msg table → All IsRecord rs → length (each record_text rs table n).0 < 2 ^ 16 → records_at (length rs) whole n ≡ Some (entries_at rs (table, n), n + length (each record_text rs table n).0)
+pub records_again : (rs : List Record) (msg rest whole : List ℕ) (table : Table) (n : ℕ) → n ≡ length msg → whole ≡ msg ++ ((each record_octets rs table n).0 ++ rest) → IsTrueOf msg table → All IsRecord rs → length (each record_octets rs table n).0 < 2 ^ 16 → records_at (length rs) whole n ≡ Some (entries_at rs (table, n), n + length (each record_octets rs table n).0)
 records_again [] msg rest whole table n at is h all short =
     none_more whole n
     ∙ ap (λ es. Some (es, n)) (sym (no_entries (table, n)))
     ∙ ap (λ k. Some (entries_at [] (table, n), k)) (omega (arith, no_octets table n))
 records_again (r ∷ rs) msg rest whole table n at is h all short =
-    let next = record_text r table n in
-    let others = (each record_text rs next.1 (n + length next.0)).0 in
+    let next = record_octets r table n in
+    let others = (each record_octets rs next.1 (n + length next.0)).0 in
     let octets = each_one r rs table n in
-    let size : length (each record_text (r ∷ rs) table n).0 ≡ length next.0 + length others = ap length octets ∙ length-append next.0 others in
+    let size : length (each record_octets (r ∷ rs) table n).0 ≡ length next.0 + length others = ap length octets ∙ length-append next.0 others in
     let lawful : IsRecord r = All-head IsRecord r rs all in
     let split : whole ≡ msg ++ (next.0 ++ (others ++ rest)) = is ∙ ap (λ t. msg ++ (t ++ rest)) octets ∙ ap (λ t. msg ++ t) (append_assoc next.0 others rest) in
     let here = record_again msg (others ++ rest) whole table n r at split h lawful (omega (arith, record_long r table n)) in
     let there : n + length next.0 ≡ length (msg ++ next.0) = ap (λ k. k + length next.0) at ∙ sym (length-append msg next.0) in
-    let kept : Holds (msg ++ next.0) next.1 = let P : ℕ → Type 0 = λ k. Holds (msg ++ (record_text r table k).0) (record_text r table k).1 in subst P (sym at) ((Keeps-record r lawful.owner).kept msg table h) in
+    let kept : IsTrueOf (msg ++ next.0) next.1 = let P : ℕ → Type 0 = λ k. IsTrueOf (msg ++ (record_octets r table k).0) (record_octets r table k).1 in subst P (sym at) ((Keeps-record r lawful.owner).kept msg table h) in
     let back = records_again rs (msg ++ next.0) rest whole next.1 (n + length next.0) there (split ∙ sym (append_assoc msg next.0 (others ++ rest))) kept (All-tail IsRecord r rs all) (omega arith) in
-    one_more (length rs) whole n (n + length next.0) (n + length next.0 + length others) (entry_at r (table, n)) (entries_at rs (behind (record_text r) (table, n))) here back
+    one_more (length rs) whole n (n + length next.0) (n + length next.0 + length others) (entry_at r (table, n)) (entries_at rs (behind (record_octets r) (table, n))) here back
     ∙ ap (λ es. Some (es, n + length next.0 + length others)) (sym (entries_one r rs (table, n)))
     ∙ ap (λ k. Some (entries_at (r ∷ rs) (table, n), k)) (omega (arith, size))
 
 -- there are no more records than octets
-pub few_records : (rs : List Record) (table : Table) (n : ℕ) → length rs ≤ length (each record_text rs table n).0
+pub few_records : (rs : List Record) (table : Table) (n : ℕ) → length rs ≤ length (each record_octets rs table n).0
 few_records [] table n = omega arith
 few_records (r ∷ rs) table n =
-    let next = record_text r table n in
-    omega (arith, record_long r table n, ap length (each_one r rs table n), length-append next.0 (each record_text rs next.1 (n + length next.0)).0, few_records rs next.1 (n + length next.0))
+    let next = record_octets r table n in
+    omega (arith, record_long r table n, ap length (each_one r rs table n), length-append next.0 (each record_octets rs next.1 (n + length next.0)).0, few_records rs next.1 (n + length next.0))
 
 -- a record that is written behind a message of which a table is true
-pub record_read : (msg rest : List ℕ) (table : Table) (r : Record) → IsTrueOf msg table → IsRecord r → length (data_at r (table, length msg)) < 2 ^ 16 → record_at (msg ++ ((record_text r table (length msg)).0 ++ rest)) (length msg) ≡ Some (entry_at r (table, length msg), length msg + length (record_text r table (length msg)).0)
+pub record_read : (msg rest : List ℕ) (table : Table) (r : Record) → IsTrueOf msg table → IsRecord r → length (data_at r (table, length msg)) < 2 ^ 16 → record_at (msg ++ ((record_octets r table (length msg)).0 ++ rest)) (length msg) ≡ Some (entry_at r (table, length msg), length msg + length (record_octets r table (length msg)).0)
 record_read msg rest table r true_of lawful short =
-    record_again msg rest _ table (length msg) r refl refl (record { all = true_of.targets; is = true_of.names }) lawful short
+    record_again msg rest _ table (length msg) r refl refl true_of lawful short
 
-pub record_enters : (msg : List ℕ) (table : Table) (r : Record) → IsTrueOf msg table → IsRecord r → IsTrueOf (msg ++ (record_text r table (length msg)).0) (record_text r table (length msg)).1
+pub record_enters : (msg : List ℕ) (table : Table) (r : Record) → IsTrueOf msg table → IsRecord r → IsTrueOf (msg ++ (record_octets r table (length msg)).0) (record_octets r table (length msg)).1
 record_enters msg table r true_of lawful =
-    let kept = (Keeps-record r lawful.owner).kept msg table (record { all = true_of.targets; is = true_of.names }) in
-    record { targets = kept.all; names = kept.is }
+    (Keeps-record r lawful.owner).kept msg table true_of

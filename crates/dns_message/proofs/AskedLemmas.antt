@@ -1,21 +1,22 @@
 -- The request that a reply answers is read.
-use Rattle.std.proofs.Common.{◌≡◌, ◌==◌, ℕ, ◌+◌, ◌*◌, ◌/◌, ◌%◌, ◌<◌, ◌^◌, Bool, true, false, not, ◌||◌, if◌then◌else◌, eq-eqb, List, [], ◌++◌, length, drop, Option, Some, nat_lt, nat_le, refl, ap, subst, ◌∙◌, arith, lit<}
+use Rattle.std.proofs.Common.{◌≡◌, ◌==◌, ℕ, ◌+◌, ◌*◌, ◌/◌, ◌%◌, ◌<◌, ◌^◌, Bool, true, false, not, ◌||◌, ◌&&◌, option_and_then, if◌then◌else◌, eq-eqb, List, [], ◌∷◌, ◌++◌, length, drop, Option, Some, nat_lt, nat_le, refl, ap, subst, ◌∙◌, arith, lit<}
 use Rattle.std.proofs.Math.Bridge.{le_prop}
 use Rattle.std.proofs.Math.Nat.{mod-lt}
 use Rattle.std.proofs.lemmas.Bool.Decides.{nat_tests}
 use Rattle.std.proofs.lemmas.Nat.{from_be_bytes-to_be_bytes_2}
 use Rattle.dns_rdata.specs.declared.numbers.Rcode.TheVariants.{NotImp}
 use Rattle.dns_message.specs.Asked.{request_header, request_of, IsAnswerTo}
-use Rattle.dns_message.specs.Message.{Request, Message}
-use Rattle.dns_message.specs.Reads.{header_of, copied, is_reply, request_in, query_of, reads}
-use Rattle.dns_message.specs.Text.{bit, text}
+use Rattle.dns_message.specs.Message.{Body, Message}
+use Rattle.dns_message.specs.Reads.{header_of, is_reply, body_in, seen, query_of, reads}
+use Rattle.dns_message.specs.Octets.{bit, reply_octets}
 use Rattle.dns_message.specs.declared.query.Head.{Head}
 use Rattle.dns_message.specs.declared.query.Question.{Question}
 use Rattle.dns_message.specs.declared.query.Parsed.{Parsed}
 use Rattle.dns_message.specs.declared.query.Parsed.TheVariants.{Silent, Fault, Query}
 use Rattle.dns_message.proofs.AgainLemmas.{none_more}
-use Rattle.dns_message.proofs.KeepsLemmas.{Holds-nothing}
-use Rattle.dns_message.proofs.SectionLemmas.{Stands, asked_again, question_octets, answer_octets, authority_octets, additional_octets, sections_parts, request_parts}
+use Rattle.dns_message.proofs.TrueLemmas.{IsTrueOf-nothing}
+use Rattle.dns_message.proofs.KeepsLemmas.{Stands}
+use Rattle.dns_message.proofs.SectionLemmas.{asked_again, question_part, answer_part, authority_part, additional_part, sections_parts, body_parts}
 
 -- a header of these parts
 abbrev head_with : ℕ → Bool → (opcode : ℕ) → opcode < 16 → Head
@@ -32,17 +33,18 @@ opcode_again : (opcode : ℕ) (rd : Bool) → opcode < 16 → (8 * opcode + bit 
 opcode_again opcode true h = omega arith
 opcode_again opcode false h = omega arith
 
-rd_again : (opcode : ℕ) (rd : Bool) → ((8 * opcode + bit rd) % 2 == 1) ≡ rd
-rd_again opcode true = grind (arith, nat_tests)
-rd_again opcode false = grind (arith, nat_tests)
+rd_again : (opcode : ℕ) (rd : Bool) → opcode ≡ 0 → ((8 * opcode + bit rd) % 2 == 1 && not ((8 * opcode + bit rd) / 8 % 16 == 5)) ≡ rd
+rd_again opcode true z = ap (λ n. (8 * n + 1) % 2 == 1 && not ((8 * n + 1) / 8 % 16 == 5)) z
+rd_again opcode false z = ap (λ n. (8 * n + 0) % 2 == 1 && not ((8 * n + 0) / 8 % 16 == 5)) z
 
--- the header of a request is read as it was written
-header_again : (head : Head) (rest : List ℕ) → head.id < 2 ^ 16 → header_of (request_header head ++ rest) ≡ head
-header_again head rest h =
+-- the header of a query is read as it was written
+header_again : (head : Head) (rest : List ℕ) → head.id < 2 ^ 16 → head.opcode ≡ 0 → header_of (request_header head ++ rest) ≡ head
+header_again head rest h z =
     let octet = 8 * head.opcode + bit head.rd in
+    let rd = octet % 2 == 1 && not (octet / 8 % 16 == 5) in
     let id = from_be_bytes-to_be_bytes_2 head.id h in
-    ap (λ n. head_with n (octet % 2 == 1) (octet / 8 % 16) (mod-lt (octet / 8) (lit< tt))) id
-    ∙ ap (λ b. head_with head.id b (octet / 8 % 16) (mod-lt (octet / 8) (lit< tt))) (rd_again head.opcode head.rd)
+    ap (λ n. head_with n rd (octet / 8 % 16) (mod-lt (octet / 8) (lit< tt))) id
+    ∙ ap (λ b. head_with head.id b (octet / 8 % 16) (mod-lt (octet / 8) (lit< tt))) (rd_again head.opcode head.rd z)
     ∙ same_head head.id head.rd _ _ _ head.four_bits (opcode_again head.opcode head.rd head.four_bits)
 
 -- a request's third octet isn't a reply's
@@ -51,39 +53,39 @@ asks opcode true h = grind (arith, nat_tests)
 asks opcode false h = grind (arith, nat_tests)
 
 -- what is said where these parts of the octets are known: whether they are silent, the header, what stands behind it
-abbrev pub judged : Bool → Head → Option Request → Parsed
-judged silent head request =
+abbrev pub judged : Bool → Head → Option Body → Parsed
+judged silent head body =
     if silent then Silent
-    else if not (head.opcode == 0) then Fault (copied head) NotImp
-    else query_of head request
+    else if not (head.opcode == 0) then Fault head NotImp
+    else query_of head (option_and_then seen body)
 
-judged_standard : (head : Head) (request : Option Request) → head.opcode ≡ 0 → judged false head request ≡ query_of head request
-judged_standard head request z = let standard : (head.opcode == 0) ≡ true = eq-eqb _ _ z in rw standard
+judged_standard : (head : Head) (body : Option Body) → head.opcode ≡ 0 → judged false head body ≡ query_of head (option_and_then seen body)
+judged_standard head body z = let standard : (head.opcode == 0) ≡ true = eq-eqb _ _ z in rw standard
 
 -- a request is read as what its header and what stands behind it say
-reads-request : (head : Head) (rest : List ℕ) → head.id < 2 ^ 16 → head.opcode ≡ 0 → reads (request_header head ++ rest) ≡ query_of head (request_in (request_header head ++ rest))
+reads-request : (head : Head) (rest : List ℕ) → head.id < 2 ^ 16 → head.opcode ≡ 0 → reads (request_header head ++ rest) ≡ query_of head (option_and_then seen (body_in (request_header head ++ rest)))
 reads-request head rest h z =
     let msg = request_header head ++ rest in
     let whole : nat_lt (length msg) 12 ≡ false = grind (arith, nat_tests) in
-    ap (λ b. judged (b || is_reply msg) (header_of msg) (request_in msg)) whole
-    ∙ ap (λ b. judged b (header_of msg) (request_in msg)) (asks head.opcode head.rd head.four_bits)
-    ∙ ap (λ a. judged false a (request_in msg)) (header_again head rest h)
-    ∙ judged_standard head (request_in msg) z
+    ap (λ b. judged (b || is_reply msg) (header_of msg) (body_in msg)) whole
+    ∙ ap (λ b. judged b (header_of msg) (body_in msg)) (asks head.opcode head.rd head.four_bits)
+    ∙ ap (λ a. judged false a (body_in msg)) (header_again head rest h z)
+    ∙ judged_standard head (body_in msg) z
 
 -- behind a request's header stands the question that the reply repeats
-question_stands : (m : Message) → Stands (request_of m) (request_header m.head) (question_octets m ++ (answer_octets m ++ (authority_octets m ++ additional_octets m))) [] 12
-question_stands m = record { at = refl; is = ap (λ t. request_header m.head ++ t) (sections_parts m); holds = Holds-nothing (request_header m.head) }
+question_stands : (m : Message) → Stands (request_of m) (request_header m.head) (question_part m ++ (answer_part m ++ (authority_part m ++ additional_part m))) [] 12
+question_stands m = record { at = refl; is = ap (λ t. request_header m.head ++ t) (sections_parts m); holds = IsTrueOf-nothing (request_header m.head) }
 
-request_in_of : (m : Message) (q : Question) → IsAnswerTo m q → request_in (request_of m) ≡ Some (record { question = q; answer = []; authority = []; additional = [] })
-unfolding question_octets
-request_in_of m q h =
-    request_parts (request_of m) q 0 0 0 _ _ _ _ [] [] [] refl refl refl refl
+body_in_of : (m : Message) (q : Question) → IsAnswerTo m q → body_in (request_of m) ≡ Some (record { questions = q ∷ []; answer = []; authority = []; additional = [] })
+unfolding question_part
+body_in_of m q h =
+    body_parts (request_of m) q 0 0 0 _ _ _ _ [] [] [] refl refl refl refl
     (asked_again m.question q _ _ _ _ _ h.asked h.lawful (question_stands m))
     (none_more _ _) (none_more _ _) (none_more _ _)
 
 -- the question that a reply repeats is read as itself
 pub reads-request_of : (m : Message) (q : Question) → IsAnswerTo m q → reads (request_of m) ≡ Query (record { head = m.head; question = q })
 reads-request_of m q h =
-    reads-request m.head (drop 12 (text m)) h.id h.standard
-    ∙ ap (query_of m.head) (request_in_of m q h)
+    reads-request m.head (drop 12 (reply_octets m)) h.id h.standard
+    ∙ ap (λ b. query_of m.head (option_and_then seen b)) (body_in_of m q h)
     ∙ rw h.lookup

@@ -2,10 +2,11 @@ pub mod AgainLemmas
 pub mod AskedLemmas
 pub mod CountLemmas
 pub mod DataLemmas
+pub mod EncodedLemmas
+pub mod ExpandedLemmas
 pub mod KeepsLemmas
-pub mod NamesLemmas
-pub mod PutsLemmas
+pub mod OctetsLemmas
 pub mod ReadLemmas
 pub mod SectionLemmas
 pub mod SetLemmas
-pub mod TextLemmas
+pub mod TrueLemmas

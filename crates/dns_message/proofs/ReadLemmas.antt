@@ -1,9 +1,9 @@
 -- How a request is read.
-use Rattle.std.proofs.Common.{◌≡◌, ◌≢◌, ◌==◌, eq-eqb, ne_eqb, ℕ, suc, ◌+◌, ◌-◌, ◌<◌, ◌≤◌, Bool, true, false, ◌||◌, List, ◌∷◌, Option, Some, None, refl, sym, ap, ◌∙◌, arith, option_map, option_and_then}
+use Rattle.std.proofs.Common.{◌≡◌, ◌≢◌, ◌==◌, ℕ, zero, suc, ◌+◌, ◌-◌, ◌<◌, ◌≤◌, Bool, true, false, ◌||◌, List, [], ◌∷◌, length, Option, Some, None, refl, sym, ap, ◌∙◌, arith, option_map, option_and_then}
 use Rattle.dns_rdata.specs.declared.numbers.RType.{RType}
 use Rattle.dns_rdata.specs.Numbers.{type_OPT}
-use Rattle.dns_message.specs.Message.{Entry, Request, number_at}
-use Rattle.dns_message.specs.Reads.{question_at, record_at, records_at, request_in, has_opt}
+use Rattle.dns_message.specs.Message.{Entry, Body, number_at}
+use Rattle.dns_message.specs.Reads.{question_at, questions_at, record_at, records_at, body_in, has_opt, only_question, seen}
 use Rattle.dns_message.specs.declared.query.Question.{Question}
 
 -- what is seen of a record, and of many
@@ -81,15 +81,11 @@ IsPast-end count msg at done place opt past all =
     ∙ ap (λ n. option_map (sight_behind opt) (records_at n msg place)) (omega arith)
     ∙ none_left msg place opt
 
--- what is seen of a request
-abbrev pub seen : Request → Question × Bool
-seen r = (r.question, has_opt r.additional)
-
 -- what is seen of the records that a count at a position of the header tells
 abbrev pub sight_at : List ℕ → ℕ → ℕ → Option (Bool × ℕ)
 sight_at msg count at = option_map sight (records_at (number_at msg count) msg at)
 
-additional_seen : (q : Question) (answer authority : List Entry) (o : Option (List Entry × ℕ)) → option_map seen (option_map (λ additional. record { question = q; answer = answer; authority = authority; additional = additional.0 }) o) ≡ option_map (λ s. (q, s.0)) (option_map sight o)
+additional_seen : (q : Question) (answer authority : List Entry) (o : Option (List Entry × ℕ)) → option_and_then seen (option_map (λ additional. record { questions = q ∷ []; answer = answer; authority = authority; additional = additional.0 }) o) ≡ option_map (λ s. (q, s.0)) (option_map sight o)
 additional_seen q answer authority None = refl
 additional_seen q answer authority (Some r) = refl
 
@@ -103,47 +99,95 @@ behind_answer msg q o = option_and_then (λ a. behind_authority msg q (sight_at 
 abbrev pub behind_question : List ℕ → Option (Question × ℕ) → Option (Question × Bool)
 behind_question msg o = option_and_then (λ q. behind_answer msg q.0 (sight_at msg 6 q.1)) o
 
-authority_seen : (msg : List ℕ) (q : Question) (answer : List Entry) (o : Option (List Entry × ℕ)) → option_map seen (option_and_then (λ authority. option_map (λ additional. record { question = q; answer = answer; authority = authority.0; additional = additional.0 }) (records_at (number_at msg 10) msg authority.1)) o) ≡ behind_authority msg q (option_map sight o)
+-- what stands behind questions, where they are read
+abbrev behind_authorities : List ℕ → List Question → List Entry → Option (List Entry × ℕ) → Option Body
+behind_authorities msg qs answer o = option_and_then (λ authority. option_map (λ additional. record { questions = qs; answer = answer; authority = authority.0; additional = additional.0 }) (records_at (number_at msg 10) msg authority.1)) o
+
+abbrev behind_answers : List ℕ → List Question → Option (List Entry × ℕ) → Option Body
+behind_answers msg qs o = option_and_then (λ answer. behind_authorities msg qs answer.0 (records_at (number_at msg 8) msg answer.1)) o
+
+abbrev behind_questions : List ℕ → Option (List Question × ℕ) → Option Body
+behind_questions msg o = option_and_then (λ questions. behind_answers msg questions.0 (records_at (number_at msg 6) msg questions.1)) o
+
+authority_seen : (msg : List ℕ) (q : Question) (answer : List Entry) (o : Option (List Entry × ℕ)) → option_and_then seen (behind_authorities msg (q ∷ []) answer o) ≡ behind_authority msg q (option_map sight o)
 authority_seen msg q answer None = refl
 authority_seen msg q answer (Some r) = additional_seen q answer r.0 (records_at (number_at msg 10) msg r.1)
 
-answer_seen : (msg : List ℕ) (q : Question) (o : Option (List Entry × ℕ)) → option_map seen (option_and_then (λ answer. option_and_then (λ authority. option_map (λ additional. record { question = q; answer = answer.0; authority = authority.0; additional = additional.0 }) (records_at (number_at msg 10) msg authority.1)) (records_at (number_at msg 8) msg answer.1)) o) ≡ behind_answer msg q (option_map sight o)
+answer_seen : (msg : List ℕ) (q : Question) (o : Option (List Entry × ℕ)) → option_and_then seen (behind_answers msg (q ∷ []) o) ≡ behind_answer msg q (option_map sight o)
 answer_seen msg q None = refl
 answer_seen msg q (Some r) = authority_seen msg q r.0 (records_at (number_at msg 8) msg r.1)
 
-question_seen : (msg : List ℕ) (o : Option (Question × ℕ)) → option_map seen (option_and_then (λ q. option_and_then (λ answer. option_and_then (λ authority. option_map (λ additional. record { question = q.0; answer = answer.0; authority = authority.0; additional = additional.0 }) (records_at (number_at msg 10) msg authority.1)) (records_at (number_at msg 8) msg answer.1)) (records_at (number_at msg 6) msg q.1)) o) ≡ behind_question msg o
+-- behind one question
+one_more : List ℕ → Option (Question × ℕ) → Option (List Question × ℕ)
+one_more msg o = option_and_then (λ q. option_map (λ rest. (q.0 ∷ rest.0, rest.1)) (questions_at 0 msg q.1)) o
+
+question_seen : (msg : List ℕ) (o : Option (Question × ℕ)) → option_and_then seen (behind_questions msg (one_more msg o)) ≡ behind_question msg o
+unfolding one_more questions_at
 question_seen msg None = refl
 question_seen msg (Some r) = answer_seen msg r.0 (records_at (number_at msg 6) msg r.1)
 
-pub seen_one : (msg : List ℕ) → (number_at msg 4 == 1) ≡ true → option_map seen (request_in msg) ≡ behind_question msg (question_at msg 12)
-unfolding request_in
-seen_one msg one = rw one (question_seen msg (question_at msg 12))
+seen_one : (msg : List ℕ) → number_at msg 4 ≡ 1 → option_and_then seen (body_in msg) ≡ behind_question msg (question_at msg 12)
+unfolding body_in one_more questions_at
+seen_one msg one = ap (λ n. option_and_then seen (behind_questions msg (questions_at n msg 12))) one ∙ question_seen msg (question_at msg 12)
 
-pub seen_other : (msg : List ℕ) → (number_at msg 4 == 1) ≡ false → option_map seen (request_in msg) ≡ None
-unfolding request_in
-seen_other msg other = rw other
+-- as many questions are read as are counted
+counted_more : (count : ℕ) (msg : List ℕ) (q : Question) (at : ℕ) (o : Option (List Question × ℕ)) → questions_at count msg at ≡ o → (qs : List Question) (next : ℕ) → ((at : ℕ) (others : List Question) (end : ℕ) → questions_at count msg at ≡ Some (others, end) → length others ≡ count) → option_map {U = List Question × ℕ} (λ rest. (q ∷ rest.0, rest.1)) o ≡ Some (qs, next) → length qs ≡ suc count
+counted_more count msg q at None was qs next all e = cc
+counted_more count msg q at (Some r) was qs next all e =
+    let both : (q ∷ r.0, r.1) ≡ (qs, next) = cc in
+    ap (λ (p : List Question × ℕ). length p.0) (sym both) ∙ ap suc (all at r.0 r.1 was)
 
-one_counted : (n : ℕ) → n ≡ 1 → (n == 1) ≡ true
-one_counted n e = eq-eqb _ _ e
+counted_one : (count : ℕ) (msg : List ℕ) (o : Option (Question × ℕ)) (qs : List Question) (next : ℕ) → ((at : ℕ) (others : List Question) (end : ℕ) → questions_at count msg at ≡ Some (others, end) → length others ≡ count) → option_and_then {U = List Question × ℕ} (λ q. option_map (λ rest. (q.0 ∷ rest.0, rest.1)) (questions_at count msg q.1)) o ≡ Some (qs, next) → length qs ≡ suc count
+counted_one count msg None qs next all e = cc
+counted_one count msg (Some r) qs next all e = counted_more count msg r.0 r.1 (questions_at count msg r.1) refl qs next all e
 
-pub seen_question : (msg : List ℕ) (count : ℕ) (o : Option (Question × ℕ)) → count ≡ number_at msg 4 → count ≡ 1 → o ≡ question_at msg 12 → option_map seen (request_in msg) ≡ behind_question msg o
-seen_question msg count o told one e =
-    seen_one msg (one_counted _ (sym told ∙ one)) ∙ ap (behind_question msg) (sym e)
+counted : (count : ℕ) (msg : List ℕ) (at : ℕ) (qs : List Question) (next : ℕ) → questions_at count msg at ≡ Some (qs, next) → length qs ≡ count
+unfolding questions_at
+counted zero msg at qs next e =
+    let both : ([], at) ≡ (qs, next) = cc in
+    ap (λ (p : List Question × ℕ). length p.0) (sym both)
+counted (suc count) msg at qs next e = counted_one count msg (question_at msg at) qs next (counted count msg) e
+
+only_none : (qs : List Question) → length qs ≢ 1 → only_question qs ≡ None
+only_none [] h = refl
+only_none (q ∷ []) h = absurd (h refl)
+only_none (q ∷ r ∷ qs) h = refl
+
+-- of another number of questions nothing is seen
+additional_none : (qs : List Question) (answer authority : List Entry) (o : Option (List Entry × ℕ)) → only_question qs ≡ None → option_and_then seen (option_map (λ additional. record { questions = qs; answer = answer; authority = authority; additional = additional.0 }) o) ≡ None
+additional_none qs answer authority None e = refl
+additional_none qs answer authority (Some r) e = ap (option_map (λ question. (question, has_opt r.0))) e
+
+authority_none : (msg : List ℕ) (qs : List Question) (answer : List Entry) (o : Option (List Entry × ℕ)) → only_question qs ≡ None → option_and_then seen (behind_authorities msg qs answer o) ≡ None
+authority_none msg qs answer None e = refl
+authority_none msg qs answer (Some r) e = additional_none qs answer r.0 (records_at (number_at msg 10) msg r.1) e
+
+answer_none : (msg : List ℕ) (qs : List Question) (o : Option (List Entry × ℕ)) → only_question qs ≡ None → option_and_then seen (behind_answers msg qs o) ≡ None
+answer_none msg qs None e = refl
+answer_none msg qs (Some r) e = authority_none msg qs r.0 (records_at (number_at msg 8) msg r.1) e
+
+questions_none : (msg : List ℕ) (count : ℕ) (o : Option (List Question × ℕ)) → questions_at count msg 12 ≡ o → count ≢ 1 → option_and_then seen (behind_questions msg o) ≡ None
+questions_none msg count None e h = refl
+questions_none msg count (Some r) e h = answer_none msg r.0 (records_at (number_at msg 6) msg r.1) (only_none r.0 (λ one. h (sym (counted count msg 12 r.0 r.1 e) ∙ one)))
+
+pub seen_none : (msg : List ℕ) (count : ℕ) → count ≡ number_at msg 4 → count ≢ 1 → option_and_then seen (body_in msg) ≡ None
+unfolding body_in
+seen_none msg count told ne = questions_none msg (number_at msg 4) (questions_at (number_at msg 4) msg 12) refl (λ e. ne (told ∙ e))
+
+pub seen_question : (msg : List ℕ) (count : ℕ) (o : Option (Question × ℕ)) → count ≡ number_at msg 4 → count ≡ 1 → o ≡ question_at msg 12 → option_and_then seen (body_in msg) ≡ behind_question msg o
+seen_question msg count o told one e = seen_one msg (sym told ∙ one) ∙ ap (behind_question msg) (sym e)
 
 pub seen_section : (msg : List ℕ) (k count at : ℕ) (o : Option (Bool × ℕ)) → count ≡ number_at msg k → o ≡ option_map sight (records_at count msg at) → sight_at msg k at ≡ o
 seen_section msg k count at o told e = ap (λ n. option_map sight (records_at n msg at)) (sym told) ∙ sym e
 
-pub seen_none : (msg : List ℕ) (count : ℕ) → count ≡ number_at msg 4 → count ≢ 1 → option_map seen (request_in msg) ≡ None
-seen_none msg count told ne = seen_other msg (ne_eqb _ _ (λ e. ne (told ∙ e)))
-
-pub seen_answer : (msg : List ℕ) (one count : ℕ) (o : Option (Question × ℕ)) (q : Question) (at : ℕ) (r : Option (Bool × ℕ)) → one ≡ number_at msg 4 → one ≡ 1 → o ≡ question_at msg 12 → o ≡ Some (q, at) → count ≡ number_at msg 6 → r ≡ option_map sight (records_at count msg at) → option_map seen (request_in msg) ≡ behind_answer msg q r
+pub seen_answer : (msg : List ℕ) (one count : ℕ) (o : Option (Question × ℕ)) (q : Question) (at : ℕ) (r : Option (Bool × ℕ)) → one ≡ number_at msg 4 → one ≡ 1 → o ≡ question_at msg 12 → o ≡ Some (q, at) → count ≡ number_at msg 6 → r ≡ option_map sight (records_at count msg at) → option_and_then seen (body_in msg) ≡ behind_answer msg q r
 seen_answer msg one count o q at r told is e was counted f =
     seen_question msg one o told is e ∙ ap (behind_question msg) was ∙ ap (behind_answer msg q) (seen_section msg 6 count at r counted f)
 
-pub seen_authority : (msg : List ℕ) (count : ℕ) (q : Question) (before r : Option (Bool × ℕ)) (opt : Bool) (at : ℕ) → option_map seen (request_in msg) ≡ behind_answer msg q before → before ≡ Some (opt, at) → count ≡ number_at msg 8 → r ≡ option_map sight (records_at count msg at) → option_map seen (request_in msg) ≡ behind_authority msg q r
+pub seen_authority : (msg : List ℕ) (count : ℕ) (q : Question) (before r : Option (Bool × ℕ)) (opt : Bool) (at : ℕ) → option_and_then seen (body_in msg) ≡ behind_answer msg q before → before ≡ Some (opt, at) → count ≡ number_at msg 8 → r ≡ option_map sight (records_at count msg at) → option_and_then seen (body_in msg) ≡ behind_authority msg q r
 seen_authority msg count q before r opt at front was counted f =
     front ∙ ap (behind_answer msg q) was ∙ ap (behind_authority msg q) (seen_section msg 8 count at r counted f)
 
-pub seen_additional : (msg : List ℕ) (count : ℕ) (q : Question) (before r : Option (Bool × ℕ)) (opt : Bool) (at : ℕ) → option_map seen (request_in msg) ≡ behind_authority msg q before → before ≡ Some (opt, at) → count ≡ number_at msg 10 → r ≡ option_map sight (records_at count msg at) → option_map seen (request_in msg) ≡ option_map (λ s. (q, s.0)) r
+pub seen_additional : (msg : List ℕ) (count : ℕ) (q : Question) (before r : Option (Bool × ℕ)) (opt : Bool) (at : ℕ) → option_and_then seen (body_in msg) ≡ behind_authority msg q before → before ≡ Some (opt, at) → count ≡ number_at msg 10 → r ≡ option_map sight (records_at count msg at) → option_and_then seen (body_in msg) ≡ option_map (λ s. (q, s.0)) r
 seen_additional msg count q before r opt at front was counted f =
     front ∙ ap (behind_authority msg q) was ∙ ap (option_map (λ s. (q, s.0))) (seen_section msg 10 count at r counted f)

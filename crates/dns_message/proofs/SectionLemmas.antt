@@ -1,63 +1,48 @@
 -- The sections of a written reply are read again.
-use Rattle.std.proofs.Common.{◌≡◌, ◌==◌, ℕ, ◌+◌, ◌<◌, ◌≤◌, ◌^◌, true, eq-eqb, All, List, [], ◌∷◌, ◌++◌, length, Option, Some, refl, sym, ap, subst, ◌∙◌, arith, option_map, option_and_then, length-append, append_assoc}
+use Rattle.std.proofs.Common.{◌≡◌, ℕ, ◌+◌, ◌<◌, ◌≤◌, ◌^◌, All, List, [], ◌∷◌, ◌++◌, length, Option, Some, refl, sym, ap, subst, ◌∙◌, arith, option_map, option_and_then, length-append}
 use Rattle.std.proofs.lemmas.List.{append-nil}
 use Rattle.std.proofs.lemmas.Nat.{from_be_bytes-to_be_bytes_2}
 use Rattle.std.specs.Int.{to_be_bytes, from_be_bytes, w16}
 use Rattle.dns_name.specs.Name.{IsName}
 use Rattle.dns_rdata.specs.Record.{Record}
 use Rattle.wire_names.specs.Table.{Table}
-use Rattle.dns_message.specs.Again.{IsRecord, IsReply, IsReadAgain, entries_at, question_end, answer_end, authority_end, additional_end, request_written}
+use Rattle.dns_message.specs.Again.{IsRecord, IsReply, IsReadAgain, entries_at, question_end, answer_end, authority_end, additional_end, body_written}
 use Rattle.dns_message.specs.Asked.{IsQuestion}
-use Rattle.dns_message.specs.Message.{Entry, Request, Message, number_at}
-use Rattle.dns_message.specs.Put.{Put, these, before, each}
-use Rattle.dns_message.specs.Reads.{question_at, records_at, request_in}
-use Rattle.dns_message.specs.Text.{question_text, questions, record_text, sections_text, counts_in, header_text, text}
+use Rattle.dns_message.specs.Message.{Entry, Body, Message, number_at}
+use Rattle.dns_message.specs.Encoding.{these, before, each}
+use Rattle.dns_message.specs.Reads.{question_at, questions_at, records_at, body_in}
+use Rattle.dns_message.specs.Octets.{question_octets, questions, record_octets, sections_octets, counts_in, header_octets, reply_octets}
 use Rattle.dns_message.specs.declared.query.Question.{Question}
 use Rattle.dns_message.proofs.AgainLemmas.{question_again, records_again, few_records}
-use Rattle.dns_message.proofs.KeepsLemmas.{Holds, Holds-nothing, Keeps, Keeps-these, Keeps-before, Keeps-question, Keeps-records}
-
--- in a message, octets of which a table is true end at a position, and the rest stand behind it
-pub record Stands (whole front rest : List ℕ) (table : Table) (n : ℕ) : Type 0 where
-  pub at : n ≡ length front
-  pub is : whole ≡ front ++ rest
-  pub holds : Holds front table
-
--- and so it is behind what was written there
-pub Stands-behind : (p : Put) (whole front rest : List ℕ) (table : Table) (n : ℕ) → Keeps p → Stands whole front ((p table n).0 ++ rest) table n → Stands whole (front ++ (p table n).0) rest (p table n).1 (n + length (p table n).0)
-Stands-behind p whole front rest table n keeps s =
-    let octets = (p table n).0 in
-    let P : ℕ → Type 0 = λ k. Holds (front ++ (p table k).0) (p table k).1 in
-    record {
-      at = ap (λ k. k + length octets) s.at ∙ sym (length-append front octets);
-      is = s.is ∙ sym (append_assoc front octets rest);
-      holds = subst P (sym s.at) (keeps.kept front table s.holds);
-    }
+use Rattle.dns_message.proofs.TrueLemmas.{IsTrueOf-nothing}
+use Rattle.dns_message.proofs.ExpandedLemmas.{records_data}
+use Rattle.dns_message.proofs.KeepsLemmas.{Stands, Stands-behind, Keeps, Keeps-these, Keeps-before, Keeps-question, Keeps-records}
 
 -- one question
-Keeps-one : (q : Question) → IsName q.name → Keeps (each question_text (q ∷ []))
+Keeps-one : (q : Question) → IsName q.name → Keeps (each question_octets (q ∷ []))
 unfolding each
-Keeps-one q lawful = Keeps-before (question_text q) (these []) (Keeps-question q lawful) (Keeps-these [])
+Keeps-one q lawful = Keeps-before (question_octets q) (these []) (Keeps-question q lawful) (Keeps-these [])
 
-Keeps-asked : (o : Option Question) (q : Question) → o ≡ Some q → IsName q.name → Keeps (each question_text (questions o))
-Keeps-asked o q e lawful = let P : Option Question → Type 0 = λ a. Keeps (each question_text (questions a)) in subst P (sym e) (Keeps-one q lawful)
+Keeps-asked : (o : Option Question) (q : Question) → o ≡ Some q → IsName q.name → Keeps (each question_octets (questions o))
+Keeps-asked o q e lawful = let P : Option Question → Type 0 = λ a. Keeps (each question_octets (questions a)) in subst P (sym e) (Keeps-one q lawful)
 
-one_text : (q : Question) (table : Table) (n : ℕ) → (each question_text (q ∷ []) table n).0 ≡ (question_text q table n).0
+one_octets : (q : Question) (table : Table) (n : ℕ) → (each question_octets (q ∷ []) table n).0 ≡ (question_octets q table n).0
 unfolding each before these
-one_text q table n = append-nil _
+one_octets q table n = append-nil _
 
-asked_text : (o : Option Question) (q : Question) (table : Table) (n : ℕ) → o ≡ Some q → (each question_text (questions o) table n).0 ≡ (question_text q table n).0
-asked_text o q table n e = ap (λ a. (each question_text (questions a) table n).0) e ∙ one_text q table n
+asked_octets : (o : Option Question) (q : Question) (table : Table) (n : ℕ) → o ≡ Some q → (each question_octets (questions o) table n).0 ≡ (question_octets q table n).0
+asked_octets o q table n e = ap (λ a. (each question_octets (questions a) table n).0) e ∙ one_octets q table n
 
-pub asked_again : (o : Option Question) (q : Question) (whole front rest : List ℕ) (table : Table) (n : ℕ) → o ≡ Some q → IsQuestion q → Stands whole front ((each question_text (questions o) table n).0 ++ rest) table n → question_at whole n ≡ Some (q, n + length (each question_text (questions o) table n).0)
+pub asked_again : (o : Option Question) (q : Question) (whole front rest : List ℕ) (table : Table) (n : ℕ) → o ≡ Some q → IsQuestion q → Stands whole front ((each question_octets (questions o) table n).0 ++ rest) table n → question_at whole n ≡ Some (q, n + length (each question_octets (questions o) table n).0)
 asked_again o q whole front rest table n e lawful s =
-    let octets = asked_text o q table n e in
+    let octets = asked_octets o q table n e in
     question_again front rest whole table n q s.at (s.is ∙ ap (λ t. front ++ (t ++ rest)) octets) s.holds lawful
     ∙ ap (λ t. Some (q, n + length t)) (sym octets)
 
 -- records of a section
-section_again : (rs : List Record) (whole front rest : List ℕ) (table : Table) (n : ℕ) → All IsRecord rs → length whole < 2 ^ 16 → Stands whole front ((each record_text rs table n).0 ++ rest) table n → records_at (length rs) whole n ≡ Some (entries_at rs (table, n), n + length (each record_text rs table n).0)
+section_again : (rs : List Record) (whole front rest : List ℕ) (table : Table) (n : ℕ) → All IsRecord rs → length whole < 2 ^ 16 → Stands whole front ((each record_octets rs table n).0 ++ rest) table n → records_at (length rs) whole n ≡ Some (entries_at rs (table, n), n + length (each record_octets rs table n).0)
 section_again rs whole front rest table n all short s =
-    let octets = (each record_text rs table n).0 in
+    let octets = (each record_octets rs table n).0 in
     let size : length octets ≤ length whole = omega (arith, ap length s.is, length-append front (octets ++ rest), length-append octets rest) in
     records_again rs front rest whole table n s.at s.is s.holds all (omega arith)
 
@@ -65,110 +50,117 @@ owners : (rs : List Record) → All IsRecord rs → All (λ r. IsName r.owner) r
 owners rs all = λ k d h. (all k d h).owner
 
 -- the octets of the sections
-unfoldable pub question_octets : Message → List ℕ
-question_octets m = (each question_text (questions m.question) [] 12).0
+unfoldable pub question_part : Message → List ℕ
+question_part m = (each question_octets (questions m.question) [] 12).0
 
-pub answer_octets : Message → List ℕ
-answer_octets m = (each record_text m.answer (question_end m).0 (question_end m).1).0
+pub answer_part : Message → List ℕ
+answer_part m = (each record_octets m.answer (question_end m).0 (question_end m).1).0
 
-pub authority_octets : Message → List ℕ
-authority_octets m = (each record_text m.authority (answer_end m).0 (answer_end m).1).0
+pub authority_part : Message → List ℕ
+authority_part m = (each record_octets m.authority (answer_end m).0 (answer_end m).1).0
 
-pub additional_octets : Message → List ℕ
-additional_octets m = (each record_text m.additional (authority_end m).0 (authority_end m).1).0
+pub additional_part : Message → List ℕ
+additional_part m = (each record_octets m.additional (authority_end m).0 (authority_end m).1).0
 
-pub sections_parts : (m : Message) → (sections_text m [] 12).0 ≡ question_octets m ++ (answer_octets m ++ (authority_octets m ++ additional_octets m))
-unfolding sections_text before question_octets answer_octets authority_octets additional_octets
+pub sections_parts : (m : Message) → (sections_octets m [] 12).0 ≡ question_part m ++ (answer_part m ++ (authority_part m ++ additional_part m))
+unfolding sections_octets before question_part answer_part authority_part additional_part
 sections_parts m = refl
 
 header : Message → List ℕ
-header m = header_text m (counts_in m)
+header m = header_octets m (counts_in m)
 
-at_question : (m : Message) → Stands (text m) (header m) (question_octets m ++ (answer_octets m ++ (authority_octets m ++ additional_octets m))) [] 12
+at_question : (m : Message) → Stands (reply_octets m) (header m) (question_part m ++ (answer_part m ++ (authority_part m ++ additional_part m))) [] 12
 unfolding header
-at_question m = record { at = refl; is = ap (λ t. header m ++ t) (sections_parts m); holds = Holds-nothing (header m) }
+at_question m = record { at = refl; is = ap (λ t. header m ++ t) (sections_parts m); holds = IsTrueOf-nothing (header m) }
 
-at_answer : (m : Message) (q : Question) → IsReply m q → Stands (text m) (header m ++ question_octets m) (answer_octets m ++ (authority_octets m ++ additional_octets m)) (question_end m).0 (question_end m).1
-unfolding question_octets
+at_answer : (m : Message) (q : Question) → IsReply m q → Stands (reply_octets m) (header m ++ question_part m) (answer_part m ++ (authority_part m ++ additional_part m)) (question_end m).0 (question_end m).1
+unfolding question_part
 at_answer m q h = Stands-behind _ _ _ _ _ _ (Keeps-asked m.question q h.asked h.lawful.name) (at_question m)
 
-at_authority : (m : Message) (q : Question) → IsReply m q → Stands (text m) ((header m ++ question_octets m) ++ answer_octets m) (authority_octets m ++ additional_octets m) (answer_end m).0 (answer_end m).1
-unfolding answer_octets
+at_authority : (m : Message) (q : Question) → IsReply m q → Stands (reply_octets m) ((header m ++ question_part m) ++ answer_part m) (authority_part m ++ additional_part m) (answer_end m).0 (answer_end m).1
+unfolding answer_part
 at_authority m q h = Stands-behind _ _ _ _ _ _ (Keeps-records m.answer (owners m.answer h.answer)) (at_answer m q h)
 
-at_additional : (m : Message) (q : Question) → IsReply m q → Stands (text m) (((header m ++ question_octets m) ++ answer_octets m) ++ authority_octets m) (additional_octets m ++ []) (authority_end m).0 (authority_end m).1
-unfolding authority_octets
+at_additional : (m : Message) (q : Question) → IsReply m q → Stands (reply_octets m) (((header m ++ question_part m) ++ answer_part m) ++ authority_part m) (additional_part m ++ []) (authority_end m).0 (authority_end m).1
+unfolding authority_part
 at_additional m q h =
     let there = Stands-behind _ _ _ _ _ _ (Keeps-records m.authority (owners m.authority h.authority)) (at_authority m q h) in
-    record { at = there.at; is = there.is ∙ ap (λ t. (((header m ++ question_octets m) ++ answer_octets m) ++ authority_octets m) ++ t) (sym (append-nil (additional_octets m))); holds = there.holds }
+    record { at = there.at; is = there.is ∙ ap (λ t. (((header m ++ question_part m) ++ answer_part m) ++ authority_part m) ++ t) (sym (append-nil (additional_part m))); holds = there.holds }
 
-at_end : (m : Message) (q : Question) → IsReply m q → Stands (text m) ((((header m ++ question_octets m) ++ answer_octets m) ++ authority_octets m) ++ additional_octets m) [] (additional_end m).0 (additional_end m).1
-unfolding additional_octets
+at_end : (m : Message) (q : Question) → IsReply m q → Stands (reply_octets m) ((((header m ++ question_part m) ++ answer_part m) ++ authority_part m) ++ additional_part m) [] (additional_end m).0 (additional_end m).1
+unfolding additional_part
 at_end m q h = Stands-behind _ _ _ _ _ _ (Keeps-records m.additional (owners m.additional h.additional)) (at_additional m q h)
 
 pub sections_again : (m : Message) (q : Question) → IsReply m q → IsReadAgain m q
-unfolding question_octets answer_octets authority_octets additional_octets
+unfolding question_part answer_part authority_part additional_part
 sections_again m q h = record {
   question = asked_again m.question q _ _ _ _ _ h.asked h.lawful (at_question m);
   answer = section_again m.answer _ _ _ _ _ h.answer h.carried (at_answer m q h);
   authority = section_again m.authority _ _ _ _ _ h.authority h.carried (at_authority m q h);
   additional = section_again m.additional _ _ _ _ _ h.additional h.carried (at_additional m q h);
+  answer_data = records_data m.answer _ _ _ _ _ h.answer (at_answer m q h);
+  authority_data = records_data m.authority _ _ _ _ _ h.authority (at_authority m q h);
+  additional_data = records_data m.additional _ _ _ _ _ h.additional (at_additional m q h);
   whole = (at_end m q h).at ∙ ap length (sym ((at_end m q h).is ∙ append-nil _));
 }
 
--- what stands behind a header, where its parts are read
-abbrev request_from : List ℕ → ℕ → ℕ → ℕ → Option (Question × ℕ) → Option Request
-request_from msg answers authorities additions o =
-    option_and_then (λ q.
+-- one question
+pub one_question : (msg : List ℕ) (n next : ℕ) (q : Question) → question_at msg n ≡ Some (q, next) → questions_at 1 msg n ≡ Some (q ∷ [], next)
+unfolding questions_at
+one_question msg n next q e = ap (option_and_then (λ p. option_map (λ rest. (p.0 ∷ rest.0, rest.1)) (questions_at 0 msg p.1))) e
+
+-- what stands behind a header, where its questions are read
+abbrev body_from : List ℕ → ℕ → ℕ → ℕ → Option (List Question × ℕ) → Option Body
+body_from msg answers authorities additions o =
+    option_and_then (λ questions.
     option_and_then (λ answer.
     option_and_then (λ authority.
-    option_map (λ additional. record { question = q.0; answer = answer.0; authority = authority.0; additional = additional.0 })
+    option_map (λ additional. record { questions = questions.0; answer = answer.0; authority = authority.0; additional = additional.0 })
     (records_at additions msg authority.1))
     (records_at authorities msg answer.1))
-    (records_at answers msg q.1))
+    (records_at answers msg questions.1))
     o
 
-request_numbers : (msg : List ℕ) (answers authorities additions : ℕ) → number_at msg 4 ≡ 1 → number_at msg 6 ≡ answers → number_at msg 8 ≡ authorities → number_at msg 10 ≡ additions → request_in msg ≡ request_from msg answers authorities additions (question_at msg 12)
-unfolding request_in
-request_numbers msg answers authorities additions one e1 e2 e3 =
-    let counted : (number_at msg 4 == 1) ≡ true = eq-eqb _ _ one in
-    rw counted
-    (ap (λ k. request_from msg k (number_at msg 8) (number_at msg 10) (question_at msg 12)) e1
-    ∙ ap (λ k. request_from msg answers k (number_at msg 10) (question_at msg 12)) e2
-    ∙ ap (λ k. request_from msg answers authorities k (question_at msg 12)) e3)
+body_numbers : (msg : List ℕ) (answers authorities additions : ℕ) → number_at msg 4 ≡ 1 → number_at msg 6 ≡ answers → number_at msg 8 ≡ authorities → number_at msg 10 ≡ additions → body_in msg ≡ body_from msg answers authorities additions (questions_at 1 msg 12)
+unfolding body_in
+body_numbers msg answers authorities additions one e1 e2 e3 =
+    ap (λ k. body_from msg (number_at msg 6) (number_at msg 8) (number_at msg 10) (questions_at k msg 12)) one
+    ∙ ap (λ k. body_from msg k (number_at msg 8) (number_at msg 10) (questions_at 1 msg 12)) e1
+    ∙ ap (λ k. body_from msg answers k (number_at msg 10) (questions_at 1 msg 12)) e2
+    ∙ ap (λ k. body_from msg answers authorities k (questions_at 1 msg 12)) e3
 
 -- what stands behind a question, and so on
-abbrev after_authority : Question → List Entry → List Entry → Option (List Entry × ℕ) → Option Request
-after_authority q answer authority o = option_map (λ additional. record { question = q; answer = answer; authority = authority; additional = additional.0 }) o
+abbrev after_authority : Question → List Entry → List Entry → Option (List Entry × ℕ) → Option Body
+after_authority q answer authority o = option_map (λ additional. record { questions = q ∷ []; answer = answer; authority = authority; additional = additional.0 }) o
 
-abbrev after_answer : List ℕ → ℕ → Question → List Entry → Option (List Entry × ℕ) → Option Request
+abbrev after_answer : List ℕ → ℕ → Question → List Entry → Option (List Entry × ℕ) → Option Body
 after_answer msg additions q answer o = option_and_then (λ authority. after_authority q answer authority.0 (records_at additions msg authority.1)) o
 
-abbrev after_question : List ℕ → ℕ → ℕ → Question → Option (List Entry × ℕ) → Option Request
+abbrev after_question : List ℕ → ℕ → ℕ → Question → Option (List Entry × ℕ) → Option Body
 after_question msg authorities additions q o = option_and_then (λ answer. after_answer msg additions q answer.0 (records_at authorities msg answer.1)) o
 
-pub request_parts : (msg : List ℕ) (q : Question) (answers authorities additions n1 n2 n3 n4 : ℕ) (answer authority additional : List Entry) → number_at msg 4 ≡ 1 → number_at msg 6 ≡ answers → number_at msg 8 ≡ authorities → number_at msg 10 ≡ additions → question_at msg 12 ≡ Some (q, n1) → records_at answers msg n1 ≡ Some (answer, n2) → records_at authorities msg n2 ≡ Some (authority, n3) → records_at additions msg n3 ≡ Some (additional, n4) → request_in msg ≡ Some (record { question = q; answer = answer; authority = authority; additional = additional })
-request_parts msg q answers authorities additions n1 n2 n3 n4 answer authority additional one e1 e2 e3 f0 f1 f2 f3 =
-    request_numbers msg answers authorities additions one e1 e2 e3
-    ∙ ap (request_from msg answers authorities additions) f0
+pub body_parts : (msg : List ℕ) (q : Question) (answers authorities additions n1 n2 n3 n4 : ℕ) (answer authority additional : List Entry) → number_at msg 4 ≡ 1 → number_at msg 6 ≡ answers → number_at msg 8 ≡ authorities → number_at msg 10 ≡ additions → question_at msg 12 ≡ Some (q, n1) → records_at answers msg n1 ≡ Some (answer, n2) → records_at authorities msg n2 ≡ Some (authority, n3) → records_at additions msg n3 ≡ Some (additional, n4) → body_in msg ≡ Some (record { questions = q ∷ []; answer = answer; authority = authority; additional = additional })
+body_parts msg q answers authorities additions n1 n2 n3 n4 answer authority additional one e1 e2 e3 f0 f1 f2 f3 =
+    body_numbers msg answers authorities additions one e1 e2 e3
+    ∙ ap (body_from msg answers authorities additions) (one_question msg 12 n1 q f0)
     ∙ ap (after_question msg authorities additions q) f1
     ∙ ap (after_answer msg additions q answer) f2
     ∙ ap (after_authority q answer authority) f3
 
 -- the counts of a reply's header are read
-count_again : (m : Message) (rs : List Record) (front rest : List ℕ) (table : Table) (n : ℕ) → length (text m) < 2 ^ 16 → Stands (text m) front ((each record_text rs table n).0 ++ rest) table n → from_be_bytes w16 (to_be_bytes w16 (length rs)) ≡ length rs
+count_again : (m : Message) (rs : List Record) (front rest : List ℕ) (table : Table) (n : ℕ) → length (reply_octets m) < 2 ^ 16 → Stands (reply_octets m) front ((each record_octets rs table n).0 ++ rest) table n → from_be_bytes w16 (to_be_bytes w16 (length rs)) ≡ length rs
 count_again m rs front rest table n short s =
-    let octets = (each record_text rs table n).0 in
+    let octets = (each record_octets rs table n).0 in
     from_be_bytes-to_be_bytes_2 (length rs) (omega (arith, few_records rs table n, ap length s.is, length-append front (octets ++ rest), length-append octets rest))
 
 one_asked : (o : Option Question) (q : Question) → o ≡ Some q → from_be_bytes w16 (to_be_bytes w16 (length (questions o))) ≡ 1
 one_asked o q e = ap (λ a. from_be_bytes w16 (to_be_bytes w16 (length (questions a)))) e
 
-pub request_again : (m : Message) (q : Question) → IsReply m q → request_in (text m) ≡ Some (request_written m q)
-unfolding answer_octets authority_octets additional_octets
-request_again m q h =
+pub body_again : (m : Message) (q : Question) → IsReply m q → body_in (reply_octets m) ≡ Some (body_written m q)
+unfolding answer_part authority_part additional_part
+body_again m q h =
     let again = sections_again m q h in
-    request_parts (text m) q (length m.answer) (length m.authority) (length m.additional) _ _ _ _ _ _ _
+    body_parts (reply_octets m) q (length m.answer) (length m.authority) (length m.additional) _ _ _ _ _ _ _
     (one_asked m.question q h.asked)
     (count_again m m.answer _ _ _ _ h.carried (at_answer m q h))
     (count_again m m.authority _ _ _ _ h.carried (at_authority m q h))

@@ -5,7 +5,7 @@ use Rattle.std.specs.List.{flat_map}
 use Rattle.dns_name.specs.Name.{wire_of, IsName}
 use Rattle.dns_message.specs.Message.{opcode_QUERY, Message}
 use Rattle.dns_message.specs.Reads.{asks_transfer}
-use Rattle.dns_message.specs.Text.{bit, text}
+use Rattle.dns_message.specs.Octets.{bit, reply_octets}
 use Rattle.dns_message.specs.declared.query.Head.{Head}
 use Rattle.dns_message.specs.declared.query.Question.{Question}
 
@@ -16,7 +16,7 @@ request_header head =
 
 -- a reply's octets with a request's header in place of its own
 abbrev pub request_of : Message → List ℕ
-request_of m = request_header m.head ++ drop 12 (text m)
+request_of m = request_header m.head ++ drop 12 (reply_octets m)
 
 -- the parts of a question are what its octets can say (RFC 1035, 4.1.2)
 pub record IsQuestion (question : Question) : Type 0 where

@@ -13,8 +13,8 @@ abbrev pub request_front : List ℕ
 request_front = 18 ∷ 52 ∷ 1 ∷ 0 ∷ 0 ∷ 1 ∷ 0 ∷ 0 ∷ 0 ∷ 0 ∷ 0 ∷ 0 ∷ []
 
 -- the question www.example.test. A, class IN, in octets
-abbrev pub question_octets : List ℕ
-question_octets = 3 ∷ 119 ∷ 119 ∷ 119 ∷ 7 ∷ 101 ∷ 120 ∷ 97 ∷ 109 ∷ 112 ∷ 108 ∷ 101 ∷ 4 ∷ 116 ∷ 101 ∷ 115 ∷ 116 ∷ 0 ∷ 0 ∷ 1 ∷ 0 ∷ 1 ∷ []
+abbrev pub asked_octets : List ℕ
+asked_octets = 3 ∷ 119 ∷ 119 ∷ 119 ∷ 7 ∷ 101 ∷ 120 ∷ 97 ∷ 109 ∷ 112 ∷ 108 ∷ 101 ∷ 4 ∷ 116 ∷ 101 ∷ 115 ∷ 116 ∷ 0 ∷ 0 ∷ 1 ∷ 0 ∷ 1 ∷ []
 
 abbrev pub www : List (List ℕ)
 www = codes "www" ∷ codes "example" ∷ codes "test" ∷ []
@@ -48,11 +48,11 @@ address_octets = 192 ∷ 46 ∷ 0 ∷ 1 ∷ 0 ∷ 1 ∷ 0 ∷ 0 ∷ 14 ∷ 16 �
 
 -- the reply's octets: flags QR, AA and RD, and the counts 1, 2, 0, 0
 abbrev pub answer_octets : List ℕ
-answer_octets = (18 ∷ 52 ∷ 133 ∷ 0 ∷ 0 ∷ 1 ∷ 0 ∷ 2 ∷ 0 ∷ 0 ∷ 0 ∷ 0 ∷ []) ++ question_octets ++ alias_octets ++ address_octets
+answer_octets = (18 ∷ 52 ∷ 133 ∷ 0 ∷ 0 ∷ 1 ∷ 0 ∷ 2 ∷ 0 ∷ 0 ∷ 0 ∷ 0 ∷ []) ++ asked_octets ++ alias_octets ++ address_octets
 
 -- the same with TC and no record
 abbrev pub cut_octets : List ℕ
-cut_octets = (18 ∷ 52 ∷ 135 ∷ 0 ∷ 0 ∷ 1 ∷ 0 ∷ 0 ∷ 0 ∷ 0 ∷ 0 ∷ 0 ∷ []) ++ question_octets
+cut_octets = (18 ∷ 52 ∷ 135 ∷ 0 ∷ 0 ∷ 1 ∷ 0 ∷ 0 ∷ 0 ∷ 0 ∷ 0 ∷ 0 ∷ []) ++ asked_octets
 
 -- the service s.example.test is at port 53 of web, with priority 1 and weight 2
 abbrev pub service : List (List ℕ)

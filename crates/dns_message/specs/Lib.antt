@@ -1,12 +1,13 @@
 pub mod Again
 pub mod Asked
+pub mod Encoded
+pub mod Encoding
 pub mod Examples
+pub mod Expanded
 pub mod Frame
 pub mod Message
-pub mod Put
-pub mod Puts
 pub mod Reads
-pub mod Text
+pub mod Octets
 pub use Rattle.dns_name.specs.Name
 pub use Rattle.dns_rdata.specs.Numbers
 pub use Rattle.dns_rdata.specs.Record

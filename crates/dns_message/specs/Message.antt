@@ -23,18 +23,19 @@ opcode_UPDATE = 5
 abbrev pub number_at : List ℕ → ℕ → ℕ
 number_at msg at = from_be_bytes w16 (take 2 (drop at msg))
 
--- a record as it stands in a message: its owner, its type, its class, its TTL in seconds, and the octets of its data, in
--- which names may have pointers (RFC 1035, 4.1.3)
+-- a record as it stands in a message: its owner, its type, its class, its TTL in seconds, and where its data stands: the
+-- position of the first octet, and how many there are (RFC 1035, 4.1.3)
 pub record Entry : Type 0 where
   pub owner : List (List ℕ)
   pub rtype : ℕ
   pub class : ℕ
   pub ttl : ℕ
-  pub rdata : List ℕ
+  pub at : ℕ
+  pub size : ℕ
 
--- what stands behind a request's header: its question, and the records of its three other sections (RFC 1035, 4.1)
-pub record Request : Type 0 where
-  pub question : Question
+-- what stands behind a message's header: its questions, and the records of its three other sections (RFC 1035, 4.1)
+pub record Body : Type 0 where
+  pub questions : List Question
   pub answer : List Entry
   pub authority : List Entry
   pub additional : List Entry

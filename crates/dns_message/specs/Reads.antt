@@ -8,25 +8,25 @@ use Rattle.dns_rdata.specs.declared.numbers.Rcode.TheVariants.{FormErr, NotImp}
 use Rattle.dns_rdata.specs.Numbers.{type_OPT, type_IXFR, type_AXFR}
 use Rattle.wire_names.specs.NameAt.{name_at}
 use Rattle.wire_names.specs.declared.part.NameReadFault.{NameReadFault}
-use Rattle.dns_message.specs.Message.{Entry, Request, opcode_QUERY, opcode_UPDATE, number_at}
+use Rattle.dns_message.specs.Message.{Entry, Body, opcode_QUERY, opcode_UPDATE, number_at}
 use Rattle.dns_message.specs.declared.query.Head.{Head}
 use Rattle.dns_message.specs.declared.query.Question.{Question}
 use Rattle.dns_message.specs.declared.query.Parsed.{Parsed}
 use Rattle.dns_message.specs.declared.query.Parsed.TheVariants.{Silent, Fault, Query}
 
--- the parts of a header: ID; OPCODE, the four bits below the top one of the third octet; RD, its lowest bit
--- (RFC 1035, 4.1.1)
+-- OPCODE, the four bits below the top one of the third octet (RFC 1035, 4.1.1)
+abbrev pub opcode_of : List ℕ → ℕ
+opcode_of msg = (slice_index msg 2 / 8) % 16
+
+-- what a reply copies from a header: ID, OPCODE, and RD, the lowest bit of the third octet, but for an UPDATE, where that
+-- bit has no meaning (RFC 1035, 4.1.1; RFC 2136, 2.2; own)
 abbrev pub header_of : List ℕ → Head
 header_of msg = record {
   id = number_at msg 0;
-  opcode = (slice_index msg 2 / 8) % 16;
-  rd = slice_index msg 2 % 2 == 1;
+  opcode = opcode_of msg;
+  rd = slice_index msg 2 % 2 == 1 && not (opcode_of msg == opcode_UPDATE);
   four_bits = mod-lt (slice_index msg 2 / 8) (lit< tt);
 }
-
--- what a reply copies from a header: all but the RD of an UPDATE, where that bit has no meaning (RFC 2136, 2.2; own)
-abbrev pub copied : Head → Head
-copied head = record { id = head.id; opcode = head.opcode; rd = head.rd && not (head.opcode == opcode_UPDATE); four_bits = head.four_bits }
 
 -- QR, the top bit of the third octet: a reply, no request (RFC 1035, 4.1.1)
 abbrev pub is_reply : List ℕ → Bool
@@ -50,7 +50,7 @@ abbrev pub long_number_at : List ℕ → ℕ → ℕ
 long_number_at msg at = from_be_bytes w32 (take 4 (drop at msg))
 
 -- the record whose owner was read: behind the name its type, its class, its TTL, how many octets its data has, and so
--- many octets, as they stand; and the position behind these; none where the name has a fault or the octets end before
+-- many octets; and the position behind these; none where the name has a fault or the octets end before
 -- (RFC 1035, 4.1.3)
 abbrev pub record_of : List ℕ → Result (List (List ℕ) × ℕ) NameReadFault → Option (Entry × ℕ)
 record_of msg (Err fault) = None
@@ -58,7 +58,7 @@ record_of msg (Ok r) =
     let size = number_at msg (r.1 + 8) in
     let next = r.1 + 10 + size in
     if nat_le next (length msg)
-    then Some (record { owner = r.0; rtype = number_at msg r.1; class = number_at msg (r.1 + 2); ttl = long_number_at msg (r.1 + 4); rdata = take size (drop (r.1 + 10) msg) }, next)
+    then Some (record { owner = r.0; rtype = number_at msg r.1; class = number_at msg (r.1 + 2); ttl = long_number_at msg (r.1 + 4); at = r.1 + 10; size = size }, next)
     else None
 
 -- the record at a position of a message, its owner through pointers, and the position behind it (RFC 1035, 4.1.3)
@@ -71,20 +71,24 @@ records_at zero msg at = Some ([], at)
 records_at (suc count) msg at =
     option_and_then (λ r. option_map (λ rest. (r.0 ∷ rest.0, rest.1)) (records_at count msg r.1)) (record_at msg at)
 
--- what stands behind the header, by its counts QDCOUNT, ANCOUNT, NSCOUNT and ARCOUNT: one question and three sections
--- of records; octets behind these are ignored (RFC 1035, 4.1; one question: own)
-unfoldable pub request_in : List ℕ → Option Request
-request_in msg =
-    if number_at msg 4 == 1
-    then option_and_then (λ q.
+-- so many questions, one after another from a position on, and the position behind the last; none where one can't be read
+unfoldable pub questions_at : ℕ → List ℕ → ℕ → Option (List Question × ℕ)
+questions_at zero msg at = Some ([], at)
+questions_at (suc count) msg at =
+    option_and_then (λ q. option_map (λ rest. (q.0 ∷ rest.0, rest.1)) (questions_at count msg q.1)) (question_at msg at)
+
+-- what stands behind the header, by its counts QDCOUNT, ANCOUNT, NSCOUNT and ARCOUNT: questions and three sections of
+-- records; octets behind these are ignored (RFC 1035, 4.1; own)
+unfoldable pub body_in : List ℕ → Option Body
+body_in msg =
+    option_and_then (λ questions.
     option_and_then (λ answer.
     option_and_then (λ authority.
-    option_map (λ additional. record { question = q.0; answer = answer.0; authority = authority.0; additional = additional.0 })
+    option_map (λ additional. record { questions = questions.0; answer = answer.0; authority = authority.0; additional = additional.0 })
     (records_at (number_at msg 10) msg authority.1))
     (records_at (number_at msg 8) msg answer.1))
-    (records_at (number_at msg 6) msg q.1))
-    (question_at msg 12)
-    else None
+    (records_at (number_at msg 6) msg questions.1))
+    (questions_at (number_at msg 4) msg 12)
 
 -- whether an OPT is among records (RFC 6891, 6.1.1)
 abbrev pub has_opt : List Entry → Bool
@@ -94,19 +98,30 @@ has_opt records = list_any (λ r. r.rtype == type_OPT) records
 abbrev pub asks_transfer : Question → Bool
 asks_transfer q = q.rtype.0 == type_IXFR || q.rtype.0 == type_AXFR
 
--- what a header and what stands behind it say: FORMERR where that can't be read, or has an OPT in its additional
--- section, as of a server without EDNS (RFC 6891, 7); NOTIMP of a transfer; else a query (RFC 1035, 4.1; own)
-abbrev pub query_of : Head → Option Request → Parsed
+-- the question of a list that has one question and no other (own)
+abbrev pub only_question : List Question → Option Question
+only_question [] = None
+only_question (question ∷ []) = Some question
+only_question (question ∷ other ∷ more) = None
+
+-- what is seen of what stands behind a header: its one question, and whether there is an OPT in its additional section;
+-- none of another number of questions
+abbrev pub seen : Body → Option (Question × Bool)
+seen body = option_map (λ question. (question, has_opt body.additional)) (only_question body.questions)
+
+-- what a header and what is seen behind it say: FORMERR where that can't be read, hasn't one question, or has an OPT in its
+-- additional section, as of a server without EDNS (RFC 6891, 7); NOTIMP of a transfer; else a query (RFC 1035, 4.1; own)
+abbrev pub query_of : Head → Option (Question × Bool) → Parsed
 query_of head None = Fault head FormErr
 query_of head (Some r) =
-    if has_opt r.additional then Fault head FormErr
-    else if asks_transfer r.question then Fault head NotImp
-    else Query (record { head = head; question = r.question })
+    if r.1 then Fault head FormErr
+    else if asks_transfer r.0 then Fault head NotImp
+    else Query (record { head = head; question = r.0 })
 
 -- how octets are read: fewer than twelve, or a reply, are silent; another OPCODE than QUERY is NOTIMP; else it is as the
 -- header and what stands behind it say (RFC 1035, 4.1.1; own)
 abbrev pub reads : List ℕ → Parsed
 reads msg =
     if nat_lt (length msg) 12 || is_reply msg then Silent
-    else if not ((header_of msg).opcode == opcode_QUERY) then Fault (copied (header_of msg)) NotImp
-    else query_of (header_of msg) (request_in msg)
+    else if not (opcode_of msg == opcode_QUERY) then Fault (header_of msg) NotImp
+    else query_of (header_of msg) (option_and_then seen (body_in msg))

@@ -2,7 +2,7 @@
 ghost use Rattle.std.specs.Prelude.{◌≡◌, ◌≤◌, length};
 ghost use Rattle.dns_rdata.specs.Shown.{records_shown};
 ghost use Rattle.dns_message.specs.Message.{section_of};
-ghost use Rattle.dns_message.specs.Puts.{Counts};
+ghost use Rattle.dns_message.specs.Encoded.{Counts};
 
 use dns_rdata::{RRset, Shown};
 

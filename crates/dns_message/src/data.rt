@@ -1,14 +1,14 @@
 //! How names, and data that names stand in, are written (RFC 1035, 3.3 and 4.1.4; RFC 2782).
-ghost use Rattle.std.specs.Prelude.{◌+◌, ◌≤◌, ◌<◌, ◌^◌, length, take};
+ghost use Rattle.std.specs.Prelude.{◌+◌, ◌≤◌, ◌<◌, ◌^◌, length, take, drop};
 ghost use Rattle.dns_name.specs.Name.{IsName};
 ghost use Rattle.wire_names.specs.Table.{IsTable};
-ghost use Rattle.dns_message.specs.Put.{named, measured};
-ghost use Rattle.dns_message.specs.Puts.{Goes};
-ghost use Rattle.dns_message.specs.Text.{names_text, name_behind, data_text};
+ghost use Rattle.dns_message.specs.Encoding.{these, named, before, measured};
+ghost use Rattle.dns_message.specs.Encoded.{WritesEncoding};
+ghost use Rattle.dns_message.specs.Octets.{names_octets, data_octets};
 
 use crate::octets::{put, put_u16, set_u16};
 use dns_name::Name;
-use dns_rdata::RType;
+use dns_rdata::{Layout, RType};
 use wire_names::NameWriter;
 
 /// Writes a name at a position, with pointers or in full: the position behind it, or None where it doesn't fit
@@ -22,7 +22,7 @@ pub(crate) fn put_name(
 ) -> Option<usize>
     requires within { at ≤ length out.old }
     requires table { IsTable (take at out.old) names.old }
-    ensures put { Goes (named compress name.now) out.old out.new at names.old names.new result }
+    ensures put { WritesEncoding (named compress name.now) out.old out.new at names.old names.new result }
     ensures lawful { IsName name.now }
 {
     names.write(name, compress, out, at)
@@ -39,7 +39,7 @@ pub(crate) fn put_measured(
     requires within { at ≤ length out.old }
     requires most { length out.old < 2 ^ 16 }
     requires table { IsTable (take at out.old) names.old }
-    ensures { Goes (measured (data_text rtype.0 octets.now)) out.old out.new at names.old names.new result }
+    ensures { WritesEncoding (measured (data_octets rtype.0 octets.now)) out.old out.new at names.old names.new result }
 {
     let start = put_u16(out, at, 0)?;
     let next = put_data(out, start, names, rtype, octets)?;
@@ -47,9 +47,8 @@ pub(crate) fn put_measured(
     Some(next)
 }
 
-/// Writes the data of a type, as [`put_name`] does: the names of NS, CNAME, SOA, PTR and MX data with pointers, the
-/// target of an SRV in full, all else as it is (RFC 1035, 3.3 and 4.1.4; RFC 2782; RFC 3597, 4).
-#[tactic(auto, unfolding(crate::specs::Text::data_text))]
+/// Writes the data of a type, as [`put_name`] does: its names with pointers where the type's layout has them so, else in
+/// full, and all else as it is (RFC 1035, 3.3 and 4.1.4; RFC 2782; RFC 3597, 4).
 fn put_data(
     out: &mut [u8],
     at: usize,
@@ -59,38 +58,44 @@ fn put_data(
 ) -> Option<usize>
     requires within { at ≤ length out.old }
     requires table { IsTable (take at out.old) names.old }
-    ensures { Goes (data_text rtype.0 octets.now) out.old out.new at names.old names.new result }
+    ensures { WritesEncoding (data_octets rtype.0 octets.now) out.old out.new at names.old names.new result }
 {
-    match rtype {
-        RType::NS | RType::CNAME | RType::PTR => put_names(out, at, names, true, 1, octets),
-        RType::SOA => put_names(out, at, names, true, 2, octets),
-        // The preference, and then the exchange.
-        RType::MX => put_name_behind(out, at, names, 2, true, octets),
-        // Priority, weight and port, and then the target.
-        RType::SRV => put_name_behind(out, at, names, 6, false, octets),
-        _ => put(out, at, octets),
+    match rtype.layout() {
+        Some(
+            Layout::Fields {
+                front,
+                names: count,
+                compressed,
+                ..
+            },
+        ) => put_fields(out, at, names, front, count, compressed, octets),
+        Some(Layout::Strings) => put(out, at, octets),
+        None => put(out, at, octets),
     }
 }
 
-/// Writes so many octets as they are, and then a name and what follows it, as [`put_name`] does.
-fn put_name_behind(
+/// Writes so many octets as they are, and then so many names and what follows them, as [`put_name`] does.
+fn put_fields(
     out: &mut [u8],
     at: usize,
     names: &mut NameWriter,
     front: usize,
+    count: usize,
     compress: bool,
     octets: &[u8],
 ) -> Option<usize>
     requires within { at ≤ length out.old }
     requires table { IsTable (take at out.old) names.old }
-    ensures { Goes (name_behind front compress octets.now) out.old out.new at names.old names.new result }
+    ensures { WritesEncoding (before (these (take front octets.now)) (names_octets compress count (drop front octets.now)))
+        out.old out.new at names.old names.new result }
 {
     let (head, rest) = octets.split_at(front.min(octets.len()));
     let at = put(out, at, head)?;
-    put_names(out, at, names, compress, 1, rest)
+    put_names(out, at, names, compress, count, rest)
 }
 
-/// Writes so many names at the front of octets, and then what follows them, as [`put_name`] does.
+/// Writes so many names at the front of octets, and then what follows them, as [`put_name`] does; what can't be read as a
+/// name is written as it is.
 fn put_names(
     out: &mut [u8],
     at: usize,
@@ -101,7 +106,7 @@ fn put_names(
 ) -> Option<usize>
     requires within { at ≤ length out.old }
     requires table { IsTable (take at out.old) names.old }
-    ensures { Goes (names_text compress count octets.now) out.old out.new at names.old names.new result }
+    ensures { WritesEncoding (names_octets compress count octets.now) out.old out.new at names.old names.new result }
 {
     let mut rest = octets;
     let mut next = at;

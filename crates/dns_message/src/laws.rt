@@ -2,16 +2,25 @@
 ghost use Rattle.std.specs.Prelude.{◌≡◌, ◌↔◌, ◌⊎◌, ℕ, ◌+◌, ◌^◌, ◌<◌, ◌≤◌, List, ◌++◌, length, slice_index, Some};
 ghost use Rattle.dns_rdata.specs.Record.{Record};
 ghost use Rattle.wire_names.specs.Table.{Table};
-ghost use Rattle.dns_message.specs.Again.{IsRecord, IsReply, IsTrueOf, IsReadAgain, behind, names_of, names_in_data, names_at, names_start, octets_at, data_at, entry_at, request_written};
+ghost use Rattle.dns_message.specs.Again.{IsRecord, IsReply, IsReadAgain, behind, octets_at, data_at, entry_at, body_written};
+ghost use Rattle.dns_message.specs.Encoded.{IsTrueOf};
+ghost use Rattle.dns_message.specs.Expanded.{expanded_data};
 ghost use Rattle.dns_message.specs.Asked.{request_of, question_in_full, IsQuestion, IsAnswerTo};
 ghost use Rattle.dns_message.specs.Message.{Message};
-ghost use Rattle.dns_message.specs.Text.{record_text, text};
+ghost use Rattle.dns_message.specs.Octets.{record_octets, reply_octets};
 ghost use Rattle.dns_message.specs.declared.query.Question.{Question};
 ghost use Rattle.dns_message.specs.Frame.{frame_of, frame_in};
-ghost use Rattle.dns_message.specs.Reads.{question_at, record_at, request_in, reads};
+ghost use Rattle.dns_message.specs.Reads.{question_at, record_at, body_in, reads};
 
 use crate::query::Parsed;
 use crate::read::{HEADER, QR};
+use crate::write::{MAX_LIMIT, MIN_LIMIT};
+
+/// The limits of a reply are those of a datagram and of a frame (RFC 1035, 4.2.1 and 4.2.2).
+pub fn limits_of_replies()
+    ensures least { MIN_LIMIT ≡ 512 }
+    ensures most { MAX_LIMIT ≡ 65535 }
+{}
 
 /// Nothing is answered exactly where there are fewer octets than a header has, or QR is set (RFC 1035, 4.1.1).
 pub fn silent_is_short_or_reply()
@@ -40,21 +49,21 @@ pub fn question_is_read_again()
 /// its names are in the table behind it (RFC 1035, 4.1.3 and 4.1.4).
 pub fn record_is_read_again()
     ensures read { (msg rest : List ℕ) (table : Table) (r : Record) → IsTrueOf msg table → IsRecord r → length (data_at r (table, length msg)) < 2 ^ 16
-        → record_at (msg ++ (octets_at (record_text r) (table, length msg) ++ rest)) (length msg) ≡ Some (entry_at r (table, length msg), (behind (record_text r) (table, length msg)).1) }
+        → record_at (msg ++ (octets_at (record_octets r) (table, length msg) ++ rest)) (length msg) ≡ Some (entry_at r (table, length msg), (behind (record_octets r) (table, length msg)).1) }
     ensures table { (msg : List ℕ) (table : Table) (r : Record) → IsTrueOf msg table → IsRecord r
-        → IsTrueOf (msg ++ octets_at (record_text r) (table, length msg)) (behind (record_text r) (table, length msg)).0 }
+        → IsTrueOf (msg ++ octets_at (record_octets r) (table, length msg)) (behind (record_octets r) (table, length msg)).0 }
 {}
 
-/// The names in the data of a record that is written are read at their places, through pointers, as they are in full:
-/// those of NS, CNAME, SOA, PTR, MX and SRV data (RFC 1035, 3.3 and 4.1.4; RFC 2782).
-pub fn names_in_data_are_read_again()
-    ensures { (msg rest : List ℕ) (table : Table) (r : Record) → IsTrueOf msg table → IsRecord r → (names_of r.rtype).0 ≤ length r.rdata
-        → names_at (length (names_in_data r)) (msg ++ (octets_at (record_text r) (table, length msg) ++ rest)) (names_start r (table, length msg)) ≡ Some (names_in_data r) }
+/// The expanded data of a record that is written behind a message, which has its names in full, are the data that were
+/// written, whatever follows (RFC 1035, 3.3 and 4.1.4; RFC 2782).
+pub fn data_is_read_again()
+    ensures { (msg rest : List ℕ) (table : Table) (r : Record) → IsTrueOf msg table → IsRecord r
+        → expanded_data (msg ++ (octets_at (record_octets r) (table, length msg) ++ rest)) (entry_at r (table, length msg)) ≡ Some r.rdata }
 {}
 
-/// The sections of a reply that is written are read as those that were written, one after another to its end, and so
-/// they are by the counts of its header (RFC 1035, 4.1).
+/// The sections of a reply that is written are read as those that were written, with their expanded data, one after
+/// another to its end, and so they are by the counts of its header (RFC 1035, 4.1).
 pub fn sections_are_read_again()
     ensures sections { (m : Message) (question : Question) → IsReply m question → IsReadAgain m question }
-    ensures counted { (m : Message) (question : Question) → IsReply m question → request_in (text m) ≡ Some (request_written m question) }
+    ensures counted { (m : Message) (question : Question) → IsReply m question → body_in (reply_octets m) ≡ Some (body_written m question) }
 {}

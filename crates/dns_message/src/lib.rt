@@ -19,7 +19,7 @@ mod write;
 
 pub use frame::{put_frame, take_frame};
 pub use laws::{
-    frame_is_taken_again, names_in_data_are_read_again, question_in_full_is_read,
+    data_is_read_again, frame_is_taken_again, limits_of_replies, question_in_full_is_read,
     question_is_read_again, record_is_read_again, sections_are_read_again,
     silent_is_short_or_reply,
 };

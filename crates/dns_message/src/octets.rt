@@ -29,7 +29,7 @@ pub(crate) fn put_u32(out: &mut [u8], at: usize, number: u32) -> Option<usize>
     put(out, at, &number.to_be_bytes())
 }
 
-/// Puts a number of 16 bits in place of the two octets at a position.
+/// WritesOctets a number of 16 bits in place of the two octets at a position.
 pub(crate) fn set_u16(out: &mut [u8], at: usize, number: u16)
     requires { at + 2 ≤ length out.old }
     ensures { out.new ≡ take at out.old ++ to_be_bytes w16 number ++ drop (at + 2) out.old }

@@ -1,7 +1,7 @@
 //! How a request is read (RFC 1035, 4.1 and 4.2).
-ghost use Rattle.std.specs.Prelude.{◌≡◌, ◌+◌, ◌<◌, ◌≤◌, length, nat_le, Some, None, option_map, if◌then◌else◌};
+ghost use Rattle.std.specs.Prelude.{◌≡◌, ◌+◌, ◌<◌, ◌≤◌, length, nat_le, Some, None, option_map, option_and_then, if◌then◌else◌};
 ghost use Rattle.dns_message.specs.Message.{number_at};
-ghost use Rattle.dns_message.specs.Reads.{header_of, copied, is_reply, question_at, record_at, records_at, request_in, has_opt, asks_transfer, reads};
+ghost use Rattle.dns_message.specs.Reads.{header_of, is_reply, question_at, record_at, records_at, body_in, has_opt, seen, asks_transfer, reads};
 
 use crate::query::{Head, Parsed, Query, Question};
 use dns_rdata::{Class, RType, Rcode};
@@ -52,9 +52,9 @@ pub fn parse(bytes: &[u8]) -> Parsed
     }
     let head = header_of(bytes);
     if head.opcode != QUERY {
-        return Parsed::Fault(copied(head), Rcode::NotImp);
+        return Parsed::Fault(head, Rcode::NotImp);
     }
-    match request_in(bytes) {
+    match one_question(bytes) {
         None => Parsed::Fault(head, Rcode::FormErr),
         Some((_, true)) => Parsed::Fault(head, Rcode::FormErr),
         Some((question, false)) if asks_transfer(&question) => Parsed::Fault(head, Rcode::NotImp),
@@ -78,26 +78,17 @@ fn is_reply(bytes: &[u8]) -> bool
     bytes[2] >= QR
 }
 
-/// What a reply copies from a header (RFC 1035, 4.1.1).
+/// What a reply copies from a header: ID, OPCODE, and RD but for an UPDATE, where that bit has no meaning
+/// (RFC 1035, 4.1.1; RFC 2136, 2.2; own).
 fn header_of(bytes: &[u8]) -> Head
     requires { HEADER ≤ length bytes.now }
     ensures { result ≡ header_of bytes.now }
 {
+    let opcode = bytes[2] / OPCODE % OPCODES;
     Head {
         id: u16::from_be_bytes([bytes[0], bytes[1]]),
-        opcode: bytes[2] / OPCODE % OPCODES,
-        rd: bytes[2] % 2 == 1,
-    }
-}
-
-/// What a reply copies from a header: all but the RD of an UPDATE, where that bit has no meaning (RFC 2136, 2.2; own).
-fn copied(head: Head) -> Head
-    ensures { result ≡ copied head }
-{
-    Head {
-        id: head.id,
-        opcode: head.opcode,
-        rd: head.rd && head.opcode != UPDATE,
+        opcode,
+        rd: bytes[2] % 2 == 1 && opcode != UPDATE,
     }
 }
 
@@ -111,9 +102,9 @@ fn count_at(bytes: &[u8], at: usize) -> u16
 
 /// The question behind a header, and whether there is an OPT among the additional records; None of another QDCOUNT than
 /// one, and where the question or a record can't be read (RFC 1035, 4.1; RFC 6891, 6.1.1; own).
-fn request_in(bytes: &[u8]) -> Option<(Question, bool)>
+fn one_question(bytes: &[u8]) -> Option<(Question, bool)>
     requires { HEADER ≤ length bytes.now }
-    ensures { result ≡ option_map (λ r. (r.question, has_opt r.additional)) (request_in bytes.now) }
+    ensures { result ≡ option_and_then seen (body_in bytes.now) }
 {
     if count_at(bytes, QDCOUNT) != 1 {
         return None;

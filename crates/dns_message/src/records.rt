@@ -7,11 +7,10 @@ ghost use Rattle.dns_name.specs.Name.{IsName};
 ghost use Rattle.dns_rdata.specs.Numbers.{class_IN};
 ghost use Rattle.dns_rdata.specs.Record.{shown_as};
 ghost use Rattle.wire_names.specs.Table.{IsTable, table_of};
-ghost use Rattle.wire_names.specs.Written.{WritesOctets};
 ghost use Rattle.dns_message.specs.Message.{section_of};
-ghost use Rattle.dns_message.specs.Put.{each};
-ghost use Rattle.dns_message.specs.Puts.{Goes};
-ghost use Rattle.dns_message.specs.Text.{questions, question_text, record_text};
+ghost use Rattle.dns_message.specs.Encoding.{each};
+ghost use Rattle.dns_message.specs.Encoded.{WritesParts, WritesEncoding};
+ghost use Rattle.dns_message.specs.Octets.{questions, question_octets, record_octets};
 
 use crate::data::{put_measured, put_name};
 use crate::octets::{put_u16, put_u32};
@@ -29,8 +28,8 @@ pub(crate) fn put_questions(
 ) -> Option<usize>
     requires within { at ≤ length out.old }
     requires table { IsTable (take at out.old) names.old }
-    ensures put { Goes (each question_text (questions (option_copied question.entry))) out.old out.new at names.old names.new result }
-    ensures short { length (each question_text (questions (option_copied question.entry)) (table_of (take at out.old) names.old) at).0 ≤ 259 }
+    ensures put { WritesEncoding (each question_octets (questions (option_copied question.entry))) out.old out.new at names.old names.new result }
+    ensures short { length (each question_octets (questions (option_copied question.entry)) (table_of (take at out.old) names.old) at).0 ≤ 259 }
 {
     match question {
         None => Some(at),
@@ -47,7 +46,7 @@ fn put_question(
 ) -> Option<usize>
     requires within { at ≤ length out.old }
     requires table { IsTable (take at out.old) names.old }
-    ensures put { Goes (question_text question.now) out.old out.new at names.old names.new result }
+    ensures put { WritesEncoding (question_octets question.now) out.old out.new at names.old names.new result }
     ensures lawful { IsName question.now.name }
 {
     let at = put_name(out, at, names, &question.name, true)?;
@@ -65,7 +64,7 @@ pub(crate) fn put_section(
     requires within { at ≤ length out.old }
     requires most { length out.old < 2 ^ 16 }
     requires table { IsTable (take at out.old) names.old }
-    ensures { Goes (each record_text (section_of section.now)) out.old out.new at names.old names.new result }
+    ensures { WritesEncoding (each record_octets (section_of section.now)) out.old out.new at names.old names.new result }
 {
     let mut next = at;
     for shown in section {
@@ -86,8 +85,8 @@ fn put_sets(
     requires within { at ≤ length out.old }
     requires most { length out.old < 2 ^ 16 }
     requires table { IsTable (take at out.old) names.old }
-    ensures { Goes
-        (each record_text (map (shown_as owner.now (option_map (λ t. t.0) ttl)) (flat_map (λ set. set) sets.now)))
+    ensures { WritesEncoding
+        (each record_octets (map (shown_as owner.now (option_map (λ t. t.0) ttl)) (flat_map (λ set. set) sets.now)))
         out.old out.new at names.old names.new result }
 {
     let mut next = at;
@@ -109,8 +108,8 @@ fn put_set(
     requires within { at ≤ length out.old }
     requires most { length out.old < 2 ^ 16 }
     requires table { IsTable (take at out.old) names.old }
-    ensures { Goes
-        (each record_text (map (shown_as owner.now (option_map (λ t. t.0) ttl)) set.now))
+    ensures { WritesEncoding
+        (each record_octets (map (shown_as owner.now (option_map (λ t. t.0) ttl)) set.now))
         out.old out.new at names.old names.new result }
 {
     let rtype = set.rtype();
@@ -135,8 +134,8 @@ fn put_record(
     requires within { at ≤ length out.old }
     requires most { length out.old < 2 ^ 16 }
     requires table { IsTable (take at out.old) names.old }
-    ensures { Goes
-        (record_text (record { owner = owner.now; rtype = rtype.0; ttl = ttl.0; rdata = rdata.now }))
+    ensures { WritesEncoding
+        (record_octets (record { owner = owner.now; rtype = rtype.0; ttl = ttl.0; rdata = rdata.now }))
         out.old out.new at names.old names.new result }
 {
     let at = put_name(out, at, names, owner, true)?;
@@ -146,7 +145,7 @@ fn put_record(
 
 /// Writes a record's type, class IN and its TTL at a position, as `put` does (RFC 1035, 4.1.3).
 fn put_fixed(out: &mut [u8], at: usize, rtype: RType, ttl: Ttl) -> Option<usize>
-    ensures { WritesOctets out.old out.new at (to_be_bytes w16 rtype.0 ++ to_be_bytes w16 class_IN ++ to_be_bytes w32 ttl.0) result }
+    ensures { WritesParts out.old out.new at (to_be_bytes w16 rtype.0 ++ to_be_bytes w16 class_IN ++ to_be_bytes w32 ttl.0) result }
 {
     let at = put_u16(out, at, rtype.0)?;
     let at = put_u16(out, at, Class::IN.0)?;

@@ -3,29 +3,29 @@ ghost use Rattle.std.specs.Prelude.{◌≡◌, true, [], ◌∷◌, ◌++◌, So
 ghost use Rattle.dns_rdata.specs.declared.numbers.Rcode.TheVariants.{FormErr, NotImp};
 ghost use Rattle.dns_message.specs.declared.query.Parsed.TheVariants.{Silent, Fault, Query};
 ghost use Rattle.dns_message.specs.Reads.{header_of, reads};
-ghost use Rattle.dns_message.specs.Text.{text, fit};
-ghost use Rattle.dns_message.specs.Examples.{request_front, question_octets, asked, answer, answer_octets, cut_octets, service_answer, service_octets};
+ghost use Rattle.dns_message.specs.Octets.{reply_octets, fit};
+ghost use Rattle.dns_message.specs.Examples.{request_front, asked_octets, asked, answer, answer_octets, cut_octets, service_answer, service_octets};
 
 /// A request, and what stands for other octets: fewer than twelve, no question, a question whose name points to itself,
 /// one whose name points to a zero octet of the header, and an OPT (RFC 1035, 4.1 and 4.1.4; RFC 6891, 6.1.2 and 7).
-#[tactic(auto, unfolding(crate::specs::Reads::records_at, crate::specs::Reads::request_in, wire_names::specs::NameAt::name_at, wire_names::specs::NameAt::name_from))]
+#[tactic(auto, unfolding(crate::specs::Reads::records_at, crate::specs::Reads::questions_at, crate::specs::Reads::body_in, wire_names::specs::NameAt::name_at, wire_names::specs::NameAt::name_from))]
 pub fn read_examples()
     ensures id { (header_of request_front).id ≡ 4660 }
     ensures opcode { (header_of request_front).opcode ≡ 0 }
     ensures rd { (header_of request_front).rd ≡ true }
-    ensures query { reads (request_front ++ question_octets) ≡ Query (record { head = header_of request_front; question = asked }) }
+    ensures query { reads (request_front ++ asked_octets) ≡ Query (record { head = header_of request_front; question = asked }) }
     ensures short { reads (take 11 request_front) ≡ Silent }
     ensures no_question { reads request_front ≡ Fault (header_of request_front) FormErr }
     ensures pointer { reads (request_front ++ 192 ∷ 12 ∷ 0 ∷ 1 ∷ 0 ∷ 1 ∷ []) ≡ Fault (header_of request_front) FormErr }
     ensures down { reads (request_front ++ 192 ∷ 3 ∷ 0 ∷ 1 ∷ 0 ∷ 1 ∷ []) ≡ Query (record { head = header_of request_front; question = record { name = []; rtype = record { 0 = 1 }; class = record { 0 = 1 } } }) }
-    ensures opt { reads ((take 11 request_front ++ 1 ∷ []) ++ question_octets ++ 0 ∷ 0 ∷ 41 ∷ 16 ∷ 0 ∷ 0 ∷ 0 ∷ 0 ∷ 0 ∷ 0 ∷ 0 ∷ []) ≡ Fault (header_of request_front) FormErr }
+    ensures opt { reads ((take 11 request_front ++ 1 ∷ []) ++ asked_octets ++ 0 ∷ 0 ∷ 41 ∷ 16 ∷ 0 ∷ 0 ∷ 0 ∷ 0 ∷ 0 ∷ 0 ∷ 0 ∷ []) ≡ Fault (header_of request_front) FormErr }
 {}
 
 /// Replies, whose names have pointers (RFC 1035, 4.1 and 4.1.4; RFC 2782).
-#[tactic(auto, unfolding(crate::specs::Put::these, crate::specs::Put::named, crate::specs::Put::before, crate::specs::Put::measured, crate::specs::Put::each, crate::specs::Text::question_text, crate::specs::Text::names_text, crate::specs::Text::name_behind, crate::specs::Text::data_text, crate::specs::Text::record_text, crate::specs::Text::sections_text))]
+#[tactic(auto, unfolding(crate::specs::Encoding::these, crate::specs::Encoding::named, crate::specs::Encoding::before, crate::specs::Encoding::measured, crate::specs::Encoding::each, crate::specs::Octets::question_octets, crate::specs::Octets::names_octets, dns_rdata::specs::Layout::layout_of, crate::specs::Octets::data_octets, crate::specs::Octets::record_octets, crate::specs::Octets::sections_octets))]
 pub fn examples()
-    ensures octets { text answer ≡ answer_octets }
+    ensures octets { reply_octets answer ≡ answer_octets }
     ensures whole { fit answer 512 ≡ answer_octets }
     ensures cut { fit answer 67 ≡ cut_octets }
-    ensures service { text service_answer ≡ service_octets }
+    ensures service { reply_octets service_answer ≡ service_octets }
 {}

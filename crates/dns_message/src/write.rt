@@ -1,10 +1,10 @@
 //! How a reply is written (RFC 1035, 4.1 and 4.2.1).
-ghost use Rattle.std.specs.Prelude.{◌≡◌, ◌≤◌, ◌<◌, ◌^◌, length, take, MatchOption};
+ghost use Rattle.std.specs.Prelude.{◌≡◌, ◌≤◌, ◌<◌, ◌^◌, true, length, take, drop, MatchOption};
 ghost use Rattle.wire_names.specs.Table.{IsTable};
-ghost use Rattle.wire_names.specs.Written.{WritesOctets, IsOverwritten};
+ghost use Rattle.wire_names.specs.Written.{IsOverwritten};
 ghost use Rattle.dns_message.specs.Message.{message_of};
-ghost use Rattle.dns_message.specs.Puts.{Goes};
-ghost use Rattle.dns_message.specs.Text.{bit, counts_in, flags_text, header_text, sections_text, text, truncated, fit};
+ghost use Rattle.dns_message.specs.Encoded.{WritesParts, WritesEncoding};
+ghost use Rattle.dns_message.specs.Octets.{bit, counts_in, flags_octets, header_octets, sections_octets, reply_octets, truncated, room_under, fits, fit};
 
 use crate::count::count_section;
 use crate::octets::{put, put_u16};
@@ -25,19 +25,21 @@ const AA: u8 = 4;
 /// TC, by its place in the third octet (RFC 1035, 4.1.1).
 const TC: u8 = 2;
 
-/// Writes a reply to the front of `out`, and gives how many octets it has: the whole reply where it fits the limit, else
-/// its header and question alone with TC 1 (RFC 1035, 4.1 and 4.2.1; RFC 2181, 9). It takes no memory.
+/// Writes a reply to the front of `out`, and gives how many octets it has: the whole reply where it fits the limit, and a
+/// message's 65,535 octets, else its header and question alone with TC 1 (RFC 1035, 4.1, 4.2.1 and 4.2.2; RFC 2181, 9).
+/// What is behind a whole reply stays, and in any case what is behind the limit. It takes no memory.
 ///
 /// The names of the question, of owners and of NS, CNAME, SOA, PTR and MX data have pointers to names in front of them
 /// in the reply (RFC 1035, 4.1.4); the target of an SRV is written in full (RFC 2782).
 pub fn write_reply(reply: &Reply<'_>, limit: usize, out: &mut [u8]) -> usize
     requires least { MIN_LIMIT ≤ limit }
-    requires most { limit ≤ MAX_LIMIT }
     requires room { limit ≤ length out.old }
     ensures octets { take result out.new ≡ fit (message_of reply.now) limit }
     ensures len { result ≤ limit }
+    ensures whole { fits (message_of reply.now) limit ≡ true → IsOverwritten out.old out.new 0 (reply_octets (message_of reply.now)) result }
+    ensures behind { drop (room_under limit) out.new ≡ drop (room_under limit) out.old }
 {
-    let room = &mut out[..limit];
+    let room = &mut out[..limit.min(MAX_LIMIT)];
     match put_message(room, reply) {
         Some(len) => len,
         None => put_truncated(room, reply),
@@ -48,7 +50,7 @@ pub fn write_reply(reply: &Reply<'_>, limit: usize, out: &mut [u8]) -> usize
 fn put_truncated(out: &mut [u8], reply: &Reply<'_>) -> usize
     requires least { MIN_LIMIT ≤ length out.old }
     requires most { length out.old ≤ MAX_LIMIT }
-    ensures { IsOverwritten out.old out.new 0 (text (truncated (message_of reply.now))) result }
+    ensures { IsOverwritten out.old out.new 0 (reply_octets (truncated (message_of reply.now))) result }
 {
     let counts = [u16::from(reply.question.is_some()), 0, 0, 0];
     let at = put_header(out, reply, true, counts).unwrap();
@@ -59,7 +61,7 @@ fn put_truncated(out: &mut [u8], reply: &Reply<'_>) -> usize
 /// Writes the whole reply to the front of a buffer, as `put` does.
 fn put_message(out: &mut [u8], reply: &Reply<'_>) -> Option<usize>
     requires { length out.old ≤ MAX_LIMIT }
-    ensures { WritesOctets out.old out.new 0 (text (message_of reply.now)) result }
+    ensures { WritesParts out.old out.new 0 (reply_octets (message_of reply.now)) result }
 {
     let counts = counts_of(reply)?;
     let at = put_header(out, reply, false, counts)?;
@@ -77,7 +79,7 @@ fn put_sections(
     requires within { at ≤ length out.old }
     requires most { length out.old ≤ MAX_LIMIT }
     requires table { IsTable (take at out.old) names.old }
-    ensures { Goes (sections_text (message_of reply.now)) out.old out.new at names.old names.new result }
+    ensures { WritesEncoding (sections_octets (message_of reply.now)) out.old out.new at names.old names.new result }
 {
     let at = put_questions(out, at, names, reply.question)?;
     let at = put_section(out, at, names, reply.answer)?;
@@ -88,7 +90,7 @@ fn put_sections(
 /// The counts of a reply's sections, by their headings in order; None where one hasn't 16 bits (RFC 1035, 4.1.1).
 fn counts_of(reply: &Reply<'_>) -> Option<[u16; 4]>
     ensures { MatchOption result
-        (2 ^ 16 ≤ length (text (message_of reply.now)))
+        (2 ^ 16 ≤ length (reply_octets (message_of reply.now)))
         (λ counts. counts ≡ counts_in (message_of reply.now)) }
 {
     Some([
@@ -101,7 +103,7 @@ fn counts_of(reply: &Reply<'_>) -> Option<[u16; 4]>
 
 /// Writes a reply's header, with this TC and these counts, to the front of a buffer, as `put` does (RFC 1035, 4.1.1).
 fn put_header(out: &mut [u8], reply: &Reply<'_>, tc: bool, counts: [u16; 4]) -> Option<usize>
-    ensures { WritesOctets out.old out.new 0 (header_text (record (message_of reply.now) { tc = tc }) counts) result }
+    ensures { WritesParts out.old out.new 0 (header_octets (record (message_of reply.now) { tc = tc }) counts) result }
 {
     let [questions, answers, authorities, additionals] = counts;
     let at = put_u16(out, 0, reply.head.id)?;
@@ -114,7 +116,7 @@ fn put_header(out: &mut [u8], reply: &Reply<'_>, tc: bool, counts: [u16; 4]) -> 
 
 /// The two octets of a reply's flags (RFC 1035, 4.1.1).
 fn flags_of(reply: &Reply<'_>, tc: bool) -> [u8; 2]
-    ensures { result ≡ flags_text (record (message_of reply.now) { tc = tc }) }
+    ensures { result ≡ flags_octets (record (message_of reply.now) { tc = tc }) }
 {
     let front = QR
         + OPCODE * reply.head.opcode

@@ -12,7 +12,7 @@ use Rattle.dns_message.specs.declared.query.Parsed.{Parsed}
 use Rattle.dns_message.specs.declared.query.Parsed.TheVariants.{Silent, Fault, Query}
 use Rattle.dns_message.specs.Message.{Message}
 use Rattle.dns_message.specs.Reads.{reads}
-use Rattle.dns_message.specs.Text.{fit}
+use Rattle.dns_message.specs.Octets.{fit}
 use Rattle.zone_tree.specs.Zone.{apex_of}
 use Rattle.lookup_core.specs.Sections.{Sections, sections, without_additional}
 use Rattle.lookup_core.specs.Waits.{waits}

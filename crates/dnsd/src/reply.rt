@@ -1,7 +1,7 @@
 //! The reply to a request (RFC 1034, 4.3.2; RFC 1035, 4.1).
 ghost use Rattle.std.specs.Prelude.{◌≡◌, ◌≤◌, length, take, MatchOption, Some, None};
 ghost use Rattle.dns_message.specs.Message.{message_of};
-ghost use Rattle.dns_message.specs.Text.{fit};
+ghost use Rattle.dns_message.specs.Octets.{fit};
 ghost use Rattle.dnsd.specs.Reply.{reply, reply_to, answered_in, bare as bare_message, refused};
 ghost use Rattle.dnsd.specs.Transport.{limit_of};
 

@@ -1,12 +1,12 @@
 use Rattle.std.proofs.Common.{arith}
-use Rattle.dns_message.specs.Put.{each, these}
-use Rattle.dns_message.proofs.PutsLemmas.{Goes-nothing, each-one}
+use Rattle.dns_message.specs.Encoding.{each, these}
+use Rattle.dns_message.proofs.EncodedLemmas.{WritesEncoding-nothing, each-one}
 use Rattle.dns_message.proofs.DataLemmas.{length-question}
 use Rattle.dns_message.proofs.records.put_questions.Goals as goal
 
 pub returns-in-None-clause-put : goal.returns-in-None-clause-put
 unfolding each
-returns-in-None-clause-put c = rw c.in-None.is (Goes-nothing _ _ _ c.requires.within c.requires.table)
+returns-in-None-clause-put c = rw c.in-None.is (WritesEncoding-nothing _ _ _ c.requires.within c.requires.table)
 
 pub returns-in-None-clause-short : goal.returns-in-None-clause-short
 unfolding each these

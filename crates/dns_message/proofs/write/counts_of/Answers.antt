@@ -1,6 +1,6 @@
 use Rattle.std.proofs.Common.{arith}
 use Rattle.dns_message.specs.Message.{message_of}
-use Rattle.dns_message.proofs.TextLemmas.{sections_fill}
+use Rattle.dns_message.proofs.OctetsLemmas.{sections_fill}
 use Rattle.dns_message.proofs.write.counts_of.Goals as goal
 
 pub returns-in_err-count_section : goal.returns-in_err-count_section

@@ -1,18 +1,18 @@
 use Rattle.std.proofs.Common.{List, ℕ, Option, Some, rules, subst}
 use Rattle.wire_names.specs.Written.{IsOverwritten}
 use Rattle.dns_message.specs.Message.{message_of}
-use Rattle.dns_message.specs.Put.{each}
-use Rattle.dns_message.specs.Puts.{Goes}
-use Rattle.dns_message.specs.Text.{questions, question_text, header_text, counts_in, truncated}
-use Rattle.dns_message.proofs.TextLemmas.{truncated_put}
+use Rattle.dns_message.specs.Encoding.{each}
+use Rattle.dns_message.specs.Encoded.{WritesEncoding}
+use Rattle.dns_message.specs.Octets.{questions, question_octets, header_octets, counts_in, truncated}
+use Rattle.dns_message.proofs.OctetsLemmas.{truncated_put}
 use Rattle.dns_message.proofs.write.put_truncated.Goals as goal
 
 pub returns : goal.returns
 returns c =
     let m = message_of c.args.reply.now in
     let at = c.unwrap-at.result in
-    let front : IsOverwritten c.args.out.now c.put_header.new.out 0 (header_text (truncated m) (counts_in (truncated m))) at = search rules in
-    let asked = each question_text (questions m.question) in
-    let put = subst (λ (r : Option ℕ). Goes asked c.put_header.new.out c.put_questions.new.out at c.new-names.result c.put_questions.new.names r) c.unwrap.ensures c.put_questions.ensures.put in
-    let back = subst (λ (names : List ℕ). Goes asked c.put_header.new.out c.put_questions.new.out at names c.put_questions.new.names (Some c.unwrap.result)) c.new-names.ensures put in
+    let front : IsOverwritten c.args.out.now c.put_header.new.out 0 (header_octets (truncated m) (counts_in (truncated m))) at = search rules in
+    let asked = each question_octets (questions m.question) in
+    let put = subst (λ (r : Option ℕ). WritesEncoding asked c.put_header.new.out c.put_questions.new.out at c.new-names.result c.put_questions.new.names r) c.unwrap.ensures c.put_questions.ensures.put in
+    let back = subst (λ (names : List ℕ). WritesEncoding asked c.put_header.new.out c.put_questions.new.out at names c.put_questions.new.names (Some c.unwrap.result)) c.new-names.ensures put in
     truncated_put m _ _ _ _ _ _ front back

@@ -1,6 +1,6 @@
 use Rattle.std.proofs.Common.{sym, ap, ◌∙◌, option_map}
 use Rattle.dns_message.proofs.ReadLemmas.{behind_question, behind_answer, behind_authority, seen_question, seen_answer, seen_authority, seen_additional, seen_none}
-use Rattle.dns_message.proofs.read.request_in.Goals as goal
+use Rattle.dns_message.proofs.read.one_question.Goals as goal
 
 pub returns-then-count_at-ne1 : goal.returns-then-count_at-ne1
 returns-then-count_at-ne1 c = sym (seen_none _ _ c.count_at.ensures c.if-count_at-ne1.true)

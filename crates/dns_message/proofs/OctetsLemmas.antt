@@ -1,0 +1,116 @@
+-- How long the octets of a reply are, and what they are.
+use Rattle.std.proofs.Common.{◌≡◌, ℕ, ◌+◌, ◌<◌, ◌≤◌, true, false, min, nat_le, List, [], ◌∷◌, ◌++◌, length, take, drop, Some, sym, ap, subst, ◌∙◌, arith, length-append, append_assoc}
+use Rattle.std.proofs.lemmas.Bool.{le-leb, lt-leb}
+use Rattle.std.proofs.lemmas.List.{append-nil, length-take-le, take-append-le, drop-append-le, take-append-drop}
+use Rattle.std.specs.Int.{to_be_bytes, w16}
+use Rattle.dns_rdata.specs.Record.{Record}
+use Rattle.wire_names.specs.Table.{Table}
+use Rattle.wire_names.specs.Written.{IsOverwritten}
+use Rattle.wire_names.proofs.OverwrittenLemmas.{length_stays, octets_are, IsOverwritten-then}
+use Rattle.dns_message.specs.Message.{Message}
+use Rattle.dns_message.specs.Encoding.{Encoding, these, before, measured, each}
+use Rattle.dns_message.specs.Encoded.{IsStopped, WritesEncoding}
+use Rattle.dns_message.specs.Octets.{questions, question_octets, record_octets, sections_octets, counts_in, header_octets, reply_octets, truncated, fit}
+
+-- the octets of one thing and of another behind it
+length-before : (p q : Encoding) (table : Table) (at : ℕ) → length (before p q table at).0 ≡ length (p table at).0 + length (q (p table at).1 (at + length (p table at).0)).0
+unfolding before
+length-before p q table at = length-append (p table at).0 (q (p table at).1 (at + length (p table at).0)).0
+
+length-measured : (p : Encoding) (table : Table) (at : ℕ) → 0 < length (measured p table at).0
+unfolding measured
+length-measured p table at = let both = length-append (to_be_bytes w16 (length (p table (at + 2)).0)) (p table (at + 2)).0 in omega arith
+
+-- a record has an octet or more
+record_some : (r : Record) (table : Table) (at : ℕ) → 0 < length (record_octets r table at).0
+unfolding record_octets
+record_some r table at = omega (arith, length-before, length-measured)
+
+-- there are no more records than octets of records
+records_fill : (rs : List Record) (table : Table) (at : ℕ) → length rs ≤ length (each record_octets rs table at).0
+unfolding each
+records_fill [] table at = omega arith
+records_fill (r ∷ rs) table at =
+    let both = length-before (record_octets r) (each record_octets rs) table at in
+    let some = record_some r table at in
+    let rest = records_fill rs (record_octets r table at).1 (at + length (record_octets r table at).0) in
+    omega arith
+
+-- no section has more records than the reply has octets
+pub record IsFilled (m : Message) : Type 0 where
+  pub answer : length m.answer ≤ length (reply_octets m)
+  pub authority : length m.authority ≤ length (reply_octets m)
+  pub additional : length m.additional ≤ length (reply_octets m)
+
+pub sections_fill : (m : Message) → IsFilled m
+unfolding sections_octets
+sections_fill m =
+    let asked = each question_octets (questions m.question) [] 12 in
+    let place = 12 + length asked.0 in
+    let answer = each record_octets m.answer asked.1 place in
+    let place_2 = place + length answer.0 in
+    let authority = each record_octets m.authority answer.1 place_2 in
+    let place_3 = place_2 + length authority.0 in
+    let additional = each record_octets m.additional authority.1 place_3 in
+    let whole = length-append (header_octets m (counts_in m)) (sections_octets m [] 12).0 in
+    let one = length-before (each question_octets (questions m.question)) (before (each record_octets m.answer) (before (each record_octets m.authority) (each record_octets m.additional))) [] 12 in
+    let two = length-before (each record_octets m.answer) (before (each record_octets m.authority) (each record_octets m.additional)) asked.1 place in
+    let three = length-before (each record_octets m.authority) (each record_octets m.additional) answer.1 place_2 in
+    let fill = records_fill m.answer asked.1 place in
+    let fill_2 = records_fill m.authority answer.1 place_2 in
+    let fill_3 = records_fill m.additional authority.1 place_3 in
+    record { answer = omega arith; authority = omega arith; additional = omega arith }
+
+-- the octets of the truncated reply are the header and the question
+pub truncated_octets : (m : Message) → reply_octets (truncated m) ≡ header_octets (truncated m) (counts_in (truncated m)) ++ (each question_octets (questions m.question) [] 12).0
+unfolding sections_octets before each these
+truncated_octets m = ap (λ octets. header_octets (truncated m) (counts_in (truncated m)) ++ octets) (append-nil (each question_octets (questions m.question) [] 12).0)
+
+-- and they are written so
+pub truncated_put : (m : Message) (a b c after : List ℕ) (at next : ℕ) → IsOverwritten a b 0 (header_octets (truncated m) (counts_in (truncated m))) at → WritesEncoding (each question_octets (questions m.question)) b c at [] after (Some next) → IsOverwritten a c 0 (reply_octets (truncated m)) next
+truncated_put m a b c after at next front back =
+    let asked = each question_octets (questions m.question) in
+    let next_is = front.next_is in
+    let place : at ≡ 12 = omega arith in
+    let there = subst (λ (n : ℕ). IsOverwritten b c at (asked [] n).0 next) place back.octets in
+    subst (λ (octets : List ℕ). IsOverwritten a c 0 octets next) (sym (truncated_octets m)) (IsOverwritten-then a b c 0 at next _ _ front there)
+
+-- octets that were written to the front of a part of a buffer stand at its front
+pub sent : (old new x rest : List ℕ) (len : ℕ) → IsOverwritten old new 0 x len → take len (new ++ rest) ≡ x
+sent old new x rest len put =
+    let same = length_stays old new 0 x len put in
+    let least = put.within in
+    take-append-le len new rest (omega arith) ∙ octets_are old new 0 x len put
+
+-- and what is behind them stays
+pub sent_whole : (out new x : List ℕ) (k len : ℕ) → k ≤ length out → IsOverwritten (take k out) new 0 x len → IsOverwritten out (new ++ drop k out) 0 x len
+sent_whole out new x k len within put =
+    let least = put.within in
+    let size = length-take-le k out within in
+    let rest : drop len (take k out) ++ drop k out ≡ drop len out =
+    sym (drop-append-le len (take k out) (drop k out) least) ∙ ap (drop len) (take-append-drop k out) in
+    record {
+      next_is = put.next_is;
+      within = omega arith;
+      new_is = ap (λ (t : List ℕ). t ++ drop k out) put.new_is ∙ append_assoc x (drop len (take k out)) (drop k out) ∙ ap (λ (t : List ℕ). x ++ t) rest;
+    }
+
+fits_front : (old new x : List ℕ) (len : ℕ) → IsOverwritten old new 0 x len → length x ≤ length old
+fits_front old new x len put = let next = put.next_is in let within = put.within in omega arith
+
+-- a reply that was written fits
+pub fit_whole : (m : Message) (limit k len : ℕ) (old new : List ℕ) → k ≡ min limit 65535 → length old ≡ k → IsOverwritten old new 0 (reply_octets m) len → fit m limit ≡ reply_octets m
+fit_whole m limit k len old new at size put =
+    let within : length (reply_octets m) ≤ min limit 65535 = subst (λ (n : ℕ). length (reply_octets m) ≤ n) (size ∙ at) (fits_front old new (reply_octets m) len put) in
+    let test : nat_le (length (reply_octets m)) (min limit 65535) ≡ true = le-leb _ _ within in
+    rw test
+
+over_front : (old new : List ℕ) (size : ℕ) → IsStopped old new 0 size → length old < size
+over_front old new size stopped = let short = stopped.short in omega arith
+
+-- and one that didn't go in doesn't
+pub fit_cut : (m : Message) (limit k : ℕ) (old new : List ℕ) → k ≡ min limit 65535 → length old ≡ k → IsStopped old new 0 (length (reply_octets m)) → fit m limit ≡ reply_octets (truncated m)
+fit_cut m limit k old new at size stopped =
+    let over : min limit 65535 < length (reply_octets m) = subst (λ (n : ℕ). n < length (reply_octets m)) (size ∙ at) (over_front old new (length (reply_octets m)) stopped) in
+    let test : nat_le (length (reply_octets m)) (min limit 65535) ≡ false = lt-leb _ _ over in
+    rw test
