@@ -51,6 +51,8 @@ pub record Message : Type 0 where
   pub answer : List Record
   pub authority : List Record
   pub additional : List Record
+  -- whether the last name looked up was at or below a zone cut (RFC 1034, 4.3.2, step 3b)
+  pub below_cut : Bool
 
 -- the records of a section, in the order in which it shows them
 abbrev pub section_of : List Shown → List Record
@@ -67,4 +69,5 @@ message_of reply = record {
   answer = section_of reply.answer.now;
   authority = section_of reply.authority.now;
   additional = section_of reply.additional.now;
+  below_cut = reply.below_cut;
 }

@@ -19,4 +19,6 @@ pub struct Reply<'a> {
     pub authority: &'a [Shown<'a>],
     /// The additional section.
     pub additional: &'a [Shown<'a>],
+    /// Whether the last name looked up is at or below a zone cut (RFC 1034, 4.3.2, step 3b).
+    pub below_cut: bool,
 }

@@ -201,6 +201,7 @@ mod tests {
             answer: &[],
             authority: &[],
             additional: &[],
+            below_cut: false,
         }
     }
 
