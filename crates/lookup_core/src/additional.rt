@@ -102,7 +102,8 @@ pub(crate) fn additional_of<'z, Z: ZoneRead>(
     answer: &[Shown<'z>],
     authority: &[Shown<'z>],
 ) -> ArrayVec<Shown<'z>, MOST_ADDITIONAL>
-    ensures { section_shown result.items ≡ additional_of (Z.records zone.now) (section_shown answer.now) (section_shown authority.now) }
+    ensures { section_shown result.items
+        ≡ additional_of (Z.records zone.now) (section_shown answer.now) (section_shown authority.now) }
 {
     let mut additional = Additional::new();
     add_section(zone, answer, answer, &mut additional);
@@ -117,7 +118,8 @@ fn add_section<'z, Z: ZoneRead>(
     section: &[Shown<'z>],
     additional: &mut Additional<'z>,
 )
-    ensures { additional.new ≡ with_more additional.old (wanted_sets (Z.records zone.now) (section_shown answer.now) (hosts_of (section_shown section.now))) }
+    ensures { additional.new ≡ with_more additional.old
+        (wanted_sets (Z.records zone.now) (section_shown answer.now) (hosts_of (section_shown section.now))) }
 {
     for shown in section {
         add_sets(zone, answer, shown.sets, additional);
@@ -131,7 +133,8 @@ fn add_sets<'z, Z: ZoneRead>(
     sets: &[RRset],
     additional: &mut Additional<'z>,
 )
-    ensures { additional.new ≡ with_more additional.old (wanted_sets (Z.records zone.now) (section_shown answer.now) (hosts_of (flat_map (λ set. set) sets.now))) }
+    ensures { additional.new ≡ with_more additional.old
+        (wanted_sets (Z.records zone.now) (section_shown answer.now) (hosts_of (flat_map (λ set. set) sets.now))) }
 {
     for set in sets {
         add_data(zone, answer, set.data(), additional);
@@ -145,7 +148,8 @@ fn add_data<'z, Z: ZoneRead>(
     all: &[RData],
     additional: &mut Additional<'z>,
 )
-    ensures { additional.new ≡ with_more additional.old (wanted_sets (Z.records zone.now) (section_shown answer.now) (flat_map (λ d. hosts_in d.rtype d.octets) all.now)) }
+    ensures { additional.new ≡ with_more additional.old
+        (wanted_sets (Z.records zone.now) (section_shown answer.now) (flat_map (λ d. hosts_in d.rtype d.octets) all.now)) }
 {
     for rdata in all {
         if let Some(host) = host_in(rdata) {
@@ -161,7 +165,8 @@ fn add_addresses<'z, Z: ZoneRead>(
     host: &Name,
     additional: &mut Additional<'z>,
 )
-    ensures { additional.new ≡ with_more additional.old (wanted_sets (Z.records zone.now) (section_shown answer.now) (host.now ∷ [])) }
+    ensures { additional.new ≡ with_more additional.old
+        (wanted_sets (Z.records zone.now) (section_shown answer.now) (host.now ∷ [])) }
 {
     add_rrset(zone, answer, host, RType::A, additional);
     add_rrset(zone, answer, host, RType::AAAA, additional);
@@ -199,7 +204,8 @@ fn add_rrset<'z, Z: ZoneRead>(
     rtype: RType,
     additional: &mut Additional<'z>,
 )
-    ensures { additional.new ≡ with_more additional.old (filter (is_wanted (section_shown answer.now)) (rrset_of (Z.records zone.now) host.now rtype.0 ∷ [])) }
+    ensures { additional.new ≡ with_more additional.old
+        (filter (is_wanted (section_shown answer.now)) (rrset_of (Z.records zone.now) host.now rtype.0 ∷ [])) }
 {
     if let Some(set) = zone.rrset(host, rtype)
         && !is_answered(answer, set)
