@@ -2,7 +2,7 @@
 use Rattle.std.specs.Prelude.{ℕ, false, ◌||◌, not, ◌==◌, List, [], Option, Some, None, if◌then◌else◌}
 use Rattle.dns_name.specs.Name.{is_under}
 use Rattle.dns_rdata.specs.declared.numbers.Rcode.{Rcode}
-use Rattle.dns_rdata.specs.declared.numbers.Rcode.TheVariants.{ServFail, NotImp, Refused}
+use Rattle.dns_rdata.specs.declared.numbers.Rcode.TheVariants.{NotImp, Refused}
 use Rattle.dns_rdata.specs.Numbers.{class_IN, type_MAILB, type_MAILA}
 use Rattle.dns_rdata.specs.Record.{Record}
 use Rattle.dns_message.specs.declared.query.Head.{Head}
@@ -14,8 +14,7 @@ use Rattle.dns_message.specs.Message.{Message}
 use Rattle.dns_message.specs.Reads.{reads}
 use Rattle.dns_message.specs.Octets.{fit}
 use Rattle.zone_tree.specs.Zone.{apex_of}
-use Rattle.lookup_core.specs.Sections.{Sections, sections, without_additional}
-use Rattle.lookup_core.specs.Waits.{waits}
+use Rattle.lookup_core.specs.Sections.{Sections, sections}
 use Rattle.dnsd.specs.declared.transport.Transport.{Transport}
 use Rattle.dnsd.specs.Transport.{limit_of}
 
@@ -29,13 +28,11 @@ refused head question = record (bare head Refused) { question = Some question }
 
 -- an answer's sections (RFC 1034, 4.3.2)
 abbrev pub answered : Head → Question → Sections → Message
-answered head question s = record { head = head; rcode = s.rcode; aa = s.aa; tc = false; question = Some question; answer = s.answer; authority = s.authority; additional = s.additional; below_cut = false }
+answered head question s = record { head = head; rcode = s.rcode; aa = s.aa; tc = false; question = Some question; answer = s.answer; authority = s.authority; additional = s.additional; below_cut = s.below_cut }
 
--- the zone's answer to a question, without an additional section; SERVFAIL where it is left open (RFC 1034, 4.3.2; own)
+-- the zone's answer to a question (RFC 1034, 4.3.2)
 abbrev pub answered_in : List Record → Head → Question → Message
-answered_in zone head question =
-    if waits zone question.name question.rtype.0 then bare head ServFail
-    else answered head question (without_additional (sections zone question.name question.rtype.0))
+answered_in zone head question = answered head question (sections zone question.name question.rtype.0)
 
 -- the reply to a query: REFUSED in another class than IN, NOTIMP of MAILB and MAILA, REFUSED of a name outside the zone,
 -- else the zone's answer (RFC 1034, 4.3.2; own)

@@ -55,7 +55,7 @@ fn respond_to_query<Z: ZoneRead>(
     write_answer(zone, *head, question, transport, out)
 }
 
-/// Writes the zone's answer to a question, or SERVFAIL where it is left open (RFC 1034, 4.3.2).
+/// Writes the zone's answer to a question (RFC 1034, 4.3.2).
 fn write_answer<Z: ZoneRead>(
     zone: &Z,
     head: Head,
@@ -67,9 +67,7 @@ fn write_answer<Z: ZoneRead>(
     ensures octets { take result out.new ≡ fit (answered_in (Z.records zone.now) head question.now) (limit_of transport) }
     ensures len { result ≤ limit_of transport }
 {
-    let Some(found) = answer(zone, &question.name, question.rtype) else {
-        return write_bare(head, Rcode::ServFail, transport, out);
-    };
+    let found = answer(zone, &question.name, question.rtype);
     let reply = Reply {
         head,
         rcode: found.rcode,
@@ -77,8 +75,8 @@ fn write_answer<Z: ZoneRead>(
         question: Some(question),
         answer: found.answer.as_slice(),
         authority: found.authority.as_slice(),
-        additional: &[],
-        below_cut: false,
+        additional: found.additional.as_slice(),
+        below_cut: found.below_cut,
     };
     write_reply(&reply, transport.limit(), out)
 }

@@ -1,5 +1,5 @@
 -- Steps along a chain of aliases.
-use Rattle.std.proofs.Common.{◌≡◌, ℕ, suc, Bool, true, false, ◌||◌, List, [], ◌∷◌, ◌++◌, map, reverse, refl, sym, ap, subst, IsTrue, ◌∙◌, arith, append_assoc, append-nil}
+use Rattle.std.proofs.Common.{◌≡◌, ℕ, suc, Bool, true, false, ◌||◌, ◌==◌, List, [], ◌∷◌, ◌++◌, length, map, reverse, refl, sym, ap, subst, ◌∙◌, arith, append_assoc, append-nil}
 use Rattle.std.specs.List.{list_any, flat_map}
 use Rattle.std.proofs.lemmas.List.{reverse-append, map-append}
 use Rattle.std.proofs.lemmas.Grind.{flat_map-append}
@@ -8,11 +8,10 @@ use Rattle.dns_rdata.specs.declared.shown.Shown.{Shown}
 use Rattle.dns_rdata.specs.Record.{Record}
 use Rattle.dns_rdata.specs.Shown.{records_shown}
 use Rattle.lookup_core.specs.declared.aliases.TheConstants.{MOST_ALIASES}
+use Rattle.lookup_core.specs.Place.{is_none_of}
 use Rattle.lookup_core.specs.Look.{Look, Cut, Alias, Data, NoData, NoName, look, owned_by}
 use Rattle.lookup_core.specs.Chain.{Chain, End, Found, Stop, onto, target, is_final, chain_from, chain}
-use Rattle.lookup_core.specs.Waits.{looked_up_from, is_left_open, waits}
-use Rattle.lookup_core.specs.Shown.{IsSeen}
-use Rattle.lookup_core.specs.Shown.{searched_before}
+use Rattle.lookup_core.specs.Shown.{section_shown, searched_before}
 use Rattle.lookup_core.proofs.WalkLemmas.{list_any-reverse}
 
 -- whether a name is among those searched doesn't depend on their order
@@ -32,36 +31,33 @@ pub target-owned_by : (name : List (List ℕ)) (rs : List Record) → target (ow
 target-owned_by name [] = refl
 target-owned_by name (r ∷ rs) = refl
 
--- what remains of a chain behind these aliases, when so many more may follow and this name is looked up next
+-- what remains of a chain behind these aliases, when so many more may follow and this name is looked up next; each alias
+-- shows a record
 pub record IsOnTheWay (zone : List Record) (name : List (List ℕ)) (rtype : ℕ) (aliases : List Shown) (more : ℕ) (at : List (List ℕ)) : Type 0 where
-  pub chain : chain zone name rtype ≡ onto (flat_map records_shown aliases) (chain_from zone more (searched_before aliases) at rtype)
-  pub waits : waits zone name rtype ≡ list_any (is_left_open zone) (looked_up_from zone more (searched_before aliases) at rtype)
+  pub chain : chain zone name rtype ≡ onto (section_shown aliases) (chain_from zone more (searched_before aliases) at rtype)
+  pub some : is_none_of (section_shown aliases) ≡ (length aliases == 0)
 
 -- a chain begins at the name asked
 begins_with : (zone : List Record) (name : List (List ℕ)) (rtype : ℕ) → IsOnTheWay zone name rtype [] MOST_ALIASES name
-unfolding chain waits
-begins_with zone name rtype = record { chain = refl; waits = refl }
+unfolding chain
+begins_with zone name rtype = record { chain = refl; some = refl }
 
 pub begins : (zone : List Record) (name : List (List ℕ)) (rtype more : ℕ) → more ≡ MOST_ALIASES → IsOnTheWay zone name rtype [] more name
 begins zone name rtype more all = subst (λ n. IsOnTheWay zone name rtype [] n name) (sym all) (begins_with zone name rtype)
 
--- a chain with its end
-pub record Ends (zone : List Record) (name : List (List ℕ)) (rtype : ℕ) (whole : Chain) : Type 0 where
-  pub chain : chain zone name rtype ≡ whole
-  pub closed : waits zone name rtype ≡ false
+-- a chain with its aliases and its end
+pub record Ends (zone : List Record) (name : List (List ℕ)) (rtype : ℕ) (aliases : List Shown) (end : End) : Type 0 where
+  pub chain : chain zone name rtype ≡ record { aliases = section_shown aliases; end = end }
+  pub some : is_none_of (section_shown aliases) ≡ (length aliases == 0)
 
 -- no more aliases may follow
-pub runs_out : (zone : List Record) (name : List (List ℕ)) (rtype : ℕ) (aliases : List Shown) (at : List (List ℕ)) → IsOnTheWay zone name rtype aliases 0 at → Ends zone name rtype (record { aliases = flat_map records_shown aliases; end = Stop })
+pub runs_out : (zone : List Record) (name : List (List ℕ)) (rtype : ℕ) (aliases : List Shown) (at : List (List ℕ)) → IsOnTheWay zone name rtype aliases 0 at → Ends zone name rtype aliases Stop
 runs_out zone name rtype aliases at way = record {
-  chain = way.chain ∙ ap (λ rs. record { aliases = rs; end = Stop }) (append-nil (flat_map records_shown aliases));
-  closed = way.waits;
+  chain = way.chain ∙ ap (λ rs. record { aliases = rs; end = Stop }) (append-nil (section_shown aliases));
+  some = way.some;
 }
 
--- a name that is left open
-pub stays_open : (zone : List Record) (name : List (List ℕ)) (rtype : ℕ) (aliases : List Shown) (more : ℕ) (at : List (List ℕ)) → IsOnTheWay zone name rtype aliases (suc more) at → is_left_open zone at ≡ true → waits zone name rtype ≡ true
-stays_open zone name rtype aliases more at way left_open = way.waits ∙ (rw left_open refl)
-
--- one step of a chain, and of the names that it looks up, at an alias
+-- one step of a chain at an alias
 chain_from-alias : (zone : List Record) (more : ℕ) (searched : List (List (List ℕ))) (at : List (List ℕ)) (rtype : ℕ) (alias : List Record)
     → look zone at rtype ≡ Alias alias → is_final zone (at ∷ searched) (target alias) ≡ false
     → chain_from zone (suc more) searched at rtype ≡ onto alias (chain_from zone more (at ∷ searched) (target alias) rtype)
@@ -72,15 +68,6 @@ chain_from-final : (zone : List Record) (more : ℕ) (searched : List (List (Lis
     → chain_from zone (suc more) searched at rtype ≡ onto alias (record { aliases = []; end = Stop })
 chain_from-final zone more searched at rtype alias found final = rw (found, final, chain_from) refl
 
-looked_up_from-alias : (zone : List Record) (more : ℕ) (searched : List (List (List ℕ))) (at : List (List ℕ)) (rtype : ℕ) (alias : List Record)
-    → look zone at rtype ≡ Alias alias → is_final zone (at ∷ searched) (target alias) ≡ false
-    → looked_up_from zone (suc more) searched at rtype ≡ at ∷ looked_up_from zone more (at ∷ searched) (target alias) rtype
-looked_up_from-alias zone more searched at rtype alias found final = rw (found, final) refl
-
-looked_up_from-final : (zone : List Record) (more : ℕ) (searched : List (List (List ℕ))) (at : List (List ℕ)) (rtype : ℕ) (alias : List Record)
-    → look zone at rtype ≡ Alias alias → is_final zone (at ∷ searched) (target alias) ≡ true → looked_up_from zone (suc more) searched at rtype ≡ at ∷ []
-looked_up_from-final zone more searched at rtype alias found final = rw (found, final) refl
-
 -- aliases in front of aliases
 onto-onto : (front back : List Record) (rest : Chain) → onto front (onto back rest) ≡ onto (front ++ back) rest
 onto-onto front back rest = ap (λ rs. record { aliases = rs; end = rest.end }) (sym (append_assoc front back rest.aliases))
@@ -89,58 +76,67 @@ onto-onto front back rest = ap (λ rs. record { aliases = rs; end = rest.end }) 
 pub record IsNext (at : List (List ℕ)) (shown : Shown) (alias : List Record) : Type 0 where
   pub owner : shown.owner ≡ at
   pub records : records_shown shown ≡ alias
+  pub some : is_none_of alias ≡ false
 
 -- a set found at a name, shown alone under that name
 pub shown_alone : (at : List (List ℕ)) (shown : Shown) (sets : List (List Record)) (set : List Record) → shown.owner ≡ at → records_shown shown ≡ owned_by at (flat_map (λ s. s) sets) → sets ≡ set ∷ []
-    → IsNext at shown (owned_by at set)
-shown_alone at shown sets set owner records alone = record {
+    → is_none_of (owned_by at set) ≡ false → IsNext at shown (owned_by at set)
+shown_alone at shown sets set owner records alone some = record {
   owner = owner;
   records = records ∙ ap (λ all. owned_by at (flat_map (λ s. s) all)) alone ∙ ap (owned_by at) (append-nil set);
+  some = some;
 }
 
-shown-next : (aliases : List Shown) (at : List (List ℕ)) (shown : Shown) (alias : List Record) → IsNext at shown alias → flat_map records_shown (aliases ++ shown ∷ []) ≡ flat_map records_shown aliases ++ alias
-shown-next aliases at shown alias next = flat_map-append records_shown aliases (shown ∷ []) ∙ ap (λ rs. flat_map records_shown aliases ++ rs) (append-nil (records_shown shown) ∙ next.records)
+shown-next : (aliases : List Shown) (at : List (List ℕ)) (shown : Shown) (alias : List Record) → IsNext at shown alias → section_shown (aliases ++ shown ∷ []) ≡ section_shown aliases ++ alias
+shown-next aliases at shown alias next = flat_map-append records_shown aliases (shown ∷ []) ∙ ap (λ rs. section_shown aliases ++ rs) (append-nil (records_shown shown) ∙ next.records)
 
 searched-next : (aliases : List Shown) (at : List (List ℕ)) (shown : Shown) (alias : List Record) → IsNext at shown alias → searched_before (aliases ++ shown ∷ []) ≡ at ∷ searched_before aliases
 searched-next aliases at shown alias next = searched_before-append aliases shown ∙ ap (λ owner. owner ∷ searched_before aliases) next.owner
 
+-- records behind records are some where the latter are
+some-append : (front back : List Record) → is_none_of back ≡ false → is_none_of (front ++ back) ≡ false
+some-append [] back some = some
+some-append (r ∷ front) back some = grind arith
+
+last-append : (aliases : List Shown) (shown : Shown) → (length (aliases ++ shown ∷ []) == 0) ≡ false
+last-append [] shown = refl
+last-append (alias ∷ aliases) shown = grind arith
+
+some-next : (aliases : List Shown) (at : List (List ℕ)) (shown : Shown) (alias : List Record) → IsNext at shown alias → is_none_of (section_shown (aliases ++ shown ∷ [])) ≡ (length (aliases ++ shown ∷ []) == 0)
+some-next aliases at shown alias next =
+    ap is_none_of (shown-next aliases at shown alias next) ∙ some-append (section_shown aliases) alias next.some ∙ sym (last-append aliases shown)
+
 -- an alias whose target is searched
 pub goes_on : (zone : List Record) (name : List (List ℕ)) (rtype : ℕ) (aliases : List Shown) (more : ℕ) (at : List (List ℕ)) (shown : Shown) (alias : List Record) (aim : List (List ℕ))
-    → IsOnTheWay zone name rtype aliases (suc more) at → IsSeen zone at rtype (Alias alias) → IsNext at shown alias → aim ≡ target alias
+    → IsOnTheWay zone name rtype aliases (suc more) at → look zone at rtype ≡ Alias alias → IsNext at shown alias → aim ≡ target alias
     → is_final zone (searched_before (aliases ++ shown ∷ [])) aim ≡ false → IsOnTheWay zone name rtype (aliases ++ shown ∷ []) more aim
 goes_on zone name rtype aliases more at shown alias aim way seen next aims searched =
-    let front = flat_map records_shown aliases in
+    let front = section_shown aliases in
     let before = searched_before aliases in
     let final : is_final zone (at ∷ before) (target alias) ≡ false = ap (is_final zone (at ∷ before)) (sym aims) ∙ ap (λ names. is_final zone names aim) (sym (searched-next aliases at shown alias next)) ∙ searched in
     record {
       chain =
-          way.chain ∙ ap (onto front) (chain_from-alias zone more before at rtype alias seen.look final)
+          way.chain ∙ ap (onto front) (chain_from-alias zone more before at rtype alias seen final)
           ∙ onto-onto front alias (chain_from zone more (at ∷ before) (target alias) rtype)
           ∙ ap (λ rs. onto rs (chain_from zone more (at ∷ before) (target alias) rtype)) (sym (shown-next aliases at shown alias next))
-          ∙ ap (λ names. onto (flat_map records_shown (aliases ++ shown ∷ [])) (chain_from zone more names (target alias) rtype)) (sym (searched-next aliases at shown alias next))
-          ∙ ap (λ to. onto (flat_map records_shown (aliases ++ shown ∷ [])) (chain_from zone more (searched_before (aliases ++ shown ∷ [])) to rtype)) (sym aims);
-      waits =
-          way.waits ∙ ap (list_any (is_left_open zone)) (looked_up_from-alias zone more before at rtype alias seen.look final)
-          ∙ ap (λ b. b || list_any (is_left_open zone) (looked_up_from zone more (at ∷ before) (target alias) rtype)) seen.closed
-          ∙ ap (λ names. list_any (is_left_open zone) (looked_up_from zone more names (target alias) rtype)) (sym (searched-next aliases at shown alias next))
-          ∙ ap (λ to. list_any (is_left_open zone) (looked_up_from zone more (searched_before (aliases ++ shown ∷ [])) to rtype)) (sym aims);
+          ∙ ap (λ names. onto (section_shown (aliases ++ shown ∷ [])) (chain_from zone more names (target alias) rtype)) (sym (searched-next aliases at shown alias next))
+          ∙ ap (λ to. onto (section_shown (aliases ++ shown ∷ [])) (chain_from zone more (searched_before (aliases ++ shown ∷ [])) to rtype)) (sym aims);
+      some = some-next aliases at shown alias next;
     }
 
 -- an alias whose target isn't searched
 pub stops : (zone : List Record) (name : List (List ℕ)) (rtype : ℕ) (aliases : List Shown) (more : ℕ) (at : List (List ℕ)) (shown : Shown) (alias : List Record) (aim : List (List ℕ))
-    → IsOnTheWay zone name rtype aliases (suc more) at → IsSeen zone at rtype (Alias alias) → IsNext at shown alias → aim ≡ target alias
-    → is_final zone (searched_before (aliases ++ shown ∷ [])) aim ≡ true → Ends zone name rtype (record { aliases = flat_map records_shown (aliases ++ shown ∷ []); end = Stop })
+    → IsOnTheWay zone name rtype aliases (suc more) at → look zone at rtype ≡ Alias alias → IsNext at shown alias → aim ≡ target alias
+    → is_final zone (searched_before (aliases ++ shown ∷ [])) aim ≡ true → Ends zone name rtype (aliases ++ shown ∷ []) Stop
 stops zone name rtype aliases more at shown alias aim way seen next aims searched =
-    let front = flat_map records_shown aliases in
+    let front = section_shown aliases in
     let before = searched_before aliases in
     let final : is_final zone (at ∷ before) (target alias) ≡ true = ap (is_final zone (at ∷ before)) (sym aims) ∙ ap (λ names. is_final zone names aim) (sym (searched-next aliases at shown alias next)) ∙ searched in
     record {
       chain =
-          way.chain ∙ ap (onto front) (chain_from-final zone more before at rtype alias seen.look final)
+          way.chain ∙ ap (onto front) (chain_from-final zone more before at rtype alias seen final)
           ∙ ap (λ rs. record { aliases = rs; end = Stop }) (ap (λ rs. front ++ rs) (append-nil alias) ∙ sym (shown-next aliases at shown alias next));
-      closed =
-          way.waits ∙ ap (list_any (is_left_open zone)) (looked_up_from-final zone more before at rtype alias seen.look final)
-          ∙ ap (λ b. b || false) seen.closed;
+      some = some-next aliases at shown alias next;
     }
 
 -- whether an alias is found
@@ -157,34 +153,12 @@ chain_from-other zone more searched at rtype (Data rs) is other = rw (is, chain_
 chain_from-other zone more searched at rtype NoData is other = rw (is, chain_from) refl
 chain_from-other zone more searched at rtype NoName is other = rw (is, chain_from) refl
 
-looked_up_from-other : (zone : List Record) (more : ℕ) (searched : List (List (List ℕ))) (at : List (List ℕ)) (rtype : ℕ) (found : Look)
-    → look zone at rtype ≡ found → is_alias found ≡ false → looked_up_from zone (suc more) searched at rtype ≡ at ∷ []
-looked_up_from-other zone more searched at rtype (Cut cut) is other = rw is refl
-looked_up_from-other zone more searched at rtype (Alias rs) is other = absurd (cc)
-looked_up_from-other zone more searched at rtype (Data rs) is other = rw is refl
-looked_up_from-other zone more searched at rtype NoData is other = rw is refl
-looked_up_from-other zone more searched at rtype NoName is other = rw is refl
-
-pub ends : (zone : List Record) (name : List (List ℕ)) (rtype : ℕ) (aliases : List Shown) (more : ℕ) (at : List (List ℕ)) (found : Look)
-    → IsOnTheWay zone name rtype aliases (suc more) at → IsSeen zone at rtype found → is_alias found ≡ false
-    → Ends zone name rtype (record { aliases = flat_map records_shown aliases; end = Found found })
-ends zone name rtype aliases more at found way seen other = record {
+pub ends : (zone : List Record) (name : List (List ℕ)) (rtype : ℕ) (aliases : List Shown) (more : ℕ) (at : List (List ℕ)) (found : Look) (end : End)
+    → IsOnTheWay zone name rtype aliases (suc more) at → look zone at rtype ≡ found → is_alias found ≡ false → end ≡ Found found → Ends zone name rtype aliases end
+ends zone name rtype aliases more at found end way seen other told = record {
   chain =
-      way.chain ∙ ap (onto (flat_map records_shown aliases)) (chain_from-other zone more (searched_before aliases) at rtype found seen.look other)
-      ∙ ap (λ rs. record { aliases = rs; end = Found found }) (append-nil (flat_map records_shown aliases));
-  closed =
-      way.waits ∙ ap (list_any (is_left_open zone)) (looked_up_from-other zone more (searched_before aliases) at rtype found seen.look other)
-      ∙ ap (λ b. b || false) seen.closed;
+      way.chain ∙ ap (onto (section_shown aliases)) (chain_from-other zone more (searched_before aliases) at rtype found seen other)
+      ∙ ap (λ rs. record { aliases = rs; end = Found found }) (append-nil (section_shown aliases))
+      ∙ ap (λ e. record { aliases = section_shown aliases; end = e }) (sym told);
+  some = way.some;
 }
-
--- an end told otherwise
-pub ends_so : (zone : List Record) (name : List (List ℕ)) (rtype : ℕ) (aliases : List Record) (end told : End) → told ≡ end → Ends zone name rtype (record { aliases = aliases; end = end })
-    → Ends zone name rtype (record { aliases = aliases; end = told })
-ends_so zone name rtype aliases end told same whole = subst (λ e. Ends zone name rtype (record { aliases = aliases; end = e })) (sym same) whole
-
--- None exactly where a name is left open
-pub none_open : (b : Bool) → b ≡ true → (false ≡ false → IsTrue b) × (IsTrue b → false ≡ false)
-none_open b is = grind arith
-
-pub none_closed : (b : Bool) → b ≡ false → (true ≡ false → IsTrue b) × (IsTrue b → true ≡ false)
-none_closed b is = grind arith

@@ -9,10 +9,13 @@ use Rattle.dns_rdata.specs.Numbers.{type_CNAME}
 use Rattle.dns_rdata.specs.Record.{Record, rtype_of, shown_as}
 use Rattle.zone_tree.specs.Zone.{rrset_of, rrsets_of, exists, is_of, stands_at, is_alone, IsZone}
 use Rattle.lookup_core.specs.declared.aliases.TheConstants.{MOST_ALIASES}
-use Rattle.lookup_core.specs.Look.{Look, Cut, Alias, Data, NoData, NoName, look, cut_of, answering, found_at, source_of, is_synthesized, owned_by, is_none_of, follows_aliases, data_at}
+use Rattle.lookup_core.specs.declared.matched.Place.{Place}
+use Rattle.lookup_core.specs.declared.matched.Place.TheVariants as place
+use Rattle.lookup_core.specs.Place.{cut_of, source_of, is_none_of}
+use Rattle.lookup_core.specs.Look.{Look, Cut, Alias, Data, NoData, NoName, look, found_at, owned_by, follows_aliases, data_at}
 use Rattle.lookup_core.specs.Chain.{Chain, Found, Stop, target, is_final, onto, chain_from, chain}
 use Rattle.lookup_core.specs.Sections.{sections, data_of_end}
-use Rattle.lookup_core.specs.Laws.{HasSingleAliases, IsReached}
+use Rattle.lookup_core.specs.Laws.{is_synthesized, HasSingleAliases, IsReached}
 
 -- a choice by a test
 by_test : {A : Type 0} (P : A → Type 0) (b : Bool) (x y : A) → (b ≡ true → P x) → (b ≡ false → P y) → P (cond b x y)
@@ -31,32 +34,43 @@ is_no_name-found_at zone at name rtype =
     (if is_none_of (data_at zone at rtype) then NoData else Data (owned_by name (data_at zone at rtype))) (λ _. refl)
     (λ _. by_test (λ l. is_no_name l ≡ false) (is_none_of (data_at zone at rtype)) NoData (Data (owned_by name (data_at zone at rtype))) (λ _. refl) (λ _. refl))
 
--- there is no name exactly where no name answers
-no_name_by : (zone : List Record) (name : List (List ℕ)) (rtype : ℕ) (o : Option (List (List ℕ)))
-    → (elim o [ None ↦ NoName | Some at ↦ found_at zone at name rtype ] ≡ NoName) ↔ (o ≡ None)
-no_name_by zone name rtype None = (λ _. refl, λ _. refl)
-no_name_by zone name rtype (Some at) = (λ h. absurd (cc (ap is_no_name h, is_no_name-found_at zone at name rtype)), λ h. absurd (cc))
+-- what is found, by where the name stands
+abbrev look_by : List Record → List (List ℕ) → ℕ → Place → Look
+look_by zone name rtype p =
+    elim p [
+      | place.Cut cut ↦ Cut cut
+      | place.Exact ↦ found_at zone name name rtype
+      | place.Wild source ↦ found_at zone source name rtype
+      | place.Missing ↦ NoName
+      | place.Outside ↦ NoName
+    ]
 
--- no name answers exactly where neither the name nor the source of synthesis exists
-source_by : (zone : List Record) (source : List (List ℕ)) (e : Bool) → (cond e (Some source) None ≡ None) ↔ (e ≡ false)
-source_by zone source true = (λ h. absurd (cc), λ h. absurd (cc))
-source_by zone source false = (λ _. refl, λ _. refl)
+-- where a name stands that doesn't exist, and one that may exist
+abbrev by_source : List Record → Option (List (List ℕ)) → Place
+by_source zone source = elim source [ None ↦ place.Missing | Some s ↦ if exists zone s then place.Wild s else place.Missing ]
 
-answering_by : (zone : List Record) (name : List (List ℕ)) (b : Bool) (source : Option (List (List ℕ)))
-    → ((if b then Some name else elim source [ None ↦ None | Some s ↦ if exists zone s then Some s else None ]) ≡ None)
-    ↔ ((b ≡ false) × ((not b && elim source [ None ↦ false | Some s ↦ exists zone s ]) ≡ false))
-answering_by zone name true source = (λ h. absurd (cc), λ h. absurd (cc (h.0)))
-answering_by zone name false None = (λ _. (refl, refl), λ _. refl)
-answering_by zone name false (Some s) = (λ h. (refl, (source_by zone s (exists zone s)).0 h), λ h. (source_by zone s (exists zone s)).1 h.1)
+abbrev by_name : List Record → Bool → Option (List (List ℕ)) → Place
+by_name zone b source = if b then place.Exact else by_source zone source
+
+-- there is no name exactly where neither the name nor the source of synthesis exists
+no_source : (zone : List Record) (name source : List (List ℕ)) (rtype : ℕ) (e : Bool) → (look_by zone name rtype (cond e (place.Wild source) place.Missing) ≡ NoName) ↔ (e ≡ false)
+no_source zone name source rtype true = (λ h. absurd (cc (is_no_name-found_at zone source name rtype)), λ h. absurd (cc))
+no_source zone name source rtype false = (λ _. refl, λ _. refl)
+
+no_name_by : (zone : List Record) (name : List (List ℕ)) (rtype : ℕ) (b : Bool) (source : Option (List (List ℕ)))
+    → (look_by zone name rtype (by_name zone b source) ≡ NoName) ↔ ((b ≡ false) × ((not b && elim source [ None ↦ false | Some s ↦ exists zone s ]) ≡ false))
+no_name_by zone name rtype true source = (λ h. absurd (cc (is_no_name-found_at zone name name rtype)), λ h. absurd (cc (h.0)))
+no_name_by zone name rtype false None = (λ _. (refl, refl), λ _. refl)
+no_name_by zone name rtype false (Some s) = (λ h. (refl, (no_source zone name s rtype (exists zone s)).0 h), λ h. (no_source zone name s rtype (exists zone s)).1 h.1)
 
 pub no_name : (zone : List Record) (name : List (List ℕ)) (rtype : ℕ) → cut_of zone name ≡ None
     → (look zone name rtype ≡ NoName) ↔ ((exists zone name ≡ false) × (is_synthesized zone name ≡ false))
 no_name zone name rtype uncut =
-    let is : look zone name rtype ≡ elim (answering zone name) [ None ↦ NoName | Some at ↦ found_at zone at name rtype ] =
-    ap (λ o. elim o [ Some cut ↦ Cut cut | None ↦ elim (answering zone name) [ None ↦ NoName | Some at ↦ found_at zone at name rtype ] ]) uncut
+    let is : look zone name rtype ≡ look_by zone name rtype (by_name zone (exists zone name) (source_of zone name)) =
+    ap (λ o. look_by zone name rtype (elim o [ Some cut ↦ place.Cut cut | None ↦ by_name zone (exists zone name) (source_of zone name) ])) uncut
     in (
-      λ h. (answering_by zone name (exists zone name) (source_of zone name)).0 ((no_name_by zone name rtype (answering zone name)).0 (sym is ∙ h)),
-      λ h. is ∙ (no_name_by zone name rtype (answering zone name)).1 ((answering_by zone name (exists zone name) (source_of zone name)).1 h),
+      λ h. (no_name_by zone name rtype (exists zone name) (source_of zone name)).0 (sym is ∙ h),
+      λ h. is ∙ (no_name_by zone name rtype (exists zone name) (source_of zone name)).1 h,
     )
 
 -- what an alias found is: the set of an owner, under the name searched
@@ -83,11 +97,18 @@ found_at-under zone at name rtype =
     (λ h. record { at = at; is = refl; some = and_not (follows_aliases rtype) (is_none_of (rrset_of zone at type_CNAME)) h })
     (λ _. by_test (IsUnder zone name) (is_none_of (data_at zone at rtype)) NoData (Data (owned_by name (data_at zone at rtype))) (λ _. tt) (λ _. (data_at zone at rtype, refl)))
 
+source-under : (zone : List Record) (name : List (List ℕ)) (rtype : ℕ) (source : Option (List (List ℕ))) → IsUnder zone name (look_by zone name rtype (by_source zone source))
+source-under zone name rtype None = tt
+source-under zone name rtype (Some s) =
+    by_test (λ p. IsUnder zone name (look_by zone name rtype p)) (exists zone s) (place.Wild s) place.Missing (λ _. found_at-under zone s name rtype) (λ _. tt)
+
 look-under : (zone : List Record) (name : List (List ℕ)) (rtype : ℕ) → IsUnder zone name (look zone name rtype)
 look-under zone name rtype =
-    elim (cut_of zone name) as (λ o. IsUnder zone name (elim o [ Some cut ↦ Cut cut | None ↦ elim (answering zone name) [ None ↦ NoName | Some at ↦ found_at zone at name rtype ] ])) [
+    elim (cut_of zone name) as (λ o. IsUnder zone name (look_by zone name rtype (elim o [ Some cut ↦ place.Cut cut | None ↦ by_name zone (exists zone name) (source_of zone name) ]))) [
       | Some cut ↦ tt
-      | None ↦ elim (answering zone name) as (λ o. IsUnder zone name (elim o [ None ↦ NoName | Some at ↦ found_at zone at name rtype ])) [ None ↦ tt | Some at ↦ found_at-under zone at name rtype ]
+      | None ↦
+          by_test (λ p. IsUnder zone name (look_by zone name rtype p)) (exists zone name) place.Exact (by_source zone (source_of zone name)) (λ _. found_at-under zone name name rtype)
+          (λ _. source-under zone name rtype (source_of zone name))
     ]
 
 -- the chain from a name on, by what is found there
@@ -237,3 +258,9 @@ rtype_of-alias zone name rtype set found =
     let aliases = rrset_of zone under.at type_CNAME in
     sym (rtype_of-owned_by name set) ∙ ap rtype_of under.is ∙ rtype_of-owned_by name aliases
     ∙ rtype_of-rrset_of under.at type_CNAME aliases under.some (filter_passes (is_of under.at type_CNAME) zone)
+
+-- an alias that is found has a record
+pub some-alias : (zone : List Record) (name : List (List ℕ)) (rtype : ℕ) (rs : List Record) → look zone name rtype ≡ Alias rs → is_none_of rs ≡ false
+some-alias zone name rtype rs found =
+    let under : IsAliasOf zone name rs = subst (IsUnder zone name) found (look-under zone name rtype) in
+    ap is_none_of under.is ∙ is_none_of-owned_by name (rrset_of zone under.at type_CNAME) ∙ under.some

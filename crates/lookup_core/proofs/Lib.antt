@@ -2,3 +2,4 @@ pub mod WalkLemmas
 pub mod AliasLemmas
 pub mod SectionLemmas
 pub mod LawLemmas
+pub mod AdditionalLemmas

@@ -1,10 +1,11 @@
 -- Walks from a name up to the root.
-use Rattle.std.proofs.Common.{◌≡◌, ℕ, ◌≤◌, Bool, true, false, ◌||◌, List, [], ◌∷◌, length, reverse, drop, Option, Some, None, is_some, cond, refl, ◌∙◌, arith, length-append}
+use Rattle.std.proofs.Common.{◌≡◌, ℕ, ◌≤◌, Bool, true, false, List, [], ◌∷◌, length, reverse, drop, Option, Some, None, cond, refl, ap, ◌∙◌, arith, length-append}
 use Rattle.std.specs.List.{list_any, find}
+use Rattle.std.specs.Option.{option_or}
+use Rattle.std.proofs.lemmas.List.{reverse-append}
+use Rattle.std.proofs.lemmas.List.Folds.{find-append}
 use Rattle.std.proofs.lemmas.Grind.{common_steps}
 use Rattle.dns_name.specs.Name.{self_and_ancestors, parent_of, wire_of, IsName}
-use Rattle.dns_rdata.specs.Record.{Record}
-use Rattle.lookup_core.specs.Look.{is_cut, cut_of}
 
 -- the names that a walk upwards has still to see
 abbrev pub names_from : Option (List (List ℕ)) → List (List (List ℕ))
@@ -21,19 +22,27 @@ pub drop-self_and_ancestors : (name : List (List ℕ)) → drop 1 (self_and_ance
 drop-self_and_ancestors [] = refl
 drop-self_and_ancestors (label ∷ name) = refl
 
--- a search finds something exactly where an element passes the test
-pub is_some-find : {X : Type 0} (p : X → Bool) → (xs : List X) → is_some (find p xs) ≡ list_any p xs
-is_some-find p [] = refl
-is_some-find p (x ∷ xs) = elim (p x) as (λ b. is_some (cond b (Some x) (find p xs)) ≡ (b || list_any p xs)) [ true ↦ refl | false ↦ is_some-find p xs ]
-
 -- whether an element passes a test doesn't depend on the direction
 pub list_any-reverse : {X : Type 0} (p : X → Bool) → (xs : List X) → list_any p (reverse xs) ≡ list_any p xs
 list_any-reverse p [] = refl
 list_any-reverse p (x ∷ xs) = grind (arith, common_steps, list_any-reverse p xs)
 
--- a name is at or below a zone cut exactly where it or an ancestor is one
-pub is_some-cut_of : (zone : List Record) (name : List (List ℕ)) → is_some (cut_of zone name) ≡ list_any (is_cut zone) (self_and_ancestors name)
-is_some-cut_of zone name = is_some-find (is_cut zone) (reverse (self_and_ancestors name)) ∙ list_any-reverse (is_cut zone) (self_and_ancestors name)
+-- one more choice behind a choice
+option_or_assoc : {X : Type 0} (a b c : Option X) → option_or (option_or a b) c ≡ option_or a (option_or b c)
+option_or_assoc None b c = refl
+option_or_assoc (Some x) b c = refl
+
+-- what is found last of all
+last_found : {X : Type 0} (p : X → Bool) (x : X) (xs : List X) (last : Option X) → option_or (find p (reverse (x ∷ xs))) last ≡ option_or (find p (reverse xs)) (cond (p x) (Some x) last)
+last_found p x xs last =
+    ap (λ o. option_or o last) (ap (find p) (reverse-append (x ∷ []) xs) ∙ find-append p (reverse xs) (x ∷ []))
+    ∙ option_or_assoc (find p (reverse xs)) (cond (p x) (Some x) None) last
+    ∙ ap (option_or (find p (reverse xs))) (elim (p x) as (λ b. option_or (cond b (Some x) None) last ≡ cond b (Some x) last) [ true ↦ refl | false ↦ refl ])
+
+-- a walk upwards that remembers the last name that passes the test finds the first on the way down
+pub find_upwards : (p : List (List ℕ) → Bool) (name : List (List ℕ)) (last : Option (List (List ℕ))) → option_or (find p (reverse (self_and_ancestors name))) last ≡ option_or (find p (reverse (names_from (parent_of name)))) (cond (p name) (Some name) last)
+find_upwards p name last =
+    ap (λ names. option_or (find p (reverse names)) last) (self_and_ancestors-parent_of name) ∙ last_found p name (names_from (parent_of name)) last
 
 -- what is below a label is two octets shorter at least
 pub shorter_above : (label : List ℕ) (name : List (List ℕ)) → IsName (label ∷ name) → length (wire_of name) ≤ 253
@@ -47,8 +56,3 @@ length-wire_of-above label name = omega (arith, length-append label (wire_of nam
 pub find-self_and_ancestors : (p : List (List ℕ) → Bool) (name : List (List ℕ)) → p name ≡ true → find p (self_and_ancestors name) ≡ Some name
 find-self_and_ancestors p [] is = rw is refl
 find-self_and_ancestors p (label ∷ name) is = rw is refl
-
--- a name that passes the test is among itself and its ancestors
-pub list_any-self_and_ancestors : (p : List (List ℕ) → Bool) (name : List (List ℕ)) → p name ≡ true → list_any p (self_and_ancestors name) ≡ true
-list_any-self_and_ancestors p [] is = rw is refl
-list_any-self_and_ancestors p (label ∷ name) is = rw is refl

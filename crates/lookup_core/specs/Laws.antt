@@ -1,10 +1,16 @@
 -- What holds of each answer.
-use Rattle.std.specs.Prelude.{◌≡◌, ◌≤◌, ◌⊎◌, List, [], ◌∷◌, length, Any}
+use Rattle.std.specs.Prelude.{◌≡◌, ◌≤◌, Bool, false, ◌&&◌, not, ◌⊎◌, List, [], ◌∷◌, length, None, Some, Any}
 use Rattle.dns_name.specs.Name.{Name}
 use Rattle.dns_rdata.specs.Numbers.{type_CNAME}
 use Rattle.dns_rdata.specs.Record.{Record}
-use Rattle.zone_tree.specs.Zone.{rrset_of}
+use Rattle.zone_tree.specs.Zone.{rrset_of, exists}
+use Rattle.lookup_core.specs.Place.{source_of}
 use Rattle.lookup_core.specs.Chain.{target}
+
+-- whether a name doesn't exist and the source of synthesis does (RFC 4592, 3.3)
+abbrev pub is_synthesized : List Record → Name → Bool
+is_synthesized zone name =
+    not (exists zone name) && elim (source_of zone name) [ None ↦ false | Some source ↦ exists zone source ]
 
 -- no owner has two aliases (RFC 2181, 10.1)
 abbrev pub HasSingleAliases : List Record → Type 0

@@ -1,7 +1,8 @@
+pub mod Place
 pub mod Look
 pub mod Chain
+pub mod Additional
 pub mod Sections
-pub mod Waits
 pub mod Examples
 pub mod Shown
 pub mod Laws

@@ -1,16 +1,16 @@
 //! Aliases followed, and where a chain of them ends (RFC 1034, 3.6.2 and 4.3.2, step 3a).
-ghost use Rattle.std.specs.Prelude.{◌≡◌, ◌≤◌, ◌↔◌, IsTrue, length, IsNone, IfSome};
+ghost use Rattle.std.specs.Prelude.{◌≡◌, ◌≤◌, ◌==◌, length};
 ghost use Rattle.std.specs.List.{flat_map, list_any};
 ghost use Rattle.dns_name.specs.Name.{is_same};
 ghost use Rattle.dns_rdata.specs.Numbers.{type_CNAME};
 ghost use Rattle.dns_rdata.specs.Record.{rtype_of};
 ghost use Rattle.dns_rdata.specs.Shown.{records_shown};
+ghost use Rattle.lookup_core.specs.Place.{is_none_of};
 ghost use Rattle.lookup_core.specs.Look.{owned_by};
 ghost use Rattle.lookup_core.specs.Chain.{target, is_final, chain};
-ghost use Rattle.lookup_core.specs.Waits.{waits};
-ghost use Rattle.lookup_core.specs.Shown.{searched_before, chain_shown};
+ghost use Rattle.lookup_core.specs.Shown.{section_shown, searched_before, chain_shown};
 
-use crate::walk::{Look, look_up};
+use crate::look::{Look, look_up};
 use arrayvec::ArrayVec;
 use dns_name::Name;
 use dns_rdata::{RRset, RType, Shown};
@@ -26,6 +26,8 @@ pub const MOST_SHOWN: usize = MOST_ALIASES + 1;
 /// The end of a chain of aliases.
 #[derive(Drop)]
 pub(crate) enum End<'z> {
+    /// A referral: the last name looked up is at or below this zone cut.
+    Cut(Name),
     /// Data of the type asked.
     Data(Shown<'z>),
     /// The last name exists, without data of the type asked.
@@ -44,39 +46,39 @@ pub(crate) struct Chain<'z> {
 }
 
 /// The chain from the name asked. It stops at a target outside the zone, at one already searched, or after
-/// [`MOST_ALIASES`] aliases (own). None where a name that it looks up is left open.
-pub(crate) fn follow<'z, Z: ZoneRead>(zone: &'z Z, name: &Name, rtype: RType) -> Option<Chain<'z>>
-    ensures none { IsNone result ↔ IsTrue (waits (Z.records zone.now) name.now rtype.0) }
-    ensures chain { IfSome result (λ followed. chain_shown followed ≡ chain (Z.records zone.now) name.now rtype.0) }
-    ensures few { IfSome result (λ followed. length followed.aliases.items ≤ MOST_ALIASES) }
+/// [`MOST_ALIASES`] aliases (own).
+pub(crate) fn follow<'z, Z: ZoneRead>(zone: &'z Z, name: &Name, rtype: RType) -> Chain<'z>
+    ensures chain { chain_shown result ≡ chain (Z.records zone.now) name.now rtype.0 }
+    ensures few { length result.aliases.items ≤ MOST_ALIASES }
+    ensures some { is_none_of (section_shown result.aliases.items) ≡ (length result.aliases.items == 0) }
 {
     let mut aliases = ArrayVec::new();
     let mut searched = name.copy();
     for _ in 0..MOST_ALIASES {
         let end = match look_up(zone, &searched, rtype) {
-            Look::Open => return None,
             Look::Alias(alias) => {
                 let target = target(alias);
                 aliases.push(under(searched, slice::from_ref(alias)));
                 if is_final(zone, aliases.as_slice(), &target) {
-                    return Some(Chain {
+                    return Chain {
                         aliases,
                         end: End::Stop,
-                    });
+                    };
                 }
                 searched = target;
                 continue;
             }
+            Look::Cut(cut) => End::Cut(cut),
             Look::Data(sets) => End::Data(under(searched, sets)),
             Look::NoData => End::NoData,
             Look::NoName => End::NoName,
         };
-        return Some(Chain { aliases, end });
+        return Chain { aliases, end };
     }
-    Some(Chain {
+    Chain {
         aliases,
         end: End::Stop,
-    })
+    }
 }
 
 /// Sets under the name searched, with their own TTLs (RFC 4592, 3.3).

@@ -3,10 +3,11 @@ ghost use Rattle.std.specs.Prelude.{◌≡◌, ◌↔◌, ◌≤◌, ℕ, false,
 ghost use Rattle.dns_name.specs.Name.{Name};
 ghost use Rattle.dns_rdata.specs.Record.{Record};
 ghost use Rattle.zone_tree.specs.Zone.{exists, IsZone};
-ghost use Rattle.lookup_core.specs.Look.{look, NoName, cut_of, is_synthesized};
+ghost use Rattle.lookup_core.specs.Place.{cut_of};
+ghost use Rattle.lookup_core.specs.Look.{look, NoName};
 ghost use Rattle.lookup_core.specs.Chain.{chain};
 ghost use Rattle.lookup_core.specs.Sections.{sections};
-ghost use Rattle.lookup_core.specs.Laws.{HasSingleAliases, IsReached};
+ghost use Rattle.lookup_core.specs.Laws.{is_synthesized, HasSingleAliases, IsReached};
 
 /// A name error and an answer with no data differ by existence alone: off the zone cuts there is no name exactly where
 /// neither the name nor the source of synthesis exists (RFC 2308, 2.1 and 2.2; RFC 4592, 2.2).

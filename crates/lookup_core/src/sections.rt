@@ -1,19 +1,20 @@
 //! What an answer says (RFC 1034, 4.3.2; RFC 2308, 2 and 3; RFC 6604, 3).
-ghost use Rattle.std.specs.Prelude.{◌≡◌, min, length, All};
+ghost use Rattle.std.specs.Prelude.{◌≡◌, [], ◌∷◌, min, length, All};
 ghost use Rattle.dns_rdata.specs.Numbers.{type_SOA};
 ghost use Rattle.dns_rdata.specs.Data.{minimum_of};
-ghost use Rattle.dns_rdata.specs.Record.{rtype_of};
+ghost use Rattle.dns_rdata.specs.Record.{owner_of, rtype_of};
 ghost use Rattle.dns_rdata.specs.Shown.{records_shown};
-ghost use Rattle.lookup_core.specs.Sections.{rcode_of, negative_soa};
-ghost use Rattle.lookup_core.specs.Shown.{end_shown};
+ghost use Rattle.lookup_core.specs.Sections.{rcode_of, is_referral, authority_of, negative_soa};
+ghost use Rattle.lookup_core.specs.Shown.{section_shown, end_shown};
 
+use crate::additional::MOST_ADDITIONAL;
 use crate::aliases::{End, MOST_SHOWN};
 use arrayvec::ArrayVec;
-use dns_rdata::{RRset, Rcode, Shown, Ttl};
+use dns_rdata::{RRset, RType, Rcode, Shown, Ttl};
 use std::slice;
 use zone_tree::ZoneRead;
 
-/// What an answer says: borrowed sets, under the owners and with the TTLs that it shows. It has no additional section.
+/// What an answer says: borrowed sets, under the owners and with the TTLs that it shows.
 #[derive(Drop)]
 pub struct Answer<'z> {
     /// The reply code (RFC 1035, 4.1.1).
@@ -22,8 +23,12 @@ pub struct Answer<'z> {
     pub aa: bool,
     /// The answer section: the aliases followed, each alone, and then the data found.
     pub answer: ArrayVec<Shown<'z>, MOST_SHOWN>,
-    /// The authority section: the SOA of a negative answer.
+    /// The authority section: the NS set of a referral, or the SOA of a negative answer.
     pub authority: ArrayVec<Shown<'z>, 1>,
+    /// The additional section: address sets of names in the data of the two others.
+    pub additional: ArrayVec<Shown<'z>, MOST_ADDITIONAL>,
+    /// Whether the last name looked up is at or below a zone cut.
+    pub below_cut: bool,
 }
 
 /// The reply code is that of the last name looked up (RFC 2308, 2.1; RFC 6604, 3).
@@ -32,7 +37,48 @@ pub(crate) fn rcode_of(end: &End<'_>) -> Rcode
 {
     match end {
         End::NoName => Rcode::NxDomain,
-        End::Data(_) | End::NoData | End::Stop => Rcode::NoError,
+        End::Cut(_) | End::Data(_) | End::NoData | End::Stop => Rcode::NoError,
+    }
+}
+
+/// Whether the chain ends in a referral (RFC 1034, 4.3.2, step 3b).
+pub(crate) fn is_referral(end: &End<'_>) -> bool
+    ensures { result ≡ is_referral (end_shown end.now) }
+{
+    match end {
+        End::Cut(_) => true,
+        End::Data(_) | End::NoData | End::NoName | End::Stop => false,
+    }
+}
+
+/// The authority section: the NS set of the zone cut in a referral, the SOA where there is no data or no name, else
+/// nothing (RFC 1034, 4.3.2, steps 3b and 3c; RFC 2308, 2.1 and 2.2; own).
+pub(crate) fn authority_of<'z, Z: ZoneRead>(zone: &'z Z, end: &End<'_>) -> ArrayVec<Shown<'z>, 1>
+    ensures { section_shown result.items ≡ authority_of (Z.records zone.now) (end_shown end.now) }
+{
+    let mut authority = ArrayVec::new();
+    match end {
+        End::Cut(cut) => {
+            if let Some(servers) = zone.rrset(cut, RType::NS) {
+                authority.push(standing(servers));
+            }
+        }
+        End::NoData | End::NoName => authority.push(negative_soa(zone)),
+        End::Data(_) | End::Stop => {}
+    }
+    authority
+}
+
+/// A set as it stands in the zone: under its own owner, with its own TTL.
+pub(crate) fn standing(set: &RRset) -> Shown<'_>
+    ensures records { records_shown result ≡ set.now }
+    ensures sets { result.sets.now ≡ set.now ∷ [] }
+    ensures owner { result.owner ≡ owner_of set.now }
+{
+    Shown {
+        owner: set.owner().copy(),
+        ttl: None,
+        sets: slice::from_ref(set),
     }
 }
 

@@ -2,7 +2,7 @@ use Rattle.std.proofs.Common.{◌≡◌, ◌≤◌, length, IfSome}
 use Rattle.std.specs.List.{find}
 use Rattle.dns_name.specs.Name.{wire_of}
 use Rattle.zone_tree.specs.Zone.{exists}
-use Rattle.lookup_core.specs.Look.{closest_encloser}
+use Rattle.lookup_core.specs.Place.{closest_encloser}
 use Rattle.lookup_core.proofs.WalkLemmas.{names_from}
 use Rattle.lookup_core.proofs.walk.closest_encloser.Given as goal
 

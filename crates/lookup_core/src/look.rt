@@ -1,0 +1,77 @@
+//! What is found at a name of a zone (RFC 1034, 4.3.2, step 3; RFC 4592, 3.3).
+ghost use Rattle.std.specs.Prelude.{◌≡◌, ◌↔◌, ℕ, List, [], IsNone, IfSome};
+ghost use Rattle.std.specs.List.{flat_map};
+ghost use Rattle.lookup_core.specs.Look.{look, found_at, data_at, follows_aliases};
+ghost use Rattle.lookup_core.specs.Shown.{look_shown};
+
+use crate::matched::Place;
+use crate::walk::place_below;
+use dns_name::Name;
+use dns_rdata::{RRset, RType};
+use std::slice;
+use zone_tree::ZoneRead;
+
+/// What is found at a name, under that name.
+#[derive(Drop)]
+pub(crate) enum Look<'z> {
+    /// A zone cut at or above the name.
+    Cut(Name),
+    /// An alias, for a type that follows aliases.
+    Alias(&'z RRset),
+    /// Data of the type asked: at least one set.
+    Data(&'z [RRset]),
+    /// The name, or the source of synthesis in its place, exists without data of the type asked.
+    NoData,
+    /// Neither the name nor the source of synthesis exists.
+    NoName,
+}
+
+/// What is found at a name: what the records there say, else those at the source of synthesis (RFC 1034, 4.3.2, step 3;
+/// RFC 4592, 3.3).
+pub(crate) fn look_up<'z, Z: ZoneRead>(zone: &'z Z, name: &Name, rtype: RType) -> Look<'z>
+    ensures { look_shown name.now result ≡ look (Z.records zone.now) name.now rtype.0 }
+{
+    match place_below(zone, name) {
+        Place::Cut(cut) => Look::Cut(cut),
+        Place::Exact => found_at(zone, name, rtype),
+        Place::Wild(source) => found_at(zone, &source, rtype),
+        Place::Missing | Place::Outside => Look::NoName,
+    }
+}
+
+/// What the records at a name say of a type, under any name searched (RFC 1034, 4.3.2, step 3a).
+fn found_at<'z, Z: ZoneRead>(zone: &'z Z, at: &Name, rtype: RType) -> Look<'z>
+    ensures { (name : List (List ℕ)) → look_shown name result ≡ found_at (Z.records zone.now) at.now name rtype.0 }
+{
+    // The alias before the type asked: an alias stands alone at its owner.
+    if follows_aliases(rtype)
+        && let Some(alias) = zone.rrset(at, RType::CNAME)
+    {
+        return Look::Alias(alias);
+    }
+    match data_at(zone, at, rtype) {
+        Some(sets) => Look::Data(sets),
+        None => Look::NoData,
+    }
+}
+
+/// The sets of the type asked at a name, all of them for ANY (RFC 1035, 3.2.3); None where there is none.
+fn data_at<'z, Z: ZoneRead>(zone: &'z Z, name: &Name, rtype: RType) -> Option<&'z [RRset]>
+    ensures none { IsNone result ↔ (data_at (Z.records zone.now) name.now rtype.0 ≡ []) }
+    ensures sets { IfSome result (λ sets. flat_map (λ set. set) sets.now ≡ data_at (Z.records zone.now) name.now rtype.0) }
+{
+    if rtype != RType::ANY {
+        return Some(slice::from_ref(zone.rrset(name, rtype)?));
+    }
+    let sets = zone.rrsets_at(name);
+    let first = sets.first()?;
+    prove!(!first.data().is_empty());
+    Some(sets)
+}
+
+/// Whether a type is answered by an alias in place of itself: neither CNAME nor ANY (RFC 1034, 3.6.2).
+fn follows_aliases(rtype: RType) -> bool
+    ensures { result ≡ follows_aliases rtype.0 }
+{
+    rtype != RType::CNAME && rtype != RType::ANY
+}
