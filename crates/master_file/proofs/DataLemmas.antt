@@ -12,7 +12,7 @@ use Rattle.dns_rdata.specs.Data.{data_of}
 use Rattle.dns_rdata.proofs.DataLemmas.{IsRead-data}
 use Rattle.std.proofs.lemmas.Bool.Decides.{nat_tests}
 use Rattle.master_file.specs.Fault.{cause_of_data}
-use Rattle.master_file.specs.Data.{fields_of, form_of, octets_of_words, as_data, surplus_of, IsPut, IsToldOf}
+use Rattle.master_file.specs.Data.{fields_of, form_of, octets_of_words, as_data, surplus_of, ReadsBehind, IsToldOf}
 use Rattle.master_file.specs.Strings.{strings_of}
 use Rattle.master_file.specs.Word.{Written, written, on_ok, and_then}
 
@@ -44,8 +44,8 @@ pub behind_fault : (own : List ℕ) (first rest : Result (List ℕ) Cause) (caus
 behind_fault own first rest cause e = rw e refl
 
 -- all is read
-pub IsPut-behind : (old own : List ℕ) (reading : Result (List ℕ) Cause) → behind own (Ok []) ≡ behind old reading → IsPut reading old own
-IsPut-behind old own reading e =
+pub ReadsBehind-behind : (old own : List ℕ) (reading : Result (List ℕ) Cause) → behind own (Ok []) ≡ behind old reading → ReadsBehind reading old own
+ReadsBehind-behind old own reading e =
     let parts = behind_ok old (own ++ []) reading (sym e) in
     record { front = parts.0; read = parts.1; octets = sym (append-nil own) ∙ sym parts.2 }
 
@@ -140,7 +140,7 @@ pub data_of_words-ok : (rtype : ℕ) (octets own : List ℕ) (reading : Result (
 data_of_words-ok rtype octets own reading e is short = ap (λ (r : Result (List ℕ) Cause). and_then r (as_data rtype)) e ∙ as_data-ok rtype octets own is short
 
 -- what is put behind nothing is the whole
-pub put_alone : (reading : Result (List ℕ) Cause) (before after : List ℕ) → before ≡ [] → IsPut reading before after → reading ≡ Ok after
+pub put_alone : (reading : Result (List ℕ) Cause) (before after : List ℕ) → before ≡ [] → ReadsBehind reading before after → reading ≡ Ok after
 put_alone reading before after none put =
     let octets = put.octets in
     let read = put.read in

@@ -1,6 +1,6 @@
 //! The data of a record as words (RFC 1035, 3.3, 3.4.1 and 5.1; RFC 2782; RFC 3596).
 ghost use Rattle.std.specs.Prelude.{◌≡◌, OnOk, IfOk, IfErr, Ok, map, option_copied};
-ghost use Rattle.master_file.specs.Data.{IsPut, IsToldOf, field_of, fields_of, form_of, octets_of_words, data_of_words, surplus_of};
+ghost use Rattle.master_file.specs.Data.{ReadsBehind, IsToldOf, field_of, fields_of, form_of, octets_of_words, data_of_words, surplus_of};
 ghost use Rattle.master_file.specs.Word.{written};
 
 use crate::addresses::{address, address6};
@@ -57,7 +57,7 @@ fn put_words(
     words: &[Word<'_>],
     origin: &Name,
 ) -> Result<(), Cause>
-    ensures put { OnOk result (IsPut (octets_of_words rtype.0 origin.now (map written words.now)) octets.old.items octets.new.items) }
+    ensures put { OnOk result (ReadsBehind (octets_of_words rtype.0 origin.now (map written words.now)) octets.old.items octets.new.items) }
     ensures fault { IfErr result (IsToldOf (octets_of_words rtype.0 origin.now (map written words.now))) }
 {
     if rtype == RType::TXT {
@@ -104,7 +104,7 @@ fn put_fields(
     words: &[Word<'_>],
     origin: &Name,
 ) -> Result<(), Cause>
-    ensures put { OnOk result (IsPut (fields_of origin.now fields.now (map written words.now)) octets.old.items octets.new.items) }
+    ensures put { OnOk result (ReadsBehind (fields_of origin.now fields.now (map written words.now)) octets.old.items octets.new.items) }
     ensures fault { IfErr result (IsToldOf (fields_of origin.now fields.now (map written words.now))) }
 {
     for (at, field) in fields.iter().enumerate() {
@@ -131,7 +131,7 @@ pub(crate) fn surplus(word: Word<'_>) -> Cause
 
 /// Puts the octets that a word stands for behind the others.
 fn put_field(octets: &mut Vec<u8>, field: Field, word: Word<'_>, origin: &Name) -> Result<(), Cause>
-    ensures put { OnOk result (IsPut (field_of origin.now field (written word.entry)) octets.old.items octets.new.items) }
+    ensures put { OnOk result (ReadsBehind (field_of origin.now field (written word.entry)) octets.old.items octets.new.items) }
     ensures fault { IfErr result (IsToldOf (field_of origin.now field (written word.entry))) }
 {
     match field {

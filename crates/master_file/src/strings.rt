@@ -1,7 +1,7 @@
 //! Strings of text as words (RFC 1035, 3.3.14 and 5.1).
 ghost use Rattle.std.specs.Prelude.{◌≡◌, OnOk, IfOk, IfErr, map};
 ghost use Rattle.std.specs.Option.{option_map};
-ghost use Rattle.master_file.specs.Data.{IsPut, IsToldOf};
+ghost use Rattle.master_file.specs.Data.{ReadsBehind, IsToldOf};
 ghost use Rattle.master_file.specs.Strings.{unescaped, string_in, string_of, strings_of};
 ghost use Rattle.master_file.specs.Word.{written};
 
@@ -19,7 +19,7 @@ pub(crate) fn put_strings(
     octets: &mut Vec<u8>,
     words: &[Word<'_>],
 ) -> Result<(), Cause>
-    ensures put { OnOk result (IsPut (strings_of (map written words.now)) octets.old.items octets.new.items) }
+    ensures put { OnOk result (ReadsBehind (strings_of (map written words.now)) octets.old.items octets.new.items) }
     ensures fault { IfErr result (IsToldOf (strings_of (map written words.now))) }
 {
     for word in words {
@@ -30,7 +30,7 @@ pub(crate) fn put_strings(
 
 /// Puts one string behind the other octets.
 fn put_string(alloc: Global, octets: &mut Vec<u8>, word: Word<'_>) -> Result<(), Cause>
-    ensures put { OnOk result (IsPut (string_of (written word.entry)) octets.old.items octets.new.items) }
+    ensures put { OnOk result (ReadsBehind (string_of (written word.entry)) octets.old.items octets.new.items) }
     ensures fault { IfErr result (IsToldOf (string_of (written word.entry))) }
 {
     match word {
@@ -41,7 +41,7 @@ fn put_string(alloc: Global, octets: &mut Vec<u8>, word: Word<'_>) -> Result<(),
 
 /// Puts the string that a text is behind the other octets.
 fn put_text(alloc: Global, octets: &mut Vec<u8>, text: &[u8]) -> Result<(), Cause>
-    ensures put { OnOk result (IsPut (string_in text.now) octets.old.items octets.new.items) }
+    ensures put { OnOk result (ReadsBehind (string_in text.now) octets.old.items octets.new.items) }
     ensures fault { IfErr result (IsToldOf (string_in text.now)) }
 {
     let Some(string) = unescaped(alloc, text)? else {

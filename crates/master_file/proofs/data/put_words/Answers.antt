@@ -2,7 +2,7 @@ use Rattle.std.proofs.Common.{ℕ, List, true, false, ◌==◌, ◌≡◌, ◌<�
 use Rattle.std.proofs.lemmas.Bool.Decides.{nat_tests}
 use Rattle.master_file.specs.declared.fault.Cause.{Cause}
 use Rattle.master_file.specs.declared.word.Word.{Word}
-use Rattle.master_file.specs.Data.{IsPut, IsToldOf}
+use Rattle.master_file.specs.Data.{ReadsBehind, IsToldOf}
 use Rattle.master_file.specs.Word.{written}
 use Rattle.master_file.proofs.DataLemmas.{words_text, words_no_text, words_fields, words_unknown}
 use Rattle.master_file.proofs.data.put_words.Goals as goal
@@ -19,7 +19,7 @@ returns-then-is_empty-clause-fault c =
 
 pub returns-then-eq-clause-put : goal.returns-then-eq-clause-put
 returns-then-eq-clause-put c =
-    subst (λ (r : Result (List ℕ) Cause). OnOk c.put_strings.result (IsPut r c.args.octets.now.items c.put_strings.new.octets.items))
+    subst (λ (r : Result (List ℕ) Cause). OnOk c.put_strings.result (ReadsBehind r c.args.octets.now.items c.put_strings.new.octets.items))
     (sym (words_text c.args.rtype.0 c.args.origin.now c.args.words.now c.if-eq.ensures (some c.args.words.now c.if-is_empty.ensures)))
     c.put_strings.ensures.put
 
@@ -31,7 +31,7 @@ returns-then-eq-clause-fault c =
 
 pub returns-in-Some-clause-put : goal.returns-in-Some-clause-put
 returns-in-Some-clause-put c =
-    subst (λ (r : Result (List ℕ) Cause). OnOk c.put_fields.result (IsPut r c.args.octets.now.items c.put_fields.new.octets.items))
+    subst (λ (r : Result (List ℕ) Cause). OnOk c.put_fields.result (ReadsBehind r c.args.octets.now.items c.put_fields.new.octets.items))
     (sym (words_fields c.args.rtype.0 c.args.origin.now (map written c.args.words.now) c.in-Some.fields.now c.if-eq.ensures (sym c.in-Some.ensures)))
     c.put_fields.ensures.put
 
