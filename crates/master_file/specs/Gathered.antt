@@ -7,8 +7,8 @@ use Rattle.dns_name.specs.Name.{is_under, fold_name}
 use Rattle.dns_rdata.specs.Numbers.{type_NS, type_CNAME, type_SOA}
 use Rattle.dns_rdata.specs.Record.{Record, record_cmp}
 use Rattle.zone_tree.specs.Zone.{stands_at, is_of, rrset_of, soa_of, apex_of, is_wild}
-use Rattle.master_file.specs.declared.fault.Cause.{Cause}
-use Rattle.master_file.specs.declared.fault.Cause.TheVariants.{Outside, Apex, Conflict, Limit}
+use Rattle.record_text.specs.declared.cause.Cause.{Cause}
+use Rattle.record_text.specs.declared.cause.Cause.TheVariants.{Outside, Apex, Conflict, Limit}
 use Rattle.master_file.specs.declared.fault.FileFault.{FileFault}
 use Rattle.master_file.specs.declared.placed.Placed.{Placed}
 use Rattle.master_file.specs.Records.{Read, records_of}

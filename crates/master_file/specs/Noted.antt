@@ -10,7 +10,7 @@ use Rattle.dns_name.specs.Name.{canonical_cmp}
 use Rattle.dns_rdata.specs.Record.{Record}
 use Rattle.zone_tree.specs.Zone.{stands_at, is_of, rrset_of, soa_of, apex_of}
 use Rattle.dns_rdata.specs.Numbers.{type_NS}
-use Rattle.master_file.specs.declared.fault.Cause.TheVariants.{Outside, Apex, Conflict}
+use Rattle.record_text.specs.declared.cause.Cause.TheVariants.{Outside, Apex, Conflict}
 use Rattle.master_file.specs.declared.fault.FileFault.{FileFault}
 use Rattle.master_file.specs.declared.gathered.Gathered.{Gathered}
 use Rattle.master_file.specs.declared.noted.Noted.{Noted}

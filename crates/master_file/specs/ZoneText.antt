@@ -1,29 +1,16 @@
 -- A zone as text, one record a line (RFC 1035, 5.1).
-use Rattle.std.specs.Prelude.{ℕ, ◌+◌, ◌<◌, ◌≤◌, ◌^◌, ◌≡◌, Bool, not, ◌==◌, List, [], ◌∷◌, ◌++◌, codes, decimal, length, filter, flat_map, if◌then◌else◌, Some, All}
+use Rattle.std.specs.Prelude.{ℕ, ◌+◌, ◌<◌, ◌≤◌, ◌^◌, ◌≡◌, Bool, not, ◌==◌, List, [], ◌∷◌, ◌++◌, codes, decimal, length, filter, flat_map, Some, All}
 use Rattle.dns_name.specs.Name.{IsName, fold_name}
 use Rattle.dns_name.specs.Text.{text_of}
 use Rattle.dns_rdata.specs.Data.{data_of}
-use Rattle.dns_rdata.specs.Numbers.{type_A, type_NS, type_CNAME, type_SOA, type_PTR, type_MX, type_TXT, type_AAAA, type_SRV}
+use Rattle.dns_rdata.specs.Numbers.{type_SOA}
 use Rattle.dns_rdata.specs.Record.{Record}
 use Rattle.zone_tree.specs.Zone.{soa_of}
 use Rattle.master_file.specs.declared.placed.Placed.{Placed}
-use Rattle.master_file.specs.Text.{words_of, text_of_words}
-use Rattle.master_file.specs.Word.{Written}
-use Rattle.master_file.specs.Word.Written.{Plain}
-
--- the word of a type (RFC 1035, 3.2.2; RFC 3596, 2.1; RFC 2782); nothing for a type that isn't served
-unfoldable pub type_word : ℕ → List ℕ
-type_word rtype =
-    if rtype == type_A then codes "A"
-    else if rtype == type_NS then codes "NS"
-    else if rtype == type_CNAME then codes "CNAME"
-    else if rtype == type_SOA then codes "SOA"
-    else if rtype == type_PTR then codes "PTR"
-    else if rtype == type_MX then codes "MX"
-    else if rtype == type_TXT then codes "TXT"
-    else if rtype == type_AAAA then codes "AAAA"
-    else if rtype == type_SRV then codes "SRV"
-    else []
+use Rattle.record_text.specs.Mnemonics.{type_word}
+use Rattle.record_text.specs.Text.{words_of, text_of_words}
+use Rattle.zone_lexing.specs.Word.{Written}
+use Rattle.zone_lexing.specs.Word.Written.{Plain}
 
 -- a record's line: its owner, its TTL in decimal, the class, the type and the data, a space between, and an LF
 -- (RFC 1035, 5.1)

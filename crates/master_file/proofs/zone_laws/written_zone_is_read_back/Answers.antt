@@ -1,8 +1,8 @@
 use Rattle.std.proofs.Common.{map, ap, ◌∙◌}
-use Rattle.master_file.specs.Entries.{entries_of}
+use Rattle.zone_lexing.specs.Entries.{entries_of}
 use Rattle.master_file.specs.Records.{records_from, start}
 use Rattle.master_file.specs.ZoneText.{soa_first, line_words}
-use Rattle.master_file.proofs.SpellingLemmas.{lines-read}
+use Rattle.zone_lexing.proofs.SpellingLemmas.{lines-read}
 use Rattle.master_file.proofs.ZoneLawLemmas.{lines_are, lines_spelt, lawful_first}
 use Rattle.master_file.proofs.ZoneBackLemmas.{record_judged, records_are}
 use Rattle.master_file.proofs.zone_laws.written_zone_is_read_back.Goals as goal
