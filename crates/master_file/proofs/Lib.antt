@@ -1,4 +1,6 @@
 pub mod GatherLemmas
+pub mod InsertLemmas
+pub mod JudgeLemmas
 pub mod KeptLemmas
 pub mod NotesLemmas
 pub mod RecordLemmas
