@@ -10,6 +10,7 @@ use Rattle.std.proofs.lemmas.List.Elements.{All-head, All-tail}
 use Rattle.dns_name.specs.Name.{IsName, IsLabel, fold_name}
 use Rattle.dns_name.specs.Text.{digits_of, is_special, octet_text, label_text, text_of}
 use Rattle.dns_name.proofs.RoundLemmas.{name_of_text-text_of}
+use Rattle.dns_rdata.specs.Layout.{layout_of}
 use Rattle.dns_rdata.specs.Data.{data_of}
 use Rattle.dns_rdata.specs.Record.{Record}
 use Rattle.dns_rdata.specs.declared.numbers.Ttl.{Ttl}
@@ -110,7 +111,7 @@ at_type rtype n h e =
     ap (λ (t : ℕ). type_named (type_word t)) same ∙ h ∙ ap (λ (t : ℕ). Some t) (sym same)
 
 no_data : (rtype : ℕ) (octets own : List ℕ) → (rtype == 1) ≡ false → (rtype == 2) ≡ false → (rtype == 5) ≡ false → (rtype == 6) ≡ false → (rtype == 12) ≡ false → (rtype == 15) ≡ false → (rtype == 16) ≡ false → (rtype == 28) ≡ false → (rtype == 33) ≡ false → data_of rtype octets ≡ Some own → ⊥
-unfolding data_of
+unfolding data_of layout_of
 no_data rtype octets own a b c d e f g h i is = let none = rw (a, b, c, d, e, f, g, h, i) at is in cc
 
 if_type : (P : Type 0) (b : Bool) → (b ≡ true → P) → (b ≡ false → P) → P

@@ -10,6 +10,7 @@ use Rattle.std.proofs.lemmas.List.{append_assoc, append-nil}
 use Rattle.std.proofs.lemmas.List.Elements.{All-nil, All-cons, All-head, All-tail, All-drop, All-take, All-get_or, All-filter, All-append}
 use Rattle.dns_name.specs.Text.{octet_text, label_text, text_of}
 use Rattle.dns_name.specs.Name.{wire_of, name_in}
+use Rattle.dns_rdata.specs.Layout.{layout_of}
 use Rattle.dns_rdata.specs.Data.{data_of}
 use Rattle.dns_rdata.specs.Record.{Record}
 use Rattle.zone_tree.specs.Zone.{soa_of}
@@ -194,7 +195,7 @@ at_type : (rtype n : ℕ) → is_spelt (Plain (type_word n)) ≡ true → (rtype
 at_type rtype n h e = ap (λ (t : ℕ). is_spelt (Plain (type_word t))) ((Decides-eqb rtype n).0 e) ∙ h
 
 no_data : (rtype : ℕ) (octets own : List ℕ) → (rtype == 1) ≡ false → (rtype == 2) ≡ false → (rtype == 5) ≡ false → (rtype == 6) ≡ false → (rtype == 12) ≡ false → (rtype == 15) ≡ false → (rtype == 16) ≡ false → (rtype == 28) ≡ false → (rtype == 33) ≡ false → data_of rtype octets ≡ Some own → ⊥
-unfolding data_of
+unfolding data_of layout_of
 no_data rtype octets own a b c d e f g h i is = let none = rw (a, b, c, d, e, f, g, h, i) at is in cc
 
 if_type : (P : Type 0) (b : Bool) → (b ≡ true → P) → (b ≡ false → P) → P
