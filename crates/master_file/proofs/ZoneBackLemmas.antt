@@ -1,5 +1,5 @@
 -- What is written of a zone is read as its records.
-use Rattle.std.proofs.Common.{◌≡◌, ℕ, ◌+◌, ◌<◌, ◌^◌, Bool, true, false, cond, ◌||◌, ◌==◌, nat_lt, bytes_eq, List, [], ◌∷◌, ◌++◌, length, map, flat_map, codes, decimal, Option, Some, None, Result, Ok, Err, ok_or, All, refl, sym, ap, ◌∙◌, arith}
+use Rattle.std.proofs.Common.{◌≡◌, ℕ, ◌+◌, ◌<◌, ◌≤◌, ◌^◌, Bool, true, false, cond, ◌||◌, ◌==◌, nat_lt, List, [], ◌∷◌, ◌++◌, length, map, flat_map, codes, decimal, Option, Some, None, Result, Ok, Err, ok_or, All, refl, sym, ap, ◌∙◌, arith}
 use Rattle.std.specs.List.{list_all}
 use Rattle.std.specs.Char.{is_ascii_digit, digit_value}
 use Rattle.std.specs.Str.Parse.{AllDigits}
@@ -7,16 +7,14 @@ use Rattle.std.proofs.lemmas.Bool.Decides.{Decides-eqb, nat_tests}
 use Rattle.std.proofs.lemmas.Fmt.{decimal_is_IsNumeral}
 use Rattle.std.proofs.lemmas.List.{append_assoc}
 use Rattle.std.proofs.lemmas.List.Elements.{All-head, All-tail}
-use Rattle.dns_name.specs.Name.{IsName, IsLabel, fold_name}
+use Rattle.dns_name.specs.Name.{IsName, fold_name}
 use Rattle.dns_name.specs.Text.{digits_of, is_special, octet_text, label_text, text_of}
-use Rattle.dns_name.proofs.RoundLemmas.{name_of_text-text_of}
 use Rattle.dns_rdata.specs.Layout.{layout_of}
 use Rattle.dns_rdata.specs.Data.{data_of}
-use Rattle.dns_rdata.specs.Record.{Record}
+use Rattle.dns_rdata.specs.Record.{Record, IsLawful}
 use Rattle.dns_rdata.specs.declared.numbers.Ttl.{Ttl}
 use Rattle.master_file.specs.declared.fault.Cause.{Cause}
 use Rattle.master_file.specs.declared.fault.Cause.TheVariants.{UnknownType}
-use Rattle.master_file.specs.declared.fault.FileFault.{FileFault}
 use Rattle.master_file.specs.declared.force.Force.{Force}
 use Rattle.master_file.specs.declared.front.Mark.{Mark}
 use Rattle.master_file.specs.declared.front.Mark.TheVariants as mark
@@ -26,28 +24,21 @@ use Rattle.master_file.specs.Entries.{Entry}
 use Rattle.master_file.specs.Front.{Front, mark_of, front_from, front_of}
 use Rattle.master_file.specs.Items.{begins_with}
 use Rattle.master_file.specs.Kind.{type_named, class_named}
-use Rattle.master_file.specs.NameWord.{name_named, owner_of}
+use Rattle.master_file.specs.NameWord.{owner_of}
 use Rattle.master_file.specs.Number.{are_digits}
 use Rattle.master_file.specs.Records.{directive_of, directed, owned_of, ttl_in, placed_of, record_of, behind, judged, fault_at, records_from, Read, faulty, in_front}
 use Rattle.master_file.specs.Spelling.{one_a_line}
 use Rattle.master_file.specs.Text.{words_of}
 use Rattle.master_file.specs.Word.{Written, on_ok, and_then}
 use Rattle.master_file.specs.Word.Written.{Plain}
-use Rattle.master_file.specs.ZoneText.{type_word, line_words, IsLawful, placed_at, placed_from}
+use Rattle.master_file.specs.ZoneText.{type_word, line_words, placed_at, placed_from}
 use Rattle.master_file.proofs.BackLemmas.{number_back}
+use Rattle.master_file.proofs.FieldLemmas.{name_read}
 use Rattle.master_file.proofs.FormLemmas.{data_back}
 
--- a label's text doesn't begin with `@` or `$`
-no_at : (c : ℕ) → is_special c ≡ false → (c == 64) ≡ false
-no_at c e = grind (arith, nat_tests)
-
+-- a label's text doesn't begin with `$`
 no_dollar : (c : ℕ) → is_special c ≡ false → (c == 36) ≡ false
 no_dollar c e = grind (arith, nat_tests)
-
-at_if : (outside special : Bool) (c : ℕ) (more : List ℕ) → is_special c ≡ special → bytes_eq (cond outside (92 ∷ digits_of c) (cond special (92 ∷ c ∷ []) (c ∷ [])) ++ more) (64 ∷ []) ≡ false
-at_if true special c more e = refl
-at_if false true c more e = refl
-at_if false false c more e = let other = no_at c e in rw other refl
 
 dollar_if : (outside special : Bool) (c : ℕ) (more : List ℕ) → is_special c ≡ special → begins_with 36 (cond outside (92 ∷ digits_of c) (cond special (92 ∷ c ∷ []) (c ∷ [])) ++ more) ≡ false
 dollar_if true special c more e = refl
@@ -60,13 +51,6 @@ cut x label name =
     let rest = flat_map label_text name in
     ap (λ (os : List ℕ). os ++ rest) (append_assoc (octet_text x) more (46 ∷ [])) ∙ append_assoc (octet_text x) (more ++ 46 ∷ []) rest
 
-not_at : (name : List (List ℕ)) → IsName name → bytes_eq (text_of name) (64 ∷ []) ≡ false
-not_at [] h = refl
-not_at ([] ∷ name) h = let head = All-head IsLabel [] name h.labels in absurd (omega (arith, head.some))
-not_at ((x ∷ label) ∷ name) h =
-    ap (λ (os : List ℕ). bytes_eq os (64 ∷ [])) (cut x label name)
-    ∙ at_if (nat_lt x 33 || nat_lt 126 x) (is_special x) x ((flat_map octet_text label ++ 46 ∷ []) ++ flat_map label_text name) refl
-
 not_directive : (name : List (List ℕ)) → begins_with 36 (text_of name) ≡ false
 not_directive [] = refl
 not_directive ([] ∷ name) = refl
@@ -74,8 +58,7 @@ not_directive ((x ∷ label) ∷ name) =
     ap (begins_with 36) (cut x label name) ∙ dollar_if (nat_lt x 33 || nat_lt 126 x) (is_special x) x ((flat_map octet_text label ++ 46 ∷ []) ++ flat_map label_text name) refl
 
 owner_is : (name origin : List (List ℕ)) → IsName name → All (All (λ c. c < 256)) name → owner_of origin (Plain (text_of name)) ≡ Ok name
-unfolding name_named
-owner_is name origin is octets = let other = not_at name is in let read = name_of_text-text_of name origin is octets in rw (other, read) refl
+owner_is name origin is octets = name_read name origin is octets
 
 -- the TTL
 a_decimal : (c : ℕ) → digit_value c < 10 → is_ascii_digit c ≡ true
@@ -156,18 +139,18 @@ owned_is force r h =
     ap (on_ok (λ (owner : List (List ℕ)). (fold_name owner, rest_of r))) (owner_is r.owner force.origin h.name h.owner_octets)
     ∙ ap (λ (owner : List (List ℕ)). Ok (owner, rest_of r)) (sym h.folded)
 
-placed_is : (force : Force) (line : ℕ) (r : Record) → IsLawful r → placed_of force line r.owner (rest_of r) ≡ Ok (placed_at line r)
-placed_is force line r h =
+placed_is : (force : Force) (line : ℕ) (r : Record) → IsLawful r → length r.rdata ≤ 4096 → placed_of force line r.owner (rest_of r) ≡ Ok (placed_at line r)
+placed_is force line r h short =
     ap (λ (f : Result Front Cause). and_then f (λ front. and_then (ttl_in force front.ttl) (λ ttl.
     on_ok (λ octets. record { line = line; owner = r.owner; ttl = ttl; rdata = record { rtype = front.rtype; octets = octets } })
     (data_of_words front.rtype force.origin front.words))))
     (front_is r.ttl r.rtype (type_word r.rtype) (words_of r.rtype r.rdata) h.lasts (type_is r.rtype r.rdata h.form))
     ∙ ap (on_ok (λ (octets : List ℕ). record { line = line; owner = r.owner; ttl = record { 0 = r.ttl }; rdata = record { rtype = r.rtype; octets = octets } }))
-    (data_back r.rtype r.rdata force.origin h.form h.short h.octets)
+    (data_back r.rtype r.rdata force.origin h.form short h.octets)
 
-record_is : (force : Force) (line : ℕ) (r : Record) → IsLawful r → record_of force line false (line_words r) ≡ Ok (placed_at line r)
-record_is force line r h =
-    ap (λ (o : Result (List (List ℕ) × List Written) Cause). and_then o (λ owned. placed_of force line owned.0 owned.1)) (owned_is force r h) ∙ placed_is force line r h
+record_is : (force : Force) (line : ℕ) (r : Record) → IsLawful r → length r.rdata ≤ 4096 → record_of force line false (line_words r) ≡ Ok (placed_at line r)
+record_is force line r h short =
+    ap (λ (o : Result (List (List ℕ) × List Written) Cause). and_then o (λ owned. placed_of force line owned.0 owned.1)) (owned_is force r h) ∙ placed_is force line r h short
 
 abbrev by_directive : Force → Result Placed Cause → Option (List ℕ × List Written) → Result (Force × Option Placed) Cause
 by_directive force placed directive = elim directive [
@@ -178,10 +161,10 @@ by_directive force placed directive = elim directive [
 no_directive : (r : Record) → directive_of false (line_words r) ≡ None
 no_directive r = ap (λ (b : Bool). cond b (Some (text_of r.owner, rest_of r)) None) (not_directive r.owner)
 
-pub record_judged : (force : Force) (line : ℕ) (r : Record) → IsLawful r → judged force line false (line_words r) ≡ Ok (behind force (placed_at line r), Some (placed_at line r))
-record_judged force line r h =
+pub record_judged : (force : Force) (line : ℕ) (r : Record) → IsLawful r → length r.rdata ≤ 4096 → judged force line false (line_words r) ≡ Ok (behind force (placed_at line r), Some (placed_at line r))
+record_judged force line r h short =
     ap (by_directive force (record_of force line false (line_words r))) (no_directive r)
-    ∙ ap (on_ok (λ (placed : Placed). (behind force placed, Some placed))) (record_is force line r h)
+    ∙ ap (on_ok (λ (placed : Placed). (behind force placed, Some placed))) (record_is force line r h short)
 
 -- the records of lines
 abbrev then : ℕ → List Entry → Result (Force × Option Placed) Cause → Read
@@ -191,8 +174,8 @@ then line entries r = elim r [
   | Ok (next, Some placed) ↦ in_front placed (records_from next entries)
 ]
 
-pub records_are : (force : Force) (line : ℕ) (rs : List Record) → All IsLawful rs → records_from force (one_a_line line (map line_words rs)) ≡ record { placed = placed_from line rs; fault = None }
-records_are force line [] h = refl
-records_are force line (r ∷ rs) h =
-    ap (then line (one_a_line (line + 1) (map line_words rs))) (record_judged force line r (All-head IsLawful r rs h))
-    ∙ ap (in_front (placed_at line r)) (records_are (behind force (placed_at line r)) (line + 1) rs (All-tail IsLawful r rs h))
+pub records_are : (force : Force) (line : ℕ) (rs : List Record) → All IsLawful rs → All (λ r. length r.rdata ≤ 4096) rs → records_from force (one_a_line line (map line_words rs)) ≡ record { placed = placed_from line rs; fault = None }
+records_are force line [] h short = refl
+records_are force line (r ∷ rs) h short =
+    ap (then line (one_a_line (line + 1) (map line_words rs))) (record_judged force line r (All-head IsLawful r rs h) (All-head (λ (s : Record). length s.rdata ≤ 4096) r rs short))
+    ∙ ap (in_front (placed_at line r)) (records_are (behind force (placed_at line r)) (line + 1) rs (All-tail IsLawful r rs h) (All-tail (λ (s : Record). length s.rdata ≤ 4096) r rs short))

@@ -12,7 +12,7 @@ use Rattle.dns_name.specs.Text.{octet_text, label_text, text_of}
 use Rattle.dns_name.specs.Name.{wire_of, name_in}
 use Rattle.dns_rdata.specs.Layout.{layout_of}
 use Rattle.dns_rdata.specs.Data.{data_of}
-use Rattle.dns_rdata.specs.Record.{Record}
+use Rattle.dns_rdata.specs.Record.{Record, IsLawful}
 use Rattle.zone_tree.specs.Zone.{soa_of}
 use Rattle.master_file.specs.declared.data.Field.{Field}
 use Rattle.master_file.specs.declared.data.Field.TheVariants as field
@@ -22,7 +22,7 @@ use Rattle.master_file.specs.Spelling.{spell, spell_line, spell_more, is_run, is
 use Rattle.master_file.specs.Text.{word_at, words_at, words_of, strings_in, string_octet, group_text, groups_text, text_of_words}
 use Rattle.master_file.specs.Word.{Written}
 use Rattle.master_file.specs.Word.Written.{Plain, Quoted, Unclosed}
-use Rattle.master_file.specs.ZoneText.{type_word, record_line, is_other, soa_first, line_words, IsLawful}
+use Rattle.master_file.specs.ZoneText.{type_word, record_line, is_other, soa_first, line_words}
 use Rattle.master_file.proofs.BackLemmas.{AreOctets}
 use Rattle.master_file.proofs.NumberLemmas.{by_test}
 use Rattle.master_file.proofs.SpeltLemmas.{Passes, both_pass, each_passes, name_passes, decimal_passes, group_passes, group_some, string_octet-passes, spelt_plain}
@@ -232,5 +232,5 @@ pub lines_spelt : (rs : List Record) → All IsLawful rs → are_spelt (map line
 lines_spelt [] h = refl
 lines_spelt (r ∷ rs) h = more_spelt (line_words r) (map line_words rs) (line_spelt r (All-head IsLawful r rs h)) (lines_spelt rs (All-tail IsLawful r rs h))
 
-pub lawful_first : (zone : List Record) → All IsLawful zone → All IsLawful (soa_first zone)
-lawful_first zone h = All-append IsLawful (soa_of zone) (filter is_other zone) (All-filter (λ (r : Record). r.rtype == 6) IsLawful zone h) (All-filter is_other IsLawful zone h)
+pub each_first : (P : Record → Type 0) (zone : List Record) → All P zone → All P (soa_first zone)
+each_first P zone h = All-append P (soa_of zone) (filter is_other zone) (All-filter (λ (r : Record). r.rtype == 6) P zone h) (All-filter is_other P zone h)
