@@ -6,7 +6,7 @@ use Rattle.std.specs.Int.{to_be_bytes, w16}
 use Rattle.dns_name.specs.Name.{wire_of, name_in, IsName}
 use Rattle.dns_name.proofs.ReadLemmas.{wire_some}
 use Rattle.wire_names.specs.Table.{Table, IsTable, position_in}
-use Rattle.wire_names.specs.Written.{IsPut, Puts, name_text, pointer_to}
+use Rattle.wire_names.specs.Written.{IsOverwritten, WritesOctets, name_octets, pointer_to}
 use Rattle.wire_names.proofs.WrittenLemmas.{IsTableOf}
 use Rattle.dns_message.specs.declared.query.Question.{Question}
 use Rattle.dns_message.specs.Put.{Put, these, named, before, measured}
@@ -16,20 +16,20 @@ use Rattle.dns_message.proofs.KeepsLemmas.{Holds, Holds-positions, places_are, K
 use Rattle.dns_message.proofs.PutsLemmas.{table_at, stays, Goes-these, Goes-then, Goes-stop}
 
 -- a name has no more octets with pointers than in full
-length-name_if : (table : Table) (label : List ℕ) (name : List (List ℕ)) (found : Option ℕ) → length (name_text table name) ≤ length (wire_of name) → length (elim found as (λ _. List ℕ) [ Some target ↦ pointer_to target | None ↦ length label ∷ label ++ name_text table name ]) ≤ length (wire_of (label ∷ name))
-length-name_if table label name None h = omega (arith, length-append label (name_text table name), length-append label (wire_of name))
+length-name_if : (table : Table) (label : List ℕ) (name : List (List ℕ)) (found : Option ℕ) → length (name_octets table name) ≤ length (wire_of name) → length (elim found as (λ _. List ℕ) [ Some target ↦ pointer_to target | None ↦ length label ∷ label ++ name_octets table name ]) ≤ length (wire_of (label ∷ name))
+length-name_if table label name None h = omega (arith, length-append label (name_octets table name), length-append label (wire_of name))
 length-name_if table label name (Some target) h = omega (arith, length-append label (wire_of name), wire_some name)
 
-length-name_text : (table : Table) (name : List (List ℕ)) → length (name_text table name) ≤ length (wire_of name)
-length-name_text table [] = omega arith
-length-name_text table (label ∷ name) = length-name_if table label name (position_in table (label ∷ name)) (length-name_text table name)
+length-name_octets : (table : Table) (name : List (List ℕ)) → length (name_octets table name) ≤ length (wire_of name)
+length-name_octets table [] = omega arith
+length-name_octets table (label ∷ name) = length-name_if table label name (position_in table (label ∷ name)) (length-name_octets table name)
 
 -- a question has at most 259 octets
 pub length-question : (q : Question) (table : Table) (at : ℕ) → IsName q.name → length (question_text q table at).0 ≤ 259
 unfolding question_text before named these
 length-question q table at lawful =
-    let octets = length-append (name_text table q.name) (to_be_bytes w16 q.rtype.0 ++ to_be_bytes w16 q.class.0) in
-    let short = length-name_text table q.name in
+    let octets = length-append (name_octets table q.name) (to_be_bytes w16 q.rtype.0 ++ to_be_bytes w16 q.class.0) in
+    let short = length-name_octets table q.name in
     let most = lawful.short in
     omega arith
 
@@ -62,7 +62,7 @@ unfolding names_text
 names_zero compress octets = refl
 
 -- no name is in front
-pub IsAmong-none : (compress : Bool) (count : ℕ) (all was : List ℕ) (first : ℕ) (own : List ℕ) (i : ℕ) (rest out : List ℕ) (at : ℕ) (positions new : List ℕ) (r : Option ℕ) → IsAmong compress count all was first own i rest out at positions → None ≡ name_in rest → Puts out new at rest r → Goes (names_text compress count all) was new first own positions r
+pub IsAmong-none : (compress : Bool) (count : ℕ) (all was : List ℕ) (first : ℕ) (own : List ℕ) (i : ℕ) (rest out : List ℕ) (at : ℕ) (positions new : List ℕ) (r : Option ℕ) → IsAmong compress count all was first own i rest out at positions → None ≡ name_in rest → WritesOctets out new at rest r → Goes (names_text compress count all) was new first own positions r
 IsAmong-none compress count all was first own i rest out at positions new r h e p =
     h.goes new positions r (subst (λ q. Goes q out new at positions positions r) (sym (names_none compress h.left rest (sym e))) (Goes-these rest out new at positions r h.lawful p))
 
@@ -70,7 +70,7 @@ IsAmong-none compress count all was first own i rest out at positions new r h e 
 left_none : (compress : Bool) (left : ℕ) (octets : List ℕ) → left ≡ 0 → names_text compress left octets ≡ these octets
 left_none compress left octets e = ap (λ (n : ℕ). names_text compress n octets) e ∙ names_zero compress octets
 
-pub IsAmong-end : (compress : Bool) (count : ℕ) (all was : List ℕ) (first : ℕ) (own : List ℕ) (i : ℕ) (rest out : List ℕ) (at : ℕ) (positions new : List ℕ) (r : Option ℕ) → IsAmong compress count all was first own i rest out at positions → count ≤ i → Puts out new at rest r → Goes (names_text compress count all) was new first own positions r
+pub IsAmong-end : (compress : Bool) (count : ℕ) (all was : List ℕ) (first : ℕ) (own : List ℕ) (i : ℕ) (rest out : List ℕ) (at : ℕ) (positions new : List ℕ) (r : Option ℕ) → IsAmong compress count all was first own i rest out at positions → count ≤ i → WritesOctets out new at rest r → Goes (names_text compress count all) was new first own positions r
 IsAmong-end compress count all was first own i rest out at positions new r h e p =
     let left_is = h.left_is in
     let none : h.left ≡ 0 = omega arith in
@@ -120,7 +120,7 @@ measured_short p a b at s t h =
     omega arith
 
 -- what doesn't fit behind its length doesn't fit with it
-pub measured_stop : (p : Put) (a b c : List ℕ) (at n : ℕ) (s t : List ℕ) → IsTable (take at a) s → IsPut a b at (0 ∷ 0 ∷ []) n → Goes p b c n s t None → Goes (measured p) a c at s t None
+pub measured_stop : (p : Put) (a b c : List ℕ) (at n : ℕ) (s t : List ℕ) → IsTable (take at a) s → IsOverwritten a b at (0 ∷ 0 ∷ []) n → Goes p b c n s t None → Goes (measured p) a c at s t None
 unfolding measured
 measured_stop p a b c at n s t table put short =
     let same = stays a b at n s (0 ∷ 0 ∷ []) table put in
@@ -145,7 +145,7 @@ patched front old more bytes c d at next f o b n e is =
     ap (take next) all ∙ take_at (front ++ (bytes ++ more)) back next (omega arith)
 
 -- something was written behind two octets, which then were set to its length
-pub measured_whole : (p : Put) (a b c d : List ℕ) (at n next : ℕ) (s t : List ℕ) → Keeps p → at ≤ length a → IsTable (take at a) s → IsPut a b at (0 ∷ 0 ∷ []) n → IsWritten (p (table_at b n s) n) b c n t next → d ≡ take at c ++ to_be_bytes w16 (next - n) ++ drop (at + 2) c → IsWritten (measured p (table_at a at s) at) a d at t next
+pub measured_whole : (p : Put) (a b c d : List ℕ) (at n next : ℕ) (s t : List ℕ) → Keeps p → at ≤ length a → IsTable (take at a) s → IsOverwritten a b at (0 ∷ 0 ∷ []) n → IsWritten (p (table_at b n s) n) b c n t next → d ≡ take at c ++ to_be_bytes w16 (next - n) ++ drop (at + 2) c → IsWritten (measured p (table_at a at s) at) a d at t next
 unfolding measured
 measured_whole p a b c d at n next s t keeps within table put w e =
     let own = table_at a at s in

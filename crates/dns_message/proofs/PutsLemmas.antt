@@ -3,15 +3,15 @@ use Rattle.std.proofs.Common.{◌≡◌, ℕ, ◌+◌, ◌<◌, ◌≤◌, List,
 use Rattle.std.proofs.Math.Path.{fun_ext}
 use Rattle.std.proofs.lemmas.List.{append-nil, at_drop_more, at_drop_all}
 use Rattle.wire_names.specs.Table.{Table, IsTable, table_of}
-use Rattle.wire_names.specs.Written.{IsPut, Puts}
+use Rattle.wire_names.specs.Written.{IsOverwritten, WritesOctets}
 use Rattle.wire_names.proofs.LongerLemmas.{IsTable-longer, table_longer}
 use Rattle.wire_names.proofs.WrittenLemmas.{IsTableOf}
 use Rattle.dns_message.specs.Put.{Put, these, before, each}
 use Rattle.dns_message.specs.Puts.{IsWritten, Goes}
 
 -- what stands, and more behind it, stands as one
-pub IsPut-then : (a b c : List ℕ) (at n m : ℕ) (x y : List ℕ) → IsPut a b at x n → IsPut b c n y m → IsPut a c at (x ++ y) m
-IsPut-then a b c at n m x y p q = record {
+pub IsOverwritten-then : (a b c : List ℕ) (at n m : ℕ) (x y : List ℕ) → IsOverwritten a b at x n → IsOverwritten b c n y m → IsOverwritten a c at (x ++ y) m
+IsOverwritten-then a b c at n m x y p q = record {
   next_is = omega (arith, length-append x y, p.next_is, q.next_is);
   within = omega (arith, p.length_stays, q.within);
   length_stays = q.length_stays ∙ p.length_stays;
@@ -19,33 +19,33 @@ IsPut-then a b c at n m x y p q = record {
 }
 
 -- octets, and more behind them
-pub Puts-then : (a b c : List ℕ) (at n : ℕ) (x y : List ℕ) (r : Option ℕ) → Puts a b at x (Some n) → Puts b c n y r → Puts a c at (x ++ y) r
-Puts-then a b c at n x y None p q = omega (arith, length-append x y, p.next_is, p.length_stays)
-Puts-then a b c at n x y (Some m) p q = IsPut-then a b c at n m x y p q
+pub WritesOctets-then : (a b c : List ℕ) (at n : ℕ) (x y : List ℕ) (r : Option ℕ) → WritesOctets a b at x (Some n) → WritesOctets b c n y r → WritesOctets a c at (x ++ y) r
+WritesOctets-then a b c at n x y None p q = omega (arith, length-append x y, p.next_is, p.length_stays)
+WritesOctets-then a b c at n x y (Some m) p q = IsOverwritten-then a b c at n m x y p q
 
 -- octets that don't fit don't fit with more behind them
-pub Puts-stop : (a b c : List ℕ) (at : ℕ) (x y : List ℕ) → Puts a b at x None → Puts a c at (x ++ y) None
-Puts-stop a b c at x y h = omega (arith, length-append x y)
+pub WritesOctets-stop : (a b c : List ℕ) (at : ℕ) (x y : List ℕ) → WritesOctets a b at x None → WritesOctets a c at (x ++ y) None
+WritesOctets-stop a b c at x y h = omega (arith, length-append x y)
 
 -- the table of a buffer's names, as far as a position
 abbrev pub table_at : List ℕ → ℕ → List ℕ → Table
 table_at out at positions = table_of (take at out) positions
 
 -- positions of names stay what they are while octets are put behind them
-pub stays : (a b : List ℕ) (at n : ℕ) (positions octets : List ℕ) → IsTable (take at a) positions → IsPut a b at octets n → IsTableOf (take n b) positions (table_at a at positions)
+pub stays : (a b : List ℕ) (at n : ℕ) (positions octets : List ℕ) → IsTable (take at a) positions → IsOverwritten a b at octets n → IsTableOf (take n b) positions (table_at a at positions)
 stays a b at n positions octets table p =
     subst (λ (x : List ℕ). IsTableOf x positions (table_at a at positions)) (sym p.octets_are)
     (record { all = IsTable-longer (take at a) octets positions table; is = table_longer (take at a) octets positions table })
 
 -- octets as they are
-pub Goes-these : (octets a b : List ℕ) (at : ℕ) (positions : List ℕ) (r : Option ℕ) → IsTable (take at a) positions → Puts a b at octets r → Goes (these octets) a b at positions positions r
+pub Goes-these : (octets a b : List ℕ) (at : ℕ) (positions : List ℕ) (r : Option ℕ) → IsTable (take at a) positions → WritesOctets a b at octets r → Goes (these octets) a b at positions positions r
 unfolding these
 Goes-these octets a b at positions None table p = p
 Goes-these octets a b at positions (Some n) table p =
     let same = stays a b at n positions octets table p in record { octets = p; lawful = same.all; table = same.is }
 
 -- what the writer of names has done
-pub Goes-name : (p : Put) (a b : List ℕ) (at : ℕ) (positions after : List ℕ) (r : Option ℕ) → Puts a b at (p (table_at a at positions) at).0 r → IfSome r (λ next. IsTable (take next b) after) → IfSome r (λ next. table_of (take next b) after ≡ (p (table_at a at positions) at).1) → Goes p a b at positions after r
+pub Goes-name : (p : Put) (a b : List ℕ) (at : ℕ) (positions after : List ℕ) (r : Option ℕ) → WritesOctets a b at (p (table_at a at positions) at).0 r → IfSome r (λ next. IsTable (take next b) after) → IfSome r (λ next. table_of (take next b) after ≡ (p (table_at a at positions) at).1) → Goes p a b at positions after r
 Goes-name p a b at positions after None put lawful table = put
 Goes-name p a b at positions after (Some n) put lawful table = record { octets = put; lawful = lawful; table = table }
 
@@ -67,7 +67,7 @@ Goes-then p q a b c at n s t u None w v =
     omega arith
 Goes-then p q a b c at n s t u (Some m) w v =
     let last = behind p q a b c at n m s t u w v in
-    record { octets = IsPut-then a b c at n m _ _ w.octets last.octets; lawful = last.lawful; table = last.table }
+    record { octets = IsOverwritten-then a b c at n m _ _ w.octets last.octets; lawful = last.lawful; table = last.table }
 
 -- what doesn't fit doesn't fit with more behind it
 pub Goes-stop : (p q : Put) (a b c : List ℕ) (at : ℕ) (s t u : List ℕ) → Goes p a b at s t None → Goes (before p q) a c at s u None
@@ -77,11 +77,11 @@ Goes-stop p q a b c at s t u short =
     omega arith
 
 -- one thing, and octets behind it
-pub Goes-octets : (p : Put) (octets a b c : List ℕ) (at n : ℕ) (s t : List ℕ) (r : Option ℕ) → Goes p a b at s t (Some n) → Puts b c n octets r → Goes (before p (these octets)) a c at s t r
+pub Goes-octets : (p : Put) (octets a b c : List ℕ) (at n : ℕ) (s t : List ℕ) (r : Option ℕ) → Goes p a b at s t (Some n) → WritesOctets b c n octets r → Goes (before p (these octets)) a c at s t r
 Goes-octets p octets a b c at n s t r w v = Goes-then p (these octets) a b c at n s t t r w (Goes-these octets b c n t r w.lawful v)
 
 -- octets, and something behind them
-pub Goes-behind : (octets : List ℕ) (q : Put) (a b c : List ℕ) (at n : ℕ) (s u : List ℕ) (r : Option ℕ) → IsTable (take at a) s → IsPut a b at octets n → Goes q b c n s u r → Goes (before (these octets) q) a c at s u r
+pub Goes-behind : (octets : List ℕ) (q : Put) (a b c : List ℕ) (at n : ℕ) (s u : List ℕ) (r : Option ℕ) → IsTable (take at a) s → IsOverwritten a b at octets n → Goes q b c n s u r → Goes (before (these octets) q) a c at s u r
 Goes-behind octets q a b c at n s u r table p v = Goes-then (these octets) q a b c at n s s u r (Goes-these octets a b at s (Some n) table p) v
 
 -- nothing is written anywhere

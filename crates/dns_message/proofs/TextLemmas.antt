@@ -4,12 +4,12 @@ use Rattle.std.proofs.lemmas.List.{append-nil}
 use Rattle.std.specs.Int.{to_be_bytes, w16}
 use Rattle.dns_rdata.specs.Record.{Record}
 use Rattle.wire_names.specs.Table.{Table}
-use Rattle.wire_names.specs.Written.{IsPut}
+use Rattle.wire_names.specs.Written.{IsOverwritten}
 use Rattle.dns_message.specs.Message.{Message}
 use Rattle.dns_message.specs.Put.{Put, these, before, measured, each}
 use Rattle.dns_message.specs.Puts.{Goes}
 use Rattle.dns_message.specs.Text.{questions, question_text, record_text, sections_text, counts_in, header_text, text, truncated}
-use Rattle.dns_message.proofs.PutsLemmas.{IsPut-then}
+use Rattle.dns_message.proofs.PutsLemmas.{IsOverwritten-then}
 
 -- the octets of one thing and of another behind it
 length-before : (p q : Put) (table : Table) (at : ℕ) → length (before p q table at).0 ≡ length (p table at).0 + length (q (p table at).1 (at + length (p table at).0)).0
@@ -66,10 +66,10 @@ unfolding sections_text before each these
 truncated_text m = ap (λ octets. header_text (truncated m) (counts_in (truncated m)) ++ octets) (append-nil (each question_text (questions m.question) [] 12).0)
 
 -- and they are written so
-pub truncated_put : (m : Message) (a b c after : List ℕ) (at next : ℕ) → IsPut a b 0 (header_text (truncated m) (counts_in (truncated m))) at → Goes (each question_text (questions m.question)) b c at [] after (Some next) → IsPut a c 0 (text (truncated m)) next
+pub truncated_put : (m : Message) (a b c after : List ℕ) (at next : ℕ) → IsOverwritten a b 0 (header_text (truncated m) (counts_in (truncated m))) at → Goes (each question_text (questions m.question)) b c at [] after (Some next) → IsOverwritten a c 0 (text (truncated m)) next
 truncated_put m a b c after at next front back =
     let asked = each question_text (questions m.question) in
     let next_is = front.next_is in
     let place : at ≡ 12 = omega arith in
-    let there = subst (λ (n : ℕ). IsPut b c at (asked [] n).0 next) place back.octets in
-    subst (λ (octets : List ℕ). IsPut a c 0 octets next) (sym (truncated_text m)) (IsPut-then a b c 0 at next _ _ front there)
+    let there = subst (λ (n : ℕ). IsOverwritten b c at (asked [] n).0 next) place back.octets in
+    subst (λ (octets : List ℕ). IsOverwritten a c 0 octets next) (sym (truncated_text m)) (IsOverwritten-then a b c 0 at next _ _ front there)

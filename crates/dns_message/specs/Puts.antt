@@ -1,13 +1,13 @@
 -- What a write into a buffer leaves, and what a count of records tells.
 use Rattle.std.specs.Prelude.{◌≡◌, ℕ, ◌+◌, ◌^◌, ◌<◌, ◌≤◌, List, length, take, Option, Some, None}
 use Rattle.wire_names.specs.Table.{Table, IsTable, table_of}
-use Rattle.wire_names.specs.Written.{IsPut}
+use Rattle.wire_names.specs.Written.{IsOverwritten}
 use Rattle.dns_message.specs.Put.{Put}
 
 -- a text, which is octets and a table, was written at a position of a buffer: the octets end before the next position,
 -- and these positions of names stand for the table
 pub record IsWritten (written : List ℕ × Table) (old new : List ℕ) (at : ℕ) (positions : List ℕ) (next : ℕ) : Type 0 where
-  pub octets : IsPut old new at written.0 next
+  pub octets : IsOverwritten old new at written.0 next
   pub lawful : IsTable (take next new) positions
   pub table : table_of (take next new) positions ≡ written.1
 

@@ -7,7 +7,7 @@ ghost use Rattle.dns_name.specs.Name.{IsName};
 ghost use Rattle.dns_rdata.specs.Numbers.{class_IN};
 ghost use Rattle.dns_rdata.specs.Record.{shown_as};
 ghost use Rattle.wire_names.specs.Table.{IsTable, table_of};
-ghost use Rattle.wire_names.specs.Written.{Puts};
+ghost use Rattle.wire_names.specs.Written.{WritesOctets};
 ghost use Rattle.dns_message.specs.Message.{section_of};
 ghost use Rattle.dns_message.specs.Put.{each};
 ghost use Rattle.dns_message.specs.Puts.{Goes};
@@ -146,7 +146,7 @@ fn put_record(
 
 /// Writes a record's type, class IN and its TTL at a position, as `put` does (RFC 1035, 4.1.3).
 fn put_fixed(out: &mut [u8], at: usize, rtype: RType, ttl: Ttl) -> Option<usize>
-    ensures { Puts out.old out.new at (to_be_bytes w16 rtype.0 ++ to_be_bytes w16 class_IN ++ to_be_bytes w32 ttl.0) result }
+    ensures { WritesOctets out.old out.new at (to_be_bytes w16 rtype.0 ++ to_be_bytes w16 class_IN ++ to_be_bytes w32 ttl.0) result }
 {
     let at = put_u16(out, at, rtype.0)?;
     let at = put_u16(out, at, Class::IN.0)?;

@@ -1,7 +1,7 @@
 //! How a reply is written (RFC 1035, 4.1 and 4.2.1).
 ghost use Rattle.std.specs.Prelude.{◌≡◌, ◌≤◌, ◌<◌, ◌^◌, length, take, MatchOption};
 ghost use Rattle.wire_names.specs.Table.{IsTable};
-ghost use Rattle.wire_names.specs.Written.{Puts, IsPut};
+ghost use Rattle.wire_names.specs.Written.{WritesOctets, IsOverwritten};
 ghost use Rattle.dns_message.specs.Message.{message_of};
 ghost use Rattle.dns_message.specs.Puts.{Goes};
 ghost use Rattle.dns_message.specs.Text.{bit, counts_in, flags_text, header_text, sections_text, text, truncated, fit};
@@ -48,7 +48,7 @@ pub fn write_reply(reply: &Reply<'_>, limit: usize, out: &mut [u8]) -> usize
 fn put_truncated(out: &mut [u8], reply: &Reply<'_>) -> usize
     requires least { MIN_LIMIT ≤ length out.old }
     requires most { length out.old ≤ MAX_LIMIT }
-    ensures { IsPut out.old out.new 0 (text (truncated (message_of reply.now))) result }
+    ensures { IsOverwritten out.old out.new 0 (text (truncated (message_of reply.now))) result }
 {
     let counts = [u16::from(reply.question.is_some()), 0, 0, 0];
     let at = put_header(out, reply, true, counts).unwrap();
@@ -59,7 +59,7 @@ fn put_truncated(out: &mut [u8], reply: &Reply<'_>) -> usize
 /// Writes the whole reply to the front of a buffer, as `put` does.
 fn put_message(out: &mut [u8], reply: &Reply<'_>) -> Option<usize>
     requires { length out.old ≤ MAX_LIMIT }
-    ensures { Puts out.old out.new 0 (text (message_of reply.now)) result }
+    ensures { WritesOctets out.old out.new 0 (text (message_of reply.now)) result }
 {
     let counts = counts_of(reply)?;
     let at = put_header(out, reply, false, counts)?;
@@ -101,7 +101,7 @@ fn counts_of(reply: &Reply<'_>) -> Option<[u16; 4]>
 
 /// Writes a reply's header, with this TC and these counts, to the front of a buffer, as `put` does (RFC 1035, 4.1.1).
 fn put_header(out: &mut [u8], reply: &Reply<'_>, tc: bool, counts: [u16; 4]) -> Option<usize>
-    ensures { Puts out.old out.new 0 (header_text (record (message_of reply.now) { tc = tc }) counts) result }
+    ensures { WritesOctets out.old out.new 0 (header_text (record (message_of reply.now) { tc = tc }) counts) result }
 {
     let [questions, answers, authorities, additionals] = counts;
     let at = put_u16(out, 0, reply.head.id)?;

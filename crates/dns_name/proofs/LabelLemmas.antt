@@ -1,10 +1,11 @@
 -- How octets and the labels in them go together.
-use Rattle.std.proofs.Common.{◌≡◌, ℕ, zero, suc, ◌+◌, ◌*◌, ◌<◌, List, [], ◌∷◌, ◌++◌, length, take, drop, map, All, refl, sym, ap, arith}
+use Rattle.std.proofs.Common.{◌≡◌, ℕ, zero, suc, ◌+◌, ◌*◌, ◌<◌, ◌≤◌, Bool, true, false, nat_lt, List, [], ◌∷◌, ◌++◌, length, take, drop, map, All, refl, sym, ap, arith}
 use Rattle.std.specs.Char.{to_ascii_lowercase}
 use Rattle.std.specs.List.{refill}
 use Rattle.std.proofs.lemmas.List.{length-take-le, take-map, length-map, drop_all, append-nil, take_all}
 use Rattle.std.proofs.lemmas.List.Elements.{All-nil, All-cons, All-head, All-tail}
-use Rattle.std.proofs.lemmas.Str.Ascii.{lowercase_is}
+use Rattle.std.proofs.lemmas.Str.Ascii.{lowercase_is, lowercase_ascii}
+use Rattle.std.proofs.lemmas.Bool.Decides.{nat_tests}
 use Rattle.dns_name.specs.Labels.{labels_in, IsWhole}
 use Rattle.dns_name.specs.Name.{wire_of, IsLabel, fold_name}
 
@@ -49,6 +50,38 @@ IsLabel_each zero (suc n ∷ octets) h =
     let len : length (take (suc n) octets) ≡ suc n = length-take-le (suc n) octets (omega arith) in
     All-cons IsLabel _ _ (record { some = omega arith; short = omega arith }) (IsLabel_each (suc n) octets h.1)
 IsLabel_each (suc k) (x ∷ octets) h = IsLabel_each k octets h
+
+-- what is below 256 is so in front and behind
+pub octets_front : (xs ys : List ℕ) → All (λ octet. octet < 256) (xs ++ ys) → All (λ octet. octet < 256) xs
+octets_front [] ys h = All-nil (λ octet. octet < 256)
+octets_front (x ∷ xs) ys h = All-cons (λ octet. octet < 256) x xs (All-head (λ octet. octet < 256) x (xs ++ ys) h) (octets_front xs ys (All-tail (λ octet. octet < 256) x (xs ++ ys) h))
+
+pub octets_back : (xs ys : List ℕ) → All (λ octet. octet < 256) (xs ++ ys) → All (λ octet. octet < 256) ys
+octets_back [] ys h = h
+octets_back (x ∷ xs) ys h = octets_back xs ys (All-tail (λ octet. octet < 256) x (xs ++ ys) h)
+
+-- what is below 256 on the wire is so in the labels
+pub AreOctets-name : (name : List (List ℕ)) → All (λ octet. octet < 256) (wire_of name) → All (All (λ octet. octet < 256)) name
+AreOctets-name [] h = All-nil (All (λ octet. octet < 256))
+AreOctets-name (label ∷ name) h =
+    let behind = All-tail (λ octet. octet < 256) (length label) (label ++ wire_of name) h in
+    All-cons (All (λ octet. octet < 256)) label name (octets_front label (wire_of name) behind) (AreOctets-name name (octets_back label (wire_of name) behind))
+
+lowercase_small-by : (c : ℕ) (b : Bool) → nat_lt c 128 ≡ b → c < 256 → to_ascii_lowercase c < 256
+lowercase_small-by c true t h = let few : c < 128 = grind (arith, nat_tests) in omega (arith, lowercase_ascii c few)
+lowercase_small-by c false t h = let more : 128 ≤ c = grind (arith, nat_tests) in rw ((lowercase_is c).2 (omega arith)) h
+
+lowercase_small : (c : ℕ) → c < 256 → to_ascii_lowercase c < 256
+lowercase_small c h = lowercase_small-by c (nat_lt c 128) refl h
+
+-- folding keeps octets below 256
+pub AreOctets-label : (label : List ℕ) → All (λ octet. octet < 256) label → All (λ octet. octet < 256) (map to_ascii_lowercase label)
+AreOctets-label [] h = h
+AreOctets-label (x ∷ label) h = All-cons (λ octet. octet < 256) (to_ascii_lowercase x) (map to_ascii_lowercase label) (lowercase_small x (All-head (λ octet. octet < 256) x label h)) (AreOctets-label label (All-tail (λ octet. octet < 256) x label h))
+
+pub AreOctets-fold : (name : List (List ℕ)) → All (All (λ octet. octet < 256)) name → All (All (λ octet. octet < 256)) (fold_name name)
+AreOctets-fold [] h = h
+AreOctets-fold (label ∷ name) h = All-cons (All (λ octet. octet < 256)) (map to_ascii_lowercase label) (fold_name name) (AreOctets-label label (All-head (All (λ octet. octet < 256)) label name h)) (AreOctets-fold name (All-tail (All (λ octet. octet < 256)) label name h))
 
 -- the labels behind a label's octets
 pub labels_in-append : (label octets : List ℕ) → labels_in (length label) (label ++ octets) ≡ labels_in 0 octets

@@ -7,8 +7,12 @@ use Rattle.std.specs.Cmp.Lexicographic.{slice_cmp, pointwise}
 use Rattle.std.specs.Ordering.{nat_cmp}
 use Rattle.std.specs.declared.cmp.Ordering.{Ordering}
 
+-- a name: its labels, the leftmost first
+abbrev pub Name : Type 0
+Name = List (List ℕ)
+
 -- a name's octets on the wire: each label behind its length, then a zero octet (RFC 1035, 3.1)
-abbrev pub wire_of : List (List ℕ) → List ℕ
+abbrev pub wire_of : Name → List ℕ
 wire_of [] = 0 ∷ []
 wire_of (label ∷ name) = length label ∷ label ++ wire_of name
 
@@ -18,40 +22,40 @@ pub record IsLabel (label : List ℕ) : Type 0 where
   pub short : length label < 64
 
 -- a name is of such labels, and has at most 255 octets on the wire (RFC 1035, 2.3.4)
-pub record IsName (name : List (List ℕ)) : Type 0 where
+pub record IsName (name : Name) : Type 0 where
   pub labels : All IsLabel name
   pub short : length (wire_of name) ≤ 255
 
 -- a name in lower case: names compare without regard to ASCII case (RFC 4343, 3)
-abbrev pub fold_name : List (List ℕ) → List (List ℕ)
+abbrev pub fold_name : Name → Name
 fold_name name = map (map to_ascii_lowercase) name
 
 -- whether two names are the same but for case (RFC 4343, 3)
-abbrev pub is_same : List (List ℕ) → List (List ℕ) → Bool
+abbrev pub is_same : Name → Name → Bool
 is_same name other = pointwise bytes_eq (fold_name name) (fold_name other)
 
 -- a name, then its ancestors up to the root, the one with most labels first
-abbrev pub self_and_ancestors : List (List ℕ) → List (List (List ℕ))
+abbrev pub self_and_ancestors : Name → List Name
 self_and_ancestors [] = [] ∷ []
 self_and_ancestors (label ∷ name) = (label ∷ name) ∷ self_and_ancestors name
 
 -- the name without its leftmost label; the root has no parent
-abbrev pub parent_of : List (List ℕ) → Option (List (List ℕ))
+abbrev pub parent_of : Name → Option Name
 parent_of [] = None
 parent_of (label ∷ name) = Some name
 
 -- whether a name is under another: it is that name, or an ancestor of it is (RFC 1034, 3.1)
-abbrev pub is_under : List (List ℕ) → List (List ℕ) → Bool
+abbrev pub is_under : Name → Name → Bool
 is_under name other = list_any (λ ancestor. is_same ancestor other) (self_and_ancestors name)
 
 -- the canonical order of names: by their labels from the rightmost on, each folded and compared octet by
 -- octet, a name before those that have more labels to its left (RFC 4034, 6.1)
-abbrev pub canonical_cmp : List (List ℕ) → List (List ℕ) → Ordering
+abbrev pub canonical_cmp : Name → Name → Ordering
 canonical_cmp name other = slice_cmp (slice_cmp nat_cmp) (reverse (fold_name name)) (reverse (fold_name other))
 
 -- the labels that the octets behind the first k begin with, up to a zero octet; none where a length octet
 -- is over 63 or the octets end before
-abbrev pub labels_read : ℕ → List ℕ → Option (List (List ℕ))
+abbrev pub labels_read : ℕ → List ℕ → Option Name
 labels_read k [] = None
 labels_read zero (zero ∷ octets) = Some []
 labels_read zero (suc n ∷ octets) =
@@ -59,7 +63,7 @@ labels_read zero (suc n ∷ octets) =
 labels_read (suc k) (octet ∷ octets) = labels_read k octets
 
 -- the name that the octets begin with, written in full; none where they begin with no name (RFC 1035, 3.1)
-abbrev pub name_in : List ℕ → Option (List (List ℕ))
+abbrev pub name_in : List ℕ → Option Name
 name_in octets =
     option_and_then (λ name. if nat_le (length (wire_of name)) 255 then Some name else None) (labels_read 0 octets)
 

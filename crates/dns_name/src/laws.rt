@@ -36,7 +36,8 @@ pub fn text_is_read_back()
     ensures { (name origin : List (List ℕ)) → IsName name → All (All (λ octet. octet < 256)) name → name_of_text (text_of name) origin ≡ Ok name }
 {}
 
-/// Worked examples of the definitions: the names in the canonical order of RFC 4034, 6.1, and case (RFC 4343, 3).
+/// Worked examples of the definitions: the names in the canonical order of RFC 4034, 6.1; case (RFC 4343, 3); and `@`
+/// alone, which is the origin, beside `\@`, which is a label (RFC 1035, 5.1).
 pub fn examples()
     ensures first { canonical_cmp (codes "example" ∷ []) (codes "a" ∷ codes "example" ∷ []) ≡ Less }
     ensures second { canonical_cmp (codes "a" ∷ codes "example" ∷ []) (codes "yljkjljk" ∷ codes "a" ∷ codes "example" ∷ []) ≡ Less }
@@ -51,5 +52,7 @@ pub fn examples()
     ensures end_of_label { is_under (codes "ab" ∷ codes "c" ∷ []) (codes "b" ∷ codes "c" ∷ []) ≡ false }
     ensures folded { fold_name (codes "Foo" ∷ codes "EXAMPLE" ∷ []) ≡ codes "foo" ∷ codes "example" ∷ [] }
     ensures parent { parent_of (codes "a" ∷ codes "b" ∷ []) ≡ Some (codes "b" ∷ []) }
+    ensures origin { name_of_text (codes "@") (codes "example" ∷ []) ≡ Ok (codes "example" ∷ []) }
+    ensures at_sign { name_of_text (92 ∷ codes "@") (codes "example" ∷ []) ≡ Ok (codes "@" ∷ codes "example" ∷ []) }
     ensures read { name_in (1 ∷ 97 ∷ 0 ∷ 7 ∷ []) ≡ Some (codes "a" ∷ []) }
 {}

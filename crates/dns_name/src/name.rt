@@ -1,5 +1,5 @@
 //! The name itself.
-ghost use Rattle.std.specs.Prelude.{IsTrue, ◌≡◌, ◌+◌, ◌<◌, ◌≤◌, List, [], ◌∷◌, ◌++◌, length, drop, take, IsNone, IfSome, ◌↔◌, Option, option_map, MatchOption};
+ghost use Rattle.std.specs.Prelude.{All, IsTrue, ◌≡◌, ◌+◌, ◌<◌, ◌≤◌, List, [], ◌∷◌, ◌++◌, length, drop, take, IsNone, IfSome, ◌↔◌, Option, option_map, MatchOption};
 ghost use Rattle.dns_name.specs.Labels.{labels_in, IsWhole};
 ghost use Rattle.dns_name.specs.Name.{wire_of, IsName, fold_name, parent_of, name_in, asterisk, is_under, canonical_cmp};
 
@@ -69,8 +69,10 @@ impl Name {
     pub fn wire(&self) -> &[u8]
         ensures octets { result.now ≡ wire_of self.now }
         ensures lawful { IsName self.now }
+        ensures bytes { All (All (λ octet. octet < 256)) self.now }
     {
-        self.octets()
+        let octets = self.octets();
+        octets
     }
 
     /// The same name, spelt the same. It takes no memory.
@@ -84,11 +86,14 @@ impl Name {
 
     /// The name in lower case (RFC 4343, 3).
     pub fn fold(&self) -> Name
-        ensures { result ≡ fold_name self.now }
+        ensures folded { result ≡ fold_name self.now }
+        ensures lawful { IsName result }
+        ensures bytes { All (All (λ octet. octet < 256)) result }
     {
-        let mut folded = self.copy();
-        folded.octets.as_mut_slice().make_ascii_lowercase();
-        folded
+        let mut octets = ArrayVec::new();
+        append(&mut octets, self.wire());
+        octets.as_mut_slice().make_ascii_lowercase();
+        Name { octets }
     }
 
     /// Whether this is the root.

@@ -1,10 +1,17 @@
 -- What octets of a form are: as long as what they are read from, and read again as themselves.
-use Rattle.std.proofs.Common.{◌≡◌, ℕ, zero, suc, ◌-◌, ◌<◌, ◌≤◌, Bool, true, false, cond, ◌&&◌, ◌==◌, nat_lt, nat_le, List, ◌∷◌, ◌++◌, length, take, drop, Option, Some, None, refl, sym, ap, subst, ◌∙◌, arith}
+use Rattle.std.proofs.Common.{◌≡◌, ℕ, zero, suc, ◌-◌, ◌<◌, ◌≤◌, Bool, true, false, cond, ◌&&◌, ◌==◌, nat_lt, nat_le, List, ◌∷◌, ◌++◌, length, take, drop, All, Option, Some, None, refl, sym, ap, subst, ◌∙◌, arith}
 use Rattle.std.proofs.lemmas.Bool.Decides.{nat_tests, Decides-eqb}
 use Rattle.std.proofs.lemmas.List.{length-append, length-drop, length-take-le}
 use Rattle.std.proofs.Math.Seq.{take-append_seam, drop-append_seam}
 use Rattle.dns_name.specs.Name.{wire_of, fold_name, name_in}
-use Rattle.dns_rdata.specs.Data.{names_then, parts, are_strings, data_of}
+use Rattle.std.specs.Option.{option_and_then}
+use Rattle.dns_rdata.specs.declared.layout.Layout.{Layout}
+use Rattle.dns_rdata.specs.declared.layout.Layout.TheVariants.{Fields, Strings}
+use Rattle.dns_rdata.specs.Layout.{layout_of}
+use Rattle.dns_rdata.specs.Data.{names_then, parts, are_strings, data_by, data_of}
+use Rattle.std.proofs.lemmas.List.Elements.{All-append, All-drop, All-take}
+use Rattle.dns_name.proofs.LabelLemmas.{octets_front, AreOctets-label}
+use Rattle.dns_name.proofs.SameLemmas.{wire_of-fold}
 use Rattle.dns_name.proofs.LawLemmas.{name_in-stands, name_in-wire_of, fold-IsName}
 use Rattle.dns_rdata.proofs.NameLemmas.{map_some, and_then_some, cond_some, fold_name-fold_name}
 
@@ -64,10 +71,6 @@ IsRead-parts front names back octets own e =
     let is = rest.2 in
     record { again = cc; len = cc }
 
-IsRead-if : (test : Bool) (reading other : List ℕ → Option (List ℕ)) (octets own : List ℕ) → (reading octets ≡ Some own → IsRead reading octets own) → (other octets ≡ Some own → IsRead other octets own) → cond test (reading octets) (other octets) ≡ Some own → IsRead (λ os. cond test (reading os) (other os)) octets own
-IsRead-if true reading other octets own is isnt e = is e
-IsRead-if false reading other octets own is isnt e = isnt e
-
 abbrev strings : List ℕ → Option (List ℕ)
 strings octets = cond (nat_lt 0 (length octets) && are_strings 0 octets) (Some octets) None
 
@@ -77,25 +80,54 @@ IsRead-strings octets own e =
     let same : octets ≡ own = cc in
     record { again = subst (λ (os : List ℕ). strings os ≡ Some os) same (e ∙ ap Some (sym same)); len = cc }
 
-abbrev none : List ℕ → Option (List ℕ)
-none octets = None
+IsRead-by : (layout : Layout) (octets own : List ℕ) → data_by layout octets ≡ Some own → IsRead (data_by layout) octets own
+IsRead-by (Fields front names back compressed) octets own e = let read = IsRead-parts front names back octets own e in record { again = read.again; len = read.len }
+IsRead-by Strings octets own e = let read = IsRead-strings octets own e in record { again = read.again; len = read.len }
 
-IsRead-none : (octets own : List ℕ) → none octets ≡ Some own → IsRead none octets own
-IsRead-none octets own e = cc
+IsRead-at : (o : Option Layout) (octets own : List ℕ) → option_and_then (λ (layout : Layout). data_by layout octets) o ≡ Some own → IsRead (λ (os : List ℕ). option_and_then (λ (layout : Layout). data_by layout os) o) octets own
+IsRead-at None octets own e = cc
+IsRead-at (Some layout) octets own e = let read = IsRead-by layout octets own e in record { again = read.again; len = read.len }
 
 pub IsRead-data : (rtype : ℕ) (octets own : List ℕ) → data_of rtype octets ≡ Some own → IsRead (data_of rtype) octets own
 unfolding data_of
-IsRead-data rtype octets own e =
-    IsRead-if (rtype == 1) (parts 4 0 0) _ octets own (IsRead-parts 4 0 0 octets own)
-    (IsRead-if (rtype == 2) (parts 0 1 0) _ octets own (IsRead-parts 0 1 0 octets own)
-    (IsRead-if (rtype == 5) (parts 0 1 0) _ octets own (IsRead-parts 0 1 0 octets own)
-    (IsRead-if (rtype == 6) (parts 0 2 20) _ octets own (IsRead-parts 0 2 20 octets own)
-    (IsRead-if (rtype == 12) (parts 0 1 0) _ octets own (IsRead-parts 0 1 0 octets own)
-    (IsRead-if (rtype == 15) (parts 2 1 0) _ octets own (IsRead-parts 2 1 0 octets own)
-    (IsRead-if (rtype == 16) strings _ octets own (IsRead-strings octets own)
-    (IsRead-if (rtype == 28) (parts 16 0 0) _ octets own (IsRead-parts 16 0 0 octets own)
-    (IsRead-if (rtype == 33) (parts 6 1 0) none octets own (IsRead-parts 6 1 0 octets own) (IsRead-none octets own)))))))))
-    e
+IsRead-data rtype octets own e = let read = IsRead-at (layout_of rtype) octets own e in record { again = read.again; len = read.len }
+
+-- data of octets below 256 is of such octets
+octets_append : (xs ys : List ℕ) → All (λ octet. octet < 256) xs → All (λ octet. octet < 256) ys → All (λ octet. octet < 256) (xs ++ ys)
+octets_append xs ys front back = All-append (λ octet. octet < 256) xs ys front back
+
+octets_names : (names back : ℕ) (octets own : List ℕ) → names_then names back octets ≡ Some own → All (λ octet. octet < 256) octets → All (λ octet. octet < 256) own
+octets_names zero back octets own e h =
+    let test = cond_some (length octets == back) (Some octets) own e in
+    let same : octets ≡ own = cc in
+    rw same at h
+octets_names (suc names) back octets own e h =
+    let name = and_then_some _ (name_in octets) own e in
+    let rest = map_some _ (names_then names back (drop (length (wire_of name.0)) octets)) own name.2 in
+    let has = name_in-stands octets name.0 name.1 in
+    let front = octets_front (wire_of name.0) (drop (length (wire_of name.0)) octets) (subst (All (λ octet. octet < 256)) has.1 h) in
+    let behind = octets_names names back (drop (length (wire_of name.0)) octets) rest.0 rest.1 (All-drop (λ octet. octet < 256) (length (wire_of name.0)) octets h) in
+    let folded = subst (All (λ octet. octet < 256)) (sym (wire_of-fold name.0 has.0.labels)) (AreOctets-label (wire_of name.0) front) in
+    subst (All (λ octet. octet < 256)) rest.2 (octets_append (wire_of (fold_name name.0)) rest.0 folded behind)
+
+octets_by : (layout : Layout) (octets own : List ℕ) → data_by layout octets ≡ Some own → All (λ octet. octet < 256) octets → All (λ octet. octet < 256) own
+octets_by (Fields front names back compressed) octets own e h =
+    let test = cond_some (nat_le front (length octets)) _ own e in
+    let rest = map_some _ (names_then names back (drop front octets)) own test.1 in
+    let behind = octets_names names back (drop front octets) rest.0 rest.1 (All-drop (λ octet. octet < 256) front octets h) in
+    subst (All (λ octet. octet < 256)) rest.2 (octets_append (take front octets) rest.0 (All-take (λ octet. octet < 256) front octets h) behind)
+octets_by Strings octets own e h =
+    let test = cond_some (nat_lt 0 (length octets) && are_strings 0 octets) (Some octets) own e in
+    let same : octets ≡ own = cc in
+    rw same at h
+
+octets_at : (o : Option Layout) (octets own : List ℕ) → option_and_then (λ (layout : Layout). data_by layout octets) o ≡ Some own → All (λ octet. octet < 256) octets → All (λ octet. octet < 256) own
+octets_at None octets own e h = cc
+octets_at (Some layout) octets own e h = octets_by layout octets own e h
+
+pub data_octets : (rtype : ℕ) (octets own : List ℕ) → data_of rtype octets ≡ Some own → All (λ octet. octet < 256) octets → All (λ octet. octet < 256) own
+unfolding data_of
+data_octets rtype octets own e h = octets_at (layout_of rtype) octets own e h
 
 -- behind the names stand as many octets as are to
 names_then_long : (names back : ℕ) (octets own : List ℕ) → names_then names back octets ≡ Some own → back ≤ length own
@@ -113,7 +145,7 @@ names_then_long (suc names) back octets own e =
 
 -- an SOA's data ends in 20 octets of numbers
 pub soa_long : (rtype : ℕ) (octets own : List ℕ) → rtype ≡ 6 → data_of rtype octets ≡ Some own → 20 ≤ length own
-unfolding data_of
+unfolding data_of layout_of
 soa_long rtype octets own soa e =
     let formed : parts 0 2 20 octets ≡ Some own = rw soa at e in
     let test = cond_some (nat_le 0 (length octets)) _ own formed in

@@ -10,7 +10,7 @@ use Rattle.std.proofs.lemmas.Cmp.{nat_list_cmp_total}
 use Rattle.std.proofs.lemmas.List.Edits.{length-insert}
 use Rattle.std.proofs.lemmas.List.Elements.{All-nil, All-cons, All-head, All-tail, All-weaker}
 use Rattle.std.proofs.lemmas.Map.Text.{is_eq-slice_cmp}
-use Rattle.dns_rdata.specs.Data.{Data}
+use Rattle.dns_rdata.specs.Data.{Data, IsData}
 use Rattle.dns_rdata.specs.Record.{Record, records_with, owner_of, rtype_of, ttl_of, IsBefore, IsSet, with_data, with_record, has_data}
 
 -- how two data compare by their octets
@@ -135,15 +135,18 @@ records_with-with_data owner rtype ttl d (c ∷ cs) some typed =
     ∙ ap (λ (t : ℕ). with_record (record { owner = owner; rtype = t; ttl = ttl; rdata = d.octets }) (records_with owner rtype ttl (c ∷ cs))) (sym typed)
 
 -- a set with one more is a set
-pub IsSet-with_data : (owner : List (List ℕ)) (rtype ttl : ℕ) (d : Data) (ds : List Data) (at : ℕ) → IsSet owner rtype ttl ds → d.rtype ≡ rtype → length ds < 256 → at ≤ length ds → with_data d ds ≡ insert ds at d → IsSet owner rtype ttl (insert ds at d)
-IsSet-with_data owner rtype ttl d ds at set typed room within put =
+pub IsSet-with_data : (owner : List (List ℕ)) (rtype ttl : ℕ) (d : Data) (ds : List Data) (at : ℕ) → IsSet owner rtype ttl ds → d.rtype ≡ rtype → IsData d → length ds < 256 → at ≤ length ds → with_data d ds ≡ insert ds at d → IsSet owner rtype ttl (insert ds at d)
+IsSet-with_data owner rtype ttl d ds at set typed lawful room within put =
     let more = length-insert ds at d within in
     rw (← put) (record {
+      name = set.name;
+      owner_octets = set.owner_octets;
       folded = set.folded;
       lasts = set.lasts;
       some = omega (arith, ap length put);
       few = omega (arith, ap length put);
       typed = All-with_data (λ (e : Data). e.rtype ≡ rtype) d ds typed set.typed;
+      lawful = All-with_data IsData d ds lawful set.lawful;
       ascending = ascending-with_data d ds set.ascending;
     })
 

@@ -4,3 +4,4 @@ pub mod NameLemmas
 pub mod DataLemmas
 pub mod FoldLemmas
 pub mod LawLemmas
+pub mod LayoutLemmas

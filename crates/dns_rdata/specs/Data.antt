@@ -1,10 +1,12 @@
 -- What a record's data is: which octets have the form of their type, with names written in full (RFC 1035, 3.3 and
 -- 3.4.1; RFC 2782; RFC 3596, 2.2), and what stands in them.
-use Rattle.std.specs.Prelude.{ℕ, zero, suc, ◌-◌, Bool, ◌&&◌, ◌==◌, List, [], ◌∷◌, ◌++◌, length, take, drop, nat_lt, nat_le, if◌then◌else◌, Option, Some, None}
+use Rattle.std.specs.Prelude.{◌≡◌, ℕ, zero, suc, ◌-◌, ◌<◌, ◌≤◌, Bool, ◌&&◌, ◌==◌, List, [], ◌∷◌, ◌++◌, length, take, drop, nat_lt, nat_le, if◌then◌else◌, Option, Some, None, All}
 use Rattle.std.specs.Option.{option_map, option_and_then}
 use Rattle.std.specs.Int.{from_be_bytes, w32}
 use Rattle.dns_name.specs.Name.{wire_of, fold_name, name_in}
-use Rattle.dns_rdata.specs.Numbers.{type_A, type_NS, type_CNAME, type_SOA, type_PTR, type_MX, type_TXT, type_AAAA, type_SRV}
+use Rattle.dns_rdata.specs.declared.layout.Layout.{Layout}
+use Rattle.dns_rdata.specs.declared.layout.Layout.TheVariants.{Fields, Strings}
+use Rattle.dns_rdata.specs.Layout.{layout_of}
 
 -- so many names in full and behind them so many octets: the same octets with the names in lower case; none of any others
 abbrev pub names_then : ℕ → ℕ → List ℕ → Option (List ℕ)
@@ -23,26 +25,27 @@ are_strings k [] = k == 0
 are_strings zero (n ∷ octets) = are_strings n octets
 are_strings (suc k) (octet ∷ octets) = are_strings k octets
 
--- the data octets of a type that these octets spell: themselves, with the names in them in lower case; none where they
--- haven't the type's form, or the type isn't one of those served (RFC 1035, 3.3 and 3.4.1; RFC 2782; RFC 3596, 2.2;
--- RFC 4034, 6.2)
+-- the octets that lie by a layout: themselves, with the names in them in lower case; none where they don't lie so
+-- (RFC 1035, 3.3; RFC 4034, 6.2)
+abbrev pub data_by : Layout → List ℕ → Option (List ℕ)
+data_by (Fields front names back compressed) octets = parts front names back octets
+data_by Strings octets = if nat_lt 0 (length octets) && are_strings 0 octets then Some octets else None
+
+-- the data octets of a type that these octets spell; none where they haven't the type's form, or the type isn't one of
+-- those served (RFC 1035, 3.3 and 3.4.1; RFC 2782; RFC 3596, 2.2)
 unfoldable pub data_of : ℕ → List ℕ → Option (List ℕ)
-data_of rtype octets =
-    if rtype == type_A then parts 4 0 0 octets
-    else if rtype == type_NS then parts 0 1 0 octets
-    else if rtype == type_CNAME then parts 0 1 0 octets
-    else if rtype == type_SOA then parts 0 2 20 octets
-    else if rtype == type_PTR then parts 0 1 0 octets
-    else if rtype == type_MX then parts 2 1 0 octets
-    else if rtype == type_TXT then (if nat_lt 0 (length octets) && are_strings 0 octets then Some octets else None)
-    else if rtype == type_AAAA then parts 16 0 0 octets
-    else if rtype == type_SRV then parts 6 1 0 octets
-    else None
+data_of rtype octets = option_and_then (λ layout. data_by layout octets) (layout_of rtype)
 
 -- a record's data as contracts see it: its type's number and its octets
 pub record Data : Type 0 where
   pub rtype : ℕ
   pub octets : List ℕ
+
+-- what a record's data keeps: the form of its type, names in lower case, and at most 4,096 octets (RFC 1035, 3.3; own)
+pub record IsData (d : Data) : Type 0 where
+  pub form : data_of d.rtype d.octets ≡ Some d.octets
+  pub short : length d.octets ≤ 4096
+  pub bytes : All (λ octet. octet < 256) d.octets
 
 -- the name that an alias stands for (RFC 1035, 3.3.1)
 abbrev pub target_of : List ℕ → Option (List (List ℕ))

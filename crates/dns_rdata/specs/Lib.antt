@@ -1,4 +1,5 @@
 pub mod Numbers
+pub mod Layout
 pub mod Data
 pub mod Record
 pub mod Shown

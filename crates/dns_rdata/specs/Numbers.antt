@@ -1,6 +1,6 @@
 -- The numbers of record types (RFC 1035, 3.2.2 and 3.2.3; RFC 1995, 4; RFC 2782; RFC 3596, 2.1), classes
 -- (RFC 1035, 3.2.4) and reply codes (RFC 1035, 4.1.1).
-use Rattle.std.specs.Prelude.{ℕ}
+use Rattle.std.specs.Prelude.{ℕ, Bool, ◌||◌, ◌&&◌, ◌==◌, nat_le}
 use Rattle.dns_rdata.specs.declared.numbers.Rcode.{Rcode}
 use Rattle.dns_rdata.specs.declared.numbers.Rcode.TheVariants.{NoError, FormErr, ServFail, NxDomain, NotImp, Refused}
 
@@ -50,6 +50,11 @@ type_MAILA = 254
 
 abbrev pub type_ANY : ℕ
 type_ANY = 255
+
+-- whether a type is one that no record of a zone has: 0, OPT, and those kept for what only a message carries, 128 to 255
+-- (RFC 2136, 3.4.1.2; RFC 6891, 6.1.1; RFC 6895, 3.1; own)
+abbrev pub is_metatype : ℕ → Bool
+is_metatype rtype = rtype == 0 || rtype == type_OPT || (nat_le 128 rtype && nat_le rtype 255)
 
 -- the class of the Internet (RFC 1035, 3.2.4)
 abbrev pub class_IN : ℕ

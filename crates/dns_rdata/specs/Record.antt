@@ -1,11 +1,11 @@
 -- Records (RFC 1034, 3.6), and the sets of those that share an owner and a type (RFC 2181, 5).
-use Rattle.std.specs.Prelude.{ℕ, ◌<◌, ◌≤◌, ◌^◌, Bool, true, List, [], ◌∷◌, map, length, if◌then◌else◌, Option, unwrap_or, bytes_eq, ◌≡◌, All}
+use Rattle.std.specs.Prelude.{ℕ, ◌<◌, ◌≤◌, ◌^◌, Bool, true, List, [], ◌∷◌, map, length, if◌then◌else◌, Option, Some, unwrap_or, bytes_eq, ◌≡◌, All}
 use Rattle.std.specs.List.{AllPairs, list_any}
 use Rattle.std.specs.Ordering.{nat_cmp, ordering_then, is_lt, is_eq}
 use Rattle.std.specs.declared.cmp.Ordering.{Ordering}
 use Rattle.std.specs.Cmp.Lexicographic.{slice_cmp}
-use Rattle.dns_name.specs.Name.{canonical_cmp, fold_name}
-use Rattle.dns_rdata.specs.Data.{Data}
+use Rattle.dns_name.specs.Name.{IsName, canonical_cmp, fold_name}
+use Rattle.dns_rdata.specs.Data.{Data, IsData, data_of}
 
 -- a record of class IN: its owner, its type's number, its TTL in seconds, and its data octets, names in full
 pub record Record : Type 0 where
@@ -13,6 +13,16 @@ pub record Record : Type 0 where
   pub rtype : ℕ
   pub ttl : ℕ
   pub rdata : List ℕ
+
+-- a record that a zone may have: its owner a name in lower case, its TTL at most 2^31 - 1, and its data of its type's form
+-- (RFC 1035, 2.3.4 and 3.3; RFC 2181, 8; RFC 4343, 3)
+pub record IsLawful (r : Record) : Type 0 where
+  pub name : IsName r.owner
+  pub owner_octets : All (All (λ octet. octet < 256)) r.owner
+  pub folded : r.owner ≡ fold_name r.owner
+  pub lasts : r.ttl < 2 ^ 31
+  pub form : data_of r.rtype r.rdata ≡ Some r.rdata
+  pub octets : All (λ octet. octet < 256) r.rdata
 
 -- canonical order of records: by owner, then type number, then data octets (RFC 4034, 6.1 and 6.3)
 abbrev pub record_cmp : Record → Record → Ordering
@@ -44,14 +54,17 @@ shown_as owner ttl r = record r { owner = owner; ttl = unwrap_or ttl r.ttl }
 abbrev pub IsBefore : Data → Data → Type 0
 IsBefore c d = is_lt (slice_cmp nat_cmp c.octets d.octets) ≡ true
 
--- what a set of one owner, type and TTL keeps: an owner in lower case, a TTL below 2^31, data of the type in
--- strictly ascending order, at least one and at most 256 (RFC 2181, 5 and 8; RFC 4034, 6.3)
+-- what a set of one owner, type and TTL keeps: an owner that is a name in lower case, a TTL below 2^31, data of the type
+-- in strictly ascending order, at least one and at most 256 (RFC 2181, 5 and 8; RFC 4034, 6.3)
 pub record IsSet (owner : List (List ℕ)) (rtype ttl : ℕ) (ds : List Data) : Type 0 where
+  pub name : IsName owner
+  pub owner_octets : All (All (λ octet. octet < 256)) owner
   pub folded : owner ≡ fold_name owner
   pub lasts : ttl < 2 ^ 31
   pub some : 0 < length ds
   pub few : length ds ≤ 256
   pub typed : All (λ d. d.rtype ≡ rtype) ds
+  pub lawful : All IsData ds
   pub ascending : AllPairs IsBefore ds
 
 -- a set's data with one more, in its place; equal data are one

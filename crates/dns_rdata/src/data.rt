@@ -2,9 +2,10 @@
 ghost use Rattle.std.specs.Prelude.{◌≡◌, ◌<◌, ◌≤◌, ◌⊎◌, ◌↔◌, ◌==◌, ◌&&◌, nat_lt, if◌then◌else◌, length, IfOk, IfSome, Some, None, IsSome};
 ghost use Rattle.std.specs.Result.{IsErrOf};
 ghost use Rattle.std.specs.Option.{option_map};
-ghost use Rattle.dns_rdata.specs.Data.{data_of, are_strings, parts, target_of, number_before_end, serial_of, refresh_of, retry_of, expire_of, minimum_of};
+ghost use Rattle.dns_rdata.specs.Data.{IsData, data_of, are_strings, parts, target_of, number_before_end, serial_of, refresh_of, retry_of, expire_of, minimum_of};
 ghost use Rattle.dns_rdata.specs.Numbers.{type_CNAME, type_SOA};
 
+use crate::layout::{Layout, SOA_NUMBERS};
 use crate::numbers::{RType, Serial, Ttl};
 use dns_name::Name;
 use std::alloc::{AllocError, Global};
@@ -13,9 +14,6 @@ use thiserror::Error;
 
 /// The most octets of a record's data, uncompressed.
 pub const MAX_DATA: usize = 4096;
-
-/// The octets of the five numbers behind the names of an SOA's data (RFC 1035, 3.3.13).
-const SOA_NUMBERS: usize = 20;
 
 /// Why octets are no record's data. The form is judged before the length.
 #[derive(Clone, Copy, Debug, PartialEq, Eq, Error)]
@@ -39,14 +37,13 @@ pub struct RData {
 }
 
 impl Model for RData {
-    ghost use Rattle.std.specs.Prelude.{◌≡◌, ◌≤◌, Some, length};
-    ghost use Rattle.dns_rdata.specs.Data.{Data, data_of};
+    ghost use Rattle.dns_rdata.specs.Data.{Data, IsData};
 
     ghost Value = { Data };
 
     ghost view = { λ a. record { rtype = a.rtype.0; octets = a.octets.items } };
 
-    ghost invariant = { λ a. (data_of a.rtype.0 a.octets.items ≡ Some a.octets.items) × (length a.octets.items ≤ 4096) };
+    ghost invariant = { λ a. IsData (record { rtype = a.rtype.0; octets = a.octets.items }) };
 }
 
 /// The numbers at the end of an SOA's data (RFC 1035, 3.3.13).
@@ -95,7 +92,8 @@ impl RData {
 
     /// The type that the octets have the form of.
     pub fn rtype(&self) -> RType
-        ensures { result.0 ≡ self.now.rtype }
+        ensures rtype { result.0 ≡ self.now.rtype }
+        ensures lawful { IsData self.now }
     {
         self.rtype
     }
@@ -103,14 +101,13 @@ impl RData {
     /// The octets, uncompressed, with the names in them in lower case.
     pub fn octets(&self) -> &[u8]
         ensures octets { result.now ≡ self.now.octets }
-        ensures formed { data_of self.now.rtype result.now ≡ Some result.now }
-        ensures short { length result.now ≤ MAX_DATA }
+        ensures lawful { IsData self.now }
     {
         &self.octets
     }
 
     /// The name that an alias stands for; None of any type but CNAME (RFC 1035, 3.3.1).
-    #[tactic(auto, unfolding(crate::specs::Data::data_of))]
+    #[tactic(auto, unfolding(crate::specs::Data::data_of, crate::specs::Layout::layout_of))]
     pub fn target(&self) -> Option<Name>
         ensures target { result ≡ (if self.now.rtype == type_CNAME then target_of self.now.octets else None) }
         ensures named { self.now.rtype ≡ type_CNAME → IsSome result }
@@ -171,16 +168,17 @@ fn number_before_end(octets: &[u8], before: usize) -> u32
 fn own_data(alloc: Global, rtype: RType, octets: &[u8]) -> Result<Option<Vec<u8>>, AllocError>
     ensures { IfOk result (λ own. option_map (λ v. v.items) own ≡ data_of rtype.0 octets.now) }
 {
-    match rtype {
-        RType::A => fold_parts(alloc, octets, 4, 0, 0),
-        RType::NS | RType::CNAME | RType::PTR => fold_parts(alloc, octets, 0, 1, 0),
-        RType::SOA => fold_parts(alloc, octets, 0, 2, SOA_NUMBERS),
-        RType::MX => fold_parts(alloc, octets, 2, 1, 0),
-        RType::TXT => copy_strings(alloc, octets),
-        RType::AAAA => fold_parts(alloc, octets, 16, 0, 0),
-        // Priority, weight and port, and then the target.
-        RType::SRV => fold_parts(alloc, octets, 6, 1, 0),
-        _ => Ok(None),
+    match rtype.layout() {
+        None => Ok(None),
+        Some(
+            Layout::Fields {
+                front,
+                names,
+                back,
+                ..
+            },
+        ) => fold_parts(alloc, octets, front, names, back),
+        Some(Layout::Strings) => copy_strings(alloc, octets),
     }
 }
 

@@ -1,7 +1,9 @@
 //! Laws of data, records and sets: each is the contract of a function that does nothing.
-ghost use Rattle.std.specs.Prelude.{◌≡◌, ℕ, ◌||◌, List, length, Some, bytes_eq};
+ghost use Rattle.std.specs.Prelude.{◌≡◌, ℕ, false, ◌||◌, List, length, Some, IsSome, bytes_eq};
 ghost use Rattle.std.specs.Cmp.{IsTotalOrder};
 ghost use Rattle.dns_rdata.specs.Data.{data_of};
+ghost use Rattle.dns_rdata.specs.Layout.{layout_of};
+ghost use Rattle.dns_rdata.specs.Numbers.{is_metatype};
 ghost use Rattle.dns_rdata.specs.Record.{Record, record_cmp, with_record, has_data};
 
 /// Data that is read is as long as the octets that it is read from, and is read again as itself (RFC 4034, 6.2).
@@ -10,6 +12,11 @@ pub fn read_again()
         → data_of rtype octets ≡ Some own → data_of rtype own ≡ Some own }
     ensures len { (rtype : ℕ) (octets own : List ℕ)
         → data_of rtype octets ≡ Some own → length own ≡ length octets }
+{}
+
+/// No type that is served is a metatype (RFC 6895, 3.1).
+pub fn served_types()
+    ensures { (rtype : ℕ) → IsSome (layout_of rtype) → is_metatype rtype ≡ false }
 {}
 
 /// The canonical order of records is total (RFC 4034, 6.1 and 6.3).

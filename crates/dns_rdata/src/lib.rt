@@ -7,12 +7,14 @@
 
 mod data;
 mod laws;
+mod layout;
 mod numbers;
 mod rrset;
 mod shown;
 
 pub use data::{DataFault, MAX_DATA, RData, Soa};
-pub use laws::{one_more, read_again, records_in_order};
+pub use laws::{one_more, read_again, records_in_order, served_types};
+pub use layout::Layout;
 pub use numbers::{Class, RType, Rcode, Serial, Ttl};
 pub use rrset::{MAX_SET, RRset, SetFault};
 pub use shown::Shown;

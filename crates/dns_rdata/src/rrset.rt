@@ -2,9 +2,10 @@
 ghost use Rattle.std.specs.Prelude.{◌≡◌, ◌↔◌, ◌<◌, ◌≤◌, ◌^◌, false, not, [], ◌∷◌, length, map, insert, All, IfOk, OnOk, OnErr, MatchResult};
 ghost use Rattle.std.specs.Result.{IsErrOf};
 ghost use Rattle.dns_name.specs.Name.{fold_name};
-ghost use Rattle.dns_rdata.specs.Record.{Record, records_with, owner_of, rtype_of, ttl_of, IsSet, with_data, with_record, has_data};
+ghost use Rattle.dns_rdata.specs.Data.{IsData};
+ghost use Rattle.dns_rdata.specs.Record.{Record, IsLawful, records_with, owner_of, rtype_of, ttl_of, IsSet, with_data, with_record, has_data};
 
-use crate::data::RData;
+use crate::data::{MAX_DATA, RData};
 use crate::numbers::{RType, Ttl};
 use dns_name::Name;
 use std::alloc::{AllocError, Global};
@@ -96,6 +97,8 @@ impl RRset {
         ensures records { self.now
             ≡ records_with (owner_of self.now) (rtype_of self.now) (ttl_of self.now) result.now }
         ensures lawful { IsSet (owner_of self.now) (rtype_of self.now) (ttl_of self.now) result.now }
+        ensures each { All IsLawful self.now }
+        ensures short { All (λ r. length r.rdata ≤ MAX_DATA) self.now }
     {
         self.rdata.as_slice()
     }
@@ -111,6 +114,9 @@ impl RRset {
         ensures fresh { IfOk result (λ is_new. is_new ≡ not (has_data self.old rdata.octets)) }
         ensures limit { IsErrOf result SetFault.Limit
             ↔ ((length self.old ≡ MAX_SET) × (has_data self.old rdata.octets ≡ false)) }
+        // Data that is there already wants no memory.
+        ensures no_memory { IsErrOf result SetFault.NoMemory
+            → (has_data self.old rdata.octets ≡ false) × (length self.old < MAX_SET) }
         ensures err { OnErr result (self.new ≡ self.old) }
     {
         let Err(place) = place_of(&self.rdata, &rdata) else {
@@ -136,11 +142,13 @@ impl RRset {
 
 /// Where data stands among data in order; where it isn't there, the place that keeps them in order.
 fn place_of(sorted: &[RData], rdata: &RData) -> Result<usize, usize>
-    ensures { MatchResult result (λ at. with_data rdata.now sorted.now ≡ sorted.now)
+    ensures lawful { IsData rdata.now }
+    ensures place { MatchResult result (λ at. with_data rdata.now sorted.now ≡ sorted.now)
         (λ at. (at ≤ length sorted.now) × (with_data rdata.now sorted.now ≡ insert sorted.now at rdata.now)) }
 {
+    let octets = rdata.octets();
     for (at, other) in sorted.iter().enumerate() {
-        match rdata.octets().cmp(other.octets()) {
+        match octets.cmp(other.octets()) {
             Ordering::Less => return Err(at),
             Ordering::Equal => return Ok(at),
             Ordering::Greater => {}

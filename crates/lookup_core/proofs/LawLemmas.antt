@@ -209,7 +209,7 @@ single_by : (zone : List Record) (owner : List (List ℕ)) (rs : List Record) �
 single_by zone owner [] is of = omega arith
 single_by zone owner (r ∷ rs) is of =
     let passes : is_of owner type_CNAME r ≡ true = subst (All (λ x. is_of owner type_CNAME x ≡ true)) (sym of) (filter_passes (is_of owner type_CNAME) zone) 0 r (omega arith) in
-    let alone : is_alone zone r ≡ true = subst (All (λ x. is_alone zone x ≡ true)) (sym of) (All-filter (is_of owner type_CNAME) (λ x. is_alone zone x ≡ true) zone is.aliases_alone) 0 r (omega arith) in
+    let alone : is_alone zone r ≡ true = subst (All (λ x. is_alone zone x ≡ true)) (sym of) (All-filter (is_of owner type_CNAME) (λ x. is_alone zone x ≡ true) zone is.rules.aliases_alone) 0 r (omega arith) in
     let same : is_same r.owner owner ≡ true = and_left (is_same r.owner owner) (r.rtype == type_CNAME) passes in
     let one : length (rrsets_of zone r.owner) ≡ 1 = eqb-true _ _ (unless (r.rtype == type_CNAME) (length (rrsets_of zone r.owner) == 1) alone (and_right (is_same r.owner owner) (r.rtype == type_CNAME) passes)) in
     let fewer : length (rrset_of zone owner type_CNAME) ≤ length (rrsets_of zone r.owner) =

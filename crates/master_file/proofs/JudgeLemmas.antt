@@ -1,19 +1,18 @@
 -- The first line that shows a fault, by what the records read hold when no line does.
-use Rattle.std.proofs.Common.{◌≡◌, refl, sym, ap, ◌∙◌, ℕ, ◌+◌, ◌<◌, ◌≤◌, Bool, true, false, cond, not, ◌&&◌, ◌||◌, ◌==◌, nat_lt, List, [], ◌∷◌, length, arith, true≢false, Option, Some, None}
-use Rattle.std.specs.List.{filter, list_any}
+use Rattle.std.proofs.Common.{◌≡◌, refl, sym, ap, ◌∙◌, ℕ, ◌+◌, ◌≤◌, Bool, true, false, cond, ◌&&◌, ◌||◌, ◌==◌, nat_lt, List, [], ◌∷◌, length, arith, true≢false, Option, Some, None}
+use Rattle.std.specs.List.{filter}
 use Rattle.std.specs.Ordering.{is_lt}
-use Rattle.std.specs.declared.cmp.Ordering.TheVariants.{Equal}
 use Rattle.std.proofs.lemmas.Bool.Decides.{Decides-eqb, nat_tests}
-use Rattle.dns_name.specs.Name.{is_same, is_under}
+use Rattle.dns_name.specs.Name.{is_same}
 use Rattle.dns_name.specs.Order.{is_same_equiv}
-use Rattle.dns_rdata.specs.Numbers.{type_NS, type_CNAME, type_SOA}
+use Rattle.dns_rdata.specs.Numbers.{type_SOA}
 use Rattle.dns_rdata.specs.Record.{Record, record_cmp}
-use Rattle.zone_tree.specs.Zone.{stands_at, is_of, rrset_of, rrsets_of, soa_of, is_wild}
+use Rattle.zone_tree.specs.Zone.{is_of, rrset_of, soa_of}
 use Rattle.zone_tree.proofs.Rising.{Rises}
 use Rattle.zone_tree.proofs.SetLemmas.{record_total}
 use Rattle.master_file.specs.declared.placed.Placed.{Placed}
-use Rattle.master_file.specs.Gathered.{record_in, with_one, with_all, first_line, is_new, is_too_many, is_second_soa, is_beside_alias, is_conflict, outside_line}
-use Rattle.master_file.proofs.InsertLemmas.{count_inserted, rises_inserted, some_tied}
+use Rattle.master_file.specs.Gathered.{record_in, with_one, with_all, first_line, is_new, is_too_many, is_second_soa}
+use Rattle.master_file.proofs.InsertLemmas.{count_inserted, rises_inserted}
 use Rattle.master_file.proofs.KeptLemmas.{one}
 use Rattle.master_file.proofs.NotesLemmas.{same_set}
 

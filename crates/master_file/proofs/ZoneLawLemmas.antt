@@ -3,14 +3,14 @@ use Rattle.std.proofs.Common.{◌≡◌, ℕ, true, ◌==◌, List, [], ◌∷�
 use Rattle.std.proofs.lemmas.List.{append_assoc}
 use Rattle.std.proofs.lemmas.List.Elements.{All-head, All-tail, All-filter, All-append}
 use Rattle.dns_name.specs.Text.{text_of}
-use Rattle.dns_rdata.specs.Record.{Record}
+use Rattle.dns_rdata.specs.Record.{Record, IsLawful}
 use Rattle.zone_tree.specs.Zone.{soa_of}
 use Rattle.zone_lexing.specs.Spelling.{spell, spell_line, spell_more, are_spelt}
 use Rattle.record_text.specs.Text.{words_of, text_of_words}
 use Rattle.zone_lexing.specs.Word.{Written}
 use Rattle.zone_lexing.specs.Word.Written.{Plain, Quoted, Unclosed}
 use Rattle.record_text.specs.Mnemonics.{type_word}
-use Rattle.master_file.specs.ZoneText.{record_line, is_other, soa_first, line_words, IsLawful}
+use Rattle.master_file.specs.ZoneText.{record_line, is_other, soa_first, line_words}
 use Rattle.record_text.proofs.SpeltLemmas.{AreSpelt, first_spelt, name_spelt, decimal_spelt, type_spelt, words_spelt}
 
 -- a record's line is its words with a space between
@@ -48,5 +48,5 @@ pub lines_spelt : (rs : List Record) → All IsLawful rs → are_spelt (map line
 lines_spelt [] h = refl
 lines_spelt (r ∷ rs) h = more_spelt (line_words r) (map line_words rs) (line_spelt r (All-head IsLawful r rs h)) (lines_spelt rs (All-tail IsLawful r rs h))
 
-pub lawful_first : (zone : List Record) → All IsLawful zone → All IsLawful (soa_first zone)
-lawful_first zone h = All-append IsLawful (soa_of zone) (filter is_other zone) (All-filter (λ (r : Record). r.rtype == 6) IsLawful zone h) (All-filter is_other IsLawful zone h)
+pub each_first : (P : Record → Type 0) (zone : List Record) → All P zone → All P (soa_first zone)
+each_first P zone h = All-append P (soa_of zone) (filter is_other zone) (All-filter (λ (r : Record). r.rtype == 6) P zone h) (All-filter is_other P zone h)

@@ -1,7 +1,7 @@
 -- A zone's text as records in order, up to its first fault (RFC 1035, 5.1; RFC 2308, 4).
 use Rattle.std.specs.Prelude.{◌≡◌, ◌<◌, ◌^◌, ℕ, Bool, true, false, List, [], ◌∷◌, ◌++◌, codes, bytes_eq, if◌then◌else◌, Option, Some, None, unwrap_or, IfSome, Result, Ok, Err, ok_or}
 use Rattle.std.specs.Option.{option_or}
-use Rattle.dns_name.specs.Name.{fold_name}
+use Rattle.dns_name.specs.Name.{Name, fold_name}
 use Rattle.dns_rdata.specs.declared.numbers.Ttl.{Ttl}
 use Rattle.record_text.specs.declared.cause.Cause.{Cause}
 use Rattle.record_text.specs.declared.cause.Cause.TheVariants.{Directive, BadData, Unclosed, NoTtl, NoOwner, NoMemory}
@@ -46,7 +46,7 @@ directive_of false words = None
 
 -- the owner of a record, and the words behind it: a line that begins with a blank takes the owner of the record before
 -- (RFC 1035, 5.1). Owners are in lower case
-abbrev pub owned_of : Context → Bool → List Written → Result (List (List ℕ) × List Written) Cause
+abbrev pub owned_of : Context → Bool → List Written → Result (Name × List Written) Cause
 owned_of context true words = on_ok (λ owner. (owner, words)) (ok_or context.owner NoOwner)
 owned_of context false [] = Err BadData
 owned_of context false (word ∷ words) = on_ok (λ owner. (fold_name owner, words)) (owner_of context.origin word)
@@ -56,7 +56,7 @@ abbrev pub ttl_in : Context → Option Ttl → Result Ttl Cause
 ttl_in context own = ok_or (option_or own (option_or context.default_ttl context.ttl)) NoTtl
 
 -- the record of an owner that words stand for: TTL, class and type, then its data
-abbrev pub placed_of : Context → ℕ → List (List ℕ) → List Written → Result Placed Cause
+abbrev pub placed_of : Context → ℕ → Name → List Written → Result Placed Cause
 placed_of context line owner words =
     and_then (front_of words) (λ front. and_then (ttl_in context front.ttl) (λ ttl.
     on_ok (λ octets. record { line = line; owner = owner; ttl = ttl; rdata = record { rtype = front.rtype; octets = octets } })
@@ -118,11 +118,11 @@ records_from context (entry ∷ entries) = elim (judged context entry.line entry
 ]
 
 -- what is in force where a text begins
-abbrev pub start : List (List ℕ) → Context
+abbrev pub start : Name → Context
 start origin = record { origin = origin; default_ttl = None; owner = None; ttl = None }
 
 -- the records of a zone's text, in order, up to its first fault (RFC 1035, 5.1)
-abbrev pub records_of : List (List ℕ) → List ℕ → Read
+abbrev pub records_of : Name → List ℕ → Read
 records_of origin text = records_from (start origin) (entries_of text)
 
 -- an entry stands before the others, with these words

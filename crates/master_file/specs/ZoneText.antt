@@ -1,8 +1,6 @@
 -- A zone as text, one record a line (RFC 1035, 5.1).
-use Rattle.std.specs.Prelude.{ℕ, ◌+◌, ◌<◌, ◌≤◌, ◌^◌, ◌≡◌, Bool, not, ◌==◌, List, [], ◌∷◌, ◌++◌, codes, decimal, length, filter, flat_map, Some, All}
-use Rattle.dns_name.specs.Name.{IsName, fold_name}
+use Rattle.std.specs.Prelude.{ℕ, ◌+◌, Bool, not, ◌==◌, List, [], ◌∷◌, ◌++◌, codes, decimal, filter, flat_map}
 use Rattle.dns_name.specs.Text.{text_of}
-use Rattle.dns_rdata.specs.Data.{data_of}
 use Rattle.dns_rdata.specs.Numbers.{type_SOA}
 use Rattle.dns_rdata.specs.Record.{Record}
 use Rattle.zone_tree.specs.Zone.{soa_of}
@@ -33,17 +31,6 @@ zone_text zone = flat_map record_line (soa_first zone)
 -- the words of a record's line
 abbrev pub line_words : Record → List Written
 line_words r = Plain (text_of r.owner) ∷ Plain (decimal r.ttl) ∷ Plain (codes "IN") ∷ Plain (type_word r.rtype) ∷ words_of r.rtype r.rdata
-
--- a record that a zone may have: its owner is a name in lower case, its TTL at most 2^31 - 1, and its data, at most 4096 octets, of its
--- type's form (RFC 1035, 2.3.4 and 3.3; RFC 2181, 8; own)
-pub record IsLawful (r : Record) : Type 0 where
-  pub name : IsName r.owner
-  pub owner_octets : All (All (λ octet. octet < 256)) r.owner
-  pub folded : r.owner ≡ fold_name r.owner
-  pub lasts : r.ttl < 2 ^ 31
-  pub form : data_of r.rtype r.rdata ≡ Some r.rdata
-  pub short : length r.rdata ≤ 4096
-  pub octets : All (λ octet. octet < 256) r.rdata
 
 -- a record on a line
 abbrev pub placed_at : ℕ → Record → Placed

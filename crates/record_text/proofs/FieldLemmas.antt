@@ -1,5 +1,5 @@
 -- Fields that are written are read as the same octets.
-use Rattle.std.proofs.Common.{◌≡◌, ℕ, zero, suc, ◌+◌, ◌*◌, ◌/◌, ◌%◌, ◌^◌, ◌<◌, ◌≤◌, inl, Bool, true, false, cond, ◌||◌, ◌==◌, nat_lt, bytes_eq, List, [], ◌∷◌, ◌++◌, flat_map, length, drop, take, get_or, All, Option, Some, None, Result, Ok, decimal, refl, sym, ap, ◌∙◌, arith}
+use Rattle.std.proofs.Common.{◌≡◌, ℕ, zero, suc, ◌+◌, ◌*◌, ◌/◌, ◌%◌, ◌^◌, ◌<◌, ◌≤◌, inl, Bool, true, false, cond, ◌||◌, ◌==◌, nat_lt, bytes_eq, List, [], ◌∷◌, ◌++◌, flat_map, length, drop, take, get_or, All, Option, Some, None, Result, Ok, Err, decimal, refl, sym, ap, ◌∙◌, arith}
 use Rattle.std.specs.Fmt.{digits, digits_onto, digit_glyph}
 use Rattle.std.specs.Int.{from_be_bytes, to_be_bytes, w16, w32}
 use Rattle.std.specs.Net.Addr.{segments_of, octets_of}
@@ -19,6 +19,8 @@ use Rattle.dns_name.proofs.RoundLemmas.{name_of_text-text_of}
 use Rattle.record_text.specs.declared.data.Field.{Field}
 use Rattle.record_text.specs.declared.data.Field.TheVariants as field
 use Rattle.record_text.specs.declared.cause.Cause.{Cause}
+use Rattle.record_text.specs.declared.cause.Cause.TheVariants.{BadName}
+use Rattle.dns_name.specs.declared.text.NameFault.{NameFault}
 use Rattle.record_text.specs.Data.{field_of, fields_of}
 use Rattle.record_text.specs.NameWord.{name_named}
 use Rattle.record_text.specs.Text.{group_text, groups_text, word_at, words_at}
@@ -133,37 +135,23 @@ long_front a b c d rest h =
       read = λ origin. ap (on_ok (to_be_bytes w32)) number ∙ ap Ok back;
     }
 
--- a label's text doesn't begin with `@`
-no_at : (c : ℕ) → is_special c ≡ false → (c == 64) ≡ false
-no_at c e = grind (arith, nat_tests)
-
-not_at_if : (outside special : Bool) (c : ℕ) (more : List ℕ) → is_special c ≡ special → bytes_eq (cond outside (92 ∷ digits_of c) (cond special (92 ∷ c ∷ []) (c ∷ [])) ++ more) (64 ∷ []) ≡ false
-not_at_if true special c more e = refl
-not_at_if false true c more e = refl
-not_at_if false false c more e = let no = no_at c e in rw no refl
-
-not_at : (name : List (List ℕ)) → IsName name → bytes_eq (text_of name) (64 ∷ []) ≡ false
-not_at [] h = refl
-not_at ([] ∷ name) h = let head = All-head IsLabel [] name h.labels in absurd (omega (arith, head.some))
-not_at ((x ∷ label) ∷ name) h =
-    let more = flat_map octet_text label in
-    let rest = flat_map label_text name in
-    ap (λ (os : List ℕ). bytes_eq (os ++ rest) (64 ∷ [])) (append_assoc (octet_text x) more (46 ∷ []))
-    ∙ ap (λ (os : List ℕ). bytes_eq os (64 ∷ [])) (append_assoc (octet_text x) (more ++ 46 ∷ []) rest)
-    ∙ not_at_if (nat_lt x 33 || nat_lt 126 x) (is_special x) x ((more ++ 46 ∷ []) ++ rest) refl
-
 -- a name
+pub name_read : (name origin : List (List ℕ)) → IsName name → All (All (λ c. c < 256)) name → name_named (text_of name) origin ≡ Ok name
+unfolding name_named
+name_read name origin is octets =
+    let told : Result (List (List ℕ)) NameFault → Result (List (List ℕ)) Cause = λ r. elim r [ Ok n ↦ Ok n | Err fault ↦ Err BadName ] in
+    ap told (name_of_text-text_of name origin is octets)
+
 pub name_front : (name : List (List ℕ)) (rest : List ℕ) → IsName name → All (All (λ c. c < 256)) name → HasFront field.Name (wire_of name ++ rest) rest
-unfolding word_at name_named
+unfolding word_at
 name_front name rest is octets =
     let stands = name_in-wire_of name rest is in
-    let no = not_at name is in
     record {
       front = wire_of name;
       word = text_of name;
       is = refl;
       at = rw stands refl;
-      read = λ origin. let read = name_of_text-text_of name origin is octets in rw (no, read) refl;
+      read = λ origin. ap (on_ok wire_of) (name_read name origin is octets);
     }
 
 -- a group has four digits at most, which are read as it

@@ -5,6 +5,7 @@ use Rattle.std.proofs.lemmas.List.{nil_from_length, length-drop}
 use Rattle.std.proofs.lemmas.List.Elements.{All-nil, All-cons, All-head, All-tail, All-drop}
 use Rattle.dns_name.specs.Name.{wire_of, name_in}
 use Rattle.dns_name.proofs.LawLemmas.{name_in-stands}
+use Rattle.dns_rdata.specs.Layout.{layout_of}
 use Rattle.dns_rdata.specs.Data.{names_then, parts, are_strings, data_of}
 use Rattle.dns_rdata.proofs.NameLemmas.{map_some, and_then_some, cond_some}
 use Rattle.record_text.specs.declared.data.Field.{Field}
@@ -149,35 +150,35 @@ abbrev IsBack : List (List ℕ) → ℕ → Type 0
 IsBack origin rtype = (octets : List ℕ) → data_of rtype octets ≡ Some octets → AreOctets octets → octets_of_words rtype origin (words_of rtype octets) ≡ Ok octets
 
 address_back : (origin : List (List ℕ)) → IsBack origin 1
-unfolding data_of octets_of_words words_of form_of
+unfolding data_of layout_of octets_of_words words_of form_of
 address_back origin octets e all = fields_back origin (field.Address ∷ []) octets (address_has octets octets e all)
 
 ns_back : (origin : List (List ℕ)) → IsBack origin 2
-unfolding data_of octets_of_words words_of form_of
+unfolding data_of layout_of octets_of_words words_of form_of
 ns_back origin octets e all = fields_back origin (field.Name ∷ []) octets (name_has octets octets e all)
 
 cname_back : (origin : List (List ℕ)) → IsBack origin 5
-unfolding data_of octets_of_words words_of form_of
+unfolding data_of layout_of octets_of_words words_of form_of
 cname_back origin octets e all = fields_back origin (field.Name ∷ []) octets (name_has octets octets e all)
 
 soa_back : (origin : List (List ℕ)) → IsBack origin 6
-unfolding data_of octets_of_words words_of form_of
+unfolding data_of layout_of octets_of_words words_of form_of
 soa_back origin octets e all = fields_back origin (field.Name ∷ field.Name ∷ longs 5) octets (soa_has octets octets e all)
 
 ptr_back : (origin : List (List ℕ)) → IsBack origin 12
-unfolding data_of octets_of_words words_of form_of
+unfolding data_of layout_of octets_of_words words_of form_of
 ptr_back origin octets e all = fields_back origin (field.Name ∷ []) octets (name_has octets octets e all)
 
 mx_back : (origin : List (List ℕ)) → IsBack origin 15
-unfolding data_of octets_of_words words_of form_of
+unfolding data_of layout_of octets_of_words words_of form_of
 mx_back origin octets e all = fields_back origin (field.Short ∷ field.Name ∷ []) octets (mx_has octets octets e all)
 
 aaaa_back : (origin : List (List ℕ)) → IsBack origin 28
-unfolding data_of octets_of_words words_of form_of
+unfolding data_of layout_of octets_of_words words_of form_of
 aaaa_back origin octets e all = fields_back origin (field.Address6 ∷ []) octets (address6_has octets octets e all)
 
 srv_back : (origin : List (List ℕ)) → IsBack origin 33
-unfolding data_of octets_of_words words_of form_of
+unfolding data_of layout_of octets_of_words words_of form_of
 srv_back origin octets e all = fields_back origin (field.Short ∷ field.Short ∷ field.Short ∷ field.Name ∷ []) octets (srv_has octets octets e all)
 
 second_true : (a b : Bool) → (a && b) ≡ true → b ≡ true
@@ -190,7 +191,7 @@ some_strings [] h = absurd (omega arith)
 some_strings (n ∷ octets) h = refl
 
 txt_back : (origin : List (List ℕ)) → IsBack origin 16
-unfolding data_of octets_of_words words_of
+unfolding data_of layout_of octets_of_words words_of
 txt_back origin octets e all =
     let test = cond_some (nat_lt 0 (length octets) && are_strings 0 octets) (Some octets) octets e in
     let some : 0 < length octets = let t = test.0 in grind (arith, nat_tests) in
@@ -198,7 +199,7 @@ txt_back origin octets e all =
 
 -- another type has no data
 no_data : (rtype : ℕ) (octets own : List ℕ) → (rtype == 1) ≡ false → (rtype == 2) ≡ false → (rtype == 5) ≡ false → (rtype == 6) ≡ false → (rtype == 12) ≡ false → (rtype == 15) ≡ false → (rtype == 16) ≡ false → (rtype == 28) ≡ false → (rtype == 33) ≡ false → data_of rtype octets ≡ Some own → ⊥
-unfolding data_of
+unfolding data_of layout_of
 no_data rtype octets own a b c d e f g h i is = let none = rw (a, b, c, d, e, f, g, h, i) at is in cc
 
 is_type : (rtype n : ℕ) → (rtype == n) ≡ true → rtype ≡ n

@@ -11,6 +11,7 @@ use Rattle.dns_name.specs.Name.{IsName, IsLabel}
 use Rattle.dns_name.specs.Text.{digits_of, is_special, octet_text, label_text, text_of}
 use Rattle.dns_name.proofs.RoundLemmas.{name_of_text-text_of}
 use Rattle.dns_rdata.specs.Data.{data_of}
+use Rattle.dns_rdata.specs.Layout.{layout_of}
 use Rattle.dns_rdata.specs.declared.numbers.Ttl.{Ttl}
 use Rattle.zone_lexing.specs.Items.{begins_with}
 use Rattle.zone_lexing.specs.Word.{Written}
@@ -25,18 +26,11 @@ use Rattle.record_text.specs.NameWord.{name_named, owner_of}
 use Rattle.record_text.specs.Number.{are_digits}
 use Rattle.record_text.specs.Reading.{on_ok, and_then}
 use Rattle.record_text.proofs.BackLemmas.{number_back}
+use Rattle.record_text.proofs.FieldLemmas.{name_read}
 
--- a label's text doesn't begin with `@` or `$`
-no_at : (c : ℕ) → is_special c ≡ false → (c == 64) ≡ false
-no_at c e = grind (arith, nat_tests)
-
+-- a label's text doesn't begin with `$`
 no_dollar : (c : ℕ) → is_special c ≡ false → (c == 36) ≡ false
 no_dollar c e = grind (arith, nat_tests)
-
-at_if : (outside special : Bool) (c : ℕ) (more : List ℕ) → is_special c ≡ special → bytes_eq (cond outside (92 ∷ digits_of c) (cond special (92 ∷ c ∷ []) (c ∷ [])) ++ more) (64 ∷ []) ≡ false
-at_if true special c more e = refl
-at_if false true c more e = refl
-at_if false false c more e = let other = no_at c e in rw other refl
 
 dollar_if : (outside special : Bool) (c : ℕ) (more : List ℕ) → is_special c ≡ special → begins_with 36 (cond outside (92 ∷ digits_of c) (cond special (92 ∷ c ∷ []) (c ∷ [])) ++ more) ≡ false
 dollar_if true special c more e = refl
@@ -49,13 +43,6 @@ cut x label name =
     let rest = flat_map label_text name in
     ap (λ (os : List ℕ). os ++ rest) (append_assoc (octet_text x) more (46 ∷ [])) ∙ append_assoc (octet_text x) (more ++ 46 ∷ []) rest
 
-not_at : (name : List (List ℕ)) → IsName name → bytes_eq (text_of name) (64 ∷ []) ≡ false
-not_at [] h = refl
-not_at ([] ∷ name) h = let head = All-head IsLabel [] name h.labels in absurd (omega (arith, head.some))
-not_at ((x ∷ label) ∷ name) h =
-    ap (λ (os : List ℕ). bytes_eq os (64 ∷ [])) (cut x label name)
-    ∙ at_if (nat_lt x 33 || nat_lt 126 x) (is_special x) x ((flat_map octet_text label ++ 46 ∷ []) ++ flat_map label_text name) refl
-
 pub not_directive : (name : List (List ℕ)) → begins_with 36 (text_of name) ≡ false
 not_directive [] = refl
 not_directive ([] ∷ name) = refl
@@ -63,8 +50,7 @@ not_directive ((x ∷ label) ∷ name) =
     ap (begins_with 36) (cut x label name) ∙ dollar_if (nat_lt x 33 || nat_lt 126 x) (is_special x) x ((flat_map octet_text label ++ 46 ∷ []) ++ flat_map label_text name) refl
 
 pub owner_is : (name origin : List (List ℕ)) → IsName name → All (All (λ c. c < 256)) name → owner_of origin (Plain (text_of name)) ≡ Ok name
-unfolding name_named
-owner_is name origin is octets = let other = not_at name is in let read = name_of_text-text_of name origin is octets in rw (other, read) refl
+owner_is name origin is octets = name_read name origin is octets
 
 -- the TTL
 a_decimal : (c : ℕ) → digit_value c < 10 → is_ascii_digit c ≡ true
@@ -100,7 +86,7 @@ at_type rtype n h e =
     ap (λ (t : ℕ). type_named (type_word t)) same ∙ h ∙ ap (λ (t : ℕ). Some t) (sym same)
 
 no_data : (rtype : ℕ) (octets own : List ℕ) → (rtype == 1) ≡ false → (rtype == 2) ≡ false → (rtype == 5) ≡ false → (rtype == 6) ≡ false → (rtype == 12) ≡ false → (rtype == 15) ≡ false → (rtype == 16) ≡ false → (rtype == 28) ≡ false → (rtype == 33) ≡ false → data_of rtype octets ≡ Some own → ⊥
-unfolding data_of
+unfolding data_of layout_of
 no_data rtype octets own a b c d e f g h i is = let none = rw (a, b, c, d, e, f, g, h, i) at is in cc
 
 if_type : (P : Type 0) (b : Bool) → (b ≡ true → P) → (b ≡ false → P) → P

@@ -13,6 +13,7 @@ use Rattle.std.proofs.lemmas.List.Elements.{All-nil, All-cons, All-head, All-tai
 use Rattle.dns_name.specs.Name.{wire_of, name_in}
 use Rattle.dns_name.specs.Text.{digits_of, is_special, octet_text, label_text, text_of}
 use Rattle.dns_rdata.specs.Data.{data_of}
+use Rattle.dns_rdata.specs.Layout.{layout_of}
 use Rattle.zone_lexing.specs.Spelling.{is_run, is_spelt}
 use Rattle.zone_lexing.specs.Word.{Written}
 use Rattle.zone_lexing.specs.Word.Written.{Plain, Quoted}
@@ -237,7 +238,7 @@ at_type : (rtype n : ℕ) → is_spelt (Plain (type_word n)) ≡ true → (rtype
 at_type rtype n h e = ap (λ (t : ℕ). is_spelt (Plain (type_word t))) ((Decides-eqb rtype n).0 e) ∙ h
 
 no_data : (rtype : ℕ) (octets own : List ℕ) → (rtype == 1) ≡ false → (rtype == 2) ≡ false → (rtype == 5) ≡ false → (rtype == 6) ≡ false → (rtype == 12) ≡ false → (rtype == 15) ≡ false → (rtype == 16) ≡ false → (rtype == 28) ≡ false → (rtype == 33) ≡ false → data_of rtype octets ≡ Some own → ⊥
-unfolding data_of
+unfolding data_of layout_of
 no_data rtype octets own a b c d e f g h i is = let none = rw (a, b, c, d, e, f, g, h, i) at is in cc
 
 if_type : (P : Type 0) (b : Bool) → (b ≡ true → P) → (b ≡ false → P) → P

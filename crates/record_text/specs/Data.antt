@@ -1,7 +1,7 @@
 -- The data of a record as words (RFC 1035, 3.3, 3.4.1 and 5.1; RFC 2782; RFC 3596).
 use Rattle.std.specs.Prelude.{ℕ, ◌≡◌, ◌⊎◌, List, [], ◌∷◌, ◌++◌, length, nat_lt, ◌==◌, if◌then◌else◌, Option, Some, None, Result, Ok, Err}
 use Rattle.std.specs.Int.{to_be_bytes, w16, w32}
-use Rattle.dns_name.specs.Name.{wire_of}
+use Rattle.dns_name.specs.Name.{Name, wire_of}
 use Rattle.dns_rdata.specs.Numbers.{type_A, type_NS, type_CNAME, type_SOA, type_PTR, type_MX, type_TXT, type_AAAA, type_SRV}
 use Rattle.dns_rdata.specs.Data.{data_of}
 use Rattle.record_text.specs.declared.cause.Cause.{Cause}
@@ -18,7 +18,7 @@ use Rattle.zone_lexing.specs.Word.Written.{Plain, Quoted, Unclosed}
 use Rattle.record_text.specs.declared.cause.Cause.TheVariants as cause
 
 -- the octets that one word stands for as a field of data: names in full, numbers with the highest octet first
-abbrev pub field_of : List (List ℕ) → Field → Written → Result (List ℕ) Cause
+abbrev pub field_of : Name → Field → Written → Result (List ℕ) Cause
 field_of origin field.Address word = address_of word
 field_of origin field.Address6 word = address6_of word
 field_of origin field.Name word = on_ok wire_of (name_of origin word)
@@ -32,7 +32,7 @@ surplus_of (Quoted text) = BadData
 surplus_of Unclosed = cause.Unclosed
 
 -- the octets that words stand for, one a field; the first fault is told, and too few or too many words where they end
-abbrev pub fields_of : List (List ℕ) → List Field → List Written → Result (List ℕ) Cause
+abbrev pub fields_of : Name → List Field → List Written → Result (List ℕ) Cause
 fields_of origin [] [] = Ok []
 fields_of origin [] (word ∷ words) = Err (surplus_of word)
 fields_of origin (field ∷ fields) [] = Err BadData
@@ -58,7 +58,7 @@ text_of [] = Err BadData
 text_of (word ∷ words) = strings_of (word ∷ words)
 
 -- the octets of a type that words spell, names as they are written
-unfoldable pub octets_of_words : ℕ → List (List ℕ) → List Written → Result (List ℕ) Cause
+unfoldable pub octets_of_words : ℕ → Name → List Written → Result (List ℕ) Cause
 octets_of_words rtype origin words =
     if rtype == type_TXT then text_of words
     else elim (form_of rtype) [ None ↦ Err UnknownType | Some fields ↦ fields_of origin fields words ]
@@ -70,7 +70,7 @@ as_data rtype octets =
 
 -- the data of a type that words spell relative to an origin; the first fault in reading order is told, and the limit
 -- of octets last
-abbrev pub data_of_words : ℕ → List (List ℕ) → List Written → Result (List ℕ) Cause
+abbrev pub data_of_words : ℕ → Name → List Written → Result (List ℕ) Cause
 data_of_words rtype origin words = and_then (octets_of_words rtype origin words) (as_data rtype)
 
 -- a fault that is told of a reading: its own, or want of memory

@@ -39,9 +39,6 @@ pub fn owner(word: Word<'_>, origin: &Name) -> Result<Name, Cause>
 fn name_named(text: &[u8], origin: &Name) -> Result<Name, Cause>
     ensures { result ≡ name_named text.now origin.now }
 {
-    if text == b"@".as_slice() {
-        return Ok(origin.copy());
-    }
     match Name::from_text(text, origin) {
         Ok(name) => Ok(name),
         Err(_) => Err(Cause::BadName),

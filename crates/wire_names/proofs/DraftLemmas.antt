@@ -4,7 +4,7 @@ use Rattle.std.proofs.lemmas.List.{length-append, append_assoc, take_at, map-app
 use Rattle.dns_name.specs.Name.{wire_of, parent_of}
 use Rattle.dns_name.proofs.ReadLemmas.{wire_some}
 use Rattle.wire_names.specs.Table.{Table, position_in}
-use Rattle.wire_names.specs.Written.{name_text, new_entries, pointer_to}
+use Rattle.wire_names.specs.Written.{name_octets, new_entries, pointer_to}
 
 -- the positions of entries
 abbrev pub places : Table → List ℕ
@@ -12,17 +12,17 @@ places entries = map (λ entry. entry.0) entries
 
 -- a draft of a name of which the rest isn't written yet
 pub record IsDraft (msg : List ℕ) (table : Table) (name rest : List (List ℕ)) (text starts : List ℕ) : Type 0 where
-  pub text_is : name_text table name ≡ text ++ name_text table rest
+  pub text_is : name_octets table name ≡ text ++ name_octets table rest
   pub starts_are : places (new_entries table (length msg) name) ≡ map (λ start. length msg + start) starts ++ places (new_entries table (length msg + length text) rest)
   pub room : length text + length (wire_of rest) ≤ 255
   pub few : length starts ≤ length text
 
 -- what is written of a name, by whether the table has it
-pub text_none : (table : Table) (label : List ℕ) (name : List (List ℕ)) → position_in table (label ∷ name) ≡ None → name_text table (label ∷ name) ≡ length label ∷ label ++ name_text table name
-text_none table label name e = ap (λ (o : Option ℕ). elim o [ Some target ↦ pointer_to target | None ↦ length label ∷ label ++ name_text table name ]) e
+pub octets_none : (table : Table) (label : List ℕ) (name : List (List ℕ)) → position_in table (label ∷ name) ≡ None → name_octets table (label ∷ name) ≡ length label ∷ label ++ name_octets table name
+octets_none table label name e = ap (λ (o : Option ℕ). elim o [ Some target ↦ pointer_to target | None ↦ length label ∷ label ++ name_octets table name ]) e
 
-pub text_some : (table : Table) (label : List ℕ) (name : List (List ℕ)) (target : ℕ) → position_in table (label ∷ name) ≡ Some target → name_text table (label ∷ name) ≡ pointer_to target
-text_some table label name target e = ap (λ (o : Option ℕ). elim o [ Some at ↦ pointer_to at | None ↦ length label ∷ label ++ name_text table name ]) e
+pub octets_some : (table : Table) (label : List ℕ) (name : List (List ℕ)) (target : ℕ) → position_in table (label ∷ name) ≡ Some target → name_octets table (label ∷ name) ≡ pointer_to target
+octets_some table label name target e = ap (λ (o : Option ℕ). elim o [ Some at ↦ pointer_to at | None ↦ length label ∷ label ++ name_octets table name ]) e
 
 pub entries_none : (table : Table) (at : ℕ) (label : List ℕ) (name : List (List ℕ)) → position_in table (label ∷ name) ≡ None → new_entries table at (label ∷ name) ≡ (at, label ∷ name) ∷ new_entries table (at + 1 + length label) name
 entries_none table at label name e = ap (λ (o : Option ℕ). elim o [ Some target ↦ [] | None ↦ (at, label ∷ name) ∷ new_entries table (at + 1 + length label) name ]) e
@@ -51,7 +51,7 @@ pointer_room msg table name rest behind text starts draft below =
 -- a label is written out
 IsDraft-label : (msg : List ℕ) (table : Table) (name behind : List (List ℕ)) (label text starts : List ℕ) → IsDraft msg table name (label ∷ behind) text starts → position_in table (label ∷ behind) ≡ None → IsDraft msg table name behind (text ++ length label ∷ label) (starts ++ length text ∷ [])
 IsDraft-label msg table name behind label text starts draft none =
-    let more = text_none table label behind none in
+    let more = octets_none table label behind none in
     let entries = entries_none table (length msg + length text) label behind none in
     let len = length-append text (length label ∷ label) in
     let wire = length-append label (wire_of behind) in
@@ -63,7 +63,7 @@ IsDraft-label msg table name behind label text starts draft none =
     ap places entries ∙ ap (λ (x : ℕ). (length msg + length text) ∷ places (new_entries table x behind)) place in
     let own = map-append (λ (start : ℕ). length msg + start) starts (length text ∷ []) in
     record {
-      text_is = draft.text_is ∙ ap (λ (x : List ℕ). text ++ x) more ∙ sym (append_assoc text (length label ∷ label) (name_text table behind));
+      text_is = draft.text_is ∙ ap (λ (x : List ℕ). text ++ x) more ∙ sym (append_assoc text (length label ∷ label) (name_octets table behind));
       starts_are = draft.starts_are ∙ ap (λ (x : List ℕ). map (λ (start : ℕ). length msg + start) starts ++ x) rest
           ∙ sym (append_assoc (map (λ (start : ℕ). length msg + start) starts) ((length msg + length text) ∷ []) (places (new_entries table (length msg + length (text ++ length label ∷ label)) behind)))
           ∙ ap (λ (x : List ℕ). x ++ places (new_entries table (length msg + length (text ++ length label ∷ label)) behind)) (sym own);

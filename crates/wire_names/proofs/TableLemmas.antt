@@ -1,11 +1,14 @@
 -- The table of positions: what is spelt where, and what is entered.
-use Rattle.std.proofs.Common.{◌≡◌, ℕ, ◌+◌, ◌<◌, ◌≤◌, ◌↔◌, Bool, true, false, not, IsTrue, cond, is_some, List, [], ◌∷◌, length, get_or, drop, Option, Some, None, option_map, Result, Ok, Err, Bor, refl, sym, ap, subst, ◌∙◌, arith}
+use Rattle.std.proofs.Common.{◌≡◌, ℕ, ◌+◌, ◌<◌, ◌≤◌, ◌↔◌, Bool, true, false, not, IsTrue, cond, is_some, List, [], ◌∷◌, length, map, min, All, get_or, drop, ⊎_elim, Option, Some, None, Result, Ok, Err, Bor, refl, sym, ap, subst, ◌∙◌, arith}
 use Rattle.std.specs.Bool.{Decides}
 use Rattle.std.specs.Cmp.Lexicographic.{pointwise_decides}
-use Rattle.std.specs.List.{find}
+use Rattle.std.specs.List.{filter, fold, reduce}
+use Rattle.std.specs.List.Sorted.{IsStrictlyIncreasing}
 use Rattle.std.specs.Result.{IsOk}
-use Rattle.std.proofs.lemmas.List.{drop_more}
-use Rattle.std.proofs.lemmas.List.Elements.{All-head, All-tail}
+use Rattle.std.proofs.lemmas.Bool.{cases_lt}
+use Rattle.std.proofs.lemmas.List.{drop_more, length-drop, get_or-drop, get_or_default}
+use Rattle.std.proofs.lemmas.List.Elements.{All-nil, All-cons, All-head, All-tail, All-map, All-filter}
+use Rattle.std.proofs.lemmas.List.Kept.{AllPairs-from_increasing}
 use Rattle.std.specs.Iterator.{YieldsFirstRef}
 use Rattle.std.specs.Str.{bytes_eq}
 use Rattle.std.proofs.lemmas.Slice.Eq.{bytes_eq-Decides}
@@ -14,7 +17,7 @@ use Rattle.wire_names.specs.Spells.{Spells, closing, label, pointer}
 use Rattle.wire_names.specs.declared.part.NameReadFault.{NameReadFault}
 use Rattle.wire_names.specs.declared.part.Part.TheVariants.{Closing, Label, Pointer}
 use Rattle.wire_names.specs.NameAt.{name_at}
-use Rattle.wire_names.specs.Table.{IsTable, IsTarget, table_of, spelt_at, same_spelling, position_in}
+use Rattle.wire_names.specs.Table.{IsTable, IsTarget, table_of, spelt_at, same_spelling, Table, positions_in, position_in}
 use Rattle.wire_names.proofs.GrammarLemmas.{once, name_at_spelt}
 
 -- some position behind it ends what a place spells
@@ -160,58 +163,104 @@ same_spelling-at msg at name b target answers =
     (λ e. let other = answers.0 e in test.1 (once msg at at own.0 other.0 (spelt_at msg at) name own.1 other.1).0)
     (λ e. answers.1 (own.0, subst (λ (x : List (List ℕ)). Spells msg at at x own.0) (test.0 e) own.1))
 
-first_at : (b : Bool) (at : ℕ) (name : List (List ℕ)) (rest : Option (ℕ × List (List ℕ))) → option_map (λ x. x.0) (cond b (Some (at, name)) rest) ≡ cond b (Some at) (option_map (λ x. x.0) rest)
+first_at : (b : Bool) (at : ℕ) (name : List (List ℕ)) (rest : Table) → map (λ x. x.0) (cond b ((at, name) ∷ rest) rest) ≡ cond b (at ∷ map (λ x. x.0) rest) (map (λ x. x.0) rest)
 first_at true at name rest = refl
 first_at false at name rest = refl
 
-pub position_in-step : (msg positions : List ℕ) (at : ℕ) (name : List (List ℕ)) (b : Bool) → IsTarget msg at → Answers msg at name b → position_in (table_of msg (at ∷ positions)) name ≡ cond b (Some at) (position_in (table_of msg positions) name)
-position_in-step msg positions at name b target answers =
-    let rest = position_in (table_of msg positions) name in
-    first_at (same_spelling (spelt_at msg at) name) at (spelt_at msg at) (find (λ entry. same_spelling entry.1 name) (table_of msg positions))
-    ∙ ap (λ (x : Bool). cond x (Some at) rest) (sym (same_spelling-at msg at name b target answers))
+positions_in-step : (msg positions : List ℕ) (at : ℕ) (name : List (List ℕ)) (b : Bool) → IsTarget msg at → Answers msg at name b → positions_in (table_of msg (at ∷ positions)) name ≡ cond b (at ∷ positions_in (table_of msg positions) name) (positions_in (table_of msg positions) name)
+positions_in-step msg positions at name b target answers =
+    let rest = positions_in (table_of msg positions) name in
+    first_at (same_spelling (spelt_at msg at) name) at (spelt_at msg at) (filter (λ entry. same_spelling entry.1 name) (table_of msg positions))
+    ∙ ap (λ (x : Bool). cond x (at ∷ rest) rest) (sym (same_spelling-at msg at name b target answers))
+
+-- the positions of a name are some of the table's
+positions_in-all : (P : ℕ → Type 0) (msg positions : List ℕ) (name : List (List ℕ)) → All P positions → All P (positions_in (table_of msg positions) name)
+positions_in-all P msg positions name all =
+    All-map P (λ entry. entry.0) (filter (λ entry. same_spelling entry.1 name) (table_of msg positions))
+    (All-filter (λ entry. same_spelling entry.1 name) (λ entry. P entry.0) (table_of msg positions) (All-map (λ entry. P entry.0) (λ at. (at, spelt_at msg at)) positions all))
+
+-- a number below all others is the least
+least_first : (x : ℕ) (xs : List ℕ) → All (λ y. x < y) xs → fold min x xs ≡ x
+least_first x [] all = refl
+least_first x (y ∷ ys) all =
+    let below = All-head (λ (z : ℕ). x < z) y ys all in
+    let first : min x y ≡ x = omega arith in
+    ap (λ (z : ℕ). fold min z ys) first ∙ least_first x ys (All-tail (λ (z : ℕ). x < z) y ys all)
+
+-- what is true of all is true of the least
+least_all : (P : ℕ → Type 0) (x : ℕ) (xs : List ℕ) → P x → All P xs → P (fold min x xs)
+least_all P x [] first rest = first
+least_all P x (y ∷ ys) first rest =
+    let both : P (min x y) =
+    ⊎_elim (λ (l : x < y). let e : x ≡ min x y = omega arith in subst P e first)
+    (λ (l : y ≤ x). let e : y ≡ min x y = omega arith in subst P e (All-head P y ys rest)) (cases_lt x y) in
+    least_all P (min x y) ys both (All-tail P y ys rest)
+
+least_some : (P : ℕ → Type 0) (xs : List ℕ) (target : ℕ) → All P xs → reduce min xs ≡ Some target → P target
+least_some P [] target all e = cc
+least_some P (x ∷ xs) target all e =
+    let same : fold min x xs ≡ target = cc in
+    subst P same (least_all P x xs (All-head P x xs all) (All-tail P x xs all))
 
 -- the same at an index of the positions
-pub position_in-at : (msg positions : List ℕ) (i x : ℕ) (name : List (List ℕ)) (b : Bool) → IsTable msg positions → i < length positions → get_or positions i 0 ≡ x → Answers msg x name b → position_in (table_of msg (drop i positions)) name ≡ cond b (Some x) (position_in (table_of msg (drop (i + 1) positions)) name)
-position_in-at msg positions i x name b table within here answers =
+positions_in-at : (msg positions : List ℕ) (i x : ℕ) (name : List (List ℕ)) (b : Bool) → IsTable msg positions → i < length positions → get_or positions i 0 ≡ x → Answers msg x name b → positions_in (table_of msg (drop i positions)) name ≡ cond b (x ∷ positions_in (table_of msg (drop (i + 1) positions)) name) (positions_in (table_of msg (drop (i + 1) positions)) name)
+positions_in-at msg positions i x name b table within here answers =
     let more = drop_more positions i 0 within in
     let target : IsTarget msg x = subst (IsTarget msg) here (table i 0 within) in
     let list : drop i positions ≡ x ∷ drop (i + 1) positions = cc in
-    ap (λ (xs : List ℕ). position_in (table_of msg xs) name) list ∙ position_in-step msg (drop (i + 1) positions) x name b target answers
+    ap (λ (xs : List ℕ). positions_in (table_of msg xs) name) list ∙ positions_in-step msg (drop (i + 1) positions) x name b target answers
 
-pub position_found : (msg own items : List ℕ) (i x : ℕ) (name : List (List ℕ)) (b : Bool) → IsTable msg own → items ≡ own → i < length items → x ≡ get_or items i 0 → Answers msg x name b → b ≡ true → position_in (table_of msg own) name ≡ position_in (table_of msg (drop i items)) name → Some (get_or items i 0) ≡ position_in (table_of msg own) name
-position_found msg own items i x name b table same within here answers is so_far =
+-- where positions ascend, those behind an index are above the one there
+above_at : (xs : List ℕ) (i : ℕ) → IsStrictlyIncreasing xs → i < length xs → All (λ y. get_or xs i 0 < y) (drop (i + 1) xs)
+above_at xs i up within k d h =
+    let len = length-drop (i + 1) xs in
+    let there = get_or-drop (i + 1) xs k d in
+    let far : i + 1 + k < length xs = omega arith in
+    let below = AllPairs-from_increasing xs up i (i + 1 + k) d (omega arith) far in
+    let own = get_or_default xs i d 0 within in
+    subst (λ (y : ℕ). get_or xs i 0 < y) (sym there) (subst (λ (x : ℕ). x < get_or xs (i + 1 + k) d) own below)
+
+pub position_found : (msg own items : List ℕ) (i x : ℕ) (name : List (List ℕ)) (b : Bool) → IsTable msg own → IsStrictlyIncreasing own → items ≡ own → i < length items → x ≡ get_or items i 0 → Answers msg x name b → b ≡ true → position_in (table_of msg own) name ≡ position_in (table_of msg (drop i items)) name → Some (get_or items i 0) ≡ position_in (table_of msg own) name
+position_found msg own items i x name b table up same within here answers is so_far =
     let all : IsTable msg items = subst (IsTable msg) (sym same) table in
-    let step = position_in-at msg items i x name b all within (sym here) answers in
-    let first : cond b (Some x) (position_in (table_of msg (drop (i + 1) items)) name) ≡ Some x = rw is in
-    let some = ap Some here in
-    sym (so_far ∙ step ∙ first ∙ some)
+    let rest = positions_in (table_of msg (drop (i + 1) items)) name in
+    let step = positions_in-at msg items i x name b all within (sym here) answers in
+    let first : cond b (x ∷ rest) rest ≡ x ∷ rest = rw is in
+    let above : All (λ (y : ℕ). x < y) (drop (i + 1) items) = rw here (above_at items i (subst IsStrictlyIncreasing (sym same) up) within) in
+    let least = least_first x rest (positions_in-all (λ (y : ℕ). x < y) msg (drop (i + 1) items) name above) in
+    sym (so_far ∙ ap (reduce min) (step ∙ first) ∙ ap Some (least ∙ here))
 
 pub position_passed : (msg own items : List ℕ) (i x : ℕ) (name : List (List ℕ)) (b : Bool) → IsTable msg own → items ≡ own → i < length items → x ≡ get_or items i 0 → Answers msg x name b → b ≡ false → position_in (table_of msg own) name ≡ position_in (table_of msg (drop i items)) name → position_in (table_of msg own) name ≡ position_in (table_of msg (drop (i + 1) items)) name
 position_passed msg own items i x name b table same within here answers not_here so_far =
     let all : IsTable msg items = subst (IsTable msg) (sym same) table in
-    let step = position_in-at msg items i x name b all within (sym here) answers in
-    let rest = position_in (table_of msg (drop (i + 1) items)) name in
-    so_far ∙ step ∙ ap (λ (t : Bool). cond t (Some x) rest) not_here
+    let rest = positions_in (table_of msg (drop (i + 1) items)) name in
+    let step = positions_in-at msg items i x name b all within (sym here) answers in
+    so_far ∙ ap (reduce min) (step ∙ ap (λ (t : Bool). cond t (x ∷ rest) rest) not_here)
 
 -- a position that is found spells the name
 pub record IsFound (msg : List ℕ) (at : ℕ) (name : List (List ℕ)) : Type 0 where
   pub target : IsTarget msg at
   pub spelt : spelt_at msg at ≡ name
 
-found_if : (msg : List ℕ) (at target : ℕ) (name : List (List ℕ)) (rest : Option (ℕ × List (List ℕ))) (b : Bool) → same_spelling (spelt_at msg at) name ≡ b → IsTarget msg at → (option_map (λ x. x.0) rest ≡ Some target → IsFound msg target name) → option_map (λ x. x.0) (cond b (Some (at, spelt_at msg at)) rest) ≡ Some target → IsFound msg target name
-found_if msg at target name rest true t own other e =
-    let same : at ≡ target = cc in
-    let spelt = (same_spelling-Decides (spelt_at msg at) name).0 t in
-    let found : IsFound msg at name = record { target = own; spelt = spelt } in
-    subst (λ (x : ℕ). IsFound msg x name) same found
-found_if msg at target name rest false t own other e = other e
+-- positions at which a name is spelt
+found_if : (msg : List ℕ) (at : ℕ) (name : List (List ℕ)) (rest : List ℕ) (b : Bool) → same_spelling (spelt_at msg at) name ≡ b → IsTarget msg at → All (λ x. IsFound msg x name) rest → All (λ x. IsFound msg x name) (cond b (at ∷ rest) rest)
+found_if msg at name rest true t own all =
+    let found : IsFound msg at name = record { target = own; spelt = (same_spelling-Decides (spelt_at msg at) name).0 t } in
+    All-cons (λ (x : ℕ). IsFound msg x name) at rest found all
+found_if msg at name rest false t own all = all
+
+positions_in-found : (msg positions : List ℕ) (name : List (List ℕ)) → IsTable msg positions → All (λ x. IsFound msg x name) (positions_in (table_of msg positions) name)
+positions_in-found msg [] name table = All-nil (λ (x : ℕ). IsFound msg x name)
+positions_in-found msg (at ∷ positions) name table =
+    let step = first_at (same_spelling (spelt_at msg at) name) at (spelt_at msg at) (filter (λ entry. same_spelling entry.1 name) (table_of msg positions)) in
+    subst (All (λ (x : ℕ). IsFound msg x name)) (sym step)
+    (found_if msg at name (positions_in (table_of msg positions) name) (same_spelling (spelt_at msg at) name) refl
+    (All-head (IsTarget msg) at positions table)
+    (positions_in-found msg positions name (All-tail (IsTarget msg) at positions table)))
 
 pub position_in-found : (msg positions : List ℕ) (target : ℕ) (name : List (List ℕ)) → IsTable msg positions → position_in (table_of msg positions) name ≡ Some target → IsFound msg target name
-position_in-found msg [] target name table e = cc
-position_in-found msg (at ∷ positions) target name table e =
-    found_if msg at target name (find (λ entry. same_spelling entry.1 name) (table_of msg positions)) (same_spelling (spelt_at msg at) name) refl
-    (All-head (IsTarget msg) at positions table)
-    (λ f. position_in-found msg positions target name (All-tail (IsTarget msg) at positions table) f) e
+position_in-found msg positions target name table e =
+    least_some (λ (x : ℕ). IsFound msg x name) (positions_in (table_of msg positions) name) target (positions_in-found msg positions name table) e
 
 -- the same of equal positions
 pub at_view : (msg own positions : List ℕ) (name : List (List ℕ)) (found : Option ℕ) → own ≡ positions → position_in (table_of msg own) name ≡ found → position_in (table_of msg positions) name ≡ found

@@ -8,10 +8,11 @@ use Rattle.dns_name.specs.Name.{wire_of, IsLabel, IsName}
 use Rattle.wire_names.specs.Parts.{part_at, part_of, label_at}
 use Rattle.wire_names.specs.Spells.{Spells, closing, label, pointer}
 use Rattle.wire_names.specs.Table.{Table, IsTable, IsTarget, spelt_at, table_of, position_in, enter, entered}
-use Rattle.wire_names.specs.Written.{pointer_to, name_text, new_entries, written, entries_of, table_after, IsPut}
+use Rattle.wire_names.specs.Written.{pointer_to, name_octets, new_entries, written, entries_of, table_after, IsOverwritten}
 use Rattle.wire_names.specs.declared.part.Part.TheVariants.{Label, Pointer}
-use Rattle.wire_names.proofs.DraftLemmas.{places, text_none, text_some, entries_none, entries_some}
+use Rattle.wire_names.proofs.DraftLemmas.{places, octets_none, octets_some, entries_none, entries_some}
 use Rattle.wire_names.proofs.LongerLemmas.{spells_longer, spells_within, ReadsName, ReadsName-spells, IsTable-longer, table_longer}
+use Rattle.wire_names.proofs.OverwrittenLemmas.{octets_are}
 use Rattle.wire_names.proofs.TableLemmas.{target_spells, position_in-found}
 
 -- what stands behind a message is its next part
@@ -99,22 +100,22 @@ spells_label_put front own text behind run next name is rest =
     let octets = ap (λ (x : List ℕ). label_at (front ++ x) (length front) (length own)) joined ∙ label_behind front own (text ++ behind) in
     label part (sym octets) on
 
-label_spelt : (msg positions front behind own : List ℕ) (run : ℕ) (name : List (List ℕ)) (found : Option ℕ) → position_in (table_of msg positions) (own ∷ name) ≡ found → IsBehind msg positions front run → All IsLabel (own ∷ name) → Spells ((front ++ length own ∷ own) ++ (name_text (table_of msg positions) name ++ behind)) run (length (front ++ length own ∷ own)) name (length (front ++ length own ∷ own) + length (name_text (table_of msg positions) name)) → Spells (front ++ (name_text (table_of msg positions) (own ∷ name) ++ behind)) run (length front) (own ∷ name) (length front + length (name_text (table_of msg positions) (own ∷ name)))
+label_spelt : (msg positions front behind own : List ℕ) (run : ℕ) (name : List (List ℕ)) (found : Option ℕ) → position_in (table_of msg positions) (own ∷ name) ≡ found → IsBehind msg positions front run → All IsLabel (own ∷ name) → Spells ((front ++ length own ∷ own) ++ (name_octets (table_of msg positions) name ++ behind)) run (length (front ++ length own ∷ own)) name (length (front ++ length own ∷ own) + length (name_octets (table_of msg positions) name)) → Spells (front ++ (name_octets (table_of msg positions) (own ∷ name) ++ behind)) run (length front) (own ∷ name) (length front + length (name_octets (table_of msg positions) (own ∷ name)))
 label_spelt msg positions front behind own run name (Some target) e is lawful rest =
-    let text = text_some (table_of msg positions) own name target e in
+    let text = octets_some (table_of msg positions) own name target e in
     subst (λ (x : List ℕ). Spells (front ++ (x ++ behind)) run (length front) (own ∷ name) (length front + length x)) (sym text)
     (spells_pointer_to msg positions front behind run target (own ∷ name) is e)
 label_spelt msg positions front behind own run name None e is lawful rest =
-    let text = text_none (table_of msg positions) own name e in
-    let whole = spells_label_put front own (name_text (table_of msg positions) name) behind run _ name (All-head IsLabel own name lawful) rest in
+    let text = octets_none (table_of msg positions) own name e in
+    let whole = spells_label_put front own (name_octets (table_of msg positions) name) behind run _ name (All-head IsLabel own name lawful) rest in
     let len = length-append front (length own ∷ own) in
-    let both = length-append own (name_text (table_of msg positions) name) in
-    let next : length (front ++ length own ∷ own) + length (name_text (table_of msg positions) name) ≡ length front + length (length own ∷ own ++ name_text (table_of msg positions) name) = omega arith in
+    let both = length-append own (name_octets (table_of msg positions) name) in
+    let next : length (front ++ length own ∷ own) + length (name_octets (table_of msg positions) name) ≡ length front + length (length own ∷ own ++ name_octets (table_of msg positions) name) = omega arith in
     subst (λ (x : List ℕ). Spells (front ++ (x ++ behind)) run (length front) (own ∷ name) (length front + length x)) (sym text)
-    (subst (λ (x : ℕ). Spells (front ++ ((length own ∷ own ++ name_text (table_of msg positions) name) ++ behind)) run (length front) (own ∷ name) x) next whole)
+    (subst (λ (x : ℕ). Spells (front ++ ((length own ∷ own ++ name_octets (table_of msg positions) name) ++ behind)) run (length front) (own ∷ name) x) next whole)
 
 -- a name that is written is spelt at its place
-pub name_spelt : (msg positions front behind : List ℕ) (run : ℕ) (name : List (List ℕ)) → IsBehind msg positions front run → All IsLabel name → Spells (front ++ (name_text (table_of msg positions) name ++ behind)) run (length front) name (length front + length (name_text (table_of msg positions) name))
+pub name_spelt : (msg positions front behind : List ℕ) (run : ℕ) (name : List (List ℕ)) → IsBehind msg positions front run → All IsLabel name → Spells (front ++ (name_octets (table_of msg positions) name ++ behind)) run (length front) name (length front + length (name_octets (table_of msg positions) name))
 name_spelt msg positions front behind run [] is lawful = closing (part_behind front (0 ∷ behind)) refl
 name_spelt msg positions front behind run (own ∷ name) is lawful =
     label_spelt msg positions front behind own run name (position_in (table_of msg positions) (own ∷ name)) refl is lawful
@@ -128,27 +129,27 @@ below_short own name h = let both = length-append own (wire_of name) in omega ar
 abbrev AreRead : List ℕ → Table → Type 0
 AreRead msg entries = All (λ entry. ReadsName msg entry.0 entry.1) entries
 
-entries_if : (msg positions front behind own : List ℕ) (name : List (List ℕ)) (found : Option ℕ) → position_in (table_of msg positions) (own ∷ name) ≡ found → ReadsName (front ++ (name_text (table_of msg positions) (own ∷ name) ++ behind)) (length front) (own ∷ name) → AreRead ((front ++ length own ∷ own) ++ (name_text (table_of msg positions) name ++ behind)) (new_entries (table_of msg positions) (length (front ++ length own ∷ own)) name) → AreRead (front ++ (name_text (table_of msg positions) (own ∷ name) ++ behind)) (new_entries (table_of msg positions) (length front) (own ∷ name))
+entries_if : (msg positions front behind own : List ℕ) (name : List (List ℕ)) (found : Option ℕ) → position_in (table_of msg positions) (own ∷ name) ≡ found → ReadsName (front ++ (name_octets (table_of msg positions) (own ∷ name) ++ behind)) (length front) (own ∷ name) → AreRead ((front ++ length own ∷ own) ++ (name_octets (table_of msg positions) name ++ behind)) (new_entries (table_of msg positions) (length (front ++ length own ∷ own)) name) → AreRead (front ++ (name_octets (table_of msg positions) (own ∷ name) ++ behind)) (new_entries (table_of msg positions) (length front) (own ∷ name))
 entries_if msg positions front behind own name (Some target) e first rest =
-    subst (AreRead (front ++ (name_text (table_of msg positions) (own ∷ name) ++ behind))) (sym (entries_some (table_of msg positions) (length front) own name target e)) (All-nil (λ (entry : ℕ × List (List ℕ)). ReadsName (front ++ (name_text (table_of msg positions) (own ∷ name) ++ behind)) entry.0 entry.1))
+    subst (AreRead (front ++ (name_octets (table_of msg positions) (own ∷ name) ++ behind))) (sym (entries_some (table_of msg positions) (length front) own name target e)) (All-nil (λ (entry : ℕ × List (List ℕ)). ReadsName (front ++ (name_octets (table_of msg positions) (own ∷ name) ++ behind)) entry.0 entry.1))
 entries_if msg positions front behind own name None e first rest =
     let table = table_of msg positions in
-    let text = text_none table own name e in
-    let same : (front ++ length own ∷ own) ++ (name_text table name ++ behind) ≡ front ++ (name_text table (own ∷ name) ++ behind) =
-    regroup front own (name_text table name) behind ∙ ap (λ (x : List ℕ). front ++ (x ++ behind)) (sym text) in
+    let text = octets_none table own name e in
+    let same : (front ++ length own ∷ own) ++ (name_octets table name ++ behind) ≡ front ++ (name_octets table (own ∷ name) ++ behind) =
+    regroup front own (name_octets table name) behind ∙ ap (λ (x : List ℕ). front ++ (x ++ behind)) (sym text) in
     let len = length-append front (length own ∷ own) in
     let place : length (front ++ length own ∷ own) ≡ length front + 1 + length own = omega arith in
-    let more = subst (λ (x : ℕ). AreRead (front ++ (name_text table (own ∷ name) ++ behind)) (new_entries table x name)) place
+    let more = subst (λ (x : ℕ). AreRead (front ++ (name_octets table (own ∷ name) ++ behind)) (new_entries table x name)) place
     (subst (λ (x : List ℕ). AreRead x (new_entries table (length (front ++ length own ∷ own)) name)) same rest) in
-    subst (AreRead (front ++ (name_text table (own ∷ name) ++ behind))) (sym (entries_none table (length front) own name e))
-    (All-cons (λ (entry : ℕ × List (List ℕ)). ReadsName (front ++ (name_text table (own ∷ name) ++ behind)) entry.0 entry.1) (length front, own ∷ name) (new_entries table (length front + 1 + length own) name) first more)
+    subst (AreRead (front ++ (name_octets table (own ∷ name) ++ behind))) (sym (entries_none table (length front) own name e))
+    (All-cons (λ (entry : ℕ × List (List ℕ)). ReadsName (front ++ (name_octets table (own ∷ name) ++ behind)) entry.0 entry.1) (length front, own ∷ name) (new_entries table (length front + 1 + length own) name) first more)
 
 -- the suffixes that a name enters are spelt at their positions
-entries_read : (msg positions front behind : List ℕ) (name : List (List ℕ)) → IsBehind msg positions front (length front) → All IsLabel name → length (wire_of name) ≤ 255 → AreRead (front ++ (name_text (table_of msg positions) name ++ behind)) (new_entries (table_of msg positions) (length front) name)
+entries_read : (msg positions front behind : List ℕ) (name : List (List ℕ)) → IsBehind msg positions front (length front) → All IsLabel name → length (wire_of name) ≤ 255 → AreRead (front ++ (name_octets (table_of msg positions) name ++ behind)) (new_entries (table_of msg positions) (length front) name)
 entries_read msg positions front behind [] is lawful short = All-nil (λ (entry : ℕ × List (List ℕ)). ReadsName (front ++ (0 ∷ behind)) entry.0 entry.1)
 entries_read msg positions front behind (own ∷ name) is lawful short =
     let whole = name_spelt msg positions front behind (length front) (own ∷ name) is lawful in
-    let first = ReadsName-spells (front ++ (name_text (table_of msg positions) (own ∷ name) ++ behind)) (length front) _ (own ∷ name) whole short in
+    let first = ReadsName-spells (front ++ (name_octets (table_of msg positions) (own ∷ name) ++ behind)) (length front) _ (own ∷ name) whole short in
     let len = length-append front (length own ∷ own) in
     let next = IsBehind-label msg positions front own (length front) (length (front ++ length own ∷ own)) is (omega arith) in
     let rest = entries_read msg positions (front ++ length own ∷ own) behind name next (All-tail IsLabel own name lawful) (below_short own name short) in
@@ -227,7 +228,7 @@ IsBehind-none msg positions table = record { table = table; more = []; front_is 
 written_read : (compress : Bool) (msg positions : List ℕ) (name : List (List ℕ)) → IsTable msg positions → IsName name → AreRead (msg ++ written compress (table_of msg positions) name) (entries_of compress (table_of msg positions) (length msg) name)
 written_read true msg positions name table lawful =
     let all = entries_read msg positions msg [] name (IsBehind-none msg positions table) lawful.labels lawful.short in
-    subst (λ (x : List ℕ). AreRead (msg ++ x) (new_entries (table_of msg positions) (length msg) name)) (append-nil (name_text (table_of msg positions) name)) all
+    subst (λ (x : List ℕ). AreRead (msg ++ x) (new_entries (table_of msg positions) (length msg) name)) (append-nil (name_octets (table_of msg positions) name)) all
 written_read false msg positions name table lawful = All-nil (λ (entry : ℕ × List (List ℕ)). ReadsName (msg ++ wire_of name) entry.0 entry.1)
 
 -- what a name that is written leaves of the table
@@ -244,7 +245,7 @@ after_write compress msg whole positions starts own name table lawful text place
     (subst (λ (x : List ℕ). IsTableOf (msg ++ written compress (table_of msg positions) name) x (table_after compress (table_of msg positions) (length msg) name)) (sym same) after)
 
 -- a name in full is one under an empty table
-wire_text : (name : List (List ℕ)) → name_text [] name ≡ wire_of name
+wire_text : (name : List (List ℕ)) → name_octets [] name ≡ wire_of name
 wire_text [] = refl
 wire_text (own ∷ name) = ap (λ (x : List ℕ). length own ∷ own ++ x) (wire_text name)
 
@@ -256,10 +257,10 @@ written_spelt false msg positions behind name table lawful =
     subst (λ (x : List ℕ). Spells (msg ++ (x ++ behind)) (length msg) (length msg) name (length msg + length x)) (wire_text name) whole
 
 -- the same of a buffer that is written into
-pub after_put : (compress : Bool) (out new positions inside octets text starts own_starts own : List ℕ) (at next : ℕ) (name : List (List ℕ)) → at ≤ length out → IsTable (take at out) positions → inside ≡ positions → IsName name → IsPut out new at octets next → octets ≡ text → text ≡ written compress (table_of (take at out) positions) name → map (λ start. length (take at out) + start) starts ≡ places (entries_of compress (table_of (take at out) positions) (length (take at out)) name) → own_starts ≡ starts → own ≡ entered (λ p. p) inside (map (λ start. at + start) own_starts) → IsTableOf (take next new) own (table_after compress (table_of (take at out) positions) at name)
+pub after_put : (compress : Bool) (out new positions inside octets text starts own_starts own : List ℕ) (at next : ℕ) (name : List (List ℕ)) → at ≤ length out → IsTable (take at out) positions → inside ≡ positions → IsName name → IsOverwritten out new at octets next → octets ≡ text → text ≡ written compress (table_of (take at out) positions) name → map (λ start. length (take at out) + start) starts ≡ places (entries_of compress (table_of (take at out) positions) (length (take at out)) name) → own_starts ≡ starts → own ≡ entered (λ p. p) inside (map (λ start. at + start) own_starts) → IsTableOf (take next new) own (table_after compress (table_of (take at out) positions) at name)
 after_put compress out new positions inside octets text starts own_starts own at next name within table same lawful put o t p s e =
     let len : length (take at out) ≡ at = length-take-le at out within in
-    let whole : take next new ≡ take at out ++ written compress (table_of (take at out) positions) name = put.octets_are ∙ ap (λ (x : List ℕ). take at out ++ x) (o ∙ t) in
+    let whole : take next new ≡ take at out ++ written compress (table_of (take at out) positions) name = octets_are out new at octets next put ∙ ap (λ (x : List ℕ). take at out ++ x) (o ∙ t) in
     let own_is : own ≡ entered (λ p. p) positions (map (λ start. length (take at out) + start) starts) =
     e ∙ ap (λ (x : List ℕ). entered (λ p. p) x (map (λ (start : ℕ). at + start) own_starts)) same
     ∙ ap (λ (x : List ℕ). entered (λ p. p) positions (map (λ (start : ℕ). at + start) x)) s

@@ -1,6 +1,7 @@
 -- The name of the worked examples (RFC 1035, 4.1.4).
 use Rattle.std.specs.Prelude.{ℕ, List, [], ◌∷◌, codes}
+use Rattle.dns_name.specs.Name.{Name}
 
 -- F.ISI.ARPA
-abbrev pub f_isi_arpa : List (List ℕ)
+abbrev pub f_isi_arpa : Name
 f_isi_arpa = codes "F" ∷ codes "ISI" ∷ codes "ARPA" ∷ []

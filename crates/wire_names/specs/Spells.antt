@@ -1,19 +1,20 @@
 -- Which name a place of a message spells, and which fault it has. A run of labels begins where reading begins, and
 -- at each pointer's target; each target is below the place where its run began (RFC 1035, 4.1.4; own).
 use Rattle.std.specs.Prelude.{◌≡◌, ℕ, ◌+◌, ◌<◌, ◌≤◌, List, [], ◌∷◌, Ok, Err}
+use Rattle.dns_name.specs.Name.{Name}
 use Rattle.wire_names.specs.Parts.{part_at, label_at}
 use Rattle.wire_names.specs.declared.part.NameReadFault.{NameReadFault}
 use Rattle.wire_names.specs.declared.part.NameReadFault.TheVariants.{BadPointer, TooLong}
 use Rattle.wire_names.specs.declared.part.Part.TheVariants.{Closing, Label, Pointer}
 
 -- in a run that began at `run`, the octets at `at` spell the name, and reading goes on at `next`
-pub data Spells (msg : List ℕ) : ℕ → ℕ → List (List ℕ) → ℕ → Type 0 where
+pub data Spells (msg : List ℕ) : ℕ → ℕ → Name → ℕ → Type 0 where
   -- the zero octet closes the name: reading goes on behind it (RFC 1035, 3.1)
   closing : {run at next : ℕ} → part_at msg at ≡ Ok Closing → next ≡ at + 1 → Spells msg run at [] next
   -- a label, then what the octets behind it spell
-  label : {run at next n : ℕ} {l : List ℕ} {ls : List (List ℕ)} → part_at msg at ≡ Ok (Label n) → l ≡ label_at msg at n → Spells msg run (at + 1 + n) ls next → Spells msg run at (l ∷ ls) next
+  label : {run at next n : ℕ} {l : List ℕ} {ls : Name} → part_at msg at ≡ Ok (Label n) → l ≡ label_at msg at n → Spells msg run (at + 1 + n) ls next → Spells msg run at (l ∷ ls) next
   -- a pointer: what its target spells, where a new run begins; reading goes on behind the pointer (RFC 1035, 4.1.4)
-  pointer : {run at next target beyond : ℕ} {ls : List (List ℕ)} → part_at msg at ≡ Ok (Pointer target) → target < run → Spells msg target target ls beyond → next ≡ at + 2 → Spells msg run at ls next
+  pointer : {run at next target beyond : ℕ} {ls : Name} → part_at msg at ≡ Ok (Pointer target) → target < run → Spells msg target target ls beyond → next ≡ at + 2 → Spells msg run at ls next
 
 -- in a run that began at `run`, behind labels of `used` octets with their lengths, the octets at `at` have the fault
 pub data Refuses (msg : List ℕ) : ℕ → ℕ → ℕ → NameReadFault → Type 0 where

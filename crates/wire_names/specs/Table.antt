@@ -1,20 +1,26 @@
 -- The table of a message's names that pointers can name (RFC 1035, 4.1.4).
-use Rattle.std.specs.Prelude.{ℕ, ◌<◌, Bool, ◌&&◌, List, [], ◌∷◌, ◌++◌, length, map, find, All, nat_lt, nat_le, if◌then◌else◌, Option, option_map, Ok, Err, bytes_eq}
+use Rattle.std.specs.Prelude.{ℕ, ◌<◌, Bool, ◌&&◌, List, [], ◌∷◌, ◌++◌, length, map, min, All, nat_lt, nat_le, if◌then◌else◌, Option, Ok, Err, bytes_eq}
+use Rattle.std.specs.List.{filter, reduce}
 use Rattle.std.specs.Cmp.Lexicographic.{pointwise}
 use Rattle.std.specs.Result.{IsOk}
+use Rattle.dns_name.specs.Name.{Name}
 use Rattle.wire_names.specs.NameAt.{name_at}
 
 -- the table: positions of a message, each with the name that is spelt there, in the order in which they were entered
 abbrev pub Table : Type 0
-Table = List (ℕ × List (List ℕ))
+Table = List (ℕ × Name)
 
 -- whether two names are spelt the same, case included
-abbrev pub same_spelling : List (List ℕ) → List (List ℕ) → Bool
+abbrev pub same_spelling : Name → Name → Bool
 same_spelling name other = pointwise bytes_eq name other
 
--- the earliest position at which a name is spelt
-abbrev pub position_in : Table → List (List ℕ) → Option ℕ
-position_in table name = option_map (λ entry. entry.0) (find (λ entry. same_spelling entry.1 name) table)
+-- the positions at which a name is spelt
+abbrev pub positions_in : Table → Name → List ℕ
+positions_in table name = map (λ entry. entry.0) (filter (λ entry. same_spelling entry.1 name) table)
+
+-- the earliest position at which a name is spelt: the least of them
+abbrev pub position_in : Table → Name → Option ℕ
+position_in table name = reduce min (positions_in table name)
 
 -- a list with one more position: up to 256 of them (own), none over 16383, since a pointer has 14 bits (RFC 1035, 4.1.4)
 abbrev pub enter : {A : Type 0} → (A → ℕ) → List A → A → List A
@@ -26,7 +32,7 @@ entered position xs [] = xs
 entered position xs (y ∷ ys) = entered position (enter position xs y) ys
 
 -- the name at a position of a message; the root where there is none
-abbrev pub spelt_at : List ℕ → ℕ → List (List ℕ)
+abbrev pub spelt_at : List ℕ → ℕ → Name
 spelt_at msg at = elim (name_at msg at) [ Ok read ↦ read.0 | Err fault ↦ [] ]
 
 -- the table that positions of a message stand for

@@ -1,6 +1,6 @@
 -- How a name is written into a message, with pointers to names in front of it (RFC 1035, 4.1.4).
-use Rattle.std.specs.Prelude.{◌≡◌, ℕ, ◌+◌, ◌/◌, ◌%◌, ◌<◌, ◌≤◌, Bool, List, [], ◌∷◌, ◌++◌, length, take, if◌then◌else◌, Option, Some, None}
-use Rattle.dns_name.specs.Name.{wire_of}
+use Rattle.std.specs.Prelude.{◌≡◌, ℕ, ◌+◌, ◌/◌, ◌%◌, ◌<◌, ◌≤◌, Bool, List, [], ◌∷◌, ◌++◌, length, take, drop, if◌then◌else◌, Option, Some, None}
+use Rattle.dns_name.specs.Name.{Name, wire_of}
 use Rattle.wire_names.specs.Table.{Table, position_in, entered}
 
 -- the two octets of a pointer to a position below 16384 (RFC 1035, 4.1.4)
@@ -9,16 +9,16 @@ pointer_to at = (192 + at / 256) ∷ (at % 256) ∷ []
 
 -- a name's octets: labels up to the longest suffix that the table has, and a pointer to that suffix's earliest
 -- position; where it has none, all labels and the zero octet (RFC 1035, 4.1.4)
-abbrev pub name_text : Table → List (List ℕ) → List ℕ
-name_text table [] = 0 ∷ []
-name_text table (label ∷ name) =
+abbrev pub name_octets : Table → Name → List ℕ
+name_octets table [] = 0 ∷ []
+name_octets table (label ∷ name) =
     elim (position_in table (label ∷ name)) [
       | Some target ↦ pointer_to target
-      | None ↦ length label ∷ label ++ name_text table name
+      | None ↦ length label ∷ label ++ name_octets table name
     ]
 
 -- the positions of the labels written out of a name at a position, each with the suffix that begins there
-abbrev pub new_entries : Table → ℕ → List (List ℕ) → Table
+abbrev pub new_entries : Table → ℕ → Name → Table
 new_entries table at [] = []
 new_entries table at (label ∷ name) =
     elim (position_in table (label ∷ name)) [
@@ -27,25 +27,25 @@ new_entries table at (label ∷ name) =
     ]
 
 -- a name's octets, compressed or in full: a name in the data of an SRV record is never compressed (RFC 2782)
-abbrev pub written : Bool → Table → List (List ℕ) → List ℕ
-written compress table name = if compress then name_text table name else wire_of name
+abbrev pub written : Bool → Table → Name → List ℕ
+written compress table name = if compress then name_octets table name else wire_of name
 
 -- what a name at a position enters into the table: a name in full enters nothing (own)
-abbrev pub entries_of : Bool → Table → ℕ → List (List ℕ) → Table
+abbrev pub entries_of : Bool → Table → ℕ → Name → Table
 entries_of compress table at name = if compress then new_entries table at name else []
 
 -- the table behind a name at a position
-abbrev pub table_after : Bool → Table → ℕ → List (List ℕ) → Table
+abbrev pub table_after : Bool → Table → ℕ → Name → Table
 table_after compress table at name = entered (λ entry. entry.0) table (entries_of compress table at name)
 
--- octets stand at a position of a buffer and end before the next, and those in front of them are as they were
-pub record IsPut (old new : List ℕ) (at : ℕ) (octets : List ℕ) (next : ℕ) : Type 0 where
+-- octets stand in a buffer from a position up to the next; what was in front of them and behind them is still there
+pub record IsOverwritten (old new : List ℕ) (at : ℕ) (octets : List ℕ) (next : ℕ) : Type 0 where
   pub next_is : next ≡ at + length octets
   pub within : next ≤ length old
-  pub length_stays : length new ≡ length old
-  pub octets_are : take next new ≡ take at old ++ octets
+  pub new_is : new ≡ take at old ++ octets ++ drop next old
 
--- whether octets were written at a position of a buffer: none where they don't fit it, else the position behind them
-abbrev pub Puts : List ℕ → List ℕ → ℕ → List ℕ → Option ℕ → Type 0
-Puts old new at octets None = length old < at + length octets
-Puts old new at octets (Some next) = IsPut old new at octets next
+-- octets are written into a buffer at a position, which gives the position behind them; none where they don't fit, and
+-- then the buffer is as it was
+abbrev pub WritesOctets : List ℕ → List ℕ → ℕ → List ℕ → Option ℕ → Type 0
+WritesOctets old new at octets None = (length old < at + length octets) × (new ≡ old)
+WritesOctets old new at octets (Some next) = IsOverwritten old new at octets next

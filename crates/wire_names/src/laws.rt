@@ -1,12 +1,12 @@
 //! Laws of the definitions, each the contract of a function that does nothing, and worked examples.
-ghost use Rattle.std.specs.Prelude.{◌≡◌, ℕ, ◌+◌, ◌≤◌, ◌↔◌, Bool, List, [], ◌∷◌, ◌++◌, length, codes, All, Ok, Err};
+ghost use Rattle.std.specs.Prelude.{◌≡◌, ℕ, ◌+◌, ◌≤◌, ◌↔◌, Bool, List, [], ◌∷◌, ◌++◌, length, codes, All, Some, Ok, Err};
 ghost use Rattle.dns_name.specs.Name.{wire_of, IsLabel, IsName};
 ghost use Rattle.wire_names.specs.declared.part.NameReadFault.{NameReadFault};
 ghost use Rattle.wire_names.specs.declared.part.NameReadFault.TheVariants.{Short, BadLength, BadPointer};
 ghost use Rattle.wire_names.specs.NameAt.{name_at};
 ghost use Rattle.wire_names.specs.Spells.{Spells, Refuses};
-ghost use Rattle.wire_names.specs.Table.{IsTable, table_of};
-ghost use Rattle.wire_names.specs.Written.{written, name_text, new_entries};
+ghost use Rattle.wire_names.specs.Table.{IsTable, table_of, position_in};
+ghost use Rattle.wire_names.specs.Written.{written, name_octets, new_entries};
 ghost use Rattle.wire_names.specs.Examples.{f_isi_arpa};
 
 /// A place spells at most one name, of lawful labels, and reading goes on at one place; what it spells isn't refused
@@ -39,15 +39,17 @@ pub fn table_stays()
 {}
 
 /// Worked examples of the definitions: a label before a pointer down to a zero octet, a pointer to its own run's
-/// start, a length octet of 64, and a label that is cut; the names of RFC 1035, 4.1.4, behind a name at position 20.
+/// start, a length octet of 64, and a label that is cut; the names of RFC 1035, 4.1.4, behind a name at position 20;
+/// and a name that two positions spell, of which the least is its earliest.
 #[tactic(auto, unfolding(crate::specs::NameAt::name_at, crate::specs::NameAt::name_from))]
 pub fn examples()
     ensures down { name_at (0 ∷ 1 ∷ 97 ∷ 192 ∷ 0 ∷ []) 1 ≡ Ok ((97 ∷ []) ∷ [], 5) }
     ensures own_start { name_at (0 ∷ 1 ∷ 97 ∷ 192 ∷ 1 ∷ []) 1 ≡ Err BadPointer }
     ensures bits { name_at (64 ∷ []) 0 ≡ Err BadLength }
     ensures cut { name_at (1 ∷ 97 ∷ []) 0 ≡ Err Short }
-    ensures first { name_text [] f_isi_arpa ≡ 1 ∷ codes "F" ++ 3 ∷ codes "ISI" ++ 4 ∷ codes "ARPA" ++ 0 ∷ [] }
-    ensures suffix { name_text (new_entries [] 20 f_isi_arpa) (codes "FOO" ∷ f_isi_arpa) ≡ 3 ∷ codes "FOO" ++ 192 ∷ 20 ∷ [] }
-    ensures whole { name_text (new_entries [] 20 f_isi_arpa) (codes "ARPA" ∷ []) ≡ 192 ∷ 26 ∷ [] }
-    ensures case { name_text (new_entries [] 20 f_isi_arpa) (codes "arpa" ∷ []) ≡ 4 ∷ codes "arpa" ++ 0 ∷ [] }
+    ensures first { name_octets [] f_isi_arpa ≡ 1 ∷ codes "F" ++ 3 ∷ codes "ISI" ++ 4 ∷ codes "ARPA" ++ 0 ∷ [] }
+    ensures suffix { name_octets (new_entries [] 20 f_isi_arpa) (codes "FOO" ∷ f_isi_arpa) ≡ 3 ∷ codes "FOO" ++ 192 ∷ 20 ∷ [] }
+    ensures whole { name_octets (new_entries [] 20 f_isi_arpa) (codes "ARPA" ∷ []) ≡ 192 ∷ 26 ∷ [] }
+    ensures least { position_in ((40, f_isi_arpa) ∷ (20, f_isi_arpa) ∷ []) f_isi_arpa ≡ Some 20 }
+    ensures case { name_octets (new_entries [] 20 f_isi_arpa) (codes "arpa" ∷ []) ≡ 4 ∷ codes "arpa" ++ 0 ∷ [] }
 {}

@@ -1,5 +1,6 @@
 //! The names of a message that pointers can name.
 ghost use Rattle.std.specs.Prelude.{◌≡◌, ℕ, ◌+◌, ◌↔◌, [], IsTrue, map};
+ghost use Rattle.std.specs.List.Sorted.{IsStrictlyIncreasing};
 ghost use Rattle.wire_names.specs.Spells.{Spells};
 ghost use Rattle.wire_names.specs.Table.{IsTable, table_of, position_in, entered};
 
@@ -38,9 +39,10 @@ impl Positions {
         }
     }
 
-    /// The earliest position at which the name is spelt, case included.
+    /// The earliest position at which the name is spelt, case included: the first in a table that ascends.
     pub(crate) fn position_of(&self, msg: &[u8], name: &Name) -> Option<u16>
-        requires { IsTable msg.now self.now }
+        requires table { IsTable msg.now self.now }
+        requires ascending { IsStrictlyIncreasing self.now }
         ensures { result ≡ position_in (table_of msg.now self.now) name.now }
     {
         for position in self.own.as_slice() {

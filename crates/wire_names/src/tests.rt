@@ -141,6 +141,26 @@ fn names_of_the_rfc_are_written(rt: HostRuntime) -> Result<(), Fail> {
 }
 
 #[test]
+fn pointers_are_to_the_earliest_place(rt: HostRuntime) -> Result<(), Fail> {
+    // RFC 1035, 4.1.4: a pointer is to a prior occurrence of the name, here to the one written out, each time.
+    let mut out = [7; 20];
+    let mut writer = NameWriter::new();
+    let whole = name(b"\x01a\x01b\x00")?;
+    let longer = name(b"\x01c\x01a\x01b\x00")?;
+    let at = writer.write(&whole, true, &mut out, 0).ok_or("full")?;
+    let at = writer.write(&whole, true, &mut out, at).ok_or("full")?;
+    let at = writer.write(&longer, true, &mut out, at).ok_or("full")?;
+    let at = writer.write(&longer, true, &mut out, at).ok_or("full")?;
+    let at = writer.write(&whole, true, &mut out, at).ok_or("full")?;
+    assert_eq!(rt; at, 15);
+    assert_eq!(rt;
+        out.as_slice(),
+        b"\x01a\x01b\x00\xc0\x00\x01c\xc0\x00\xc0\x07\xc0\x00\x07\x07\x07\x07\x07".as_slice()
+    );
+    Ok(())
+}
+
+#[test]
 fn names_in_full(rt: HostRuntime) -> Result<(), Fail> {
     // RFC 2782: without compression the name is written in full, and nothing points to it; case tells names apart.
     let mut out = [0; 32];
@@ -216,6 +236,7 @@ fn room_for_256_positions(rt: HostRuntime) -> Result<(), Fail> {
 
 #[test]
 fn no_room(rt: HostRuntime) -> Result<(), Fail> {
+    // A label in front takes three octets; what doesn't fit leaves all octets as they were, and the table too.
     let mut out = [7; 6];
     let mut writer = NameWriter::new();
     let label = name(b"\x01a\x00")?;

@@ -9,7 +9,7 @@ use Rattle.std.proofs.lemmas.Cmp.{tied_itself, nat_cmp_total}
 use Rattle.std.proofs.lemmas.List.Elements.{All-from_recursion, All-filter}
 use Rattle.dns_rdata.specs.Data.{Data}
 use Rattle.dns_rdata.specs.Numbers.{type_SOA}
-use Rattle.dns_rdata.specs.Record.{Record, records_with, owner_of, rtype_of, ttl_of, IsSet, IsBefore as IsDataBefore}
+use Rattle.dns_rdata.specs.Record.{Record, IsLawful, records_with, owner_of, rtype_of, ttl_of, IsSet, IsBefore as IsDataBefore}
 use Rattle.zone_tree.specs.Zone.{IsBefore, soa_of}
 use Rattle.zone_tree.specs.Sets.{records_in, set_cmp, IsSetBefore, IsOf, IsRRset, AreAscending, AreUnsplit}
 use Rattle.zone_tree.proofs.NameOrder.{canonical_total}
@@ -26,16 +26,16 @@ data_before : (owner : List (List ℕ)) (rtype ttl : ℕ) (c d : Data) → IsDat
 data_before owner rtype ttl c d h = rw (tied_itself canonical_total owner, tied_itself nat_cmp_total rtype) h
 
 -- records of a set's data are a set
-pub rrset_from_data : (set : List Record) (ds : List Data) → set ≡ records_with (owner_of set) (rtype_of set) (ttl_of set) ds → IsSet (owner_of set) (rtype_of set) (ttl_of set) ds → IsRRset set
-rrset_from_data set ds e lawful =
+pub rrset_from_data : (set : List Record) (ds : List Data) → set ≡ records_with (owner_of set) (rtype_of set) (ttl_of set) ds → IsSet (owner_of set) (rtype_of set) (ttl_of set) ds → All IsLawful set → All (λ r. length r.rdata ≤ 4096) set → IsRRset set
+rrset_from_data set ds e lawful each short =
     let f = with_data (owner_of set) (rtype_of set) (ttl_of set) in
     let long : length set ≡ length ds = ap length e ∙ length-map ds f in
     record {
       some = omega (arith, lawful.some);
       few = omega (arith, lawful.few);
       shared = subst (All (IsOf set)) (sym e) (All-from_recursion (IsOf set) (map f ds) (each_map (IsOf set) f ds (each_always (λ d. IsOf set (f d)) (λ d. record { owner = refl; rtype = refl; ttl = refl }) ds)));
-      folded = lawful.folded;
-      lasts = lawful.lasts;
+      lawful = each;
+      short = short;
       ascending = subst (AllPairs IsBefore) (sym e) (pairs_from_rises IsBefore (map f ds) (Rises-map IsBefore f ds (rises_weaker IsDataBefore (λ c d. IsBefore (f c) (f d)) (data_before (owner_of set) (rtype_of set) (ttl_of set)) ds (rises_from_pairs IsDataBefore ds lawful.ascending))));
     }
 

@@ -50,7 +50,7 @@ same_lists (x ∷ xs) (y ∷ ys) h k same =
     λ i. first i ∷ rest i
 
 pub same_zones : (zone other : List Record) → IsZone zone → IsZone other → ((r : Record) → Contains zone r ↔ Contains other r) → zone ≡ other
-same_zones zone other h k same = same_lists zone other (rises_from_pairs IsBefore zone h.ascending) (rises_from_pairs IsBefore other k.ascending) same
+same_zones zone other h k same = same_lists zone other (rises_from_pairs IsBefore zone h.rules.ascending) (rises_from_pairs IsBefore other k.rules.ascending) same
 
 -- a name is under itself, and under what its ancestor is under
 pub under_itself : (name : List (List ℕ)) → is_under name name ≡ true
@@ -103,4 +103,4 @@ own_kept (r ∷ s ∷ more) e = absurd (omega arith)
 
 -- the one SOA stands at the apex
 pub soa_is_at_apex : (zone : List Record) → IsZone zone → rrset_of zone (apex_of zone) type_SOA ≡ soa_of zone
-soa_is_at_apex zone h = filter_twice (λ r. is_same r.owner (apex_of zone)) (λ r. r.rtype == type_SOA) zone ∙ own_kept (soa_of zone) h.one_soa
+soa_is_at_apex zone h = filter_twice (λ r. is_same r.owner (apex_of zone)) (λ r. r.rtype == type_SOA) zone ∙ own_kept (soa_of zone) h.rules.one_soa

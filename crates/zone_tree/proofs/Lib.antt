@@ -7,3 +7,4 @@ pub mod CheckLemmas
 pub mod RuleLemmas
 pub mod FaultLemmas
 pub mod LawLemmas
+pub mod ZoneTest

@@ -8,10 +8,10 @@ use Rattle.dns_name.specs.Name.{is_same, is_under}
 use Rattle.dns_rdata.specs.Numbers.{type_NS, type_CNAME}
 use Rattle.dns_rdata.specs.Record.{Record, owner_of, rtype_of}
 use Rattle.zone_tree.specs.Zone.{IsZone, apex_of, soa_of, rrset_of, rrsets_of, is_alone, is_wild}
-use Rattle.zone_tree.specs.Sets.{records_in, AreAscending, KeepsRules}
+use Rattle.zone_tree.specs.Sets.{records_in, AreAscending, KeepsApexRules}
 use Rattle.zone_tree.proofs.CheckLemmas.{filter_none, some_kept, length-records_each}
 use Rattle.zone_tree.proofs.SetLemmas.{filter_by_sets, any_by_sets}
-use Rattle.zone_tree.proofs.ZoneLemmas.{records_ascend, records_fold, records_last, records_share, records_few}
+use Rattle.zone_tree.proofs.ZoneLemmas.{records_ascend, records_lawful, records_short, records_share, records_few}
 
 -- where none fails, each passes; where one does, not each
 module _ {X : Type 0} (p : X → Bool) where
@@ -104,17 +104,17 @@ module _ (sets : List (List Record)) (rising : AreAscending sets) where
       omega (arith, ap length (filter_by_sets (λ owner _. is_same owner name) sets rising.each ∙ ap records_in e), length-records_each (set ∷ other ∷ more) (subst (All (λ s. 0 < length s)) e some))
 
   -- sets that keep the rules are a zone
-  pub zone_from_rules : length (soa_of (records_in sets)) ≡ 1 → length (records_in sets) ≤ 1000000 → KeepsRules (records_in sets) → IsZone (records_in sets)
+  pub zone_from_rules : length (soa_of (records_in sets)) ≡ 1 → length (records_in sets) ≤ 1000000 → KeepsApexRules (records_in sets) → IsZone (records_in sets)
   zone_from_rules one few kept = record {
-    ascending = records_ascend sets rising;
-    folded = records_fold sets rising;
-    ttls = records_last sets rising;
-    one_ttl = records_share sets rising;
-    one_soa = one;
-    under_apex = kept.under_apex;
-    name_servers = kept.name_servers;
-    aliases_alone = kept.aliases_alone;
-    no_wild_cuts = kept.no_wild_cuts;
-    few = few;
-    small_sets = records_few sets rising;
+    rules = record {
+      lawful = records_lawful sets rising;
+      ascending = records_ascend sets rising;
+      one_ttl = records_share sets rising;
+      one_soa = one;
+      under_apex = kept.under_apex;
+      name_servers = kept.name_servers;
+      aliases_alone = kept.aliases_alone;
+      no_wild_cuts = kept.no_wild_cuts;
+    };
+    limits = record { few = few; small_sets = records_few sets rising; short = records_short sets rising };
   }

@@ -1,5 +1,5 @@
 -- When sets make a zone, and why sets that break a rule make none.
-use Rattle.std.proofs.Common.{◌≡◌, refl, sym, ap, ◌∙◌, ℕ, zero, suc, ◌+◌, ◌<◌, ◌≤◌, ◌^◌, Bool, true, false, ◌&&◌, ◌||◌, List, [], ◌∷◌, ◌++◌, length, get_or, true≢false, arith, eq-eqb, append-nil, ⊎_elim, inl, inr, ◌⊎◌}
+use Rattle.std.proofs.Common.{◌≡◌, refl, sym, ap, ◌∙◌, ℕ, zero, suc, ◌+◌, ◌<◌, ◌≤◌, Bool, true, false, ◌&&◌, ◌||◌, List, [], ◌∷◌, ◌++◌, length, get_or, true≢false, arith, eq-eqb, append-nil, ⊎_elim, inl, inr, ◌⊎◌}
 use Rattle.std.specs.Prelude.{◌==◌, not}
 use Rattle.std.specs.declared.cmp.Ordering.{Ordering}
 use Rattle.std.specs.declared.cmp.Ordering.TheVariants.{Less, Equal, Greater}
@@ -8,8 +8,8 @@ use Rattle.std.specs.Ordering.{nat_cmp, is_lt, ordering_then}
 use Rattle.std.specs.Cmp.Lexicographic.{slice_cmp}
 use Rattle.std.proofs.lemmas.Cmp.{ranked}
 use Rattle.std.proofs.lemmas.List.Elements.{All-from_recursion, recursion_from_All}
-use Rattle.dns_name.specs.Name.{is_same, fold_name, canonical_cmp}
-use Rattle.dns_rdata.specs.Record.{Record, owner_of, rtype_of}
+use Rattle.dns_name.specs.Name.{is_same, canonical_cmp}
+use Rattle.dns_rdata.specs.Record.{Record, IsLawful, owner_of, rtype_of}
 use Rattle.zone_tree.specs.Zone.{IsBefore, rrset_of, is_of, share_ttl}
 use Rattle.zone_tree.specs.Sets.{records_in, IsSetBefore, IsOf, IsRRset, AreAscending, AreUnsplit}
 use Rattle.zone_tree.proofs.NameOrder.{same_from_tie, same_from_folds}
@@ -47,22 +47,17 @@ rises_by (set ∷ sets) h k =
 pub records_ascend : (sets : List (List Record)) → AreAscending sets → AllPairs IsBefore (records_in sets)
 records_ascend sets h = pairs_from_rises IsBefore (records_in sets) (rises_by sets (recursion_from_All IsRRset sets h.each) (rises_from_pairs IsSetBefore sets h.ascending))
 
--- owners in lower case, and TTLs within their range
-pub records_fold : (sets : List (List Record)) → AreAscending sets → All (λ r. r.owner ≡ fold_name r.owner) (records_in sets)
-records_fold sets h =
-    All-from_recursion (λ r. r.owner ≡ fold_name r.owner) (records_in sets)
-    (each_joined (λ r. r.owner ≡ fold_name r.owner) sets
-    (each_weaker IsRRset (AllByRecursion (λ r. r.owner ≡ fold_name r.owner))
-    (λ set k. each_weaker (IsOf set) (λ r. r.owner ≡ fold_name r.owner) (λ r m. m.owner ∙ k.folded ∙ ap fold_name (sym m.owner)) set (recursion_from_All (IsOf set) set k.shared))
-    sets (recursion_from_All IsRRset sets h.each)))
+-- what holds of each record of each set holds of each record
+records_each : (P : Record → Type 0) → ((set : List Record) → IsRRset set → All P set) → (sets : List (List Record)) → AreAscending sets → All P (records_in sets)
+records_each P each sets h =
+    All-from_recursion P (records_in sets)
+    (each_joined P sets (each_weaker IsRRset (AllByRecursion P) (λ set k. recursion_from_All P set (each set k)) sets (recursion_from_All IsRRset sets h.each)))
 
-pub records_last : (sets : List (List Record)) → AreAscending sets → All (λ r. r.ttl < 2 ^ 31) (records_in sets)
-records_last sets h =
-    All-from_recursion (λ r. r.ttl < 2 ^ 31) (records_in sets)
-    (each_joined (λ r. r.ttl < 2 ^ 31) sets
-    (each_weaker IsRRset (AllByRecursion (λ r. r.ttl < 2 ^ 31))
-    (λ set k. each_weaker (IsOf set) (λ r. r.ttl < 2 ^ 31) (λ r m. rw m.ttl k.lasts) set (recursion_from_All (IsOf set) set k.shared))
-    sets (recursion_from_All IsRRset sets h.each)))
+pub records_lawful : (sets : List (List Record)) → AreAscending sets → All IsLawful (records_in sets)
+records_lawful = records_each IsLawful (λ set k. k.lawful)
+
+pub records_short : (sets : List (List Record)) → AreAscending sets → All (λ r. length r.rdata ≤ 4096) (records_in sets)
+records_short = records_each (λ r. length r.rdata ≤ 4096) (λ set k. k.short)
 
 -- a set has its own owner and type, and no set before or behind it has both
 own_test : (set : List Record) → is_same (owner_of set) (owner_of set) && rtype_of set == rtype_of set ≡ true

@@ -1,11 +1,11 @@
 -- A zone in pieces: its sets, each the records of one owner and type (RFC 2181, 5).
-use Rattle.std.specs.Prelude.{◌≡◌, ℕ, ◌<◌, ◌≤◌, ◌^◌, true, false, ◌&&◌, ◌==◌, List, [], ◌≢◌, length, All}
+use Rattle.std.specs.Prelude.{◌≡◌, ℕ, ◌<◌, ◌≤◌, true, false, ◌&&◌, ◌==◌, List, [], ◌≢◌, length, All}
 use Rattle.std.specs.List.{AllPairs, flat_map, slice_index_or}
 use Rattle.std.specs.Ordering.{nat_cmp, ordering_then, is_lt}
 use Rattle.std.specs.declared.cmp.Ordering.{Ordering}
-use Rattle.dns_name.specs.Name.{is_same, is_under, fold_name, canonical_cmp}
+use Rattle.dns_name.specs.Name.{is_same, is_under, canonical_cmp}
 use Rattle.dns_rdata.specs.Numbers.{type_NS}
-use Rattle.dns_rdata.specs.Record.{Record, owner_of, rtype_of, ttl_of}
+use Rattle.dns_rdata.specs.Record.{Record, IsLawful, owner_of, rtype_of, ttl_of}
 use Rattle.zone_tree.specs.Zone.{IsZone, IsBefore, soa_of, apex_of, rrset_of, is_alone, is_wild}
 
 -- the records of sets, one set after another
@@ -26,14 +26,14 @@ pub record IsOf (set : List Record) (r : Record) : Type 0 where
   pub rtype : r.rtype ≡ rtype_of set
   pub ttl : r.ttl ≡ ttl_of set
 
--- a set: 1 to 256 records of one owner in lower case, one type and one TTL of at most 2^31 - 1, in strictly ascending
--- order (RFC 2181, 5 and 8; RFC 4034, 6.3)
+-- a set: 1 to 256 records that a zone may have, of one owner, one type and one TTL, in strictly ascending order, each with
+-- at most 4,096 octets of data (RFC 2181, 5 and 5.2; RFC 4034, 6.3; own)
 pub record IsRRset (set : List Record) : Type 0 where
   pub some : 0 < length set
   pub few : length set ≤ 256
   pub shared : All (IsOf set) set
-  pub folded : owner_of set ≡ fold_name (owner_of set)
-  pub lasts : ttl_of set < 2 ^ 31
+  pub lawful : All IsLawful set
+  pub short : All (λ r. length r.rdata ≤ 4096) set
   pub ascending : AllPairs IsBefore set
 
 -- sets in strictly ascending order
@@ -51,7 +51,7 @@ pub record IsPlaceOf (sets : List (List Record)) (set : List Record) (at : ℕ) 
   pub is : (d : List Record) → slice_index_or sets at d ≡ set
 
 -- the rules that the apex and the owners of a zone keep, beside the order of its records
-pub record KeepsRules (zone : List Record) : Type 0 where
+pub record KeepsApexRules (zone : List Record) : Type 0 where
   pub under_apex : All (λ r. is_under r.owner (apex_of zone) ≡ true) zone
   pub name_servers : rrset_of zone (apex_of zone) type_NS ≢ []
   pub aliases_alone : All (λ r. is_alone zone r ≡ true) zone

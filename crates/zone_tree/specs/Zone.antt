@@ -1,11 +1,11 @@
 -- What a zone is, and what stands in it (RFC 1034, 4.2; RFC 2181, 5; RFC 4592, 2.2). A zone is the list of its
 -- records in strictly ascending order, so that equal sets of records are equal lists.
-use Rattle.std.specs.Prelude.{◌≡◌, ◌≢◌, ℕ, ◌<◌, ◌≤◌, ◌^◌, Bool, true, false, ◌&&◌, ◌||◌, not, ◌==◌, List, [], ◌∷◌, length, filter, All, AllPairs, bytes_eq}
+use Rattle.std.specs.Prelude.{◌≡◌, ◌≢◌, ℕ, ◌≤◌, Bool, true, false, ◌&&◌, ◌||◌, not, ◌==◌, List, [], ◌∷◌, length, filter, All, AllPairs, bytes_eq}
 use Rattle.std.specs.List.{list_any}
 use Rattle.std.specs.Ordering.{is_lt}
-use Rattle.dns_name.specs.Name.{is_same, is_under, fold_name, asterisk}
+use Rattle.dns_name.specs.Name.{is_same, is_under, asterisk}
 use Rattle.dns_rdata.specs.Numbers.{type_NS, type_CNAME, type_SOA}
-use Rattle.dns_rdata.specs.Record.{Record, record_cmp, owner_of}
+use Rattle.dns_rdata.specs.Record.{Record, IsLawful, record_cmp, owner_of}
 
 -- whether a record stands at a name
 abbrev pub stands_at : List (List ℕ) → Record → Bool
@@ -52,18 +52,26 @@ share_ttl r s = not (is_of s.owner s.rtype r) || r.ttl == s.ttl
 abbrev pub is_alone : List Record → Record → Bool
 is_alone zone r = not (r.rtype == type_CNAME) || length (rrsets_of zone r.owner) == 1
 
--- a zone: its records in strictly ascending order, owners in lower case and at or below the apex; one SOA, at the apex;
--- an NS at the apex; one TTL of at most 2^31 - 1 in a set; an alias alone at its owner; no NS at an owner whose
--- first label is `*`; within the limits (RFC 1034, 4.2.1; RFC 2181, 5.2, 8 and 10.1)
-pub record IsZone (zone : List Record) : Type 0 where
+-- the rules that a zone keeps: records that a zone may have, in strictly ascending order; one TTL in a set; one SOA, and
+-- all owners at or below its owner, the apex; an NS at the apex; an alias alone at its owner; no NS at an owner whose first
+-- label is `*` (RFC 1034, 3.6.2, 4.2 and 4.2.1; RFC 2181, 5.2 and 10.1; RFC 4592, 4.2; own)
+pub record KeepsRules (zone : List Record) : Type 0 where
+  pub lawful : All IsLawful zone
   pub ascending : AllPairs IsBefore zone
-  pub folded : All (λ r. r.owner ≡ fold_name r.owner) zone
-  pub ttls : All (λ r. r.ttl < 2 ^ 31) zone
   pub one_ttl : All (λ r. All (λ s. share_ttl r s ≡ true) zone) zone
   pub one_soa : length (soa_of zone) ≡ 1
   pub under_apex : All (λ r. is_under r.owner (apex_of zone) ≡ true) zone
   pub name_servers : rrset_of zone (apex_of zone) type_NS ≢ []
   pub aliases_alone : All (λ r. is_alone zone r ≡ true) zone
   pub no_wild_cuts : All (λ r. is_wild r.owner && r.rtype == type_NS ≡ false) zone
+
+-- the limits that a zone is within: 1,000,000 records, 256 records a set, 4,096 octets of data a record (own)
+pub record KeepsLimits (zone : List Record) : Type 0 where
   pub few : length zone ≤ 1000000
   pub small_sets : All (λ r. length (rrset_of zone r.owner r.rtype) ≤ 256) zone
+  pub short : All (λ r. length r.rdata ≤ 4096) zone
+
+-- a zone: records that keep the rules, within the limits
+pub record IsZone (zone : List Record) : Type 0 where
+  pub rules : KeepsRules zone
+  pub limits : KeepsLimits zone

@@ -24,6 +24,11 @@ pub fn soa_at_apex()
     ensures { (zone : List Record) → IsZone zone → rrset_of zone (apex_of zone) type_SOA ≡ soa_of zone }
 {}
 
+/// The records of the worked examples are a zone.
+pub fn example_is_a_zone()
+    ensures { IsZone small_zone }
+{}
+
 /// Worked examples of the definitions, in a zone of an SOA and an NS at `example`, a text at `*.example` and an address at
 /// `a.b.example` (RFC 1034, 4.2; RFC 4592, 2.1.1 and 2.2.2).
 pub fn examples()

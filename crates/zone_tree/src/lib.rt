@@ -15,7 +15,7 @@ mod soa;
 mod zone;
 
 pub use fault::ZoneFault;
-pub use laws::{examples, names_that_exist, same_records, soa_at_apex};
+pub use laws::{example_is_a_zone, examples, names_that_exist, same_records, soa_at_apex};
 pub use read::ZoneRead;
 pub use zone::{MAX_RECORDS, Zone};
 

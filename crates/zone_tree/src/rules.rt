@@ -5,7 +5,7 @@ ghost use Rattle.dns_name.specs.Name.{is_same, is_under};
 ghost use Rattle.dns_rdata.specs.Numbers.{type_NS, type_CNAME};
 ghost use Rattle.dns_rdata.specs.Record.{owner_of, rtype_of};
 ghost use Rattle.zone_tree.specs.Zone.{apex_of, rrsets_of, is_wild};
-ghost use Rattle.zone_tree.specs.Sets.{records_in, AreAscending, KeepsRules};
+ghost use Rattle.zone_tree.specs.Sets.{records_in, AreAscending, KeepsApexRules};
 ghost use Rattle.zone_tree.specs.Fault.{IsFault};
 
 use crate::check::len_of;
@@ -19,7 +19,7 @@ use dns_rdata::{RRset, RType};
 pub(crate) fn check_rules(sets: &[RRset], apex: &Name) -> Result<(), ZoneFault>
     requires rising { AreAscending sets.now }
     requires apex { apex.now ≡ apex_of (records_in sets.now) }
-    ensures kept { OnOk result (KeepsRules (records_in sets.now)) }
+    ensures kept { OnOk result (KeepsApexRules (records_in sets.now)) }
     ensures fault { IfErr result (λ fault. IsFault fault sets.now) }
 {
     if has_outside(sets, apex) {

@@ -1,6 +1,6 @@
 use Rattle.std.proofs.Common.{◌≡◌, ℕ, List, take, drop, None, ap, subst, ◌∙◌}
 use Rattle.std.proofs.lemmas.List.{take_min, drop_min}
-use Rattle.wire_names.specs.Written.{IsPut}
+use Rattle.wire_names.specs.Written.{IsOverwritten}
 use Rattle.dns_message.specs.Put.{these}
 use Rattle.dns_message.specs.Puts.{Goes}
 use Rattle.dns_message.specs.Text.{names_text, name_behind}
@@ -23,6 +23,6 @@ unfolding name_behind
 returns c =
     let front : c.split_at.result.0.now ≡ take c.args.front c.args.octets.now = c.split_at.ensures.front ∙ ap (λ (n : ℕ). take n c.args.octets.now) c.min.ensures ∙ take_min c.args.front c.args.octets.now in
     let rest : c.split_at.result.1.now ≡ drop c.args.front c.args.octets.now = c.split_at.ensures.back ∙ ap (λ (n : ℕ). drop n c.args.octets.now) c.min.ensures ∙ drop_min c.args.front c.args.octets.now in
-    let first = subst (λ (octets : List ℕ). IsPut c.args.out.now c.put.new.out c.args.at octets c.in_ok-at.at) front c.in_ok-at.ensures in
+    let first = subst (λ (octets : List ℕ). IsOverwritten c.args.out.now c.put.new.out c.args.at octets c.in_ok-at.at) front c.in_ok-at.ensures in
     let second = subst (λ (octets : List ℕ). Goes (names_text c.args.compress 1 octets) c.put.new.out c.put_names.new.out c.in_ok-at.at c.args.names.now c.put_names.new.names c.put_names.result) rest c.put_names.ensures in
     Goes-behind _ _ _ _ _ _ _ _ _ _ c.requires.table first second

@@ -1,5 +1,5 @@
 use Rattle.std.proofs.Common.{List, ℕ, Option, Some, rules, subst}
-use Rattle.wire_names.specs.Written.{IsPut}
+use Rattle.wire_names.specs.Written.{IsOverwritten}
 use Rattle.dns_message.specs.Message.{message_of}
 use Rattle.dns_message.specs.Put.{each}
 use Rattle.dns_message.specs.Puts.{Goes}
@@ -11,7 +11,7 @@ pub returns : goal.returns
 returns c =
     let m = message_of c.args.reply.now in
     let at = c.unwrap-at.result in
-    let front : IsPut c.args.out.now c.put_header.new.out 0 (header_text (truncated m) (counts_in (truncated m))) at = search rules in
+    let front : IsOverwritten c.args.out.now c.put_header.new.out 0 (header_text (truncated m) (counts_in (truncated m))) at = search rules in
     let asked = each question_text (questions m.question) in
     let put = subst (λ (r : Option ℕ). Goes asked c.put_header.new.out c.put_questions.new.out at c.new-names.result c.put_questions.new.names r) c.unwrap.ensures c.put_questions.ensures.put in
     let back = subst (λ (names : List ℕ). Goes asked c.put_header.new.out c.put_questions.new.out at names c.put_questions.new.names (Some c.unwrap.result)) c.new-names.ensures put in

@@ -1,6 +1,7 @@
-use Rattle.std.proofs.Common.{◌≡◌, length, Some, refl, rules, arith}
+use Rattle.std.proofs.Common.{◌≡◌, ◌<◌, length, All, Some, refl, rules, arith}
+use Rattle.std.proofs.lemmas.Grind.{get_or_default_zero}
 use Rattle.dns_rdata.specs.Data.{data_of}
-use Rattle.dns_rdata.proofs.DataLemmas.{IsRead-data}
+use Rattle.dns_rdata.proofs.DataLemmas.{IsRead-data, data_octets}
 use Rattle.dns_rdata.proofs.data.RData.from_wire.Goals as goal
 
 pub returns-then-len-gt-MAX_DATA-clause-too_long : goal.returns-then-len-gt-MAX_DATA-clause-too_long
@@ -17,7 +18,9 @@ invariant_of-result c =
     let is : data_of c.args.rtype.0 c.args.octets.now ≡ Some own = search rules in
     let size : c.len.result ≡ length own = search rules in
     let read = IsRead-data c.args.rtype.0 c.args.octets.now own is in
-    (read.again, omega (arith, c.if-len-gt-MAX_DATA.false))
+    let octets = c.args.octets.now in
+    let each : All (λ octet. octet < 256) octets = λ k d within. omega (arith, c.type_inv.octets k, get_or_default_zero octets k d within) in
+    record { form = read.again; short = omega (arith, c.if-len-gt-MAX_DATA.false); bytes = data_octets c.args.rtype.0 octets own is each }
 
 pub returns-clause-long_form : goal.returns-clause-long_form
 returns-clause-long_form c =

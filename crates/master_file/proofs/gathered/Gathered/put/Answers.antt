@@ -15,7 +15,7 @@ use Rattle.master_file.proofs.gathered.Gathered.put.Goals as goal
 
 pub returns-then-is_new-is_full-clause-limit : goal.returns-then-is_new-is_full-clause-limit
 returns-then-is_new-is_full-clause-limit c =
-    inr (refl, too_many_at c.in-Ok.is_new c.is_full-is_full.result c.args.self.now.kept.keys c.new.result c.args.placed c.copy-owner.result c.rtype-rtype.result.0 c.new.ensures c.copy-owner.ensures c.rtype-rtype.ensures c.in-Ok.ensures.added c.is_full-is_full.ensures ∙ c.if-is_new-is_full.true)
+    inr (refl, too_many_at c.in-Ok.is_new c.is_full-is_full.result c.args.self.now.kept.keys c.new.result c.args.placed c.copy-owner.result c.rtype-rtype.result.0 c.new.ensures c.copy-owner.ensures c.rtype-rtype.ensures.rtype c.in-Ok.ensures.added c.is_full-is_full.ensures ∙ c.if-is_new-is_full.true)
 
 pub returns-clause-notes : goal.returns-clause-notes
 returns-clause-notes c =
@@ -28,13 +28,13 @@ returns-clause-notes c =
     (c.more-count.ensures
     ∙ ap (λ (n : ℕ). n + cond c.in-Ok.is_new 1 0) (c.count-count.ensures.count
     ∙ ap (λ (o : List (List ℕ)). length (rrset_of kept o c.rtype-rtype.result.0)) c.copy-owner.ensures
-    ∙ ap (λ (t : ℕ). length (rrset_of kept c.args.placed.owner t)) c.rtype-rtype.ensures))
+    ∙ ap (λ (t : ℕ). length (rrset_of kept c.args.placed.owner t)) c.rtype-rtype.ensures.rtype))
     (λ (other : List (List ℕ)) (number : ℕ). c.in-Ok-put.ensures.sets other number
     ∙ ap (λ (o : List (List ℕ)). cond (is_same o other && c.rtype-rtype.result.0 == number) (Some (record { count = c.more-count.result; ttl = c.args.placed.ttl })) (noted_at c.args.self.now.notes other number)) c.copy-owner.ensures
-    ∙ ap (λ (t : ℕ). cond (is_same c.args.placed.owner other && t == number) (Some (record { count = c.more-count.result; ttl = c.args.placed.ttl })) (noted_at c.args.self.now.notes other number)) c.rtype-rtype.ensures)
+    ∙ ap (λ (t : ℕ). cond (is_same c.args.placed.owner other && t == number) (Some (record { count = c.more-count.result; ttl = c.args.placed.ttl })) (noted_at c.args.self.now.notes other number)) c.rtype-rtype.ensures.rtype)
     (λ (other : List (List ℕ)). c.in-Ok-put.ensures.owners other
     ∙ ap (λ (o : List (List ℕ)). cond (c.in-Ok.is_new && is_same o other) true (sorted.contains canonical_cmp c.args.self.now.notes.owners other)) c.copy-owner.ensures)
-    (c.in-Ok-put.ensures.soa ∙ ap (λ (t : ℕ). c.args.self.now.notes.has_soa || (c.in-Ok.is_new && t == type_SOA)) c.rtype-rtype.ensures)
+    (c.in-Ok-put.ensures.soa ∙ ap (λ (t : ℕ). c.args.self.now.notes.has_soa || (c.in-Ok.is_new && t == type_SOA)) c.rtype-rtype.ensures.rtype)
     c.requires.notes
 
 pub returns-clause-times : goal.returns-clause-times
@@ -43,5 +43,5 @@ returns-clause-times c = λ (r : Record).
     ap (λ (o : Option Noted). with_ttl_of o r)
     (c.in-Ok-put.ensures.sets r.owner r.rtype
     ∙ ap (λ (o : List (List ℕ)). cond (is_same o r.owner && c.rtype-rtype.result.0 == r.rtype) (Some noted) (noted_at c.args.self.now.notes r.owner r.rtype)) c.copy-owner.ensures
-    ∙ ap (λ (t : ℕ). cond (is_same c.args.placed.owner r.owner && t == r.rtype) (Some noted) (noted_at c.args.self.now.notes r.owner r.rtype)) c.rtype-rtype.ensures)
+    ∙ ap (λ (t : ℕ). cond (is_same c.args.placed.owner r.owner && t == r.rtype) (Some noted) (noted_at c.args.self.now.notes r.owner r.rtype)) c.rtype-rtype.ensures.rtype)
     ∙ times_at (is_of r.owner r.rtype (record_in c.args.placed)) noted (noted_at c.args.self.now.notes r.owner r.rtype) r
