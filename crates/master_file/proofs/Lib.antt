@@ -4,6 +4,7 @@ pub mod JudgeLemmas
 pub mod KeptLemmas
 pub mod NotesLemmas
 pub mod RecordLemmas
+pub mod RuleLemmas
 pub mod SetLemmas
 pub mod ZoneBackLemmas
 pub mod ZoneLawLemmas
