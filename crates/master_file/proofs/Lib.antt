@@ -6,6 +6,7 @@ pub mod NotesLemmas
 pub mod RecordLemmas
 pub mod RuleLemmas
 pub mod SetLemmas
+pub mod ShownLemmas
 pub mod ZoneBackLemmas
 pub mod ZoneLawLemmas
 pub mod ZoneTextLemmas
