@@ -1,5 +1,6 @@
 pub mod GatherLemmas
 pub mod InsertLemmas
+pub mod IsZoneLemmas
 pub mod JudgeLemmas
 pub mod KeptLemmas
 pub mod NotesLemmas

@@ -118,7 +118,7 @@ alone_told false c aliases more at all e f g h shows = true≢false (sym shows)
 alone_told true true aliases more at all e f g h shows = let k = h (omega arith) in let none : all ≡ 0 = omega arith in let too : at ≡ 0 = omega arith in grind (arith, nat_tests)
 alone_told true false aliases more at all e f g h shows = let some : 0 < at = grind (arith, nat_tests) in omega (arith, h (omega arith))
 
-same_at : (kept : List Record) (owner other : List (List ℕ)) → is_same owner other ≡ true → length (rrsets_of kept owner) ≡ length (rrsets_of kept other)
+pub same_at : (kept : List Record) (owner other : List (List ℕ)) → is_same owner other ≡ true → length (rrsets_of kept owner) ≡ length (rrsets_of kept other)
 same_at kept owner other e = ap (λ (f : List (List ℕ)). length (filter (λ (r : Record). pointwise bytes_eq (fold_name r.owner) f) kept)) ((is_same_Decides owner other).0 e)
 
 same_alias : (kept : List Record) (owner other : List (List ℕ)) → is_same owner other ≡ true → length (rrset_of kept owner type_CNAME) ≡ length (rrset_of kept other type_CNAME)
