@@ -1,6 +1,6 @@
 -- A text's records are a zone exactly where no fault is told of them.
-use Rattle.std.proofs.Common.{◌≡◌, ◌≢◌, refl, sym, ap, ◌∙◌, subst, ℕ, ◌+◌, ◌<◌, ◌≤◌, ◌^◌, Bool, true, false, cond, not, ◌&&◌, ◌||◌, ◌==◌, nat_lt, List, [], ◌∷◌, map, length, All, arith, true≢false, Option, Some, None, Result, Ok, Err}
-use Rattle.std.specs.List.{filter, list_any, AllByRecursion}
+use Rattle.std.proofs.Common.{◌≡◌, ◌≢◌, refl, sym, ap, ◌∙◌, subst, ℕ, ◌+◌, ◌<◌, ◌≤◌, ◌^◌, Bool, true, false, not, ◌&&◌, ◌||◌, ◌==◌, nat_lt, List, [], ◌∷◌, map, length, All, arith, true≢false, Option, Some, None, Result, Ok}
+use Rattle.std.specs.List.{filter, AllByRecursion}
 use Rattle.std.proofs.lemmas.Bool.Decides.{Decides-eqb, nat_tests}
 use Rattle.std.proofs.lemmas.List.{length-map}
 use Rattle.std.proofs.lemmas.List.Elements.{All-from_recursion, recursion_from_All}
@@ -8,18 +8,18 @@ use Rattle.dns_name.specs.Name.{is_same, is_under, fold_name}
 use Rattle.dns_name.specs.Order.{is_same_Decides}
 use Rattle.dns_rdata.specs.Numbers.{type_NS, type_CNAME, type_SOA}
 use Rattle.dns_rdata.specs.Record.{Record, IsLawful}
-use Rattle.zone_tree.specs.Zone.{stands_at, is_of, rrset_of, rrsets_of, soa_of, apex_of, is_wild, is_alone, share_ttl, IsBefore, IsZone, KeepsRules, KeepsLimits}
+use Rattle.zone_tree.specs.Zone.{stands_at, is_of, rrset_of, rrsets_of, soa_of, apex_of, is_wild, is_alone, share_ttl, IsBefore, IsZone}
 use Rattle.zone_tree.proofs.Rising.{each_weaker, each_map, each_always, each_both, pairs_from_rises}
 use Rattle.master_file.specs.declared.placed.Placed.{Placed}
 use Rattle.record_text.specs.declared.cause.Cause.{Cause}
-use Rattle.record_text.specs.declared.cause.Cause.TheVariants.{Limit, Outside, Apex, Conflict}
+use Rattle.record_text.specs.declared.cause.Cause.TheVariants.{Outside, Apex, Conflict}
 use Rattle.master_file.specs.declared.fault.FileFault.{FileFault}
 use Rattle.master_file.specs.Gathered.{record_in, with_all, timed, first_line, is_too_many, is_second_soa, is_conflict, outside_line, told, told_whole, zone_of_all, zone_records}
 use Rattle.master_file.proofs.KeptLemmas.{one, count_cons}
 use Rattle.master_file.proofs.NotesLemmas.{same_set}
-use Rattle.master_file.proofs.JudgeLemmas.{Ascends, ascends_all, Judges, holds_of_all, no_line, AreFew, limits_judge, HasOneSoa, soa_judges}
+use Rattle.master_file.proofs.JudgeLemmas.{ascends_all, holds_of_all, no_line, AreFew, limits_judge, HasOneSoa, soa_judges}
 use Rattle.master_file.proofs.RuleLemmas.{AreApart, conflicts_judge, is_outside, AreInside, outside_judges, outside_first, is_wild_cut, same_at}
-use Rattle.master_file.proofs.ShownLemmas.{shown, count_map, shown_at, shown_of, shown_soa, shown_cut, shown_outside, shown_owner, apex_folded, apex_shown, ascends_shown, share_shown, lawful_shown, is_read, each_read, each_of_all, timed_rdata}
+use Rattle.master_file.proofs.ShownLemmas.{shown, count_map, shown_at, shown_of, shown_soa, shown_cut, shown_outside, apex_folded, apex_shown, ascends_shown, share_shown, lawful_shown, is_read, each_read, each_of_all, timed_rdata}
 use Rattle.dns_rdata.proofs.NameLemmas.{fold_name-fold_name}
 
 -- what the records kept of a text hold where it is a zone's
@@ -66,15 +66,17 @@ of_zone ps zone few e =
     let b = whole_ok (length (soa_of kept) == 0) third zone a.1 in
     let c = whole_ok (length (rrset_of kept apex type_NS) == 0) fourth zone b.1 in
     let d = told_ok Outside (outside_line apex ps) fifth zone c.1 in
-    let f = told_ok Conflict (first_line is_conflict [] ps) (Ok (zone_records ps)) zone d.1 in
-    (record {
-      few = holds_of_all limits_judge [] ps tt few_none few;
-      one_soa = holds_of_all soa_judges [] ps tt (omega arith) a.0;
-      apart = holds_of_all conflicts_judge [] ps tt apart_none f.0;
-      inside = holds_of_all (outside_judges apex) [] ps tt (omega arith) (sym (outside_first apex [] ps) ∙ d.0);
-      soa = b.0;
-      servers = c.0;
-    }, cc (f.1))
+    let f = told_ok Conflict (first_line is_conflict [] ps) (Ok (zone_records ps)) zone d.1 in (
+      record {
+        few = holds_of_all limits_judge [] ps tt few_none few;
+        one_soa = holds_of_all soa_judges [] ps tt (omega arith) a.0;
+        apart = holds_of_all conflicts_judge [] ps tt apart_none f.0;
+        inside = holds_of_all (outside_judges apex) [] ps tt (omega arith) (sym (outside_first apex [] ps) ∙ d.0);
+        soa = b.0;
+        servers = c.0;
+      },
+      cc (f.1),
+    )
 
 -- and where they hold it, none is told
 pub ok_zone : (ps : List Placed) → AreOfZone (with_all [] ps) → (first_line is_too_many [] ps ≡ None) × (zone_of_all ps ≡ Ok (zone_records ps))
@@ -84,13 +86,14 @@ ok_zone ps h =
     let none = no_line limits_judge [] ps tt h.few in
     let second = no_line soa_judges [] ps tt h.one_soa in
     let outside = no_line (outside_judges apex) [] ps tt h.inside in
-    let conflict = no_line conflicts_judge [] ps tt h.apart in
-    (none.0,
+    let conflict = no_line conflicts_judge [] ps tt h.apart in (
+      none.0,
       ap (λ (o : Option ℕ). told Apex o (told_whole (length (soa_of kept) == 0) (told_whole (length (rrset_of kept apex type_NS) == 0) (told Outside (outside_line apex ps) (told Conflict (first_line is_conflict [] ps) (Ok (zone_records ps))))))) second.0
-      ∙ ap (λ (b : Bool). told_whole b (told_whole (length (rrset_of kept apex type_NS) == 0) (told Outside (outside_line apex ps) (told Conflict (first_line is_conflict [] ps) (Ok (zone_records ps)))))) h.soa
-      ∙ ap (λ (b : Bool). told_whole b (told Outside (outside_line apex ps) (told Conflict (first_line is_conflict [] ps) (Ok (zone_records ps))))) h.servers
-      ∙ ap (λ (o : Option ℕ). told Outside o (told Conflict (first_line is_conflict [] ps) (Ok (zone_records ps)))) (outside_first apex [] ps ∙ outside.0)
-      ∙ ap (λ (o : Option ℕ). told Conflict o (Ok (zone_records ps))) conflict.0)
+          ∙ ap (λ (b : Bool). told_whole b (told_whole (length (rrset_of kept apex type_NS) == 0) (told Outside (outside_line apex ps) (told Conflict (first_line is_conflict [] ps) (Ok (zone_records ps)))))) h.soa
+          ∙ ap (λ (b : Bool). told_whole b (told Outside (outside_line apex ps) (told Conflict (first_line is_conflict [] ps) (Ok (zone_records ps))))) h.servers
+          ∙ ap (λ (o : Option ℕ). told Outside o (told Conflict (first_line is_conflict [] ps) (Ok (zone_records ps)))) (outside_first apex [] ps ∙ outside.0)
+          ∙ ap (λ (o : Option ℕ). told Conflict o (Ok (zone_records ps))) conflict.0,
+    )
 
 -- what a test shows none of, and each of which it shows none
 none_each : (q : Record → Bool) (rs : List Record) → length (filter q rs) ≤ 0 → AllByRecursion (λ r. q r ≡ false) rs
@@ -108,9 +111,10 @@ each_none q (r ∷ rs) h = let c = count_cons q r rs in let first : one (q r) �
 -- each that its own test shows is counted by it
 each_counted : (g : Record → Record → Bool) (rs : List Record) → AllByRecursion (λ r. g r r ≡ true → 0 < length (filter (g r) rs)) rs
 each_counted g [] = tt
-each_counted g (r ∷ rs) =
-    (λ e. let c = count_cons (g r) r rs in let first : one (g r r) ≡ 1 = ap one e in omega arith,
-    each_weaker (λ s. g s s ≡ true → 0 < length (filter (g s) rs)) (λ s. g s s ≡ true → 0 < length (filter (g s) (r ∷ rs))) (λ s k e. let c = count_cons (g s) r rs in let some = k e in omega arith) rs (each_counted g rs))
+each_counted g (r ∷ rs) = (
+  λ e. let c = count_cons (g r) r rs in let first : one (g r r) ≡ 1 = ap one e in omega arith,
+  each_weaker (λ s. g s s ≡ true → 0 < length (filter (g s) rs)) (λ s. g s s ≡ true → 0 < length (filter (g s) (r ∷ rs))) (λ s k e. let c = count_cons (g s) r rs in let some = k e in omega arith) rs (each_counted g rs),
+)
 
 -- what holds of each holds of one that a test shows
 from_counted : (P : Record → Type 0) (q : Record → Bool) (C : Type 0) → ((r : Record) → P r → q r ≡ true → C) → (rs : List Record) → AllByRecursion P rs → 0 < length (filter q rs) → C
@@ -217,8 +221,8 @@ module _ (ps : List Placed) where
               (λ (r : Record). (is_of r.owner type_CNAME r ≡ true → 0 < length (rrset_of zone r.owner type_CNAME)) × (stands_at r.owner r ≡ true → 0 < length (rrsets_of zone r.owner)))
               (λ (r : Record). is_alone zone r ≡ true)
               (λ r counted. alone_by (r.rtype == type_CNAME) (length (rrsets_of zone r.owner)) (length (rrset_of zone r.owner type_CNAME))
-                  (λ e. counted.1 (own_same r.owner)) (λ e. counted.0 (let o = own_same r.owner in rw (o, e) refl))
-                  (λ some. let a = set_count r.owner type_CNAME in let b = at_count r.owner in let c = h.apart.alone r.owner (omega arith) in omega arith))
+              (λ e. counted.1 (own_same r.owner)) (λ e. counted.0 (let o = own_same r.owner in rw (o, e) refl))
+              (λ some. let a = set_count r.owner type_CNAME in let b = at_count r.owner in let c = h.apart.alone r.owner (omega arith) in omega arith))
               zone (each_both (λ (r : Record). is_of r.owner type_CNAME r ≡ true → 0 < length (rrset_of zone r.owner type_CNAME)) (λ (r : Record). stands_at r.owner r ≡ true → 0 < length (rrsets_of zone r.owner)) zone
               (each_counted (λ (r : Record). is_of r.owner type_CNAME) zone) (each_counted (λ (r : Record). stands_at r.owner) zone)));
           no_wild_cuts = let none = none_each is_wild_cut zone (let a = cut_count in let b = h.apart.cuts in omega arith) in all_from_each (λ (r : Record). is_wild r.owner && r.rtype == type_NS ≡ false) zone none;

@@ -1,3 +1,4 @@
+pub mod AgainLemmas
 pub mod GatherLemmas
 pub mod InsertLemmas
 pub mod IsZoneLemmas

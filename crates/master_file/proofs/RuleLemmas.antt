@@ -1,29 +1,26 @@
 -- Conflicts and owners outside the apex, by counts of the records read.
-use Rattle.std.proofs.Common.{◌≡◌, refl, sym, ap, ◌∙◌, subst, ℕ, suc, ◌+◌, ◌<◌, ◌≤◌, Bool, true, false, cond, not, ◌&&◌, ◌||◌, ◌==◌, nat_lt, List, [], ◌∷◌, map, length, arith, true≢false, Option, Some, None}
+use Rattle.std.proofs.Common.{◌≡◌, refl, sym, ap, ◌∙◌, ℕ, suc, ◌+◌, ◌<◌, ◌≤◌, Bool, true, false, cond, not, ◌&&◌, ◌||◌, ◌==◌, nat_lt, List, [], ◌∷◌, map, length, arith, true≢false, Option, Some}
 use Rattle.std.specs.Prelude.{bytes_eq}
 use Rattle.std.specs.Char.{to_ascii_lowercase}
 use Rattle.std.specs.Cmp.Lexicographic.{pointwise}
 use Rattle.std.specs.List.{filter, list_any}
-use Rattle.std.specs.Ordering.{is_eq, is_lt, nat_cmp, ordering_then}
-use Rattle.std.specs.declared.cmp.Ordering.{Ordering}
-use Rattle.std.specs.declared.cmp.Ordering.TheVariants.{Less, Equal, Greater}
+use Rattle.std.specs.Ordering.{is_eq, nat_cmp}
+use Rattle.std.specs.declared.cmp.Ordering.TheVariants.{Equal}
 use Rattle.std.specs.Cmp.{tied_then, unsigned_tied}
 use Rattle.std.proofs.lemmas.Bool.Decides.{Decides-eqb, nat_tests}
-use Rattle.std.proofs.lemmas.Slice.Eq.{bytes_eq-Decides}
 use Rattle.dns_name.specs.Name.{is_same, is_under, fold_name, canonical_cmp}
 use Rattle.dns_name.specs.Order.{is_same_equiv, is_same_Decides, is_same_tied}
 use Rattle.dns_name.proofs.LawLemmas.{ending_from_under, under_from_ending}
-use Rattle.dns_rdata.specs.Numbers.{type_NS, type_CNAME, type_SOA}
+use Rattle.dns_rdata.specs.Numbers.{type_NS, type_CNAME}
 use Rattle.dns_rdata.specs.Record.{Record, record_cmp}
-use Rattle.zone_tree.specs.Zone.{stands_at, is_of, rrset_of, rrsets_of, soa_of, is_wild}
-use Rattle.zone_tree.proofs.NameOrder.{same_from_tie, folds_from_same}
+use Rattle.zone_tree.specs.Zone.{stands_at, is_of, rrset_of, rrsets_of, is_wild}
 use Rattle.zone_tree.proofs.SetLemmas.{record_total}
 use Rattle.master_file.specs.declared.placed.Placed.{Placed}
-use Rattle.master_file.specs.Gathered.{record_in, with_one, with_all, first_line, is_new, is_beside_alias, is_conflict, outside_line}
+use Rattle.master_file.specs.Gathered.{record_in, with_one, first_line, is_new, is_beside_alias, is_conflict, outside_line}
 use Rattle.master_file.proofs.InsertLemmas.{some_tied}
 use Rattle.master_file.proofs.KeptLemmas.{one, count_cons}
 use Rattle.master_file.proofs.NotesLemmas.{same_set}
-use Rattle.master_file.proofs.JudgeLemmas.{Ascends, Judges, count_with, no_line, holds_of_all}
+use Rattle.master_file.proofs.JudgeLemmas.{Ascends, Judges, count_with}
 
 -- records that tie have one owner but for case, and one type
 tied_parts : (r s : Record) → record_cmp r s ≡ Equal → (fold_name r.owner ≡ fold_name s.owner) × (r.rtype ≡ s.rtype)
@@ -179,9 +176,9 @@ conflicts_judge = record {
       };
   told = λ kept p h q shows. either ⊥ (is_beside_alias kept p) (is_wild p.owner && p.rdata.rtype == type_NS) shows
       (λ e. alone_told (is_new kept p) (p.rdata.rtype == type_CNAME) (length (rrset_of (with_one kept p) p.owner type_CNAME)) (length (rrsets_of (with_one kept p) p.owner)) (length (rrset_of kept p.owner type_CNAME)) (length (rrsets_of kept p.owner))
-          (count_with (is_of p.owner type_CNAME) kept p h ∙ ap (λ (b : Bool). one (is_new kept p && (b && p.rdata.rtype == type_CNAME)) + length (rrset_of kept p.owner type_CNAME)) (own p.owner))
-          (count_with (stands_at p.owner) kept p h ∙ ap (λ (b : Bool). one (is_new kept p && b) + length (rrsets_of kept p.owner)) (own p.owner))
-          (fewer (stands_at p.owner) (λ (r : Record). r.rtype == type_CNAME) kept) (q.alone p.owner) (sym (beside kept p) ∙ e))
+      (count_with (is_of p.owner type_CNAME) kept p h ∙ ap (λ (b : Bool). one (is_new kept p && (b && p.rdata.rtype == type_CNAME)) + length (rrset_of kept p.owner type_CNAME)) (own p.owner))
+      (count_with (stands_at p.owner) kept p h ∙ ap (λ (b : Bool). one (is_new kept p && b) + length (rrsets_of kept p.owner)) (own p.owner))
+      (fewer (stands_at p.owner) (λ (r : Record). r.rtype == type_CNAME) kept) (q.alone p.owner) (sym (beside kept p) ∙ e))
       (λ e. shown_none is_wild_cut cuts_tied kept p h q.cuts e);
   before = λ kept p h q. record {
     alone = λ owner some.

@@ -1,19 +1,19 @@
 -- The records read, each with the TTL of its set and its owner in lower case.
-use Rattle.std.proofs.Common.{◌≡◌, refl, sym, ap, ◌∙◌, subst, ℕ, suc, ◌+◌, ◌<◌, ◌≤◌, ◌^◌, Bool, true, false, cond, not, ◌&&◌, ◌||◌, ◌==◌, nat_lt, List, [], ◌∷◌, ◌++◌, map, length, All, arith, true≢false, Option, Some, None}
+use Rattle.std.proofs.Common.{◌≡◌, refl, sym, ap, ◌∙◌, subst, ℕ, ◌+◌, ◌<◌, ◌^◌, Bool, true, false, cond, not, ◌&&◌, ◌||◌, ◌==◌, List, [], ◌∷◌, ◌++◌, map, length, All, true≢false, Some}
 use Rattle.std.specs.Prelude.{bytes_eq, reverse}
 use Rattle.std.specs.Cmp.Lexicographic.{pointwise, slice_cmp}
 use Rattle.std.specs.List.{filter, list_any, AllByRecursion}
 use Rattle.std.specs.Ordering.{is_lt, nat_cmp, ordering_then}
-use Rattle.std.proofs.lemmas.Bool.Decides.{Decides-eqb, nat_tests}
+use Rattle.std.proofs.lemmas.Bool.Decides.{Decides-eqb}
 use Rattle.dns_name.specs.Name.{IsName, is_same, is_under, fold_name, canonical_cmp}
 use Rattle.dns_name.specs.Order.{is_same_Decides}
 use Rattle.dns_name.proofs.LawLemmas.{ending_from_under, under_from_ending}
 use Rattle.dns_rdata.proofs.NameLemmas.{fold_name-fold_name}
 use Rattle.dns_rdata.specs.Data.{data_of}
-use Rattle.dns_rdata.specs.Numbers.{type_NS, type_CNAME, type_SOA}
+use Rattle.dns_rdata.specs.Numbers.{type_NS, type_SOA}
 use Rattle.dns_rdata.specs.Record.{Record, record_cmp, owner_of, IsLawful}
-use Rattle.zone_tree.specs.Zone.{stands_at, is_of, rrset_of, rrsets_of, soa_of, apex_of, is_wild, share_ttl}
-use Rattle.zone_tree.proofs.Rising.{each_weaker, each_map, Rises, Rises-map, rises_weaker}
+use Rattle.zone_tree.specs.Zone.{stands_at, is_of, soa_of, apex_of, is_wild, share_ttl}
+use Rattle.zone_tree.proofs.Rising.{each_weaker, Rises-map, rises_weaker}
 use Rattle.zone_tree.proofs.SetLemmas.{record_total}
 use Rattle.master_file.specs.declared.placed.Placed.{Placed}
 use Rattle.master_file.specs.Gathered.{record_in, with_one, with_all, timed, in_lower}

@@ -1,6 +1,8 @@
 //! Laws of a zone's text: each is the contract of a function that does nothing.
 ghost use Rattle.std.specs.Prelude.{◌≡◌, ◌≤◌, ℕ, length, false, List, Some, None, map, All, Ok};
 ghost use Rattle.dns_rdata.specs.Record.{Record, IsLawful};
+ghost use Rattle.zone_tree.specs.Zone.{IsZone};
+ghost use Rattle.master_file.specs.Gathered.{zone_of_text};
 ghost use Rattle.zone_lexing.specs.Entries.{entries_of};
 ghost use Rattle.master_file.specs.declared.context.Context.{Context};
 ghost use Rattle.master_file.specs.Records.{behind, judged, records_of};
@@ -21,4 +23,9 @@ pub fn written_zone_is_read_back()
         → judged context line false (line_words r) ≡ Ok (behind context (placed_at line r), Some (placed_at line r)) }
     ensures records { (zone : List Record) (origin : List (List ℕ)) → All IsLawful zone → All (λ r. length r.rdata ≤ 4096) zone
         → records_of origin (zone_text zone) ≡ record { placed = placed_from 1 (soa_first zone); fault = None } }
+{}
+
+/// What is written of a zone is read as that zone, whatever the origin is (RFC 1035, 5.1).
+pub fn written_zone_is_the_zone()
+    ensures { (zone : List Record) (origin : List (List ℕ)) → IsZone zone → zone_of_text origin (zone_text zone) ≡ Ok zone }
 {}
