@@ -5,7 +5,7 @@ use Rattle.std.specs.List.{filter, find}
 use Rattle.dns_rdata.specs.Record.{Record}
 use Rattle.zone_tree.specs.Zone.{is_of, soa_of, apex_of, rrset_of}
 use Rattle.dns_rdata.specs.Numbers.{type_NS}
-use Rattle.master_file.specs.declared.fault.Cause.TheVariants.{Limit, Apex, Outside, Conflict}
+use Rattle.record_text.specs.declared.cause.Cause.TheVariants.{Limit, Apex, Outside, Conflict}
 use Rattle.master_file.specs.declared.fault.FileFault.{FileFault}
 use Rattle.master_file.specs.declared.gathered.Gathered.{Gathered}
 use Rattle.master_file.specs.declared.noted.Noted.{Noted}

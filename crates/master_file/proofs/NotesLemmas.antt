@@ -29,7 +29,7 @@ not_false true e = cc
 not_false false e = refl
 
 -- one owner and type has one set, however the owner is spelt
-same_set : (kept : List Record) (owner other : List (List ℕ)) (rtype number : ℕ) → (is_same owner other && rtype == number) ≡ true → length (rrset_of kept owner rtype) ≡ length (rrset_of kept other number)
+pub same_set : (kept : List Record) (owner other : List (List ℕ)) (rtype number : ℕ) → (is_same owner other && rtype == number) ≡ true → length (rrset_of kept owner rtype) ≡ length (rrset_of kept other number)
 same_set kept owner other rtype number e =
     let parts = both (is_same owner other) (rtype == number) e in
     let folded = (is_same_Decides owner other).0 parts.0 in

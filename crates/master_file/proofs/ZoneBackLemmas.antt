@@ -1,198 +1,72 @@
 -- What is written of a zone is read as its records.
-use Rattle.std.proofs.Common.{◌≡◌, ℕ, ◌+◌, ◌<◌, ◌^◌, Bool, true, false, cond, ◌||◌, ◌==◌, nat_lt, bytes_eq, List, [], ◌∷◌, ◌++◌, length, map, flat_map, codes, decimal, Option, Some, None, Result, Ok, Err, ok_or, All, refl, sym, ap, ◌∙◌, arith}
-use Rattle.std.specs.List.{list_all}
-use Rattle.std.specs.Char.{is_ascii_digit, digit_value}
-use Rattle.std.specs.Str.Parse.{AllDigits}
-use Rattle.std.proofs.lemmas.Bool.Decides.{Decides-eqb, nat_tests}
-use Rattle.std.proofs.lemmas.Fmt.{decimal_is_IsNumeral}
-use Rattle.std.proofs.lemmas.List.{append_assoc}
+use Rattle.std.proofs.Common.{◌≡◌, ℕ, ◌+◌, ◌≤◌, length, Bool, false, cond, List, [], ◌∷◌, map, codes, decimal, Option, Some, None, Result, Ok, Err, All, refl, sym, ap, ◌∙◌}
 use Rattle.std.proofs.lemmas.List.Elements.{All-head, All-tail}
-use Rattle.dns_name.specs.Name.{IsName, IsLabel, fold_name}
-use Rattle.dns_name.specs.Text.{digits_of, is_special, octet_text, label_text, text_of}
-use Rattle.dns_name.proofs.RoundLemmas.{name_of_text-text_of}
-use Rattle.dns_rdata.specs.Layout.{layout_of}
-use Rattle.dns_rdata.specs.Data.{data_of}
-use Rattle.dns_rdata.specs.Record.{Record}
-use Rattle.dns_rdata.specs.declared.numbers.Ttl.{Ttl}
-use Rattle.master_file.specs.declared.fault.Cause.{Cause}
-use Rattle.master_file.specs.declared.fault.Cause.TheVariants.{UnknownType}
-use Rattle.master_file.specs.declared.fault.FileFault.{FileFault}
-use Rattle.master_file.specs.declared.force.Force.{Force}
-use Rattle.master_file.specs.declared.front.Mark.{Mark}
-use Rattle.master_file.specs.declared.front.Mark.TheVariants as mark
+use Rattle.dns_name.specs.Name.{fold_name}
+use Rattle.dns_name.specs.Text.{text_of}
+use Rattle.dns_rdata.specs.Record.{Record, IsLawful}
+use Rattle.record_text.specs.declared.cause.Cause.{Cause}
+use Rattle.master_file.specs.declared.context.Context.{Context}
 use Rattle.master_file.specs.declared.placed.Placed.{Placed}
-use Rattle.master_file.specs.Data.{data_of_words}
-use Rattle.master_file.specs.Entries.{Entry}
-use Rattle.master_file.specs.Front.{Front, mark_of, front_from, front_of}
-use Rattle.master_file.specs.Items.{begins_with}
-use Rattle.master_file.specs.Kind.{type_named, class_named}
-use Rattle.master_file.specs.NameWord.{name_named, owner_of}
-use Rattle.master_file.specs.Number.{are_digits}
+use Rattle.record_text.specs.Data.{data_of_words}
+use Rattle.zone_lexing.specs.Entries.{Entry}
+use Rattle.record_text.specs.Front.{Front}
 use Rattle.master_file.specs.Records.{directive_of, directed, owned_of, ttl_in, placed_of, record_of, behind, judged, fault_at, records_from, Read, faulty, in_front}
-use Rattle.master_file.specs.Spelling.{one_a_line}
-use Rattle.master_file.specs.Text.{words_of}
-use Rattle.master_file.specs.Word.{Written, on_ok, and_then}
-use Rattle.master_file.specs.Word.Written.{Plain}
-use Rattle.master_file.specs.ZoneText.{type_word, line_words, IsLawful, placed_at, placed_from}
-use Rattle.master_file.proofs.BackLemmas.{number_back}
-use Rattle.master_file.proofs.FormLemmas.{data_back}
-
--- a label's text doesn't begin with `@` or `$`
-no_at : (c : ℕ) → is_special c ≡ false → (c == 64) ≡ false
-no_at c e = grind (arith, nat_tests)
-
-no_dollar : (c : ℕ) → is_special c ≡ false → (c == 36) ≡ false
-no_dollar c e = grind (arith, nat_tests)
-
-at_if : (outside special : Bool) (c : ℕ) (more : List ℕ) → is_special c ≡ special → bytes_eq (cond outside (92 ∷ digits_of c) (cond special (92 ∷ c ∷ []) (c ∷ [])) ++ more) (64 ∷ []) ≡ false
-at_if true special c more e = refl
-at_if false true c more e = refl
-at_if false false c more e = let other = no_at c e in rw other refl
-
-dollar_if : (outside special : Bool) (c : ℕ) (more : List ℕ) → is_special c ≡ special → begins_with 36 (cond outside (92 ∷ digits_of c) (cond special (92 ∷ c ∷ []) (c ∷ [])) ++ more) ≡ false
-dollar_if true special c more e = refl
-dollar_if false true c more e = refl
-dollar_if false false c more e = no_dollar c e
-
-cut : (x : ℕ) (label : List ℕ) (name : List (List ℕ)) → text_of ((x ∷ label) ∷ name) ≡ octet_text x ++ ((flat_map octet_text label ++ 46 ∷ []) ++ flat_map label_text name)
-cut x label name =
-    let more = flat_map octet_text label in
-    let rest = flat_map label_text name in
-    ap (λ (os : List ℕ). os ++ rest) (append_assoc (octet_text x) more (46 ∷ [])) ∙ append_assoc (octet_text x) (more ++ 46 ∷ []) rest
-
-not_at : (name : List (List ℕ)) → IsName name → bytes_eq (text_of name) (64 ∷ []) ≡ false
-not_at [] h = refl
-not_at ([] ∷ name) h = let head = All-head IsLabel [] name h.labels in absurd (omega (arith, head.some))
-not_at ((x ∷ label) ∷ name) h =
-    ap (λ (os : List ℕ). bytes_eq os (64 ∷ [])) (cut x label name)
-    ∙ at_if (nat_lt x 33 || nat_lt 126 x) (is_special x) x ((flat_map octet_text label ++ 46 ∷ []) ++ flat_map label_text name) refl
-
-not_directive : (name : List (List ℕ)) → begins_with 36 (text_of name) ≡ false
-not_directive [] = refl
-not_directive ([] ∷ name) = refl
-not_directive ((x ∷ label) ∷ name) =
-    ap (begins_with 36) (cut x label name) ∙ dollar_if (nat_lt x 33 || nat_lt 126 x) (is_special x) x ((flat_map octet_text label ++ 46 ∷ []) ++ flat_map label_text name) refl
-
-owner_is : (name origin : List (List ℕ)) → IsName name → All (All (λ c. c < 256)) name → owner_of origin (Plain (text_of name)) ≡ Ok name
-unfolding name_named
-owner_is name origin is octets = let other = not_at name is in let read = name_of_text-text_of name origin is octets in rw (other, read) refl
-
--- the TTL
-a_decimal : (c : ℕ) → digit_value c < 10 → is_ascii_digit c ≡ true
-a_decimal c h = grind (arith, nat_tests)
-
-digits_alone : (text : List ℕ) → AllDigits 10 text → list_all is_ascii_digit text ≡ true
-digits_alone [] h = refl
-digits_alone (c ∷ text) h = let digit = a_decimal c h.0 in let more = digits_alone text h.1 in rw (digit, more) refl
-
-are_digits_is : (n : ℕ) → n < 2 ^ 64 → are_digits (decimal n) ≡ true
-are_digits_is n small =
-    let is = decimal_is_IsNumeral n small in
-    let alone = digits_alone (decimal n) is.0.1 in
-    let some : nat_lt 0 (length (decimal n)) ≡ true = let h = is.0.0 in grind (arith, nat_tests) in
-    rw (some, alone) refl
-
-ttl_mark : (n : ℕ) → n < 2 ^ 31 → mark_of false false (Plain (decimal n)) ≡ Ok (mark.Ttl (record { 0 = n }))
-ttl_mark n h =
-    let digits = are_digits_is n (omega arith) in
-    rw digits (ap (λ (r : Result ℕ Cause). on_ok mark.Ttl (on_ok (λ (seconds : ℕ). record { 0 = seconds }) r)) (number_back 2147483647 n (omega arith) (omega arith)))
-
-class_mark : mark_of true false (Plain (codes "IN")) ≡ Ok mark.Class
-unfolding class_named
-class_mark = refl
-
-type_mark_is : (text : List ℕ) (rtype : ℕ) → type_named text ≡ Some rtype → mark_of true true (Plain text) ≡ Ok (mark.Type (record { 0 = rtype }))
-type_mark_is text rtype e = ap (λ (o : Option ℕ). on_ok (λ (n : ℕ). mark.Type (record { 0 = n })) (ok_or o UnknownType)) e
-
--- the type
-at_type : (rtype n : ℕ) → type_named (type_word n) ≡ Some n → (rtype == n) ≡ true → type_named (type_word rtype) ≡ Some rtype
-at_type rtype n h e =
-    let same = (Decides-eqb rtype n).0 e in
-    ap (λ (t : ℕ). type_named (type_word t)) same ∙ h ∙ ap (λ (t : ℕ). Some t) (sym same)
-
-no_data : (rtype : ℕ) (octets own : List ℕ) → (rtype == 1) ≡ false → (rtype == 2) ≡ false → (rtype == 5) ≡ false → (rtype == 6) ≡ false → (rtype == 12) ≡ false → (rtype == 15) ≡ false → (rtype == 16) ≡ false → (rtype == 28) ≡ false → (rtype == 33) ≡ false → data_of rtype octets ≡ Some own → ⊥
-unfolding data_of layout_of
-no_data rtype octets own a b c d e f g h i is = let none = rw (a, b, c, d, e, f, g, h, i) at is in cc
-
-if_type : (P : Type 0) (b : Bool) → (b ≡ true → P) → (b ≡ false → P) → P
-if_type P true h k = h refl
-if_type P false h k = k refl
-
-type_is : (rtype : ℕ) (octets : List ℕ) → data_of rtype octets ≡ Some octets → type_named (type_word rtype) ≡ Some rtype
-unfolding type_word type_named
-type_is rtype octets is =
-    let P : Type 0 = type_named (type_word rtype) ≡ Some rtype in
-    if_type P (rtype == 1) (at_type rtype 1 refl) (λ a.
-    if_type P (rtype == 2) (at_type rtype 2 refl) (λ b.
-    if_type P (rtype == 5) (at_type rtype 5 refl) (λ c.
-    if_type P (rtype == 6) (at_type rtype 6 refl) (λ d.
-    if_type P (rtype == 12) (at_type rtype 12 refl) (λ e.
-    if_type P (rtype == 15) (at_type rtype 15 refl) (λ f.
-    if_type P (rtype == 16) (at_type rtype 16 refl) (λ g.
-    if_type P (rtype == 28) (at_type rtype 28 refl) (λ h.
-    if_type P (rtype == 33) (at_type rtype 33 refl) (λ i.
-    absurd (no_data rtype octets octets a b c d e f g h i is))))))))))
-
--- what stands in front of the data
-abbrev next : Option Ttl → Bool → List Written → Result Mark Cause → Result Front Cause
-next ttl classed words m = and_then m (λ m. elim m [
-  | mark.Ttl own ↦ front_from (Some own) classed words
-  | mark.Class ↦ front_from ttl true words
-  | mark.Type rtype ↦ Ok (record { ttl = ttl; rtype = rtype.0; words = words })
-])
-
-front_is : (n rtype : ℕ) (text : List ℕ) (words : List Written) → n < 2 ^ 31 → type_named text ≡ Some rtype → front_of (Plain (decimal n) ∷ Plain (codes "IN") ∷ Plain text ∷ words) ≡ Ok (record { ttl = Some (record { 0 = n }); rtype = rtype; words = words })
-front_is n rtype text words h e =
-    ap (next None false (Plain (codes "IN") ∷ Plain text ∷ words)) (ttl_mark n h)
-    ∙ ap (next (Some (record { 0 = n })) false (Plain text ∷ words)) class_mark
-    ∙ ap (next (Some (record { 0 = n })) true words) (type_mark_is text rtype e)
+use Rattle.zone_lexing.specs.Spelling.{one_a_line}
+use Rattle.record_text.specs.Text.{words_of}
+use Rattle.zone_lexing.specs.Word.{Written}
+use Rattle.record_text.specs.Reading.{on_ok, and_then}
+use Rattle.zone_lexing.specs.Word.Written.{Plain}
+use Rattle.record_text.specs.Mnemonics.{type_word}
+use Rattle.master_file.specs.ZoneText.{line_words, placed_at, placed_from}
+use Rattle.record_text.proofs.FrontLemmas.{not_directive, owner_is, front_is, type_is}
+use Rattle.record_text.proofs.FormLemmas.{data_back}
 
 -- a record's line
 abbrev rest_of : Record → List Written
 rest_of r = Plain (decimal r.ttl) ∷ Plain (codes "IN") ∷ Plain (type_word r.rtype) ∷ words_of r.rtype r.rdata
 
-owned_is : (force : Force) (r : Record) → IsLawful r → owned_of force false (line_words r) ≡ Ok (r.owner, rest_of r)
-owned_is force r h =
-    ap (on_ok (λ (owner : List (List ℕ)). (fold_name owner, rest_of r))) (owner_is r.owner force.origin h.name h.owner_octets)
+owned_is : (context : Context) (r : Record) → IsLawful r → owned_of context false (line_words r) ≡ Ok (r.owner, rest_of r)
+owned_is context r h =
+    ap (on_ok (λ (owner : List (List ℕ)). (fold_name owner, rest_of r))) (owner_is r.owner context.origin h.name h.owner_octets)
     ∙ ap (λ (owner : List (List ℕ)). Ok (owner, rest_of r)) (sym h.folded)
 
-placed_is : (force : Force) (line : ℕ) (r : Record) → IsLawful r → placed_of force line r.owner (rest_of r) ≡ Ok (placed_at line r)
-placed_is force line r h =
-    ap (λ (f : Result Front Cause). and_then f (λ front. and_then (ttl_in force front.ttl) (λ ttl.
+placed_is : (context : Context) (line : ℕ) (r : Record) → IsLawful r → length r.rdata ≤ 4096 → placed_of context line r.owner (rest_of r) ≡ Ok (placed_at line r)
+placed_is context line r h short =
+    ap (λ (f : Result Front Cause). and_then f (λ front. and_then (ttl_in context front.ttl) (λ ttl.
     on_ok (λ octets. record { line = line; owner = r.owner; ttl = ttl; rdata = record { rtype = front.rtype; octets = octets } })
-    (data_of_words front.rtype force.origin front.words))))
+    (data_of_words front.rtype context.origin front.words))))
     (front_is r.ttl r.rtype (type_word r.rtype) (words_of r.rtype r.rdata) h.lasts (type_is r.rtype r.rdata h.form))
     ∙ ap (on_ok (λ (octets : List ℕ). record { line = line; owner = r.owner; ttl = record { 0 = r.ttl }; rdata = record { rtype = r.rtype; octets = octets } }))
-    (data_back r.rtype r.rdata force.origin h.form h.short h.octets)
+    (data_back r.rtype r.rdata context.origin h.form short h.octets)
 
-record_is : (force : Force) (line : ℕ) (r : Record) → IsLawful r → record_of force line false (line_words r) ≡ Ok (placed_at line r)
-record_is force line r h =
-    ap (λ (o : Result (List (List ℕ) × List Written) Cause). and_then o (λ owned. placed_of force line owned.0 owned.1)) (owned_is force r h) ∙ placed_is force line r h
+record_is : (context : Context) (line : ℕ) (r : Record) → IsLawful r → length r.rdata ≤ 4096 → record_of context line false (line_words r) ≡ Ok (placed_at line r)
+record_is context line r h short =
+    ap (λ (o : Result (List (List ℕ) × List Written) Cause). and_then o (λ owned. placed_of context line owned.0 owned.1)) (owned_is context r h) ∙ placed_is context line r h short
 
-abbrev by_directive : Force → Result Placed Cause → Option (List ℕ × List Written) → Result (Force × Option Placed) Cause
-by_directive force placed directive = elim directive [
-  | Some d ↦ on_ok (λ (next : Force). (next, None)) (directed force d.0 d.1)
-  | None ↦ on_ok (λ (p : Placed). (behind force p, Some p)) placed
+abbrev by_directive : Context → Result Placed Cause → Option (List ℕ × List Written) → Result (Context × Option Placed) Cause
+by_directive context placed directive = elim directive [
+  | Some d ↦ on_ok (λ (next : Context). (next, None)) (directed context d.0 d.1)
+  | None ↦ on_ok (λ (p : Placed). (behind context p, Some p)) placed
 ]
 
 no_directive : (r : Record) → directive_of false (line_words r) ≡ None
 no_directive r = ap (λ (b : Bool). cond b (Some (text_of r.owner, rest_of r)) None) (not_directive r.owner)
 
-pub record_judged : (force : Force) (line : ℕ) (r : Record) → IsLawful r → judged force line false (line_words r) ≡ Ok (behind force (placed_at line r), Some (placed_at line r))
-record_judged force line r h =
-    ap (by_directive force (record_of force line false (line_words r))) (no_directive r)
-    ∙ ap (on_ok (λ (placed : Placed). (behind force placed, Some placed))) (record_is force line r h)
+pub record_judged : (context : Context) (line : ℕ) (r : Record) → IsLawful r → length r.rdata ≤ 4096 → judged context line false (line_words r) ≡ Ok (behind context (placed_at line r), Some (placed_at line r))
+record_judged context line r h short =
+    ap (by_directive context (record_of context line false (line_words r))) (no_directive r)
+    ∙ ap (on_ok (λ (placed : Placed). (behind context placed, Some placed))) (record_is context line r h short)
 
 -- the records of lines
-abbrev then : ℕ → List Entry → Result (Force × Option Placed) Cause → Read
+abbrev then : ℕ → List Entry → Result (Context × Option Placed) Cause → Read
 then line entries r = elim r [
   | Err cause ↦ faulty (fault_at line None cause)
   | Ok (next, None) ↦ records_from next entries
   | Ok (next, Some placed) ↦ in_front placed (records_from next entries)
 ]
 
-pub records_are : (force : Force) (line : ℕ) (rs : List Record) → All IsLawful rs → records_from force (one_a_line line (map line_words rs)) ≡ record { placed = placed_from line rs; fault = None }
-records_are force line [] h = refl
-records_are force line (r ∷ rs) h =
-    ap (then line (one_a_line (line + 1) (map line_words rs))) (record_judged force line r (All-head IsLawful r rs h))
-    ∙ ap (in_front (placed_at line r)) (records_are (behind force (placed_at line r)) (line + 1) rs (All-tail IsLawful r rs h))
+pub records_are : (context : Context) (line : ℕ) (rs : List Record) → All IsLawful rs → All (λ r. length r.rdata ≤ 4096) rs → records_from context (one_a_line line (map line_words rs)) ≡ record { placed = placed_from line rs; fault = None }
+records_are context line [] h short = refl
+records_are context line (r ∷ rs) h short =
+    ap (then line (one_a_line (line + 1) (map line_words rs))) (record_judged context line r (All-head IsLawful r rs h) (All-head (λ (s : Record). length s.rdata ≤ 4096) r rs short))
+    ∙ ap (in_front (placed_at line r)) (records_are (behind context (placed_at line r)) (line + 1) rs (All-tail IsLawful r rs h) (All-tail (λ (s : Record). length s.rdata ≤ 4096) r rs short))

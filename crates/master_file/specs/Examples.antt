@@ -1,12 +1,12 @@
 -- A worked example of a zone's text (RFC 1035, 5.1; RFC 2308, 4).
 use Rattle.std.specs.Prelude.{ℕ, List, [], ◌∷◌, ◌++◌, codes}
 use Rattle.std.specs.List.{flat_map}
-use Rattle.dns_name.specs.Name.{wire_of}
+use Rattle.dns_name.specs.Name.{Name, wire_of}
 use Rattle.dns_rdata.specs.Numbers.{type_NS, type_MX}
 use Rattle.master_file.specs.declared.placed.Placed.{Placed}
 
 -- the origin
-abbrev pub origin : List (List ℕ)
+abbrev pub origin : Name
 origin = codes "test" ∷ []
 
 -- lines, an LF behind each
@@ -18,7 +18,7 @@ abbrev pub text : List ℕ
 text = lines (codes "$TTL 60 ; seconds" ∷ codes "@ IN 5 NS a" ∷ codes " NS b." ∷ codes "$ORIGIN C" ∷ codes "d MX (7" ∷ codes "@)" ∷ [])
 
 -- a record of a name server
-abbrev pub server : ℕ → List (List ℕ) → ℕ → List (List ℕ) → Placed
+abbrev pub server : ℕ → Name → ℕ → Name → Placed
 server line owner ttl name = record { line = line; owner = owner; ttl = record { 0 = ttl }; rdata = record { rtype = type_NS; octets = wire_of name } }
 
 -- the records of the text

@@ -1,11 +1,7 @@
--- What a fault of data is in a zone's text.
-use Rattle.dns_rdata.specs.declared.data.DataFault.{DataFault}
-use Rattle.dns_rdata.specs.declared.data.DataFault.TheVariants as fault
-use Rattle.master_file.specs.declared.fault.Cause.{Cause}
-use Rattle.master_file.specs.declared.fault.Cause.TheVariants.{BadData, Limit, NoMemory}
+-- The fault that is told where a growth was refused.
+use Rattle.record_text.specs.declared.cause.Cause.TheVariants.{NoMemory}
+use Rattle.master_file.specs.declared.fault.FileFault.{FileFault}
 
--- what a fault of octets that are to be data is called here
-abbrev pub cause_of_data : DataFault → Cause
-cause_of_data fault.BadLength = BadData
-cause_of_data fault.TooLong = Limit
-cause_of_data fault.NoMemory = NoMemory
+-- want of memory, which is told on no line (own)
+abbrev pub no_memory : FileFault
+no_memory = record { line = 0; cause = NoMemory }

@@ -3,12 +3,12 @@ use Rattle.std.specs.Prelude.{ℕ, Bool, true, false, ◌&&◌, ◌||◌, not, �
 use Rattle.std.specs.BTreeSet.{insert_key}
 use Rattle.std.specs.List.{list_any}
 use Rattle.std.specs.Ordering.{is_eq}
-use Rattle.dns_name.specs.Name.{is_under, fold_name}
+use Rattle.dns_name.specs.Name.{Name, is_under, fold_name}
 use Rattle.dns_rdata.specs.Numbers.{type_NS, type_CNAME, type_SOA}
 use Rattle.dns_rdata.specs.Record.{Record, record_cmp}
 use Rattle.zone_tree.specs.Zone.{stands_at, is_of, rrset_of, soa_of, apex_of, is_wild}
-use Rattle.master_file.specs.declared.fault.Cause.{Cause}
-use Rattle.master_file.specs.declared.fault.Cause.TheVariants.{Outside, Apex, Conflict, Limit}
+use Rattle.record_text.specs.declared.cause.Cause.{Cause}
+use Rattle.record_text.specs.declared.cause.Cause.TheVariants.{Outside, Apex, Conflict, Limit}
 use Rattle.master_file.specs.declared.fault.FileFault.{FileFault}
 use Rattle.master_file.specs.declared.placed.Placed.{Placed}
 use Rattle.master_file.specs.Records.{Read, records_of}
@@ -54,7 +54,7 @@ abbrev pub is_conflict : List Record → Placed → Bool
 is_conflict kept placed = is_beside_alias kept placed || (is_wild placed.owner && placed.rdata.rtype == type_NS)
 
 -- the line of the first record that isn't at or below the apex (RFC 1035, 5.2)
-abbrev pub outside_line : List (List ℕ) → List Placed → Option ℕ
+abbrev pub outside_line : Name → List Placed → Option ℕ
 outside_line apex [] = None
 outside_line apex (placed ∷ rest) = if is_under placed.owner apex then outside_line apex rest else Some placed.line
 
@@ -97,5 +97,5 @@ abbrev pub zone_of_read : Read → Result (List Record) FileFault
 zone_of_read read = told Limit (first_line is_too_many [] read.placed) (elim read.fault [ Some fault ↦ Err fault | None ↦ zone_of_all read.placed ])
 
 -- the zone of a text, or the fault that is told (RFC 1035, 5)
-abbrev pub zone_of_text : List (List ℕ) → List ℕ → Result (List Record) FileFault
+abbrev pub zone_of_text : Name → List ℕ → Result (List Record) FileFault
 zone_of_text origin text = zone_of_read (records_of origin text)

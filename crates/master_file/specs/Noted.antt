@@ -6,11 +6,11 @@ use Rattle.std.specs.BTreeSet as sorted
 use Rattle.std.specs.List.{list_any}
 use Rattle.std.specs.Ordering.{nat_cmp, ordering_then}
 use Rattle.std.specs.declared.cmp.Ordering.{Ordering}
-use Rattle.dns_name.specs.Name.{canonical_cmp}
+use Rattle.dns_name.specs.Name.{Name, canonical_cmp}
 use Rattle.dns_rdata.specs.Record.{Record}
 use Rattle.zone_tree.specs.Zone.{stands_at, is_of, rrset_of, soa_of, apex_of}
 use Rattle.dns_rdata.specs.Numbers.{type_NS}
-use Rattle.master_file.specs.declared.fault.Cause.TheVariants.{Outside, Apex, Conflict}
+use Rattle.record_text.specs.declared.cause.Cause.TheVariants.{Outside, Apex, Conflict}
 use Rattle.master_file.specs.declared.fault.FileFault.{FileFault}
 use Rattle.master_file.specs.declared.gathered.Gathered.{Gathered}
 use Rattle.master_file.specs.declared.noted.Noted.{Noted}
@@ -19,11 +19,11 @@ use Rattle.master_file.specs.declared.placed.Placed.{Placed}
 use Rattle.master_file.specs.Gathered.{record_in, in_lower, with_all, first_line, is_too_many, is_second_soa, is_conflict, timed, told, told_whole, outside_line, zone_records}
 
 -- an owner and a type, in order
-abbrev pub set_cmp : List (List ℕ) × ℕ → List (List ℕ) × ℕ → Ordering
+abbrev pub set_cmp : Name × ℕ → Name × ℕ → Ordering
 set_cmp x y = ordering_then (canonical_cmp x.0 y.0) (nat_cmp x.1 y.1)
 
 -- what is noted of an owner and type
-abbrev pub noted_at : Notes → List (List ℕ) → ℕ → Option Noted
+abbrev pub noted_at : Notes → Name → ℕ → Option Noted
 noted_at notes owner rtype = tree.get set_cmp notes.sets (owner, rtype)
 
 -- how many records are noted
@@ -37,7 +37,7 @@ with_ttl_of None r = r
 with_ttl_of (Some noted) r = record r { ttl = noted.ttl.0 }
 
 -- the owner of the first of records
-abbrev pub first_owner : List Record → Option (List (List ℕ))
+abbrev pub first_owner : List Record → Option Name
 first_owner [] = None
 first_owner (r ∷ rs) = Some r.owner
 
@@ -47,13 +47,13 @@ shown_by notes r = in_lower (with_ttl_of (noted_at notes r.owner r.rtype) r)
 
 -- the notes are those of the records kept
 pub record AreNotes (kept : List Record) (notes : Notes) : Type 0 where
-  pub counts : (owner : List (List ℕ)) (rtype : ℕ) → count_of (noted_at notes owner rtype) ≡ length (rrset_of kept owner rtype)
-  pub owners : (owner : List (List ℕ)) → sorted.contains canonical_cmp notes.owners owner ≡ list_any (stands_at owner) kept
+  pub counts : (owner : Name) (rtype : ℕ) → count_of (noted_at notes owner rtype) ≡ length (rrset_of kept owner rtype)
+  pub owners : (owner : Name) → sorted.contains canonical_cmp notes.owners owner ≡ list_any (stands_at owner) kept
   pub soa : notes.has_soa ≡ nat_lt 0 (length (soa_of kept))
 
 -- the TTLs noted last at most 2^31 - 1 seconds (RFC 2181, 8)
 abbrev pub LastsEach : Notes → Type 0
-LastsEach notes = (owner : List (List ℕ)) (rtype : ℕ) → IfSome (noted_at notes owner rtype) (λ noted. noted.ttl.0 < 2 ^ 31)
+LastsEach notes = (owner : Name) (rtype : ℕ) → IfSome (noted_at notes owner rtype) (λ noted. noted.ttl.0 < 2 ^ 31)
 
 -- a record sets the TTL noted of its owner and type
 abbrev pub SetsTtl : Placed → Notes → Notes → Type 0

@@ -1,22 +1,23 @@
 -- A zone's text as records in order, up to its first fault (RFC 1035, 5.1; RFC 2308, 4).
 use Rattle.std.specs.Prelude.{◌≡◌, ◌<◌, ◌^◌, ℕ, Bool, true, false, List, [], ◌∷◌, ◌++◌, codes, bytes_eq, if◌then◌else◌, Option, Some, None, unwrap_or, IfSome, Result, Ok, Err, ok_or}
 use Rattle.std.specs.Option.{option_or}
-use Rattle.dns_name.specs.Name.{fold_name}
+use Rattle.dns_name.specs.Name.{Name, fold_name}
 use Rattle.dns_rdata.specs.declared.numbers.Ttl.{Ttl}
-use Rattle.master_file.specs.declared.fault.Cause.{Cause}
-use Rattle.master_file.specs.declared.fault.Cause.TheVariants.{Directive, BadData, Unclosed, NoTtl, NoOwner}
+use Rattle.record_text.specs.declared.cause.Cause.{Cause}
+use Rattle.record_text.specs.declared.cause.Cause.TheVariants.{Directive, BadData, Unclosed, NoTtl, NoOwner, NoMemory}
 use Rattle.master_file.specs.declared.fault.FileFault.{FileFault}
-use Rattle.master_file.specs.declared.force.Force.{Force}
+use Rattle.master_file.specs.declared.context.Context.{Context}
 use Rattle.master_file.specs.declared.placed.Placed.{Placed}
-use Rattle.master_file.specs.declared.entry.EntryHead.{EntryHead}
-use Rattle.master_file.specs.Data.{data_of_words, surplus_of}
-use Rattle.master_file.specs.Entries.{Entry, entries_of}
-use Rattle.master_file.specs.Front.{ttl_of, front_of}
-use Rattle.master_file.specs.Items.{begins_with}
-use Rattle.master_file.specs.NameWord.{owner_of}
-use Rattle.master_file.specs.Word.{Written, on_ok, and_then}
-use Rattle.master_file.specs.Word.Written.{Plain}
-use Rattle.master_file.specs.Word.Written.{Unclosed as no_word}
+use Rattle.zone_lexing.specs.declared.entry.EntryHead.{EntryHead}
+use Rattle.record_text.specs.Data.{data_of_words, surplus_of}
+use Rattle.zone_lexing.specs.Entries.{Entry, entries_of}
+use Rattle.record_text.specs.Front.{ttl_of, front_of}
+use Rattle.zone_lexing.specs.Items.{begins_with}
+use Rattle.record_text.specs.NameWord.{owner_of}
+use Rattle.zone_lexing.specs.Word.{Written}
+use Rattle.record_text.specs.Reading.{on_ok, and_then}
+use Rattle.zone_lexing.specs.Word.Written.{Plain}
+use Rattle.zone_lexing.specs.Word.Written.{Unclosed as no_word}
 
 -- what is read of an argument, where no word stands behind it
 abbrev pub alone : {A : Type 0} → A → List Written → Result A Cause
@@ -30,10 +31,10 @@ argument_of read (word ∷ words) = and_then (read word) (λ x. alone x words)
 
 -- what is in force behind a directive: `$ORIGIN` has a name, relative to the origin before it, and `$TTL` a TTL; both are
 -- read in upper case alone (RFC 1035, 5.1; RFC 2308, 4; own)
-unfoldable pub directed : Force → List ℕ → List Written → Result Force Cause
-directed force directive arguments =
-    if bytes_eq directive (codes "$ORIGIN") then on_ok (λ name. record force { origin = name }) (argument_of (owner_of force.origin) arguments)
-    else if bytes_eq directive (codes "$TTL") then on_ok (λ ttl. record force { default_ttl = Some ttl }) (argument_of ttl_of arguments)
+unfoldable pub directed : Context → List ℕ → List Written → Result Context Cause
+directed context directive arguments =
+    if bytes_eq directive (codes "$ORIGIN") then on_ok (λ name. record context { origin = name }) (argument_of (owner_of context.origin) arguments)
+    else if bytes_eq directive (codes "$TTL") then on_ok (λ ttl. record context { default_ttl = Some ttl }) (argument_of ttl_of arguments)
     else Err Directive
 
 -- the directive that an entry's words begin with, and its arguments: a word outside quotes that begins with `$`, on a
@@ -45,45 +46,46 @@ directive_of false words = None
 
 -- the owner of a record, and the words behind it: a line that begins with a blank takes the owner of the record before
 -- (RFC 1035, 5.1). Owners are in lower case
-abbrev pub owned_of : Force → Bool → List Written → Result (List (List ℕ) × List Written) Cause
-owned_of force true words = on_ok (λ owner. (owner, words)) (ok_or force.owner NoOwner)
-owned_of force false [] = Err BadData
-owned_of force false (word ∷ words) = on_ok (λ owner. (fold_name owner, words)) (owner_of force.origin word)
+abbrev pub owned_of : Context → Bool → List Written → Result (Name × List Written) Cause
+owned_of context true words = on_ok (λ owner. (owner, words)) (ok_or context.owner NoOwner)
+owned_of context false [] = Err BadData
+owned_of context false (word ∷ words) = on_ok (λ owner. (fold_name owner, words)) (owner_of context.origin word)
 
 -- the TTL of a record: its own, else that of `$TTL`, else that of the record before (RFC 2308, 4; RFC 1035, 5.1)
-abbrev pub ttl_in : Force → Option Ttl → Result Ttl Cause
-ttl_in force own = ok_or (option_or own (option_or force.default_ttl force.ttl)) NoTtl
+abbrev pub ttl_in : Context → Option Ttl → Result Ttl Cause
+ttl_in context own = ok_or (option_or own (option_or context.default_ttl context.ttl)) NoTtl
 
 -- the record of an owner that words stand for: TTL, class and type, then its data
-abbrev pub placed_of : Force → ℕ → List (List ℕ) → List Written → Result Placed Cause
-placed_of force line owner words =
-    and_then (front_of words) (λ front. and_then (ttl_in force front.ttl) (λ ttl.
+abbrev pub placed_of : Context → ℕ → Name → List Written → Result Placed Cause
+placed_of context line owner words =
+    and_then (front_of words) (λ front. and_then (ttl_in context front.ttl) (λ ttl.
     on_ok (λ octets. record { line = line; owner = owner; ttl = ttl; rdata = record { rtype = front.rtype; octets = octets } })
-    (data_of_words front.rtype force.origin front.words)))
+    (data_of_words front.rtype context.origin front.words)))
 
 -- the record that an entry's words stand for; whether its line begins with a blank
-abbrev pub record_of : Force → ℕ → Bool → List Written → Result Placed Cause
-record_of force line indented words = and_then (owned_of force indented words) (λ owned. placed_of force line owned.0 owned.1)
+abbrev pub record_of : Context → ℕ → Bool → List Written → Result Placed Cause
+record_of context line indented words = and_then (owned_of context indented words) (λ owned. placed_of context line owned.0 owned.1)
 
 -- what is in force behind a record
-abbrev pub behind : Force → Placed → Force
-behind force placed = record force { owner = Some placed.owner; ttl = Some placed.ttl }
+abbrev pub behind : Context → Placed → Context
+behind context placed = record context { owner = Some placed.owner; ttl = Some placed.ttl }
 
 -- what is in force behind an entry, and its record where it has one
-abbrev pub judged : Force → ℕ → Bool → List Written → Result (Force × Option Placed) Cause
-judged force line indented words = elim (directive_of indented words) [
-  | Some directive ↦ on_ok (λ next. (next, None)) (directed force directive.0 directive.1)
-  | None ↦ on_ok (λ placed. (behind force placed, Some placed)) (record_of force line indented words)
+abbrev pub judged : Context → ℕ → Bool → List Written → Result (Context × Option Placed) Cause
+judged context line indented words = elim (directive_of indented words) [
+  | Some directive ↦ on_ok (λ next. (next, None)) (directed context directive.0 directive.1)
+  | None ↦ on_ok (λ placed. (behind context placed, Some placed)) (record_of context line indented words)
 ]
 
 -- the words of an entry; a quote or a parenthesis without its other one stands behind them
 abbrev pub words_of : Entry → List Written
 words_of entry = elim entry.unclosed [ None ↦ entry.words | Some line ↦ entry.words ++ no_word ∷ [] ]
 
--- the line of a fault of an entry: its own, and that of a quote or a parenthesis without its other one where that is the
--- fault
+-- the line of a fault of an entry: its own, that of a quote or a parenthesis without its other one where that is the
+-- fault, and none for want of memory, which is no fault of the entry
 abbrev pub fault_line : ℕ → Option ℕ → Cause → ℕ
 fault_line line unclosed Unclosed = unwrap_or unclosed line
+fault_line line unclosed NoMemory = 0
 fault_line line unclosed cause = line
 
 -- a fault of an entry, by its line and that of a quote or a parenthesis without its other one
@@ -107,20 +109,20 @@ abbrev pub in_front : Placed → Read → Read
 in_front placed rest = record { placed = placed ∷ rest.placed; fault = rest.fault }
 
 -- the records of entries, in order, up to the first fault
-abbrev pub records_from : Force → List Entry → Read
-records_from force [] = nothing
-records_from force (entry ∷ entries) = elim (judged force entry.line entry.indented (words_of entry)) [
+abbrev pub records_from : Context → List Entry → Read
+records_from context [] = nothing
+records_from context (entry ∷ entries) = elim (judged context entry.line entry.indented (words_of entry)) [
   | Err cause ↦ faulty (fault_at entry.line entry.unclosed cause)
   | Ok (next, None) ↦ records_from next entries
   | Ok (next, Some placed) ↦ in_front placed (records_from next entries)
 ]
 
 -- what is in force where a text begins
-abbrev pub start : List (List ℕ) → Force
+abbrev pub start : Name → Context
 start origin = record { origin = origin; default_ttl = None; owner = None; ttl = None }
 
 -- the records of a zone's text, in order, up to its first fault (RFC 1035, 5.1)
-abbrev pub records_of : List (List ℕ) → List ℕ → Read
+abbrev pub records_of : Name → List ℕ → Read
 records_of origin text = records_from (start origin) (entries_of text)
 
 -- an entry stands before the others, with these words
@@ -133,6 +135,6 @@ pub record IsFirst (before after : List Entry) (head : EntryHead) (words : List 
   pub all : words ≡ words_of entry
 
 -- the TTLs in force last at most 2^31 - 1 seconds (RFC 2181, 8)
-pub record AreLasting (force : Force) : Type 0 where
-  pub default_ttl : IfSome force.default_ttl (λ ttl. ttl.0 < 2 ^ 31)
-  pub ttl : IfSome force.ttl (λ ttl. ttl.0 < 2 ^ 31)
+pub record AreLasting (context : Context) : Type 0 where
+  pub default_ttl : IfSome context.default_ttl (λ ttl. ttl.0 < 2 ^ 31)
+  pub ttl : IfSome context.ttl (λ ttl. ttl.0 < 2 ^ 31)

@@ -1,29 +1,14 @@
 -- A zone as text, one record a line (RFC 1035, 5.1).
-use Rattle.std.specs.Prelude.{ℕ, ◌+◌, ◌<◌, ◌≤◌, ◌^◌, ◌≡◌, Bool, not, ◌==◌, List, [], ◌∷◌, ◌++◌, codes, decimal, length, filter, flat_map, if◌then◌else◌, Some, All}
-use Rattle.dns_name.specs.Name.{IsName, fold_name}
+use Rattle.std.specs.Prelude.{ℕ, ◌+◌, Bool, not, ◌==◌, List, [], ◌∷◌, ◌++◌, codes, decimal, filter, flat_map}
 use Rattle.dns_name.specs.Text.{text_of}
-use Rattle.dns_rdata.specs.Data.{data_of}
-use Rattle.dns_rdata.specs.Numbers.{type_A, type_NS, type_CNAME, type_SOA, type_PTR, type_MX, type_TXT, type_AAAA, type_SRV}
+use Rattle.dns_rdata.specs.Numbers.{type_SOA}
 use Rattle.dns_rdata.specs.Record.{Record}
 use Rattle.zone_tree.specs.Zone.{soa_of}
 use Rattle.master_file.specs.declared.placed.Placed.{Placed}
-use Rattle.master_file.specs.Text.{words_of, text_of_words}
-use Rattle.master_file.specs.Word.{Written}
-use Rattle.master_file.specs.Word.Written.{Plain}
-
--- the word of a type (RFC 1035, 3.2.2; RFC 3596, 2.1; RFC 2782); nothing for a type that isn't served
-unfoldable pub type_word : ℕ → List ℕ
-type_word rtype =
-    if rtype == type_A then codes "A"
-    else if rtype == type_NS then codes "NS"
-    else if rtype == type_CNAME then codes "CNAME"
-    else if rtype == type_SOA then codes "SOA"
-    else if rtype == type_PTR then codes "PTR"
-    else if rtype == type_MX then codes "MX"
-    else if rtype == type_TXT then codes "TXT"
-    else if rtype == type_AAAA then codes "AAAA"
-    else if rtype == type_SRV then codes "SRV"
-    else []
+use Rattle.record_text.specs.Mnemonics.{type_word}
+use Rattle.record_text.specs.Text.{words_of, text_of_words}
+use Rattle.zone_lexing.specs.Word.{Written}
+use Rattle.zone_lexing.specs.Word.Written.{Plain}
 
 -- a record's line: its owner, its TTL in decimal, the class, the type and the data, a space between, and an LF
 -- (RFC 1035, 5.1)
@@ -46,17 +31,6 @@ zone_text zone = flat_map record_line (soa_first zone)
 -- the words of a record's line
 abbrev pub line_words : Record → List Written
 line_words r = Plain (text_of r.owner) ∷ Plain (decimal r.ttl) ∷ Plain (codes "IN") ∷ Plain (type_word r.rtype) ∷ words_of r.rtype r.rdata
-
--- a record that a zone may have: its owner is a name in lower case, its TTL at most 2^31 - 1, and its data, at most 4096 octets, of its
--- type's form (RFC 1035, 2.3.4 and 3.3; RFC 2181, 8; own)
-pub record IsLawful (r : Record) : Type 0 where
-  pub name : IsName r.owner
-  pub owner_octets : All (All (λ octet. octet < 256)) r.owner
-  pub folded : r.owner ≡ fold_name r.owner
-  pub lasts : r.ttl < 2 ^ 31
-  pub form : data_of r.rtype r.rdata ≡ Some r.rdata
-  pub short : length r.rdata ≤ 4096
-  pub octets : All (λ octet. octet < 256) r.rdata
 
 -- a record on a line
 abbrev pub placed_at : ℕ → Record → Placed

@@ -5,16 +5,16 @@ ghost use Rattle.std.specs.Option.{option_or, option_copied};
 ghost use Rattle.dns_rdata.specs.Numbers.{type_NS, type_CNAME, type_SOA};
 ghost use Rattle.dns_rdata.specs.Record.{Record};
 ghost use Rattle.zone_tree.specs.Zone.{is_wild, stands_at, rrset_of, soa_of};
-ghost use Rattle.master_file.specs.declared.fault.Cause.TheVariants.{NoMemory, Limit};
+ghost use Rattle.record_text.specs.declared.cause.Cause.TheVariants.{NoMemory, Limit};
 ghost use Rattle.master_file.specs.Gathered.{is_too_many, is_second_soa, is_conflict, with_one};
 ghost use Rattle.master_file.specs.Noted.{AreNotes, LastsEach, SetsTtl, first_owner, noted_at, with_ttl_of};
 
-use crate::fault::Cause;
 use crate::kept::Kept;
 use crate::noted::{Noted, Notes};
 use crate::placed::Placed;
 use dns_name::Name;
 use dns_rdata::{MAX_SET, RType};
+use record_text::Cause;
 use std::alloc::Global;
 use std::collections::BTreeSet;
 use zone_tree::MAX_RECORDS;

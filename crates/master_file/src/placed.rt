@@ -1,18 +1,15 @@
 //! The records of a zone's text (RFC 1035, 5.1).
 ghost use Rattle.std.specs.Prelude.{◌≡◌, ◌<◌, ◌^◌, Ok, Err, map, IfOk, IfErr};
-ghost use Rattle.master_file.specs.Data.{IsToldOf};
+ghost use Rattle.record_text.specs.Data.{IsToldOf};
 ghost use Rattle.master_file.specs.Records.{owned_of, placed_of, record_of, AreLasting};
-ghost use Rattle.master_file.specs.Word.{written};
+ghost use Rattle.zone_lexing.specs.Word.{written};
 
-use crate::data::read_data;
-use crate::fault::Cause;
-use crate::force::Force;
-use crate::front::read_front;
-use crate::names::owner;
-use crate::word::Word;
+use crate::context::Context;
 use dns_name::Name;
 use dns_rdata::{RData, Ttl};
+use record_text::{Cause, owner, read_data, read_front};
 use std::alloc::Global;
+use zone_lexing::Word;
 
 /// A record of class IN, where it stands in a zone's text.
 #[derive(Drop)]
@@ -31,31 +28,31 @@ pub struct Placed {
 /// (RFC 1035, 5.1). The words are judged from left to right, and the first fault is told.
 pub(crate) fn read_record(
     alloc: Global,
-    force: &Force,
+    context: &Context,
     line: u64,
     indented: bool,
     words: &[Word<'_>],
 ) -> Result<Placed, Cause>
-    requires lasting { AreLasting force.now }
-    ensures placed { IfOk result (λ placed. record_of force.now line indented (map written words.now) ≡ Ok placed) }
+    requires lasting { AreLasting context.now }
+    ensures placed { IfOk result (λ placed. record_of context.now line indented (map written words.now) ≡ Ok placed) }
     ensures lasts { IfOk result (λ placed. placed.ttl.0 < 2 ^ 31) }
-    ensures fault { IfErr result (IsToldOf (record_of force.now line indented (map written words.now))) }
+    ensures fault { IfErr result (IsToldOf (record_of context.now line indented (map written words.now))) }
 {
-    let (owner, behind) = read_owner(force, indented, words)?;
-    read_behind(alloc, force, line, owner, behind)
+    let (owner, behind) = read_owner(context, indented, words)?;
+    read_behind(alloc, context, line, owner, behind)
 }
 
 /// The owner of a record, and the words behind it.
 fn read_owner<'w, 'a>(
-    force: &Force,
+    context: &Context,
     indented: bool,
     words: &'w [Word<'a>],
 ) -> Result<(Name, &'w [Word<'a>]), Cause>
-    ensures owned { IfOk result (λ owned. owned_of force.now indented (map written words.now) ≡ Ok (owned.0, map written owned.1.now)) }
-    ensures fault { IfErr result (λ cause. owned_of force.now indented (map written words.now) ≡ Err cause) }
+    ensures owned { IfOk result (λ owned. owned_of context.now indented (map written words.now) ≡ Ok (owned.0, map written owned.1.now)) }
+    ensures fault { IfErr result (λ cause. owned_of context.now indented (map written words.now) ≡ Err cause) }
 {
     if indented {
-        return match &force.owner {
+        return match &context.owner {
             Some(owner) => Ok((owner.copy(), words)),
             None => Err(Cause::NoOwner),
         };
@@ -63,25 +60,25 @@ fn read_owner<'w, 'a>(
     let [word, behind @ ..] = words else {
         return Err(Cause::BadData);
     };
-    Ok((owner(*word, &force.origin)?.fold(), behind))
+    Ok((owner(*word, &context.origin)?.fold(), behind))
 }
 
 /// The record of an owner that the words behind it stand for.
 fn read_behind(
     alloc: Global,
-    force: &Force,
+    context: &Context,
     line: u64,
     owner: Name,
     words: &[Word<'_>],
 ) -> Result<Placed, Cause>
-    requires lasting { AreLasting force.now }
-    ensures placed { IfOk result (λ placed. placed_of force.now line owner (map written words.now) ≡ Ok placed) }
+    requires lasting { AreLasting context.now }
+    ensures placed { IfOk result (λ placed. placed_of context.now line owner (map written words.now) ≡ Ok placed) }
     ensures lasts { IfOk result (λ placed. placed.ttl.0 < 2 ^ 31) }
-    ensures fault { IfErr result (IsToldOf (placed_of force.now line owner (map written words.now))) }
+    ensures fault { IfErr result (IsToldOf (placed_of context.now line owner (map written words.now))) }
 {
     let front = read_front(words)?;
-    let ttl = force.ttl(front.ttl)?;
-    let rdata = read_data(alloc, front.rtype, front.words, &force.origin)?;
+    let ttl = context.ttl(front.ttl)?;
+    let rdata = read_data(alloc, front.rtype, front.words, &context.origin)?;
     Ok(Placed {
         line,
         owner,

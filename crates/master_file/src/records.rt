@@ -1,20 +1,19 @@
 //! A zone's text, read record by record (RFC 1035, 5.1; RFC 2308, 4).
 ghost use Rattle.std.specs.Prelude.{◌≡◌, ◌<◌, ◌^◌, ◌⊎◌, List, [], map, Some, Ok, Err, IfOk, IfErr, OnErr, IfSome, MatchOption};
-ghost use Rattle.master_file.specs.declared.fault.Cause.TheVariants.{NoMemory};
-ghost use Rattle.master_file.specs.Data.{IsToldOf};
-ghost use Rattle.master_file.specs.Entries.{first_line};
+ghost use Rattle.record_text.specs.declared.cause.Cause.TheVariants.{NoMemory};
+ghost use Rattle.record_text.specs.Data.{IsToldOf};
+ghost use Rattle.master_file.specs.Fault.{no_memory};
 ghost use Rattle.master_file.specs.Records.{records_of, nothing, faulty, in_front, judged, fault_at, IsFirst, AreLasting};
-ghost use Rattle.master_file.specs.Word.{written};
+ghost use Rattle.zone_lexing.specs.Word.{written};
 
-use crate::entries::Entries;
-use crate::entry::EntryHead;
-use crate::fault::{Cause, FileFault};
-use crate::force::{Force, directive};
+use crate::context::{Context, directive};
+use crate::fault::FileFault;
 use crate::placed::{Placed, read_record};
-use crate::word::Word;
 use dns_name::Name;
-use std::alloc::Global;
+use record_text::Cause;
+use std::alloc::{AllocError, Global};
 use std::marker::Model;
+use zone_lexing::{Entries, EntryHead, Word};
 
 /// The records of a zone's text that are left. Contracts see the list of them, up to the first fault, and that
 /// fault.
@@ -22,7 +21,7 @@ use std::marker::Model;
 pub struct Records<'a> {
     entries: Entries<'a>,
     words: Vec<Word<'a>>,
-    force: Force,
+    context: Context,
 }
 
 impl<'a> Model for Records<'a> {
@@ -30,9 +29,9 @@ impl<'a> Model for Records<'a> {
 
     ghost Value = { Read };
 
-    ghost view = { λ a. records_from a.force a.entries };
+    ghost view = { λ a. records_from a.context a.entries };
 
-    ghost invariant = { λ a. AreLasting a.force };
+    ghost invariant = { λ a. AreLasting a.context };
 }
 
 impl<'a> Records<'a> {
@@ -43,27 +42,26 @@ impl<'a> Records<'a> {
         Records {
             entries: Entries::new(text),
             words: Vec::new(alloc),
-            force: Force::new(origin),
+            context: Context::new(origin),
         }
     }
 
     /// The next record; None behind the last. Entries are judged in order and the words of each from left to right, and
     /// the first fault is told (RFC 1035, 5.1).
     ///
-    /// `NoMemory` only where a growth was refused, on the line of the entry that wanted it. Nothing is said of the
-    /// records behind a fault.
+    /// `NoMemory` only where a growth was refused, at line 0. Nothing is said of the records behind a fault.
     pub fn next(&mut self, alloc: Global) -> Result<Option<Placed>, FileFault>
         ensures record { IfOk result (λ found. MatchOption found
             (self.old ≡ nothing)
             (λ placed. self.old ≡ in_front placed self.new)) }
         ensures lasts { IfOk result (λ found. IfSome found (λ placed. placed.ttl.0 < 2 ^ 31)) }
-        ensures fault { IfErr result (λ fault. (fault.cause ≡ NoMemory) ⊎ (self.old ≡ faulty fault)) }
+        ensures fault { IfErr result (λ fault. (fault ≡ no_memory) ⊎ (self.old ≡ faulty fault)) }
     {
         loop {
             let Some(head) = next_entry(&mut self.entries, &mut self.words)? else {
                 return Ok(None);
             };
-            match judge(alloc, &mut self.force, head, &self.words) {
+            match judge(alloc, &mut self.context, head, &self.words) {
                 Ok(Some(placed)) => return Ok(Some(placed)),
                 Ok(None) => {}
                 Err(cause) => return Err(fault(head, cause)),
@@ -77,30 +75,30 @@ impl<'a> Records<'a> {
 fn next_entry<'a>(
     entries: &mut Entries<'a>,
     words: &mut Vec<Word<'a>>,
-) -> Result<Option<EntryHead>, FileFault>
+) -> Result<Option<EntryHead>, AllocError>
     ensures first { IfOk result (λ found. MatchOption found
         ((entries.old ≡ []) × (entries.new ≡ []))
         (λ head. IsFirst entries.old entries.new head (map written words.new.items))) }
-    ensures fault { IfErr result (λ fault. fault.cause ≡ NoMemory) }
-    ensures line { IfErr result (λ fault. first_line entries.old ≡ Some fault.line) }
 {
     let Some(head) = entries.next(words)? else {
         return Ok(None);
     };
     if head.unclosed.is_some() {
         let Ok(()) = words.push(Word::Unclosed) else {
-            return Err(fault(head, Cause::NoMemory));
+            return Err(AllocError);
         };
     }
     Ok(Some(head))
 }
 
-/// A fault of an entry, on its line; that of a quote or a parenthesis without its other one on the line of that.
+/// A fault of an entry, on its line; that of a quote or a parenthesis without its other one on the line of that, and want
+/// of memory on no line.
 fn fault(head: EntryHead, cause: Cause) -> FileFault
     ensures { result ≡ fault_at head.line head.unclosed cause }
 {
     let line = match cause {
         Cause::Unclosed => head.unclosed.unwrap_or(head.line),
+        Cause::NoMemory => 0,
         _ => head.line,
     };
     FileFault { line, cause }
@@ -109,23 +107,23 @@ fn fault(head: EntryHead, cause: Cause) -> FileFault
 /// Judges an entry's words: a directive is put in force, and a record is read; None where there is none.
 fn judge(
     alloc: Global,
-    force: &mut Force,
+    context: &mut Context,
     head: EntryHead,
     words: &[Word<'_>],
 ) -> Result<Option<Placed>, Cause>
-    requires lasting { AreLasting force.old }
-    ensures judged { IfOk result (λ found. judged force.old head.line head.indented (map written words.now) ≡ Ok (force.new, found)) }
+    requires lasting { AreLasting context.old }
+    ensures judged { IfOk result (λ found. judged context.old head.line head.indented (map written words.now) ≡ Ok (context.new, found)) }
     ensures lasts { IfOk result (λ found. IfSome found (λ placed. placed.ttl.0 < 2 ^ 31)) }
-    ensures fault { IfErr result (IsToldOf (judged force.old head.line head.indented (map written words.now))) }
-    ensures lasting { AreLasting force.new }
+    ensures fault { IfErr result (IsToldOf (judged context.old head.line head.indented (map written words.now))) }
+    ensures lasting { AreLasting context.new }
 {
     if let Some((directive, arguments)) = directive(head.indented, words) {
-        force.direct(directive, arguments)?;
+        context.direct(directive, arguments)?;
         return Ok(None);
     }
-    let placed = read_record(alloc, force, head.line, head.indented, words)?;
-    force.owner = Some(placed.owner.copy());
-    force.ttl = Some(placed.ttl);
+    let placed = read_record(alloc, context, head.line, head.indented, words)?;
+    context.owner = Some(placed.owner.copy());
+    context.ttl = Some(placed.ttl);
     Ok(Some(placed))
 }
 

@@ -1,18 +1,19 @@
 //! A zone's text as a zone (RFC 1035, 5).
 ghost use Rattle.std.specs.Prelude.{◌≡◌, ◌⊎◌, [], map, None, Some, Ok, Err, IfOk, IfErr, OnOk};
-ghost use Rattle.master_file.specs.declared.fault.Cause.TheVariants.{NoMemory};
+ghost use Rattle.record_text.specs.declared.cause.Cause.TheVariants.{NoMemory};
 ghost use Rattle.master_file.specs.Gathered.{outside_line, zone_of_text, zone_records};
 ghost use Rattle.master_file.specs.Noted.{AreNotes, LastsEach, IsGathered, shown_by, zone_gathered};
 ghost use Rattle.zone_tree.specs.Sets.{records_in};
 ghost use Rattle.zone_tree.specs.Zone.{IsZone};
 ghost use Rattle.master_file.specs.Records.{records_of};
 
-use crate::fault::{Cause, FileFault};
+use crate::fault::FileFault;
 use crate::gathered::Gathered;
 use crate::records::Records;
 use crate::sets::put_behind;
 use dns_name::Name;
 use dns_rdata::{RRset, RType};
+use record_text::Cause;
 use std::alloc::{AllocError, Global};
 use zone_tree::Zone;
 

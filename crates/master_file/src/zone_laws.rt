@@ -1,11 +1,13 @@
 //! Laws of a zone's text: each is the contract of a function that does nothing.
-ghost use Rattle.std.specs.Prelude.{◌≡◌, ℕ, false, List, Some, None, map, All, Ok};
-ghost use Rattle.dns_rdata.specs.Record.{Record};
-ghost use Rattle.master_file.specs.Entries.{entries_of};
-ghost use Rattle.master_file.specs.declared.force.Force.{Force};
+ghost use Rattle.std.specs.Prelude.{◌≡◌, ◌≤◌, ℕ, length, false, List, Some, None, map, All, Ok};
+ghost use Rattle.dns_rdata.specs.Record.{Record, IsLawful};
+ghost use Rattle.zone_tree.specs.Zone.{IsZone};
+ghost use Rattle.master_file.specs.Gathered.{zone_of_text};
+ghost use Rattle.zone_lexing.specs.Entries.{entries_of};
+ghost use Rattle.master_file.specs.declared.context.Context.{Context};
 ghost use Rattle.master_file.specs.Records.{behind, judged, records_of};
-ghost use Rattle.master_file.specs.Spelling.{spell, one_a_line};
-ghost use Rattle.master_file.specs.ZoneText.{soa_first, zone_text, line_words, IsLawful, placed_at, placed_from};
+ghost use Rattle.zone_lexing.specs.Spelling.{spell, one_a_line};
+ghost use Rattle.master_file.specs.ZoneText.{soa_first, zone_text, line_words, placed_at, placed_from};
 
 /// What is written of a zone is a line for each record, with a space between its words, and is read as an entry for each
 /// line with these words, the SOA's first (RFC 1035, 5.1).
@@ -17,7 +19,13 @@ pub fn written_zone_has_an_entry_a_record()
 /// What is written of a zone is read as the zone's records, the SOA first, each on the line of its place, whatever the
 /// origin is and whatever is in force (RFC 1035, 5.1).
 pub fn written_zone_is_read_back()
-    ensures record { (force : Force) (line : ℕ) (r : Record) → IsLawful r
-        → judged force line false (line_words r) ≡ Ok (behind force (placed_at line r), Some (placed_at line r)) }
-    ensures records { (zone : List Record) (origin : List (List ℕ)) → All IsLawful zone → records_of origin (zone_text zone) ≡ record { placed = placed_from 1 (soa_first zone); fault = None } }
+    ensures record { (context : Context) (line : ℕ) (r : Record) → IsLawful r → length r.rdata ≤ 4096
+        → judged context line false (line_words r) ≡ Ok (behind context (placed_at line r), Some (placed_at line r)) }
+    ensures records { (zone : List Record) (origin : List (List ℕ)) → All IsLawful zone → All (λ r. length r.rdata ≤ 4096) zone
+        → records_of origin (zone_text zone) ≡ record { placed = placed_from 1 (soa_first zone); fault = None } }
+{}
+
+/// What is written of a zone is read as that zone, whatever the origin is (RFC 1035, 5.1).
+pub fn written_zone_is_the_zone()
+    ensures { (zone : List Record) (origin : List (List ℕ)) → IsZone zone → zone_of_text origin (zone_text zone) ≡ Ok zone }
 {}

@@ -2,11 +2,11 @@
 ghost use Rattle.std.specs.Prelude.{◌≡◌, ◌++◌, OnOk, IfOk, string_bytes, filter, flat_map};
 ghost use Rattle.dns_rdata.specs.Record.{Record};
 ghost use Rattle.zone_tree.specs.Sets.{records_in};
-ghost use Rattle.master_file.specs.ZoneText.{type_word, record_line, is_other, zone_text};
+ghost use Rattle.master_file.specs.ZoneText.{record_line, is_other, zone_text};
 
-use crate::text::write_data;
 use dns_name::Name;
 use dns_rdata::{RData, RRset, RType, Ttl};
+use record_text::{type_word, write_data};
 use std::alloc::{AllocError, Global};
 use zone_tree::ZoneRead;
 
@@ -58,25 +58,6 @@ fn write_record(text: &mut String, owner: &Name, ttl: Ttl, rdata: &RData) -> Res
     write!(text, "{owner} {seconds} IN {rtype}")?;
     write_data(text, rdata)?;
     text.push('\n')
-}
-
-/// The word of a type; nothing for a type that isn't served (RFC 1035, 3.2.2; RFC 3596, 2.1; RFC 2782).
-#[tactic(auto, unfolding(crate::specs::ZoneText::type_word))]
-fn type_word(rtype: RType) -> &'static str
-    ensures { result.now ≡ type_word rtype.0 }
-{
-    match rtype {
-        RType::A => "A",
-        RType::NS => "NS",
-        RType::CNAME => "CNAME",
-        RType::SOA => "SOA",
-        RType::PTR => "PTR",
-        RType::MX => "MX",
-        RType::TXT => "TXT",
-        RType::AAAA => "AAAA",
-        RType::SRV => "SRV",
-        _ => "",
-    }
 }
 
 #[cfg(test)]

@@ -1,8 +1,8 @@
 //! Texts of zones, and the records that are read of them, or the first fault.
 use super::Records;
-use crate::fault::Cause;
 use crate::placed::Placed;
 use dns_name::Name;
+use record_text::Cause;
 use std::alloc::{AllocError, Global};
 use std::test::Fail;
 

@@ -1,7 +1,7 @@
 //! Texts that are zones, and the fault that is told of others.
 use super::read_zone;
-use crate::fault::Cause;
 use dns_name::Name;
+use record_text::Cause;
 use std::alloc::{AllocError, Global};
 use std::test::Fail;
 use zone_tree::ZoneRead;

@@ -1,12 +1,11 @@
 use Rattle.std.proofs.Common.{inl, inr, ap, sym, ◌∙◌}
-use Rattle.master_file.specs.declared.fault.FileFault.{FileFault}
-use Rattle.master_file.specs.Records.{faulty}
+use Rattle.master_file.specs.Records.{faulty, fault_at}
 use Rattle.master_file.proofs.RecordLemmas.{fault_first}
 use Rattle.master_file.proofs.records.Records.next.Goals as goal
 
 pub returns-in-Err-clause-fault : goal.returns-in-Err-clause-fault
 returns-in-Err-clause-fault c =
-    elim (fault_first c.loop-head.self-inside.force c.loop-head.self-inside.entries c.next_entry.new.entries c.in-Some.head c.in_ok-head.field-0 c.next_entry.new.words.items c.deref.result.now c.in-Err.cause c.in-Some.is c.in_ok-head.ensures.first c.deref.ensures.value c.in-Err.ensures.fault) [
-      | inl none ↦ inl (ap (λ (f : FileFault). f.cause) c.fault.ensures ∙ none)
+    elim (fault_first c.loop-head.self-inside.context c.loop-head.self-inside.entries c.next_entry.new.entries c.in-Some.head c.in_ok-head.field-0 c.next_entry.new.words.items c.deref.result.now c.in-Err.cause c.in-Some.is c.in_ok-head.ensures.first c.deref.ensures.value c.in-Err.ensures.fault) [
+      | inl none ↦ inl (c.fault.ensures ∙ ap (fault_at c.in-Some.head.line c.in-Some.head.unclosed) none)
       | inr told ↦ inr (sym c.loop-head.invariant.left ∙ told ∙ ap faulty (sym c.fault.ensures))
     ]

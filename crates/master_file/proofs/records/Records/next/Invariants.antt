@@ -4,8 +4,8 @@ use Rattle.master_file.proofs.records.Records.next.Given as goal
 
 abbrev pub invariant-loop-head : goal.invariant-loop-head
 invariant-loop-head l = record {
-  left : records_from l.self-inside.force l.self-inside.entries ≡ l.fn.self;
-  lasting : AreLasting l.self-inside.force;
+  left : records_from l.self-inside.context l.self-inside.entries ≡ l.fn.self;
+  lasting : AreLasting l.self-inside.context;
 }
 
 abbrev pub decreases-loop-head : goal.decreases-loop-head

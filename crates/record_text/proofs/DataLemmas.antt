@@ -1,0 +1,173 @@
+-- Octets of fields and of strings, put one behind the other.
+use Rattle.std.proofs.Common.{◌≡◌, ℕ, ◌+◌, ◌<◌, ◌≤◌, inl, inr, Bool, true, false, cond, ◌==◌, nat_lt, Option, Some, None, IsSome, List, [], ◌∷◌, ◌++◌, map, length, drop, get_or, Result, Ok, Err, refl, sym, ap, ◌∙◌, arith}
+use Rattle.std.proofs.lemmas.List.{append_assoc, append-nil, drop_all, length-drop, at_drop_more}
+use Rattle.record_text.specs.declared.data.Field.{Field}
+use Rattle.zone_lexing.specs.declared.word.Word.{Word}
+use Rattle.record_text.specs.declared.cause.Cause.{Cause}
+use Rattle.record_text.specs.declared.cause.Cause.TheVariants.{BadData}
+use Rattle.record_text.specs.declared.cause.Cause.TheVariants.{UnknownType, Limit}
+use Rattle.dns_rdata.specs.declared.data.DataFault.{DataFault}
+use Rattle.dns_rdata.specs.declared.data.DataFault.TheVariants as fault
+use Rattle.dns_rdata.specs.Data.{data_of}
+use Rattle.dns_rdata.proofs.DataLemmas.{IsRead-data}
+use Rattle.std.proofs.lemmas.Bool.Decides.{nat_tests}
+use Rattle.record_text.specs.Fault.{cause_of_data}
+use Rattle.record_text.specs.Data.{fields_of, form_of, octets_of_words, as_data, surplus_of, ReadsBehind, IsToldOf}
+use Rattle.record_text.specs.Strings.{strings_of}
+use Rattle.zone_lexing.specs.Word.{Written, written}
+use Rattle.record_text.specs.Reading.{on_ok, and_then}
+
+-- what is put so far, and what the rest gives
+abbrev pub behind : List ℕ → Result (List ℕ) Cause → Result (List ℕ) Cause
+behind own rest = on_ok (λ (more : List ℕ). own ++ more) rest
+
+abbrev pub whole : List ℕ → List (List ℕ) → List Field → List Written → Result (List ℕ) Cause
+whole own origin fields words = behind own (fields_of origin fields words)
+
+behind_ok : (own all : List ℕ) (r : Result (List ℕ) Cause) → behind own r ≡ Ok all → (more : List ℕ) × (r ≡ Ok more) × (own ++ more ≡ all)
+behind_ok own all (Ok more) e = (more, refl, cc)
+behind_ok own all (Err cause) e = cc
+
+behind_err : (own : List ℕ) (r : Result (List ℕ) Cause) (cause : Cause) → behind own r ≡ Err cause → r ≡ Err cause
+behind_err own (Ok more) cause e = cc
+behind_err own (Err other) cause e = cc
+
+twice : (own front : List ℕ) (r : Result (List ℕ) Cause) → behind own (on_ok (λ (rest : List ℕ). front ++ rest) r) ≡ behind (own ++ front) r
+twice own front (Ok rest) = ap Ok (sym (append_assoc own front rest))
+twice own front (Err cause) = refl
+
+-- one reading in front of others is read
+pub behind_step : (own front : List ℕ) (first rest : Result (List ℕ) Cause) → first ≡ Ok front → behind own (and_then first (λ (octets : List ℕ). on_ok (λ (more : List ℕ). octets ++ more) rest)) ≡ behind (own ++ front) rest
+behind_step own front first rest e = rw e (twice own front rest)
+
+-- and what it refuses
+pub behind_fault : (own : List ℕ) (first rest : Result (List ℕ) Cause) (cause : Cause) → first ≡ Err cause → behind own (and_then first (λ (octets : List ℕ). on_ok (λ (more : List ℕ). octets ++ more) rest)) ≡ Err cause
+behind_fault own first rest cause e = rw e refl
+
+-- all is read
+pub ReadsBehind-behind : (old own : List ℕ) (reading : Result (List ℕ) Cause) → behind own (Ok []) ≡ behind old reading → ReadsBehind reading old own
+ReadsBehind-behind old own reading e =
+    let parts = behind_ok old (own ++ []) reading (sym e) in
+    record { front = parts.0; read = parts.1; octets = sym (append-nil own) ∙ sym parts.2 }
+
+-- a fault of the rest is one of the whole
+pub IsToldOf-behind : (old own : List ℕ) (rest reading : Result (List ℕ) Cause) (cause : Cause) → behind own rest ≡ behind old reading → behind own rest ≡ Err cause → IsToldOf reading cause
+IsToldOf-behind old own rest reading cause e fault = inr (behind_err old reading cause (sym e ∙ fault))
+
+-- a fault of what is read next, or want of memory
+pub IsToldOf-first : (old own : List ℕ) (first rest reading : Result (List ℕ) Cause) (cause : Cause) → behind own (and_then first (λ (octets : List ℕ). on_ok (λ (more : List ℕ). octets ++ more) rest)) ≡ behind old reading → IsToldOf first cause → IsToldOf reading cause
+IsToldOf-first old own first rest reading cause e (inl none) = inl none
+IsToldOf-first old own first rest reading cause e (inr fault) = IsToldOf-behind old own _ reading cause e (behind_fault own first rest cause fault)
+
+too_few : (own : List ℕ) (origin : List (List ℕ)) (fields : List Field) → 0 < length fields → whole own origin fields [] ≡ Err BadData
+too_few own origin [] h = absurd (omega arith)
+too_few own origin (field ∷ fields) h = refl
+
+-- the words end before the fields
+pub whole_few : (own : List ℕ) (origin : List (List ℕ)) (fields : List Field) (words : List Word) (i : ℕ) → i < length fields → length words ≤ i → whole own origin (drop i fields) (map written (drop i words)) ≡ Err BadData
+whole_few own origin fields words i h k =
+    let left : 0 < length (drop i fields) = let d = length-drop i fields in omega arith in
+    rw (drop_all i words k) (too_few own origin (drop i fields) left)
+
+-- the fields end before the words
+pub whole_many : (own : List ℕ) (origin : List (List ℕ)) (fields : List Field) (words : List Word) (i : ℕ) (w : Word) → length fields ≤ i → i ≤ length fields → length fields < length words → w ≡ get_or words (length fields) w → whole own origin (drop i fields) (map written (drop i words)) ≡ Err (surplus_of (written w))
+whole_many own origin fields words i w low high k e =
+    let same : i ≡ length fields = omega arith in
+    let all : length fields ≤ length fields = omega arith in
+    rw (same, drop_all (length fields) fields all)
+    (at_drop_more (λ (ws : List Word). whole own origin [] (map written ws)) words (length fields) w k
+    ∙ ap (λ (x : Word). Err (surplus_of (written x))) (sym e))
+
+-- both end
+pub whole_end : (own : List ℕ) (origin : List (List ℕ)) (fields : List Field) (words : List Word) (i : ℕ) → length fields ≤ i → length words ≤ i → whole own origin (drop i fields) (map written (drop i words)) ≡ behind own (Ok [])
+whole_end own origin fields words i h k = rw (drop_all i fields h, drop_all i words k) refl
+
+-- the next field and the next word, at an index
+pub whole_next : (own : List ℕ) (origin : List (List ℕ)) (fields : List Field) (words : List Word) (i : ℕ) (f : Field) (w : Word) → i < length fields → i < length words → whole own origin (drop i fields) (map written (drop i words)) ≡ whole own origin (get_or fields i f ∷ drop (i + 1) fields) (written (get_or words i w) ∷ map written (drop (i + 1) words))
+whole_next own origin fields words i f w h k =
+    at_drop_more (λ (fs : List Field). whole own origin fs (map written (drop i words))) fields i f h
+    ∙ at_drop_more (λ (ws : List Word). whole own origin (get_or fields i f ∷ drop (i + 1) fields) (map written ws)) words i w k
+
+-- which reading a type's words have
+pub words_text : (rtype : ℕ) (origin : List (List ℕ)) (words : List Word) → true ≡ (rtype == 16) → 0 < length words → octets_of_words rtype origin (map written words) ≡ strings_of (map written words)
+unfolding octets_of_words
+words_text rtype origin [] e some = absurd (omega arith)
+words_text rtype origin (word ∷ words) e some = rw (sym e) refl
+
+pub words_no_text : (rtype : ℕ) (origin : List (List ℕ)) (words : List Word) → true ≡ (rtype == 16) → length words ≡ 0 → octets_of_words rtype origin (map written words) ≡ Err BadData
+unfolding octets_of_words
+words_no_text rtype origin [] e none = rw (sym e) refl
+words_no_text rtype origin (word ∷ words) e none = absurd (omega arith)
+
+pub words_fields : (rtype : ℕ) (origin : List (List ℕ)) (words : List Written) (fields : List Field) → false ≡ (rtype == 16) → form_of rtype ≡ Some fields → octets_of_words rtype origin words ≡ fields_of origin fields words
+unfolding octets_of_words
+words_fields rtype origin words fields e form = rw (sym e, form) refl
+
+pub words_unknown : (rtype : ℕ) (origin : List (List ℕ)) (words : List Written) → false ≡ (rtype == 16) → form_of rtype ≡ None → octets_of_words rtype origin words ≡ Err UnknownType
+unfolding octets_of_words
+words_unknown rtype origin words e form = rw (sym e, form) refl
+
+-- octets as data
+pub as_data-ok : (rtype : ℕ) (octets own : List ℕ) → data_of rtype octets ≡ Some own → length own ≤ 4096 → as_data rtype octets ≡ Ok own
+unfolding as_data
+as_data-ok rtype octets own e short =
+    let same = (IsRead-data rtype octets own e).len in
+    let t : nat_lt 4096 (length octets) ≡ false = grind (arith, nat_tests) in
+    rw (e, as_data, t) refl
+
+as_data-none : (rtype : ℕ) (octets : List ℕ) → data_of rtype octets ≡ None → as_data rtype octets ≡ Err BadData
+unfolding as_data
+as_data-none rtype octets e = rw (e, as_data) refl
+
+some_long : (o : Option (List ℕ)) (b : Bool) → b ≡ true → IsSome o → elim o as (λ _. Result (List ℕ) Cause) [ None ↦ Err BadData | Some own ↦ cond b (Err Limit) (Ok own) ] ≡ Err Limit
+some_long None b t h = cc
+some_long (Some own) b t h = rw t refl
+
+as_data-long : (rtype : ℕ) (octets : List ℕ) → IsSome (data_of rtype octets) → 4096 < length octets → as_data rtype octets ≡ Err Limit
+unfolding as_data
+as_data-long rtype octets h long =
+    let t : nat_lt 4096 (length octets) ≡ true = grind (arith, nat_tests) in
+    some_long (data_of rtype octets) (nat_lt 4096 (length octets)) t h
+
+-- a fault of the octets as data is one of the words
+pub IsToldOf-data : (rtype : ℕ) (octets : List ℕ) (reading : Result (List ℕ) Cause) (f : DataFault) → reading ≡ Ok octets → (f ≡ fault.BadLength → data_of rtype octets ≡ None) → (f ≡ fault.TooLong → IsSome (data_of rtype octets) × (4096 < length octets)) → IsToldOf (and_then reading (as_data rtype)) (cause_of_data f)
+IsToldOf-data rtype octets reading fault.BadLength e bad long = inr (ap (λ (r : Result (List ℕ) Cause). and_then r (as_data rtype)) e ∙ as_data-none rtype octets (bad refl))
+IsToldOf-data rtype octets reading fault.TooLong e bad long =
+    let is = long refl in
+    inr (ap (λ (r : Result (List ℕ) Cause). and_then r (as_data rtype)) e ∙ as_data-long rtype octets is.0 is.1)
+IsToldOf-data rtype octets reading fault.NoMemory e bad long = inl refl
+
+pub data_of_words-ok : (rtype : ℕ) (octets own : List ℕ) (reading : Result (List ℕ) Cause) → reading ≡ Ok octets → data_of rtype octets ≡ Some own → length own ≤ 4096 → and_then reading (as_data rtype) ≡ Ok own
+data_of_words-ok rtype octets own reading e is short = ap (λ (r : Result (List ℕ) Cause). and_then r (as_data rtype)) e ∙ as_data-ok rtype octets own is short
+
+-- what is put behind nothing is the whole
+pub put_alone : (reading : Result (List ℕ) Cause) (before after : List ℕ) → before ≡ [] → ReadsBehind reading before after → reading ≡ Ok after
+put_alone reading before after none put =
+    let octets = put.octets in
+    let read = put.read in
+    let same : after ≡ [] ++ put.front = octets ∙ ap (λ (os : List ℕ). os ++ put.front) none in
+    read ∙ ap Ok (sym same)
+
+-- a fault of the words
+pub IsToldOf-words : (rtype : ℕ) (reading : Result (List ℕ) Cause) (cause : Cause) → IsToldOf reading cause → IsToldOf (and_then reading (as_data rtype)) cause
+IsToldOf-words rtype reading cause (inl none) = inl none
+IsToldOf-words rtype reading cause (inr e) = inr (ap (λ (r : Result (List ℕ) Cause). and_then r (as_data rtype)) e)
+
+-- what is read is data
+pub record IsData (rtype : ℕ) (own : List ℕ) : Type 0 where
+  pub form : data_of rtype own ≡ Some own
+  pub short : length own ≤ 4096
+
+as_data-IsData : (rtype : ℕ) (octets own : List ℕ) (o : Option (List ℕ)) (b : Bool) → data_of rtype octets ≡ o → nat_lt 4096 (length octets) ≡ b → elim o as (λ _. Result (List ℕ) Cause) [ None ↦ Err BadData | Some inner ↦ cond b (Err Limit) (Ok inner) ] ≡ Ok own → IsData rtype own
+as_data-IsData rtype octets own None b e t is = cc
+as_data-IsData rtype octets own (Some inner) true e t is = cc
+as_data-IsData rtype octets own (Some inner) false e t is =
+    let same : inner ≡ own = cc in
+    let read = IsRead-data rtype octets own (e ∙ ap Some same) in
+    let len = read.len in
+    record { form = read.again; short = let fits : length octets ≤ 4096 = grind (arith, nat_tests) in omega arith }
+
+pub IsData-read : (rtype : ℕ) (reading : Result (List ℕ) Cause) (own : List ℕ) → and_then reading (as_data rtype) ≡ Ok own → IsData rtype own
+unfolding as_data
+IsData-read rtype (Ok octets) own is = as_data-IsData rtype octets own (data_of rtype octets) (nat_lt 4096 (length octets)) refl refl is
+IsData-read rtype (Err cause) own is = cc

@@ -1,0 +1,10 @@
+pub mod AddressLemmas
+pub mod BackLemmas
+pub mod DataLemmas
+pub mod FieldLemmas
+pub mod FormLemmas
+pub mod FrontLemmas
+pub mod NumberLemmas
+pub mod SpeltLemmas
+pub mod StringLemmas
+pub mod TextLemmas

@@ -1,0 +1,10 @@
+pub mod Address
+pub mod Data
+pub mod Fault
+pub mod Front
+pub mod Mnemonics
+pub mod NameWord
+pub mod Number
+pub mod Reading
+pub mod Strings
+pub mod Text

@@ -1,0 +1,7 @@
+pub mod CutLemmas
+pub mod EntryLemmas
+pub mod ItemLemmas
+pub mod RunLemmas
+pub mod ScanLemmas
+pub mod SpellingLemmas
+pub mod StepLemmas

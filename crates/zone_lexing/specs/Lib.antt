@@ -1,0 +1,6 @@
+pub mod Entries
+pub mod Items
+pub mod Order
+pub mod Spelling
+pub mod Steps
+pub mod Word

@@ -1,0 +1,19 @@
+//! The words of zone text (RFC 1035, 5.1): a text as entries, each a line's words or those of the lines that parentheses
+//! join.
+//!
+//! Contracts see the entries of a text that are left as a list; an entry as its line and its words; and a word as its
+//! octets, outside quotes or between two, with its escapes not undone.
+#![tactic(auto)]
+
+mod entries;
+mod entry;
+mod item;
+mod laws;
+mod parentheses;
+mod reading;
+mod word;
+
+pub use entries::Entries;
+pub use entry::EntryHead;
+pub use laws::{entries_are_in_order, items_are_the_text, lines_are_read_back};
+pub use word::Word;
