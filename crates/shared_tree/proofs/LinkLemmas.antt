@@ -1,7 +1,10 @@
 -- How low a link is that is formed.
-use Rattle.std.proofs.Common.{◌≡◌, ℕ, zero, suc, ◌+◌, ◌*◌, ◌^◌, ◌<◌, ◌≤◌, max, List, [], ◌∷◌, ◌++◌, length, length-append, arith, ap}
+use Rattle.std.proofs.Common.{inl, inr, ◌≡◌, ℕ, zero, suc, ◌+◌, ◌*◌, ◌^◌, ◌<◌, ◌≤◌, max, List, [], ◌∷◌, ◌++◌, length, length-append, arith, ap}
 use Rattle.shared_tree.specs.declared.node.Link.{Link, Leaf, Fork'}
-use Rattle.shared_tree.specs.Links.{link_pairs, link_height, IsFormed}
+use Rattle.shared_tree.specs.Links.{link_pairs, link_height, IsFormed, IsHalved}
+use Rattle.std.proofs.lemmas.Bool.{cases_lt}
+use Rattle.std.proofs.Math.Pow.{pow_mono}
+use Rattle.std.proofs.Math.Nat.{pow-succ'}
 use Rattle.shared_tree.specs.Pairs.{IsLow}
 
 -- a node's pairs are not none
@@ -27,3 +30,34 @@ size_of (Fork' p left pair right s) f (suc d) h =
 
 pub is_low : {K V : Type 0} (link : Link K V) → IsFormed link → IsLow (link_height link) (length (link_pairs link))
 is_low link f digits h = grind (arith, size_of link f digits)
+
+-- two halves: of a and b pairs, where a is b or b + 1
+module _ (a b l r : ℕ) (left : IsHalved l a) (right : IsHalved r b) (le : b ≤ a) (ge : a ≤ b + 1) where
+  right_no_higher : r ≤ l
+  right_no_higher = elim (cases_lt l r) [
+    | inl lt ↦
+        let e : 2 ^ suc l ≤ 2 ^ r = pow_mono lt in
+        let f : 2 ^ suc l ≡ 2 * 2 ^ l = pow-succ' 2 l in
+        absurd (omega (arith, left.0, right.1))
+    | inr ge ↦ ge
+  ]
+
+  left_at_most_one : l ≤ r + 1
+  left_at_most_one = elim (cases_lt (r + 1) l) [
+    | inl lt ↦
+        let e : 2 ^ suc (suc r) ≤ 2 ^ l = pow_mono (omega arith) in
+        let f : 2 ^ suc (suc r) ≡ 2 * 2 ^ suc r = pow-succ' 2 (suc r) in
+        let h : 2 ^ suc r ≡ 2 * 2 ^ r = pow-succ' 2 r in
+        absurd (omega (arith, right.0, left.1))
+    | inr ge ↦ ge
+  ]
+
+  pub halves : record { level_left : l ≤ r + 1; level_right : r ≤ l + 1; whole : IsHalved (max l r + 1) (a + b + 1) }
+  halves =
+      let same : max l r + 1 ≡ suc l = omega (arith, right_no_higher) in
+      let f : 2 ^ suc l ≡ 2 * 2 ^ l = pow-succ' 2 l in
+      record {
+        level_left = left_at_most_one;
+        level_right = omega (arith, right_no_higher);
+        whole = rw (same, f) (omega (arith, left.0), omega (arith, left.1));
+      }

@@ -1,5 +1,5 @@
 -- What stands below a link: its pairs in order, its height, and that it is level throughout (own).
-use Rattle.std.specs.Prelude.{◌≡◌, ℕ, ◌+◌, ◌≤◌, max, List, [], ◌∷◌, ◌++◌}
+use Rattle.std.specs.Prelude.{◌≡◌, ℕ, ◌+◌, ◌*◌, ◌^◌, ◌<◌, ◌≤◌, max, List, [], ◌∷◌, ◌++◌}
 use Rattle.std.specs.declared.cmp.Ordering.{Ordering}
 use Rattle.shared_tree.specs.Pairs.{TreeView, IsAscending}
 use Rattle.shared_tree.specs.declared.node.Link.{Link, Leaf, Fork'}
@@ -61,3 +61,7 @@ pub record IsTree {K V : Type 0} (cmp : K → K → Ordering) (root : Link K V) 
 -- how a tree is seen (own)
 abbrev pub view_of : {K V : Type 0} → Link K V → TreeView K V
 view_of root = record { pairs = link_pairs root; height = link_height root }
+
+-- a height is just the binary digits of a count, as where pairs are halved at each node (own)
+abbrev pub IsHalved : ℕ → ℕ → Type 0
+IsHalved height count = (count < 2 ^ height) × (2 ^ height ≤ max 1 (2 * count))

@@ -1,12 +1,15 @@
 //! A sorted map whose versions share what they have in common.
 #![tactic(auto)]
 
+mod build;
 mod fault;
 mod join;
 mod look;
 mod node;
 mod path;
 mod tree;
+mod walk;
 
 pub use fault::NoMemory;
 pub use tree::Tree;
+pub use walk::Walk;

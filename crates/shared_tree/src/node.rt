@@ -73,6 +73,11 @@ impl Maker {
         Maker { alloc, made: 0 }
     }
 
+    /// Where its nodes lie.
+    pub(crate) fn alloc(&self) -> Global {
+        self.alloc
+    }
+
     /// How many nodes it has made.
     pub(crate) fn made(&self) -> u64
         ensures { result ≡ self.now.made }

@@ -1,11 +1,12 @@
 //! A tree, and what it is asked and made into.
 ghost use Rattle.std.specs.Prelude.{◌≡◌, ◌+◌, ◌*◌, ◌<◌, ◌≤◌, [], IfOk, length, None, IsTrue, ◌↔◌};
 ghost use Rattle.std.specs.Option.{option_copied};
-ghost use Rattle.shared_tree.specs.Pairs.{pair_at, value_at, pair_after, pairs_with, pairs_without, first_pair, IsLow};
+ghost use Rattle.shared_tree.specs.Pairs.{IsAscending, pair_at, value_at, pair_after, pairs_with, pairs_without, first_pair, IsLow};
 
 use crate::fault::NoMemory;
 use crate::look::{after_in, find_in, first_in};
 use crate::node::{Link, Maker};
+use crate::walk::Walk;
 use std::alloc::{AllocError, Global};
 use std::marker::Model;
 use std::sync::Arc;
@@ -76,9 +77,29 @@ impl<K: Ord, V> Tree<K, V> {
     {
         first_in(&self.root)
     }
+
+    /// The pairs in the order of their keys. It takes no memory.
+    pub fn walk(&self) -> Walk<'_, K, V>
+        ensures { result ≡ self.now.pairs }
+    {
+        Walk::new(&self.root)
+    }
 }
 
 impl<K: Ord + Drop, V: Drop> Tree<K, V> {
+    /// The tree of pairs whose keys ascend, each less than the next. It makes a node a pair. `NoMemory` where memory is
+    /// refused; the pairs are then gone.
+    pub fn from_sorted(alloc: Global, pairs: Vec<(K, V)>) -> Result<Tree<K, V>, NoMemory>
+        requires { IsAscending K.cmp pairs.items }
+        ensures pairs { IfOk result (λ tree. tree.pairs ≡ pairs.items) }
+    {
+        let mut pairs = pairs;
+        let count = pairs.len();
+        let mut maker = Maker::new(alloc);
+        let root = maker.build(&mut pairs, count)?;
+        Ok(Tree { root })
+    }
+
     /// The tree with a pair in place, whatever pair its key had, and how many nodes were made: one at the least, and at
     /// most four for each level of this tree and one more. `NoMemory` where memory is refused; this tree stays as it is,
     /// as it does at any call.
