@@ -7,9 +7,14 @@ mod join;
 mod look;
 mod node;
 mod path;
+mod seek;
 mod tree;
 mod walk;
 
 pub use fault::NoMemory;
+pub use seek::Seek;
 pub use tree::Tree;
 pub use walk::Walk;
+
+#[cfg(test)]
+mod tests;

@@ -5,6 +5,7 @@ ghost use Rattle.shared_tree.specs.Pairs.{IsAscending, pairs_with, pairs_without
 
 use crate::fault::NoMemory;
 use crate::node::{Link, Maker, Node, share_pair};
+use crate::seek::Seek;
 use std::cmp::Ordering;
 use std::sync::Arc;
 
@@ -38,26 +39,26 @@ impl Maker {
     }
 
     /// The pairs of a link without that of a key.
-    pub(crate) fn without<K: Ord + Drop, V: Drop>(
+    pub(crate) fn without<K: Ord + Drop, V: Drop, Q: Seek<K>>(
         &mut self,
         link: &Link<K, V>,
-        key: &K,
+        sought: &Q,
     ) -> Result<Link<K, V>, NoMemory>
-        ensures pairs { IsAscending K.cmp (link_pairs link.now) → IfOk result (λ new. link_pairs new ≡ pairs_without K.cmp key.now (link_pairs link.now)) }
+        ensures pairs { IsAscending K.cmp (link_pairs link.now) → IfOk result (λ new. link_pairs new ≡ pairs_without K.cmp (Q.key sought.now) (link_pairs link.now)) }
         ensures formed { IsFormed link.now → IfOk result (λ new. IsFormed new) }
         ensures height { IsFormed link.now → IfOk result (λ new. IsShrunk link.now new) }
         ensures bounded { IsFormed link.now → self.new.made ≤ self.old.made + 3 * link_height link.now }
     {
         match link {
             Link::Leaf => Ok(Link::Leaf),
-            Link::Fork(node) => match key.cmp(&node.pair.0) {
+            Link::Fork(node) => match sought.cmp_key(&node.pair.0) {
                 Ordering::Less => {
-                    let left = self.without(&node.left, key)?;
+                    let left = self.without(&node.left, sought)?;
                     self.join(left, share_pair(&node.pair)?, node.right.share()?)
                 }
                 Ordering::Equal => self.without_top(node),
                 Ordering::Greater => {
-                    let right = self.without(&node.right, key)?;
+                    let right = self.without(&node.right, sought)?;
                     self.join(node.left.share()?, share_pair(&node.pair)?, right)
                 }
             },

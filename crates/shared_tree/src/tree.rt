@@ -6,6 +6,7 @@ ghost use Rattle.shared_tree.specs.Pairs.{IsAscending, pair_at, value_at, pair_a
 use crate::fault::NoMemory;
 use crate::look::{after_in, find_in, first_in};
 use crate::node::{Link, Maker};
+use crate::seek::Seek;
 use crate::walk::Walk;
 use std::alloc::{AllocError, Global};
 use std::marker::Model;
@@ -55,20 +56,20 @@ impl<K: Ord, V> Tree<K, V> {
     }
 
     /// The value of a key.
-    pub fn get(&self, key: &K) -> Option<&V>
-        ensures { option_copied result ≡ value_at K.cmp key.now self.now.pairs }
+    pub fn get<Q: Seek<K>>(&self, sought: &Q) -> Option<&V>
+        ensures { option_copied result ≡ value_at K.cmp (Q.key sought.now) self.now.pairs }
     {
-        match find_in(&self.root, key) {
+        match find_in(&self.root, sought) {
             Some(pair) => Some(&pair.1),
             None => None,
         }
     }
 
     /// The pair of the least key that is greater than a key, which the tree needn't have.
-    pub fn after(&self, key: &K) -> Option<&(K, V)>
-        ensures { option_copied result ≡ pair_after K.cmp key.now self.now.pairs }
+    pub fn after<Q: Seek<K>>(&self, sought: &Q) -> Option<&(K, V)>
+        ensures { option_copied result ≡ pair_after K.cmp (Q.key sought.now) self.now.pairs }
     {
-        after_in(&self.root, key)
+        after_in(&self.root, sought)
     }
 
     /// The pair of the least key.
@@ -116,16 +117,20 @@ impl<K: Ord + Drop, V: Drop> Tree<K, V> {
     /// The tree without the pair of a key, and how many nodes were made: at most four for each level of this tree and
     /// one more, and none where the tree has no pair of that key, which gives an equal tree. `NoMemory` where memory is
     /// refused; this tree stays as it is, as it does at any call.
-    pub fn without(&self, alloc: Global, key: &K) -> Result<(Tree<K, V>, u64), NoMemory>
-        ensures pairs { IfOk result (λ new. new.0.pairs ≡ pairs_without K.cmp key.now self.now.pairs) }
-        ensures absent { pair_at K.cmp key.now self.now.pairs ≡ None → IfOk result (λ new. (new.0 ≡ self.now) × (new.1 ≡ 0)) }
+    pub fn without<Q: Seek<K>>(
+        &self,
+        alloc: Global,
+        sought: &Q,
+    ) -> Result<(Tree<K, V>, u64), NoMemory>
+        ensures pairs { IfOk result (λ new. new.0.pairs ≡ pairs_without K.cmp (Q.key sought.now) self.now.pairs) }
+        ensures absent { pair_at K.cmp (Q.key sought.now) self.now.pairs ≡ None → IfOk result (λ new. (new.0 ≡ self.now) × (new.1 ≡ 0)) }
         ensures made { IfOk result (λ new. new.1 ≤ 4 * (self.now.height + 1)) }
     {
-        match find_in(&self.root, key) {
+        match find_in(&self.root, sought) {
             None => Ok((self.share()?, 0)),
             Some(_) => {
                 let mut maker = Maker::new(alloc);
-                let root = maker.without(&self.root, key)?;
+                let root = maker.without(&self.root, sought)?;
                 Ok((Tree { root }, maker.made()))
             }
         }

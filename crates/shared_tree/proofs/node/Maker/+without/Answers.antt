@@ -9,7 +9,7 @@ use Rattle.shared_tree.proofs.node.Maker.+without.Goals as goal
 pub returns-in_ok-share-in-Less-clause-pairs : goal.returns-in_ok-share-in-Less-clause-pairs
 returns-in_ok-share-in-Less-clause-pairs g t c q =
     let n = c.in-Fork.node.value in
-    let key = c.args.key.now in
+    let key = g.Q.Seek.key c.args.sought.now in
     let whole = rw c.in-Fork.is at q in
     let e : g.K.Ord.cmp key n.pair.value.0 ≡ Less = cc in
     let here = less_here g.met.K.Ord.total key (link_pairs n.left) n.pair.value (link_pairs n.right) whole e in
@@ -25,7 +25,7 @@ returns-in_ok-share-in-Less-clause-pairs g t c q =
 pub returns-in-Equal-clause-pairs : goal.returns-in-Equal-clause-pairs
 returns-in-Equal-clause-pairs g t c q =
     let n = c.in-Fork.node.value in
-    let key = c.args.key.now in
+    let key = g.Q.Seek.key c.args.sought.now in
     let whole = rw c.in-Fork.is at q in
     let e : g.K.Ord.cmp key n.pair.value.0 ≡ Equal = cc in
     let here = equal_here g.met.K.Ord.total key (link_pairs n.left) n.pair.value (link_pairs n.right) whole e in
@@ -36,7 +36,7 @@ returns-in-Equal-clause-pairs g t c q =
 pub returns-in_ok-share_pair-in-Greater-clause-pairs : goal.returns-in_ok-share_pair-in-Greater-clause-pairs
 returns-in_ok-share_pair-in-Greater-clause-pairs g t c q =
     let n = c.in-Fork.node.value in
-    let key = c.args.key.now in
+    let key = g.Q.Seek.key c.args.sought.now in
     let whole = rw c.in-Fork.is at q in
     let e : g.K.Ord.cmp key n.pair.value.0 ≡ Greater = cc in
     let here = greater_here g.met.K.Ord.total key (link_pairs n.left) n.pair.value (link_pairs n.right) whole e in

@@ -8,8 +8,8 @@ use Rattle.shared_tree.proofs.tree.Tree.without.Goals as goal
 -- no pair has the key
 pub returns-in_ok-share-in-None-clause-pairs : goal.returns-in_ok-share-in-None-clause-pairs
 returns-in_ok-share-in-None-clause-pairs g c =
-    let found : pair_at g.K.Ord.cmp c.args.key.now (link_pairs c.self.inside.root) ≡ None = sym (c.find_in.ensures c.self.invariant.ascends) ∙ ap option_copied c.in-None.is in
-    rw (c.in_ok-share-in-None.ensures, ← c.self.view_is) (sym (without_absent g.K.Ord.cmp c.args.key.now (link_pairs c.self.inside.root) found))
+    let found : pair_at g.K.Ord.cmp (g.Q.Seek.key c.args.sought.now) (link_pairs c.self.inside.root) ≡ None = sym (c.find_in.ensures c.self.invariant.ascends) ∙ ap option_copied c.in-None.is in
+    rw (c.in_ok-share-in-None.ensures, ← c.self.view_is) (sym (without_absent g.K.Ord.cmp (g.Q.Seek.key c.args.sought.now) (link_pairs c.self.inside.root) found))
 
 -- the pairs that are left ascend
 pub invariant_of-result : goal.invariant_of-result
