@@ -25,9 +25,10 @@ IsFormed Leaf = Unit {0}
 IsFormed (Fork' p left pair right h) =
     (h ≡ max (link_height left) (link_height right) + 1) × IsLevel left right × IsFormed left × IsFormed right
 
--- neither of two sides is higher than the other by more than two (own)
-abbrev pub IsAlmostLevel : {K V : Type 0} → Link K V → Link K V → Type 0
-IsAlmostLevel left right = (link_height left ≤ link_height right + 2) × (link_height right ≤ link_height left + 2)
+-- two formed sides, neither higher than the other by more than two: they can be joined, and are level then (own)
+abbrev pub AreJoinable : {K V : Type 0} → Link K V → Link K V → Type 0
+AreJoinable left right =
+    IsFormed left × IsFormed right × (link_height left ≤ link_height right + 2) × (link_height right ≤ link_height left + 2)
 
 -- how high two sides are once they are joined: as high as a node of both where they are level, and no lower than the
 -- higher one else (own)
@@ -44,6 +45,22 @@ node_height node = max (link_height node.left) (link_height node.right) + 1
 
 abbrev pub IsFormedNode : {K V : Type 0} → Node K V → Type 0
 IsFormedNode node = IsLevel node.left node.right × IsFormed node.left × IsFormed node.right
+
+-- a formed node on the left, or on the right, and a formed side that is lower by two (own)
+abbrev pub IsHighLeft : {K V : Type 0} → Node K V → Link K V → Type 0
+IsHighLeft node right = IsFormedNode node × IsFormed right × (node_height node ≡ link_height right + 2)
+
+abbrev pub IsHighRight : {K V : Type 0} → Link K V → Node K V → Type 0
+IsHighRight left node = IsFormedNode node × IsFormed left × (node_height node ≡ link_height left + 2)
+
+-- the same where it is the node's inner side, a node, that is the higher one (own)
+abbrev pub IsBentLeft : {K V : Type 0} → Node K V → Node K V → Link K V → Type 0
+IsBentLeft node inner right =
+    IsFormed node.left × IsFormedNode inner × IsFormed right × (node_height inner ≡ link_height right + 1) × (link_height node.left ≡ link_height right)
+
+abbrev pub IsBentRight : {K V : Type 0} → Link K V → Node K V → Node K V → Type 0
+IsBentRight left inner node =
+    IsFormed left × IsFormedNode inner × IsFormed node.right × (node_height inner ≡ link_height left + 1) × (link_height node.right ≡ link_height left)
 
 -- a link with a pair more, or in another's place: as high as before, or higher by one (own)
 abbrev pub IsGrown : {K V : Type 0} → Link K V → Link K V → Type 0

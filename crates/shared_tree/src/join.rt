@@ -1,6 +1,6 @@
 //! Two sides and a pair between them, brought level by turning the higher side.
 ghost use Rattle.std.specs.Prelude.{◌≡◌, ◌+◌, ◌<◌, ◌≤◌, ◌++◌, ◌∷◌, IfOk};
-ghost use Rattle.shared_tree.specs.Links.{link_pairs, link_height, IsFormed, IsAlmostLevel, IsJoined, node_pairs, node_height, IsFormedNode};
+ghost use Rattle.shared_tree.specs.Links.{link_pairs, link_height, IsFormed, AreJoinable, IsJoined, IsHighLeft, IsHighRight, IsBentLeft, IsBentRight, node_pairs};
 
 use crate::fault::NoMemory;
 use crate::node::{Link, Maker, Node, share_pair};
@@ -16,8 +16,8 @@ impl Maker {
         right: Link<K, V>,
     ) -> Result<Link<K, V>, NoMemory>
         ensures pairs { IfOk result (λ link. link_pairs link ≡ link_pairs left ++ pair.value ∷ link_pairs right) }
-        ensures formed { IsFormed left → IsFormed right → IsAlmostLevel left right → IfOk result (λ link. IsFormed link) }
-        ensures height { IsFormed left → IsFormed right → IsAlmostLevel left right → IfOk result (λ link. IsJoined left right link) }
+        ensures formed { AreJoinable left right → IfOk result (λ link. IsFormed link) }
+        ensures height { AreJoinable left right → IfOk result (λ link. IsJoined left right link) }
         ensures counted { IfOk result (λ _. self.old.made < self.new.made) }
         ensures at_most_three { self.new.made ≤ self.old.made + 3 }
     {
@@ -42,9 +42,9 @@ impl Maker {
         right: Link<K, V>,
     ) -> Result<Link<K, V>, NoMemory>
         ensures pairs { IfOk result (λ link. link_pairs link ≡ node_pairs node.now ++ pair.value ∷ link_pairs right) }
-        ensures formed { IsFormedNode node.now → IsFormed right → node_height node.now ≡ link_height right + 2 → IfOk result (λ link. IsFormed link) }
-        ensures low { IsFormedNode node.now → IsFormed right → node_height node.now ≡ link_height right + 2 → IfOk result (λ link. link_height right + 2 ≤ link_height link) }
-        ensures high { IsFormedNode node.now → IsFormed right → node_height node.now ≡ link_height right + 2 → IfOk result (λ link. link_height link ≤ link_height right + 3) }
+        ensures formed { IsHighLeft node.now right → IfOk result (λ link. IsFormed link) }
+        ensures low { IsHighLeft node.now right → IfOk result (λ link. link_height right + 2 ≤ link_height link) }
+        ensures high { IsHighLeft node.now right → IfOk result (λ link. link_height link ≤ link_height right + 3) }
         ensures counted { IfOk result (λ _. self.old.made < self.new.made) }
         ensures at_most_three { self.new.made ≤ self.old.made + 3 }
     {
@@ -66,8 +66,8 @@ impl Maker {
         right: Link<K, V>,
     ) -> Result<Link<K, V>, NoMemory>
         ensures pairs { IfOk result (λ link. link_pairs link ≡ link_pairs node.now.left ++ node.now.pair.value ∷ node_pairs inner.now ++ pair.value ∷ link_pairs right) }
-        ensures formed { IsFormed node.now.left → IsFormedNode inner.now → IsFormed right → node_height inner.now ≡ link_height right + 1 → link_height node.now.left ≡ link_height right → IfOk result (λ link. IsFormed link) }
-        ensures height { IsFormed node.now.left → IsFormedNode inner.now → IsFormed right → node_height inner.now ≡ link_height right + 1 → link_height node.now.left ≡ link_height right → IfOk result (λ link. link_height link ≡ link_height right + 2) }
+        ensures formed { IsBentLeft node.now inner.now right → IfOk result (λ link. IsFormed link) }
+        ensures height { IsBentLeft node.now inner.now right → IfOk result (λ link. link_height link ≡ link_height right + 2) }
         ensures counted { IfOk result (λ _. self.old.made < self.new.made) }
         ensures at_most_three { self.new.made ≤ self.old.made + 3 }
     {
@@ -88,9 +88,9 @@ impl Maker {
         node: &Node<K, V>,
     ) -> Result<Link<K, V>, NoMemory>
         ensures pairs { IfOk result (λ link. link_pairs link ≡ link_pairs left ++ pair.value ∷ node_pairs node.now) }
-        ensures formed { IsFormed left → IsFormedNode node.now → node_height node.now ≡ link_height left + 2 → IfOk result (λ link. IsFormed link) }
-        ensures low { IsFormed left → IsFormedNode node.now → node_height node.now ≡ link_height left + 2 → IfOk result (λ link. link_height left + 2 ≤ link_height link) }
-        ensures high { IsFormed left → IsFormedNode node.now → node_height node.now ≡ link_height left + 2 → IfOk result (λ link. link_height link ≤ link_height left + 3) }
+        ensures formed { IsHighRight left node.now → IfOk result (λ link. IsFormed link) }
+        ensures low { IsHighRight left node.now → IfOk result (λ link. link_height left + 2 ≤ link_height link) }
+        ensures high { IsHighRight left node.now → IfOk result (λ link. link_height link ≤ link_height left + 3) }
         ensures counted { IfOk result (λ _. self.old.made < self.new.made) }
         ensures at_most_three { self.new.made ≤ self.old.made + 3 }
     {
@@ -112,8 +112,8 @@ impl Maker {
         node: &Node<K, V>,
     ) -> Result<Link<K, V>, NoMemory>
         ensures pairs { IfOk result (λ link. link_pairs link ≡ link_pairs left ++ pair.value ∷ (node_pairs inner.now ++ node.now.pair.value ∷ link_pairs node.now.right)) }
-        ensures formed { IsFormed left → IsFormedNode inner.now → IsFormed node.now.right → node_height inner.now ≡ link_height left + 1 → link_height node.now.right ≡ link_height left → IfOk result (λ link. IsFormed link) }
-        ensures height { IsFormed left → IsFormedNode inner.now → IsFormed node.now.right → node_height inner.now ≡ link_height left + 1 → link_height node.now.right ≡ link_height left → IfOk result (λ link. link_height link ≡ link_height left + 2) }
+        ensures formed { IsBentRight left inner.now node.now → IfOk result (λ link. IsFormed link) }
+        ensures height { IsBentRight left inner.now node.now → IfOk result (λ link. link_height link ≡ link_height left + 2) }
         ensures counted { IfOk result (λ _. self.old.made < self.new.made) }
         ensures at_most_three { self.new.made ≤ self.old.made + 3 }
     {
