@@ -1,0 +1,118 @@
+//! One node: a pair between what stands on its left and what stands on its right, and the one call that makes a node.
+ghost use Rattle.std.specs.Prelude.{◌≡◌, ◌+◌, ◌-◌, ◌<◌, ◌≤◌, ◌^◌, ◌++◌, ◌∷◌, IfOk, max};
+ghost use Rattle.shared_tree.specs.Links.{link_pairs, link_height, IsFormed, IsLevel};
+
+use crate::fault::NoMemory;
+use std::alloc::{AllocError, Global};
+use std::sync::Arc;
+
+/// The pairs on one side of a node: none, or those of a node that other trees may share.
+#[cycle(tree)]
+#[derive(Drop)]
+pub(crate) enum Link<K, V> {
+    /// No pair.
+    Leaf,
+    /// The pairs of a node.
+    Fork(Arc<Node<K, V>>),
+}
+
+/// A pair, with those of lesser keys on its left and those of greater keys on its right.
+#[cycle(tree)]
+#[derive(Drop)]
+pub(crate) struct Node<K, V> {
+    pub(crate) left: Link<K, V>,
+    pub(crate) pair: Arc<(K, V)>,
+    pub(crate) right: Link<K, V>,
+    /// How many nodes stand on the longest way down, this one counted. Private, so that no other module makes a node.
+    height: u8,
+}
+
+impl<K, V> Link<K, V> {
+    /// How many nodes stand on the longest way down.
+    pub(crate) fn height(&self) -> u8
+        ensures { IsFormed self.now → result ≡ link_height self.now }
+    {
+        match self {
+            Link::Leaf => 0,
+            Link::Fork(node) => node.height,
+        }
+    }
+
+    /// One more owner of the same node. `NoMemory` where the count of its owners is full.
+    pub(crate) fn share(&self) -> Result<Link<K, V>, NoMemory>
+        ensures pairs { IfOk result (λ link. link_pairs link ≡ link_pairs self.now) }
+        ensures height { IfOk result (λ link. link_height link ≡ link_height self.now) }
+        ensures formed { IsFormed self.now → IfOk result (λ link. IsFormed link) }
+    {
+        match self {
+            Link::Leaf => Ok(Link::Leaf),
+            Link::Fork(node) => Ok(Link::Fork(Arc::try_clone(node)?)),
+        }
+    }
+}
+
+/// One more owner of the same pair. `NoMemory` where the count of its owners is full.
+pub(crate) fn share_pair<K, V>(pair: &Arc<(K, V)>) -> Result<Arc<(K, V)>, NoMemory>
+    ensures { IfOk result (λ shared. shared.value ≡ pair.now.value) }
+{
+    Ok(Arc::try_clone(pair)?)
+}
+
+/// Makes the nodes of one call, and counts them.
+#[derive(Drop)]
+pub(crate) struct Maker {
+    alloc: Global,
+    made: u64,
+}
+
+impl Maker {
+    /// A maker that has made no node.
+    pub(crate) fn new(alloc: Global) -> Maker
+        ensures { result.made ≡ 0 }
+    {
+        Maker { alloc, made: 0 }
+    }
+
+    /// Where its nodes lie.
+    pub(crate) fn alloc(&self) -> Global {
+        self.alloc
+    }
+
+    /// How many nodes it has made.
+    pub(crate) fn made(&self) -> u64
+        ensures { result ≡ self.now.made }
+    {
+        self.made
+    }
+
+    /// The node of a pair between two sides: the only call that makes a node, and that counts one. `NoMemory` where memory
+    /// is refused, or where a side is 255 nodes high or 2^64 - 1 nodes are made, which no memory holds.
+    pub(crate) fn fork<K: Drop, V: Drop>(
+        &mut self,
+        left: Link<K, V>,
+        pair: Arc<(K, V)>,
+        right: Link<K, V>,
+    ) -> Result<Link<K, V>, NoMemory>
+        ensures pairs { IfOk result (λ link. link_pairs link ≡ link_pairs left ++ pair.value ∷ link_pairs right) }
+        ensures height { IfOk result (λ link. link_height link ≡ max (link_height left) (link_height right) + 1) }
+        ensures formed { IsFormed left → IsFormed right → IsLevel left right → IfOk result (λ link. IsFormed link) }
+        ensures counted { IfOk result (λ _. self.new.made ≡ self.old.made + 1) }
+        ensures at_most_one { self.new.made ≤ self.old.made + 1 }
+    {
+        let higher = left.height().max(right.height());
+        let height = higher.checked_add(1).ok_or(NoMemory)?;
+        let made = self.made.checked_add(1).ok_or(NoMemory)?;
+        let node = Arc::new(
+            self.alloc,
+            Node {
+                left,
+                pair,
+                right,
+                height,
+            },
+        )
+        .map_err(AllocError::from)?;
+        self.made = made;
+        Ok(Link::Fork(node))
+    }
+}

@@ -1,0 +1,146 @@
+//! A tree, and what it is asked and made into.
+ghost use Rattle.std.specs.Prelude.{◌≡◌, ◌+◌, ◌*◌, ◌<◌, ◌≤◌, [], IfOk, length, None, IsTrue, ◌↔◌};
+ghost use Rattle.std.specs.Option.{option_copied};
+ghost use Rattle.shared_tree.specs.Pairs.{IsAscending, pair_at, value_at, pair_after, pairs_with, pairs_without, first_pair, IsLow};
+
+use crate::fault::NoMemory;
+use crate::look::{after_in, find_in, first_in};
+use crate::node::{Link, Maker};
+use crate::seek::Seek;
+use crate::walk::Walk;
+use std::alloc::{AllocError, Global};
+use std::marker::Model;
+use std::sync::Arc;
+
+/// A sorted map. A tree is never changed: a change makes another tree, which shares with this one all that is the same,
+/// and each owner of either may drop it when it likes. Contracts see its pairs, whose keys ascend by `K`'s order, and
+/// its height.
+#[derive(Drop)]
+pub struct Tree<K: Ord, V> {
+    root: Link<K, V>,
+}
+
+impl<K: Ord, V> Model for Tree<K, V> {
+    ghost use Rattle.shared_tree.specs.Pairs.{TreeView};
+    ghost use Rattle.shared_tree.specs.Links.{view_of, IsTree};
+
+    ghost Value = { TreeView K V };
+
+    ghost view = { λ tree. view_of tree.root };
+
+    ghost invariant = { λ tree. IsTree K.cmp tree.root };
+}
+
+impl<K: Ord, V> Tree<K, V> {
+    /// The tree of no pair. It takes no memory.
+    pub fn new() -> Tree<K, V>
+        ensures pairs { result.pairs ≡ [] }
+        ensures height { result.height ≡ 0 }
+    {
+        Tree { root: Link::Leaf }
+    }
+
+    /// Whether it has no pair.
+    pub fn is_empty(&self) -> bool
+        ensures { IsTrue result ↔ (self.now.pairs ≡ []) }
+    {
+        matches!(&self.root, Link::Leaf)
+    }
+
+    /// How many nodes stand on the longest way down from the root: at most twice the binary digits of the number of pairs.
+    pub fn height(&self) -> u8
+        ensures height { result ≡ self.now.height }
+        ensures low { IsLow result (length self.now.pairs) }
+    {
+        self.root.height()
+    }
+
+    /// The value of a key.
+    pub fn get<Q: Seek<K>>(&self, sought: &Q) -> Option<&V>
+        ensures { option_copied result ≡ value_at K.cmp (Q.key sought.now) self.now.pairs }
+    {
+        match find_in(&self.root, sought) {
+            Some(pair) => Some(&pair.1),
+            None => None,
+        }
+    }
+
+    /// The pair of the least key that is greater than a key, which the tree needn't have.
+    pub fn after<Q: Seek<K>>(&self, sought: &Q) -> Option<&(K, V)>
+        ensures { option_copied result ≡ pair_after K.cmp (Q.key sought.now) self.now.pairs }
+    {
+        after_in(&self.root, sought)
+    }
+
+    /// The pair of the least key.
+    pub fn first(&self) -> Option<&(K, V)>
+        ensures { option_copied result ≡ first_pair self.now.pairs }
+    {
+        first_in(&self.root)
+    }
+
+    /// The pairs in the order of their keys. It takes no memory.
+    pub fn walk(&self) -> Walk<'_, K, V>
+        ensures { result ≡ self.now.pairs }
+    {
+        Walk::new(&self.root)
+    }
+}
+
+impl<K: Ord + Drop, V: Drop> Tree<K, V> {
+    /// The tree of pairs whose keys ascend, each less than the next. It makes a node a pair. `NoMemory` where memory is
+    /// refused; the pairs are then gone.
+    pub fn from_sorted(alloc: Global, pairs: Vec<(K, V)>) -> Result<Tree<K, V>, NoMemory>
+        requires { IsAscending K.cmp pairs.items }
+        ensures pairs { IfOk result (λ tree. tree.pairs ≡ pairs.items) }
+    {
+        let mut pairs = pairs;
+        let count = pairs.len();
+        let mut maker = Maker::new(alloc);
+        let root = maker.build(&mut pairs, count)?;
+        Ok(Tree { root })
+    }
+
+    /// The tree with a pair in place, whatever pair its key had, and how many nodes were made: one at the least, and at
+    /// most four for each level of this tree and one more. `NoMemory` where memory is refused; this tree stays as it is,
+    /// as it does at any call.
+    pub fn with(&self, alloc: Global, key: K, value: V) -> Result<(Tree<K, V>, u64), NoMemory>
+        ensures pairs { IfOk result (λ new. new.0.pairs ≡ pairs_with K.cmp key value self.now.pairs) }
+        ensures made { IfOk result (λ new. (0 < new.1) × (new.1 ≤ 4 * (self.now.height + 1))) }
+    {
+        let mut maker = Maker::new(alloc);
+        let pair = Arc::new(alloc, (key, value)).map_err(AllocError::from)?;
+        let root = maker.with(&self.root, pair)?;
+        Ok((Tree { root }, maker.made()))
+    }
+
+    /// The tree without the pair of a key, and how many nodes were made: at most four for each level of this tree and
+    /// one more, and none where the tree has no pair of that key, which gives an equal tree. `NoMemory` where memory is
+    /// refused; this tree stays as it is, as it does at any call.
+    pub fn without<Q: Seek<K>>(
+        &self,
+        alloc: Global,
+        sought: &Q,
+    ) -> Result<(Tree<K, V>, u64), NoMemory>
+        ensures pairs { IfOk result (λ new. new.0.pairs ≡ pairs_without K.cmp (Q.key sought.now) self.now.pairs) }
+        ensures absent { pair_at K.cmp (Q.key sought.now) self.now.pairs ≡ None → IfOk result (λ new. (new.0 ≡ self.now) × (new.1 ≡ 0)) }
+        ensures made { IfOk result (λ new. new.1 ≤ 4 * (self.now.height + 1)) }
+    {
+        match find_in(&self.root, sought) {
+            None => Ok((self.share()?, 0)),
+            Some(_) => {
+                let mut maker = Maker::new(alloc);
+                let root = maker.without(&self.root, sought)?;
+                Ok((Tree { root }, maker.made()))
+            }
+        }
+    }
+
+    /// Another owner of the same nodes. `NoMemory` where the count of the root's owners is full; no memory is taken.
+    pub fn share(&self) -> Result<Tree<K, V>, NoMemory>
+        ensures { IfOk result (λ new. new ≡ self.now) }
+    {
+        let root = self.root.share()?;
+        Ok(Tree { root })
+    }
+}
