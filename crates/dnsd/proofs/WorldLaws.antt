@@ -3,20 +3,20 @@ use Rattle.std.proofs.Common.{◌≡◌, ◌≢◌, refl, sym, ap, ◌∙◌, �
 use Rattle.std.specs.Prelude.{bytes_eq, ◌==◌, not, ◌&&◌}
 use Rattle.std.proofs.Math.Bool.{or-true}
 use Rattle.std.specs.List.{slice_get}
-use Rattle.std.specs.Option.{option_and_then, option_map}
+use Rattle.std.specs.Option.{option_and_then}
 use Rattle.cell_core.specs.Cell.{Cell, IsLast, with_strong, without_strong, with_value, with_buried}
 use Rattle.dns_rdata.specs.Record.{Record}
 use Rattle.dnsd.specs.declared.world.step.WorldReply.{WorldReply}
-use Rattle.dnsd.specs.declared.world.step.WorldReply.TheVariants.{Owner, Left, Buried, NotEnabled}
+use Rattle.dnsd.specs.declared.world.step.WorldReply.TheVariants.{Owner, Left, Buried}
 use Rattle.dnsd.specs.declared.transport.Transport.TheVariants.{Udp}
 use Rattle.dnsd.specs.Reply.{reply}
 use Rattle.dnsd.specs.WorldSteps.{Turn, answer_of}
 use Rattle.dnsd.specs.WorldSteps.Turn.{Load, Drop, Ask, Publish}
 use Rattle.dnsd.specs.World.{World, started, zone_of, with_name, without_name, GivesUp, Refuses, Loads, Asks, Publishes, Turns, PlaysFrom, Plays}
 use Rattle.dnsd.specs.WorldPlay.{number_of, handles_of}
-use Rattle.dnsd.specs.WorldReplies.{published, last_number, owned, drops, is_number, has_other, loaded, dropped, asked, reply_at, replies_behind, replies_of}
+use Rattle.dnsd.specs.WorldReplies.{published, last_number, owned, drops, is_number, has_other, dropped, asked, reply_at, replies_behind, replies_of}
 use Rattle.dnsd.proofs.WorldHandles.{at_test, not_true, nobody, by_use, owners, owners_some, other_owner, owner_stays, without, handles_of-append, handles_of-without}
-use Rattle.dnsd.proofs.WorldPast.{published_some, owned_within, owned_later, loaded_name, other_found, get-last, get-longer, published_later}
+use Rattle.dnsd.proofs.WorldPast.{published_some, owned_within, owned_later, loaded_name, other_found, published_later}
 use Rattle.dnsd.proofs.WorldKept.{IsAt, IsWorldAt, world_at_start, last_is, at_load, at_load_refused, at_drop, at_drop_refused, at_ask, at_publish, at_bury}
 
 -- what the world is at after a step, whose reply is the one told
@@ -28,7 +28,7 @@ pub record IsTold (first : List Record) (earlier : List Turn) (turn : Turn) (giv
 in_list : (first : List Record) (earlier : List Turn) (world : World) (name : List ℕ) (s : IsWorldAt first earlier world) → number_of name s.list ≡ world.handles name
 in_list first earlier world name s = ap (λ (h : List ℕ → Option ℕ). h name) (sym s.handles)
 
-owned_is : (first : List Record) (earlier : List Turn) (world : World) (name : List ℕ) (s : IsWorldAt first earlier world) → owned first name earlier ≡ world.handles name
+pub owned_is : (first : List Record) (earlier : List Turn) (world : World) (name : List ℕ) (s : IsWorldAt first earlier world) → owned first name earlier ≡ world.handles name
 owned_is first earlier world name s = sym (s.at.in_use name) ∙ in_list first earlier world name s
 
 load_told : (first : List Record) (earlier : List Turn) (before : World) (name : List ℕ) (given : WorldReply) (after : World) → IsWorldAt first earlier before → before.handles name ≡ None → Loads before name given after → IsTold first earlier (Load name) given after

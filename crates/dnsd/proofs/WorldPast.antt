@@ -1,5 +1,5 @@
 -- Facts on the steps made earlier: the versions that they published, and the numbers that names have.
-use Rattle.std.proofs.Common.{◌≡◌, refl, sym, ap, ◌∙◌, subst, ℕ, ◌+◌, ◌<◌, ◌≤◌, Bool, true, false, List, [], ◌∷◌, ◌++◌, length, length-append, true≢false, arith, eqb-true, Option, Some, None}
+use Rattle.std.proofs.Common.{◌≡◌, refl, sym, ap, ◌∙◌, ℕ, ◌<◌, Bool, true, false, List, [], ◌∷◌, ◌++◌, length, length-append, true≢false, arith, eqb-true, Option, Some, None}
 use Rattle.std.specs.Prelude.{bytes_eq, unwrap_or, not, ◌&&◌}
 use Rattle.std.specs.List.{list_any, slice_get}
 use Rattle.std.proofs.Math.Bool.{or-true}

@@ -1,18 +1,23 @@
 -- The run of the cell that a play makes.
-use Rattle.std.proofs.Common.{◌≡◌, refl, sym, ap, ◌∙◌, ℕ, Bool, true, false, List, [], ◌∷◌, ◌++◌, length, append_assoc, append-nil, Option, Some, None}
+use Rattle.std.proofs.Common.{◌≡◌, refl, sym, ap, ◌∙◌, subst, ℕ, ◌<◌, Bool, true, false, List, [], ◌∷◌, ◌++◌, length, get_or, arith, Option, Some, None}
 use Rattle.std.specs.Prelude.{bytes_eq}
 use Rattle.std.specs.List.{slice_get}
 use Rattle.std.specs.Option.{option_and_then, option_map}
 use Rattle.cell_core.specs.Cell.{Cell, CellStep, Steps, Runs, start}
-use Rattle.cell_core.specs.Loaded.{loaded, IsLoad}
+use Rattle.cell_core.specs.Loaded.{loaded, IsLoad, WasLast}
+use Rattle.cell_core.proofs.LawLemmas.{run_loads}
+use Rattle.std.proofs.lemmas.Option.{slice_get-get_or}
 use Rattle.dns_rdata.specs.Record.{Record}
 use Rattle.dnsd.specs.declared.world.step.WorldReply.{WorldReply}
 use Rattle.dnsd.specs.WorldSteps.{Turn}
 use Rattle.dnsd.specs.WorldSteps.Turn.{Load, Drop, Ask, Publish}
-use Rattle.dnsd.specs.World.{World, started, zone_of, with_name, without_name, GivesUp, Turns, PlaysFrom}
-use Rattle.dnsd.specs.WorldRuns.{IsShownBy}
+use Rattle.dnsd.specs.World.{World, started, zone_of, with_name, without_name, GivesUp, Asks, Turns, PlaysFrom}
+use Rattle.dnsd.specs.WorldReplies.{owned}
+use Rattle.dnsd.specs.WorldRuns.{IsShownBy, IsAnsweredAtLoaded}
 use Rattle.dnsd.proofs.WorldHandles.{at_test, by_use}
-use Rattle.dnsd.proofs.WorldPast.{get-last, get-longer}
+use Rattle.dnsd.proofs.WorldPast.{get-last, get-longer, owned_within}
+use Rattle.dnsd.proofs.WorldKept.{world_at_start}
+use Rattle.dnsd.proofs.WorldLaws.{plays_behind, owned_is}
 
 -- one step more
 runs_more : {T : Type 0} (before between after : Cell T) (run : List (CellStep T × Option ℕ)) (step : CellStep T) (given : Option ℕ) → Runs before run between → Steps between step given after → Runs before (run ++ (step, given) ∷ []) after
@@ -108,3 +113,32 @@ shown_play first before (turn ∷ turns) (given ∷ replies) after s p = shown_p
 pub plays_run : (first : List Record) (turns : List Turn) (replies : List WorldReply) (after : World) → PlaysFrom (started first) turns replies after → Shown first after
 plays_run first turns replies after p =
     shown_play first (started first) turns replies after ([], record { runs = refl; handles = λ name number e. absurd (let wrong = e in cc) }) p
+
+-- a request of a name in use
+pub answered_at_loaded : (first : List Record) (turns : List Turn) (replies : List WorldReply) (before after : World) (name request : List ℕ) (number : ℕ) (given : WorldReply) → PlaysFrom (started first) turns replies before → before.handles name ≡ Some number
+    → Turns before (Ask name request) given after → IsAnsweredAtLoaded first before name request given
+answered_at_loaded first turns replies before after name request number given p e t =
+    let played = plays_behind first [] (started first) turns replies before (world_at_start first) p in
+    let owns : owned first name played.past ≡ Some number = owned_is first played.past before name played.at ∙ e in
+    let within : number < length before.cell.published = omega (arith, owned_within first played.past name number owns, ap length played.at.at.published) in
+    let zone : List Record = get_or before.cell.published number first in
+    let version : slice_get before.cell.published number ≡ Some zone = slice_get-get_or before.cell.published number first within in
+    let found : zone_of name before ≡ Some zone = ap (option_and_then (slice_get before.cell.published)) e ∙ version in
+    let answered : Asks before zone request given after = rw found at t in
+    let shown = plays_run first turns replies before p in
+    let at = shown.1.handles name number e in
+    let last = run_loads (start first) before.cell shown.0 at.0 shown.1.runs at.1 in
+    let same : last.0 ≡ number = (let owned_there = sym last.1 ∙ at.2 in cc) in
+    record {
+      run = shown.0;
+      runs = shown.1.runs;
+      place = at.0;
+      is_load = at.1;
+      number = number;
+      loaded_is = at.2;
+      was_last = subst (λ (n : ℕ). WasLast (start first) shown.0 before.cell at.0 n) same last.2;
+      owns = e;
+      zone = zone;
+      version = version;
+      told = answered.told;
+    }

@@ -1,5 +1,5 @@
 -- What a run of the program comes to (own).
-use Rattle.std.specs.Prelude.{◌≡◌, ℕ, ◌⊎◌, List, Option, IfSome, Result, Ok, Err, IsOk}
+use Rattle.std.specs.Prelude.{◌≡◌, ℕ, ◌⊎◌, List, Option, IfSome, Err, IsOk}
 use Rattle.std.specs.Io.KnownBytes.{Appends}
 use Rattle.dns_rdata.specs.Record.{Record}
 use Rattle.zone_tree.specs.Zone.{IsZone}

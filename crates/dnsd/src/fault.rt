@@ -19,8 +19,6 @@ pub const BAD_COMMAND: u8 = 2;
 /// The status of a device's fault, or of want of memory that has no code.
 pub const FAILED: u8 = 3;
 
-const _: () = prove!(BAD_COMMAND == 2);
-
 /// Why a command isn't done.
 #[derive(Debug, Drop)]
 pub enum Fault {

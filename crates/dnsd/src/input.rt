@@ -1,5 +1,6 @@
 //! Reading an input to its end.
-ghost use Rattle.std.specs.Prelude.{◌≡◌, Some, IfOk, OnOk, IfSome};
+ghost use Rattle.std.specs.Prelude.{◌≡◌, ◌^◌, Some, IfOk, OnOk, IfSome};
+ghost use Rattle.dnsd.specs.declared.input.TheConstants.{MAX_READS};
 ghost use Rattle.dnsd.specs.Input.{is_separator as ends_zone_text, zone_text_of, behind_zone_text};
 
 use crate::lines::without_end;
@@ -9,10 +10,10 @@ use std::io::{self, BufRead};
 /// After how many reads an input that hasn't ended is a device's fault.
 pub const MAX_READS: u64 = 1 << 32;
 
-const _: () = prove!(MAX_READS == 4_294_967_296);
-
-/// The error of an input that hasn't ended after the reads that are made.
-pub fn endless() -> io::Error {
+/// The error of an input that hasn't ended after the reads that are made, 2^32.
+pub fn endless() -> io::Error
+    ensures { MAX_READS ≡ 2 ^ 32 }
+{
     io::Error::from(io::ErrorKind::TimedOut)
 }
 

@@ -6,6 +6,8 @@
 //! crates below.
 #![tactic(auto)]
 
+ghost use Rattle.std.specs.Prelude.{◌≡◌, ◌⊎◌};
+
 pub mod answer;
 pub mod command;
 pub mod fault;
@@ -55,7 +57,9 @@ fn run_words<R: Files + Env + Print + Eprint + Input + AllocGlobal>(rt: &R) -> i
 }
 
 /// The status of a command line that clap refused: want of memory has one of its own.
-fn status_of(fault: &clap::Error) -> u8 {
+fn status_of(fault: &clap::Error) -> u8
+    ensures { (result ≡ 0) ⊎ (result ≡ 2) ⊎ (result ≡ 3) }
+{
     match fault.kind() {
         clap::error::ErrorKind::OutOfMemory => FAILED,
         _ if fault.use_stderr() => BAD_COMMAND,

@@ -15,7 +15,8 @@ mod step;
 
 pub use fault::WorldFault;
 pub use laws::{
-    asks_keep_their_version, examples, plays_are_runs, replies_are_told, unused_versions_are_buried,
+    asks_are_answered_at_loaded, asks_keep_their_version, examples, plays_are_runs,
+    replies_are_told, unused_versions_are_buried,
 };
 use play::Play;
 use std::alloc::Global;

@@ -75,12 +75,12 @@ fn devices(rt: HostRuntime) -> Result<(), Fail> {
     ];
     for (command, input, output) in cases {
         let whole = output.len();
-        for (room, flushes, want) in [(whole, true, 0), (whole, false, 3), (whole - 1, true, 3)] {
+        let part = whole.saturating_sub(1);
+        for (room, flushes, want) in [(whole, true, 0), (whole, false, 3), (part, true, 3)] {
             let (status, taken) = run_device(&rt, &command, input.as_str(), room, flushes)?;
-            assert_eq!(rt; status, want, "{room} {flushes}");
-            assert_eq!(rt;
-                taken.as_slice(),
-                &output.as_bytes()[..room],
+            assert_eq!(rt; (status, taken.len()), (want, room), "{flushes}");
+            assert!(rt;
+                output.as_bytes().starts_with(taken.as_slice()),
                 "{room} {flushes}"
             );
         }

@@ -7,9 +7,9 @@ ghost use Rattle.dnsd.specs.declared.world.step.WorldReply.{WorldReply};
 ghost use Rattle.dnsd.specs.declared.world.step.WorldReply.TheVariants.{Owner, Left, Buried, Published, NotEnabled};
 ghost use Rattle.dnsd.specs.declared.transport.Transport.TheVariants.{Udp};
 ghost use Rattle.dnsd.specs.Reply.{reply};
-ghost use Rattle.dnsd.specs.World.{World, started, PlaysFrom, Plays, BuriesTheUnused};
+ghost use Rattle.dnsd.specs.World.{World, started, Turns, PlaysFrom, Plays, BuriesTheUnused};
 ghost use Rattle.dnsd.specs.WorldReplies.{published, last_number, owned, drops, reply_at, replies_of};
-ghost use Rattle.dnsd.specs.WorldRuns.{IsShownBy};
+ghost use Rattle.dnsd.specs.WorldRuns.{IsShownBy, IsAnsweredAtLoaded};
 ghost use Rattle.dnsd.specs.WorldSteps.{Turn, answer_of};
 
 /// The replies of a play are those that the steps alone tell.
@@ -32,6 +32,13 @@ pub fn plays_are_runs()
     ensures { (first : List Record) (turns : List Turn) (replies : List WorldReply) (after : World)
         → PlaysFrom (started first) turns replies after
         → (run : List (CellStep (List Record) × Option ℕ)) × IsShownBy first run after }
+{}
+
+/// Whatever was done, a request of a name in use is answered in the version that was last at the load which gave the name.
+pub fn asks_are_answered_at_loaded()
+    ensures { (first : List Record) (turns : List Turn) (replies : List WorldReply) (before after : World) (name request : List ℕ) (number : ℕ) (given : WorldReply)
+        → PlaysFrom (started first) turns replies before → before.handles name ≡ Some number
+        → Turns before (Turn.Ask name request) given after → IsAnsweredAtLoaded first before name request given }
 {}
 
 /// After any steps the versions that are buried are those that no name is in use for, without the last.
