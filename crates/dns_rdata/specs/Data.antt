@@ -3,7 +3,7 @@
 use Rattle.std.specs.Prelude.{◌≡◌, ℕ, zero, suc, ◌*◌, ◌<◌, ◌≤◌, Bool, true, false, ◌&&◌, ◌==◌, List, [], ◌∷◌, ◌++◌, length, take, drop, nat_lt, nat_le, if◌then◌else◌, Option, Some, None, All}
 use Rattle.std.specs.Option.{option_map, option_and_then}
 use Rattle.std.specs.Int.{from_be_bytes, w32}
-use Rattle.dns_name.specs.Name.{wire_of, fold_name, name_in}
+use Rattle.dns_name.specs.Name.{Name, wire_of, fold_name, name_in}
 use Rattle.dns_rdata.specs.declared.layout.Layout.{Layout}
 use Rattle.dns_rdata.specs.declared.layout.Layout.TheVariants.{Fields, Strings}
 use Rattle.dns_rdata.specs.Layout.{layout_of}
@@ -56,7 +56,7 @@ pub record IsData (d : Data) : Type 0 where
   pub bytes : All (λ octet. octet < 256) d.octets
 
 -- the name that an alias stands for (RFC 1035, 3.3.1)
-abbrev pub target_of : List ℕ → Option (List (List ℕ))
+abbrev pub target_of : List ℕ → Option Name
 target_of octets = name_in octets
 
 -- the octets behind so many names; nothing where they don't stand there
