@@ -18,7 +18,7 @@ use Rattle.lookup_core.specs.Sections.{sections, data_of_end}
 use Rattle.lookup_core.specs.Laws.{is_synthesized, HasSingleAliases, IsReached}
 
 -- a choice by a test
-by_test : {A : Type 0} (P : A → Type 0) (b : Bool) (x y : A) → (b ≡ true → P x) → (b ≡ false → P y) → P (cond b x y)
+pub by_test : {A : Type 0} (P : A → Type 0) (b : Bool) (x y : A) → (b ≡ true → P x) → (b ≡ false → P y) → P (cond b x y)
 by_test P true x y on_true on_false = on_true refl
 by_test P false x y on_true on_false = on_false refl
 
@@ -85,7 +85,7 @@ IsUnder zone name (Alias rs) = IsAliasOf zone name rs
 IsUnder zone name (Data rs) = (xs : List Record) × (rs ≡ owned_by name xs)
 IsUnder zone name _ = Unit {0}
 
-and_not : (a b : Bool) → (a && not b) ≡ true → b ≡ false
+pub and_not : (a b : Bool) → (a && not b) ≡ true → b ≡ false
 and_not true true h = absurd (cc)
 and_not true false h = refl
 and_not false b h = absurd (cc)
@@ -213,11 +213,11 @@ filter_more p q sub (x ∷ xs) =
     (λ h. subst (λ b. length (x ∷ filter p xs) ≤ length (cond b (x ∷ filter q xs) (filter q xs))) (sym (sub x h)) (omega arith))
     (λ _. by_test (λ l. length (filter p xs) ≤ length l) (q x) (x ∷ filter q xs) (filter q xs) (λ _. omega arith) (λ _. rest))
 
-and_left : (a b : Bool) → (a && b) ≡ true → a ≡ true
+pub and_left : (a b : Bool) → (a && b) ≡ true → a ≡ true
 and_left true b h = refl
 and_left false b h = absurd (cc)
 
-and_right : (a b : Bool) → (a && b) ≡ true → b ≡ true
+pub and_right : (a b : Bool) → (a && b) ≡ true → b ≡ true
 and_right true b h = h
 and_right false b h = absurd (cc)
 

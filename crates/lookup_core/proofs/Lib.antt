@@ -3,3 +3,4 @@ pub mod AliasLemmas
 pub mod SectionLemmas
 pub mod LawLemmas
 pub mod AdditionalLemmas
+pub mod AdditionLemmas

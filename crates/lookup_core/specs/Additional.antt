@@ -41,8 +41,12 @@ each_once before (set ∷ sets) = if list_any (is_same_set set) before then each
 abbrev pub wanted_sets : List Record → List Record → List Name → List (List Record)
 wanted_sets zone answer hosts = filter (is_wanted answer) (flat_map (addresses zone) hosts)
 
+-- how many sets an additional section has at most (own)
+abbrev pub most_sets : ℕ
+most_sets = 32
+
 -- the additional section: the address sets at the names in the answer's and the authority's data, in their order, each
 -- once, none that stands in the answer, at most 32 (RFC 1034, 4.3.2, step 6; RFC 1035, 3.3.9 and 3.3.11; own)
 abbrev pub additional_of : List Record → List Record → List Record → List Record
 additional_of zone answer authority =
-    flat_map (λ set. set) (take 32 (each_once [] (wanted_sets zone answer (hosts_of (answer ++ authority)))))
+    flat_map (λ set. set) (take most_sets (each_once [] (wanted_sets zone answer (hosts_of (answer ++ authority)))))

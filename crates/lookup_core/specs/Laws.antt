@@ -1,9 +1,10 @@
 -- What holds of each answer.
-use Rattle.std.specs.Prelude.{◌≡◌, ◌≤◌, Bool, false, ◌&&◌, not, ◌⊎◌, List, [], ◌∷◌, length, None, Some, Any}
+use Rattle.std.specs.Prelude.{◌≡◌, ◌≤◌, Bool, false, ◌&&◌, not, ◌⊎◌, List, [], ◌∷◌, length, None, Some, Any, Contains}
+use Rattle.std.specs.List.{list_any}
 use Rattle.dns_name.specs.Name.{Name}
-use Rattle.dns_rdata.specs.Numbers.{type_CNAME}
+use Rattle.dns_rdata.specs.Numbers.{type_A, type_AAAA, type_CNAME}
 use Rattle.dns_rdata.specs.Record.{Record}
-use Rattle.zone_tree.specs.Zone.{rrset_of, exists}
+use Rattle.zone_tree.specs.Zone.{is_of, rrset_of, exists}
 use Rattle.lookup_core.specs.Place.{source_of}
 use Rattle.lookup_core.specs.Chain.{target}
 
@@ -19,3 +20,9 @@ HasSingleAliases zone = (owner : Name) → length (rrset_of zone owner type_CNAM
 -- a record stands at the name asked, or at the target of one of the aliases
 abbrev pub IsReached : Name → List Record → Record → Type 0
 IsReached name aliases r = (r.owner ≡ name) ⊎ Any (λ alias. target (alias ∷ []) ≡ r.owner) aliases
+
+-- a record of the zone: an address whose owner and type don't stand in the answer
+pub record IsAddition (zone answer : List Record) (r : Record) : Type 0 where
+  pub stands : Contains zone r
+  pub address : (r.rtype ≡ type_A) ⊎ (r.rtype ≡ type_AAAA)
+  pub apart : list_any (is_of r.owner r.rtype) answer ≡ false

@@ -13,7 +13,7 @@ use Rattle.lookup_core.specs.declared.aliases.End.TheVariants as end
 use Rattle.lookup_core.specs.declared.sections.Answer.{Answer}
 use Rattle.lookup_core.specs.Look as look
 use Rattle.lookup_core.specs.Chain as chain
-use Rattle.lookup_core.specs.Additional.{each_once}
+use Rattle.lookup_core.specs.Additional.{each_once, most_sets}
 use Rattle.lookup_core.specs.Sections.{Sections}
 
 -- the records of a section, in the order in which it shows them
@@ -60,6 +60,6 @@ pub record IsStanding (shown : Shown) : Type 0 where
   pub one : length shown.sets.now ≡ 1
   pub records : records_shown shown ≡ flat_map (λ set. set) shown.sets.now
 
--- sets with more of them behind: those that are not among them, each once, up to 32
+-- sets with more of them behind: those that are not among them, each once, up to so many as an additional section has
 abbrev pub with_more : List (List Record) → List (List Record) → List (List Record)
-with_more sets more = sets ++ take (32 - length sets) (each_once sets more)
+with_more sets more = sets ++ take (most_sets - length sets) (each_once sets more)

@@ -7,7 +7,7 @@ ghost use Rattle.lookup_core.specs.Place.{cut_of};
 ghost use Rattle.lookup_core.specs.Look.{look, NoName};
 ghost use Rattle.lookup_core.specs.Chain.{chain};
 ghost use Rattle.lookup_core.specs.Sections.{sections};
-ghost use Rattle.lookup_core.specs.Laws.{is_synthesized, HasSingleAliases, IsReached};
+ghost use Rattle.lookup_core.specs.Laws.{is_synthesized, HasSingleAliases, IsReached, IsAddition};
 
 /// A name error and an answer with no data differ by existence alone: off the zone cuts there is no name exactly where
 /// neither the name nor the source of synthesis exists (RFC 2308, 2.1 and 2.2; RFC 4592, 2.2).
@@ -24,4 +24,10 @@ pub fn chains_are_short()
 /// Each record of an answer section stands at the name asked or at the target of an alias of the chain.
 pub fn owners_are_reached()
     ensures { (zone : List Record) (name : Name) (rtype : ℕ) → All (IsReached name (chain zone name rtype).aliases) (sections zone name rtype).answer }
+{}
+
+/// What an additional section has are addresses as they stand in the zone, none of a set that the answer shows
+/// (RFC 1034, 4.3.2, step 6; own).
+pub fn additions_are_addresses()
+    ensures { (zone : List Record) (name : Name) (rtype : ℕ) → All (IsAddition zone (sections zone name rtype).answer) (sections zone name rtype).additional }
 {}

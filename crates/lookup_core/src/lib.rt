@@ -21,7 +21,9 @@ pub use aliases::{MOST_ALIASES, MOST_SHOWN};
 pub use examples::{
     examples_are_zones, examples_of_answers, examples_of_chains, examples_of_wildcards,
 };
-pub use laws::{chains_are_short, names_without_existence, owners_are_reached};
+pub use laws::{
+    additions_are_addresses, chains_are_short, names_without_existence, owners_are_reached,
+};
 pub use matched::Place;
 pub use question::answer;
 pub use sections::Answer;
