@@ -7,3 +7,4 @@ pub mod SoaLemmas
 pub mod LawLemmas
 pub mod LayoutLemmas
 pub mod StringLemmas
+pub mod CountLemmas
