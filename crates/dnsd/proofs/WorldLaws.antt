@@ -14,7 +14,7 @@ use Rattle.dnsd.specs.WorldSteps.{Turn, answer_of}
 use Rattle.dnsd.specs.WorldSteps.Turn.{Load, Drop, Ask, Publish}
 use Rattle.dnsd.specs.World.{World, started, zone_of, with_name, without_name, GivesUp, Refuses, Loads, Asks, Publishes, Turns, PlaysFrom, Plays}
 use Rattle.dnsd.specs.WorldPlay.{number_of, handles_of}
-use Rattle.dnsd.specs.WorldReplies.{published, last_number, owned, drops, is_number, has_other, dropped, asked, reply_at, replies_behind, replies_of}
+use Rattle.dnsd.specs.WorldReplies.{published, last_number, owned, drops, is_number, has_other, drop_reply, ask_reply, reply_at, replies_behind, replies_of}
 use Rattle.dnsd.proofs.WorldHandles.{at_test, not_true, nobody, by_use, owners, owners_some, other_owner, owner_stays, without, handles_of-append, handles_of-without}
 use Rattle.dnsd.proofs.WorldPast.{published_some, owned_within, owned_later, loaded_name, other_found, published_later}
 use Rattle.dnsd.proofs.WorldKept.{IsAt, IsWorldAt, world_at_start, last_is, at_load, at_load_refused, at_drop, at_drop_refused, at_ask, at_publish, at_bury}
@@ -71,14 +71,14 @@ ask_told : (first : List Record) (earlier : List Turn) (before : World) (name re
 ask_told first earlier before name request given after zone s e a =
     record {
       at = unchanged_at first earlier (Ask name request) before after s a.unchanged (at_ask first earlier before.cell s.list name request s.at);
-      told = a.told ∙ ap (λ found. asked found request) (sym e ∙ zone_is first earlier before name s);
+      told = a.told ∙ ap (λ found. ask_reply found request) (sym e ∙ zone_is first earlier before name s);
     }
 
 ask_refused : (first : List Record) (earlier : List Turn) (before : World) (name request : List ℕ) (given : WorldReply) (after : World) → IsWorldAt first earlier before → zone_of name before ≡ None → Refuses before given after → IsTold first earlier (Ask name request) given after
 ask_refused first earlier before name request given after s absent r =
     record {
       at = unchanged_at first earlier (Ask name request) before after s r.unchanged (at_ask first earlier before.cell s.list name request s.at);
-      told = r.told ∙ ap (λ found. asked found request) (sym absent ∙ zone_is first earlier before name s);
+      told = r.told ∙ ap (λ found. ask_reply found request) (sym absent ∙ zone_is first earlier before name s);
     }
 
 drop_refused : (first : List Record) (earlier : List Turn) (before : World) (name : List ℕ) (given : WorldReply) (after : World) → IsWorldAt first earlier before → before.handles name ≡ None → Refuses before given after → IsTold first earlier (Drop name) given after
@@ -110,10 +110,10 @@ an_other first earlier cell handles name n s some =
     loaded_name (λ other. not (bytes_eq other name) && is_number n (owned first other earlier)) first earlier n found.0 is passes
 
 -- a dropped name's version is buried
-buried_told : (first : List Record) (name : List ℕ) (earlier : List Turn) (n : ℕ) → (n == last_number (published first earlier)) ≡ false → has_other first name n earlier ≡ false → Buried n ≡ dropped first name (Some n) earlier
+buried_told : (first : List Record) (name : List ℕ) (earlier : List Turn) (n : ℕ) → (n == last_number (published first earlier)) ≡ false → has_other first name n earlier ≡ false → Buried n ≡ drop_reply first name (Some n) earlier
 buried_told first name earlier n not_last none = rw (not_last, none) refl
 
-left_told : (first : List Record) (name : List ℕ) (earlier : List Turn) (n : ℕ) → (n == last_number (published first earlier) || has_other first name n earlier) ≡ true → Left ≡ dropped first name (Some n) earlier
+left_told : (first : List Record) (name : List ℕ) (earlier : List Turn) (n : ℕ) → (n == last_number (published first earlier) || has_other first name n earlier) ≡ true → Left ≡ drop_reply first name (Some n) earlier
 left_told first name earlier n stays = rw stays refl
 
 -- the names in use, without one that is dropped

@@ -65,8 +65,8 @@ IsOfRun command input fault = IsOfInput command input fault
 abbrev pub EndsBy : Fault → ℕ → Option (List ℕ) → Option (List ℕ) → Type 0
 EndsBy fault status before after = ((status ≡ status_of fault) × IsTold fault before after) ⊎ (status ≡ 3)
 
--- a fault with status 1 was told on a line, and is one that a command may be given
-pub record Refuses (command : Command) (input before after : Option (List ℕ)) : Type 0 where
+-- a command was refused: a fault with status 1 was told on a line, and is one that the command may be given
+pub record IsRefused (command : Command) (input before after : Option (List ℕ)) : Type 0 where
   pub fault : Fault
   pub status : status_of fault ≡ 1
   pub told : IsTold fault before after

@@ -54,28 +54,28 @@ has_other first name number earlier =
     list_any (λ other. not (bytes_eq other name) && is_number number (owned first other earlier)) (names earlier)
 
 -- the reply to a load: the last version's number, where the name isn't in use (own)
-abbrev pub loaded : Option ℕ → ℕ → WorldReply
-loaded None last = Owner last
-loaded (Some number) last = NotEnabled
+abbrev pub load_reply : Option ℕ → ℕ → WorldReply
+load_reply None last = Owner last
+load_reply (Some number) last = NotEnabled
 
 -- the reply to a drop: the version that the name was in use for is buried unless it is the last or another name is in
 -- use for it (own)
-abbrev pub dropped : List Record → List ℕ → Option ℕ → List Turn → WorldReply
-dropped first name None earlier = NotEnabled
-dropped first name (Some number) earlier =
+abbrev pub drop_reply : List Record → List ℕ → Option ℕ → List Turn → WorldReply
+drop_reply first name None earlier = NotEnabled
+drop_reply first name (Some number) earlier =
     if number == last_number (published first earlier) || has_other first name number earlier then Left else Buried number
 
 -- the reply to a request over UDP in the version that a name's strong owner has (own)
-abbrev pub asked : Option (List Record) → List ℕ → WorldReply
-asked None request = NotEnabled
-asked (Some zone) request = answer_of (reply Udp zone request)
+abbrev pub ask_reply : Option (List Record) → List ℕ → WorldReply
+ask_reply None request = NotEnabled
+ask_reply (Some zone) request = answer_of (reply Udp zone request)
 
 -- the reply to a step, told from those made earlier (own)
 abbrev pub reply_at : List Record → List Turn → Turn → WorldReply
-reply_at first earlier (Load name) = loaded (owned first name earlier) (last_number (published first earlier))
-reply_at first earlier (Drop name) = dropped first name (owned first name earlier) earlier
+reply_at first earlier (Load name) = load_reply (owned first name earlier) (last_number (published first earlier))
+reply_at first earlier (Drop name) = drop_reply first name (owned first name earlier) earlier
 reply_at first earlier (Ask name request) =
-    asked (option_and_then (slice_get (published first earlier)) (owned first name earlier)) request
+    ask_reply (option_and_then (slice_get (published first earlier)) (owned first name earlier)) request
 reply_at first earlier (Publish zone) = Published
 
 -- the replies to steps that are made behind others (own)

@@ -5,7 +5,7 @@ ghost use Rattle.std.specs.Option.{option_map};
 ghost use Rattle.std.specs.Io.KnownBytes.{Appends};
 ghost use Rattle.dnsd.specs.Input.{behind_zone_text};
 ghost use Rattle.dnsd.specs.Lines.{Begins};
-ghost use Rattle.dnsd.specs.Run.{status_of, AtRefusedZone, AtDevice, IsOfInput, IsOfRun, EndsBy, Refuses, output_for, Does, BeginsToDo};
+ghost use Rattle.dnsd.specs.Run.{status_of, AtRefusedZone, AtDevice, IsOfInput, IsOfRun, EndsBy, IsRefused, output_for, Does, BeginsToDo};
 
 use crate::answer::run_answer;
 use crate::command::Command;
@@ -32,7 +32,7 @@ pub fn run_text<R: BufRead, W: Write + Drop, E: Write>(
         Does command.now (behind_zone_text input) (writer_contents W.contents writer.old) (writer_contents W.contents writer.new)) }
     ensures flushed { result ≡ 0 → writer_buffer writer.new ≡ [] }
     ensures quiet { result ≡ 0 → E.contents errors.new ≡ E.contents errors.old }
-    ensures refused { result ≡ 1 → Refuses command.now (option_map behind_zone_text (R.remaining reader.old))
+    ensures refused { result ≡ 1 → IsRefused command.now (option_map behind_zone_text (R.remaining reader.old))
         (E.contents errors.old) (E.contents errors.new) }
     ensures unwritten { result ≡ 1 → writer_contents W.contents writer.new ≡ writer_contents W.contents writer.old }
     ensures failed { result ≡ 3 → (writer_contents W.contents writer.new ≡ writer_contents W.contents writer.old)
