@@ -2,6 +2,7 @@
 use Rattle.std.proofs.Common.{◌≡◌, ℕ, ◌+◌, ◌-◌, ◌*◌, ◌/◌, ◌%◌, ◌<◌, ◌≤◌, ◌⊎◌, inl, inr, Bool, true, false, cond, ◌||◌, ◌==◌, nat_lt, nat_le, List, [], ◌∷◌, ◌++◌, length, drop, map, All, Option, Some, None, Ok, option_map, refl, sym, ap, ◌∙◌, arith}
 use Rattle.std.specs.List.{flat_map}
 use Rattle.std.specs.Char.{is_ascii_digit}
+use Rattle.std.specs.Str.{bytes_eq}
 use Rattle.std.proofs.lemmas.Bool.Decides.{nat_tests}
 use Rattle.std.proofs.lemmas.Iterator.Adapters.{option_map_id}
 use Rattle.std.proofs.lemmas.List.{append-nil, append_assoc}
@@ -138,6 +139,25 @@ lawful-name name h =
     let fits = lt_false 255 (length (wire_of name)) h.short in
     rw (empty, long, fits)
 
+-- a name's text isn't `@`: there is a backslash in front of that in a label, and a dot behind a label
+at_escaped : (c : ℕ) → is_special c ≡ false → (c == 64) ≡ false
+at_escaped c e = grind (arith, nat_tests)
+
+other_if : (outside special : Bool) (c : ℕ) (more : List ℕ) → is_special c ≡ special → bytes_eq (cond outside (92 ∷ digits_of c) (cond special (92 ∷ c ∷ []) (c ∷ [])) ++ more) (64 ∷ []) ≡ false
+other_if true special c more e = refl
+other_if false true c more e = refl
+other_if false false c more e = let no = at_escaped c e in rw no refl
+
+pub text_of-other : (name : List (List ℕ)) → IsName name → bytes_eq (text_of name) (64 ∷ []) ≡ false
+text_of-other [] h = refl
+text_of-other ([] ∷ name) h = let head = All-head IsLabel [] name h.labels in absurd (omega (arith, head.some))
+text_of-other ((x ∷ label) ∷ name) h =
+    let more = flat_map octet_text label in
+    let rest = flat_map label_text name in
+    ap (λ (os : List ℕ). bytes_eq (os ++ rest) (64 ∷ [])) (append_assoc (octet_text x) more (46 ∷ []))
+    ∙ ap (λ (os : List ℕ). bytes_eq os (64 ∷ [])) (append_assoc (octet_text x) (more ++ 46 ∷ []) rest)
+    ∙ other_if (nat_lt x 33 || nat_lt 126 x) (is_special x) x ((more ++ 46 ∷ []) ++ rest) refl
+
 -- a name's text is read as the name, under any origin
 pub name_of_text-text_of : (name origin : List (List ℕ)) → IsName name → All (All (λ c. c < 256)) name → name_of_text (text_of name) origin ≡ Ok name
 name_of_text-text_of [] origin h octets = refl
@@ -148,4 +168,5 @@ name_of_text-text_of ((x ∷ label) ∷ name) origin h octets =
     let last = completed_last origin ((x ∷ label) ∷ name) [] in
     let nil = append-nil ((x ∷ label) ∷ name) in
     let labels : completed origin (pieces_of (name_marks ((x ∷ label) ∷ name))) ≡ (x ∷ label) ∷ name = ap (completed origin) pieces ∙ last ∙ nil in
-    rw (read, name_of_text) (ap lawful labels ∙ lawful-name ((x ∷ label) ∷ name) h)
+    let other = text_of-other ((x ∷ label) ∷ name) h in
+    rw (other, read, name_of_text) (ap lawful labels ∙ lawful-name ((x ∷ label) ∷ name) h)

@@ -4,6 +4,7 @@ use Rattle.std.specs.Char.{is_ascii_digit}
 use Rattle.std.proofs.lemmas.Bool.Decides.{Decides-eqb, nat_tests}
 use Rattle.std.proofs.lemmas.Option.{some_pair_parts, option_and_then_some}
 use Rattle.std.proofs.lemmas.List.{append-nil, append_assoc, length-take, nil_from_length}
+use Rattle.std.specs.Str.{bytes_eq}
 use Rattle.dns_name.specs.Text.{marks, mark_at, escaped, numbered, pieces_of, onto_first, completed, labels_of, lawful, name_of_text}
 use Rattle.dns_name.specs.Gather.{IsGathered, IsAllOf}
 use Rattle.dns_name.specs.declared.text.Gathered.{Gathered}
@@ -225,11 +226,11 @@ completed_last origin (piece ∷ []) label = refl
 completed_last origin (piece ∷ next ∷ labels) label = ap (λ (ls : List (List ℕ)). piece ∷ ls) (completed_last origin (next ∷ labels) label)
 
 -- the name of a text, by what is gathered of it
-pub name_of_text-gathered : (text : List ℕ) (origin : List (List ℕ)) (gathered : Gathered) → (text ≡ [] → ⊥) → (text ≡ 46 ∷ [] → ⊥) → (all : IsAllOf text gathered) → name_of_text text origin ≡ lawful (all.labels ++ cond (length all.label == 0) [] (all.label ∷ origin))
-name_of_text-gathered text origin gathered some more all =
+pub name_of_text-gathered : (text : List ℕ) (origin : List (List ℕ)) (gathered : Gathered) → bytes_eq text (64 ∷ []) ≡ false → (text ≡ [] → ⊥) → (text ≡ 46 ∷ [] → ⊥) → (all : IsAllOf text gathered) → name_of_text text origin ≡ lawful (all.labels ++ cond (length all.label == 0) [] (all.label ∷ origin))
+name_of_text-gathered text origin gathered other some more all =
     let plain = labels_of-plain text origin all.all some more all.read in
     let pieces = ap (completed origin) all.pieces ∙ completed_last origin all.labels all.label in
-    rw (all.read, name_of_text) (ap lawful (plain ∙ pieces))
+    rw (other, all.read, name_of_text) (ap lawful (plain ∙ pieces))
 
 not_zero : (n : ℕ) → (n ≡ 0 → ⊥) → (n == 0) ≡ false
 not_zero n h = grind (arith, nat_tests)
@@ -239,24 +240,24 @@ pub record IsAbsolute (text : List ℕ) (origin : List (List ℕ)) (gathered : G
   pub is : IsGathered gathered labels []
   pub name : name_of_text text origin ≡ lawful (labels ++ [])
 
-pub IsAbsolute-from : (text : List ℕ) (origin : List (List ℕ)) (gathered : Gathered) → (text ≡ [] → ⊥) → (text ≡ 46 ∷ [] → ⊥) → (all : IsAllOf text gathered) → length gathered.label.items ≡ 0 → IsAbsolute text origin gathered all.labels
-IsAbsolute-from text origin gathered some more all none =
+pub IsAbsolute-from : (text : List ℕ) (origin : List (List ℕ)) (gathered : Gathered) → bytes_eq text (64 ∷ []) ≡ false → (text ≡ [] → ⊥) → (text ≡ 46 ∷ [] → ⊥) → (all : IsAllOf text gathered) → length gathered.label.items ≡ 0 → IsAbsolute text origin gathered all.labels
+IsAbsolute-from text origin gathered other some more all none =
     let kept = ap length all.is.in_hand in
     let min = length-take 64 all.label in
     let nil = nil_from_length all.label (omega arith) in
     record {
       is = subst (λ (l : List ℕ). IsGathered gathered all.labels l) nil all.is;
-      name = name_of_text-gathered text origin gathered some more all ∙ ap (λ (l : List ℕ). lawful (all.labels ++ cond (length l == 0) [] (l ∷ origin))) nil;
+      name = name_of_text-gathered text origin gathered other some more all ∙ ap (λ (l : List ℕ). lawful (all.labels ++ cond (length l == 0) [] (l ∷ origin))) nil;
     }
 
 -- and ends in none
-pub name_of_text-relative : (text : List ℕ) (origin : List (List ℕ)) (gathered : Gathered) → (text ≡ [] → ⊥) → (text ≡ 46 ∷ [] → ⊥) → (all : IsAllOf text gathered) → (length gathered.label.items ≡ 0 → ⊥) → name_of_text text origin ≡ lawful ((all.labels ++ all.label ∷ []) ++ origin)
-name_of_text-relative text origin gathered some more all ne =
+pub name_of_text-relative : (text : List ℕ) (origin : List (List ℕ)) (gathered : Gathered) → bytes_eq text (64 ∷ []) ≡ false → (text ≡ [] → ⊥) → (text ≡ 46 ∷ [] → ⊥) → (all : IsAllOf text gathered) → (length gathered.label.items ≡ 0 → ⊥) → name_of_text text origin ≡ lawful ((all.labels ++ all.label ∷ []) ++ origin)
+name_of_text-relative text origin gathered other some more all ne =
     let kept = ap length all.is.in_hand in
     let min = length-take 64 all.label in
     let no : (length all.label ≡ 0) → ⊥ = λ z. ne (omega arith) in
     let test : (length all.label == 0) ≡ false = not_zero (length all.label) no in
     let assoc = append_assoc all.labels (all.label ∷ []) origin in
-    name_of_text-gathered text origin gathered some more all
+    name_of_text-gathered text origin gathered other some more all
     ∙ ap (λ (b : Bool). lawful (all.labels ++ cond b [] (all.label ∷ origin))) test
     ∙ ap lawful (sym assoc)

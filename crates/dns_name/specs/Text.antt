@@ -1,8 +1,8 @@
 -- Names as text (RFC 1035, 5.1; RFC 4343, 2.1).
-use Rattle.std.specs.Prelude.{ℕ, zero, suc, ◌+◌, ◌*◌, ◌-◌, ◌/◌, ◌%◌, Bool, ◌||◌, ◌&&◌, ◌==◌, List, [], ◌∷◌, ◌++◌, length, nat_lt, nat_le, if◌then◌else◌, Option, Some, None, Result, Ok, Err, option_map, option_and_then, flat_map}
+use Rattle.std.specs.Prelude.{ℕ, zero, suc, ◌+◌, ◌*◌, ◌-◌, ◌/◌, ◌%◌, Bool, ◌||◌, ◌&&◌, ◌==◌, List, [], ◌∷◌, ◌++◌, length, nat_lt, nat_le, if◌then◌else◌, Option, Some, None, Result, Ok, Err, option_map, option_and_then, flat_map, bytes_eq, codes}
 use Rattle.std.specs.List.{list_any}
 use Rattle.std.specs.Char.{is_ascii_digit}
-use Rattle.dns_name.specs.Name.{wire_of}
+use Rattle.dns_name.specs.Name.{Name, wire_of}
 use Rattle.dns_name.specs.declared.text.NameFault.{NameFault}
 use Rattle.dns_name.specs.declared.text.NameFault.TheVariants.{LabelTooLong, NameTooLong, EmptyLabel, BadEscape}
 use Rattle.dns_name.specs.declared.text.Mark.{Mark}
@@ -54,13 +54,13 @@ pieces_of (Octet c ∷ ms) = onto_first c (pieces_of ms)
 
 -- the labels of the pieces: where the last piece is empty, the text ended in a dot and stands for itself;
 -- else the origin is behind it (RFC 1035, 5.1)
-abbrev pub completed : List (List ℕ) → List (List ℕ) → List (List ℕ)
+abbrev pub completed : Name → List (List ℕ) → List (List ℕ)
 completed origin [] = origin
 completed origin (piece ∷ []) = if length piece == 0 then [] else piece ∷ origin
 completed origin (piece ∷ pieces) = piece ∷ completed origin pieces
 
 -- labels that make a name; else an empty label is told first, then one over 63 octets, then a name over 255
-abbrev pub lawful : List (List ℕ) → Result (List (List ℕ)) NameFault
+abbrev pub lawful : List (List ℕ) → Result Name NameFault
 lawful labels =
     if list_any (λ label. length label == 0) labels then Err EmptyLabel
     else if list_any (λ label. nat_lt 63 (length label)) labels then Err LabelTooLong
@@ -68,14 +68,17 @@ lawful labels =
     else Ok labels
 
 -- the labels of a text that has these marks; no text at all has an empty label, and a dot alone is the root
-abbrev pub labels_of : List (List ℕ) → List Mark → List (List ℕ)
+abbrev pub labels_of : Name → List Mark → List (List ℕ)
 labels_of origin [] = [] ∷ []
 labels_of origin (Dot ∷ []) = []
 labels_of origin ms = completed origin (pieces_of ms)
 
--- the name that a text stands for under an origin; a bad escape is told before the other faults (RFC 1035, 5.1)
-abbrev pub name_of_text : List ℕ → List (List ℕ) → Result (List (List ℕ)) NameFault
-name_of_text text origin = elim (marks 0 text) [ None ↦ Err BadEscape | Some ms ↦ lawful (labels_of origin ms) ]
+-- the name that a text stands for under an origin: `@` alone is the origin; a bad escape is told before the other
+-- faults (RFC 1035, 5.1)
+abbrev pub name_of_text : List ℕ → Name → Result Name NameFault
+name_of_text text origin =
+    if bytes_eq text (codes "@") then Ok origin
+    else elim (marks 0 text) [ None ↦ Err BadEscape | Some ms ↦ lawful (labels_of origin ms) ]
 
 -- the three digits of an octet
 abbrev pub digits_of : ℕ → List ℕ
@@ -95,6 +98,6 @@ abbrev pub label_text : List ℕ → List ℕ
 label_text label = flat_map octet_text label ++ 46 ∷ []
 
 -- a name as text: its labels with a dot behind each; the root is a dot (RFC 1035, 5.1)
-abbrev pub text_of : List (List ℕ) → List ℕ
+abbrev pub text_of : Name → List ℕ
 text_of [] = 46 ∷ []
 text_of (label ∷ name) = flat_map label_text (label ∷ name)

@@ -125,6 +125,11 @@ fn read_from_text(rt: HostRuntime) -> Result<(), Fail> {
         (b"a".as_slice(), b"\x01a\x07example\x00".as_slice()),
         (b"a.b.".as_slice(), b"\x01a\x01b\x00".as_slice()),
         (b".".as_slice(), b"\x00".as_slice()),
+        (b"@".as_slice(), b"\x07example\x00".as_slice()),
+        (b"\\@".as_slice(), b"\x01@\x07example\x00".as_slice()),
+        (b"\\064".as_slice(), b"\x01@\x07example\x00".as_slice()),
+        (b"@.".as_slice(), b"\x01@\x00".as_slice()),
+        (b"@.a".as_slice(), b"\x01@\x01a\x07example\x00".as_slice()),
         (b"a\\.b.".as_slice(), b"\x03a.b\x00".as_slice()),
         (b"a\\046b.".as_slice(), b"\x03a.b\x00".as_slice()),
         (b"\\\\\\255.".as_slice(), b"\x02\\\xff\x00".as_slice()),
@@ -148,6 +153,22 @@ fn read_from_text(rt: HostRuntime) -> Result<(), Fail> {
             Some(fault),
             "{text:?}"
         );
+    }
+    Ok(())
+}
+
+#[test]
+fn faults_as_they_are_told(rt: HostRuntime) -> Result<(), Fail> {
+    // The four faults of a text that is no name, by their numbers.
+    let cases = [
+        (NameFault::LabelTooLong, "N1 LabelTooLong"),
+        (NameFault::NameTooLong, "N2 NameTooLong"),
+        (NameFault::EmptyLabel, "N3 EmptyLabel"),
+        (NameFault::BadEscape, "N4 BadEscape"),
+    ];
+    for (fault, text) in cases {
+        let told = format!(in rt.alloc(); "{fault}")?;
+        assert_eq!(rt; told.as_str(), text);
     }
     Ok(())
 }

@@ -168,11 +168,14 @@ fn gather(text: &[u8]) -> Option<Gathered>
 
 impl Name {
     /// The name that a text stands for: labels with dots between them, an octet as itself, behind a backslash, or as
-    /// three digits behind one. A text that ends in no dot has the origin behind it; a dot alone is the root
-    /// (RFC 1035, 5.1).
+    /// three digits behind one. A text that ends in no dot has the origin behind it; a dot alone is the root, and `@`
+    /// alone the origin, where `\@` is a label (RFC 1035, 5.1).
     pub fn from_text(text: &[u8], origin: &Name) -> Result<Name, NameFault>
         ensures { result ≡ name_of_text text.now origin.now }
     {
+        if text == b"@".as_slice() {
+            return Ok(origin.copy());
+        }
         if text.is_empty() {
             return Err(NameFault::EmptyLabel);
         }

@@ -1,7 +1,7 @@
 //! Laws of data, records and sets: each is the contract of a function that does nothing.
-ghost use Rattle.std.specs.Prelude.{◌≡◌, ℕ, false, ◌||◌, List, length, Some, IsSome, bytes_eq};
+ghost use Rattle.std.specs.Prelude.{◌≡◌, ℕ, false, ◌||◌, ◌↔◌, true, List, length, flat_map, Some, IsSome, bytes_eq};
 ghost use Rattle.std.specs.Cmp.{IsTotalOrder};
-ghost use Rattle.dns_rdata.specs.Data.{data_of};
+ghost use Rattle.dns_rdata.specs.Data.{data_of, are_strings, counted};
 ghost use Rattle.dns_rdata.specs.Layout.{layout_of};
 ghost use Rattle.dns_rdata.specs.Numbers.{is_metatype};
 ghost use Rattle.dns_rdata.specs.Record.{Record, record_cmp, with_record, has_data};
@@ -12,6 +12,12 @@ pub fn read_again()
         → data_of rtype octets ≡ Some own → data_of rtype own ≡ Some own }
     ensures len { (rtype : ℕ) (octets own : List ℕ)
         → data_of rtype octets ≡ Some own → length own ≡ length octets }
+{}
+
+/// Octets are strings exactly where they are those of some strings in a row, each behind its length (RFC 1035, 3.3).
+pub fn strings_in_a_row()
+    ensures { (octets : List ℕ) → (are_strings octets ≡ true)
+        ↔ ((strings : List (List ℕ)) × (octets ≡ flat_map counted strings)) }
 {}
 
 /// No type that is served is a metatype (RFC 6895, 3.1).
