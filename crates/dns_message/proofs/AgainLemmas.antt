@@ -1,12 +1,16 @@
 -- What was written is read again.
-use Rattle.std.proofs.Common.{◌≡◌, ℕ, zero, suc, ◌+◌, ◌<◌, ◌≤◌, ◌^◌, Bool, true, false, if◌then◌else◌, All, List, [], ◌∷◌, ◌++◌, length, take, drop, Option, Some, None, Ok, nat_le, refl, sym, ap, subst, ◌∙◌, arith, lit<, option_map, option_and_then, length-append, append_assoc}
+use Rattle.std.proofs.Common.{◌≡◌, ℕ, zero, suc, ◌+◌, ◌<◌, ◌≤◌, ◌^◌, Bool, true, false, if◌then◌else◌, All, List, [], ◌∷◌, ◌++◌, length, take, drop, Option, Some, None, Ok, nat_le, refl, sym, ap, subst, ◌∙◌, arith, lit<, option_map, option_and_then, IsSome, length-append, append_assoc}
 use Rattle.std.proofs.lemmas.Bool.{le-leb}
 use Rattle.std.proofs.lemmas.List.{drop_at, drop-drop}
 use Rattle.std.proofs.lemmas.List.Elements.{All-head, All-tail}
 use Rattle.std.proofs.lemmas.Nat.{from_be_bytes-to_be_bytes_2, from_be_bytes-to_be_bytes_4}
 use Rattle.std.specs.Int.{to_be_bytes, from_be_bytes, w16, w32}
 use Rattle.dns_name.specs.Name.{IsName}
+use Rattle.dns_rdata.specs.declared.layout.Layout.{Layout}
+use Rattle.dns_rdata.specs.Data.{data_by, data_of}
+use Rattle.dns_rdata.specs.Layout.{layout_of}
 use Rattle.dns_rdata.specs.Record.{Record}
+use Rattle.dns_rdata.proofs.LayoutLemmas.{by_type}
 use Rattle.wire_names.specs.NameAt.{name_at}
 use Rattle.wire_names.specs.Table.{Table}
 use Rattle.wire_names.specs.Written.{written, table_after}
@@ -113,6 +117,21 @@ record_parts r table n =
     let place : n + length owner + length (fixed_octets r) + 2 ≡ n + length owner + 10 = omega arith in
     ap (λ k. owner ++ (fixed_octets r ++ (to_be_bytes w16 (length (data_octets r.rtype r.rdata after k).0) ++ (data_octets r.rtype r.rdata after k).0))) place
 
+-- the number of a type that is served has 16 bits
+abbrev has_16_bits : ℕ → Type 0
+has_16_bits rtype = IsSome (layout_of rtype) → rtype < 2 ^ 16
+
+served_16_bits : (rtype : ℕ) → IsSome (layout_of rtype) → rtype < 2 ^ 16
+served_16_bits rtype = by_type has_16_bits rtype (λ _. lit< tt) (λ _. lit< tt) (λ _. lit< tt) (λ _. lit< tt) (λ _. lit< tt) (λ _. lit< tt) (λ _. lit< tt) (λ _. lit< tt) (λ _. lit< tt) (λ none some. let is = rw none at some in cc)
+
+served_by : (o : Option Layout) (octets own : List ℕ) → option_and_then (λ (layout : Layout). data_by layout octets) o ≡ Some own → IsSome o
+served_by None octets own e = cc
+served_by (Some layout) octets own e = refl
+
+served_short : (rtype : ℕ) (octets own : List ℕ) → data_of rtype octets ≡ Some own → rtype < 2 ^ 16
+unfolding data_of
+served_short rtype octets own e = served_16_bits rtype (served_by (layout_of rtype) octets own e)
+
 -- the record whose owner ends at a position, with so many octets of data
 abbrev entry_to : Record → ℕ → ℕ → Entry
 entry_to r end size = record { owner = r.owner; rtype = r.rtype; class = 1; ttl = r.ttl; at = end + 10; size = size }
@@ -131,7 +150,7 @@ record_again msg rest whole table n r at is h lawful short =
     ap (record_of whole) (name_again true msg behind_owner whole table n r.owner at to_owner h lawful.owner)
     ∙ ap (λ o. record_of o (Ok (r.owner, n + length owner))) to_numbers
     ∙ ap (λ k. record_of ((msg ++ owner) ++ behind_owner) (Ok (r.owner, k))) there
-    ∙ record_numbers (msg ++ owner) rest rdata r.owner r.rtype 1 r.ttl lawful.rtype (lit< tt) lawful.ttl short
+    ∙ record_numbers (msg ++ owner) rest rdata r.owner r.rtype 1 r.ttl (served_short r.rtype r.rdata r.rdata lawful.form) (lit< tt) lawful.ttl short
     ∙ ap (λ k. Some (entry_to r k (length rdata), k + 10 + length rdata)) (sym there)
     ∙ ap (λ k. Some (entry_to r (n + length owner) (length rdata), k)) (omega (arith, size))
 

@@ -153,7 +153,7 @@ data_stands r whole front rest table n lawful s =
 pub data_again : (r : Record) (whole front rest : List ℕ) (table : Table) (n : ℕ) → IsRecord r → Stands whole front ((record_octets r table n).0 ++ rest) table n → expanded_data whole (entry_at r (table, n)) ≡ Some r.rdata
 unfolding expanded_data data_octets data_of
 data_again r whole front rest table n lawful s =
-    at_again (layout_of r.rtype) r.rdata r.rdata lawful.formed whole _ rest _ _ (data_stands r whole front rest table n lawful.owner s)
+    at_again (layout_of r.rtype) r.rdata r.rdata lawful.form whole _ rest _ _ (data_stands r whole front rest table n lawful.owner s)
 
 -- and so are those of records one behind another
 pub records_data : (rs : List Record) (whole front rest : List ℕ) (table : Table) (n : ℕ) → All IsRecord rs → Stands whole front ((each record_octets rs table n).0 ++ rest) table n → map (expanded_data whole) (entries_at rs (table, n)) ≡ map (λ r. Some r.rdata) rs

@@ -13,12 +13,12 @@ use Rattle.dns_message.specs.Octets.{data_octets, question_octets, questions, re
 use Rattle.dns_message.specs.Reads.{question_at, records_at}
 use Rattle.dns_message.specs.declared.query.Question.{Question}
 
--- the parts of a record are what its octets can say, and its data has its type's form (RFC 1035, 3.3 and 4.1.3)
+-- a record that a message can carry: its owner is a name, its TTL has 32 bits, and its data has its type's form, as that
+-- of a zone's record has (RFC 1035, 3.3 and 4.1.3)
 pub record IsRecord (r : Record) : Type 0 where
   pub owner : IsName r.owner
-  pub rtype : r.rtype < 2 ^ 16
   pub ttl : r.ttl < 2 ^ 32
-  pub formed : data_of r.rtype r.rdata ≡ Some r.rdata
+  pub form : data_of r.rtype r.rdata ≡ Some r.rdata
 
 -- a reply of a question and lawful records, of at most 65535 octets, as TCP carries it (RFC 1035, 4.2.2)
 pub record IsReply (m : Message) (question : Question) : Type 0 where

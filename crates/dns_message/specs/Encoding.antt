@@ -1,6 +1,7 @@
 -- How the parts of a message are written one behind another, with pointers to names in front of them (RFC 1035, 4.1.4).
 use Rattle.std.specs.Prelude.{ℕ, ◌+◌, Bool, List, [], ◌∷◌, ◌++◌, length}
 use Rattle.std.specs.Int.{to_be_bytes, w16}
+use Rattle.dns_name.specs.Name.{Name}
 use Rattle.wire_names.specs.Table.{Table}
 use Rattle.wire_names.specs.Written.{written, table_after}
 
@@ -13,7 +14,7 @@ unfoldable pub these : List ℕ → Encoding
 these octets table at = (octets, table)
 
 -- a name, with pointers (RFC 1035, 4.1.4) or in full (RFC 2782)
-unfoldable pub named : Bool → List (List ℕ) → Encoding
+unfoldable pub named : Bool → Name → Encoding
 named compress name table at = (written compress table name, table_after compress table at name)
 
 -- one thing, and another behind it

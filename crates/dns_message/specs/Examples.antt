@@ -2,7 +2,7 @@
 use Rattle.std.specs.Prelude.{ℕ, true, false, List, [], ◌∷◌, ◌++◌, Some, codes}
 use Rattle.std.proofs.Common.{lit<}
 use Rattle.dns_rdata.specs.declared.numbers.Rcode.TheVariants.{NoError}
-use Rattle.dns_name.specs.Name.{wire_of}
+use Rattle.dns_name.specs.Name.{Name, wire_of}
 use Rattle.dns_rdata.specs.Record.{Record}
 use Rattle.dns_message.specs.declared.query.Head.{Head}
 use Rattle.dns_message.specs.declared.query.Question.{Question}
@@ -16,7 +16,7 @@ request_front = 18 ∷ 52 ∷ 1 ∷ 0 ∷ 0 ∷ 1 ∷ 0 ∷ 0 ∷ 0 ∷ 0 ∷ 0 
 abbrev pub asked_octets : List ℕ
 asked_octets = 3 ∷ 119 ∷ 119 ∷ 119 ∷ 7 ∷ 101 ∷ 120 ∷ 97 ∷ 109 ∷ 112 ∷ 108 ∷ 101 ∷ 4 ∷ 116 ∷ 101 ∷ 115 ∷ 116 ∷ 0 ∷ 0 ∷ 1 ∷ 0 ∷ 1 ∷ []
 
-abbrev pub www : List (List ℕ)
+abbrev pub www : Name
 www = codes "www" ∷ codes "example" ∷ codes "test" ∷ []
 
 abbrev pub asked : Question
@@ -25,7 +25,7 @@ asked = record { name = www; rtype = record { 0 = 1 }; class = record { 0 = 1 } 
 abbrev pub asker : Head
 asker = record { id = 4660; opcode = 0; rd = true; four_bits = lit< tt }
 
-abbrev pub web : List (List ℕ)
+abbrev pub web : Name
 web = codes "web" ∷ codes "example" ∷ codes "test" ∷ []
 
 -- www is an alias of web, whose address is 192.0.2.10, each for an hour
@@ -55,7 +55,7 @@ abbrev pub cut_octets : List ℕ
 cut_octets = (18 ∷ 52 ∷ 135 ∷ 0 ∷ 0 ∷ 1 ∷ 0 ∷ 0 ∷ 0 ∷ 0 ∷ 0 ∷ 0 ∷ []) ++ asked_octets
 
 -- the service s.example.test is at port 53 of web, with priority 1 and weight 2
-abbrev pub service : List (List ℕ)
+abbrev pub service : Name
 service = codes "s" ∷ codes "example" ∷ codes "test" ∷ []
 
 abbrev pub asked_service : Question

@@ -1,7 +1,7 @@
 -- Data in a message, in which names have pointers, with these names written in full (RFC 1035, 3.3 and 4.1.4).
 use Rattle.std.specs.Prelude.{ℕ, zero, suc, ◌+◌, ◌==◌, List, [], ◌∷◌, ◌++◌, take, drop, Option, Some, None, option_map, option_and_then, Ok, Err, if◌then◌else◌}
 use Rattle.std.specs.List.{flat_map}
-use Rattle.dns_name.specs.Name.{wire_of}
+use Rattle.dns_name.specs.Name.{Name, wire_of}
 use Rattle.dns_rdata.specs.declared.layout.Layout.{Layout}
 use Rattle.dns_rdata.specs.declared.layout.Layout.TheVariants.{Fields, Strings}
 use Rattle.dns_rdata.specs.Layout.{layout_of}
@@ -10,7 +10,7 @@ use Rattle.dns_message.specs.Message.{Entry}
 
 -- so many names, one after another from a position of a message on, through pointers, and the position behind the last;
 -- none where one has a fault (RFC 1035, 4.1.4)
-unfoldable pub names_at : ℕ → List ℕ → ℕ → Option (List (List (List ℕ)) × ℕ)
+unfoldable pub names_at : ℕ → List ℕ → ℕ → Option (List Name × ℕ)
 names_at zero msg at = Some ([], at)
 names_at (suc count) msg at =
     elim (name_at msg at) [

@@ -3,6 +3,7 @@ use Rattle.std.specs.Prelude.{ℕ, Bool, false, List, Option, take, drop}
 use Rattle.std.specs.Int.{from_be_bytes, w16}
 use Rattle.std.specs.List.{flat_map}
 use Rattle.std.specs.Option.{option_copied}
+use Rattle.dns_name.specs.Name.{Name}
 use Rattle.dns_rdata.specs.declared.numbers.Rcode.{Rcode}
 use Rattle.dns_rdata.specs.declared.shown.Shown.{Shown}
 use Rattle.dns_rdata.specs.Record.{Record}
@@ -26,7 +27,7 @@ number_at msg at = from_be_bytes w16 (take 2 (drop at msg))
 -- a record as it stands in a message: its owner, its type, its class, its TTL in seconds, and where its data stands: the
 -- position of the first octet, and how many there are (RFC 1035, 4.1.3)
 pub record Entry : Type 0 where
-  pub owner : List (List ℕ)
+  pub owner : Name
   pub rtype : ℕ
   pub class : ℕ
   pub ttl : ℕ

@@ -4,6 +4,7 @@ use Rattle.std.specs.Int.{from_be_bytes, w32}
 use Rattle.std.specs.List.{list_any}
 use Rattle.std.proofs.Common.{lit<}
 use Rattle.std.proofs.Math.Nat.{mod-lt}
+use Rattle.dns_name.specs.Name.{Name}
 use Rattle.dns_rdata.specs.declared.numbers.Rcode.TheVariants.{FormErr, NotImp}
 use Rattle.dns_rdata.specs.Numbers.{type_OPT, type_IXFR, type_AXFR}
 use Rattle.wire_names.specs.NameAt.{name_at}
@@ -34,7 +35,7 @@ is_reply msg = nat_le 128 (slice_index msg 2)
 
 -- the question whose name was read, with its type and its class behind the name, and the position behind these; none
 -- where the name has a fault or the octets end before (RFC 1035, 4.1.2)
-abbrev pub question_of : List ℕ → Result (List (List ℕ) × ℕ) NameReadFault → Option (Question × ℕ)
+abbrev pub question_of : List ℕ → Result (Name × ℕ) NameReadFault → Option (Question × ℕ)
 question_of msg (Err fault) = None
 question_of msg (Ok r) =
     let rtype = number_at msg r.1 in
@@ -52,7 +53,7 @@ long_number_at msg at = from_be_bytes w32 (take 4 (drop at msg))
 -- the record whose owner was read: behind the name its type, its class, its TTL, how many octets its data has, and so
 -- many octets; and the position behind these; none where the name has a fault or the octets end before
 -- (RFC 1035, 4.1.3)
-abbrev pub record_of : List ℕ → Result (List (List ℕ) × ℕ) NameReadFault → Option (Entry × ℕ)
+abbrev pub record_of : List ℕ → Result (Name × ℕ) NameReadFault → Option (Entry × ℕ)
 record_of msg (Err fault) = None
 record_of msg (Ok r) =
     let size = number_at msg (r.1 + 8) in
