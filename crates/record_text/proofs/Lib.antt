@@ -5,6 +5,7 @@ pub mod FieldLemmas
 pub mod FormLemmas
 pub mod FrontLemmas
 pub mod NumberLemmas
+pub mod OctetLemmas
 pub mod SpeltLemmas
 pub mod StringLemmas
 pub mod TextLemmas
