@@ -6,6 +6,7 @@ pub mod FormLemmas
 pub mod FrontLemmas
 pub mod NumberLemmas
 pub mod OctetLemmas
+pub mod OwnLemmas
 pub mod SpeltLemmas
 pub mod StringLemmas
 pub mod TextLemmas

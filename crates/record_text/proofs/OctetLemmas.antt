@@ -1,15 +1,14 @@
 -- What words of octets are read as is of octets.
-use Rattle.std.proofs.Common.{◌≡◌, refl, sym, ap, ◌∙◌, subst, ℕ, zero, suc, ◌+◌, ◌-◌, ◌*◌, ◌/◌, ◌%◌, ◌^◌, ◌<◌, ◌≤◌, ◌⊎◌, inl, inr, Bool, true, false, cond, not, ◌&&◌, ◌||◌, ◌==◌, nat_lt, nat_le, List, [], ◌∷◌, ◌++◌, length, take, drop, codes, All, Option, Some, None, Result, Ok, Err, ok_or, option_map, arith, true≢false, lit≤}
+use Rattle.std.proofs.Common.{◌≡◌, refl, sym, subst, ℕ, zero, suc, ◌-◌, ◌/◌, ◌%◌, ◌^◌, ◌<◌, ◌≤◌, inl, inr, Bool, true, false, cond, not, ◌&&◌, ◌==◌, nat_lt, nat_le, List, [], ◌∷◌, ◌++◌, length, codes, All, Option, Some, None, Result, Ok, Err, ok_or, option_map, arith, true≢false, lit≤}
 use Rattle.std.specs.Prelude.{option_and_then, replicate, IfSome}
 use Rattle.std.specs.Option.{is_some}
 use Rattle.std.specs.Int.{to_be_bytes, w16, w32}
-use Rattle.std.specs.List.{list_all, AllByRecursion}
-use Rattle.std.specs.Net.Addr.{octets_of, segments_of}
+use Rattle.std.specs.Net.Addr.{octets_of}
 use Rattle.std.specs.Net.Grammar.{IsDotted, IsGroup, IsGroupsAfter, IsElided, IsColonHex}
 use Rattle.std.proofs.lemmas.Bool.Decides.{nat_tests}
 use Rattle.std.proofs.lemmas.Int.Digits.{digits_value-lt}
 use Rattle.std.proofs.lemmas.List.Elements.{All-nil, All-cons, All-head, All-tail, All-append}
-use Rattle.dns_name.specs.Name.{wire_of, IsLabel, IsName}
+use Rattle.dns_name.specs.Name.{wire_of, IsLabel}
 use Rattle.dns_name.specs.Text.{octet_at, name_of_text}
 use Rattle.dns_name.specs.declared.text.NameFault.{NameFault}
 use Rattle.dns_name.proofs.NamedLemmas.{IsNamed, text_is_named, octet_small}
@@ -295,10 +294,10 @@ GivesFront (Ok front) = IsFront front
 GivesFront (Err cause) = Unit {0}
 
 next_gives : (ttl : Option Ttl) (classed : Bool) (words : List Written) (m : Result Mark Cause) → GivesMark m → AreOfOctets words → IfSome ttl (λ t. t.0 < 2 ^ 31) → ((t : Option Ttl) (c : Bool) → IfSome t (λ x. x.0 < 2 ^ 31) → GivesFront (front_from t c words)) → GivesFront (and_then m (λ m. elim m [
-      | mark.Ttl own ↦ front_from (Some own) classed words
-      | mark.Class ↦ front_from ttl true words
-      | mark.Type rtype ↦ Ok (record { ttl = ttl; rtype = rtype.0; words = words })
-    ]))
+  | mark.Ttl own ↦ front_from (Some own) classed words
+  | mark.Class ↦ front_from ttl true words
+  | mark.Type rtype ↦ Ok (record { ttl = ttl; rtype = rtype.0; words = words })
+]))
 next_gives ttl classed words (Err cause) h k l more = tt
 next_gives ttl classed words (Ok (mark.Ttl own)) h k l more = more (Some own) classed h
 next_gives ttl classed words (Ok mark.Class) h k l more = more ttl true l
