@@ -6,3 +6,4 @@ pub mod ReadLemmas
 pub mod RoundLemmas
 pub mod SameLemmas
 pub mod TextLemmas
+pub mod NamedLemmas

@@ -1,5 +1,5 @@
 -- A text's records are a zone exactly where no fault is told of them.
-use Rattle.std.proofs.Common.{◌≡◌, ◌≢◌, refl, sym, ap, ◌∙◌, subst, ℕ, ◌+◌, ◌<◌, ◌≤◌, ◌^◌, Bool, true, false, not, ◌&&◌, ◌||◌, ◌==◌, nat_lt, List, [], ◌∷◌, map, length, All, arith, true≢false, Option, Some, None, Result, Ok}
+use Rattle.std.proofs.Common.{◌≡◌, ◌≢◌, refl, sym, ap, ◌∙◌, subst, ℕ, ◌+◌, ◌<◌, ◌≤◌, ◌^◌, Bool, true, false, not, ◌&&◌, ◌||◌, ◌==◌, nat_lt, List, [], ◌∷◌, map, length, All, arith, true≢false, Option, Some, None, Result, Ok, Err}
 use Rattle.std.specs.List.{filter, AllByRecursion}
 use Rattle.std.proofs.lemmas.Bool.Decides.{Decides-eqb, nat_tests}
 use Rattle.std.proofs.lemmas.List.{length-map}
@@ -12,9 +12,10 @@ use Rattle.zone_tree.specs.Zone.{stands_at, is_of, rrset_of, rrsets_of, soa_of, 
 use Rattle.zone_tree.proofs.Rising.{each_weaker, each_map, each_always, each_both, pairs_from_rises}
 use Rattle.master_file.specs.declared.placed.Placed.{Placed}
 use Rattle.record_text.specs.declared.cause.Cause.{Cause}
-use Rattle.record_text.specs.declared.cause.Cause.TheVariants.{Outside, Apex, Conflict}
+use Rattle.record_text.specs.declared.cause.Cause.TheVariants.{Limit, Outside, Apex, Conflict}
 use Rattle.master_file.specs.declared.fault.FileFault.{FileFault}
-use Rattle.master_file.specs.Gathered.{record_in, with_all, timed, first_line, is_too_many, is_second_soa, is_conflict, outside_line, told, told_whole, zone_of_all, zone_records}
+use Rattle.master_file.specs.Gathered.{record_in, with_all, timed, first_line, is_too_many, is_second_soa, is_conflict, outside_line, told, told_whole, zone_of_all, zone_of_read, zone_records}
+use Rattle.master_file.specs.Records.{Read}
 use Rattle.master_file.proofs.KeptLemmas.{one, count_cons}
 use Rattle.master_file.proofs.NotesLemmas.{same_set}
 use Rattle.master_file.proofs.JudgeLemmas.{ascends_all, holds_of_all, no_line, AreFew, limits_judge, HasOneSoa, soa_judges}
@@ -270,3 +271,21 @@ module _ (ps : List Placed) where
     soa = let a = soa_count in let b = is.rules.one_soa in not_zero (length (soa_of (with_all [] ps))) (omega arith);
     servers = let a = server_count in not_zero (length (rrset_of (with_all [] ps) (apex_of (with_all [] ps)) type_NS)) (let some = not_nil (rrset_of zone (apex_of zone) type_NS) is.rules.name_servers in omega arith);
   }
+
+no_fault : (fault : Option FileFault) (ps : List Placed) (zone : List Record) → (elim fault as (λ _. Result (List Record) FileFault) [ Some f ↦ Err f | None ↦ zone_of_all ps ]) ≡ Ok zone → zone_of_all ps ≡ Ok zone
+no_fault None ps zone e = e
+no_fault (Some f) ps zone e = let no : ⊥ = cc in absurd no
+
+-- what is read without a fault is a zone
+pub read_is_zone : (read : Read) (zone : List Record) → AllByRecursion IsReadable read.placed → zone_of_read read ≡ Ok zone → IsZone zone
+read_is_zone read found each e =
+    let a = told_ok Limit (first_line is_too_many [] read.placed) (elim read.fault as (λ _. Result (List Record) FileFault) [ Some f ↦ Err f | None ↦ zone_of_all read.placed ]) found e in
+    let of = of_zone read.placed found a.0 (no_fault read.fault read.placed found a.1) in
+    subst (λ (z : List Record). IsZone z) (sym of.1) (zone_is read.placed each of.0)
+
+-- and a zone is read without a fault
+pub zone_is_read : (read : Read) → read.fault ≡ None → IsZone (zone_records read.placed) → zone_of_read read ≡ Ok (zone_records read.placed)
+zone_is_read read none is =
+    let ok = ok_zone read.placed (of_is_zone read.placed is) in
+    ap (λ (o : Option ℕ). told Limit o (elim read.fault as (λ _. Result (List Record) FileFault) [ Some f ↦ Err f | None ↦ zone_of_all read.placed ])) ok.0
+    ∙ ap (λ (f : Option FileFault). elim f as (λ _. Result (List Record) FileFault) [ Some g ↦ Err g | None ↦ zone_of_all read.placed ]) none ∙ ok.1

@@ -1,8 +1,9 @@
 //! Laws of a zone's text: each is the contract of a function that does nothing.
-ghost use Rattle.std.specs.Prelude.{◌≡◌, ◌≤◌, ℕ, length, false, List, Some, None, map, All, Ok};
+ghost use Rattle.std.specs.Prelude.{◌≡◌, ◌<◌, ◌≤◌, ℕ, length, false, List, Some, None, map, All, Ok};
+ghost use Rattle.dns_name.specs.Name.{IsName};
 ghost use Rattle.dns_rdata.specs.Record.{Record, IsLawful};
 ghost use Rattle.zone_tree.specs.Zone.{IsZone};
-ghost use Rattle.master_file.specs.Gathered.{zone_of_text};
+ghost use Rattle.master_file.specs.Gathered.{zone_of_text, zone_records};
 ghost use Rattle.zone_lexing.specs.Entries.{entries_of};
 ghost use Rattle.master_file.specs.declared.context.Context.{Context};
 ghost use Rattle.master_file.specs.Records.{behind, judged, records_of};
@@ -28,4 +29,13 @@ pub fn written_zone_is_read_back()
 /// What is written of a zone is read as that zone, whatever the origin is (RFC 1035, 5.1).
 pub fn written_zone_is_the_zone()
     ensures { (zone : List Record) (origin : List (List ℕ)) → IsZone zone → zone_of_text origin (zone_text zone) ≡ Ok zone }
+{}
+
+/// A text of which no fault is told is a zone; and where a text's records are one, no fault but the text's own is told
+/// (RFC 1035, 5.2).
+pub fn text_without_a_fault_is_a_zone()
+    ensures is_zone { (origin : List (List ℕ)) (text : List ℕ) (zone : List Record) → IsName origin → All (All (λ octet. octet < 256)) origin
+        → All (λ octet. octet < 256) text → zone_of_text origin text ≡ Ok zone → IsZone zone }
+    ensures told { (origin : List (List ℕ)) (text : List ℕ) → (records_of origin text).fault ≡ None
+        → IsZone (zone_records (records_of origin text).placed) → zone_of_text origin text ≡ Ok (zone_records (records_of origin text).placed) }
 {}

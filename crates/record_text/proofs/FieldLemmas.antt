@@ -1,5 +1,5 @@
 -- Fields that are written are read as the same octets.
-use Rattle.std.proofs.Common.{◌≡◌, ℕ, zero, suc, ◌+◌, ◌*◌, ◌/◌, ◌%◌, ◌^◌, ◌<◌, ◌≤◌, inl, Bool, true, false, cond, ◌||◌, ◌==◌, nat_lt, bytes_eq, List, [], ◌∷◌, ◌++◌, flat_map, length, drop, take, get_or, All, Option, Some, None, Result, Ok, Err, decimal, refl, sym, ap, ◌∙◌, arith}
+use Rattle.std.proofs.Common.{◌≡◌, ℕ, zero, suc, ◌+◌, ◌*◌, ◌/◌, ◌%◌, ◌^◌, ◌<◌, ◌≤◌, inl, true, false, cond, ◌==◌, List, [], ◌∷◌, ◌++◌, flat_map, length, drop, take, get_or, All, Option, Some, None, Result, Ok, Err, decimal, refl, sym, ap, ◌∙◌, arith}
 use Rattle.std.specs.Fmt.{digits, digits_onto, digit_glyph}
 use Rattle.std.specs.Int.{from_be_bytes, to_be_bytes, w16, w32}
 use Rattle.std.specs.Net.Addr.{segments_of, octets_of}
@@ -9,11 +9,11 @@ use Rattle.std.proofs.Math.Nat.{pow-suc}
 use Rattle.std.proofs.Math.Seq.{drop-append_seam}
 use Rattle.std.proofs.lemmas.Bool.Decides.{nat_tests}
 use Rattle.std.proofs.lemmas.Fmt.{digits_is_IsNumeral}
-use Rattle.std.proofs.lemmas.List.{append_assoc, take-append-drop, length-take-le}
+use Rattle.std.proofs.lemmas.List.{take-append-drop, length-take-le}
 use Rattle.std.proofs.lemmas.List.Elements.{All-nil, All-cons, All-head, All-tail, All-get_or, All-take}
 use Rattle.std.proofs.lemmas.Nat.{be_bytes_2, be_bytes_4}
-use Rattle.dns_name.specs.Name.{wire_of, IsLabel, IsName}
-use Rattle.dns_name.specs.Text.{digits_of, is_special, octet_text, label_text, text_of}
+use Rattle.dns_name.specs.Name.{wire_of, IsName}
+use Rattle.dns_name.specs.Text.{text_of}
 use Rattle.dns_name.proofs.LawLemmas.{name_in-wire_of}
 use Rattle.dns_name.proofs.RoundLemmas.{name_of_text-text_of}
 use Rattle.record_text.specs.declared.data.Field.{Field}

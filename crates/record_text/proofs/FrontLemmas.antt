@@ -1,15 +1,13 @@
 -- What is written of a record in front of its data is read again.
-use Rattle.std.proofs.Common.{◌≡◌, ℕ, ◌<◌, ◌^◌, Bool, true, false, cond, ◌||◌, ◌==◌, nat_lt, bytes_eq, List, [], ◌∷◌, ◌++◌, length, flat_map, codes, decimal, Option, Some, None, Result, Ok, ok_or, All, refl, sym, ap, ◌∙◌, arith}
+use Rattle.std.proofs.Common.{◌≡◌, ℕ, ◌<◌, ◌^◌, Bool, true, false, cond, ◌||◌, ◌==◌, nat_lt, List, [], ◌∷◌, ◌++◌, length, flat_map, codes, decimal, Option, Some, None, Result, Ok, ok_or, All, refl, sym, ap, ◌∙◌, arith}
 use Rattle.std.specs.List.{list_all}
 use Rattle.std.specs.Char.{is_ascii_digit, digit_value}
 use Rattle.std.specs.Str.Parse.{AllDigits}
 use Rattle.std.proofs.lemmas.Bool.Decides.{Decides-eqb, nat_tests}
 use Rattle.std.proofs.lemmas.Fmt.{decimal_is_IsNumeral}
 use Rattle.std.proofs.lemmas.List.{append_assoc}
-use Rattle.std.proofs.lemmas.List.Elements.{All-head}
-use Rattle.dns_name.specs.Name.{IsName, IsLabel}
+use Rattle.dns_name.specs.Name.{IsName}
 use Rattle.dns_name.specs.Text.{digits_of, is_special, octet_text, label_text, text_of}
-use Rattle.dns_name.proofs.RoundLemmas.{name_of_text-text_of}
 use Rattle.dns_rdata.specs.Data.{data_of}
 use Rattle.dns_rdata.specs.Layout.{layout_of}
 use Rattle.dns_rdata.specs.declared.numbers.Ttl.{Ttl}
@@ -22,7 +20,7 @@ use Rattle.record_text.specs.declared.front.Mark.{Mark}
 use Rattle.record_text.specs.declared.front.Mark.TheVariants as mark
 use Rattle.record_text.specs.Front.{Front, mark_of, front_from, front_of}
 use Rattle.record_text.specs.Mnemonics.{type_named, class_named, type_word}
-use Rattle.record_text.specs.NameWord.{name_named, owner_of}
+use Rattle.record_text.specs.NameWord.{owner_of}
 use Rattle.record_text.specs.Number.{are_digits}
 use Rattle.record_text.specs.Reading.{on_ok, and_then}
 use Rattle.record_text.proofs.BackLemmas.{number_back}

@@ -5,6 +5,8 @@ pub mod FieldLemmas
 pub mod FormLemmas
 pub mod FrontLemmas
 pub mod NumberLemmas
+pub mod OctetLemmas
+pub mod OwnLemmas
 pub mod SpeltLemmas
 pub mod StringLemmas
 pub mod TextLemmas

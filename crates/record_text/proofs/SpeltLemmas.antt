@@ -156,7 +156,7 @@ groups_pass (n ∷ groups) h =
     (both_pass of_word (58 ∷ []) (group_text n) colon_passes (group_passes n (All-head (λ (x : ℕ). x < 65536) n groups h)))
     (groups_pass groups (All-tail (λ (x : ℕ). x < 65536) n groups h))
 
-segments_small : (octets : List ℕ) → AreOctets octets → All (λ n. n < 65536) (segments_of octets)
+pub segments_small : (octets : List ℕ) → AreOctets octets → All (λ n. n < 65536) (segments_of octets)
 segments_small [] h = All-nil (λ (n : ℕ). n < 65536)
 segments_small (a ∷ []) h = All-nil (λ (n : ℕ). n < 65536)
 segments_small (a ∷ b ∷ octets) h =

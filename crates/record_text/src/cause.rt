@@ -1,59 +1,102 @@
 //! What is wrong with a zone's text.
-ghost use Rattle.std.specs.Prelude.{◌≡◌};
+ghost use Rattle.std.specs.Prelude.{◌≡◌, Some};
 ghost use Rattle.record_text.specs.declared.cause.Cause.TheVariants.{BadName, NoMemory};
-ghost use Rattle.record_text.specs.Fault.{cause_of_data};
+ghost use Rattle.record_text.specs.Fault.{cause_of_data, code_of, name_of, printed};
 
 use dns_name::NameFault;
 use dns_rdata::DataFault;
 use std::alloc::AllocError;
-use thiserror::Error;
+use std::error::Error;
+use std::fmt;
 
 /// What is wrong with a zone's text (RFC 1035, 5).
-#[derive(Clone, Copy, Debug, PartialEq, Eq, Error)]
+#[derive(Clone, Copy, Debug, PartialEq, Eq)]
 pub enum Cause {
     /// A `$` word that is no directive served, or a directive without its argument.
-    #[error("M1 Directive")]
     Directive,
     /// A word that is no name.
-    #[error("M2 BadName")]
     BadName,
     /// A word that is no number, or a number too great for its field.
-    #[error("M3 Number")]
     Number,
     /// A class other than IN.
-    #[error("M4 BadClass")]
     BadClass,
     /// A word that is no type served.
-    #[error("M5 UnknownType")]
     UnknownType,
     /// Too few or too many words, or data not of its form.
-    #[error("M6 BadData")]
     BadData,
     /// A quote or parenthesis without its end, a nested or stray parenthesis.
-    #[error("M7 Unclosed")]
     Unclosed,
     /// No TTL is in force.
-    #[error("M8 NoTtl")]
     NoTtl,
     /// The first record has no owner.
-    #[error("M9 NoOwner")]
     NoOwner,
     /// An owner outside the apex (RFC 1035, 5.2).
-    #[error("M10 Outside")]
     Outside,
     /// No SOA, a second SOA, or no NS at the apex (RFC 1035, 5.2).
-    #[error("M11 Apex")]
     Apex,
     /// A CNAME beside other data or another CNAME (RFC 2181, 10.1), or an NS at an owner whose first label is `*`.
-    #[error("M12 Conflict")]
     Conflict,
     /// More records, records of a set, or octets of data than a zone may have.
-    #[error("M13 Limit")]
     Limit,
     /// A growth was refused.
-    #[error("M14 NoMemory")]
     NoMemory,
 }
+
+impl Cause {
+    /// The code that is printed of it, `M1` to `M14` (own).
+    pub fn code(self) -> &'static str
+        ensures { result.now ≡ code_of self }
+    {
+        match self {
+            Cause::Directive => "M1",
+            Cause::BadName => "M2",
+            Cause::Number => "M3",
+            Cause::BadClass => "M4",
+            Cause::UnknownType => "M5",
+            Cause::BadData => "M6",
+            Cause::Unclosed => "M7",
+            Cause::NoTtl => "M8",
+            Cause::NoOwner => "M9",
+            Cause::Outside => "M10",
+            Cause::Apex => "M11",
+            Cause::Conflict => "M12",
+            Cause::Limit => "M13",
+            Cause::NoMemory => "M14",
+        }
+    }
+
+    /// The name that is printed of it behind the code (own).
+    pub fn name(self) -> &'static str
+        ensures { result.now ≡ name_of self }
+    {
+        match self {
+            Cause::Directive => "Directive",
+            Cause::BadName => "BadName",
+            Cause::Number => "Number",
+            Cause::BadClass => "BadClass",
+            Cause::UnknownType => "UnknownType",
+            Cause::BadData => "BadData",
+            Cause::Unclosed => "Unclosed",
+            Cause::NoTtl => "NoTtl",
+            Cause::NoOwner => "NoOwner",
+            Cause::Outside => "Outside",
+            Cause::Apex => "Apex",
+            Cause::Conflict => "Conflict",
+            Cause::Limit => "Limit",
+            Cause::NoMemory => "NoMemory",
+        }
+    }
+}
+
+impl fmt::Display for Cause {
+    ghost output = { λ cause. Some (printed cause) };
+
+    fn fmt<W: fmt::Write>(&self, f: &mut fmt::Formatter<W>) -> fmt::Result {
+        write!(f, "{} {}", self.code(), self.name())
+    }
+}
+
+impl Error for Cause {}
 
 impl From<AllocError> for Cause {
     ghost from_gives = { λ fault given. given ≡ NoMemory };
