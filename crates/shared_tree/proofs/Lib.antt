@@ -1,2 +1,3 @@
+pub mod LawLemmas
 pub mod LinkLemmas
 pub mod PairLemmas

@@ -1,9 +1,16 @@
-//! A sorted map whose versions share what they have in common.
+//! A sorted map whose versions share what they have in common: a balanced tree of nodes of one pair each, behind std's
+//! `Arc`, so that a change makes one way down anew and shares all that stands beside it.
+//!
+//! Contracts see a [`Tree`] as the list of its pairs, whose keys ascend by their own order, and beside them as its height
+//! (`TreeView`); what is asked of it and made of it is a filter of that list (`Pairs`). Pairs are shared, and never cloned.
+//! No call goes deeper than the height, which is at most twice the binary digits of the number of pairs, and neither does
+//! dropping a tree. Removing many keys at once, joining two trees and walking backwards are not here.
 #![tactic(auto)]
 
 mod build;
 mod fault;
 mod join;
+mod laws;
 mod look;
 mod node;
 mod path;
@@ -12,6 +19,7 @@ mod tree;
 mod walk;
 
 pub use fault::NoMemory;
+pub use laws::{examples, one_key_changes};
 pub use seek::Seek;
 pub use tree::Tree;
 pub use walk::Walk;

@@ -5,6 +5,7 @@ ghost use Rattle.shared_tree.specs.Pairs.{IsAscending};
 
 use crate::fault::NoMemory;
 use crate::tree::Tree;
+use crate::walk::Walk;
 use std::alloc::{AllocError, Global};
 use std::test::Fail;
 
@@ -167,7 +168,12 @@ fn goes_on_where_memory_is_refused(rt: HostRuntime) -> Result<(), Fail> {
 fn goes_between_threads<T: Send + Sync>() {}
 
 // A tree, and a walk over it, go between threads where their keys and values do.
+fn trees_go_between_threads<K: Ord + Send + Sync, V: Send + Sync>() {
+    goes_between_threads::<Tree<K, V>>();
+    goes_between_threads::<Walk<'_, K, V>>();
+}
+
 #[test]
-fn trees_go_between_threads(_rt: HostRuntime) {
-    goes_between_threads::<Numbers>();
+fn trees_of_numbers_go_between_threads(_rt: HostRuntime) {
+    trees_go_between_threads::<u32, u32>();
 }

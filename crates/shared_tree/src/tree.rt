@@ -55,11 +55,18 @@ impl<K: Ord, V> Tree<K, V> {
         self.root.height()
     }
 
+    /// The pair of a key, for its key as the tree has it.
+    pub fn pair<Q: Seek<K>>(&self, sought: &Q) -> Option<&(K, V)>
+        ensures { option_copied result ≡ pair_at K.cmp (Q.key sought.now) self.now.pairs }
+    {
+        find_in(&self.root, sought)
+    }
+
     /// The value of a key.
     pub fn get<Q: Seek<K>>(&self, sought: &Q) -> Option<&V>
         ensures { option_copied result ≡ value_at K.cmp (Q.key sought.now) self.now.pairs }
     {
-        match find_in(&self.root, sought) {
+        match self.pair(sought) {
             Some(pair) => Some(&pair.1),
             None => None,
         }
