@@ -5,6 +5,7 @@ pub mod IsZoneLemmas
 pub mod JudgeLemmas
 pub mod KeptLemmas
 pub mod NotesLemmas
+pub mod OwnLemmas
 pub mod ReadableLemmas
 pub mod RecordLemmas
 pub mod RuleLemmas

@@ -1,6 +1,6 @@
 //! A zone's text as a zone (RFC 1035, 5).
 ghost use Rattle.std.specs.Prelude.{◌≡◌, ◌⊎◌, [], map, None, Some, Ok, Err, IfOk, IfErr, OnOk};
-ghost use Rattle.record_text.specs.declared.cause.Cause.TheVariants.{NoMemory};
+ghost use Rattle.master_file.specs.Fault.{no_memory};
 ghost use Rattle.master_file.specs.Gathered.{outside_line, zone_of_text, zone_records};
 ghost use Rattle.master_file.specs.Noted.{AreNotes, LastsEach, IsGathered, shown_by, zone_gathered};
 ghost use Rattle.zone_tree.specs.Sets.{records_in};
@@ -21,7 +21,7 @@ use zone_tree::Zone;
 fn gather(alloc: Global, text: &[u8], origin: &Name) -> Result<Gathered, FileFault>
     ensures gathered { IfOk result (IsGathered (records_of origin.now text.now).placed []) }
     ensures whole { IfOk result (λ gathered. (records_of origin.now text.now).fault ≡ None) }
-    ensures fault { IfErr result (λ fault. (fault.cause ≡ NoMemory) ⊎ (zone_of_text origin.now text.now ≡ Err fault)) }
+    ensures fault { IfErr result (λ fault. (fault ≡ no_memory) ⊎ (zone_of_text origin.now text.now ≡ Err fault)) }
 {
     let mut records = Records::new(alloc, text, origin);
     let mut gathered = Gathered::new(alloc);
@@ -30,8 +30,10 @@ fn gather(alloc: Global, text: &[u8], origin: &Name) -> Result<Gathered, FileFau
             return Ok(gathered);
         };
         let line = placed.line;
-        if let Err(cause) = gathered.put(placed) {
-            return Err(FileFault { line, cause });
+        match gathered.put(placed) {
+            Ok(()) => {}
+            Err(Cause::Limit) => return Err(told(line, Cause::Limit)),
+            Err(_) => return Err(told(0, Cause::NoMemory)),
         }
     }
 }
@@ -44,7 +46,7 @@ fn first_outside(
     apex: &Name,
 ) -> Result<Option<u64>, FileFault>
     ensures line { IfOk result (λ line. line ≡ outside_line apex.now (records_of origin.now text.now).placed) }
-    ensures fault { IfErr result (λ fault. (fault.cause ≡ NoMemory) ⊎ ((records_of origin.now text.now).fault ≡ Some fault)) }
+    ensures fault { IfErr result (λ fault. (fault ≡ no_memory) ⊎ ((records_of origin.now text.now).fault ≡ Some fault)) }
 {
     let mut records = Records::new(alloc, text, origin);
     loop {
@@ -61,7 +63,7 @@ fn first_outside(
 fn gather_zone(alloc: Global, text: &[u8], origin: &Name) -> Result<Gathered, FileFault>
     ensures gathered { IfOk result (IsGathered (records_of origin.now text.now).placed []) }
     ensures zone { OnOk result (zone_of_text origin.now text.now ≡ Ok (zone_records (records_of origin.now text.now).placed)) }
-    ensures fault { IfErr result (λ fault. (fault.cause ≡ NoMemory) ⊎ (zone_of_text origin.now text.now ≡ Err fault)) }
+    ensures fault { IfErr result (λ fault. (fault ≡ no_memory) ⊎ (zone_of_text origin.now text.now ≡ Err fault)) }
 {
     let gathered = gather(alloc, text, origin)?;
     judge(alloc, text, origin, &gathered)?;
@@ -71,12 +73,12 @@ fn gather_zone(alloc: Global, text: &[u8], origin: &Name) -> Result<Gathered, Fi
 /// The zone of a text, its names relative to the origin; else the fault that is told (RFC 1035, 5).
 ///
 /// A record too many and a fault of an entry are told at the first entry that has one. After the whole text a second SOA,
-/// no SOA or no NS at the apex, an owner outside the apex and a conflict are tried in this order. `NoMemory` where a growth
-/// was refused. Its time is that of sorting the records.
+/// no SOA or no NS at the apex, an owner outside the apex and a conflict are tried in this order. `NoMemory`, at line 0, where a
+/// growth was refused. Its time is that of sorting the records.
 pub fn read_zone(alloc: Global, text: &[u8], origin: &Name) -> Result<Zone, FileFault>
     ensures zone { IfOk result (λ zone. zone_of_text origin.now text.now ≡ Ok zone) }
     ensures lawful { IfOk result (λ zone. IsZone zone) }
-    ensures fault { IfErr result (λ fault. (fault.cause ≡ NoMemory) ⊎ (zone_of_text origin.now text.now ≡ Err fault)) }
+    ensures fault { IfErr result (λ fault. (fault ≡ no_memory) ⊎ (zone_of_text origin.now text.now ≡ Err fault)) }
 {
     let gathered = gather_zone(alloc, text, origin)?;
     let Ok(sets) = build(alloc, gathered) else {
@@ -110,7 +112,7 @@ fn judge(alloc: Global, text: &[u8], origin: &Name, gathered: &Gathered) -> Resu
     requires whole { (records_of origin.now text.now).fault ≡ None }
     requires notes { AreNotes gathered.now.kept.keys gathered.now.notes }
     ensures zone { OnOk result (zone_gathered (records_of origin.now text.now).placed gathered.now ≡ Ok (zone_records (records_of origin.now text.now).placed)) }
-    ensures fault { IfErr result (λ fault. (fault.cause ≡ NoMemory) ⊎ (zone_gathered (records_of origin.now text.now).placed gathered.now ≡ Err fault)) }
+    ensures fault { IfErr result (λ fault. (fault ≡ no_memory) ⊎ (zone_gathered (records_of origin.now text.now).placed gathered.now ≡ Err fault)) }
 {
     if let Some(line) = gathered.second_soa {
         return Err(told(line, Cause::Apex));

@@ -1,8 +1,10 @@
 //! Laws of a zone's text: each is the contract of a function that does nothing.
-ghost use Rattle.std.specs.Prelude.{◌≡◌, ◌<◌, ◌≤◌, ℕ, length, false, List, Some, None, map, All, Ok};
+ghost use Rattle.std.specs.Prelude.{◌≡◌, ◌≢◌, ◌<◌, ◌≤◌, ℕ, length, false, List, Some, None, map, All, Ok, Err};
 ghost use Rattle.dns_name.specs.Name.{IsName};
 ghost use Rattle.dns_rdata.specs.Record.{Record, IsLawful};
 ghost use Rattle.zone_tree.specs.Zone.{IsZone};
+ghost use Rattle.record_text.specs.declared.cause.Cause.TheVariants.{NoMemory};
+ghost use Rattle.master_file.specs.declared.fault.FileFault.{FileFault};
 ghost use Rattle.master_file.specs.Gathered.{zone_of_text, zone_records};
 ghost use Rattle.zone_lexing.specs.Entries.{entries_of};
 ghost use Rattle.master_file.specs.declared.context.Context.{Context};
@@ -38,4 +40,9 @@ pub fn text_without_a_fault_is_a_zone()
         → All (λ octet. octet < 256) text → zone_of_text origin text ≡ Ok zone → IsZone zone }
     ensures told { (origin : List (List ℕ)) (text : List ℕ) → (records_of origin text).fault ≡ None
         → IsZone (zone_records (records_of origin text).placed) → zone_of_text origin text ≡ Ok (zone_records (records_of origin text).placed) }
+{}
+
+/// No fault of a text is want of memory, whatever the text and the origin are.
+pub fn no_text_wants_memory()
+    ensures { (origin : List (List ℕ)) (text : List ℕ) (fault : FileFault) → zone_of_text origin text ≡ Err fault → fault.cause ≢ NoMemory }
 {}
