@@ -41,6 +41,7 @@ impl<K: Ord, V> Tree<K, V> {
     }
 
     /// Whether it has no pair.
+    #[tactic(auto, using(crate::proofs::LinkLemmas::some_pairs))]
     pub fn is_empty(&self) -> bool
         ensures { IsTrue result ↔ (self.now.pairs ≡ []) }
     {
