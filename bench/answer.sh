@@ -1,7 +1,7 @@
 #!/usr/bin/env bash
 # Makes a zone and queries, runs the proved program over them, and prints records read a second, queries answered a second
 # and peak memory; then, over a zone of a dozen records, messages parsed and replies written a second.
-# Usage: [DNSD=PROGRAM] bench/answer.sh [RECORDS ..], by default 1000 and 100000. `make demo` builds the program.
+# Usage: [DNSD=PROGRAM] bench/answer.sh [RECORDS ..], by default 1000 and 100000. `make dnsd` builds the program.
 set -euo pipefail
 cd "$(dirname "$0")/.."
 program=${DNSD:-$PWD/crates/dnsd/out/dnsd}
@@ -9,7 +9,7 @@ queries=500000
 messages=1000000
 work=$(mktemp -d)
 trap 'rm -rf "$work"' EXIT
-[ -x "$program" ] || { echo "bench: no program at $program: run make demo first" >&2; exit 1; }
+[ -x "$program" ] || { echo "bench: no program at $program: run make dnsd first" >&2; exit 1; }
 
 # The zone: an SOA, an NS, and then hosts of which each tenth is an alias of the one before it.
 zone() {
