@@ -1,5 +1,5 @@
 -- How long the octets of a reply are, and what they are.
-use Rattle.std.proofs.Common.{◌≡◌, ℕ, ◌+◌, ◌<◌, ◌≤◌, true, false, min, nat_le, List, [], ◌∷◌, ◌++◌, length, take, drop, Some, sym, ap, subst, ◌∙◌, arith, length-append, append_assoc}
+use Rattle.std.proofs.Common.{◌≡◌, ℕ, ◌+◌, ◌<◌, ◌≤◌, Bool, true, false, not, ◌&&◌, if◌then◌else◌, min, refl, nat_le, List, [], ◌∷◌, ◌++◌, length, take, drop, Some, sym, ap, subst, ◌∙◌, arith, length-append, append_assoc}
 use Rattle.std.proofs.lemmas.Bool.{le-leb, lt-leb}
 use Rattle.std.proofs.lemmas.List.{append-nil, length-take-le, take-append-le, drop-append-le, take-append-drop}
 use Rattle.std.specs.Int.{to_be_bytes, w16}
@@ -10,7 +10,7 @@ use Rattle.wire_names.proofs.OverwrittenLemmas.{length_stays, octets_are, IsOver
 use Rattle.dns_message.specs.Message.{Message}
 use Rattle.dns_message.specs.Encoding.{Encoding, these, before, measured, each}
 use Rattle.dns_message.specs.Encoded.{IsStopped, WritesEncoding}
-use Rattle.dns_message.specs.Octets.{questions, question_octets, record_octets, sections_octets, counts_in, header_octets, reply_octets, truncated, fit}
+use Rattle.dns_message.specs.Octets.{questions, question_octets, record_octets, sections_octets, counts_in, header_octets, reply_octets, truncated, fits, without_additional, fit}
 
 -- the octets of one thing and of another behind it
 length-before : (p q : Encoding) (table : Table) (at : ℕ) → length (before p q table at).0 ≡ length (p table at).0 + length (q (p table at).1 (at + length (p table at).0)).0
@@ -98,19 +98,43 @@ sent_whole out new x k len within put =
 fits_front : (old new x : List ℕ) (len : ℕ) → IsOverwritten old new 0 x len → length x ≤ length old
 fits_front old new x len put = let next = put.next_is in let within = put.within in omega arith
 
+and_false : (b : Bool) → (b && false) ≡ false
+and_false true = refl
+and_false false = refl
+
+-- octets that went into so much room fit, and octets that didn't don't
+fits_room : (limit k len : ℕ) (x old new : List ℕ) → k ≡ min limit 65535 → length old ≡ k → IsOverwritten old new 0 x len → nat_le (length x) (min limit 65535) ≡ true
+fits_room limit k len x old new at size put = le-leb _ _ (subst (λ (n : ℕ). length x ≤ n) (size ∙ at) (fits_front old new x len put))
+
+over_room : (limit k size : ℕ) (old new : List ℕ) → k ≡ min limit 65535 → length old ≡ k → IsStopped old new 0 size → nat_le size (min limit 65535) ≡ false
+over_room limit k size old new at is stopped =
+    let short = stopped.short in
+    let over : length old < size = omega arith in
+    lt-leb _ _ (subst (λ (n : ℕ). n < size) (is ∙ at) over)
+
 -- a reply that was written fits
 pub fit_whole : (m : Message) (limit k len : ℕ) (old new : List ℕ) → k ≡ min limit 65535 → length old ≡ k → IsOverwritten old new 0 (reply_octets m) len → fit m limit ≡ reply_octets m
-fit_whole m limit k len old new at size put =
-    let within : length (reply_octets m) ≤ min limit 65535 = subst (λ (n : ℕ). length (reply_octets m) ≤ n) (size ∙ at) (fits_front old new (reply_octets m) len put) in
-    let test : nat_le (length (reply_octets m)) (min limit 65535) ≡ true = le-leb _ _ within in
-    rw test
+fit_whole m limit k len old new at size put = let test = fits_room limit k len (reply_octets m) old new at size put in rw test
 
-over_front : (old new : List ℕ) (size : ℕ) → IsStopped old new 0 size → length old < size
-over_front old new size stopped = let short = stopped.short in omega arith
+-- the second of three
+second : (whole below shorter : Bool) (x y z : List ℕ) → whole ≡ false → below ≡ false → shorter ≡ true → (if whole then x else if not below && shorter then y else z) ≡ y
+second whole below shorter x y z a b c = rw (a, b, c)
 
--- and one that didn't go in doesn't
-pub fit_cut : (m : Message) (limit k : ℕ) (old new : List ℕ) → k ≡ min limit 65535 → length old ≡ k → IsStopped old new 0 (length (reply_octets m)) → fit m limit ≡ reply_octets (truncated m)
-fit_cut m limit k old new at size stopped =
-    let over : min limit 65535 < length (reply_octets m) = subst (λ (n : ℕ). n < length (reply_octets m)) (size ∙ at) (over_front old new (length (reply_octets m)) stopped) in
-    let test : nat_le (length (reply_octets m)) (min limit 65535) ≡ false = lt-leb _ _ over in
-    rw test
+-- one that didn't go in doesn't, and is sent without its additional section where that went in
+pub fit_shorter : (m : Message) (limit k len : ℕ) (old new last : List ℕ) → k ≡ min limit 65535 → length old ≡ k → length new ≡ k → m.below_cut ≡ false → IsStopped old new 0 (length (reply_octets m)) → IsOverwritten new last 0 (reply_octets (without_additional m)) len → fit m limit ≡ reply_octets (without_additional m)
+fit_shorter m limit k len old new last at size size_new apart stopped put =
+    let test = over_room limit k (length (reply_octets m)) old new at size stopped in
+    let shorter = fits_room limit k len (reply_octets (without_additional m)) new last at size_new put in
+    second (fits m limit) m.below_cut (fits (without_additional m) limit) (reply_octets m) (reply_octets (without_additional m)) (reply_octets (truncated m)) test apart shorter
+
+-- why a reply isn't sent without its additional section
+pub no_shorter : (m : Message) (limit k : ℕ) (old new : List ℕ) → k ≡ min limit 65535 → length old ≡ k → IsStopped old new 0 (length (reply_octets (without_additional m))) → (not m.below_cut && fits (without_additional m) limit) ≡ false
+no_shorter m limit k old new at size stopped =
+    let test = over_room limit k (length (reply_octets (without_additional m))) old new at size stopped in
+    ap (λ (b : Bool). not m.below_cut && b) test ∙ and_false (not m.below_cut)
+
+-- and else it is truncated
+pub fit_cut : (m : Message) (limit k : ℕ) (old new : List ℕ) → k ≡ min limit 65535 → length old ≡ k → IsStopped old new 0 (length (reply_octets m)) → (not m.below_cut && fits (without_additional m) limit) ≡ false → fit m limit ≡ reply_octets (truncated m)
+fit_cut m limit k old new at size stopped shorter =
+    let test = over_room limit k (length (reply_octets m)) old new at size stopped in
+    rw (test, shorter)

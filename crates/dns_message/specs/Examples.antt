@@ -36,7 +36,7 @@ abbrev pub address : Record
 address = record { owner = web; rtype = 1; ttl = 3600; rdata = 192 ∷ 0 ∷ 2 ∷ 10 ∷ [] }
 
 abbrev pub answer : Message
-answer = record { head = asker; rcode = NoError; aa = true; tc = false; question = Some asked; answer = alias ∷ address ∷ []; authority = []; additional = [] }
+answer = record { head = asker; rcode = NoError; aa = true; tc = false; question = Some asked; answer = alias ∷ address ∷ []; authority = []; additional = []; below_cut = false }
 
 -- the alias: its owner is at position 12, and example.test behind www at 16
 abbrev pub alias_octets : List ℕ
@@ -65,7 +65,7 @@ abbrev pub place : Record
 place = record { owner = service; rtype = 33; ttl = 3600; rdata = 0 ∷ 1 ∷ 0 ∷ 2 ∷ 0 ∷ 53 ∷ wire_of web }
 
 abbrev pub service_answer : Message
-service_answer = record { head = asker; rcode = NoError; aa = true; tc = false; question = Some asked_service; answer = place ∷ []; authority = []; additional = address ∷ [] }
+service_answer = record { head = asker; rcode = NoError; aa = true; tc = false; question = Some asked_service; answer = place ∷ []; authority = []; additional = address ∷ []; below_cut = false }
 
 -- the target is in full, and the address' owner, which has a pointer to example.test at 14, has none to it
 abbrev pub service_octets : List ℕ
@@ -75,3 +75,17 @@ service_octets =
     ++ (192 ∷ 12 ∷ 0 ∷ 33 ∷ 0 ∷ 1 ∷ 0 ∷ 0 ∷ 14 ∷ 16 ∷ 0 ∷ 24 ∷ 0 ∷ 1 ∷ 0 ∷ 2 ∷ 0 ∷ 53 ∷ [])
     ++ (3 ∷ 119 ∷ 101 ∷ 98 ∷ 7 ∷ 101 ∷ 120 ∷ 97 ∷ 109 ∷ 112 ∷ 108 ∷ 101 ∷ 4 ∷ 116 ∷ 101 ∷ 115 ∷ 116 ∷ 0 ∷ [])
     ++ (3 ∷ 119 ∷ 101 ∷ 98 ∷ 192 ∷ 14 ∷ 0 ∷ 1 ∷ 0 ∷ 1 ∷ 0 ∷ 0 ∷ 14 ∷ 16 ∷ 0 ∷ 4 ∷ 192 ∷ 0 ∷ 2 ∷ 10 ∷ [])
+
+-- the same without the address
+abbrev pub shorter_octets : List ℕ
+shorter_octets =
+    (18 ∷ 52 ∷ 133 ∷ 0 ∷ 0 ∷ 1 ∷ 0 ∷ 1 ∷ 0 ∷ 0 ∷ 0 ∷ 0 ∷ [])
+    ++ (1 ∷ 115 ∷ 7 ∷ 101 ∷ 120 ∷ 97 ∷ 109 ∷ 112 ∷ 108 ∷ 101 ∷ 4 ∷ 116 ∷ 101 ∷ 115 ∷ 116 ∷ 0 ∷ 0 ∷ 33 ∷ 0 ∷ 1 ∷ [])
+    ++ (192 ∷ 12 ∷ 0 ∷ 33 ∷ 0 ∷ 1 ∷ 0 ∷ 0 ∷ 14 ∷ 16 ∷ 0 ∷ 24 ∷ 0 ∷ 1 ∷ 0 ∷ 2 ∷ 0 ∷ 53 ∷ [])
+    ++ (3 ∷ 119 ∷ 101 ∷ 98 ∷ 7 ∷ 101 ∷ 120 ∷ 97 ∷ 109 ∷ 112 ∷ 108 ∷ 101 ∷ 4 ∷ 116 ∷ 101 ∷ 115 ∷ 116 ∷ 0 ∷ [])
+
+-- the header with TC 1, and the question alone
+abbrev pub shortest_octets : List ℕ
+shortest_octets =
+    (18 ∷ 52 ∷ 135 ∷ 0 ∷ 0 ∷ 1 ∷ 0 ∷ 0 ∷ 0 ∷ 0 ∷ 0 ∷ 0 ∷ [])
+    ++ (1 ∷ 115 ∷ 7 ∷ 101 ∷ 120 ∷ 97 ∷ 109 ∷ 112 ∷ 108 ∷ 101 ∷ 4 ∷ 116 ∷ 101 ∷ 115 ∷ 116 ∷ 0 ∷ 0 ∷ 33 ∷ 0 ∷ 1 ∷ [])

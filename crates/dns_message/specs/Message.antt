@@ -42,7 +42,7 @@ pub record Body : Type 0 where
   pub additional : List Entry
 
 -- a reply: what it copies from a request's header, its code, AA and TC, a question or none, and three sections
--- (RFC 1035, 4.1)
+-- (RFC 1035, 4.1); and whether the last name looked up is at or below a zone cut (RFC 1034, 4.3.2)
 pub record Message : Type 0 where
   pub head : Head
   pub rcode : Rcode
@@ -52,6 +52,7 @@ pub record Message : Type 0 where
   pub answer : List Record
   pub authority : List Record
   pub additional : List Record
+  pub below_cut : Bool
 
 -- the records of a section, in the order in which it shows them
 abbrev pub section_of : List Shown → List Record
@@ -68,4 +69,5 @@ message_of reply = record {
   answer = section_of reply.answer.now;
   authority = section_of reply.authority.now;
   additional = section_of reply.additional.now;
+  below_cut = reply.below_cut;
 }

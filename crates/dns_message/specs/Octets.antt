@@ -1,5 +1,5 @@
 -- The octets of a reply (RFC 1035, 4.1), and how it is cut to a limit (RFC 1035, 4.1.1 and 4.2.1; RFC 2181, 9).
-use Rattle.std.specs.Prelude.{ℕ, Bool, true, ◌+◌, ◌*◌, List, [], ◌∷◌, ◌++◌, length, take, drop, nat_le, min, Option, Some, None, if◌then◌else◌}
+use Rattle.std.specs.Prelude.{ℕ, Bool, true, ◌+◌, ◌*◌, List, [], ◌∷◌, ◌++◌, length, take, drop, not, ◌&&◌, nat_le, min, Option, Some, None, if◌then◌else◌}
 use Rattle.std.specs.Int.{to_be_bytes, w16, w32}
 use Rattle.std.specs.List.{flat_map}
 use Rattle.dns_name.specs.Name.{wire_of}
@@ -91,7 +91,15 @@ room_under limit = min limit 65535
 abbrev pub fits : Message → ℕ → Bool
 fits m limit = nat_le (length (reply_octets m)) (room_under limit)
 
--- the octets that are sent under a limit: all of them where they fit it, else those of the truncated reply
--- (RFC 1035, 4.2.1; RFC 2181, 9)
+-- the reply without its additional section; TC stays 0 (RFC 2181, 9)
+abbrev pub without_additional : Message → Message
+without_additional m = record m { additional = [] }
+
+-- the octets that are sent under a limit: the whole reply where it fits; else, unless the last name looked up is at or below
+-- a zone cut, the reply without its additional section where that fits; else the truncated reply (RFC 1035, 4.2.1;
+-- RFC 2181, 9; own)
 abbrev pub fit : Message → ℕ → List ℕ
-fit m limit = if fits m limit then reply_octets m else reply_octets (truncated m)
+fit m limit =
+    if fits m limit then reply_octets m
+    else if not m.below_cut && fits (without_additional m) limit then reply_octets (without_additional m)
+    else reply_octets (truncated m)

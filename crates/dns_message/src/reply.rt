@@ -19,4 +19,7 @@ pub struct Reply<'a> {
     pub authority: &'a [Shown<'a>],
     /// The additional section.
     pub additional: &'a [Shown<'a>],
+    /// Whether the last name looked up is at or below a zone cut: its referral isn't sent without the additional section,
+    /// in which the addresses of the name servers stand (RFC 1034, 4.2.1 and 4.3.2; own).
+    pub below_cut: bool,
 }

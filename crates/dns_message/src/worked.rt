@@ -4,7 +4,7 @@ ghost use Rattle.dns_rdata.specs.declared.numbers.Rcode.TheVariants.{FormErr, No
 ghost use Rattle.dns_message.specs.declared.query.Parsed.TheVariants.{Silent, Fault, Query};
 ghost use Rattle.dns_message.specs.Reads.{header_of, reads};
 ghost use Rattle.dns_message.specs.Octets.{reply_octets, fit};
-ghost use Rattle.dns_message.specs.Examples.{request_front, asked_octets, asked, answer, answer_octets, cut_octets, service_answer, service_octets};
+ghost use Rattle.dns_message.specs.Examples.{request_front, asked_octets, asked, answer, answer_octets, cut_octets, service_answer, service_octets, shorter_octets, shortest_octets};
 
 /// A request, and what stands for other octets: fewer than twelve, no question, a question whose name points to itself,
 /// one whose name points to a zero octet of the header, and an OPT (RFC 1035, 4.1 and 4.1.4; RFC 6891, 6.1.2 and 7).
@@ -28,4 +28,7 @@ pub fn examples()
     ensures whole { fit answer 512 ≡ answer_octets }
     ensures cut { fit answer 67 ≡ cut_octets }
     ensures service { reply_octets service_answer ≡ service_octets }
+    ensures without_additional { fit service_answer 87 ≡ shorter_octets }
+    ensures shortest { fit service_answer 67 ≡ shortest_octets }
+    ensures below_cut { fit (record service_answer { below_cut = true }) 87 ≡ shortest_octets }
 {}

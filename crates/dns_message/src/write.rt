@@ -26,8 +26,9 @@ const AA: u8 = 4;
 const TC: u8 = 2;
 
 /// Writes a reply to the front of `out`, and gives how many octets it has: the whole reply where it fits the limit, and a
-/// message's 65,535 octets, else its header and question alone with TC 1 (RFC 1035, 4.1, 4.2.1 and 4.2.2; RFC 2181, 9).
-/// What is behind a whole reply stays, and in any case what is behind the limit. It takes no memory.
+/// message's 65,535 octets; else, unless the last name looked up is at or below a zone cut, the reply without its additional
+/// section where that fits; else its header and question alone with TC 1 (RFC 1035, 4.1, 4.2.1 and 4.2.2; RFC 2181, 9;
+/// own). What is behind a whole reply stays, and in any case what is behind the limit. It takes no memory.
 ///
 /// The names of the question, of owners and of NS, CNAME, SOA, PTR and MX data have pointers to names in front of them
 /// in the reply (RFC 1035, 4.1.4); the target of an SRV is written in full (RFC 2782).
@@ -40,10 +41,21 @@ pub fn write_reply(reply: &Reply<'_>, limit: usize, out: &mut [u8]) -> usize
     ensures behind { drop (room_under limit) out.new ≡ drop (room_under limit) out.old }
 {
     let room = &mut out[..limit.min(MAX_LIMIT)];
-    match put_message(room, reply) {
-        Some(len) => len,
-        None => put_truncated(room, reply),
+    if let Some(len) = put_message(room, reply) {
+        return len;
     }
+    let may_be_shorter = !reply.below_cut;
+    if may_be_shorter {
+        let shorter = Reply {
+            additional: &[],
+            ..*reply
+        };
+        // TC stays 0: it tells of what is needed, and additional data is not (RFC 2181, 9).
+        if let Some(len) = put_message(room, &shorter) {
+            return len;
+        }
+    }
+    put_truncated(room, reply)
 }
 
 /// Writes a reply's header and question alone, with TC 1: how many octets they have (RFC 2181, 9).
@@ -201,6 +213,7 @@ mod tests {
             answer: &[],
             authority: &[],
             additional: &[],
+            below_cut: false,
         }
     }
 
@@ -309,6 +322,7 @@ mod tests {
             answer: &[],
             authority: &authority,
             additional: &additional,
+            below_cut: true,
         };
         let mut out = [0xee; MIN_LIMIT];
         let len = write_reply(&reply, MIN_LIMIT, &mut out);
@@ -354,6 +368,74 @@ mod tests {
         let len = write_reply(&reply, 513, &mut out);
         let want =
             b"\x12\x34\x87\x00\x00\x01\x00\x00\x00\x00\x00\x00\x03www\x07example\x04test\x00\x00\x01\x00\x01";
+        assert_eq!(rt; &out[..len], want.as_slice());
+        Ok(())
+    }
+
+    // An MX record is 20 octets with its exchange written out and 16 with a pointer to it, an address 16: behind a question
+    // that ends at 32, 29 exchanges are 500 octets, and 516 with the address (RFC 2181, 9).
+    #[test]
+    fn additional_data_is_left_out(rt: HostRuntime) -> Result<(), Fail> {
+        let question = question(b"\x01m\x07example\x04test\x00", RType::MX)?;
+        let web = name(b"\x03web\x07example\x04test\x00")?;
+        let mut data = *b"\x00\x01\x03web\x07example\x04test\x00";
+        let mut set = one(rt.alloc(), &question.name, RType::MX, &data)?;
+        for preference in 2..=28 {
+            data[1] = preference;
+            more(rt.alloc(), &mut set, &data)?;
+        }
+        let address = [addresses(rt.alloc(), &web, 1)?];
+        let additional = [shown(&web, &address)];
+        let mut exchanges = [set];
+        let mut out = [0xee; MIN_LIMIT];
+        let answer = [shown(&question.name, &exchanges)];
+        let reply = Reply {
+            answer: &answer,
+            additional: &additional,
+            ..reply_to(&question)
+        };
+        assert_eq!(rt; write_reply(&reply, MIN_LIMIT, &mut out), 500);
+        assert_eq!(rt;
+            &out[..12],
+            b"\x12\x34\x85\x00\x00\x01\x00\x1c\x00\x00\x00\x01".as_slice()
+        );
+        data[1] = 29;
+        more(rt.alloc(), &mut exchanges[0], &data)?;
+        let answer = [shown(&question.name, &exchanges)];
+        let reply = Reply {
+            answer: &answer,
+            additional: &additional,
+            ..reply_to(&question)
+        };
+        assert_eq!(rt; write_reply(&reply, MIN_LIMIT, &mut out), 500);
+        assert_eq!(rt;
+            &out[..12],
+            b"\x12\x34\x85\x00\x00\x01\x00\x1d\x00\x00\x00\x00".as_slice()
+        );
+        Ok(())
+    }
+
+    // A referral whose glue doesn't fit is cut: header and question with TC (RFC 1034, 4.3.2; RFC 2181, 9).
+    #[test]
+    fn referral_with_too_much_glue(rt: HostRuntime) -> Result<(), Fail> {
+        let question = question(b"\x01x\x03sub\x04test\x00", RType::A)?;
+        let zone = name(b"\x03sub\x04test\x00")?;
+        let server = name(b"\x02ns\x03sub\x04test\x00")?;
+        let servers = [one(rt.alloc(), &zone, RType::NS, server.wire())?];
+        let glue = [addresses(rt.alloc(), &server, 30)?];
+        let authority = [shown(&zone, &servers)];
+        let additional = [shown(&server, &glue)];
+        let reply = Reply {
+            aa: false,
+            authority: &authority,
+            additional: &additional,
+            below_cut: true,
+            ..reply_to(&question)
+        };
+        let mut out = [0xee; MIN_LIMIT];
+        let len = write_reply(&reply, MIN_LIMIT, &mut out);
+        let want =
+            b"\x12\x34\x83\x00\x00\x01\x00\x00\x00\x00\x00\x00\x01x\x03sub\x04test\x00\x00\x01\x00\x01";
         assert_eq!(rt; &out[..len], want.as_slice());
         Ok(())
     }

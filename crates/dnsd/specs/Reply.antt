@@ -21,7 +21,7 @@ use Rattle.dnsd.specs.Transport.{limit_of}
 
 -- a header alone, with a code
 abbrev pub bare : Head → Rcode → Message
-bare head rcode = record { head = head; rcode = rcode; aa = false; tc = false; question = None; answer = []; authority = []; additional = [] }
+bare head rcode = record { head = head; rcode = rcode; aa = false; tc = false; question = None; answer = []; authority = []; additional = []; below_cut = false }
 
 -- a question that isn't answered (RFC 1035, 4.1.1)
 abbrev pub refused : Head → Question → Message
@@ -29,7 +29,7 @@ refused head question = record (bare head Refused) { question = Some question }
 
 -- an answer's sections (RFC 1034, 4.3.2)
 abbrev pub answered : Head → Question → Sections → Message
-answered head question s = record { head = head; rcode = s.rcode; aa = s.aa; tc = false; question = Some question; answer = s.answer; authority = s.authority; additional = s.additional }
+answered head question s = record { head = head; rcode = s.rcode; aa = s.aa; tc = false; question = Some question; answer = s.answer; authority = s.authority; additional = s.additional; below_cut = false }
 
 -- the zone's answer to a question, without an additional section; SERVFAIL where it is left open (RFC 1034, 4.3.2; own)
 abbrev pub answered_in : List Record → Head → Question → Message

@@ -78,6 +78,7 @@ fn write_answer<Z: ZoneRead>(
         answer: found.answer.as_slice(),
         authority: found.authority.as_slice(),
         additional: &[],
+        below_cut: false,
     };
     write_reply(&reply, transport.limit(), out)
 }
@@ -116,5 +117,6 @@ fn bare(head: Head, rcode: Rcode) -> Reply<'static>
         answer: &[],
         authority: &[],
         additional: &[],
+        below_cut: false,
     }
 }
