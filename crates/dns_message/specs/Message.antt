@@ -52,7 +52,6 @@ pub record Message : Type 0 where
   pub answer : List Record
   pub authority : List Record
   pub additional : List Record
-  -- whether the last name looked up was at or below a zone cut (RFC 1034, 4.3.2, step 3b)
   pub below_cut : Bool
 
 -- the records of a section, in the order in which it shows them
