@@ -208,9 +208,9 @@ named_crowded gathered labels name rest h is empty long same past =
 
 -- what is put together of labels that have no fault
 pub record IsJoined (labels name : List (List ℕ)) (octets : List ℕ) : Type 0 where
-  pub whole : IsWhole 0 octets
-  pub is : labels_in 0 octets ≡ labels ++ name
-  pub lawful_is : Ok (labels_in 0 octets) ≡ lawful (labels ++ name)
+  pub whole : IsWhole octets
+  pub is : labels_in octets ≡ labels ++ name
+  pub lawful_is : Ok (labels_in octets) ≡ lawful (labels ++ name)
 
 pub IsJoined-from : (gathered : Gathered) (labels name : List (List ℕ)) (rest octets : List ℕ) → IsName name → IsGathered gathered labels [] → gathered.empty ≡ false → gathered.long ≡ false → gathered.crowded ≡ false → rest ≡ wire_of name → length gathered.octets.items + length rest ≤ 255 → octets ≡ gathered.octets.items ++ rest → IsJoined labels name octets
 IsJoined-from gathered labels name rest octets h is empty long crowded same fits put =
@@ -224,7 +224,7 @@ IsJoined-from gathered labels name rest octets h is empty long crowded same fits
     let len_rest = ap length same in
     let t = lt_false 255 (length (front_of labels) + length (wire_of name)) (omega arith) in
     let is_lawful : lawful (labels ++ name) ≡ Ok (labels ++ name) = lawful-joined labels name h ∙ rw (e, l, t) in
-    let read = ap (labels_in 0) octets_are ∙ labels_in-wire_of (labels ++ name) each in
+    let read = ap labels_in octets_are ∙ labels_in-wire_of (labels ++ name) each in
     record {
       whole = rw octets_are (IsWhole-wire_of (labels ++ name) each);
       is = read;

@@ -1,49 +1,26 @@
 -- What the laws say, proved of the definitions alone.
-use Rattle.std.proofs.Common.{◌≡◌, ℕ, suc, ◌<◌, ◌≤◌, ◌↔◌, ◌⊎◌, inl, inr, Bool, true, false, ◌||◌, IsTrue, nat_lt, nat_le, List, [], ◌∷◌, ◌++◌, length, take, drop, map, All, Some, refl, sym, ap, ◌∙◌, arith}
+use Rattle.std.proofs.Common.{◌≡◌, ℕ, ◌≤◌, ◌↔◌, ◌⊎◌, inl, inr, Bool, true, false, ◌||◌, IsTrue, nat_le, List, [], ◌∷◌, ◌++◌, length, drop, map, All, Some, refl, sym, ap, ◌∙◌, arith}
 use Rattle.std.specs.Char.{to_ascii_lowercase}
 use Rattle.std.specs.Ordering.{is_eq}
 use Rattle.std.specs.declared.cmp.Ordering.{Ordering}
 use Rattle.std.specs.declared.cmp.Ordering.TheVariants.{Less, Equal, Greater}
-use Rattle.std.proofs.lemmas.Bool.Decides.{nat_tests, Decides-ltb}
-use Rattle.std.proofs.lemmas.List.{append_assoc, drop_at, length-map}
-use Rattle.std.proofs.lemmas.List.Elements.{All-cons, All-nil, All-head, All-tail, All-weaker}
-use Rattle.dns_name.specs.Name.{wire_of, IsLabel, IsName, fold_name, is_same, is_under, self_and_ancestors, canonical_cmp, labels_read, name_in}
+use Rattle.std.proofs.lemmas.Bool.Decides.{nat_tests}
+use Rattle.std.proofs.lemmas.List.{drop_at, length-map}
+use Rattle.std.proofs.lemmas.List.Elements.{All-cons, All-nil, All-weaker}
+use Rattle.dns_name.specs.Name.{wire_of, IsName, fold_name, is_same, is_under, self_and_ancestors, canonical_cmp, name_in}
 use Rattle.dns_name.specs.Order.{is_same_Decides, is_same_tied}
-use Rattle.dns_name.proofs.LabelLemmas.{take-append-same}
-use Rattle.dns_name.proofs.ReadLemmas.{name_in_read, IsRead-from}
-use Rattle.dns_name.proofs.SameLemmas.{wire_of-fold, fold_labels}
+use Rattle.dns_name.proofs.LabelLemmas.{wire_of-fold, fold_labels}
+use Rattle.dns_name.proofs.ReadLemmas.{name_in_read, IsRead-from, labels_read-wire_of}
 
 -- what is read is a name that stands in front
 pub name_in-stands : (octets : List ℕ) (name : List (List ℕ)) → name_in octets ≡ Some name → IsName name × (octets ≡ wire_of name ++ drop (length (wire_of name)) octets)
 name_in-stands octets name e =
     let read = name_in_read octets name e in
-    let is = IsRead-from 0 octets name read.0 in
-    let rest = drop_at (wire_of name) is.stand.0 (length (wire_of name)) refl in
-    let stand = is.stand.1 in
+    let is = IsRead-from 0 octets (name, read.rest) read.is in
+    let rest = drop_at (wire_of name) read.rest (length (wire_of name)) refl in
+    let stand = is.stand in
     let behind = ap (drop (length (wire_of name))) stand in
-    (record { labels = is.labels; short = read.1 }, cc)
-
-labels_read-append : (label octets : List ℕ) → labels_read (length label) (label ++ octets) ≡ labels_read 0 octets
-labels_read-append [] octets = refl
-labels_read-append (x ∷ label) octets = labels_read-append label octets
-
-one_more : (n : ℕ) (octets label : List ℕ) (name : List (List ℕ)) → suc n < 64 → take (suc n) octets ≡ label → labels_read (suc n) octets ≡ Some name → labels_read 0 (suc n ∷ octets) ≡ Some (label ∷ name)
-one_more n octets label name h first rest =
-    let t : nat_lt (suc n) 64 ≡ true = (Decides-ltb (suc n) 64).1 h in
-    rw (t, rest, first)
-
--- a name's octets are read as its labels
-labels_read-wire_of : (name : List (List ℕ)) (rest : List ℕ) → All IsLabel name → labels_read 0 (wire_of name ++ rest) ≡ Some name
-labels_read-wire_of [] rest h = refl
-labels_read-wire_of ([] ∷ name) rest h = let head = All-head IsLabel [] name h in absurd (omega (arith, head.some))
-labels_read-wire_of ((x ∷ label) ∷ name) rest h =
-    let head = All-head IsLabel (x ∷ label) name h in
-    let tail = labels_read-wire_of name rest (All-tail IsLabel (x ∷ label) name h) in
-    let assoc = append_assoc (x ∷ label) (wire_of name) rest in
-    let first = take-append-same (x ∷ label) (wire_of name ++ rest) in
-    let behind = labels_read-append (x ∷ label) (wire_of name ++ rest) in
-    let all = one_more (length label) ((x ∷ label) ++ (wire_of name ++ rest)) (x ∷ label) name head.short first (behind ∙ tail) in
-    ap (λ (xs : List ℕ). labels_read 0 (length (x ∷ label) ∷ xs)) assoc ∙ all
+    (record { labels = is.labels; short = read.short }, cc)
 
 at_most : (n : ℕ) → n ≤ 255 → nat_le n 255 ≡ true
 at_most n h = grind (arith, nat_tests)

@@ -2,33 +2,20 @@
 use Rattle.std.proofs.Common.{◌≡◌, ℕ, ◌<◌, ◌≤◌, Bool, true, false, ◌||◌, IsTrue, ◌↔◌, List, [], ◌∷◌, length, map, All, Decides, refl, sym, ap, ◌∙◌, arith}
 use Rattle.std.specs.Char.{to_ascii_lowercase}
 use Rattle.std.proofs.lemmas.List.{length-map, length-append}
-use Rattle.std.proofs.lemmas.List.Elements.{All-map, All-weaker, All-tail}
+use Rattle.std.proofs.lemmas.List.Elements.{All-tail}
 use Rattle.std.proofs.lemmas.Bool.Decides.{same_from_decides}
 use Rattle.dns_name.specs.Labels.{labels_in, IsWhole, IsFirstLabel}
-use Rattle.dns_name.specs.Name.{wire_of, IsLabel, IsName, fold_name, is_same, is_under}
+use Rattle.dns_name.specs.Name.{wire_of, IsLabel, IsName, is_same, is_under}
 use Rattle.dns_name.specs.Order.{is_same_Decides}
-use Rattle.dns_name.proofs.LabelLemmas.{labels_in-wire_of, labels_in-fold, wire_of-labels_in, IsWhole-wire_of, IsWhole-fold, IsWhole_longer, IsLabel_each, alone_root}
-
--- the octets of a folded name are the folded octets
-pub wire_of-fold : (name : List (List ℕ)) → All IsLabel name → wire_of (fold_name name) ≡ map to_ascii_lowercase (wire_of name)
-wire_of-fold name h =
-    let whole = IsWhole-wire_of name h in
-    let folded = wire_of-labels_in _ (IsWhole-fold 0 (wire_of name) whole) in
-    let labels = labels_in-fold 0 (wire_of name) whole in
-    let own = labels_in-wire_of name h in
-    cc
-
-pub fold_labels : (name : List (List ℕ)) → All IsLabel name → All IsLabel (fold_name name)
-fold_labels name h =
-    All-map IsLabel (map to_ascii_lowercase) name
-    (All-weaker IsLabel (λ (label : List ℕ). IsLabel (map to_ascii_lowercase label)) (λ (label : List ℕ) is. let len = length-map label to_ascii_lowercase in record { some = omega (arith, is.some); short = omega (arith, is.short) }) name h)
+pub use Rattle.dns_name.proofs.LabelLemmas.{wire_of-fold, fold_labels}
+use Rattle.dns_name.proofs.LabelLemmas.{labels_in-wire_of, wire_of-labels_in, IsWhole_longer, IsLabel_each, alone_root}
 
 -- names have the same octets only where they are equal
 pub wire_of_injective : (name other : List (List ℕ)) → All IsLabel name → All IsLabel other → wire_of name ≡ wire_of other → name ≡ other
 wire_of_injective name other h k e =
     let own = labels_in-wire_of name h in
     let others = labels_in-wire_of other k in
-    let same = ap (labels_in 0) e in
+    let same = ap labels_in e in
     cc
 
 -- two names are the same where their octets are, once folded
@@ -74,26 +61,26 @@ is_under_past : (label : List ℕ) (name other : List (List ℕ)) → All IsLabe
 is_under_past label name other h k lt = let none = not_same (label ∷ name) other h k (λ e. omega arith) in rw none refl
 
 -- a step down
-pub ends_step : (rest other label behind : List ℕ) → IsWhole 0 rest → IsWhole 0 other → length other < length rest → IsFirstLabel rest label behind → is_under (labels_in 0 behind) (labels_in 0 other) ≡ is_under (labels_in 0 rest) (labels_in 0 other)
+pub ends_step : (rest other label behind : List ℕ) → IsWhole rest → IsWhole other → length other < length rest → IsFirstLabel rest label behind → is_under (labels_in behind) (labels_in other) ≡ is_under (labels_in rest) (labels_in other)
 ends_step rest other label behind h k lt first =
     let own = ap length (wire_of-labels_in rest h) in
     let others = ap length (wire_of-labels_in other k) in
     let same = ap (λ (name : List (List ℕ)). length (wire_of name)) first.labels in
-    let long : length (wire_of (labels_in 0 other)) < length (wire_of (label ∷ labels_in 0 behind)) = omega (arith, own, others, same) in
-    let each : All IsLabel (label ∷ labels_in 0 behind) = rw first.labels at (IsLabel_each 0 rest h) in
-    let past = is_under_past label (labels_in 0 behind) (labels_in 0 other) each (IsLabel_each 0 other k) long in
-    sym past ∙ ap (λ (name : List (List ℕ)). is_under name (labels_in 0 other)) (sym first.labels)
+    let long : length (wire_of (labels_in other)) < length (wire_of (label ∷ labels_in behind)) = omega (arith, own, others, same) in
+    let each : All IsLabel (label ∷ labels_in behind) = rw first.labels at (IsLabel_each rest h) in
+    let past = is_under_past label (labels_in behind) (labels_in other) each (IsLabel_each other k) long in
+    sym past ∙ ap (λ (name : List (List ℕ)). is_under name (labels_in other)) (sym first.labels)
 
 -- the test where no more octets are left than the other has
-pub ends_test : (r : Bool) (rest other : List ℕ) → IsWhole 0 rest → IsWhole 0 other → length rest ≤ length other → (IsTrue r ↔ (map to_ascii_lowercase rest ≡ map to_ascii_lowercase other)) → r ≡ is_under (labels_in 0 rest) (labels_in 0 other)
+pub ends_test : (r : Bool) (rest other : List ℕ) → IsWhole rest → IsWhole other → length rest ≤ length other → (IsTrue r ↔ (map to_ascii_lowercase rest ≡ map to_ascii_lowercase other)) → r ≡ is_under (labels_in rest) (labels_in other)
 ends_test r rest other h k le test =
     let own = wire_of-labels_in rest h in
     let others = wire_of-labels_in other k in
-    let each = IsLabel_each 0 rest h in
-    let each_other = IsLabel_each 0 other k in
-    let short : length (wire_of (labels_in 0 rest)) ≤ length (wire_of (labels_in 0 other)) = rw (own, others) le in
+    let each = IsLabel_each rest h in
+    let each_other = IsLabel_each other k in
+    let short : length (wire_of (labels_in rest)) ≤ length (wire_of (labels_in other)) = rw (own, others) le in
     let same = is_same_by_octets _ _ each each_other in
-    same_from_decides r (is_same (labels_in 0 rest) (labels_in 0 other)) test (rw (own, others) at same) ∙ sym (is_under_level _ _ each each_other short)
+    same_from_decides r (is_same (labels_in rest) (labels_in other)) test (rw (own, others) at same) ∙ sym (is_under_level _ _ each each_other short)
 
 -- and whether two names are the same
 pub same_test : (r : Bool) (name other : List (List ℕ)) (octets others : List ℕ) → IsName name → IsName other → octets ≡ wire_of name → others ≡ wire_of other → (IsTrue r ↔ (map to_ascii_lowercase octets ≡ map to_ascii_lowercase others)) → r ≡ is_same name other
@@ -101,8 +88,8 @@ same_test r name other octets others h k e f test =
     same_from_decides r (is_same name other) test (rw (← e, ← f) at (is_same_by_octets name other h.labels k.labels))
 
 -- octets that hold no label are no more than those of another name
-pub ends_root : (rest other : List ℕ) → IsWhole 0 rest → IsWhole 0 other → labels_in 0 rest ≡ [] → length other < length rest → ⊥
+pub ends_root : (rest other : List ℕ) → IsWhole rest → IsWhole other → labels_in rest ≡ [] → length other < length rest → ⊥
 ends_root rest other h k e lt =
     let alone = alone_root rest h e in
-    let some = IsWhole_longer 0 other k in
+    let some = IsWhole_longer other k in
     omega arith

@@ -1,24 +1,19 @@
 -- How a name lies in octets: a length octet from 1 to 63 before each label, and a zero octet behind the last (RFC 1035, 3.1).
-use Rattle.std.specs.Prelude.{◌≡◌, ℕ, zero, suc, ◌<◌, List, [], ◌∷◌, ◌++◌, length, take}
+use Rattle.std.specs.Prelude.{◌≡◌, ℕ, ◌<◌, List, [], ◌∷◌, ◌++◌, length, Some, None}
+use Rattle.dns_name.specs.Name.{Name, labels_read}
 
--- the labels in the octets behind the first k of them
-abbrev pub labels_in : ℕ → List ℕ → List (List ℕ)
-labels_in k [] = []
-labels_in zero (zero ∷ octets) = []
-labels_in zero (suc n ∷ octets) = take (suc n) octets ∷ labels_in (suc n) octets
-labels_in (suc k) (octet ∷ octets) = labels_in k octets
+-- the labels that octets begin with; no label where they begin with none
+abbrev pub labels_in : List ℕ → Name
+labels_in octets = elim (labels_read 0 octets) [ Some read ↦ read.0 | None ↦ [] ]
 
--- behind the first k octets stand whole labels, each of 1 to 63 octets, and then the zero octet and nothing more
-abbrev pub IsWhole : ℕ → List ℕ → Type 0
-IsWhole k [] = ⊥
-IsWhole zero (zero ∷ octets) = octets ≡ []
-IsWhole zero (suc n ∷ octets) = (suc n < 64) × IsWhole (suc n) octets
-IsWhole (suc k) (octet ∷ octets) = IsWhole k octets
+-- the octets are whole: labels are read up to a zero octet, and nothing is left behind it
+abbrev pub IsWhole : List ℕ → Type 0
+IsWhole octets = labels_read 0 octets ≡ Some (labels_in octets, [])
 
 -- whole octets begin with this label, and the rest is whole again
 pub record IsFirstLabel (octets label rest : List ℕ) : Type 0 where
-  pub labels : labels_in 0 octets ≡ label ∷ labels_in 0 rest
-  pub whole : IsWhole 0 rest
+  pub labels : labels_in octets ≡ label ∷ labels_in rest
+  pub whole : IsWhole rest
   pub some : 0 < length label
   pub short : length label < 64
   pub octets_are : octets ≡ length label ∷ label ++ rest

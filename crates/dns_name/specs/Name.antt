@@ -53,19 +53,19 @@ is_under name other = list_any (λ ancestor. is_same ancestor other) (self_and_a
 abbrev pub canonical_cmp : Name → Name → Ordering
 canonical_cmp name other = slice_cmp (slice_cmp nat_cmp) (reverse (fold_name name)) (reverse (fold_name other))
 
--- the labels that the octets behind the first k begin with, up to a zero octet; none where a length octet
--- is over 63 or the octets end before
-abbrev pub labels_read : ℕ → List ℕ → Option Name
+-- what the octets behind the first k begin with: labels up to a zero octet, and the octets behind that; none where a
+-- length octet is over 63 or the octets end before (RFC 1035, 3.1)
+abbrev pub labels_read : ℕ → List ℕ → Option (Name × List ℕ)
 labels_read k [] = None
-labels_read zero (zero ∷ octets) = Some []
+labels_read zero (zero ∷ octets) = Some ([], octets)
 labels_read zero (suc n ∷ octets) =
-    if nat_lt (suc n) 64 then option_map (λ name. take (suc n) octets ∷ name) (labels_read (suc n) octets) else None
+    if nat_lt (suc n) 64 then option_map (λ read. (take (suc n) octets ∷ read.0, read.1)) (labels_read (suc n) octets) else None
 labels_read (suc k) (octet ∷ octets) = labels_read k octets
 
 -- the name that the octets begin with, written in full; none where they begin with no name (RFC 1035, 3.1)
 abbrev pub name_in : List ℕ → Option Name
 name_in octets =
-    option_and_then (λ name. if nat_le (length (wire_of name)) 255 then Some name else None) (labels_read 0 octets)
+    option_and_then (λ read. if nat_le (length (wire_of read.0)) 255 then Some read.0 else None) (labels_read 0 octets)
 
 -- the label `*`, by its octets (RFC 4592, 2.1.1)
 abbrev pub asterisk : List ℕ

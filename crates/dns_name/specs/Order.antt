@@ -12,10 +12,10 @@ use Rattle.std.proofs.lemmas.Cmp.{on_equiv, on_total, lists_equiv, lists_total, 
 use Rattle.std.proofs.lemmas.List.{reverse-reverse}
 use Rattle.std.proofs.lemmas.Map.Text.{is_eq-slice_cmp}
 use Rattle.std.proofs.lemmas.Slice.Eq.{bytes_eq-Decides}
-use Rattle.dns_name.specs.Name.{is_same, fold_name, canonical_cmp}
+use Rattle.dns_name.specs.Name.{Name, is_same, fold_name, canonical_cmp}
 
 -- two names are the same where they are equal once folded
-pub is_same_Decides : (name other : List (List ℕ)) → Decides (is_same name other) (fold_name name ≡ fold_name other)
+pub is_same_Decides : (name other : Name) → Decides (is_same name other) (fold_name name ≡ fold_name other)
 is_same_Decides name other = pointwise_decides bytes_eq-Decides (fold_name name) (fold_name other)
 
 -- to be the same is an equivalence
@@ -24,7 +24,7 @@ is_same_equiv = on_equiv fold_name (lists_equiv nat_list_eq_equiv)
 
 -- the canonical order is total
 pub canonical_total : IsTotalOrder canonical_cmp
-canonical_total = on_total (λ (name : List (List ℕ)). reverse (fold_name name)) (lists_total nat_list_cmp_total)
+canonical_total = on_total (λ (name : Name). reverse (fold_name name)) (lists_total nat_list_cmp_total)
 
 tied_both : (a b : Ordering) (x y : List ℕ) (xs ys : List (List ℕ)) → Decides (is_eq a) (x ≡ y) → Decides (is_eq b) (xs ≡ ys) → Decides (is_eq (ordering_then a b)) (x ∷ xs ≡ y ∷ ys)
 tied_both Less b x y xs ys first rest = (λ e. cc, λ e. let same : x ≡ y = cc in first.1 same)
@@ -41,7 +41,7 @@ tied_Decides (x ∷ xs) (y ∷ ys) =
     (Decides-at _ _ (is_eq-slice_cmp x y) (bytes_eq-Decides x y)) (tied_Decides xs ys)
 
 -- names tie in it where they are the same
-pub is_same_tied : (name other : List (List ℕ)) → is_same name other ≡ eq_by_cmp canonical_cmp name other
+pub is_same_tied : (name other : Name) → is_same name other ≡ eq_by_cmp canonical_cmp name other
 is_same_tied name other =
     let tied = tied_Decides (reverse (fold_name name)) (reverse (fold_name other)) in
     let both = is_same_Decides name other in

@@ -12,11 +12,11 @@ use std::cmp::Ordering;
 
 /// The canonical order of the names in the octets.
 pub(crate) fn names_order(own: &[u8], other: &[u8]) -> Ordering
-    requires whole { IsWhole 0 own.now }
-    requires whole_other { IsWhole 0 other.now }
+    requires whole { IsWhole own.now }
+    requires whole_other { IsWhole other.now }
     requires short { length own.now ≤ MAX_NAME }
     requires short_other { length other.now ≤ MAX_NAME }
-    ensures { result ≡ canonical_cmp (labels_in 0 own.now) (labels_in 0 other.now) }
+    ensures { result ≡ canonical_cmp (labels_in own.now) (labels_in other.now) }
 {
     let count = label_count(own);
     let others = label_count(other);
@@ -27,9 +27,9 @@ pub(crate) fn names_order(own: &[u8], other: &[u8]) -> Ordering
 
 /// How many labels there are.
 fn label_count(octets: &[u8]) -> usize
-    requires whole { IsWhole 0 octets.now }
+    requires whole { IsWhole octets.now }
     requires short { length octets.now ≤ MAX_NAME }
-    ensures { result ≡ length (labels_in 0 octets.now) }
+    ensures { result ≡ length (labels_in octets.now) }
 {
     let mut rest = octets;
     let mut count = 0;
@@ -42,9 +42,9 @@ fn label_count(octets: &[u8]) -> usize
 
 /// The octets behind the first labels, as many as are said.
 fn without(octets: &[u8], count: usize) -> &[u8]
-    requires { IsWhole 0 octets.now }
-    ensures whole { IsWhole 0 result.now }
-    ensures labels { labels_in 0 result.now ≡ drop count (labels_in 0 octets.now) }
+    requires { IsWhole octets.now }
+    ensures whole { IsWhole result.now }
+    ensures labels { labels_in result.now ≡ drop count (labels_in octets.now) }
 {
     let mut rest = octets;
     for _i in 0..count {
@@ -58,10 +58,10 @@ fn without(octets: &[u8], count: usize) -> &[u8]
 
 /// The order of names of one number of labels, or else `surplus`: the last pair of labels that differ decides.
 fn level_order(own: &[u8], other: &[u8], surplus: Ordering) -> Ordering
-    requires whole { IsWhole 0 own.now }
-    requires whole_other { IsWhole 0 other.now }
-    requires level { length (labels_in 0 own.now) ≡ length (labels_in 0 other.now) }
-    ensures { result ≡ ordering_then (canonical_cmp (labels_in 0 own.now) (labels_in 0 other.now)) surplus }
+    requires whole { IsWhole own.now }
+    requires whole_other { IsWhole other.now }
+    requires level { length (labels_in own.now) ≡ length (labels_in other.now) }
+    ensures { result ≡ ordering_then (canonical_cmp (labels_in own.now) (labels_in other.now)) surplus }
 {
     let mut rest = own;
     let mut rest_other = other;

@@ -18,16 +18,16 @@ impl<'a> Model for Labels<'a> {
 
     ghost Value = { List (List ℕ) };
 
-    ghost view = { λ a. labels_in 0 a.octets.now };
+    ghost view = { λ a. labels_in a.octets.now };
 
-    ghost invariant = { λ a. IsWhole 0 a.octets.now };
+    ghost invariant = { λ a. IsWhole a.octets.now };
 }
 
 impl<'a> Labels<'a> {
     /// The labels in a name's octets.
     pub(crate) fn new(octets: &'a [u8]) -> Labels<'a>
-        requires { IsWhole 0 octets.now }
-        ensures { result ≡ labels_in 0 octets.now }
+        requires { IsWhole octets.now }
+        ensures { result ≡ labels_in octets.now }
     {
         Labels { octets }
     }

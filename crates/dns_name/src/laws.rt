@@ -3,37 +3,49 @@ ghost use Rattle.std.specs.Prelude.{◌≡◌, ℕ, ◌<◌, ◌≤◌, ◌↔�
 ghost use Rattle.std.specs.Cmp.{IsTotalOrder, IsEquivalence};
 ghost use Rattle.std.specs.declared.cmp.Ordering.TheVariants.{Less, Equal, Greater};
 ghost use Rattle.dns_name.specs.Text.{name_of_text, text_of};
-ghost use Rattle.dns_name.specs.Name.{wire_of, name_in, IsName, fold_name, is_same, is_under, self_and_ancestors, canonical_cmp, parent_of};
+ghost use Rattle.dns_name.specs.Name.{Name, wire_of, name_in, IsName, fold_name, is_same, is_under, self_and_ancestors, canonical_cmp, parent_of};
+
+use crate::name::{MAX_BELOW_ASTERISK, MAX_LABEL, MAX_NAME};
+use crate::print::MAX_TEXT;
 
 /// What octets are read as is a name, and its octets stand in front of them; a name's octets are read as that name,
 /// whatever stands behind them (RFC 1035, 3.1).
 pub fn one_reading()
-    ensures stands { (octets : List ℕ) (name : List (List ℕ)) → name_in octets ≡ Some name → IsName name × (octets ≡ wire_of name ++ drop (length (wire_of name)) octets) }
-    ensures back { (name : List (List ℕ)) (rest : List ℕ) → IsName name → name_in (wire_of name ++ rest) ≡ Some name }
+    ensures stands { (octets : List ℕ) (name : Name) → name_in octets ≡ Some name → IsName name × (octets ≡ wire_of name ++ drop (length (wire_of name)) octets) }
+    ensures back { (name : Name) (rest : List ℕ) → IsName name → name_in (wire_of name ++ rest) ≡ Some name }
 {}
 
 /// Names are the same where they are equal once folded, and to be the same is an equivalence (RFC 4343, 3).
 pub fn same_but_for_case()
-    ensures folded { (name other : List (List ℕ)) → IsTrue (is_same name other) ↔ (fold_name name ≡ fold_name other) }
+    ensures folded { (name other : Name) → IsTrue (is_same name other) ↔ (fold_name name ≡ fold_name other) }
     ensures equivalence { IsEquivalence is_same }
-    ensures octets { (name : List (List ℕ)) → IsName name → IsName (fold_name name) × (length (wire_of (fold_name name)) ≡ length (wire_of name)) }
+    ensures octets { (name : Name) → IsName name → IsName (fold_name name) × (length (wire_of (fold_name name)) ≡ length (wire_of name)) }
 {}
 
 /// The canonical order is total, and ties where names are the same (RFC 4034, 6.1).
 pub fn canonical_order()
     ensures total { IsTotalOrder canonical_cmp }
-    ensures ties { (name other : List (List ℕ)) → (canonical_cmp name other ≡ Equal) ↔ IsTrue (is_same name other) }
+    ensures ties { (name other : Name) → (canonical_cmp name other ≡ Equal) ↔ IsTrue (is_same name other) }
 {}
 
 /// A name is under each of its ancestors, and under those alone that its labels end in (RFC 1034, 3.1).
 pub fn under_ancestors()
-    ensures each { (name : List (List ℕ)) → All (λ ancestor. IsTrue (is_under name ancestor)) (self_and_ancestors name) }
-    ensures ending { (name other : List (List ℕ)) → IsTrue (is_under name other) ↔ ((front : List (List ℕ)) × (fold_name name ≡ front ++ fold_name other)) }
+    ensures each { (name : Name) → All (λ ancestor. IsTrue (is_under name ancestor)) (self_and_ancestors name) }
+    ensures ending { (name other : Name) → IsTrue (is_under name other) ↔ ((front : Name) × (fold_name name ≡ front ++ fold_name other)) }
 {}
 
 /// A name's text is read as that name, whatever the origin is (RFC 1035, 5.1).
 pub fn text_is_read_back()
-    ensures { (name origin : List (List ℕ)) → IsName name → All (All (λ octet. octet < 256)) name → name_of_text (text_of name) origin ≡ Ok name }
+    ensures { (name origin : Name) → IsName name → All (All (λ octet. octet < 256)) name → name_of_text (text_of name) origin ≡ Ok name }
+{}
+
+/// The limits of names by their numbers: 255 octets and 63 of a label (RFC 1035, 2.3.4), 253 below the label `*` with
+/// its length octet, and four characters for each octet but the closing one.
+pub fn limits()
+    ensures name { MAX_NAME ≡ 255 }
+    ensures label { MAX_LABEL ≡ 63 }
+    ensures below_asterisk { MAX_BELOW_ASTERISK ≡ 253 }
+    ensures text { MAX_TEXT ≡ 1016 }
 {}
 
 /// Worked examples of the definitions: the names in the canonical order of RFC 4034, 6.1; case (RFC 4343, 3); and `@`

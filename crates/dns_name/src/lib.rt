@@ -16,7 +16,8 @@ mod text;
 
 pub use labels::Labels;
 pub use laws::{
-    canonical_order, examples, one_reading, same_but_for_case, text_is_read_back, under_ancestors,
+    canonical_order, examples, limits, one_reading, same_but_for_case, text_is_read_back,
+    under_ancestors,
 };
 pub use name::{MAX_BELOW_ASTERISK, MAX_LABEL, MAX_NAME, Name};
 pub use print::MAX_TEXT;

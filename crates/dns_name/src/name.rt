@@ -32,9 +32,9 @@ impl Model for Name {
 
     ghost Value = { List (List ℕ) };
 
-    ghost view = { λ a. labels_in 0 a.octets.items };
+    ghost view = { λ a. labels_in a.octets.items };
 
-    ghost invariant = { λ a. IsWhole 0 a.octets.items × (length a.octets.items ≤ MAX_NAME) };
+    ghost invariant = { λ a. IsWhole a.octets.items × (length a.octets.items ≤ MAX_NAME) };
 }
 
 impl Name {
@@ -49,18 +49,18 @@ impl Name {
 
     /// The octets, of which the name's labels are.
     pub(crate) fn octets(&self) -> &[u8]
-        ensures whole { IsWhole 0 result.now }
+        ensures whole { IsWhole result.now }
         ensures short { length result.now ≤ MAX_NAME }
-        ensures labels { labels_in 0 result.now ≡ self.now }
+        ensures labels { labels_in result.now ≡ self.now }
     {
         self.octets.as_slice()
     }
 
     /// The name whose octets these are.
     pub(crate) fn from_octets(octets: ArrayVec<u8, MAX_NAME>) -> Name
-        requires whole { IsWhole 0 octets.items }
+        requires whole { IsWhole octets.items }
         requires short { length octets.items ≤ MAX_NAME }
-        ensures { result ≡ labels_in 0 octets.items }
+        ensures { result ≡ labels_in octets.items }
     {
         Name { octets }
     }

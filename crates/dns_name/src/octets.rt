@@ -9,8 +9,8 @@ use arrayvec::ArrayVec;
 
 /// The first label, and the octets behind it; None at the zero octet.
 pub(crate) fn first_label(octets: &[u8]) -> Option<(&[u8], &[u8])>
-    requires { IsWhole 0 octets.now }
-    ensures { MatchOption result (labels_in 0 octets.now ≡ []) (λ parts. IsFirstLabel octets.now parts.0.now parts.1.now) }
+    requires { IsWhole octets.now }
+    ensures { MatchOption result (labels_in octets.now ≡ []) (λ parts. IsFirstLabel octets.now parts.0.now parts.1.now) }
 {
     let (first, rest) = octets.split_first()?;
     let len = usize::from(*first);
@@ -40,9 +40,9 @@ pub(crate) fn name_len(octets: &[u8]) -> Option<usize>
 
 /// Whether the labels in these octets end in the other's, without regard to case.
 pub(crate) fn ends_in(octets: &[u8], other: &[u8]) -> bool
-    requires own { IsWhole 0 octets.now }
-    requires others { IsWhole 0 other.now }
-    ensures { result ≡ is_under (labels_in 0 octets.now) (labels_in 0 other.now) }
+    requires own { IsWhole octets.now }
+    requires others { IsWhole other.now }
+    ensures { result ≡ is_under (labels_in octets.now) (labels_in other.now) }
 {
     let mut rest = octets;
     while rest.len() > other.len() {

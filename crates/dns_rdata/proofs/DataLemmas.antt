@@ -1,6 +1,6 @@
 -- What octets of a form are: as long as what they are read from, and read again as themselves.
-use Rattle.std.proofs.Common.{◌≡◌, ℕ, zero, suc, ◌-◌, ◌<◌, ◌≤◌, Bool, true, false, cond, ◌&&◌, ◌==◌, nat_lt, nat_le, List, ◌∷◌, ◌++◌, length, take, drop, All, Option, Some, None, refl, sym, ap, subst, ◌∙◌, arith}
-use Rattle.std.proofs.lemmas.Bool.Decides.{nat_tests, Decides-eqb}
+use Rattle.std.proofs.Common.{◌≡◌, ℕ, zero, suc, ◌<◌, ◌≤◌, true, cond, ◌&&◌, ◌==◌, nat_lt, nat_le, List, ◌++◌, length, take, drop, All, Option, Some, None, refl, sym, ap, subst, ◌∙◌, arith}
+use Rattle.std.proofs.lemmas.Bool.Decides.{nat_tests}
 use Rattle.std.proofs.lemmas.List.{length-append, length-drop, length-take-le}
 use Rattle.std.proofs.Math.Seq.{take-append_seam, drop-append_seam}
 use Rattle.dns_name.specs.Name.{wire_of, fold_name, name_in}
@@ -14,14 +14,6 @@ use Rattle.dns_name.proofs.LabelLemmas.{octets_front, AreOctets-label}
 use Rattle.dns_name.proofs.SameLemmas.{wire_of-fold}
 use Rattle.dns_name.proofs.LawLemmas.{name_in-stands, name_in-wire_of, fold-IsName}
 use Rattle.dns_rdata.proofs.NameLemmas.{map_some, and_then_some, cond_some, fold_name-fold_name}
-
--- a length octet begins a string, and each octet behind it takes one from what is left of it
-pub are_strings_start : (k octet : ℕ) (octets : List ℕ) → k ≡ 0 → are_strings k (octet ∷ octets) ≡ are_strings octet octets
-are_strings_start k octet octets e = rw e refl
-
-pub are_strings_inside : (k octet : ℕ) (octets : List ℕ) → 0 < k → are_strings k (octet ∷ octets) ≡ are_strings (k - 1) octets
-are_strings_inside zero octet octets h = absurd (omega arith)
-are_strings_inside (suc k) octet octets h = let e : suc k - 1 ≡ k = omega arith in rw e refl
 
 -- octets that a reading gives: as many as were read, which the reading gives again
 pub record IsRead (reading : List ℕ → Option (List ℕ)) (octets own : List ℕ) : Type 0 where
@@ -72,11 +64,11 @@ IsRead-parts front names back octets own e =
     record { again = cc; len = cc }
 
 abbrev strings : List ℕ → Option (List ℕ)
-strings octets = cond (nat_lt 0 (length octets) && are_strings 0 octets) (Some octets) None
+strings octets = cond (nat_lt 0 (length octets) && are_strings octets) (Some octets) None
 
 IsRead-strings : (octets own : List ℕ) → strings octets ≡ Some own → IsRead strings octets own
 IsRead-strings octets own e =
-    let test = cond_some (nat_lt 0 (length octets) && are_strings 0 octets) (Some octets) own e in
+    let test = cond_some (nat_lt 0 (length octets) && are_strings octets) (Some octets) own e in
     let same : octets ≡ own = cc in
     record { again = subst (λ (os : List ℕ). strings os ≡ Some os) same (e ∙ ap Some (sym same)); len = cc }
 
@@ -117,7 +109,7 @@ octets_by (Fields front names back compressed) octets own e h =
     let behind = octets_names names back (drop front octets) rest.0 rest.1 (All-drop (λ octet. octet < 256) front octets h) in
     subst (All (λ octet. octet < 256)) rest.2 (octets_append (take front octets) rest.0 (All-take (λ octet. octet < 256) front octets h) behind)
 octets_by Strings octets own e h =
-    let test = cond_some (nat_lt 0 (length octets) && are_strings 0 octets) (Some octets) own e in
+    let test = cond_some (nat_lt 0 (length octets) && are_strings octets) (Some octets) own e in
     let same : octets ≡ own = cc in
     rw same at h
 
@@ -128,27 +120,3 @@ octets_at (Some layout) octets own e h = octets_by layout octets own e h
 pub data_octets : (rtype : ℕ) (octets own : List ℕ) → data_of rtype octets ≡ Some own → All (λ octet. octet < 256) octets → All (λ octet. octet < 256) own
 unfolding data_of
 data_octets rtype octets own e h = octets_at (layout_of rtype) octets own e h
-
--- behind the names stand as many octets as are to
-names_then_long : (names back : ℕ) (octets own : List ℕ) → names_then names back octets ≡ Some own → back ≤ length own
-names_then_long zero back octets own e =
-    let test = cond_some (length octets == back) (Some octets) own e in
-    let same : octets ≡ own = cc in
-    let size = (Decides-eqb (length octets) back).0 test.0 in
-    omega (arith, ap length same)
-names_then_long (suc names) back octets own e =
-    let name = and_then_some _ (name_in octets) own e in
-    let rest = map_some _ (names_then names back (drop (length (wire_of name.0)) octets)) own name.2 in
-    let long = names_then_long names back (drop (length (wire_of name.0)) octets) rest.0 rest.1 in
-    let sum = length-append (wire_of (fold_name name.0)) rest.0 in
-    omega (arith, ap length rest.2)
-
--- an SOA's data ends in 20 octets of numbers
-pub soa_long : (rtype : ℕ) (octets own : List ℕ) → rtype ≡ 6 → data_of rtype octets ≡ Some own → 20 ≤ length own
-unfolding data_of layout_of
-soa_long rtype octets own soa e =
-    let formed : parts 0 2 20 octets ≡ Some own = rw soa at e in
-    let test = cond_some (nat_le 0 (length octets)) _ own formed in
-    let rest = map_some _ (names_then 2 20 (drop 0 octets)) own test.1 in
-    let long = names_then_long 2 20 (drop 0 octets) rest.0 rest.1 in
-    omega (arith, ap length rest.2)

@@ -2,6 +2,9 @@ pub mod SetLemmas
 pub mod InsertLemmas
 pub mod NameLemmas
 pub mod DataLemmas
-pub mod FoldLemmas
+pub mod FormLemmas
+pub mod SoaLemmas
 pub mod LawLemmas
 pub mod LayoutLemmas
+pub mod StringLemmas
+pub mod CountLemmas

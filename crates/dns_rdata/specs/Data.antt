@@ -1,9 +1,9 @@
 -- What a record's data is: which octets have the form of their type, with names written in full (RFC 1035, 3.3 and
 -- 3.4.1; RFC 2782; RFC 3596, 2.2), and what stands in them.
-use Rattle.std.specs.Prelude.{◌≡◌, ℕ, zero, suc, ◌-◌, ◌<◌, ◌≤◌, Bool, ◌&&◌, ◌==◌, List, [], ◌∷◌, ◌++◌, length, take, drop, nat_lt, nat_le, if◌then◌else◌, Option, Some, None, All}
+use Rattle.std.specs.Prelude.{◌≡◌, ℕ, zero, suc, ◌*◌, ◌<◌, ◌≤◌, Bool, true, false, ◌&&◌, ◌==◌, List, [], ◌∷◌, ◌++◌, length, take, drop, nat_lt, nat_le, if◌then◌else◌, Option, Some, None, All}
 use Rattle.std.specs.Option.{option_map, option_and_then}
 use Rattle.std.specs.Int.{from_be_bytes, w32}
-use Rattle.dns_name.specs.Name.{wire_of, fold_name, name_in}
+use Rattle.dns_name.specs.Name.{Name, wire_of, fold_name, name_in}
 use Rattle.dns_rdata.specs.declared.layout.Layout.{Layout}
 use Rattle.dns_rdata.specs.declared.layout.Layout.TheVariants.{Fields, Strings}
 use Rattle.dns_rdata.specs.Layout.{layout_of}
@@ -19,17 +19,25 @@ abbrev pub parts : ℕ → ℕ → ℕ → List ℕ → Option (List ℕ)
 parts front names back octets =
     if nat_le front (length octets) then option_map (λ rest. take front octets ++ rest) (names_then names back (drop front octets)) else None
 
--- whether strings, each a length octet and so many octets, fill the octets behind the first k (RFC 1035, 3.3)
-abbrev pub are_strings : ℕ → List ℕ → Bool
-are_strings k [] = k == 0
-are_strings zero (n ∷ octets) = are_strings n octets
-are_strings (suc k) (octet ∷ octets) = are_strings k octets
+-- whether octets are strings: nothing, or a length octet, so many octets, and strings behind. Each string takes an octet or
+-- more, so there are no more of them than octets: that many steps are enough (RFC 1035, 3.3)
+abbrev pub are_strings_by : ℕ → List ℕ → Bool
+are_strings_by steps [] = true
+are_strings_by zero (n ∷ octets) = false
+are_strings_by (suc steps) (n ∷ octets) = nat_le n (length octets) && are_strings_by steps (drop n octets)
+
+abbrev pub are_strings : List ℕ → Bool
+are_strings octets = are_strings_by (length octets) octets
+
+-- a string on the wire: a length octet, and so many octets (RFC 1035, 3.3)
+abbrev pub counted : List ℕ → List ℕ
+counted string = length string ∷ string
 
 -- the octets that lie by a layout: themselves, with the names in them in lower case; none where they don't lie so
 -- (RFC 1035, 3.3; RFC 4034, 6.2)
 abbrev pub data_by : Layout → List ℕ → Option (List ℕ)
 data_by (Fields front names back compressed) octets = parts front names back octets
-data_by Strings octets = if nat_lt 0 (length octets) && are_strings 0 octets then Some octets else None
+data_by Strings octets = if nat_lt 0 (length octets) && are_strings octets then Some octets else None
 
 -- the data octets of a type that these octets spell; none where they haven't the type's form, or the type isn't one of
 -- those served (RFC 1035, 3.3 and 3.4.1; RFC 2782; RFC 3596, 2.2)
@@ -48,25 +56,30 @@ pub record IsData (d : Data) : Type 0 where
   pub bytes : All (λ octet. octet < 256) d.octets
 
 -- the name that an alias stands for (RFC 1035, 3.3.1)
-abbrev pub target_of : List ℕ → Option (List (List ℕ))
+abbrev pub target_of : List ℕ → Option Name
 target_of octets = name_in octets
 
--- the number of four octets that begins so many octets before the end
-abbrev pub number_before_end : ℕ → List ℕ → ℕ
-number_before_end k octets = from_be_bytes w32 (take 4 (drop (length octets - k) octets))
+-- the octets behind so many names; nothing where they don't stand there
+abbrev pub behind_names : ℕ → List ℕ → List ℕ
+behind_names zero octets = octets
+behind_names (suc names) octets =
+    elim (name_in octets) [ None ↦ [] | Some name ↦ behind_names names (drop (length (wire_of name)) octets) ]
 
--- the numbers at the end of an SOA's data, in their order (RFC 1035, 3.3.13)
+-- of the five numbers of four octets behind an SOA's two names, the one that so many stand in front of (RFC 1035, 3.3.13)
+abbrev pub soa_number : ℕ → List ℕ → ℕ
+soa_number before octets = from_be_bytes w32 (take 4 (drop (4 * before) (behind_names 2 octets)))
+
 abbrev pub serial_of : List ℕ → ℕ
-serial_of octets = number_before_end 20 octets
+serial_of octets = soa_number 0 octets
 
 abbrev pub refresh_of : List ℕ → ℕ
-refresh_of octets = number_before_end 16 octets
+refresh_of octets = soa_number 1 octets
 
 abbrev pub retry_of : List ℕ → ℕ
-retry_of octets = number_before_end 12 octets
+retry_of octets = soa_number 2 octets
 
 abbrev pub expire_of : List ℕ → ℕ
-expire_of octets = number_before_end 8 octets
+expire_of octets = soa_number 3 octets
 
 abbrev pub minimum_of : List ℕ → ℕ
-minimum_of octets = number_before_end 4 octets
+minimum_of octets = soa_number 4 octets

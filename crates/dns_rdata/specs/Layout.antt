@@ -1,7 +1,7 @@
 -- How the data of each type lies: one table, from which the form of data, the names in it and whether they are
 -- compressed follow (RFC 1035, 3.3 and 3.4.1; RFC 2782; RFC 3596, 2.2; RFC 3597, 4).
 use Rattle.std.specs.Prelude.{ℕ, zero, suc, true, false, ◌==◌, List, [], ◌∷◌, length, drop, if◌then◌else◌, Option, Some, None}
-use Rattle.dns_name.specs.Name.{wire_of, name_in}
+use Rattle.dns_name.specs.Name.{Name, wire_of, name_in}
 use Rattle.dns_rdata.specs.declared.layout.Layout.{Layout}
 use Rattle.dns_rdata.specs.declared.layout.Layout.TheVariants.{Fields, Strings}
 use Rattle.dns_rdata.specs.Numbers.{type_A, type_NS, type_CNAME, type_SOA, type_PTR, type_MX, type_TXT, type_AAAA, type_SRV}
@@ -22,16 +22,16 @@ layout_of rtype =
     else None
 
 -- so many names, one behind the other, each written in full; those in front of the first that isn't one
-abbrev pub names_in : ℕ → List ℕ → List (List (List ℕ))
+abbrev pub names_in : ℕ → List ℕ → List Name
 names_in zero octets = []
 names_in (suc names) octets =
     elim (name_in octets) [ None ↦ [] | Some name ↦ name ∷ names_in names (drop (length (wire_of name)) octets) ]
 
 -- the names in data that lies so
-abbrev pub names_by : Layout → List ℕ → List (List (List ℕ))
+abbrev pub names_by : Layout → List ℕ → List Name
 names_by (Fields front names back compressed) octets = names_in names (drop front octets)
 names_by Strings octets = []
 
 -- the names in a type's data, in their order (RFC 1035, 3.3; RFC 2782)
-abbrev pub names_in_data : ℕ → List ℕ → List (List (List ℕ))
+abbrev pub names_in_data : ℕ → List ℕ → List Name
 names_in_data rtype octets = elim (layout_of rtype) [ None ↦ [] | Some layout ↦ names_by layout octets ]

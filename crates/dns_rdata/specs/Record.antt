@@ -4,12 +4,12 @@ use Rattle.std.specs.List.{AllPairs, list_any}
 use Rattle.std.specs.Ordering.{nat_cmp, ordering_then, is_lt, is_eq}
 use Rattle.std.specs.declared.cmp.Ordering.{Ordering}
 use Rattle.std.specs.Cmp.Lexicographic.{slice_cmp}
-use Rattle.dns_name.specs.Name.{IsName, canonical_cmp, fold_name}
+use Rattle.dns_name.specs.Name.{Name, IsName, canonical_cmp, fold_name}
 use Rattle.dns_rdata.specs.Data.{Data, IsData, data_of}
 
 -- a record of class IN: its owner, its type's number, its TTL in seconds, and its data octets, names in full
 pub record Record : Type 0 where
-  pub owner : List (List ℕ)
+  pub owner : Name
   pub rtype : ℕ
   pub ttl : ℕ
   pub rdata : List ℕ
@@ -29,11 +29,11 @@ abbrev pub record_cmp : Record → Record → Ordering
 record_cmp r s = ordering_then (canonical_cmp r.owner s.owner) (ordering_then (nat_cmp r.rtype s.rtype) (slice_cmp nat_cmp r.rdata s.rdata))
 
 -- the records of one owner, type and TTL that have these data
-abbrev pub records_with : List (List ℕ) → ℕ → ℕ → List Data → List Record
+abbrev pub records_with : Name → ℕ → ℕ → List Data → List Record
 records_with owner rtype ttl ds = map (λ d. record { owner = owner; rtype = rtype; ttl = ttl; rdata = d.octets }) ds
 
 -- the owner, the type's number and the TTL of a set, which its records share: those of its first record
-abbrev pub owner_of : List Record → List (List ℕ)
+abbrev pub owner_of : List Record → Name
 owner_of [] = []
 owner_of (r ∷ rs) = r.owner
 
@@ -46,7 +46,7 @@ ttl_of [] = 0
 ttl_of (r ∷ rs) = r.ttl
 
 -- a record as an answer shows it: under the owner searched, and with the TTL given where there is one
-abbrev pub shown_as : List (List ℕ) → Option ℕ → Record → Record
+abbrev pub shown_as : Name → Option ℕ → Record → Record
 shown_as owner ttl r = record r { owner = owner; ttl = unwrap_or ttl r.ttl }
 
 -- whether data octets come before others: as unsigned octets from the left, the shorter first where one begins the
@@ -56,7 +56,7 @@ IsBefore c d = is_lt (slice_cmp nat_cmp c.octets d.octets) ≡ true
 
 -- what a set of one owner, type and TTL keeps: an owner that is a name in lower case, a TTL below 2^31, data of the type
 -- in strictly ascending order, at least one and at most 256 (RFC 2181, 5 and 8; RFC 4034, 6.3)
-pub record IsSet (owner : List (List ℕ)) (rtype ttl : ℕ) (ds : List Data) : Type 0 where
+pub record IsSet (owner : Name) (rtype ttl : ℕ) (ds : List Data) : Type 0 where
   pub name : IsName owner
   pub owner_octets : All (All (λ octet. octet < 256)) owner
   pub folded : owner ≡ fold_name owner

@@ -1,14 +1,15 @@
 //! A record's data (RFC 1035, 3.3 and 3.4.1; RFC 2782; RFC 3596, 2.2).
-ghost use Rattle.std.specs.Prelude.{◌≡◌, ◌<◌, ◌≤◌, ◌⊎◌, ◌↔◌, ◌==◌, ◌&&◌, nat_lt, if◌then◌else◌, length, IfOk, IfSome, Some, None, IsSome};
+ghost use Rattle.std.specs.Prelude.{◌≡◌, ◌-◌, ◌<◌, ◌≤◌, ◌↔◌, ◌==◌, if◌then◌else◌, length, take, drop, IfOk, IfSome, Some, None, IsSome};
+ghost use Rattle.std.specs.Int.{from_be_bytes, w32};
 ghost use Rattle.std.specs.Result.{IsErrOf};
-ghost use Rattle.std.specs.Option.{option_map};
-ghost use Rattle.dns_rdata.specs.Data.{IsData, data_of, are_strings, parts, target_of, number_before_end, serial_of, refresh_of, retry_of, expire_of, minimum_of};
+ghost use Rattle.dns_rdata.specs.Data.{IsData, data_of, target_of, serial_of, refresh_of, retry_of, expire_of, minimum_of};
 ghost use Rattle.dns_rdata.specs.Numbers.{type_CNAME, type_SOA};
 
-use crate::layout::{Layout, SOA_NUMBERS};
+use crate::form::{has_form, lowered};
+use crate::layout::SOA_NUMBERS;
 use crate::numbers::{RType, Serial, Ttl};
 use dns_name::Name;
-use std::alloc::{AllocError, Global};
+use std::alloc::Global;
 use std::marker::Model;
 use thiserror::Error;
 
@@ -46,7 +47,7 @@ impl Model for RData {
     ghost invariant = { λ a. IsData (record { rtype = a.rtype.0; octets = a.octets.items }) };
 }
 
-/// The numbers at the end of an SOA's data (RFC 1035, 3.3.13).
+/// The numbers behind the names of an SOA's data (RFC 1035, 3.3.13).
 #[derive(Clone, Copy, Debug, PartialEq, Eq)]
 pub struct Soa {
     /// The zone's serial.
@@ -65,28 +66,29 @@ impl RData {
     /// The data that these octets spell for a type, names in full: the same octets with the names in lower case.
     ///
     /// `BadLength` where they haven't the type's form, else `TooLong` over [`MAX_DATA`] octets (RFC 1035, 3.3 and
-    /// 3.4.1; RFC 2782; RFC 3596, 2.2). `NoMemory` only where a growth was refused.
+    /// 3.4.1; RFC 2782; RFC 3596, 2.2). `NoMemory` only where a growth was refused, of octets that are data.
     pub fn from_wire(alloc: Global, rtype: RType, octets: &[u8]) -> Result<RData, DataFault>
         ensures data { IfOk result (λ d. (d.rtype ≡ rtype.0)
             × (data_of rtype.0 octets.now ≡ Some d.octets)
-            × (length d.octets ≤ MAX_DATA)) }
+            × (length d.octets ≤ 4096)) }
 
-        // The form decides first.
+        // The form decides first, and neither judgement takes memory.
         ensures bad_length { IsErrOf result DataFault.BadLength → data_of rtype.0 octets.now ≡ None }
-        ensures no_form { data_of rtype.0 octets.now ≡ None
-            → IsErrOf result DataFault.BadLength ⊎ IsErrOf result DataFault.NoMemory }
+        ensures no_form { data_of rtype.0 octets.now ≡ None → IsErrOf result DataFault.BadLength }
 
         // Folding keeps the length.
         ensures too_long { IsErrOf result DataFault.TooLong
-            → IsSome (data_of rtype.0 octets.now) × (MAX_DATA < length octets.now) }
-        ensures long_form { IsSome (data_of rtype.0 octets.now) → MAX_DATA < length octets.now
-            → IsErrOf result DataFault.TooLong ⊎ IsErrOf result DataFault.NoMemory }
+            → IsSome (data_of rtype.0 octets.now) × (4096 < length octets.now) }
+        ensures long_form { IsSome (data_of rtype.0 octets.now) → 4096 < length octets.now
+            → IsErrOf result DataFault.TooLong }
     {
-        let own = own_data(alloc, rtype, octets).map_err(|_| DataFault::NoMemory)?;
-        let own = own.ok_or(DataFault::BadLength)?;
-        if own.len() > MAX_DATA {
+        if !has_form(rtype, octets) {
+            return Err(DataFault::BadLength);
+        }
+        if octets.len() > MAX_DATA {
             return Err(DataFault::TooLong);
         }
+        let own = lowered(alloc, rtype, octets).map_err(|_| DataFault::NoMemory)?;
         Ok(RData { rtype, octets: own })
     }
 
@@ -119,7 +121,7 @@ impl RData {
         Some(name)
     }
 
-    /// The numbers at the end of an SOA's data; None of any other type (RFC 1035, 3.3.13).
+    /// The numbers behind the names of an SOA's data; None of any other type (RFC 1035, 3.3.13).
     pub fn soa(&self) -> Option<Soa>
         ensures found { IsSome result ↔ (self.now.rtype ≡ type_SOA) }
         ensures serial { IfSome result (λ soa. soa.serial.0 ≡ serial_of self.now.octets) }
@@ -131,13 +133,13 @@ impl RData {
         if self.rtype != RType::SOA {
             return None;
         }
-        Some(soa_numbers(self.octets.as_slice()))
+        Some(soa_numbers(self.octets()))
     }
 }
 
-/// The numbers that an SOA's data ends in.
+/// The numbers behind the two names of an SOA's data: they end it.
 fn soa_numbers(octets: &[u8]) -> Soa
-    requires { SOA_NUMBERS ≤ length octets.now }
+    requires { data_of type_SOA octets.now ≡ Some octets.now }
     ensures serial { result.serial.0 ≡ serial_of octets.now }
     ensures refresh { result.refresh ≡ refresh_of octets.now }
     ensures retry { result.retry ≡ retry_of octets.now }
@@ -157,83 +159,8 @@ fn soa_numbers(octets: &[u8]) -> Soa
 fn number_before_end(octets: &[u8], before: usize) -> u32
     requires whole { 4 ≤ before }
     requires within { before ≤ length octets.now }
-    ensures { result ≡ number_before_end before octets.now }
+    ensures { result ≡ from_be_bytes w32 (take 4 (drop (length octets.now - before) octets.now)) }
 {
     let at = octets.len() - before;
     u32::from_be_bytes([octets[at], octets[at + 1], octets[at + 2], octets[at + 3]])
-}
-
-/// The data octets of a type that these octets spell; None where they haven't the type's form.
-#[tactic(auto, unfolding(crate::specs::Data::data_of))]
-fn own_data(alloc: Global, rtype: RType, octets: &[u8]) -> Result<Option<Vec<u8>>, AllocError>
-    ensures { IfOk result (λ own. option_map (λ v. v.items) own ≡ data_of rtype.0 octets.now) }
-{
-    match rtype.layout() {
-        None => Ok(None),
-        Some(
-            Layout::Fields {
-                front,
-                names,
-                back,
-                ..
-            },
-        ) => fold_parts(alloc, octets, front, names, back),
-        Some(Layout::Strings) => copy_strings(alloc, octets),
-    }
-}
-
-/// So many octets in front, so many names, so many octets behind: the same with the names in lower case.
-fn fold_parts(
-    alloc: Global,
-    octets: &[u8],
-    front: usize,
-    names: usize,
-    back: usize,
-) -> Result<Option<Vec<u8>>, AllocError>
-    ensures { IfOk result (λ own. option_map (λ v. v.items) own ≡ parts front names back octets.now) }
-{
-    if octets.len() < front {
-        return Ok(None);
-    }
-    let (head, mut rest) = octets.split_at(front);
-    let mut own = Vec::with_capacity(alloc, octets.len())?;
-    own.extend_from_slice(head)?;
-    for _ in 0..names {
-        let Some((name, len)) = Name::from_wire(rest) else {
-            return Ok(None);
-        };
-        own.extend_from_slice(name.fold().wire())?;
-        rest = &rest[len..];
-    }
-    if rest.len() != back {
-        return Ok(None);
-    }
-    own.extend_from_slice(rest)?;
-    Ok(Some(own))
-}
-
-/// One string or more.
-fn copy_strings(alloc: Global, octets: &[u8]) -> Result<Option<Vec<u8>>, AllocError>
-    ensures { IfOk result (λ own. option_map (λ v. v.items) own
-        ≡ (if nat_lt 0 (length octets.now) && are_strings 0 octets.now then Some octets.now else None)) }
-{
-    if octets.is_empty() || !holds_strings(octets) {
-        return Ok(None);
-    }
-    Ok(Some(octets.to_vec(alloc)?))
-}
-
-/// Whether strings, each a length octet and so many octets, fill the octets (RFC 1035, 3.3).
-fn holds_strings(octets: &[u8]) -> bool
-    ensures { result ≡ are_strings 0 octets.now }
-{
-    let mut left = 0;
-    for octet in octets {
-        left = if left == 0 {
-            usize::from(*octet)
-        } else {
-            left - 1
-        };
-    }
-    left == 0
 }

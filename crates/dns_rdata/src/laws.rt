@@ -1,10 +1,12 @@
 //! Laws of data, records and sets: each is the contract of a function that does nothing.
-ghost use Rattle.std.specs.Prelude.{◌≡◌, ℕ, false, ◌||◌, List, length, Some, IsSome, bytes_eq};
+ghost use Rattle.std.specs.Prelude.{◌≡◌, ℕ, Bool, false, ◌||◌, ◌↔◌, true, List, length, flat_map, Some, IsSome, bytes_eq};
 ghost use Rattle.std.specs.Cmp.{IsTotalOrder};
-ghost use Rattle.dns_rdata.specs.Data.{data_of};
-ghost use Rattle.dns_rdata.specs.Layout.{layout_of};
-ghost use Rattle.dns_rdata.specs.Numbers.{is_metatype};
-ghost use Rattle.dns_rdata.specs.Record.{Record, record_cmp, with_record, has_data};
+ghost use Rattle.dns_rdata.specs.Data.{data_of, are_strings, counted, target_of};
+ghost use Rattle.dns_rdata.specs.Layout.{layout_of, names_in_data};
+ghost use Rattle.dns_rdata.specs.Numbers.{is_metatype, type_CNAME};
+ghost use Rattle.dns_rdata.specs.Record.{Record, IsLawful, record_cmp, with_record, has_data};
+
+use crate::layout::Layout;
 
 /// Data that is read is as long as the octets that it is read from, and is read again as itself (RFC 4034, 6.2).
 pub fn read_again()
@@ -14,9 +16,24 @@ pub fn read_again()
         → data_of rtype octets ≡ Some own → length own ≡ length octets }
 {}
 
+/// Octets are strings exactly where they are those of some strings in a row, each behind its length (RFC 1035, 3.3).
+pub fn strings_in_a_row()
+    ensures { (octets : List ℕ) → (are_strings octets ≡ true)
+        ↔ ((strings : List (List ℕ)) × (octets ≡ flat_map counted strings)) }
+{}
+
 /// No type that is served is a metatype (RFC 6895, 3.1).
 pub fn served_types()
     ensures { (rtype : ℕ) → IsSome (layout_of rtype) → is_metatype rtype ≡ false }
+{}
+
+/// Data of a type with so many names has that many of them (RFC 1035, 3.3); so an alias of a zone has a name that it stands
+/// for (RFC 1035, 3.3.1).
+pub fn names_of_data()
+    ensures count { (rtype front names back : ℕ) (compressed : Bool) (octets own : List ℕ)
+        → layout_of rtype ≡ Some (Layout.Fields front names back compressed)
+        → data_of rtype octets ≡ Some own → length (names_in_data rtype octets) ≡ names }
+    ensures target { (r : Record) → IsLawful r → r.rtype ≡ type_CNAME → IsSome (target_of r.rdata) }
 {}
 
 /// The canonical order of records is total (RFC 4034, 6.1 and 6.3).

@@ -6,6 +6,7 @@
 #![tactic(auto)]
 
 mod data;
+mod form;
 mod laws;
 mod layout;
 mod numbers;
@@ -13,7 +14,9 @@ mod rrset;
 mod shown;
 
 pub use data::{DataFault, MAX_DATA, RData, Soa};
-pub use laws::{one_more, read_again, records_in_order, served_types};
+pub use laws::{
+    names_of_data, one_more, read_again, records_in_order, served_types, strings_in_a_row,
+};
 pub use layout::Layout;
 pub use numbers::{Class, RType, Rcode, Serial, Ttl};
 pub use rrset::{MAX_SET, RRset, SetFault};

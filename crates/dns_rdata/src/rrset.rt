@@ -5,7 +5,7 @@ ghost use Rattle.dns_name.specs.Name.{fold_name};
 ghost use Rattle.dns_rdata.specs.Data.{IsData};
 ghost use Rattle.dns_rdata.specs.Record.{Record, IsLawful, records_with, owner_of, rtype_of, ttl_of, IsSet, with_data, with_record, has_data};
 
-use crate::data::{MAX_DATA, RData};
+use crate::data::RData;
 use crate::numbers::{RType, Ttl};
 use dns_name::Name;
 use std::alloc::{AllocError, Global};
@@ -98,7 +98,7 @@ impl RRset {
             ≡ records_with (owner_of self.now) (rtype_of self.now) (ttl_of self.now) result.now }
         ensures lawful { IsSet (owner_of self.now) (rtype_of self.now) (ttl_of self.now) result.now }
         ensures each { All IsLawful self.now }
-        ensures short { All (λ r. length r.rdata ≤ MAX_DATA) self.now }
+        ensures short { All (λ r. length r.rdata ≤ 4096) self.now }
     {
         self.rdata.as_slice()
     }
@@ -113,10 +113,10 @@ impl RRset {
             self.old) }
         ensures fresh { IfOk result (λ is_new. is_new ≡ not (has_data self.old rdata.octets)) }
         ensures limit { IsErrOf result SetFault.Limit
-            ↔ ((length self.old ≡ MAX_SET) × (has_data self.old rdata.octets ≡ false)) }
+            ↔ ((length self.old ≡ 256) × (has_data self.old rdata.octets ≡ false)) }
         // Data that is there already wants no memory.
         ensures no_memory { IsErrOf result SetFault.NoMemory
-            → (has_data self.old rdata.octets ≡ false) × (length self.old < MAX_SET) }
+            → (has_data self.old rdata.octets ≡ false) × (length self.old < 256) }
         ensures err { OnErr result (self.new ≡ self.old) }
     {
         let Err(place) = place_of(&self.rdata, &rdata) else {

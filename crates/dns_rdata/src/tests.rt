@@ -92,6 +92,20 @@ fn forms(rt: HostRuntime) {
     }
 }
 
+// The printed text of each fault.
+#[test]
+fn faults(rt: HostRuntime) -> Result<(), Fail> {
+    let cases = [
+        (DataFault::BadLength, "A1 BadLength"),
+        (DataFault::TooLong, "A2 TooLong"),
+        (DataFault::NoMemory, "A3 NoMemory"),
+    ];
+    for (fault, want) in cases {
+        assert_eq!(rt; format!(in rt.alloc(); "{fault}")?.as_str(), want);
+    }
+    Ok(())
+}
+
 // The SOA of RFC 1035, 5.3, and an alias.
 #[test]
 fn fields(rt: HostRuntime) -> Result<(), Fail> {

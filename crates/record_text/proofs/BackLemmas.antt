@@ -8,7 +8,7 @@ use Rattle.std.proofs.lemmas.Fmt.{decimal_is_IsNumeral}
 use Rattle.std.proofs.lemmas.List.{append-nil, append_assoc, take-append-drop, length-take-le}
 use Rattle.std.proofs.lemmas.List.Elements.{All-head, All-tail, All-take}
 use Rattle.dns_name.specs.Text.{octet_at, digits_of}
-use Rattle.dns_rdata.specs.Data.{are_strings}
+use Rattle.dns_rdata.proofs.StringLemmas.{strings_behind}
 use Rattle.record_text.specs.Number.{value_after, value_of, decimal_of, number_of}
 use Rattle.record_text.specs.Strings.{string_of, strings_of}
 use Rattle.record_text.specs.Text.{string_octet, strings_in}
@@ -95,7 +95,7 @@ string_back own (c ∷ string) h =
 string_read : (string : List ℕ) → AreOctets string → length string < 256 → string_of (Quoted (flat_map string_octet string)) ≡ Ok (length string ∷ string)
 string_read string h short = string_some (flat_map string_octet string) string (sym (whole_start (flat_map string_octet string)) ∙ string_back [] string h) short
 
-strings_long : (k : ℕ) (octets : List ℕ) → are_strings k octets ≡ true → k ≤ length octets
+strings_long : (k : ℕ) (octets : List ℕ) → strings_behind k octets ≡ true → k ≤ length octets
 strings_long k [] e = let is : k ≡ 0 = grind (arith, nat_tests) in omega arith
 strings_long zero (n ∷ octets) e = omega arith
 strings_long (suc k) (c ∷ octets) e = let more = strings_long k octets e in omega arith
@@ -105,7 +105,7 @@ abbrev pub string_words : List (List ℕ) → List Written
 string_words strings = map (λ string. Quoted (flat_map string_octet string)) strings
 
 -- strings that fill octets are read back
-pub strings_back : (k : ℕ) (octets : List ℕ) → are_strings k octets ≡ true → AreOctets octets → strings_of (string_words (strings_in k octets)) ≡ Ok (drop k octets)
+pub strings_back : (k : ℕ) (octets : List ℕ) → strings_behind k octets ≡ true → AreOctets octets → strings_of (string_words (strings_in k octets)) ≡ Ok (drop k octets)
 strings_back zero [] e h = refl
 strings_back (suc k) [] e h = refl
 strings_back zero (n ∷ octets) e h =

@@ -7,6 +7,7 @@ use Rattle.dns_name.specs.Name.{wire_of, name_in}
 use Rattle.dns_name.proofs.LawLemmas.{name_in-stands}
 use Rattle.dns_rdata.specs.Layout.{layout_of}
 use Rattle.dns_rdata.specs.Data.{names_then, parts, are_strings, data_of}
+use Rattle.dns_rdata.proofs.StringLemmas.{are_strings-behind}
 use Rattle.dns_rdata.proofs.NameLemmas.{map_some, and_then_some, cond_some}
 use Rattle.record_text.specs.declared.data.Field.{Field}
 use Rattle.record_text.specs.declared.data.Field.TheVariants as field
@@ -193,9 +194,9 @@ some_strings (n ∷ octets) h = refl
 txt_back : (origin : List (List ℕ)) → IsBack origin 16
 unfolding data_of layout_of octets_of_words words_of
 txt_back origin octets e all =
-    let test = cond_some (nat_lt 0 (length octets) && are_strings 0 octets) (Some octets) octets e in
+    let test = cond_some (nat_lt 0 (length octets) && are_strings octets) (Some octets) octets e in
     let some : 0 < length octets = let t = test.0 in grind (arith, nat_tests) in
-    some_strings octets some ∙ strings_back 0 octets (second_true (nat_lt 0 (length octets)) (are_strings 0 octets) test.0) all
+    some_strings octets some ∙ strings_back 0 octets (sym (are_strings-behind octets) ∙ second_true (nat_lt 0 (length octets)) (are_strings octets) test.0) all
 
 -- another type has no data
 no_data : (rtype : ℕ) (octets own : List ℕ) → (rtype == 1) ≡ false → (rtype == 2) ≡ false → (rtype == 5) ≡ false → (rtype == 6) ≡ false → (rtype == 12) ≡ false → (rtype == 15) ≡ false → (rtype == 16) ≡ false → (rtype == 28) ≡ false → (rtype == 33) ≡ false → data_of rtype octets ≡ Some own → ⊥

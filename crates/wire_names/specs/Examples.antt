@@ -1,5 +1,5 @@
 -- The name of the worked examples (RFC 1035, 4.1.4).
-use Rattle.std.specs.Prelude.{ℕ, List, [], ◌∷◌, codes}
+use Rattle.std.specs.Prelude.{[], ◌∷◌, codes}
 use Rattle.dns_name.specs.Name.{Name}
 
 -- F.ISI.ARPA

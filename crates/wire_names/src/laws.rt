@@ -1,6 +1,6 @@
 //! Laws of the definitions, each the contract of a function that does nothing, and worked examples.
 ghost use Rattle.std.specs.Prelude.{◌≡◌, ℕ, ◌+◌, ◌≤◌, ◌↔◌, Bool, List, [], ◌∷◌, ◌++◌, length, codes, All, Some, Ok, Err};
-ghost use Rattle.dns_name.specs.Name.{wire_of, IsLabel, IsName};
+ghost use Rattle.dns_name.specs.Name.{Name, wire_of, IsLabel, IsName};
 ghost use Rattle.wire_names.specs.declared.part.NameReadFault.{NameReadFault};
 ghost use Rattle.wire_names.specs.declared.part.NameReadFault.TheVariants.{Short, BadLength, BadPointer};
 ghost use Rattle.wire_names.specs.NameAt.{name_at};
@@ -12,9 +12,9 @@ ghost use Rattle.wire_names.specs.Examples.{f_isi_arpa};
 /// A place spells at most one name, of lawful labels, and reading goes on at one place; what it spells isn't refused
 /// where it fits into 255 octets (RFC 1035, 4.1.4).
 pub fn one_reading()
-    ensures once { (msg : List ℕ) (run at next beyond : ℕ) (name other : List (List ℕ)) → Spells msg run at name next → Spells msg run at other beyond → (name ≡ other) × (next ≡ beyond) }
-    ensures labels { (msg : List ℕ) (run at next : ℕ) (name : List (List ℕ)) → Spells msg run at name next → All IsLabel name }
-    ensures apart { (msg : List ℕ) (run at used next : ℕ) (name : List (List ℕ)) (fault : NameReadFault) → Spells msg run at name next → used + length (wire_of name) ≤ 255 → Refuses msg run at used fault → ⊥ }
+    ensures once { (msg : List ℕ) (run at next beyond : ℕ) (name other : Name) → Spells msg run at name next → Spells msg run at other beyond → (name ≡ other) × (next ≡ beyond) }
+    ensures labels { (msg : List ℕ) (run at next : ℕ) (name : Name) → Spells msg run at name next → All IsLabel name }
+    ensures apart { (msg : List ℕ) (run at used next : ℕ) (name : Name) (fault : NameReadFault) → Spells msg run at name next → used + length (wire_of name) ≤ 255 → Refuses msg run at used fault → ⊥ }
 {}
 
 /// A place has at most one fault: the first in reading order.
@@ -24,13 +24,13 @@ pub fn one_fault()
 
 /// What is computed at a place is the name that it spells, where that fits into 255 octets, and else its fault.
 pub fn name_at_is()
-    ensures spelt { (msg : List ℕ) (at next : ℕ) (name : List (List ℕ)) → (name_at msg at ≡ Ok (name, next)) ↔ (Spells msg at at name next × (length (wire_of name) ≤ 255)) }
+    ensures spelt { (msg : List ℕ) (at next : ℕ) (name : Name) → (name_at msg at ≡ Ok (name, next)) ↔ (Spells msg at at name next × (length (wire_of name) ≤ 255)) }
     ensures refused { (msg : List ℕ) (at : ℕ) (fault : NameReadFault) → (name_at msg at ≡ Err fault) ↔ Refuses msg at at 0 fault }
 {}
 
 /// A name that was written is spelt at its place, whatever follows (RFC 1035, 4.1.4).
 pub fn written_is_spelt()
-    ensures { (compress : Bool) (msg positions behind : List ℕ) (name : List (List ℕ)) → IsTable msg positions → IsName name → Spells (msg ++ (written compress (table_of msg positions) name ++ behind)) (length msg) (length msg) name (length msg + length (written compress (table_of msg positions) name)) }
+    ensures { (compress : Bool) (msg positions behind : List ℕ) (name : Name) → IsTable msg positions → IsName name → Spells (msg ++ (written compress (table_of msg positions) name ++ behind)) (length msg) (length msg) name (length msg + length (written compress (table_of msg positions) name)) }
 {}
 
 /// A table stays what it is while its message goes on.

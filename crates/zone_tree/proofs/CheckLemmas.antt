@@ -11,11 +11,10 @@ use Rattle.dns_rdata.specs.Data.{Data}
 use Rattle.dns_rdata.specs.Numbers.{type_SOA}
 use Rattle.dns_rdata.specs.Record.{Record, IsLawful, records_with, owner_of, rtype_of, ttl_of, IsSet, IsBefore as IsDataBefore}
 use Rattle.zone_tree.specs.Zone.{IsBefore, soa_of}
-use Rattle.zone_tree.specs.Sets.{records_in, set_cmp, IsSetBefore, IsOf, IsRRset, AreAscending, AreUnsplit}
+use Rattle.zone_tree.specs.Sets.{records_in, set_cmp, IsSetBefore, IsOf, IsRRset, AreAscending}
 use Rattle.zone_tree.proofs.NameOrder.{canonical_total}
 use Rattle.zone_tree.proofs.Rising.{Rises-map, each_map, each_always, rises_weaker, rises_from_pairs, rises_from_adjacent, pairs_from_rises}
 use Rattle.zone_tree.proofs.SetLemmas.{filter_by_sets, before_chains}
-use Rattle.zone_tree.proofs.ZoneLemmas.{unrisen_at}
 
 -- a record of an owner, a type and a TTL
 abbrev with_data : List (List ℕ) → ℕ → ℕ → Data → Record
@@ -141,17 +140,12 @@ module _ (sets : List (List Record)) (rising : AreAscending sets) (at : ℕ) (he
   soa_large l =
       omega (arith, ap length (soa_by_sets sets rising ∙ ap records_in (placed.1 [])), length-append (get_or sets at []) (records_in (soa_sets (drop (at + 1) sets))))
 
--- a set that isn't before the one that follows it shows that the records don't ascend
-pub not_ascending : (sets : List (List Record)) → All IsRRset sets → (i : ℕ) (set other : List Record) → 0 < i → i < length sets → set ≡ get_or sets (i - 1) set → other ≡ get_or sets i other → is_lt (set_cmp set other) ≡ false → AreUnsplit sets → AllPairs IsBefore (records_in sets) → ⊥
-not_ascending sets each zero set other some l e f h unsplit rise = omega arith
-not_ascending sets each (suc k) set other some l e f h unsplit rise =
-    let back : suc k - 1 ≡ k = omega arith in
-    let next : k + 1 ≡ suc k = omega arith in
-    let first : set ≡ get_or sets k set = rw back at e in
-    let second : other ≡ get_or sets (k + 1) set = rw next (get_or_read sets (suc k) other l f set) in
-    unrisen_at sets k set (omega arith) (each k set (omega arith)) (each (k + 1) set (omega arith))
-    (λ before. true≢false (sym before ∙ ap is_lt (ap (λ s. set_cmp s (get_or sets (k + 1) set)) (sym first) ∙ ap (set_cmp set) (sym second)) ∙ h))
-    unsplit (rises_from_pairs IsBefore (records_in sets) rise)
+-- a set that isn't before the one that follows it shows that the sets don't ascend
+pub not_ascending : (sets : List (List Record)) (i : ℕ) (set other : List Record) → 0 < i → i < length sets → set ≡ get_or sets (i - 1) set → other ≡ get_or sets i other → is_lt (set_cmp set other) ≡ false → AllPairs IsSetBefore sets → ⊥
+not_ascending sets i set other some within e f h pairs =
+    let before = pairs (i - 1) i set (omega arith) within in
+    let second : other ≡ get_or sets i set = get_or_read sets i other within f set in
+    true≢false (sym before ∙ ap is_lt (ap (λ s. set_cmp s (get_or sets i set)) (sym e) ∙ ap (set_cmp set) (sym second)) ∙ h)
 
 -- sets of which each comes before the next are in ascending order
 pub ascending_from_adjacent : (sets : List (List Record)) (n : ℕ) → All IsRRset sets → length sets ≤ n → AllAdjacentBelow IsSetBefore sets n → AreAscending sets

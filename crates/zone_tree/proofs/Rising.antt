@@ -114,6 +114,24 @@ module _ {X : Type 0} where
       ((first, each_weaker (R y) (R x) (λ z. chain x y z first) xs rest.0), rest)
 
 -- through a map
+-- what holds of each and of all pairs holds of those that a filter keeps
+module _ {X : Type 0} (p : X → Bool) where
+  each_kept : (P : X → Type 0) (x : X) (kept : List X) (b : Bool) → P x → AllByRecursion P kept → AllByRecursion P (cond b (x ∷ kept) kept)
+  each_kept P x kept true here h = (here, h)
+  each_kept P x kept false here h = h
+
+  pub each_filter : (P : X → Type 0) (xs : List X) → AllByRecursion P xs → AllByRecursion P (filter p xs)
+  each_filter P [] h = tt
+  each_filter P (x ∷ xs) h = each_kept P x (filter p xs) (p x) h.0 (each_filter P xs h.1)
+
+  rises_kept : (R : X → X → Type 0) (x : X) (kept : List X) (b : Bool) → AllByRecursion (R x) kept → Rises R kept → Rises R (cond b (x ∷ kept) kept)
+  rises_kept R x kept true here h = (here, h)
+  rises_kept R x kept false here h = h
+
+  pub Rises-filter : (R : X → X → Type 0) (xs : List X) → Rises R xs → Rises R (filter p xs)
+  Rises-filter R [] h = tt
+  Rises-filter R (x ∷ xs) h = rises_kept R x (filter p xs) (p x) (each_filter (R x) xs h.0) (Rises-filter R xs h.1)
+
 pub each_map : {X Y : Type 0} (P : Y → Type 0) (f : X → Y) (xs : List X) → AllByRecursion (λ x. P (f x)) xs → AllByRecursion P (map f xs)
 each_map P f [] h = tt
 each_map P f (x ∷ xs) h = (h.0, each_map P f xs h.1)

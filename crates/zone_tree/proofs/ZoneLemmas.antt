@@ -11,11 +11,11 @@ use Rattle.std.proofs.lemmas.List.Elements.{All-from_recursion, recursion_from_A
 use Rattle.dns_name.specs.Name.{is_same, canonical_cmp}
 use Rattle.dns_rdata.specs.Record.{Record, IsLawful, owner_of, rtype_of}
 use Rattle.zone_tree.specs.Zone.{IsBefore, rrset_of, is_of, share_ttl}
-use Rattle.zone_tree.specs.Sets.{records_in, IsSetBefore, IsOf, IsRRset, AreAscending, AreUnsplit}
+use Rattle.zone_tree.specs.Sets.{records_in, IsSetBefore, IsOf, IsRRset, AreAscending, AreUnsplit, AreWhole}
 use Rattle.zone_tree.proofs.NameOrder.{same_from_tie, same_from_folds}
-use Rattle.zone_tree.proofs.Rising.{each_weaker, each_append, Rises, Rises-append, Rises-behind, pairs_from_rises, rises_from_pairs, each_joined, each_both, filter_alike}
+use Rattle.zone_tree.proofs.Rising.{each_weaker, each_append, Rises, Rises-append, Rises-behind, pairs_from_rises, rises_from_pairs, each_joined, each_both, each_filter, Rises-filter, filter_alike}
 use Rattle.zone_tree.proofs.LookLemmas.{not_both}
-use Rattle.zone_tree.proofs.SetLemmas.{filter_by_sets}
+use Rattle.zone_tree.proofs.SetLemmas.{filter_by_sets, some_each}
 
 -- a record of a set that is before another comes before the records of the other
 before_by : (o p q : Ordering) → is_lt (ordering_then o p) ≡ true → is_lt (ordering_then o (ordering_then p q)) ≡ true
@@ -133,6 +133,31 @@ pub own_rrset : (sets : List (List Record)) → AreAscending sets → AllByRecur
 own_rrset sets h =
     each_weaker (λ set. filter (λ u. is_same (owner_of u) (owner_of set) && rtype_of u == rtype_of set) sets ≡ set ∷ []) (λ set. rrset_of (records_in sets) (owner_of set) (rtype_of set) ≡ set)
     (λ set e. filter_by_sets (λ owner t. is_same owner (owner_of set) && t == rtype_of set) sets h.each ∙ ap records_in e ∙ append-nil set) sets (own_only sets (rises_from_pairs IsSetBefore sets h.ascending))
+
+-- a zone's sets, and those that a filter keeps, are whole
+module _ (sets : List (List Record)) (h : AreAscending sets) where
+  abbrev zone : List Record
+  zone = records_in sets
+
+  abbrev Whole : List Record → Type 0
+  Whole set = set ≡ rrset_of zone (owner_of set) (rtype_of set)
+
+  whole_each : AllByRecursion Whole sets
+  whole_each = each_weaker (λ set. rrset_of zone (owner_of set) (rtype_of set) ≡ set) Whole (λ set e. sym e) sets (own_rrset sets h)
+
+  pub sets_whole : AreWhole (records_in sets) sets
+  sets_whole = record {
+    some = All-from_recursion (λ set. 0 < length set) sets (some_each sets h.each);
+    whole = All-from_recursion Whole sets whole_each;
+    ascending = h.ascending;
+  }
+
+  pub kept_whole : (p : List Record → Bool) → AreWhole (records_in sets) (filter p sets)
+  kept_whole p = record {
+    some = All-from_recursion (λ set. 0 < length set) (filter p sets) (each_filter p (λ set. 0 < length set) sets (some_each sets h.each));
+    whole = All-from_recursion Whole (filter p sets) (each_filter p Whole sets whole_each);
+    ascending = pairs_from_rises IsSetBefore (filter p sets) (Rises-filter p IsSetBefore sets (rises_from_pairs IsSetBefore sets h.ascending));
+  }
 
 -- so no set is too large
 pub records_few : (sets : List (List Record)) → AreAscending sets → All (λ r. length (rrset_of (records_in sets) r.owner r.rtype) ≤ 256) (records_in sets)

@@ -1,17 +1,18 @@
 -- A small zone, for worked examples.
 use Rattle.std.specs.Prelude.{ℕ, List, [], ◌∷◌, codes}
+use Rattle.dns_name.specs.Name.{Name}
 use Rattle.dns_rdata.specs.Numbers.{type_A, type_NS, type_SOA, type_TXT}
 use Rattle.dns_rdata.specs.Record.{Record}
 
 -- `example`, and names below it
-abbrev pub example : List (List ℕ)
+abbrev pub example : Name
 example = codes "example" ∷ []
 
-abbrev pub in_example : List ℕ → List (List ℕ)
+abbrev pub in_example : List ℕ → Name
 in_example label = label ∷ example
 
 -- a record that lasts an hour
-abbrev pub hour_record : List (List ℕ) → ℕ → List ℕ → Record
+abbrev pub hour_record : Name → ℕ → List ℕ → Record
 hour_record owner rtype octets = record { owner = owner; rtype = rtype; ttl = 3600; rdata = octets }
 
 -- an SOA and an NS at `example`, a text at `*.example`, and an address at `a.b.example`

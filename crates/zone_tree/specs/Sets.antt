@@ -45,6 +45,13 @@ pub record AreAscending (sets : List (List Record)) : Type 0 where
 abbrev pub AreUnsplit : List (List Record) → Type 0
 AreUnsplit sets = AllPairs (λ set other. is_same (owner_of set) (owner_of other) && rtype_of set == rtype_of other ≡ false) sets
 
+-- sets that are whole: none is empty, each is all that the zone has of its owner and type, and they are in strictly
+-- ascending order (RFC 2181, 5)
+pub record AreWhole (zone : List Record) (sets : List (List Record)) : Type 0 where
+  pub some : All (λ set. 0 < length set) sets
+  pub whole : All (λ set. set ≡ rrset_of zone (owner_of set) (rtype_of set)) sets
+  pub ascending : AllPairs IsSetBefore sets
+
 -- a set stands at a place
 pub record IsPlaceOf (sets : List (List Record)) (set : List Record) (at : ℕ) : Type 0 where
   pub within : at < length sets

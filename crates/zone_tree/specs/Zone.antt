@@ -3,28 +3,28 @@
 use Rattle.std.specs.Prelude.{◌≡◌, ◌≢◌, ℕ, ◌≤◌, Bool, true, false, ◌&&◌, ◌||◌, not, ◌==◌, List, [], ◌∷◌, length, filter, All, AllPairs, bytes_eq}
 use Rattle.std.specs.List.{list_any}
 use Rattle.std.specs.Ordering.{is_lt}
-use Rattle.dns_name.specs.Name.{is_same, is_under, asterisk}
+use Rattle.dns_name.specs.Name.{Name, is_same, is_under, asterisk}
 use Rattle.dns_rdata.specs.Numbers.{type_NS, type_CNAME, type_SOA}
 use Rattle.dns_rdata.specs.Record.{Record, IsLawful, record_cmp, owner_of}
 
 -- whether a record stands at a name
-abbrev pub stands_at : List (List ℕ) → Record → Bool
+abbrev pub stands_at : Name → Record → Bool
 stands_at name r = is_same r.owner name
 
 -- whether a record stands at a name and has a type
-abbrev pub is_of : List (List ℕ) → ℕ → Record → Bool
+abbrev pub is_of : Name → ℕ → Record → Bool
 is_of name rtype r = is_same r.owner name && r.rtype == rtype
 
 -- all records at a name, in order
-abbrev pub rrsets_of : List Record → List (List ℕ) → List Record
+abbrev pub rrsets_of : List Record → Name → List Record
 rrsets_of zone name = filter (stands_at name) zone
 
 -- the records of one type at a name (RFC 2181, 5)
-abbrev pub rrset_of : List Record → List (List ℕ) → ℕ → List Record
+abbrev pub rrset_of : List Record → Name → ℕ → List Record
 rrset_of zone name rtype = filter (is_of name rtype) zone
 
 -- whether a name exists: it or a name below it owns a record (RFC 4592, 2.2.2 and 2.2.3)
-abbrev pub exists : List Record → List (List ℕ) → Bool
+abbrev pub exists : List Record → Name → Bool
 exists zone name = list_any (λ r. is_under r.owner name) zone
 
 -- the zone's SOA
@@ -32,11 +32,11 @@ abbrev pub soa_of : List Record → List Record
 soa_of zone = filter (λ r. r.rtype == type_SOA) zone
 
 -- the apex: the name that the SOA stands at; the root where there is none (RFC 1034, 4.2)
-abbrev pub apex_of : List Record → List (List ℕ)
+abbrev pub apex_of : List Record → Name
 apex_of zone = owner_of (soa_of zone)
 
 -- whether the first label is `*`
-abbrev pub is_wild : List (List ℕ) → Bool
+abbrev pub is_wild : Name → Bool
 is_wild [] = false
 is_wild (label ∷ name) = bytes_eq label asterisk
 

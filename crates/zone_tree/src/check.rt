@@ -1,8 +1,9 @@
 //! The rules of a zone, tried one after another.
-ghost use Rattle.std.specs.Prelude.{◌≡◌, ◌≤◌, length, All, IfOk, IfErr, OnOk};
+ghost use Rattle.std.specs.Prelude.{◌≡◌, ◌≤◌, length, All, IfOk, IfErr, OnOk, OnErr};
 ghost use Rattle.std.specs.Ordering.{is_lt};
-ghost use Rattle.zone_tree.specs.Sets.{records_in, set_cmp, IsRRset, AreAscending, AreStored};
-ghost use Rattle.zone_tree.specs.Fault.{IsFault};
+ghost use Rattle.zone_tree.specs.Zone.{IsZone};
+ghost use Rattle.zone_tree.specs.Sets.{records_in, set_cmp, IsRRset, AreAscending, AreStored, AreUnsplit};
+ghost use Rattle.zone_tree.specs.Fault.{IsFirstFault, NoneBefore};
 
 use crate::fault::ZoneFault;
 use crate::rules::check_rules;
@@ -13,7 +14,8 @@ use dns_rdata::RRset;
 /// The place of the SOA's set, where the sets are a zone.
 pub(crate) fn check(sets: &[RRset]) -> Result<usize, ZoneFault>
     ensures stored { IfOk result (AreStored sets.now) }
-    ensures fault { IfErr result (λ fault. IsFault fault sets.now) }
+    ensures refused { OnErr result (AreUnsplit sets.now → IsZone (records_in sets.now) → ⊥) }
+    ensures fault { IfErr result (λ fault. IsFirstFault fault sets.now) }
 {
     check_count(sets)?;
     check_order(sets)?;
@@ -34,7 +36,7 @@ pub(crate) fn len_of(set: &RRset) -> usize
 fn check_count(sets: &[RRset]) -> Result<(), ZoneFault>
     ensures each { OnOk result (All IsRRset sets.now) }
     ensures few { OnOk result (length (records_in sets.now) ≤ MAX_RECORDS) }
-    ensures fault { IfErr result (λ fault. IsFault fault sets.now) }
+    ensures fault { IfErr result (λ fault. (fault ≡ ZoneFault.TooManyRecords) × IsFirstFault fault sets.now) }
 {
     let mut left = MAX_RECORDS;
     for set in sets {
@@ -59,9 +61,10 @@ fn is_before(set: &RRset, other: &RRset) -> bool
 
 // That each set comes before the next.
 fn check_order(sets: &[RRset]) -> Result<(), ZoneFault>
-    requires { All IsRRset sets.now }
+    requires each { All IsRRset sets.now }
+    requires first { NoneBefore ZoneFault.NotAscending sets.now }
     ensures rising { OnOk result (AreAscending sets.now) }
-    ensures fault { IfErr result (λ fault. IsFault fault sets.now) }
+    ensures fault { IfErr result (λ fault. IsFirstFault fault sets.now) }
 {
     for (i, set) in sets.iter().enumerate() {
         if i > 0 && !is_before(&sets[i - 1], set) {

@@ -1,6 +1,6 @@
 //! Laws of the definitions, each the contract of a function that does nothing, and worked examples.
 ghost use Rattle.std.specs.Prelude.{◌≡◌, ◌↔◌, ℕ, List, [], ◌∷◌, codes, true, false, All, Any, Contains, IsTrue};
-ghost use Rattle.dns_name.specs.Name.{is_under};
+ghost use Rattle.dns_name.specs.Name.{Name, is_under};
 ghost use Rattle.dns_rdata.specs.Numbers.{type_A, type_AAAA, type_SOA};
 ghost use Rattle.dns_rdata.specs.Record.{Record};
 ghost use Rattle.zone_tree.specs.Zone.{IsZone, rrset_of, rrsets_of, exists, soa_of, apex_of, is_wild};
@@ -14,9 +14,9 @@ pub fn same_records()
 /// A name exists exactly where it or a name below it owns a record; so each owner exists, and each ancestor of a name
 /// that exists (RFC 4592, 2.2.2 and 2.2.3).
 pub fn names_that_exist()
-    ensures at_or_below { (zone : List Record) (name : List (List ℕ)) → IsTrue (exists zone name) ↔ Any (λ r. IsTrue (is_under r.owner name)) zone }
+    ensures at_or_below { (zone : List Record) (name : Name) → IsTrue (exists zone name) ↔ Any (λ r. IsTrue (is_under r.owner name)) zone }
     ensures owners { (zone : List Record) → All (λ r. IsTrue (exists zone r.owner)) zone }
-    ensures ancestors { (zone : List Record) (name ancestor : List (List ℕ)) → IsTrue (exists zone name) → IsTrue (is_under name ancestor) → IsTrue (exists zone ancestor) }
+    ensures ancestors { (zone : List Record) (name ancestor : Name) → IsTrue (exists zone name) → IsTrue (is_under name ancestor) → IsTrue (exists zone ancestor) }
 {}
 
 /// The one SOA of a zone stands at its apex (RFC 1034, 4.2.1).

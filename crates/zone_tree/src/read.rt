@@ -3,6 +3,7 @@ ghost use Rattle.std.specs.Prelude.{◌≡◌, ◌↔◌, List, [], length, IsNo
 ghost use Rattle.std.specs.List.{flat_map};
 ghost use Rattle.dns_rdata.specs.Record.{Record};
 ghost use Rattle.zone_tree.specs.Zone.{IsZone, rrset_of, rrsets_of, exists, soa_of, apex_of};
+ghost use Rattle.zone_tree.specs.Sets.{AreWhole};
 
 use dns_name::Name;
 use dns_rdata::{RRset, RType};
@@ -16,9 +17,10 @@ pub trait ZoneRead {
         ensures none { IsNone result ↔ (rrset_of (records self.now) owner.now rtype.0 ≡ []) }
         ensures set { IfSome result (λ set. set.now ≡ rrset_of (records self.now) owner.now rtype.0) };
 
-    /// All sets of an owner, by type number.
+    /// All sets of an owner, each in whole, by type number.
     fn rrsets_at(&self, owner: &Name) -> &[RRset]
-        ensures { flat_map (λ set. set) result.now ≡ rrsets_of (records self.now) owner.now };
+        ensures records { flat_map (λ set. set) result.now ≡ rrsets_of (records self.now) owner.now }
+        ensures whole { AreWhole (records self.now) result.now };
 
     /// Whether a name exists: it or a name below it owns a record (RFC 4592, 2.2.3).
     fn exists(&self, name: &Name) -> bool
@@ -30,9 +32,10 @@ pub trait ZoneRead {
         ensures one { length result.now ≡ 1 }
         ensures lawful { IsZone (records self.now) };
 
-    /// All sets in canonical order (RFC 4034, 6.1).
+    /// All sets, each in whole, in canonical order (RFC 4034, 6.1).
     fn walk(&self) -> &[RRset]
-        ensures { flat_map (λ set. set) result.now ≡ records self.now };
+        ensures records { flat_map (λ set. set) result.now ≡ records self.now }
+        ensures whole { AreWhole (records self.now) result.now };
 
     /// The apex: the owner of the SOA (RFC 1034, 4.2).
     final fn apex(&self) -> &Name

@@ -6,7 +6,7 @@ ghost use Rattle.dns_rdata.specs.Numbers.{type_NS, type_CNAME};
 ghost use Rattle.dns_rdata.specs.Record.{owner_of, rtype_of};
 ghost use Rattle.zone_tree.specs.Zone.{apex_of, rrsets_of, is_wild};
 ghost use Rattle.zone_tree.specs.Sets.{records_in, AreAscending, KeepsApexRules};
-ghost use Rattle.zone_tree.specs.Fault.{IsFault};
+ghost use Rattle.zone_tree.specs.Fault.{IsFirstFault, NoneBefore};
 
 use crate::check::len_of;
 use crate::fault::ZoneFault;
@@ -19,8 +19,9 @@ use dns_rdata::{RRset, RType};
 pub(crate) fn check_rules(sets: &[RRset], apex: &Name) -> Result<(), ZoneFault>
     requires rising { AreAscending sets.now }
     requires apex { apex.now ≡ apex_of (records_in sets.now) }
+    requires first { NoneBefore ZoneFault.Outside sets.now }
     ensures kept { OnOk result (KeepsApexRules (records_in sets.now)) }
-    ensures fault { IfErr result (λ fault. IsFault fault sets.now) }
+    ensures fault { IfErr result (λ fault. IsFirstFault fault sets.now) }
 {
     if has_outside(sets, apex) {
         return Err(ZoneFault::Outside);

@@ -5,7 +5,7 @@ ghost use Rattle.dns_rdata.specs.Numbers.{type_SOA};
 ghost use Rattle.dns_rdata.specs.Record.{rtype_of};
 ghost use Rattle.zone_tree.specs.Zone.{soa_of};
 ghost use Rattle.zone_tree.specs.Sets.{records_in, AreAscending, IsPlaceOf};
-ghost use Rattle.zone_tree.specs.Fault.{IsFault};
+ghost use Rattle.zone_tree.specs.Fault.{IsFirstFault, NoneBefore};
 
 use crate::check::len_of;
 use crate::fault::ZoneFault;
@@ -27,10 +27,11 @@ fn has_soa(sets: &[RRset]) -> bool
 
 /// The place of the SOA's set, which is the only one of its type and has one record.
 pub(crate) fn find_soa(sets: &[RRset]) -> Result<usize, ZoneFault>
-    requires { AreAscending sets.now }
+    requires rising { AreAscending sets.now }
+    requires first { NoneBefore ZoneFault.NoSoa sets.now }
     ensures found { IfOk result (IsPlaceOf sets.now (soa_of (records_in sets.now))) }
     ensures one { OnOk result (length (soa_of (records_in sets.now)) ≡ 1) }
-    ensures fault { IfErr result (λ fault. IsFault fault sets.now) }
+    ensures fault { IfErr result (λ fault. IsFirstFault fault sets.now) }
 {
     let Some(at) = soa_place(sets) else {
         return Err(ZoneFault::NoSoa);

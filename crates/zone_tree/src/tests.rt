@@ -84,7 +84,7 @@ fn refuses(rt: HostRuntime) -> Result<(), Fail> {
     let soa: Row = (EXAMPLE, RType::SOA, SOA);
     let address: Row = (b"\x03www\x07example\0", RType::A, &[192, 0, 2, 1]);
     let alias: Row = (b"\x03www\x07example\0", RType::CNAME, NS);
-    let cases: [(&[Row], ZoneFault); 10] = [
+    let cases: [(&[Row], ZoneFault); 11] = [
         (&[soa, ns], ZoneFault::NotAscending),
         (&[ns, soa, soa], ZoneFault::NotAscending),
         (&[], ZoneFault::NoSoa),
@@ -104,12 +104,40 @@ fn refuses(rt: HostRuntime) -> Result<(), Fail> {
             &[ns, soa, (b"\x01*\x07example\0", RType::NS, NS)],
             ZoneFault::WildCut,
         ),
+        // The first of several: an owner outside, no NS at the apex, and an NS at an asterisk.
+        (
+            &[
+                (b"\0", RType::A, &[192, 0, 2, 1]),
+                soa,
+                (b"\x01*\x07example\0", RType::NS, NS),
+            ],
+            ZoneFault::Outside,
+        ),
     ];
     for (rows, want) in cases {
         match zone_of(rt.alloc(), rows)? {
             Ok(_) => assert!(rt; false, "{want:?}"),
             Err(fault) => assert_eq!(rt; fault, want),
         }
+    }
+    Ok(())
+}
+
+// The printed text of each fault.
+#[test]
+fn faults(rt: HostRuntime) -> Result<(), Fail> {
+    let cases = [
+        (ZoneFault::TooManyRecords, "Z1 TooManyRecords"),
+        (ZoneFault::NotAscending, "Z2 NotAscending"),
+        (ZoneFault::NoSoa, "Z3 NoSoa"),
+        (ZoneFault::SecondSoa, "Z4 SecondSoa"),
+        (ZoneFault::Outside, "Z5 Outside"),
+        (ZoneFault::NoNameServer, "Z6 NoNameServer"),
+        (ZoneFault::AliasNotAlone, "Z7 AliasNotAlone"),
+        (ZoneFault::WildCut, "Z8 WildCut"),
+    ];
+    for (fault, want) in cases {
+        assert_eq!(rt; format!(in rt.alloc(); "{fault}")?.as_str(), want);
     }
     Ok(())
 }

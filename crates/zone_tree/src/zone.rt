@@ -36,14 +36,14 @@ impl Zone {
     ghost use Rattle.std.specs.Prelude.{IfOk, IfErr, OnErr};
     ghost use Rattle.zone_tree.specs.Zone.{IsZone};
     ghost use Rattle.zone_tree.specs.Sets.{records_in, AreUnsplit};
-    ghost use Rattle.zone_tree.specs.Fault.{IsFault};
+    ghost use Rattle.zone_tree.specs.Fault.{IsFirstFault};
 
     /// The zone of these sets, which are in canonical order (RFC 4034, 6.1), each all that the zone has of its owner
     /// and type. Where they are no zone, the first rule that they break, in the order of [`ZoneFault`].
     pub fn new(sets: Vec<RRset>) -> Result<Zone, ZoneFault>
         ensures zone { IfOk result (λ zone. (zone ≡ records_in sets.items) × IsZone zone) }
         ensures refused { OnErr result (AreUnsplit sets.items → IsZone (records_in sets.items) → ⊥) }
-        ensures fault { IfErr result (λ fault. IsFault fault sets.items) }
+        ensures fault { IfErr result (λ fault. IsFirstFault fault sets.items) }
     {
         let soa = check(&sets)?;
         Ok(Zone { sets, soa })

@@ -4,8 +4,8 @@ use Rattle.dns_name.proofs.compare.label_count.Given as goal
 
 abbrev pub invariant-loop-behind : goal.invariant-loop-behind
 invariant-loop-behind l = record {
-  whole : IsWhole 0 l.rest;
-  counted : l.count + length (labels_in 0 l.rest) ≡ length (labels_in 0 l.octets);
+  whole : IsWhole l.rest;
+  counted : l.count + length (labels_in l.rest) ≡ length (labels_in l.octets);
   short : l.count + length l.rest ≤ length l.octets;
 }
 

@@ -6,11 +6,11 @@ use Rattle.dns_name.proofs.compare.level_order.Given as goal
 
 abbrev pub invariant-loop-label : goal.invariant-loop-label
 invariant-loop-label l = record {
-  whole : IsWhole 0 l.rest;
-  whole_other : IsWhole 0 l.rest_other;
-  level : length (labels_in 0 l.rest) ≡ length (labels_in 0 l.rest_other);
-  order : ordering_then (canonical_cmp (labels_in 0 l.rest) (labels_in 0 l.rest_other)) l.order
-      ≡ ordering_then (canonical_cmp (labels_in 0 l.own) (labels_in 0 l.other)) l.fn.surplus;
+  whole : IsWhole l.rest;
+  whole_other : IsWhole l.rest_other;
+  level : length (labels_in l.rest) ≡ length (labels_in l.rest_other);
+  order : ordering_then (canonical_cmp (labels_in l.rest) (labels_in l.rest_other)) l.order
+      ≡ ordering_then (canonical_cmp (labels_in l.own) (labels_in l.other)) l.fn.surplus;
 }
 
 abbrev pub decreases-loop-label : goal.decreases-loop-label

@@ -16,10 +16,10 @@ dropped_one i names rest behind label e first =
     ap (drop 1) (sym whole) ∙ drop-drop 1 i names
 
 pub returns-in-None-clause-labels : goal.returns-in-None-clause-labels
-returns-in-None-clause-labels c = dropped_all c.loop-i._i c.args.count (labels_in 0 c.args.octets.now) _ c.loop-i.invariant.dropped c.in-None.ensures (omega arith)
+returns-in-None-clause-labels c = dropped_all c.loop-i._i c.args.count (labels_in c.args.octets.now) _ c.loop-i.invariant.dropped c.in-None.ensures (omega arith)
 
 pub loop-i-preserved : goal.loop-i-preserved
 loop-i-preserved c = record {
   whole = c.in-Some.ensures.whole;
-  dropped = dropped_one c.loop-i._i (labels_in 0 c.args.octets.now) _ _ _ c.loop-i.invariant.dropped c.in-Some.ensures.labels;
+  dropped = dropped_one c.loop-i._i (labels_in c.args.octets.now) _ _ _ c.loop-i.invariant.dropped c.in-Some.ensures.labels;
 }

@@ -4,6 +4,6 @@ use Rattle.dns_name.proofs.compare.without.Given as goal
 
 abbrev pub invariant-loop-i : goal.invariant-loop-i
 invariant-loop-i l = record {
-  whole : IsWhole 0 l.rest;
-  dropped : labels_in 0 l.rest ≡ drop l._i (labels_in 0 l.octets);
+  whole : IsWhole l.rest;
+  dropped : labels_in l.rest ≡ drop l._i (labels_in l.octets);
 }

@@ -5,8 +5,8 @@ use Rattle.dns_name.proofs.octets.ends_in.Given as goal
 
 abbrev pub invariant-loop-rest : goal.invariant-loop-rest
 invariant-loop-rest l = record {
-  whole : IsWhole 0 l.rest;
-  same : is_under (labels_in 0 l.rest) (labels_in 0 l.other) ≡ is_under (labels_in 0 l.octets) (labels_in 0 l.other);
+  whole : IsWhole l.rest;
+  same : is_under (labels_in l.rest) (labels_in l.other) ≡ is_under (labels_in l.octets) (labels_in l.other);
 }
 
 abbrev pub decreases-loop-rest : goal.decreases-loop-rest

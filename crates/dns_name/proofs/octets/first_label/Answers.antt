@@ -4,11 +4,11 @@ use Rattle.dns_name.specs.Labels.{IsWhole, IsFirstLabel}
 use Rattle.dns_name.proofs.LabelLemmas.{HasFirst-at}
 use Rattle.dns_name.proofs.octets.first_label.Goals as goal
 
-whole_at : (n : ℕ) (octets all : List ℕ) → all ≡ n ∷ octets → IsWhole 0 all → IsWhole 0 (n ∷ octets)
+whole_at : (n : ℕ) (octets all : List ℕ) → all ≡ n ∷ octets → IsWhole all → IsWhole (n ∷ octets)
 whole_at n octets all e h = rw e at h
 
 -- the parts that a split at the length gives
-parts : (n m : ℕ) (octets all label rest : List ℕ) → all ≡ m ∷ octets → IsWhole 0 all → n ≡ m → (n ≡ 0 → ⊥) → label ≡ take n octets → rest ≡ drop n octets → IsFirstLabel all label rest
+parts : (n m : ℕ) (octets all label rest : List ℕ) → all ≡ m ∷ octets → IsWhole all → n ≡ m → (n ≡ 0 → ⊥) → label ≡ take n octets → rest ≡ drop n octets → IsFirstLabel all label rest
 parts n m octets all label rest e whole same ne l r =
     let at_n : all ≡ n ∷ octets = cc in
     let first = HasFirst-at n octets ne (whole_at n octets all at_n whole) in

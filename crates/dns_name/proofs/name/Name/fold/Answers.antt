@@ -3,8 +3,7 @@ use Rattle.std.specs.Char.{to_ascii_lowercase}
 use Rattle.std.specs.List.{refill}
 use Rattle.dns_name.specs.Labels.{labels_in, IsWhole}
 use Rattle.dns_name.specs.Name.{wire_of, IsName, fold_name}
-use Rattle.dns_name.proofs.LabelLemmas.{IsWhole-wire_of, labels_in-wire_of, refill_folded, AreOctets-fold}
-use Rattle.dns_name.proofs.SameLemmas.{wire_of-fold}
+use Rattle.dns_name.proofs.LabelLemmas.{IsWhole-wire_of, labels_in-wire_of, wire_of-fold, refill_folded, AreOctets-fold}
 use Rattle.dns_name.proofs.LawLemmas.{fold-IsName}
 use Rattle.dns_name.proofs.name.Name.fold.Goals as goal
 
@@ -21,7 +20,7 @@ append-requires c =
     let short = c.wire.ensures.lawful.short in
     omega (arith, ap length c.new-octets.ensures, ap length c.wire.ensures.octets)
 
-is_folded : (name : List (List ℕ)) (octets before lent own wire : List ℕ) → IsName name → before ≡ [] → octets ≡ before ++ wire → wire ≡ wire_of name → lent ≡ octets → own ≡ map to_ascii_lowercase lent → let after = refill (length octets) octets own in (IsWhole 0 after × (length after ≤ 255)) × (labels_in 0 after ≡ fold_name name)
+is_folded : (name : List (List ℕ)) (octets before lent own wire : List ℕ) → IsName name → before ≡ [] → octets ≡ before ++ wire → wire ≡ wire_of name → lent ≡ octets → own ≡ map to_ascii_lowercase lent → let after = refill (length octets) octets own in (IsWhole after × (length after ≤ 255)) × (labels_in after ≡ fold_name name)
 is_folded name octets before lent own wire lawful none put is same e =
     let after = folded name octets before lent own lawful none (rw is at put) same e in
     let kept = (fold-IsName name lawful).0 in

@@ -10,15 +10,15 @@ use Rattle.dns_name.proofs.name.Name.from_wire.Goals as goal
 copied : (octets own before : List ℕ) (len : ℕ) (b : IsBegun octets len) → before ≡ [] → own ≡ before ++ take len octets → own ≡ wire_of b.name
 copied octets own before len b none e = let front = b.front in cc
 
-whole : (octets own before : List ℕ) (len : ℕ) (b : IsBegun octets len) → before ≡ [] → own ≡ before ++ take len octets → IsWhole 0 own × (length own ≤ 255)
+whole : (octets own before : List ℕ) (len : ℕ) (b : IsBegun octets len) → before ≡ [] → own ≡ before ++ take len octets → IsWhole own × (length own ≤ 255)
 whole octets own before len b none e =
     let same = copied octets own before len b none e in
     rw same (IsWhole-wire_of b.name b.lawful.labels, b.lawful.short)
 
-named : (octets own before : List ℕ) (len : ℕ) (b : IsBegun octets len) → before ≡ [] → own ≡ before ++ take len octets → labels_in 0 own ≡ b.name
-named octets own before len b none e = ap (labels_in 0) (copied octets own before len b none e) ∙ labels_in-wire_of b.name b.lawful.labels
+named : (octets own before : List ℕ) (len : ℕ) (b : IsBegun octets len) → before ≡ [] → own ≡ before ++ take len octets → labels_in own ≡ b.name
+named octets own before len b none e = ap labels_in (copied octets own before len b none e) ∙ labels_in-wire_of b.name b.lawful.labels
 
-read : (octets own before : List ℕ) (len : ℕ) (b : IsBegun octets len) → before ≡ [] → own ≡ before ++ take len octets → (len ≡ length (wire_of (labels_in 0 own))) × (octets ≡ wire_of (labels_in 0 own) ++ drop len octets)
+read : (octets own before : List ℕ) (len : ℕ) (b : IsBegun octets len) → before ≡ [] → own ≡ before ++ take len octets → (len ≡ length (wire_of (labels_in own))) × (octets ≡ wire_of (labels_in own) ++ drop len octets)
 read octets own before len b none e =
     let is = named octets own before len b none e in
     let join = take-append-drop len octets in

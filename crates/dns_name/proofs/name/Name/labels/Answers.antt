@@ -3,10 +3,10 @@ use Rattle.dns_name.specs.Labels.{labels_in, IsWhole}
 use Rattle.dns_name.proofs.LabelLemmas.{labels_few}
 use Rattle.dns_name.proofs.name.Name.labels.Goals as goal
 
-few : (octets lent : List ℕ) (labels : List (List ℕ)) → IsWhole 0 octets → length octets ≤ 255 → lent ≡ octets → labels ≡ labels_in 0 lent → length labels < 128
+few : (octets lent : List ℕ) (labels : List (List ℕ)) → IsWhole octets → length octets ≤ 255 → lent ≡ octets → labels ≡ labels_in lent → length labels < 128
 few octets lent labels h short same e =
-    let count = labels_few 0 octets h in
-    let len = ap length (e ∙ ap (labels_in 0) same) in
+    let count = labels_few octets h in
+    let len = ap length (e ∙ ap labels_in same) in
     omega arith
 
 pub returns-clause-few : goal.returns-clause-few

@@ -7,8 +7,8 @@ use Rattle.dns_name.proofs.name.Name.to_text.Given as goal
 
 abbrev pub invariant-loop-label : goal.invariant-loop-label
 invariant-loop-label l = record {
-  whole : IsWhole 0 l.rest;
-  text : l.text.bytes ++ flat_map label_text (labels_in 0 l.rest) ≡ flat_map label_text l.self;
+  whole : IsWhole l.rest;
+  text : l.text.bytes ++ flat_map label_text (labels_in l.rest) ≡ flat_map label_text l.self;
   room : array_string_len l.text + 4 * length l.rest ≤ 1020;
 }
 

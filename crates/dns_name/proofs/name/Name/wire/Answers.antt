@@ -13,10 +13,10 @@ returns-clause-octets c =
     let name = c.octets-octets.ensures.labels in
     cc
 
-lawful_at : (octets : List ℕ) (name : List (List ℕ)) → labels_in 0 octets ≡ name → IsWhole 0 octets → length octets ≤ 255 → IsName name
+lawful_at : (octets : List ℕ) (name : List (List ℕ)) → labels_in octets ≡ name → IsWhole octets → length octets ≤ 255 → IsName name
 lawful_at octets name e h l =
     let own = ap length (wire_of-labels_in octets h) in
-    let is : IsName (labels_in 0 octets) = record { labels = IsLabel_each 0 octets h; short = omega arith } in
+    let is : IsName (labels_in octets) = record { labels = IsLabel_each octets h; short = omega arith } in
     rw e at is
 
 pub returns-clause-lawful : goal.returns-clause-lawful

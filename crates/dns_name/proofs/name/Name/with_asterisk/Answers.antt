@@ -1,6 +1,7 @@
-use Rattle.std.proofs.Common.{◌≡◌, ℕ, ◌≤◌, ◌++◌, ◌∷◌, [], List, length, ap, ◌∙◌, arith}
+use Rattle.std.proofs.Common.{◌≡◌, ℕ, ◌≤◌, ◌++◌, ◌∷◌, [], List, length, All, sym, ap, subst, ◌∙◌, arith}
+use Rattle.std.proofs.lemmas.List.Elements.{All-cons}
 use Rattle.dns_name.specs.Labels.{labels_in, IsWhole}
-use Rattle.dns_name.specs.Name.{wire_of, IsName, asterisk}
+use Rattle.dns_name.specs.Name.{wire_of, IsLabel, IsName, asterisk}
 use Rattle.dns_name.proofs.LabelLemmas.{IsWhole-wire_of, labels_in-wire_of}
 use Rattle.dns_name.proofs.name.Name.with_asterisk.Goals as goal
 
@@ -8,16 +9,18 @@ use Rattle.dns_name.proofs.name.Name.with_asterisk.Goals as goal
 put : (all front less none behind : List ℕ) → none ≡ [] → less ≡ none ++ 1 ∷ [] → front ≡ less ++ 42 ∷ [] → all ≡ front ++ behind → all ≡ 1 ∷ 42 ∷ behind
 put all front less none behind a b d e = let first : front ≡ 1 ∷ 42 ∷ [] = cc in e ∙ ap (λ (xs : List ℕ). xs ++ behind) first
 
-whole : (all behind : List ℕ) (name : List (List ℕ)) → IsName name → behind ≡ wire_of name → length behind ≤ 253 → all ≡ 1 ∷ 42 ∷ behind → IsWhole 0 all × (length all ≤ 255)
+labelled : (name : List (List ℕ)) → IsName name → All IsLabel (asterisk ∷ name)
+labelled name is = All-cons IsLabel asterisk name (record { some = omega arith; short = omega arith }) is.labels
+
+whole : (all behind : List ℕ) (name : List (List ℕ)) → IsName name → behind ≡ wire_of name → length behind ≤ 253 → all ≡ 1 ∷ 42 ∷ behind → IsWhole all × (length all ≤ 255)
 whole all behind name is same short e =
     let long = ap length e in
-    let both : IsWhole 0 (1 ∷ 42 ∷ behind) = (omega arith, rw same (IsWhole-wire_of name is.labels)) in
-    (rw e both, omega arith)
+    let octets : all ≡ wire_of (asterisk ∷ name) = e ∙ ap (λ (xs : List ℕ). 1 ∷ 42 ∷ xs) same in
+    (subst IsWhole (sym octets) (IsWhole-wire_of (asterisk ∷ name) (labelled name is)), omega arith)
 
-named : (all behind : List ℕ) (name : List (List ℕ)) → IsName name → behind ≡ wire_of name → all ≡ 1 ∷ 42 ∷ behind → labels_in 0 all ≡ asterisk ∷ name
+named : (all behind : List ℕ) (name : List (List ℕ)) → IsName name → behind ≡ wire_of name → all ≡ 1 ∷ 42 ∷ behind → labels_in all ≡ asterisk ∷ name
 named all behind name is same e =
-    let rest = labels_in-wire_of name is.labels in
-    ap (labels_in 0) e ∙ ap (λ (xs : List ℕ). (42 ∷ []) ∷ labels_in 0 xs) same ∙ ap (λ (n : List (List ℕ)). (42 ∷ []) ∷ n) rest
+    ap labels_in (e ∙ ap (λ (xs : List ℕ). 1 ∷ 42 ∷ xs) same) ∙ labels_in-wire_of (asterisk ∷ name) (labelled name is)
 
 pub invariant_of-result : goal.invariant_of-result
 invariant_of-result c = whole _ _ _ c.wire-behind.ensures.lawful c.wire-behind.ensures.octets c.if-behind-gt-MAX_BELOW_ASTERISK.false
