@@ -14,10 +14,10 @@ use Rattle.zone_tree.specs.Zone.{is_of, share_ttl, soa_of, IsBefore, IsZone}
 use Rattle.zone_tree.proofs.LawLemmas.{same_lists}
 use Rattle.zone_tree.proofs.Rising.{rises_from_pairs, each_weaker}
 use Rattle.zone_tree.proofs.SetLemmas.{record_total}
-use Rattle.master_file.specs.declared.placed.Placed.{Placed}
-use Rattle.master_file.specs.Gathered.{record_in, with_one, with_all, timed, in_lower, zone_records, zone_of_all, zone_of_read, told}
+use Rattle.master_file.specs.declared.record_entry.RecordEntry.{RecordEntry}
+use Rattle.master_file.specs.ZoneText.{record_in, with_one, with_all, timed, in_lower, zone_records, zone_of_all, zone_of_read, told}
 use Rattle.record_text.specs.declared.cause.Cause.TheVariants.{Limit}
-use Rattle.master_file.specs.ZoneText.{is_other, soa_first, placed_at, placed_from}
+use Rattle.master_file.specs.WrittenZone.{is_other, soa_first, rr_at, rrs_from}
 use Rattle.master_file.proofs.InsertLemmas.{each_inserted}
 use Rattle.master_file.proofs.JudgeLemmas.{Ascends, ascends_all}
 use Rattle.master_file.proofs.ShownLemmas.{shown, each_of_all}
@@ -75,20 +75,20 @@ there : (k : Record) (xs : List Record) → AllByRecursion (λ x. record_cmp k x
 there k [] h = is_first k []
 there k (x ∷ xs) h = there_placed k x xs (insert_key record_cmp xs k) (record_cmp k x) refl h.0 (there k xs h.1)
 
-stays_all : (kept : List Record) (ps : List Placed) (y : Record) → Contains kept y → Contains (with_all kept ps) y
+stays_all : (kept : List Record) (ps : List RecordEntry) (y : Record) → Contains kept y → Contains (with_all kept ps) y
 stays_all kept [] y h = h
 stays_all kept (p ∷ ps) y h = stays_all (with_one kept p) ps y (stays (record_in p) kept y h)
 
-all_there : (zone kept : List Record) (line : ℕ) (rs : List Record) → Ascends zone → AllByRecursion (λ r. Contains zone r) kept → AllByRecursion (λ r. Contains zone r) rs → AllByRecursion (λ r. Contains (with_all kept (placed_from line rs)) r) rs
+all_there : (zone kept : List Record) (line : ℕ) (rs : List Record) → Ascends zone → AllByRecursion (λ r. Contains zone r) kept → AllByRecursion (λ r. Contains zone r) rs → AllByRecursion (λ r. Contains (with_all kept (rrs_from line rs)) r) rs
 all_there zone kept line [] h k m = tt
 all_there zone kept line (r ∷ rs) h k m =
-    let now = with_one kept (placed_at line r) in
+    let now = with_one kept (rr_at line r) in
     let tied = each_weaker (λ x. Contains zone x) (λ x. record_cmp r x ≡ Equal → x ≡ r) (λ x c e. one_of_tied zone r x h m.0 c e) kept k in (
-      stays_all now (placed_from (line + 1) rs) r (there r kept tied),
+      stays_all now (rrs_from (line + 1) rs) r (there r kept tied),
       all_there zone now (line + 1) rs h (each_inserted record_total (λ x. Contains zone x) r kept m.0 k) m.1,
     )
 
-placed_each : (P : Record → Type 0) (line : ℕ) (rs : List Record) → AllByRecursion P rs → AllByRecursion (λ p. P (record_in p)) (placed_from line rs)
+placed_each : (P : Record → Type 0) (line : ℕ) (rs : List Record) → AllByRecursion P rs → AllByRecursion (λ p. P (record_in p)) (rrs_from line rs)
 placed_each P line [] h = tt
 placed_each P line (r ∷ rs) h = (h.0, placed_each P (line + 1) rs h.1)
 
@@ -141,9 +141,9 @@ all_first zone =
     zone (both_in (λ r. (r.rtype == type_SOA) ≡ true → Contains (soa_of zone) r) (λ r. is_other r ≡ true → Contains (filter is_other zone) r) zone (passes (λ (r : Record). r.rtype == type_SOA) zone) (passes is_other zone))
 
 -- kept, they are the zone
-kept_again : (zone : List Record) → Ascends zone → with_all [] (placed_from 1 (soa_first zone)) ≡ zone
+kept_again : (zone : List Record) → Ascends zone → with_all [] (rrs_from 1 (soa_first zone)) ≡ zone
 kept_again zone h =
-    let ps = placed_from 1 (soa_first zone) in
+    let ps = rrs_from 1 (soa_first zone) in
     let all = each_first (λ r. Contains zone r) zone (each_in zone) in
     let only = each_of_all (λ r. Contains zone r) [] ps tt (placed_each (λ r. Contains zone r) 1 (soa_first zone) all) in
     let each = all_there zone [] 1 (soa_first zone) h tt all in
@@ -158,7 +158,7 @@ aged_same : (b : Bool) (ttl : ℕ) (r : Record) → (b ≡ true → ttl ≡ r.tt
 aged_same true ttl r same = ap (λ (n : ℕ). record r { ttl = n }) (same refl)
 aged_same false ttl r same = refl
 
-timed_same : (ps : List Placed) (r : Record) → AllByRecursion (λ p. is_of r.owner r.rtype (record_in p) ≡ true → p.ttl.0 ≡ r.ttl) ps → timed ps r ≡ r
+timed_same : (ps : List RecordEntry) (r : Record) → AllByRecursion (λ p. is_of r.owner r.rtype (record_in p) ≡ true → p.ttl.0 ≡ r.ttl) ps → timed ps r ≡ r
 timed_same [] r h = refl
 timed_same (p ∷ ps) r h = ap (timed ps) (aged_same (is_of r.owner r.rtype (record_in p)) p.ttl.0 r h.0) ∙ timed_same ps r h.1
 
@@ -170,9 +170,9 @@ map_itself : (f : Record → Record) (rs : List Record) → AllByRecursion (λ r
 map_itself f [] h = refl
 map_itself f (r ∷ rs) h = ap (λ (s : Record). s ∷ map f rs) h.0 ∙ ap (λ (ss : List Record). r ∷ ss) (map_itself f rs h.1)
 
-shown_again : (zone : List Record) → IsZone zone → AllByRecursion (λ r. shown (placed_from 1 (soa_first zone)) r ≡ r) zone
+shown_again : (zone : List Record) → IsZone zone → AllByRecursion (λ r. shown (rrs_from 1 (soa_first zone)) r ≡ r) zone
 shown_again zone is =
-    let ps = placed_from 1 (soa_first zone) in
+    let ps = rrs_from 1 (soa_first zone) in
     let ttls = recursion_from_All (λ (s : Record). All (λ r. share_ttl s r ≡ true) zone) zone is.rules.one_ttl in
     let lawful = recursion_from_All IsLawful zone is.rules.lawful in
     each_weaker (λ (r : Record). IsLawful r × Contains zone r) (λ (r : Record). shown ps r ≡ r)
@@ -184,14 +184,14 @@ shown_again zone is =
     zone (both_in IsLawful (λ r. Contains zone r) zone lawful (each_in zone))
 
 -- the zone of its own records is the zone
-records_again : (zone : List Record) → IsZone zone → zone_records (placed_from 1 (soa_first zone)) ≡ zone
+records_again : (zone : List Record) → IsZone zone → zone_records (rrs_from 1 (soa_first zone)) ≡ zone
 records_again zone is =
-    let ps = placed_from 1 (soa_first zone) in
+    let ps = rrs_from 1 (soa_first zone) in
     ap (map (shown ps)) (kept_again zone (rises_from_pairs IsBefore zone is.rules.ascending)) ∙ map_itself (shown ps) zone (shown_again zone is)
 
-pub zone_again : (zone : List Record) → IsZone zone → zone_of_read (record { placed = placed_from 1 (soa_first zone); fault = None }) ≡ Ok zone
+pub zone_again : (zone : List Record) → IsZone zone → zone_of_read (record { rrs = rrs_from 1 (soa_first zone); fault = None }) ≡ Ok zone
 zone_again zone is =
-    let ps = placed_from 1 (soa_first zone) in
+    let ps = rrs_from 1 (soa_first zone) in
     let same = records_again zone is in
     let ok = ok_zone ps (of_is_zone ps (subst (λ (z : List Record). IsZone z) (sym same) is)) in
     ap (λ (o : Option ℕ). told Limit o (zone_of_all ps)) ok.0 ∙ ok.1 ∙ ap (λ (z : List Record). Ok z) same

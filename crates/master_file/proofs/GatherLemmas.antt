@@ -8,10 +8,10 @@ use Rattle.dns_rdata.specs.Numbers.{type_NS}
 use Rattle.record_text.specs.declared.cause.Cause.TheVariants.{Limit, Apex, Outside, Conflict}
 use Rattle.master_file.specs.declared.fault.FileFault.{FileFault}
 use Rattle.master_file.specs.declared.gathered.Gathered.{Gathered}
-use Rattle.master_file.specs.declared.noted.Noted.{Noted}
-use Rattle.master_file.specs.declared.placed.Placed.{Placed}
-use Rattle.master_file.specs.Gathered.{record_in, in_lower, with_one, with_all, first_line, is_too_many, is_second_soa, is_conflict, timed, told, told_whole, outside_line, zone_records, zone_of_all, zone_of_read}
-use Rattle.master_file.specs.Noted.{AreNotes, LastsEach, SetsTtl, IsGathered, zone_gathered, shown_by, noted_at, with_ttl_of, first_owner}
+use Rattle.master_file.specs.declared.summary.SetSummary.{SetSummary}
+use Rattle.master_file.specs.declared.record_entry.RecordEntry.{RecordEntry}
+use Rattle.master_file.specs.ZoneText.{record_in, in_lower, with_one, with_all, first_line, is_too_many, is_second_soa, is_conflict, timed, told, told_whole, outside_line, zone_records, zone_of_all, zone_of_read}
+use Rattle.master_file.specs.Summary.{AreSummaries, LastsEach, SetsTtl, IsGathered, zone_gathered, shown_by, summary_at, with_ttl_of, first_owner}
 use Rattle.master_file.specs.Records.{Read, nothing, faulty, in_front}
 
 or_first : (before : Option ℕ) (b : Bool) (line : ℕ) (more : Option ℕ) → option_or (option_or before (cond b (Some line) None)) more ≡ option_or before (cond b (Some line) more)
@@ -19,73 +19,73 @@ or_first None true line more = refl
 or_first None false line more = refl
 or_first (Some first) b line more = refl
 
-times_step : (o : Option Noted) (rest : List Placed) (placed : Placed) (r : Record) → timed rest (cond (is_of r.owner r.rtype (record_in placed)) (record r { ttl = placed.ttl.0 }) (with_ttl_of o r)) ≡ timed (placed ∷ rest) (with_ttl_of o r)
-times_step None rest placed r = refl
-times_step (Some noted) rest placed r = refl
+times_step : (o : Option SetSummary) (rest : List RecordEntry) (rr : RecordEntry) (r : Record) → timed rest (cond (is_of r.owner r.rtype (record_in rr)) (record r { ttl = rr.ttl.0 }) (with_ttl_of o r)) ≡ timed (rr ∷ rest) (with_ttl_of o r)
+times_step None rest rr r = refl
+times_step (Some summary) rest rr r = refl
 
-next_line : (test : List Record → Placed → Bool) (kept after : List Record) (placed : Placed) (rest : List Placed) (before now whole : Option ℕ) → after ≡ with_one kept placed → now ≡ option_or before (cond (test kept placed) (Some placed.line) None) → option_or before (first_line test kept (placed ∷ rest)) ≡ whole → option_or now (first_line test after rest) ≡ whole
-next_line test kept after placed rest before now whole put is left =
+next_line : (test : List Record → RecordEntry → Bool) (kept after : List Record) (rr : RecordEntry) (rest : List RecordEntry) (before now whole : Option ℕ) → after ≡ with_one kept rr → now ≡ option_or before (cond (test kept rr) (Some rr.line) None) → option_or before (first_line test kept (rr ∷ rest)) ≡ whole → option_or now (first_line test after rest) ≡ whole
+next_line test kept after rr rest before now whole put is left =
     ap (λ (n : Option ℕ). option_or n (first_line test after rest)) is
-    ∙ ap (λ (k : List Record). option_or (option_or before (cond (test kept placed) (Some placed.line) None)) (first_line test k rest)) put
-    ∙ or_first before (test kept placed) placed.line (first_line test (with_one kept placed) rest)
+    ∙ ap (λ (k : List Record). option_or (option_or before (cond (test kept rr) (Some rr.line) None)) (first_line test k rest)) put
+    ∙ or_first before (test kept rr) rr.line (first_line test (with_one kept rr) rest)
     ∙ left
 
 -- what is gathered of one more record
-pub gathered_step : (all rest : List Placed) (placed : Placed) (old new : Gathered) → IsGathered all (placed ∷ rest) old → new.kept.keys ≡ with_one old.kept.keys placed → is_too_many old.kept.keys placed ≡ false → AreNotes new.kept.keys new.notes → LastsEach new.notes → SetsTtl placed old.notes new.notes → new.second_soa ≡ option_or old.second_soa (cond (is_second_soa old.kept.keys placed) (Some placed.line) None) → new.conflict ≡ option_or old.conflict (cond (is_conflict old.kept.keys placed) (Some placed.line) None) → IsGathered all rest new
-gathered_step all rest placed old new is put few notes lasts times second conflict = record {
+pub gathered_step : (all rest : List RecordEntry) (rr : RecordEntry) (old new : Gathered) → IsGathered all (rr ∷ rest) old → new.kept.keys ≡ with_one old.kept.keys rr → is_too_many old.kept.keys rr ≡ false → AreSummaries new.kept.keys new.summaries → LastsEach new.summaries → SetsTtl rr old.summaries new.summaries → new.second_soa ≡ option_or old.second_soa (cond (is_second_soa old.kept.keys rr) (Some rr.line) None) → new.conflict ≡ option_or old.conflict (cond (is_conflict old.kept.keys rr) (Some rr.line) None) → IsGathered all rest new
+gathered_step all rest rr old new is put few summaries lasts times second conflict = record {
   kept = ap (λ (k : List Record). with_all k rest) put ∙ is.kept;
   limit = ap (λ (k : List Record). first_line is_too_many k rest) put
-      ∙ ap (λ (b : Bool). cond b (Some placed.line) (first_line is_too_many (with_one old.kept.keys placed) rest)) (sym few) ∙ is.limit;
-  second = next_line is_second_soa old.kept.keys new.kept.keys placed rest old.second_soa new.second_soa (first_line is_second_soa [] all) put second is.second;
-  conflict = next_line is_conflict old.kept.keys new.kept.keys placed rest old.conflict new.conflict (first_line is_conflict [] all) put conflict is.conflict;
-  notes = notes;
+      ∙ ap (λ (b : Bool). cond b (Some rr.line) (first_line is_too_many (with_one old.kept.keys rr) rest)) (sym few) ∙ is.limit;
+  second = next_line is_second_soa old.kept.keys new.kept.keys rr rest old.second_soa new.second_soa (first_line is_second_soa [] all) put second is.second;
+  conflict = next_line is_conflict old.kept.keys new.kept.keys rr rest old.conflict new.conflict (first_line is_conflict [] all) put conflict is.conflict;
+  summaries = summaries;
   lasts = lasts;
-  times = λ (r : Record). ap (timed rest) (times r) ∙ times_step (noted_at old.notes r.owner r.rtype) rest placed r ∙ is.times r;
+  times = λ (r : Record). ap (timed rest) (times r) ∙ times_step (summary_at old.summaries r.owner r.rtype) rest rr r ∙ is.times r;
 }
 
 -- a record too many is told
-pub told_limit : (read : Read) (rest : List Placed) (placed : Placed) (gathered : Gathered) → IsGathered read.placed (placed ∷ rest) gathered → is_too_many gathered.kept.keys placed ≡ true → zone_of_read read ≡ Err (record { line = placed.line; cause = Limit })
-told_limit read rest placed gathered is many =
-    ap (λ (o : Option ℕ). told Limit o (elim read.fault [ Some fault ↦ Err fault | None ↦ zone_of_all read.placed ]))
-    (sym is.limit ∙ ap (λ (b : Bool). cond b (Some placed.line) (first_line is_too_many (with_one gathered.kept.keys placed) rest)) many)
+pub told_limit : (read : Read) (rest : List RecordEntry) (rr : RecordEntry) (gathered : Gathered) → IsGathered read.rrs (rr ∷ rest) gathered → is_too_many gathered.kept.keys rr ≡ true → zone_of_read read ≡ Err (record { line = rr.line; cause = Limit })
+told_limit read rest rr gathered is many =
+    ap (λ (o : Option ℕ). told Limit o (elim read.fault [ Some fault ↦ Err fault | None ↦ zone_of_all read.rrs ]))
+    (sym is.limit ∙ ap (λ (b : Bool). cond b (Some rr.line) (first_line is_too_many (with_one gathered.kept.keys rr) rest)) many)
 
 -- and so is a fault of the text
-pub told_fault : (read left : Read) (gathered : Gathered) (fault : FileFault) → IsGathered read.placed left.placed gathered → left.fault ≡ read.fault → left ≡ faulty fault → zone_of_read read ≡ Err fault
+pub told_fault : (read left : Read) (gathered : Gathered) (fault : FileFault) → IsGathered read.rrs left.rrs gathered → left.fault ≡ read.fault → left ≡ faulty fault → zone_of_read read ≡ Err fault
 told_fault read left gathered fault is same none =
-    ap (λ (o : Option ℕ). told Limit o (elim read.fault [ Some fault ↦ Err fault | None ↦ zone_of_all read.placed ]))
-    (sym is.limit ∙ ap (λ (l : Read). first_line is_too_many gathered.kept.keys l.placed) none)
-    ∙ ap (λ (f : Option FileFault). elim f [ Some fault ↦ Err fault | None ↦ zone_of_all read.placed ])
+    ap (λ (o : Option ℕ). told Limit o (elim read.fault [ Some fault ↦ Err fault | None ↦ zone_of_all read.rrs ]))
+    (sym is.limit ∙ ap (λ (l : Read). first_line is_too_many gathered.kept.keys l.rrs) none)
+    ∙ ap (λ (f : Option FileFault). elim f [ Some fault ↦ Err fault | None ↦ zone_of_all read.rrs ])
     (sym same ∙ ap (λ (l : Read). l.fault) none)
 
 -- where nothing is left, all is gathered
-pub gathered_all : (all : List Placed) (left : Read) (gathered : Gathered) → IsGathered all left.placed gathered → left ≡ nothing → IsGathered all [] gathered
-gathered_all all left gathered is none = subst (λ (l : Read). IsGathered all l.placed gathered) none is
+pub gathered_all : (all : List RecordEntry) (left : Read) (gathered : Gathered) → IsGathered all left.rrs gathered → left ≡ nothing → IsGathered all [] gathered
+gathered_all all left gathered is none = subst (λ (l : Read). IsGathered all l.rrs gathered) none is
 
-abbrev zone_by : Option ℕ → Option ℕ → List Record → List Placed → Result (List Record) FileFault
-zone_by second conflict kept placed = told Apex second
+abbrev zone_by : Option ℕ → Option ℕ → List Record → List RecordEntry → Result (List Record) FileFault
+zone_by second conflict kept rr = told Apex second
     (told_whole (length (soa_of kept) == 0)
     (told_whole (length (rrset_of kept (apex_of kept) type_NS) == 0)
-    (told Outside (outside_line (apex_of kept) placed)
+    (told Outside (outside_line (apex_of kept) rr)
     (told Conflict conflict
-    (Ok (zone_records placed))))))
+    (Ok (zone_records rr))))))
 
 or_none : (o : Option ℕ) → option_or o None ≡ o
 or_none None = refl
 or_none (Some line) = refl
 
 -- the zone of a text without a fault, from what is gathered of it
-pub zone_from_gathered : (read : Read) (gathered : Gathered) → IsGathered read.placed [] gathered → read.fault ≡ None → zone_of_read read ≡ zone_gathered read.placed gathered
+pub zone_from_gathered : (read : Read) (gathered : Gathered) → IsGathered read.rrs [] gathered → read.fault ≡ None → zone_of_read read ≡ zone_gathered read.rrs gathered
 zone_from_gathered read gathered is none =
-    let placed = read.placed in
-    ap (λ (o : Option ℕ). told Limit o (elim read.fault [ Some fault ↦ Err fault | None ↦ zone_of_all placed ])) (sym is.limit)
-    ∙ ap (λ (f : Option FileFault). elim f [ Some fault ↦ Err fault | None ↦ zone_of_all placed ]) none
-    ∙ ap (λ (k : List Record). zone_by (first_line is_second_soa [] placed) (first_line is_conflict [] placed) k placed) (sym is.kept)
-    ∙ ap (λ (o : Option ℕ). zone_by o (first_line is_conflict [] placed) gathered.kept.keys placed) (sym (sym (or_none gathered.second_soa) ∙ is.second))
-    ∙ ap (λ (o : Option ℕ). zone_by gathered.second_soa o gathered.kept.keys placed) (sym (sym (or_none gathered.conflict) ∙ is.conflict))
+    let rr = read.rrs in
+    ap (λ (o : Option ℕ). told Limit o (elim read.fault [ Some fault ↦ Err fault | None ↦ zone_of_all rr ])) (sym is.limit)
+    ∙ ap (λ (f : Option FileFault). elim f [ Some fault ↦ Err fault | None ↦ zone_of_all rr ]) none
+    ∙ ap (λ (k : List Record). zone_by (first_line is_second_soa [] rr) (first_line is_conflict [] rr) k rr) (sym is.kept)
+    ∙ ap (λ (o : Option ℕ). zone_by o (first_line is_conflict [] rr) gathered.kept.keys rr) (sym (sym (or_none gathered.second_soa) ∙ is.second))
+    ∙ ap (λ (o : Option ℕ). zone_by gathered.second_soa o gathered.kept.keys rr) (sym (sym (or_none gathered.conflict) ∙ is.conflict))
 
 -- what is left, where a record is read of it
-pub front_of : (left rest : Read) (found : Option Placed) (placed : Placed) → found ≡ Some placed → MatchOption found (left ≡ nothing) (λ (p : Placed). left ≡ in_front p rest) → left ≡ in_front placed rest
-front_of left rest found placed e h = subst (λ (o : Option Placed). MatchOption o (left ≡ nothing) (λ (p : Placed). left ≡ in_front p rest)) e h
+pub front_of : (left rest : Read) (found : Option RecordEntry) (rr : RecordEntry) → found ≡ Some rr → MatchOption found (left ≡ nothing) (λ (p : RecordEntry). left ≡ in_front p rest) → left ≡ in_front rr rest
+front_of left rest found rr e h = subst (λ (o : Option RecordEntry). MatchOption o (left ≡ nothing) (λ (p : RecordEntry). left ≡ in_front p rest)) e h
 
 -- the owner of the first record that a test shows
 abbrev pub owner_in : Option Record → Option (List (List ℕ))
@@ -104,7 +104,7 @@ map_same f g same [] = refl
 map_same f g same (r ∷ rs) = ap (λ (s : Record). s ∷ map f rs) (same r) ∙ ap (λ (ss : List Record). g r ∷ ss) (map_same f g same rs)
 
 -- the records of a zone, from what is gathered
-pub zone_records_from : (all : List Placed) (gathered : Gathered) → IsGathered all [] gathered → map (shown_by gathered.notes) gathered.kept.keys ≡ zone_records all
+pub zone_records_from : (all : List RecordEntry) (gathered : Gathered) → IsGathered all [] gathered → map (shown_by gathered.summaries) gathered.kept.keys ≡ zone_records all
 zone_records_from all gathered is =
-    map_same (shown_by gathered.notes) (λ (r : Record). in_lower (timed all r)) (λ (r : Record). ap in_lower (is.times r)) gathered.kept.keys
+    map_same (shown_by gathered.summaries) (λ (r : Record). in_lower (timed all r)) (λ (r : Record). ap in_lower (is.times r)) gathered.kept.keys
     ∙ ap (λ (k : List Record). map (λ (r : Record). in_lower (timed all r)) k) is.kept

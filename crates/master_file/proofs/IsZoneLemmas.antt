@@ -10,14 +10,14 @@ use Rattle.dns_rdata.specs.Numbers.{type_NS, type_CNAME, type_SOA}
 use Rattle.dns_rdata.specs.Record.{Record, IsLawful}
 use Rattle.zone_tree.specs.Zone.{stands_at, is_of, rrset_of, rrsets_of, soa_of, apex_of, is_wild, is_alone, share_ttl, IsBefore, IsZone}
 use Rattle.zone_tree.proofs.Rising.{each_weaker, each_map, each_always, each_both, pairs_from_rises}
-use Rattle.master_file.specs.declared.placed.Placed.{Placed}
+use Rattle.master_file.specs.declared.record_entry.RecordEntry.{RecordEntry}
 use Rattle.record_text.specs.declared.cause.Cause.{Cause}
 use Rattle.record_text.specs.declared.cause.Cause.TheVariants.{Limit, Outside, Apex, Conflict}
 use Rattle.master_file.specs.declared.fault.FileFault.{FileFault}
-use Rattle.master_file.specs.Gathered.{record_in, with_all, timed, first_line, is_too_many, is_second_soa, is_conflict, outside_line, told, told_whole, zone_of_all, zone_of_read, zone_records}
+use Rattle.master_file.specs.ZoneText.{record_in, with_all, timed, first_line, is_too_many, is_second_soa, is_conflict, outside_line, told, told_whole, zone_of_all, zone_of_read, zone_records}
 use Rattle.master_file.specs.Records.{Read}
 use Rattle.master_file.proofs.KeptLemmas.{one, count_cons}
-use Rattle.master_file.proofs.NotesLemmas.{same_set}
+use Rattle.master_file.proofs.SummaryLemmas.{same_set}
 use Rattle.master_file.proofs.JudgeLemmas.{ascends_all, holds_of_all, no_line, AreFew, limits_judge, HasOneSoa, soa_judges}
 use Rattle.master_file.proofs.RuleLemmas.{AreApart, conflicts_judge, is_outside, AreInside, outside_judges, outside_first, is_wild_cut, same_at}
 use Rattle.master_file.proofs.ShownLemmas.{shown, count_map, shown_at, shown_of, shown_soa, shown_cut, shown_outside, apex_folded, apex_shown, ascends_shown, share_shown, lawful_shown, is_read, each_read, each_of_all, timed_rdata}
@@ -33,7 +33,7 @@ pub record AreOfZone (kept : List Record) : Type 0 where
   pub servers : (length (rrset_of kept (apex_of kept) type_NS) == 0) ≡ false
 
 -- a record that is read
-pub record IsReadable (p : Placed) : Type 0 where
+pub record IsReadable (p : RecordEntry) : Type 0 where
   pub lawful : IsLawful (record_in p)
   pub short : length p.rdata.octets ≤ 4096
 
@@ -51,11 +51,11 @@ few_none = record { all = omega arith; each = λ owner rtype. omega arith }
 apart_none : AreApart []
 apart_none = record { alone = λ owner some. omega arith; cuts = omega arith }
 
-abbrev kept_of : List Placed → List Record
+abbrev kept_of : List RecordEntry → List Record
 kept_of ps = with_all [] ps
 
 -- where no fault is told, they hold it
-pub of_zone : (ps : List Placed) (zone : List Record) → first_line is_too_many [] ps ≡ None → zone_of_all ps ≡ Ok zone → AreOfZone (with_all [] ps) × (zone ≡ zone_records ps)
+pub of_zone : (ps : List RecordEntry) (zone : List Record) → first_line is_too_many [] ps ≡ None → zone_of_all ps ≡ Ok zone → AreOfZone (with_all [] ps) × (zone ≡ zone_records ps)
 of_zone ps zone few e =
     let kept = with_all [] ps in
     let apex = apex_of kept in
@@ -80,7 +80,7 @@ of_zone ps zone few e =
     )
 
 -- and where they hold it, none is told
-pub ok_zone : (ps : List Placed) → AreOfZone (with_all [] ps) → (first_line is_too_many [] ps ≡ None) × (zone_of_all ps ≡ Ok (zone_records ps))
+pub ok_zone : (ps : List RecordEntry) → AreOfZone (with_all [] ps) → (first_line is_too_many [] ps ≡ None) × (zone_of_all ps ≡ Ok (zone_records ps))
 ok_zone ps h =
     let kept = with_all [] ps in
     let apex = apex_of kept in
@@ -161,7 +161,7 @@ not_nil : (rs : List Record) → rs ≢ [] → 0 < length rs
 not_nil [] h = absurd (h refl)
 not_nil (r ∷ rs) h = omega arith
 
-module _ (ps : List Placed) where
+module _ (ps : List RecordEntry) where
   -- the zone's records
   abbrev zone : List Record
   zone = map (shown ps) (with_all [] ps)
@@ -203,9 +203,9 @@ module _ (ps : List Placed) where
   pub zone_is : AllByRecursion IsReadable ps → AreOfZone (with_all [] ps) → IsZone (zone_records ps)
   zone_is each h =
       let kept = with_all [] ps in
-      let lasts = each_weaker IsReadable (λ (p : Placed). p.ttl.0 < 2 ^ 31) (λ p r. r.lawful.lasts) ps each in
-      let lawful = each_of_all IsLawful [] ps tt (each_weaker IsReadable (λ (p : Placed). IsLawful (record_in p)) (λ p r. r.lawful) ps each) in
-      let short = each_of_all (λ (r : Record). length r.rdata ≤ 4096) [] ps tt (each_weaker IsReadable (λ (p : Placed). length p.rdata.octets ≤ 4096) (λ p r. r.short) ps each) in
+      let lasts = each_weaker IsReadable (λ (p : RecordEntry). p.ttl.0 < 2 ^ 31) (λ p r. r.lawful.lasts) ps each in
+      let lawful = each_of_all IsLawful [] ps tt (each_weaker IsReadable (λ (p : RecordEntry). IsLawful (record_in p)) (λ p r. r.lawful) ps each) in
+      let short = each_of_all (λ (r : Record). length r.rdata ≤ 4096) [] ps tt (each_weaker IsReadable (λ (p : RecordEntry). length p.rdata.octets ≤ 4096) (λ p r. r.short) ps each) in
       record {
         rules = record {
           lawful = all_from_each IsLawful zone (each_map IsLawful (shown ps) kept (each_weaker IsLawful (λ (r : Record). IsLawful (shown ps r)) (λ r l. lawful_shown ps r lasts l) kept lawful));
@@ -272,20 +272,20 @@ module _ (ps : List Placed) where
     servers = let a = server_count in not_zero (length (rrset_of (with_all [] ps) (apex_of (with_all [] ps)) type_NS)) (let some = not_nil (rrset_of zone (apex_of zone) type_NS) is.rules.name_servers in omega arith);
   }
 
-no_fault : (fault : Option FileFault) (ps : List Placed) (zone : List Record) → (elim fault as (λ _. Result (List Record) FileFault) [ Some f ↦ Err f | None ↦ zone_of_all ps ]) ≡ Ok zone → zone_of_all ps ≡ Ok zone
+no_fault : (fault : Option FileFault) (ps : List RecordEntry) (zone : List Record) → (elim fault as (λ _. Result (List Record) FileFault) [ Some f ↦ Err f | None ↦ zone_of_all ps ]) ≡ Ok zone → zone_of_all ps ≡ Ok zone
 no_fault None ps zone e = e
 no_fault (Some f) ps zone e = let no : ⊥ = cc in absurd no
 
 -- what is read without a fault is a zone
-pub read_is_zone : (read : Read) (zone : List Record) → AllByRecursion IsReadable read.placed → zone_of_read read ≡ Ok zone → IsZone zone
+pub read_is_zone : (read : Read) (zone : List Record) → AllByRecursion IsReadable read.rrs → zone_of_read read ≡ Ok zone → IsZone zone
 read_is_zone read found each e =
-    let a = told_ok Limit (first_line is_too_many [] read.placed) (elim read.fault as (λ _. Result (List Record) FileFault) [ Some f ↦ Err f | None ↦ zone_of_all read.placed ]) found e in
-    let of = of_zone read.placed found a.0 (no_fault read.fault read.placed found a.1) in
-    subst (λ (z : List Record). IsZone z) (sym of.1) (zone_is read.placed each of.0)
+    let a = told_ok Limit (first_line is_too_many [] read.rrs) (elim read.fault as (λ _. Result (List Record) FileFault) [ Some f ↦ Err f | None ↦ zone_of_all read.rrs ]) found e in
+    let of = of_zone read.rrs found a.0 (no_fault read.fault read.rrs found a.1) in
+    subst (λ (z : List Record). IsZone z) (sym of.1) (zone_is read.rrs each of.0)
 
 -- and a zone is read without a fault
-pub zone_is_read : (read : Read) → read.fault ≡ None → IsZone (zone_records read.placed) → zone_of_read read ≡ Ok (zone_records read.placed)
+pub zone_is_read : (read : Read) → read.fault ≡ None → IsZone (zone_records read.rrs) → zone_of_read read ≡ Ok (zone_records read.rrs)
 zone_is_read read none is =
-    let ok = ok_zone read.placed (of_is_zone read.placed is) in
-    ap (λ (o : Option ℕ). told Limit o (elim read.fault as (λ _. Result (List Record) FileFault) [ Some f ↦ Err f | None ↦ zone_of_all read.placed ])) ok.0
-    ∙ ap (λ (f : Option FileFault). elim f as (λ _. Result (List Record) FileFault) [ Some g ↦ Err g | None ↦ zone_of_all read.placed ]) none ∙ ok.1
+    let ok = ok_zone read.rrs (of_is_zone read.rrs is) in
+    ap (λ (o : Option ℕ). told Limit o (elim read.fault as (λ _. Result (List Record) FileFault) [ Some f ↦ Err f | None ↦ zone_of_all read.rrs ])) ok.0
+    ∙ ap (λ (f : Option FileFault). elim f as (λ _. Result (List Record) FileFault) [ Some g ↦ Err g | None ↦ zone_of_all read.rrs ]) none ∙ ok.1

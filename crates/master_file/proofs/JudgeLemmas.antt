@@ -10,32 +10,32 @@ use Rattle.dns_rdata.specs.Record.{Record, record_cmp}
 use Rattle.zone_tree.specs.Zone.{is_of, rrset_of, soa_of}
 use Rattle.zone_tree.proofs.Rising.{Rises}
 use Rattle.zone_tree.proofs.SetLemmas.{record_total}
-use Rattle.master_file.specs.declared.placed.Placed.{Placed}
-use Rattle.master_file.specs.Gathered.{record_in, with_one, with_all, first_line, is_new, is_too_many, is_second_soa}
+use Rattle.master_file.specs.declared.record_entry.RecordEntry.{RecordEntry}
+use Rattle.master_file.specs.ZoneText.{record_in, with_one, with_all, first_line, is_new, is_too_many, is_second_soa}
 use Rattle.master_file.proofs.InsertLemmas.{count_inserted, rises_inserted}
 use Rattle.master_file.proofs.KeptLemmas.{one}
-use Rattle.master_file.proofs.NotesLemmas.{same_set}
+use Rattle.master_file.proofs.SummaryLemmas.{same_set}
 
 -- records in strictly ascending order
 abbrev pub Ascends : List Record → Type 0
 Ascends kept = Rises (λ r s. is_lt (record_cmp r s) ≡ true) kept
 
-pub ascends_with : (kept : List Record) (p : Placed) → Ascends kept → Ascends (with_one kept p)
+pub ascends_with : (kept : List Record) (p : RecordEntry) → Ascends kept → Ascends (with_one kept p)
 ascends_with kept p h = rises_inserted record_total (record_in p) kept h
 
-pub ascends_all : (kept : List Record) (ps : List Placed) → Ascends kept → Ascends (with_all kept ps)
+pub ascends_all : (kept : List Record) (ps : List RecordEntry) → Ascends kept → Ascends (with_all kept ps)
 ascends_all kept [] h = h
 ascends_all kept (p ∷ ps) h = ascends_all (with_one kept p) ps (ascends_with kept p h)
 
 -- how many a test shows, with one more record
-pub count_with : (q : Record → Bool) (kept : List Record) (p : Placed) → Ascends kept → length (filter q (with_one kept p)) ≡ one (is_new kept p && q (record_in p)) + length (filter q kept)
+pub count_with : (q : Record → Bool) (kept : List Record) (p : RecordEntry) → Ascends kept → length (filter q (with_one kept p)) ≡ one (is_new kept p && q (record_in p)) + length (filter q kept)
 count_with q kept p h = count_inserted record_total q (record_in p) kept h
 
 -- a test shows a record exactly where what held before it holds no more
-pub record Judges (test : List Record → Placed → Bool) (Q : List Record → Type 0) : Type 0 where
-  pub keeps : (kept : List Record) (p : Placed) → Ascends kept → Q kept → test kept p ≡ false → Q (with_one kept p)
-  pub told : (kept : List Record) (p : Placed) → Ascends kept → Q (with_one kept p) → test kept p ≡ true → ⊥
-  pub before : (kept : List Record) (p : Placed) → Ascends kept → Q (with_one kept p) → Q kept
+pub record Judges (test : List Record → RecordEntry → Bool) (Q : List Record → Type 0) : Type 0 where
+  pub keeps : (kept : List Record) (p : RecordEntry) → Ascends kept → Q kept → test kept p ≡ false → Q (with_one kept p)
+  pub told : (kept : List Record) (p : RecordEntry) → Ascends kept → Q (with_one kept p) → test kept p ≡ true → ⊥
+  pub before : (kept : List Record) (p : RecordEntry) → Ascends kept → Q (with_one kept p) → Q kept
 
 none_first : (b : Bool) (line : ℕ) (o : Option ℕ) → cond b (Some line) o ≡ None → (b ≡ false) × (o ≡ None)
 none_first true line o e = let no : ⊥ = cc in absurd no
@@ -45,16 +45,16 @@ first_none : (b : Bool) (line : ℕ) (o : Option ℕ) → (b ≡ true → ⊥) �
 first_none true line o never e = absurd (never refl)
 first_none false line o never e = e
 
-module _ {test : List Record → Placed → Bool} {Q : List Record → Type 0} (judges : Judges test Q) where
+module _ {test : List Record → RecordEntry → Bool} {Q : List Record → Type 0} (judges : Judges test Q) where
   -- where no line shows a fault, it holds of all
-  pub holds_of_all : (kept : List Record) (ps : List Placed) → Ascends kept → Q kept → first_line test kept ps ≡ None → Q (with_all kept ps)
+  pub holds_of_all : (kept : List Record) (ps : List RecordEntry) → Ascends kept → Q kept → first_line test kept ps ≡ None → Q (with_all kept ps)
   holds_of_all kept [] h q none = q
   holds_of_all kept (p ∷ ps) h q none =
       let parts = none_first (test kept p) p.line (first_line test (with_one kept p) ps) none in
       holds_of_all (with_one kept p) ps (ascends_with kept p h) (judges.keeps kept p h q parts.0) parts.1
 
   -- and where it holds of all, no line shows one
-  pub no_line : (kept : List Record) (ps : List Placed) → Ascends kept → Q (with_all kept ps) → (first_line test kept ps ≡ None) × Q kept
+  pub no_line : (kept : List Record) (ps : List RecordEntry) → Ascends kept → Q (with_all kept ps) → (first_line test kept ps ≡ None) × Q kept
   no_line kept [] h q = (refl, q)
   no_line kept (p ∷ ps) h q =
       let rest = no_line (with_one kept p) ps (ascends_with kept p h) q in
@@ -69,7 +69,7 @@ and_true : (b : Bool) → (b && true) ≡ b
 and_true true = refl
 and_true false = refl
 
-pub length_with : (kept : List Record) (p : Placed) → Ascends kept → length (with_one kept p) ≡ one (is_new kept p) + length kept
+pub length_with : (kept : List Record) (p : RecordEntry) → Ascends kept → length (with_one kept p) ≡ one (is_new kept p) + length kept
 length_with kept p h =
     sym (all_count (with_one kept p)) ∙ count_with (λ (r : Record). true) kept p h
     ∙ ap (λ (b : Bool). one b + length (filter (λ (r : Record). true) kept)) (and_true (is_new kept p))
@@ -81,7 +81,7 @@ own owner = is_same_equiv.refl owner
 eqb_own : (n : ℕ) → (n == n) ≡ true
 eqb_own n = (Decides-eqb n n).1 refl
 
-own_set : (p : Placed) → is_of p.owner p.rdata.rtype (record_in p) ≡ true
+own_set : (p : RecordEntry) → is_of p.owner p.rdata.rtype (record_in p) ≡ true
 own_set p = let o = own p.owner in let t = eqb_own p.rdata.rtype in rw (o, t) refl
 
 -- the limits

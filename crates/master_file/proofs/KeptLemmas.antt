@@ -11,8 +11,8 @@ use Rattle.std.specs.BTreeSet.{BTreeSet, insert_key}
 use Rattle.std.specs.BTreeMap.{BTreeMap, is_at}
 use Rattle.dns_name.specs.Name.{is_same, canonical_cmp}
 use Rattle.dns_name.specs.Order.{is_same_tied}
-use Rattle.master_file.specs.declared.noted.Noted.{Noted}
-use Rattle.master_file.specs.Noted.{set_cmp}
+use Rattle.master_file.specs.declared.summary.SetSummary.{SetSummary}
+use Rattle.master_file.specs.Summary.{set_cmp}
 
 -- 1 where a test shows something
 abbrev pub one : Bool → ℕ
@@ -62,12 +62,12 @@ key_tied owner other rtype number =
     ∙ ap (λ (b : Bool). b && is_eq (nat_cmp rtype number)) (sym (is_same_tied owner other))
     ∙ ap (λ (b : Bool). is_same owner other && b) (unsigned_tied rtype number)
 
--- what is noted behind one more note
-pub sets_put : (old new : BTreeMap (List (List ℕ) × ℕ) Noted) (owner copy : List (List ℕ)) (rtype : ℕ) (noted : Noted) → copy ≡ owner → tree.Updates set_cmp old new (copy, rtype) (Some noted) → (other : List (List ℕ)) (number : ℕ) → tree.get set_cmp new (other, number) ≡ cond (is_same owner other && rtype == number) (Some noted) (tree.get set_cmp old (other, number))
-sets_put old new owner copy rtype noted same updates other number =
+-- what is known with one more summary
+pub sets_put : (old new : BTreeMap (List (List ℕ) × ℕ) SetSummary) (owner copy : List (List ℕ)) (rtype : ℕ) (summary : SetSummary) → copy ≡ owner → tree.Updates set_cmp old new (copy, rtype) (Some summary) → (other : List (List ℕ)) (number : ℕ) → tree.get set_cmp new (other, number) ≡ cond (is_same owner other && rtype == number) (Some summary) (tree.get set_cmp old (other, number))
+sets_put old new owner copy rtype summary same updates other number =
     updates.0 (other, number)
-    ∙ ap (λ (b : Bool). cond b (Some noted) (tree.get set_cmp old (other, number))) (key_tied copy other rtype number)
-    ∙ ap (λ (o : List (List ℕ)). cond (is_same o other && rtype == number) (Some noted) (tree.get set_cmp old (other, number))) same
+    ∙ ap (λ (b : Bool). cond b (Some summary) (tree.get set_cmp old (other, number))) (key_tied copy other rtype number)
+    ∙ ap (λ (o : List (List ℕ)). cond (is_same o other && rtype == number) (Some summary) (tree.get set_cmp old (other, number))) same
 
 -- and which owners are
 pub owners_put : (old new : BTreeSet (List (List ℕ))) (owner : List (List ℕ)) (is_new : Bool) → is_new ≡ true → sorted.Updates canonical_cmp old new owner true → (other : List (List ℕ)) → sorted.contains canonical_cmp new other ≡ cond (is_new && is_same owner other) true (sorted.contains canonical_cmp old other)

@@ -4,13 +4,13 @@ pub mod InsertLemmas
 pub mod IsZoneLemmas
 pub mod JudgeLemmas
 pub mod KeptLemmas
-pub mod NotesLemmas
 pub mod OwnLemmas
 pub mod ReadableLemmas
 pub mod RecordLemmas
 pub mod RuleLemmas
 pub mod SetLemmas
 pub mod ShownLemmas
+pub mod SummaryLemmas
 pub mod ZoneBackLemmas
 pub mod ZoneLawLemmas
 pub mod ZoneTextLemmas

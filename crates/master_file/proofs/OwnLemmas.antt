@@ -18,9 +18,9 @@ use Rattle.record_text.specs.Reading.{on_ok, and_then}
 use Rattle.record_text.proofs.OwnLemmas.{IsOwnCause, TellsOwn, own_or, on_own, then_own, cond_own, owner_own, surplus_own, data_own, ttl_own, front_own}
 use Rattle.master_file.specs.declared.context.Context.{Context}
 use Rattle.master_file.specs.declared.fault.FileFault.{FileFault}
-use Rattle.master_file.specs.declared.placed.Placed.{Placed}
-use Rattle.master_file.specs.Gathered.{with_all, first_line, is_too_many, is_second_soa, is_conflict, outside_line, told, told_whole, zone_of_all, zone_of_read, zone_of_text, zone_records}
-use Rattle.master_file.specs.Records.{alone, argument_of, directed, directive_of, owned_of, ttl_in, placed_of, record_of, behind, judged, words_of, fault_at, Read, faulty, in_front, records_from, start, records_of}
+use Rattle.master_file.specs.declared.record_entry.RecordEntry.{RecordEntry}
+use Rattle.master_file.specs.ZoneText.{with_all, first_line, is_too_many, is_second_soa, is_conflict, outside_line, told, told_whole, zone_of_all, zone_of_read, zone_of_text, zone_records}
+use Rattle.master_file.specs.Records.{alone, argument_of, directed, directive_of, owned_of, ttl_in, rr_of, record_of, behind, judged, words_of, fault_at, Read, faulty, in_front, records_from, start, records_of}
 
 alone_own : {A : Type 0} (x : A) (words : List Written) → TellsOwn (alone x words)
 alone_own x [] = tt
@@ -43,20 +43,20 @@ owned_own context true words = on_own (λ (owner : List (List ℕ)). (owner, wor
 owned_own context false [] = tt
 owned_own context false (word ∷ words) = on_own (λ (owner : List (List ℕ)). (fold_name owner, words)) (owner_of context.origin word) (owner_own context.origin word)
 
-placed_own : (context : Context) (line : ℕ) (owner : List (List ℕ)) (words : List Written) → TellsOwn (placed_of context line owner words)
+placed_own : (context : Context) (line : ℕ) (owner : List (List ℕ)) (words : List Written) → TellsOwn (rr_of context line owner words)
 placed_own context line owner words =
     then_own (front_of words) (λ (front : Front). and_then (ttl_in context front.ttl) (λ ttl. on_ok (λ octets. record { line = line; owner = owner; ttl = ttl; rdata = record { rtype = front.rtype; octets = octets } }) (data_of_words front.rtype context.origin front.words))) (front_own words) (λ front.
     then_own (ttl_in context front.ttl) (λ ttl. on_ok (λ octets. record { line = line; owner = owner; ttl = ttl; rdata = record { rtype = front.rtype; octets = octets } }) (data_of_words front.rtype context.origin front.words)) (own_or (option_or front.ttl (option_or context.default_ttl context.ttl)) NoTtl tt) (λ ttl.
     on_own (λ (octets : List ℕ). record { line = line; owner = owner; ttl = ttl; rdata = record { rtype = front.rtype; octets = octets } }) (data_of_words front.rtype context.origin front.words) (data_own front.rtype context.origin front.words)))
 
 record_own : (context : Context) (line : ℕ) (indented : Bool) (words : List Written) → TellsOwn (record_of context line indented words)
-record_own context line indented words = then_own (owned_of context indented words) (λ owned. placed_of context line owned.0 owned.1) (owned_own context indented words) (λ owned. placed_own context line owned.0 owned.1)
+record_own context line indented words = then_own (owned_of context indented words) (λ owned. rr_of context line owned.0 owned.1) (owned_own context indented words) (λ owned. placed_own context line owned.0 owned.1)
 
-entry_by : (context : Context) (d : Option (List ℕ × List Written)) (r : Result Placed Cause) → TellsOwn r → TellsOwn (elim d as (λ _. Result (Context × Option Placed) Cause) [
+entry_by : (context : Context) (d : Option (List ℕ × List Written)) (r : Result RecordEntry Cause) → TellsOwn r → TellsOwn (elim d as (λ _. Result (Context × Option RecordEntry) Cause) [
   | Some directive ↦ on_ok (λ next. (next, None)) (directed context directive.0 directive.1)
-  | None ↦ on_ok (λ placed. (behind context placed, Some placed)) r
+  | None ↦ on_ok (λ rr. (behind context rr, Some rr)) r
 ])
-entry_by context None r h = on_own (λ (placed : Placed). (behind context placed, Some placed)) r h
+entry_by context None r h = on_own (λ (rr : RecordEntry). (behind context rr, Some rr)) r h
 entry_by context (Some directive) r h = on_own (λ (next : Context). (next, None)) (directed context directive.0 directive.1) (directed_own context directive.0 directive.1)
 
 judged_own : (context : Context) (line : ℕ) (indented : Bool) (words : List Written) → TellsOwn (judged context line indented words)
@@ -65,14 +65,14 @@ judged_own context line indented words = entry_by context (directive_of indented
 abbrev IsOwnFault : Read → Type 0
 IsOwnFault read = IfSome read.fault (λ fault. IsOwnCause fault.cause)
 
-then_own_fault : (line : ℕ) (unclosed : Option ℕ) (entries : List Entry) (r : Result (Context × Option Placed) Cause) → TellsOwn r → ((next : Context) → IsOwnFault (records_from next entries)) → IsOwnFault (elim r as (λ _. Read) [
+then_own_fault : (line : ℕ) (unclosed : Option ℕ) (entries : List Entry) (r : Result (Context × Option RecordEntry) Cause) → TellsOwn r → ((next : Context) → IsOwnFault (records_from next entries)) → IsOwnFault (elim r as (λ _. Read) [
   | Err cause ↦ faulty (fault_at line unclosed cause)
   | Ok (next, None) ↦ records_from next entries
-  | Ok (next, Some placed) ↦ in_front placed (records_from next entries)
+  | Ok (next, Some rr) ↦ in_front rr (records_from next entries)
 ])
 then_own_fault line unclosed entries (Err cause) h k = h
 then_own_fault line unclosed entries (Ok (next, None)) h k = k next
-then_own_fault line unclosed entries (Ok (next, Some placed)) h k = k next
+then_own_fault line unclosed entries (Ok (next, Some rr)) h k = k next
 
 from_own : (context : Context) (entries : List Entry) → IsOwnFault (records_from context entries)
 from_own context [] = tt
@@ -91,7 +91,7 @@ whole_own : (b : Bool) (next : Result (List Record) FileFault) → TellsOwnFault
 whole_own true next h = tt
 whole_own false next h = h
 
-all_own : (ps : List Placed) → TellsOwnFault (zone_of_all ps)
+all_own : (ps : List RecordEntry) → TellsOwnFault (zone_of_all ps)
 all_own ps =
     let kept = with_all [] ps in
     let apex = apex_of kept in
@@ -104,12 +104,12 @@ all_own ps =
     (told_own Outside (outside_line apex ps) fifth tt
     (told_own Conflict (first_line is_conflict [] ps) (Ok (zone_records ps)) tt tt))))
 
-fault_own : (fault : Option FileFault) (ps : List Placed) → IfSome fault (λ f. IsOwnCause f.cause) → TellsOwnFault (elim fault as (λ _. Result (List Record) FileFault) [ Some f ↦ Err f | None ↦ zone_of_all ps ])
+fault_own : (fault : Option FileFault) (ps : List RecordEntry) → IfSome fault (λ f. IsOwnCause f.cause) → TellsOwnFault (elim fault as (λ _. Result (List Record) FileFault) [ Some f ↦ Err f | None ↦ zone_of_all ps ])
 fault_own None ps h = all_own ps
 fault_own (Some f) ps h = h
 
 read_own : (read : Read) → IsOwnFault read → TellsOwnFault (zone_of_read read)
-read_own read h = told_own Limit (first_line is_too_many [] read.placed) (elim read.fault as (λ _. Result (List Record) FileFault) [ Some f ↦ Err f | None ↦ zone_of_all read.placed ]) tt (fault_own read.fault read.placed h)
+read_own read h = told_own Limit (first_line is_too_many [] read.rrs) (elim read.fault as (λ _. Result (List Record) FileFault) [ Some f ↦ Err f | None ↦ zone_of_all read.rrs ]) tt (fault_own read.fault read.rrs h)
 
 no_want : (c : Cause) → c ≡ NoMemory → IsOwnCause c → ⊥
 no_want c e h = subst IsOwnCause e h

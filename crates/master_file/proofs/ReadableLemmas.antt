@@ -25,8 +25,8 @@ use Rattle.record_text.specs.Data.{octets_of_words}
 use Rattle.record_text.proofs.DataLemmas.{IsData-read}
 use Rattle.record_text.proofs.OctetLemmas.{GivesOctets, data_gives, GivesName, owner_gives, GivesTtl, ttl_gives, IsFront, GivesFront, front_of_gives}
 use Rattle.master_file.specs.declared.context.Context.{Context}
-use Rattle.master_file.specs.declared.placed.Placed.{Placed}
-use Rattle.master_file.specs.Records.{alone, argument_of, directed, directive_of, owned_of, ttl_in, placed_of, record_of, behind, judged, words_of, fault_at, Read, faulty, in_front, records_from, start, records_of, AreLasting}
+use Rattle.master_file.specs.declared.record_entry.RecordEntry.{RecordEntry}
+use Rattle.master_file.specs.Records.{alone, argument_of, directed, directive_of, owned_of, ttl_in, rr_of, record_of, behind, judged, words_of, fault_at, Read, faulty, in_front, records_from, start, records_of, AreLasting}
 use Rattle.master_file.proofs.IsZoneLemmas.{IsReadable}
 
 -- an owner
@@ -65,8 +65,8 @@ owned_gives context false [] h k = tt
 owned_gives context false (word ∷ words) h k = written_owner (owner_of context.origin word) words (owner_gives context.origin word h.origin k.0) k.1
 
 -- the record
-abbrev GivesRecord : Result Placed Cause → Type 0
-GivesRecord (Ok placed) = IsReadable placed
+abbrev GivesRecord : Result RecordEntry Cause → Type 0
+GivesRecord (Ok rr) = IsReadable rr
 GivesRecord (Err cause) = Unit {0}
 
 ttl_small : (own default ttl : Option Ttl) → IfSome own (λ t. t.0 < 2 ^ 31) → IfSome default (λ t. t.0 < 2 ^ 31) → IfSome ttl (λ t. t.0 < 2 ^ 31) → GivesTtl (ok_or (option_or own (option_or default ttl)) NoTtl)
@@ -93,10 +93,10 @@ front_placed context line owner (Err cause) h k l = tt
 front_placed context line owner (Ok front) h k l =
     timed_placed context line owner front (ttl_in context front.ttl) (ttl_small front.ttl context.default_ttl context.ttl h.ttl k.lasting.default_ttl k.lasting.ttl) k l h
 
-placed_gives : (context : Context) (line : ℕ) (owner : List (List ℕ)) (words : List Written) → IsContext context → IsOwner owner → AreOfOctets words → GivesRecord (placed_of context line owner words)
+placed_gives : (context : Context) (line : ℕ) (owner : List (List ℕ)) (words : List Written) → IsContext context → IsOwner owner → AreOfOctets words → GivesRecord (rr_of context line owner words)
 placed_gives context line owner words h k l = front_placed context line owner (front_of words) (front_of_gives words l) h k
 
-owned_placed : (context : Context) (line : ℕ) (o : Result (List (List ℕ) × List Written) Cause) → GivesOwned o → IsContext context → GivesRecord (and_then o (λ owned. placed_of context line owned.0 owned.1))
+owned_placed : (context : Context) (line : ℕ) (o : Result (List (List ℕ) × List Written) Cause) → GivesOwned o → IsContext context → GivesRecord (and_then o (λ owned. rr_of context line owned.0 owned.1))
 owned_placed context line (Err cause) h k = tt
 owned_placed context line (Ok owned) h k = placed_gives context line owned.0 owned.1 k h.0 h.1
 
@@ -137,7 +137,7 @@ directed_gives context directive arguments h k =
     (either_context (bytes_eq directive (codes "$TTL")) (on_ok (λ ttl. record context { default_ttl = Some ttl }) (argument_of ttl_of arguments)) (Err Directive) (ttl_argument context arguments h k) tt)
 
 -- an entry
-abbrev GivesEntry : Result (Context × Option Placed) Cause → Type 0
+abbrev GivesEntry : Result (Context × Option RecordEntry) Cause → Type 0
 GivesEntry (Ok judged) = IsContext judged.0 × IfSome judged.1 IsReadable
 GivesEntry (Err cause) = Unit {0}
 
@@ -160,9 +160,9 @@ put_in_force : (r : Result Context Cause) → GivesContext r → GivesEntry (on_
 put_in_force (Ok context) h = (h, tt)
 put_in_force (Err cause) h = tt
 
-record_read : (context : Context) (r : Result Placed Cause) → IsContext context → GivesRecord r → GivesEntry (on_ok (λ (p : Placed). (behind context p, Some p)) r)
+record_read : (context : Context) (r : Result RecordEntry Cause) → IsContext context → GivesRecord r → GivesEntry (on_ok (λ (p : RecordEntry). (behind context p, Some p)) r)
 record_read context (Err cause) h k = tt
-record_read context (Ok placed) h k = (
+record_read context (Ok rr) h k = (
   record {
     origin = h.origin;
     owner = record { named = record { is = k.lawful.name; octets = k.lawful.owner_octets }; folded = k.lawful.folded };
@@ -171,9 +171,9 @@ record_read context (Ok placed) h k = (
   k,
 )
 
-entry_by : (context : Context) (d : Option (List ℕ × List Written)) (r : Result Placed Cause) → IsContext context → IsDirective d → GivesRecord r → GivesEntry (elim d as (λ _. Result (Context × Option Placed) Cause) [
+entry_by : (context : Context) (d : Option (List ℕ × List Written)) (r : Result RecordEntry Cause) → IsContext context → IsDirective d → GivesRecord r → GivesEntry (elim d as (λ _. Result (Context × Option RecordEntry) Cause) [
   | Some directive ↦ on_ok (λ next. (next, None)) (directed context directive.0 directive.1)
-  | None ↦ on_ok (λ placed. (behind context placed, Some placed)) r
+  | None ↦ on_ok (λ rr. (behind context rr, Some rr)) r
 ])
 entry_by context None r h k l = record_read context r h l
 entry_by context (Some directive) r h k l = put_in_force (directed context directive.0 directive.1) (directed_gives context directive.0 directive.1 h k)
@@ -191,16 +191,16 @@ behind_words (Some line) words h = more words h
 
 -- the records of entries
 abbrev EachReadable : Read → Type 0
-EachReadable read = AllByRecursion IsReadable read.placed
+EachReadable read = AllByRecursion IsReadable read.rrs
 
-then_readable : (line : ℕ) (unclosed : Option ℕ) (entries : List Entry) (r : Result (Context × Option Placed) Cause) → GivesEntry r → ((next : Context) → IsContext next → EachReadable (records_from next entries)) → EachReadable (elim r as (λ _. Read) [
+then_readable : (line : ℕ) (unclosed : Option ℕ) (entries : List Entry) (r : Result (Context × Option RecordEntry) Cause) → GivesEntry r → ((next : Context) → IsContext next → EachReadable (records_from next entries)) → EachReadable (elim r as (λ _. Read) [
   | Err cause ↦ faulty (fault_at line unclosed cause)
   | Ok (next, None) ↦ records_from next entries
-  | Ok (next, Some placed) ↦ in_front placed (records_from next entries)
+  | Ok (next, Some rr) ↦ in_front rr (records_from next entries)
 ])
 then_readable line unclosed entries (Err cause) h k = tt
 then_readable line unclosed entries (Ok (next, None)) h k = k next h.0
-then_readable line unclosed entries (Ok (next, Some placed)) h k = (h.1, k next h.0)
+then_readable line unclosed entries (Ok (next, Some rr)) h k = (h.1, k next h.0)
 
 from_readable : (context : Context) (entries : List Entry) → IsContext context → EachEntry entries → EachReadable (records_from context entries)
 from_readable context [] h k = tt
@@ -209,6 +209,6 @@ from_readable context (entry ∷ entries) h k =
     (λ next l. from_readable next entries l k.1)
 
 -- the records of a text
-pub records_readable : (origin : List (List ℕ)) (text : List ℕ) → IsName origin → All (All (λ c. c < 256)) origin → All (λ c. c < 256) text → AllByRecursion IsReadable (records_of origin text).placed
+pub records_readable : (origin : List (List ℕ)) (text : List ℕ) → IsName origin → All (All (λ c. c < 256)) origin → All (λ c. c < 256) text → AllByRecursion IsReadable (records_of origin text).rrs
 records_readable origin text is octets h =
     from_readable (start origin) (entries_of text) (record { origin = record { is = is; octets = octets }; owner = tt; lasting = record { default_ttl = tt; ttl = tt } }) (entries_of_octets text h)

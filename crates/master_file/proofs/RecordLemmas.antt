@@ -3,7 +3,7 @@ use Rattle.std.proofs.Common.{◌≡◌, ℕ, ◌⊎◌, inl, inr, Bool, Option,
 use Rattle.record_text.specs.declared.cause.Cause.{Cause}
 use Rattle.record_text.specs.declared.cause.Cause.TheVariants.{NoMemory}
 use Rattle.master_file.specs.declared.context.Context.{Context}
-use Rattle.master_file.specs.declared.placed.Placed.{Placed}
+use Rattle.master_file.specs.declared.record_entry.RecordEntry.{RecordEntry}
 use Rattle.zone_lexing.specs.declared.entry.EntryHead.{EntryHead}
 use Rattle.zone_lexing.specs.declared.word.Word.{Word}
 use Rattle.record_text.specs.Data.{IsToldOf}
@@ -12,11 +12,11 @@ use Rattle.master_file.specs.Records.{Read, faulty, in_front, judged, fault_at, 
 use Rattle.zone_lexing.specs.Word.{Written, written}
 
 -- what the first entry's judgement makes of the records
-abbrev then : ℕ → Option ℕ → List Entry → Result (Context × Option Placed) Cause → Read
+abbrev then : ℕ → Option ℕ → List Entry → Result (Context × Option RecordEntry) Cause → Read
 then line unclosed entries r = elim r [
   | Err cause ↦ faulty (fault_at line unclosed cause)
   | Ok (next, None) ↦ records_from next entries
-  | Ok (next, Some placed) ↦ in_front placed (records_from next entries)
+  | Ok (next, Some rr) ↦ in_front rr (records_from next entries)
 ]
 
 -- the records from the first entry on, by what its words are judged to be

@@ -15,11 +15,11 @@ use Rattle.dns_rdata.specs.Numbers.{type_NS, type_CNAME}
 use Rattle.dns_rdata.specs.Record.{Record, record_cmp}
 use Rattle.zone_tree.specs.Zone.{stands_at, is_of, rrset_of, rrsets_of, is_wild}
 use Rattle.zone_tree.proofs.SetLemmas.{record_total}
-use Rattle.master_file.specs.declared.placed.Placed.{Placed}
-use Rattle.master_file.specs.Gathered.{record_in, with_one, first_line, is_new, is_beside_alias, is_conflict, outside_line}
+use Rattle.master_file.specs.declared.record_entry.RecordEntry.{RecordEntry}
+use Rattle.master_file.specs.ZoneText.{record_in, with_one, first_line, is_new, is_beside_alias, is_conflict, outside_line}
 use Rattle.master_file.proofs.InsertLemmas.{some_tied}
 use Rattle.master_file.proofs.KeptLemmas.{one, count_cons}
-use Rattle.master_file.proofs.NotesLemmas.{same_set}
+use Rattle.master_file.proofs.SummaryLemmas.{same_set}
 use Rattle.master_file.proofs.JudgeLemmas.{Ascends, Judges, count_with}
 
 -- records that tie have one owner but for case, and one type
@@ -121,7 +121,7 @@ same_at kept owner other e = ap (λ (f : List (List ℕ)). length (filter (λ (r
 same_alias : (kept : List Record) (owner other : List (List ℕ)) → is_same owner other ≡ true → length (rrset_of kept owner type_CNAME) ≡ length (rrset_of kept other type_CNAME)
 same_alias kept owner other e = same_set kept owner other type_CNAME type_CNAME (rw e refl)
 
-beside : (kept : List Record) (p : Placed) → is_beside_alias kept p ≡ (is_new kept p && ((p.rdata.rtype == type_CNAME && nat_lt 0 (length (rrsets_of kept p.owner))) || nat_lt 0 (length (rrset_of kept p.owner type_CNAME))))
+beside : (kept : List Record) (p : RecordEntry) → is_beside_alias kept p ≡ (is_new kept p && ((p.rdata.rtype == type_CNAME && nat_lt 0 (length (rrsets_of kept p.owner))) || nat_lt 0 (length (rrset_of kept p.owner type_CNAME))))
 beside kept p = ap (λ (b : Bool). is_new kept p && ((p.rdata.rtype == type_CNAME && b) || nat_lt 0 (length (rrset_of kept p.owner type_CNAME)))) (any_count (stands_at p.owner) kept)
 
 neither : (a b : Bool) → (a || b) ≡ false → (a ≡ false) × (b ≡ false)
@@ -138,7 +138,7 @@ none_more true false n more e h none = omega arith
 none_more false q n more e h none = omega arith
 
 -- a test that ties pass alike shows none of the records with one more: then it doesn't show that one
-shown_none : (q : Record → Bool) → ((r s : Record) → record_cmp r s ≡ Equal → q r ≡ q s) → (kept : List Record) (p : Placed) → Ascends kept → length (filter q (with_one kept p)) ≤ 0 → q (record_in p) ≡ true → ⊥
+shown_none : (q : Record → Bool) → ((r s : Record) → record_cmp r s ≡ Equal → q r ≡ q s) → (kept : List Record) (p : RecordEntry) → Ascends kept → length (filter q (with_one kept p)) ≤ 0 → q (record_in p) ≡ true → ⊥
 shown_none q same kept p h none shows = by (is_new kept p) refl
   where
     by : (b : Bool) → is_new kept p ≡ b → ⊥
@@ -197,7 +197,7 @@ is_outside apex r = not (is_under r.owner apex)
 abbrev pub AreInside : List (List ℕ) → List Record → Type 0
 AreInside apex kept = length (filter (is_outside apex) kept) ≤ 0
 
-abbrev pub shows_outside : List (List ℕ) → List Record → Placed → Bool
+abbrev pub shows_outside : List (List ℕ) → List Record → RecordEntry → Bool
 shows_outside apex kept p = not (is_under p.owner apex)
 
 outside_tied : (apex : List (List ℕ)) (r s : Record) → record_cmp r s ≡ Equal → is_outside apex r ≡ is_outside apex s
@@ -214,6 +214,6 @@ turn : (b : Bool) (line : ℕ) (o : Option ℕ) → cond b o (Some line) ≡ con
 turn true line o = refl
 turn false line o = refl
 
-pub outside_first : (apex : List (List ℕ)) (kept : List Record) (ps : List Placed) → outside_line apex ps ≡ first_line (shows_outside apex) kept ps
+pub outside_first : (apex : List (List ℕ)) (kept : List Record) (ps : List RecordEntry) → outside_line apex ps ≡ first_line (shows_outside apex) kept ps
 outside_first apex kept [] = refl
 outside_first apex kept (p ∷ ps) = turn (is_under p.owner apex) p.line (outside_line apex ps) ∙ ap (λ (o : Option ℕ). cond (not (is_under p.owner apex)) (Some p.line) o) (outside_first apex (with_one kept p) ps)

@@ -10,7 +10,7 @@ use Rattle.record_text.specs.Text.{words_of, text_of_words}
 use Rattle.zone_lexing.specs.Word.{Written}
 use Rattle.zone_lexing.specs.Word.Written.{Plain, Quoted, Unclosed}
 use Rattle.record_text.specs.Mnemonics.{type_word}
-use Rattle.master_file.specs.ZoneText.{record_line, is_other, soa_first, line_words}
+use Rattle.master_file.specs.WrittenZone.{record_line, is_other, soa_first, line_words}
 use Rattle.record_text.proofs.SpeltLemmas.{AreSpelt, first_spelt, name_spelt, decimal_spelt, type_spelt, words_spelt}
 
 -- a record's line is its words with a space between

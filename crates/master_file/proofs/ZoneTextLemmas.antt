@@ -6,7 +6,7 @@ use Rattle.std.proofs.lemmas.Grind.{flat_map-append}
 use Rattle.dns_rdata.specs.Data.{Data}
 use Rattle.dns_rdata.specs.Record.{Record, records_with}
 use Rattle.zone_tree.specs.Sets.{records_in}
-use Rattle.master_file.specs.ZoneText.{record_line, is_other}
+use Rattle.master_file.specs.WrittenZone.{record_line, is_other}
 
 -- the lines of data of one owner and TTL
 abbrev pub data_lines : List (List ℕ) → ℕ → List Data → List ℕ

@@ -1,7 +1,7 @@
 pub mod Examples
 pub mod Fault
-pub mod Gathered
-pub mod Noted
 pub mod RecordOrder
 pub mod Records
+pub mod Summary
+pub mod WrittenZone
 pub mod ZoneText

@@ -7,7 +7,7 @@ use Rattle.record_text.specs.declared.cause.Cause.{Cause}
 use Rattle.record_text.specs.declared.cause.Cause.TheVariants.{Directive, BadData, Unclosed, NoTtl, NoOwner, NoMemory}
 use Rattle.master_file.specs.declared.fault.FileFault.{FileFault}
 use Rattle.master_file.specs.declared.context.Context.{Context}
-use Rattle.master_file.specs.declared.placed.Placed.{Placed}
+use Rattle.master_file.specs.declared.record_entry.RecordEntry.{RecordEntry}
 use Rattle.zone_lexing.specs.declared.entry.EntryHead.{EntryHead}
 use Rattle.record_text.specs.Data.{data_of_words, surplus_of}
 use Rattle.zone_lexing.specs.Entries.{Entry, entries_of}
@@ -56,25 +56,25 @@ abbrev pub ttl_in : Context → Option Ttl → Result Ttl Cause
 ttl_in context own = ok_or (option_or own (option_or context.default_ttl context.ttl)) NoTtl
 
 -- the record of an owner that words stand for: TTL, class and type, then its data
-abbrev pub placed_of : Context → ℕ → Name → List Written → Result Placed Cause
-placed_of context line owner words =
+abbrev pub rr_of : Context → ℕ → Name → List Written → Result RecordEntry Cause
+rr_of context line owner words =
     and_then (front_of words) (λ front. and_then (ttl_in context front.ttl) (λ ttl.
     on_ok (λ octets. record { line = line; owner = owner; ttl = ttl; rdata = record { rtype = front.rtype; octets = octets } })
     (data_of_words front.rtype context.origin front.words)))
 
 -- the record that an entry's words stand for; whether its line begins with a blank
-abbrev pub record_of : Context → ℕ → Bool → List Written → Result Placed Cause
-record_of context line indented words = and_then (owned_of context indented words) (λ owned. placed_of context line owned.0 owned.1)
+abbrev pub record_of : Context → ℕ → Bool → List Written → Result RecordEntry Cause
+record_of context line indented words = and_then (owned_of context indented words) (λ owned. rr_of context line owned.0 owned.1)
 
 -- what is in force behind a record
-abbrev pub behind : Context → Placed → Context
-behind context placed = record context { owner = Some placed.owner; ttl = Some placed.ttl }
+abbrev pub behind : Context → RecordEntry → Context
+behind context rr = record context { owner = Some rr.owner; ttl = Some rr.ttl }
 
 -- what is in force behind an entry, and its record where it has one
-abbrev pub judged : Context → ℕ → Bool → List Written → Result (Context × Option Placed) Cause
+abbrev pub judged : Context → ℕ → Bool → List Written → Result (Context × Option RecordEntry) Cause
 judged context line indented words = elim (directive_of indented words) [
   | Some directive ↦ on_ok (λ next. (next, None)) (directed context directive.0 directive.1)
-  | None ↦ on_ok (λ placed. (behind context placed, Some placed)) (record_of context line indented words)
+  | None ↦ on_ok (λ rr. (behind context rr, Some rr)) (record_of context line indented words)
 ]
 
 -- the words of an entry; a quote or a parenthesis without its other one stands behind them
@@ -94,19 +94,19 @@ fault_at line unclosed cause = record { line = fault_line line unclosed cause; c
 
 -- what is read of a text: its records in order, up to its first fault, and that fault
 pub record Read : Type 0 where
-  pub placed : List Placed
+  pub rrs : List RecordEntry
   pub fault : Option FileFault
 
 -- what is read where nothing is left, and where the first that is left is a fault
 abbrev pub nothing : Read
-nothing = record { placed = []; fault = None }
+nothing = record { rrs = []; fault = None }
 
 abbrev pub faulty : FileFault → Read
-faulty fault = record { placed = []; fault = Some fault }
+faulty fault = record { rrs = []; fault = Some fault }
 
 -- one record in front of what is read
-abbrev pub in_front : Placed → Read → Read
-in_front placed rest = record { placed = placed ∷ rest.placed; fault = rest.fault }
+abbrev pub in_front : RecordEntry → Read → Read
+in_front rr rest = record { rrs = rr ∷ rest.rrs; fault = rest.fault }
 
 -- the records of entries, in order, up to the first fault
 abbrev pub records_from : Context → List Entry → Read
@@ -114,7 +114,7 @@ records_from context [] = nothing
 records_from context (entry ∷ entries) = elim (judged context entry.line entry.indented (words_of entry)) [
   | Err cause ↦ faulty (fault_at entry.line entry.unclosed cause)
   | Ok (next, None) ↦ records_from next entries
-  | Ok (next, Some placed) ↦ in_front placed (records_from next entries)
+  | Ok (next, Some rr) ↦ in_front rr (records_from next entries)
 ]
 
 -- what is in force where a text begins

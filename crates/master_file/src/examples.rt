@@ -9,7 +9,7 @@ use record_text::Cause;
 /// RFC 2308, 4); and faults told from left to right.
 #[tactic(auto, unfolding(crate::specs::Records::directed, record_text::specs::Number::decimal_of, record_text::specs::Mnemonics::type_named, record_text::specs::Mnemonics::class_named, record_text::specs::NameWord::name_named, record_text::specs::Data::octets_of_words, record_text::specs::Data::form_of, record_text::specs::Data::as_data, dns_rdata::specs::Data::data_of, dns_rdata::specs::Layout::layout_of))]
 pub fn examples_of_records()
-    ensures records { records_of origin text ≡ record { placed = records; fault = None } }
+    ensures records { records_of origin text ≡ record { rrs = records; fault = None } }
     ensures unclosed { records_of origin (unclosed_text (codes "b")) ≡ faulty (record { line = 2; cause = Cause.Unclosed }) }
     ensures to_the_left { records_of origin (unclosed_text (codes "..")) ≡ faulty (record { line = 1; cause = Cause.BadName }) }
 {}

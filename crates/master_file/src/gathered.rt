@@ -6,12 +6,12 @@ ghost use Rattle.dns_rdata.specs.Numbers.{type_NS, type_CNAME, type_SOA};
 ghost use Rattle.dns_rdata.specs.Record.{Record};
 ghost use Rattle.zone_tree.specs.Zone.{is_wild, stands_at, rrset_of, soa_of};
 ghost use Rattle.record_text.specs.declared.cause.Cause.TheVariants.{NoMemory, Limit};
-ghost use Rattle.master_file.specs.Gathered.{is_too_many, is_second_soa, is_conflict, with_one};
-ghost use Rattle.master_file.specs.Noted.{AreNotes, LastsEach, SetsTtl, first_owner, noted_at, with_ttl_of};
+ghost use Rattle.master_file.specs.ZoneText.{is_too_many, is_second_soa, is_conflict, with_one};
+ghost use Rattle.master_file.specs.Summary.{AreSummaries, LastsEach, SetsTtl, first_owner, summary_at, with_ttl_of};
 
-use crate::kept::Kept;
-use crate::noted::{Noted, Notes};
-use crate::placed::Placed;
+use crate::canonical::CanonicalRecord;
+use crate::record_entry::RecordEntry;
+use crate::summary::{SetSummary, Summaries};
 use dns_name::Name;
 use dns_rdata::{MAX_SET, RType};
 use record_text::Cause;
@@ -22,8 +22,8 @@ use zone_tree::MAX_RECORDS;
 /// The records so far, and the first lines that show a fault which is told after the whole text.
 #[derive(Drop)]
 pub(crate) struct Gathered {
-    pub(crate) kept: BTreeSet<Kept>,
-    pub(crate) notes: Notes,
+    pub(crate) kept: BTreeSet<CanonicalRecord>,
+    pub(crate) summaries: Summaries,
     pub(crate) second_soa: Option<u64>,
     pub(crate) conflict: Option<u64>,
 }
@@ -32,15 +32,15 @@ impl Gathered {
     /// No records.
     pub(crate) fn new(alloc: Global) -> Gathered
         ensures kept { result.kept.keys ≡ [] }
-        ensures notes { AreNotes [] result.notes }
-        ensures lasts { LastsEach result.notes }
+        ensures summaries { AreSummaries [] result.summaries }
+        ensures lasts { LastsEach result.summaries }
         ensures second { result.second_soa ≡ None }
         ensures conflict { result.conflict ≡ None }
-        ensures times { (r : Record) → with_ttl_of (noted_at result.notes r.owner r.rtype) r ≡ r }
+        ensures times { (r : Record) → with_ttl_of (summary_at result.summaries r.owner r.rtype) r ≡ r }
     {
         Gathered {
             kept: BTreeSet::new(alloc),
-            notes: Notes::new(alloc),
+            summaries: Summaries::new(alloc),
             second_soa: None,
             conflict: None,
         }
@@ -49,38 +49,41 @@ impl Gathered {
     /// One more record. Equal records are one, and the last one sets the TTL of its set.
     ///
     /// `Limit` where it is one record too many, of its set or in all.
-    pub(crate) fn put(&mut self, placed: Placed) -> Result<(), Cause>
-        requires lasts { placed.ttl.0 < 2 ^ 31 }
-        requires notes { AreNotes self.old.kept.keys self.old.notes }
-        requires lasting { LastsEach self.old.notes }
-        ensures kept { OnOk result (self.new.kept.keys ≡ with_one self.old.kept.keys placed) }
-        ensures few { OnOk result (is_too_many self.old.kept.keys placed ≡ false) }
-        ensures notes { OnOk result (AreNotes self.new.kept.keys self.new.notes) }
-        ensures lasting { OnOk result (LastsEach self.new.notes) }
-        ensures times { OnOk result (SetsTtl placed self.old.notes self.new.notes) }
+    pub(crate) fn put(&mut self, rr: RecordEntry) -> Result<(), Cause>
+        requires lasts { rr.ttl.0 < 2 ^ 31 }
+        requires summaries { AreSummaries self.old.kept.keys self.old.summaries }
+        requires lasting { LastsEach self.old.summaries }
+        ensures kept { OnOk result (self.new.kept.keys ≡ with_one self.old.kept.keys rr) }
+        ensures few { OnOk result (is_too_many self.old.kept.keys rr ≡ false) }
+        ensures summaries { OnOk result (AreSummaries self.new.kept.keys self.new.summaries) }
+        ensures lasting { OnOk result (LastsEach self.new.summaries) }
+        ensures times { OnOk result (SetsTtl rr self.old.summaries self.new.summaries) }
         ensures second { OnOk result (self.new.second_soa
-            ≡ option_or self.old.second_soa (if is_second_soa self.old.kept.keys placed then Some placed.line else None)) }
+            ≡ option_or self.old.second_soa (if is_second_soa self.old.kept.keys rr then Some rr.line else None)) }
         ensures conflict { OnOk result (self.new.conflict
-            ≡ option_or self.old.conflict (if is_conflict self.old.kept.keys placed then Some placed.line else None)) }
-        ensures limit { IfErr result (λ cause. (cause ≡ NoMemory) ⊎ (cause ≡ Limit) × (is_too_many self.old.kept.keys placed ≡ true)) }
+            ≡ option_or self.old.conflict (if is_conflict self.old.kept.keys rr then Some rr.line else None)) }
+        ensures limit { IfErr result (λ cause. (cause ≡ NoMemory) ⊎ (cause ≡ Limit) × (is_too_many self.old.kept.keys rr ≡ true)) }
     {
-        let line = placed.line;
-        let ttl = placed.ttl;
-        let owner = placed.owner.copy();
-        let rtype = placed.rdata.rtype();
+        let line = rr.line;
+        let ttl = rr.ttl;
+        let owner = rr.owner.copy();
+        let rtype = rr.rdata.rtype();
         let is_full = self.is_full(&owner, rtype);
         let count = self.count(&owner, rtype);
         let is_second_soa = self.has_soa(rtype);
         let is_beside_alias = self.is_beside_alias(&owner, rtype);
         let is_wild_cut = is_wild_cut(&owner, rtype);
-        let Ok(is_new) = self.kept.insert(Kept::new(placed)) else {
+        let Ok(is_new) = self.kept.insert(CanonicalRecord::new(rr)) else {
             return Err(Cause::NoMemory);
         };
         if is_new & is_full {
             return Err(Cause::Limit);
         }
         let count = more(count, is_new);
-        let Ok(()) = self.notes.put(owner, rtype, Noted { count, ttl }, is_new) else {
+        let Ok(()) = self
+            .summaries
+            .put(owner, rtype, SetSummary { count, ttl }, is_new)
+        else {
             return Err(Cause::NoMemory);
         };
         self.second_soa = first(self.second_soa, is_new & is_second_soa, line);
@@ -103,7 +106,7 @@ impl Gathered {
     }
 
     /// The first SOA in canonical order.
-    fn first_soa(&self) -> Option<&Kept>
+    fn first_soa(&self) -> Option<&CanonicalRecord>
         ensures { option_copied result ≡ find (λ (r : Record). r.rtype == type_SOA) self.now.kept.keys }
     {
         self.kept
@@ -113,17 +116,17 @@ impl Gathered {
 
     /// How many records of an owner and type there are.
     pub(crate) fn count(&self, owner: &Name, rtype: RType) -> usize
-        requires { AreNotes self.now.kept.keys self.now.notes }
+        requires { AreSummaries self.now.kept.keys self.now.summaries }
         ensures count { result ≡ length (rrset_of self.now.kept.keys owner.now rtype.0) }
         ensures small { result < 2 ^ 63 }
     {
         let _len = self.kept.len();
-        self.notes.count(owner, rtype)
+        self.summaries.count(owner, rtype)
     }
 
     /// Whether there is no room for a new record of an owner and type.
     fn is_full(&self, owner: &Name, rtype: RType) -> bool
-        requires { AreNotes self.now.kept.keys self.now.notes }
+        requires { AreSummaries self.now.kept.keys self.now.summaries }
         ensures { result ≡ (length (rrset_of self.now.kept.keys owner.now rtype.0) == 256 || length self.now.kept.keys == 1000000) }
     {
         self.count(owner, rtype) == MAX_SET || self.kept.len() == MAX_RECORDS
@@ -131,19 +134,19 @@ impl Gathered {
 
     /// Whether a new record of a type would be a second SOA.
     fn has_soa(&self, rtype: RType) -> bool
-        requires { AreNotes self.now.kept.keys self.now.notes }
+        requires { AreSummaries self.now.kept.keys self.now.summaries }
         ensures { result ≡ (rtype.0 == type_SOA && nat_lt 0 (length (soa_of self.now.kept.keys))) }
     {
-        rtype == RType::SOA && self.notes.has_soa
+        rtype == RType::SOA && self.summaries.has_soa
     }
 
     /// Whether a new record would be an alias beside other data, or other data beside an alias (RFC 1034, 3.6.2).
     fn is_beside_alias(&self, owner: &Name, rtype: RType) -> bool
-        requires { AreNotes self.now.kept.keys self.now.notes }
+        requires { AreSummaries self.now.kept.keys self.now.summaries }
         ensures { result ≡ ((rtype.0 == type_CNAME && list_any (stands_at owner.now) self.now.kept.keys)
             || nat_lt 0 (length (rrset_of self.now.kept.keys owner.now type_CNAME))) }
     {
-        (rtype == RType::CNAME && self.notes.has_owner(owner))
+        (rtype == RType::CNAME && self.summaries.has_owner(owner))
             || self.count(owner, RType::CNAME) > 0
     }
 }

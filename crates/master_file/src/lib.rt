@@ -4,22 +4,22 @@
 //! its records. Entries are judged in order and the words of each from left to right, and the first fault is told.
 #![tactic(auto)]
 
+mod canonical;
 mod context;
 mod examples;
 mod fault;
 mod gathered;
-mod kept;
-mod noted;
-mod placed;
+mod record_entry;
 mod records;
 mod sets;
+mod summary;
 mod zone;
 mod zone_laws;
 mod zone_text;
 
 pub use examples::examples_of_records;
 pub use fault::FileFault;
-pub use placed::Placed;
+pub use record_entry::RecordEntry;
 pub use record_text::Cause;
 pub use records::Records;
 pub use zone::read_zone;

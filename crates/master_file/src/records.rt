@@ -8,7 +8,7 @@ ghost use Rattle.zone_lexing.specs.Word.{written};
 
 use crate::context::{Context, directive};
 use crate::fault::FileFault;
-use crate::placed::{Placed, read_record};
+use crate::record_entry::{RecordEntry, read_record};
 use dns_name::Name;
 use record_text::Cause;
 use std::alloc::{AllocError, Global};
@@ -50,11 +50,11 @@ impl<'a> Records<'a> {
     /// the first fault is told (RFC 1035, 5.1).
     ///
     /// `NoMemory` only where a growth was refused, at line 0. Nothing is said of the records behind a fault.
-    pub fn next(&mut self, alloc: Global) -> Result<Option<Placed>, FileFault>
+    pub fn next(&mut self, alloc: Global) -> Result<Option<RecordEntry>, FileFault>
         ensures record { IfOk result (λ found. MatchOption found
             (self.old ≡ nothing)
-            (λ placed. self.old ≡ in_front placed self.new)) }
-        ensures lasts { IfOk result (λ found. IfSome found (λ placed. placed.ttl.0 < 2 ^ 31)) }
+            (λ rr. self.old ≡ in_front rr self.new)) }
+        ensures lasts { IfOk result (λ found. IfSome found (λ rr. rr.ttl.0 < 2 ^ 31)) }
         ensures fault { IfErr result (λ fault. (fault ≡ no_memory) ⊎ (self.old ≡ faulty fault)) }
     {
         loop {
@@ -62,7 +62,7 @@ impl<'a> Records<'a> {
                 return Ok(None);
             };
             match judge(alloc, &mut self.context, head, &self.words) {
-                Ok(Some(placed)) => return Ok(Some(placed)),
+                Ok(Some(rr)) => return Ok(Some(rr)),
                 Ok(None) => {}
                 Err(cause) => return Err(fault(head, cause)),
             }
@@ -110,10 +110,10 @@ fn judge(
     context: &mut Context,
     head: EntryHead,
     words: &[Word<'_>],
-) -> Result<Option<Placed>, Cause>
+) -> Result<Option<RecordEntry>, Cause>
     requires lasting { AreLasting context.old }
     ensures judged { IfOk result (λ found. judged context.old head.line head.indented (map written words.now) ≡ Ok (context.new, found)) }
-    ensures lasts { IfOk result (λ found. IfSome found (λ placed. placed.ttl.0 < 2 ^ 31)) }
+    ensures lasts { IfOk result (λ found. IfSome found (λ rr. rr.ttl.0 < 2 ^ 31)) }
     ensures fault { IfErr result (IsToldOf (judged context.old head.line head.indented (map written words.now))) }
     ensures lasting { AreLasting context.new }
 {
@@ -121,10 +121,10 @@ fn judge(
         context.direct(directive, arguments)?;
         return Ok(None);
     }
-    let placed = read_record(alloc, context, head.line, head.indented, words)?;
-    context.owner = Some(placed.owner.copy());
-    context.ttl = Some(placed.ttl);
-    Ok(Some(placed))
+    let rr = read_record(alloc, context, head.line, head.indented, words)?;
+    context.owner = Some(rr.owner.copy());
+    context.ttl = Some(rr.ttl);
+    Ok(Some(rr))
 }
 
 #[cfg(test)]

@@ -8,7 +8,7 @@ ghost use Rattle.dns_rdata.specs.Data.{Data};
 ghost use Rattle.dns_rdata.specs.Record.{owner_of, rtype_of, ttl_of};
 ghost use Rattle.zone_tree.specs.Sets.{records_in};
 
-use crate::kept::Kept;
+use crate::canonical::CanonicalRecord;
 use dns_name::Name;
 use dns_rdata::{RData, RRset, Ttl};
 use std::alloc::{AllocError, Global};
@@ -18,14 +18,14 @@ use std::alloc::{AllocError, Global};
 pub(crate) fn put_behind(
     alloc: Global,
     sets: &mut Vec<RRset>,
-    kept: Kept,
+    kept: CanonicalRecord,
     ttl: Ttl,
 ) -> Result<(), AllocError>
     requires { ttl.0 < 2 ^ 31 }
     ensures { OnOk result (records_in sets.new.items
         ≡ records_in sets.old.items ++ (record { owner = fold_name kept.owner; rtype = kept.rtype; ttl = ttl.0; rdata = kept.rdata }) ∷ []) }
 {
-    let Kept { owner, rdata, .. } = kept;
+    let CanonicalRecord { owner, rdata, .. } = kept;
     if let Some(mut last) = sets.pop() {
         if is_of(&last, &owner, &rdata, ttl) {
             append(&mut last, rdata)?;

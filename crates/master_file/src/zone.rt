@@ -1,8 +1,8 @@
 //! A zone's text as a zone (RFC 1035, 5).
 ghost use Rattle.std.specs.Prelude.{◌≡◌, ◌⊎◌, [], map, None, Some, Ok, Err, IfOk, IfErr, OnOk};
 ghost use Rattle.master_file.specs.Fault.{no_memory};
-ghost use Rattle.master_file.specs.Gathered.{outside_line, zone_of_text, zone_records};
-ghost use Rattle.master_file.specs.Noted.{AreNotes, LastsEach, IsGathered, shown_by, zone_gathered};
+ghost use Rattle.master_file.specs.ZoneText.{outside_line, zone_of_text, zone_records};
+ghost use Rattle.master_file.specs.Summary.{AreSummaries, LastsEach, IsGathered, shown_by, zone_gathered};
 ghost use Rattle.zone_tree.specs.Sets.{records_in};
 ghost use Rattle.zone_tree.specs.Zone.{IsZone};
 ghost use Rattle.master_file.specs.Records.{records_of};
@@ -19,18 +19,18 @@ use zone_tree::Zone;
 
 /// The records of a text, gathered; else its first fault, or the first record too many.
 fn gather(alloc: Global, text: &[u8], origin: &Name) -> Result<Gathered, FileFault>
-    ensures gathered { IfOk result (IsGathered (records_of origin.now text.now).placed []) }
+    ensures gathered { IfOk result (IsGathered (records_of origin.now text.now).rrs []) }
     ensures whole { IfOk result (λ gathered. (records_of origin.now text.now).fault ≡ None) }
     ensures fault { IfErr result (λ fault. (fault ≡ no_memory) ⊎ (zone_of_text origin.now text.now ≡ Err fault)) }
 {
     let mut records = Records::new(alloc, text, origin);
     let mut gathered = Gathered::new(alloc);
     loop {
-        let Some(placed) = records.next(alloc)? else {
+        let Some(rr) = records.next(alloc)? else {
             return Ok(gathered);
         };
-        let line = placed.line;
-        match gathered.put(placed) {
+        let line = rr.line;
+        match gathered.put(rr) {
             Ok(()) => {}
             Err(Cause::Limit) => return Err(told(line, Cause::Limit)),
             Err(_) => return Err(told(0, Cause::NoMemory)),
@@ -45,24 +45,24 @@ fn first_outside(
     origin: &Name,
     apex: &Name,
 ) -> Result<Option<u64>, FileFault>
-    ensures line { IfOk result (λ line. line ≡ outside_line apex.now (records_of origin.now text.now).placed) }
+    ensures line { IfOk result (λ line. line ≡ outside_line apex.now (records_of origin.now text.now).rrs) }
     ensures fault { IfErr result (λ fault. (fault ≡ no_memory) ⊎ ((records_of origin.now text.now).fault ≡ Some fault)) }
 {
     let mut records = Records::new(alloc, text, origin);
     loop {
-        let Some(placed) = records.next(alloc)? else {
+        let Some(rr) = records.next(alloc)? else {
             return Ok(None);
         };
-        if !placed.owner.is_under(apex) {
-            return Ok(Some(placed.line));
+        if !rr.owner.is_under(apex) {
+            return Ok(Some(rr.line));
         }
     }
 }
 
 /// The records of a text that is a zone, gathered; else the fault that is told (RFC 1035, 5).
 fn gather_zone(alloc: Global, text: &[u8], origin: &Name) -> Result<Gathered, FileFault>
-    ensures gathered { IfOk result (IsGathered (records_of origin.now text.now).placed []) }
-    ensures zone { OnOk result (zone_of_text origin.now text.now ≡ Ok (zone_records (records_of origin.now text.now).placed)) }
+    ensures gathered { IfOk result (IsGathered (records_of origin.now text.now).rrs []) }
+    ensures zone { OnOk result (zone_of_text origin.now text.now ≡ Ok (zone_records (records_of origin.now text.now).rrs)) }
     ensures fault { IfErr result (λ fault. (fault ≡ no_memory) ⊎ (zone_of_text origin.now text.now ≡ Err fault)) }
 {
     let gathered = gather(alloc, text, origin)?;
@@ -92,16 +92,20 @@ pub fn read_zone(alloc: Global, text: &[u8], origin: &Name) -> Result<Zone, File
 
 /// The sets of what is gathered.
 fn build(alloc: Global, gathered: Gathered) -> Result<Vec<RRset>, AllocError>
-    requires { LastsEach gathered.notes }
-    ensures { IfOk result (λ sets. records_in sets.items ≡ map (shown_by gathered.notes) gathered.kept.keys) }
+    requires { LastsEach gathered.summaries }
+    ensures { IfOk result (λ sets. records_in sets.items ≡ map (shown_by gathered.summaries) gathered.kept.keys) }
 {
-    let Gathered { kept, notes, .. } = gathered;
+    let Gathered {
+        kept,
+        summaries,
+        ..
+    } = gathered;
     let mut sets = Vec::new(alloc);
     for record in kept {
-        let Some(noted) = notes.at(&record.owner, record.rdata.rtype()) else {
+        let Some(summary) = summaries.at(&record.owner, record.rdata.rtype()) else {
             return Err(AllocError);
         };
-        put_behind(alloc, &mut sets, record, noted.ttl)?;
+        put_behind(alloc, &mut sets, record, summary.ttl)?;
     }
     Ok(sets)
 }
@@ -110,9 +114,9 @@ fn build(alloc: Global, gathered: Gathered) -> Result<Vec<RRset>, AllocError>
 /// apex and a conflict are tried in this order.
 fn judge(alloc: Global, text: &[u8], origin: &Name, gathered: &Gathered) -> Result<(), FileFault>
     requires whole { (records_of origin.now text.now).fault ≡ None }
-    requires notes { AreNotes gathered.now.kept.keys gathered.now.notes }
-    ensures zone { OnOk result (zone_gathered (records_of origin.now text.now).placed gathered.now ≡ Ok (zone_records (records_of origin.now text.now).placed)) }
-    ensures fault { IfErr result (λ fault. (fault ≡ no_memory) ⊎ (zone_gathered (records_of origin.now text.now).placed gathered.now ≡ Err fault)) }
+    requires summaries { AreSummaries gathered.now.kept.keys gathered.now.summaries }
+    ensures zone { OnOk result (zone_gathered (records_of origin.now text.now).rrs gathered.now ≡ Ok (zone_records (records_of origin.now text.now).rrs)) }
+    ensures fault { IfErr result (λ fault. (fault ≡ no_memory) ⊎ (zone_gathered (records_of origin.now text.now).rrs gathered.now ≡ Err fault)) }
 {
     if let Some(line) = gathered.second_soa {
         return Err(told(line, Cause::Apex));

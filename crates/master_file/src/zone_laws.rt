@@ -5,12 +5,12 @@ ghost use Rattle.dns_rdata.specs.Record.{Record, IsLawful};
 ghost use Rattle.zone_tree.specs.Zone.{IsZone};
 ghost use Rattle.record_text.specs.declared.cause.Cause.TheVariants.{NoMemory};
 ghost use Rattle.master_file.specs.declared.fault.FileFault.{FileFault};
-ghost use Rattle.master_file.specs.Gathered.{zone_of_text, zone_records};
+ghost use Rattle.master_file.specs.ZoneText.{zone_of_text, zone_records};
 ghost use Rattle.zone_lexing.specs.Entries.{entries_of};
 ghost use Rattle.master_file.specs.declared.context.Context.{Context};
 ghost use Rattle.master_file.specs.Records.{behind, judged, records_of};
 ghost use Rattle.zone_lexing.specs.Spelling.{spell, one_a_line};
-ghost use Rattle.master_file.specs.ZoneText.{soa_first, zone_text, line_words, placed_at, placed_from};
+ghost use Rattle.master_file.specs.WrittenZone.{soa_first, zone_text, line_words, rr_at, rrs_from};
 
 /// What is written of a zone is a line for each record, with a space between its words, and is read as an entry for each
 /// line with these words, the SOA's first (RFC 1035, 5.1).
@@ -23,9 +23,9 @@ pub fn written_zone_has_an_entry_a_record()
 /// origin is and whatever is in force (RFC 1035, 5.1).
 pub fn written_zone_is_read_back()
     ensures record { (context : Context) (line : ℕ) (r : Record) → IsLawful r → length r.rdata ≤ 4096
-        → judged context line false (line_words r) ≡ Ok (behind context (placed_at line r), Some (placed_at line r)) }
+        → judged context line false (line_words r) ≡ Ok (behind context (rr_at line r), Some (rr_at line r)) }
     ensures records { (zone : List Record) (origin : List (List ℕ)) → All IsLawful zone → All (λ r. length r.rdata ≤ 4096) zone
-        → records_of origin (zone_text zone) ≡ record { placed = placed_from 1 (soa_first zone); fault = None } }
+        → records_of origin (zone_text zone) ≡ record { rrs = rrs_from 1 (soa_first zone); fault = None } }
 {}
 
 /// What is written of a zone is read as that zone, whatever the origin is (RFC 1035, 5.1).
@@ -39,7 +39,7 @@ pub fn text_without_a_fault_is_a_zone()
     ensures is_zone { (origin : List (List ℕ)) (text : List ℕ) (zone : List Record) → IsName origin → All (All (λ octet. octet < 256)) origin
         → All (λ octet. octet < 256) text → zone_of_text origin text ≡ Ok zone → IsZone zone }
     ensures told { (origin : List (List ℕ)) (text : List ℕ) → (records_of origin text).fault ≡ None
-        → IsZone (zone_records (records_of origin text).placed) → zone_of_text origin text ≡ Ok (zone_records (records_of origin text).placed) }
+        → IsZone (zone_records (records_of origin text).rrs) → zone_of_text origin text ≡ Ok (zone_records (records_of origin text).rrs) }
 {}
 
 /// No fault of a text is want of memory, whatever the text and the origin are.

@@ -2,7 +2,7 @@
 ghost use Rattle.std.specs.Prelude.{◌≡◌, ◌++◌, OnOk, IfOk, string_bytes, filter, flat_map};
 ghost use Rattle.dns_rdata.specs.Record.{Record};
 ghost use Rattle.zone_tree.specs.Sets.{records_in};
-ghost use Rattle.master_file.specs.ZoneText.{record_line, is_other, zone_text};
+ghost use Rattle.master_file.specs.WrittenZone.{record_line, is_other, zone_text};
 
 use dns_name::Name;
 use dns_rdata::{RData, RRset, RType, Ttl};

@@ -1,6 +1,6 @@
 //! Texts of zones, and the records that are read of them, or the first fault.
 use super::Records;
-use crate::placed::Placed;
+use crate::record_entry::RecordEntry;
 use dns_name::Name;
 use record_text::Cause;
 use std::alloc::{AllocError, Global};
@@ -16,7 +16,7 @@ fn shown(alloc: Global, text: &[u8]) -> Result<String, AllocError> {
     let mut shown = String::new(alloc);
     for _ in 0..100u8 {
         match records.next(alloc) {
-            Ok(Some(placed)) => push_record(alloc, &mut shown, &placed)?,
+            Ok(Some(rr)) => push_record(alloc, &mut shown, &rr)?,
             Ok(None) => return Ok(shown),
             Err(fault) => {
                 if fault.cause == Cause::NoMemory {
@@ -31,13 +31,13 @@ fn shown(alloc: Global, text: &[u8]) -> Result<String, AllocError> {
 }
 
 /// One record more.
-fn push_record(alloc: Global, shown: &mut String, placed: &Placed) -> Result<(), AllocError> {
-    let Placed {
+fn push_record(alloc: Global, shown: &mut String, rr: &RecordEntry) -> Result<(), AllocError> {
+    let RecordEntry {
         line,
         owner,
         ttl,
         rdata,
-    } = placed;
+    } = rr;
     let owner = owner.to_text();
     let owner = owner.as_str();
     let ttl = ttl.0;

@@ -1,6 +1,6 @@
 //! Zones that are read and written again.
 use super::write_zone;
-use crate::placed::Placed;
+use crate::record_entry::RecordEntry;
 use crate::records::Records;
 use dns_name::Name;
 use dns_rdata::{RRset, RType};
@@ -14,15 +14,15 @@ fn sets_of(alloc: Global, text: &str) -> Result<Vec<RRset>, Fail> {
     let mut records = Records::new(alloc, text.as_bytes(), &root);
     let mut sets: Vec<RRset> = Vec::new(alloc);
     for _ in 0..100u8 {
-        let Some(placed) = records.next(alloc)? else {
+        let Some(rr) = records.next(alloc)? else {
             return Ok(sets);
         };
-        let Placed {
+        let RecordEntry {
             owner,
             ttl,
             rdata,
             ..
-        } = placed;
+        } = rr;
         match sets.last_mut() {
             Some(set) if *set.owner() == owner && set.rtype() == rdata.rtype() => {
                 set.insert(rdata)?;

@@ -1,7 +1,7 @@
 use Rattle.std.proofs.Common.{map, ap, ◌∙◌}
 use Rattle.dns_rdata.specs.Record.{IsLawful}
 use Rattle.zone_lexing.specs.Entries.{entries_of}
-use Rattle.master_file.specs.ZoneText.{soa_first, line_words}
+use Rattle.master_file.specs.WrittenZone.{soa_first, line_words}
 use Rattle.zone_lexing.proofs.SpellingLemmas.{lines-read}
 use Rattle.master_file.proofs.ZoneLawLemmas.{lines_are, lines_spelt, each_first}
 use Rattle.master_file.proofs.zone_laws.written_zone_has_an_entry_a_record.Goals as goal

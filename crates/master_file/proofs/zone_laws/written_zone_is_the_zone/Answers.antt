@@ -2,9 +2,9 @@ use Rattle.std.proofs.Common.{◌≤◌, length, map, ap, ◌∙◌}
 use Rattle.dns_rdata.specs.Record.{Record, IsLawful}
 use Rattle.zone_lexing.specs.Entries.{entries_of}
 use Rattle.zone_lexing.proofs.SpellingLemmas.{lines-read}
-use Rattle.master_file.specs.Gathered.{zone_of_read}
+use Rattle.master_file.specs.ZoneText.{zone_of_read}
 use Rattle.master_file.specs.Records.{records_from, start}
-use Rattle.master_file.specs.ZoneText.{soa_first, line_words}
+use Rattle.master_file.specs.WrittenZone.{soa_first, line_words}
 use Rattle.master_file.proofs.AgainLemmas.{zone_again}
 use Rattle.master_file.proofs.ZoneLawLemmas.{lines_are, lines_spelt, each_first}
 use Rattle.master_file.proofs.ZoneBackLemmas.{records_are}

@@ -1,7 +1,7 @@
 use Rattle.std.proofs.Common.{◌≡◌, ◌+◌, ◌++◌, ◌∷◌, List, ℕ, String, Global, flat_map, drop, string_bytes, sym, ap, ◌∙◌}
 use Rattle.std.proofs.lemmas.List.{append_assoc, drop_more}
 use Rattle.dns_rdata.specs.Record.{Record}
-use Rattle.master_file.specs.ZoneText.{record_line}
+use Rattle.master_file.specs.WrittenZone.{record_line}
 use Rattle.master_file.proofs.ZoneTextLemmas.{other_lines, set_in_front, soa_in_front}
 use Rattle.master_file.proofs.zone_text.write_others.Goals as goal
 use Rattle.master_file.proofs.zone_text.write_others.Goals.{then-ne+in_ok-write_set, else-ne}

@@ -1,6 +1,6 @@
 use Rattle.std.proofs.Common.{◌≡◌, ◌++◌, drop, filter, flat_map, string_bytes}
 use Rattle.zone_tree.specs.Sets.{records_in}
-use Rattle.master_file.specs.ZoneText.{record_line, is_other}
+use Rattle.master_file.specs.WrittenZone.{record_line, is_other}
 use Rattle.master_file.proofs.zone_text.write_others.Given as goal
 
 abbrev pub invariant-loop-set : goal.invariant-loop-set

@@ -1,7 +1,7 @@
 use Rattle.std.proofs.Common.{◌≡◌, ◌++◌, [], List, ℕ, flat_map, drop, string_bytes, sym, ap, ◌∙◌}
 use Rattle.std.proofs.lemmas.List.{append-nil, drop_all}
 use Rattle.dns_rdata.specs.Record.{owner_of, rtype_of, ttl_of}
-use Rattle.master_file.specs.ZoneText.{record_line}
+use Rattle.master_file.specs.WrittenZone.{record_line}
 use Rattle.master_file.proofs.ZoneTextLemmas.{data_lines, data_lines-records}
 use Rattle.master_file.proofs.zone_text.write_set.Goals as goal
 

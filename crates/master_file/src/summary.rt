@@ -1,59 +1,59 @@
-//! Notes of the records kept while a text is read, by owner and type.
+//! What is known of the sets of records kept while a text is read, by owner and type.
 ghost use Rattle.std.specs.Prelude.{◌≡◌, ℕ, ◌<◌, ◌^◌, ◌&&◌, ◌||◌, ◌==◌, true, if◌then◌else◌, List, [], Some, None, OnOk};
 ghost use Rattle.std.specs.BTreeSet.{contains};
 ghost use Rattle.dns_name.specs.Name.{canonical_cmp, is_same};
 ghost use Rattle.dns_rdata.specs.Numbers.{type_SOA};
-ghost use Rattle.master_file.specs.Noted.{noted_at, count_of, AreNotes, LastsEach};
+ghost use Rattle.master_file.specs.Summary.{summary_at, count_of, AreSummaries, LastsEach};
 
 use dns_name::Name;
 use dns_rdata::{RType, Ttl};
 use std::alloc::{AllocError, Global};
 use std::collections::{BTreeMap, BTreeSet};
 
-/// What is noted of an owner and type.
+/// What is known of the records of an owner and type.
 #[derive(Clone, Copy)]
-pub(crate) struct Noted {
+pub(crate) struct SetSummary {
     /// How many records there are.
     pub(crate) count: usize,
     /// The TTL of the last one read, in seconds.
     pub(crate) ttl: Ttl,
 }
 
-/// What is noted of the records kept.
+/// What is known of the records kept.
 #[derive(Drop)]
-pub(crate) struct Notes {
-    pub(crate) sets: BTreeMap<(Name, u16), Noted>,
+pub(crate) struct Summaries {
+    pub(crate) sets: BTreeMap<(Name, u16), SetSummary>,
     pub(crate) owners: BTreeSet<Name>,
     pub(crate) has_soa: bool,
 }
 
-impl Notes {
-    /// The notes of no records.
-    pub(crate) fn new(alloc: Global) -> Notes
-        ensures notes { AreNotes [] result }
+impl Summaries {
+    /// The summaries of no records.
+    pub(crate) fn new(alloc: Global) -> Summaries
+        ensures summaries { AreSummaries [] result }
         ensures lasts { LastsEach result }
-        ensures none { (owner : List (List ℕ)) (rtype : ℕ) → noted_at result owner rtype ≡ None }
+        ensures none { (owner : List (List ℕ)) (rtype : ℕ) → summary_at result owner rtype ≡ None }
     {
-        Notes {
+        Summaries {
             sets: BTreeMap::new(alloc),
             owners: BTreeSet::new(alloc),
             has_soa: false,
         }
     }
 
-    /// What is noted of an owner and type.
-    pub(crate) fn at(&self, owner: &Name, rtype: RType) -> Option<Noted>
-        ensures { result ≡ noted_at self.now owner.now rtype.0 }
+    /// What is known of an owner and type.
+    pub(crate) fn at(&self, owner: &Name, rtype: RType) -> Option<SetSummary>
+        ensures { result ≡ summary_at self.now owner.now rtype.0 }
     {
         self.sets.get(&(owner.copy(), rtype.0)).copied()
     }
 
     /// How many records of an owner and type there are.
     pub(crate) fn count(&self, owner: &Name, rtype: RType) -> usize
-        ensures { result ≡ count_of (noted_at self.now owner.now rtype.0) }
+        ensures { result ≡ count_of (summary_at self.now owner.now rtype.0) }
     {
         match self.at(owner, rtype) {
-            Some(noted) => noted.count,
+            Some(summary) => summary.count,
             None => 0,
         }
     }
@@ -65,21 +65,21 @@ impl Notes {
         self.owners.contains(owner)
     }
 
-    /// Notes this of an owner and type. Where the record is new, its owner is noted, and whether it is an SOA.
+    /// Makes this the summary of an owner and type. Where the record is new, its owner is there from now on, and the SOA.
     pub(crate) fn put(
         &mut self,
         owner: Name,
         rtype: RType,
-        noted: Noted,
+        summary: SetSummary,
         is_new: bool,
     ) -> Result<(), AllocError>
-        ensures sets { OnOk result ((other : List (List ℕ)) (number : ℕ) → noted_at self.new other number
-            ≡ (if is_same owner other && rtype.0 == number then Some noted else noted_at self.old other number)) }
+        ensures sets { OnOk result ((other : List (List ℕ)) (number : ℕ) → summary_at self.new other number
+            ≡ (if is_same owner other && rtype.0 == number then Some summary else summary_at self.old other number)) }
         ensures owners { OnOk result ((other : List (List ℕ)) → contains canonical_cmp self.new.owners other
             ≡ (if is_new && is_same owner other then true else contains canonical_cmp self.old.owners other)) }
         ensures soa { OnOk result (self.new.has_soa ≡ (self.old.has_soa || (is_new && rtype.0 == type_SOA))) }
     {
-        self.sets.insert((owner.copy(), rtype.0), noted)?;
+        self.sets.insert((owner.copy(), rtype.0), summary)?;
         if is_new {
             self.owners.insert(owner)?;
             if rtype == RType::SOA {

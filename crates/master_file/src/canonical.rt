@@ -3,10 +3,10 @@ ghost use Rattle.std.specs.Cmp.{partial_equiv_from_equiv, partial_order_from_agr
 ghost use Rattle.std.specs.Ordering.{as_partial_cmp, eq_by_cmp};
 ghost use Rattle.std.specs.Prelude.{◌≡◌, refl};
 ghost use Rattle.dns_rdata.specs.Record.{record_cmp};
-ghost use Rattle.master_file.specs.Gathered.{record_in};
+ghost use Rattle.master_file.specs.ZoneText.{record_in};
 ghost use Rattle.master_file.specs.RecordOrder.{record_total, record_equiv};
 
-use crate::placed::Placed;
+use crate::record_entry::RecordEntry;
 use dns_name::Name;
 use dns_rdata::{RData, Ttl};
 use std::cmp::Ordering;
@@ -14,13 +14,13 @@ use std::marker::Model;
 
 /// A record, in canonical order: by owner, type and data, whatever its TTL is (RFC 4034, 6.1 and 6.3).
 #[derive(Drop)]
-pub(crate) struct Kept {
+pub(crate) struct CanonicalRecord {
     pub(crate) owner: Name,
     pub(crate) ttl: Ttl,
     pub(crate) rdata: RData,
 }
 
-impl Model for Kept {
+impl Model for CanonicalRecord {
     ghost use Rattle.dns_rdata.specs.Record.{Record};
 
     ghost Value = { Record };
@@ -28,18 +28,18 @@ impl Model for Kept {
     ghost view = { λ a. record { owner = a.owner; rtype = a.rdata.rtype; ttl = a.ttl.0; rdata = a.rdata.octets } };
 }
 
-impl Kept {
+impl CanonicalRecord {
     /// The record of a text, without its line.
-    pub(crate) fn new(placed: Placed) -> Kept
-        ensures { result ≡ record_in placed }
+    pub(crate) fn new(rr: RecordEntry) -> CanonicalRecord
+        ensures { result ≡ record_in rr }
     {
-        let Placed {
+        let RecordEntry {
             owner,
             ttl,
             rdata,
             ..
-        } = placed;
-        Kept { owner, ttl, rdata }
+        } = rr;
+        CanonicalRecord { owner, ttl, rdata }
     }
 
     /// The owner.
@@ -50,21 +50,21 @@ impl Kept {
     }
 }
 
-impl PartialEq for Kept {
+impl PartialEq for CanonicalRecord {
     ghost eq = { eq_by_cmp record_cmp };
 
     ghost laws = { partial_equiv_from_equiv record_equiv };
 
-    fn eq(&self, other: &Kept) -> bool {
+    fn eq(&self, other: &CanonicalRecord) -> bool {
         self.cmp(other).is_eq()
     }
 }
 
-impl Eq for Kept {
+impl Eq for CanonicalRecord {
     ghost laws = { record_equiv };
 }
 
-impl Ord for Kept {
+impl Ord for CanonicalRecord {
     ghost cmp = { record_cmp };
 
     ghost total = { record_total };
@@ -73,7 +73,7 @@ impl Ord for Kept {
 
     ghost matches_eq = { λ _ _. refl };
 
-    fn cmp(&self, other: &Kept) -> Ordering {
+    fn cmp(&self, other: &CanonicalRecord) -> Ordering {
         self.owner
             .order(&other.owner)
             .then(self.rdata.rtype().0.cmp(&other.rdata.rtype().0))
@@ -81,12 +81,12 @@ impl Ord for Kept {
     }
 }
 
-impl PartialOrd for Kept {
+impl PartialOrd for CanonicalRecord {
     ghost partial_cmp = { as_partial_cmp record_cmp };
 
     ghost laws = { partial_order_from_agreeing_total record_cmp record_total (λ _ _. refl) (λ _ _. refl) };
 
-    fn partial_cmp(&self, other: &Kept) -> Option<Ordering> {
+    fn partial_cmp(&self, other: &CanonicalRecord) -> Option<Ordering> {
         Some(self.cmp(other))
     }
 }

@@ -1,7 +1,7 @@
 //! The records of a zone's text (RFC 1035, 5.1).
 ghost use Rattle.std.specs.Prelude.{◌≡◌, ◌<◌, ◌^◌, Ok, Err, map, IfOk, IfErr};
 ghost use Rattle.record_text.specs.Data.{IsToldOf};
-ghost use Rattle.master_file.specs.Records.{owned_of, placed_of, record_of, AreLasting};
+ghost use Rattle.master_file.specs.Records.{owned_of, rr_of, record_of, AreLasting};
 ghost use Rattle.zone_lexing.specs.Word.{written};
 
 use crate::context::Context;
@@ -13,7 +13,7 @@ use zone_lexing::Word;
 
 /// A record of class IN, where it stands in a zone's text.
 #[derive(Drop)]
-pub struct Placed {
+pub struct RecordEntry {
     /// The line on which its entry begins, counted from 1.
     pub line: u64,
     /// The owner, in lower case.
@@ -32,10 +32,10 @@ pub(crate) fn read_record(
     line: u64,
     indented: bool,
     words: &[Word<'_>],
-) -> Result<Placed, Cause>
+) -> Result<RecordEntry, Cause>
     requires lasting { AreLasting context.now }
-    ensures placed { IfOk result (λ placed. record_of context.now line indented (map written words.now) ≡ Ok placed) }
-    ensures lasts { IfOk result (λ placed. placed.ttl.0 < 2 ^ 31) }
+    ensures rr { IfOk result (λ rr. record_of context.now line indented (map written words.now) ≡ Ok rr) }
+    ensures lasts { IfOk result (λ rr. rr.ttl.0 < 2 ^ 31) }
     ensures fault { IfErr result (IsToldOf (record_of context.now line indented (map written words.now))) }
 {
     let (owner, behind) = read_owner(context, indented, words)?;
@@ -70,16 +70,16 @@ fn read_behind(
     line: u64,
     owner: Name,
     words: &[Word<'_>],
-) -> Result<Placed, Cause>
+) -> Result<RecordEntry, Cause>
     requires lasting { AreLasting context.now }
-    ensures placed { IfOk result (λ placed. placed_of context.now line owner (map written words.now) ≡ Ok placed) }
-    ensures lasts { IfOk result (λ placed. placed.ttl.0 < 2 ^ 31) }
-    ensures fault { IfErr result (IsToldOf (placed_of context.now line owner (map written words.now))) }
+    ensures rr { IfOk result (λ rr. rr_of context.now line owner (map written words.now) ≡ Ok rr) }
+    ensures lasts { IfOk result (λ rr. rr.ttl.0 < 2 ^ 31) }
+    ensures fault { IfErr result (IsToldOf (rr_of context.now line owner (map written words.now))) }
 {
     let front = read_front(words)?;
     let ttl = context.ttl(front.ttl)?;
     let rdata = read_data(alloc, front.rtype, front.words, &context.origin)?;
-    Ok(Placed {
+    Ok(RecordEntry {
         line,
         owner,
         ttl,
