@@ -8,8 +8,8 @@ use Rattle.cell_core.specs.Cell.{Cell, IsLast, with_strong, without_strong, with
 use Rattle.dns_rdata.specs.Record.{Record}
 use Rattle.dnsd.specs.declared.world.step.WorldReply.{WorldReply}
 use Rattle.dnsd.specs.declared.world.step.WorldReply.TheVariants.{Owner, Left, Buried}
-use Rattle.dnsd.specs.declared.transport.Transport.TheVariants.{Udp}
-use Rattle.dnsd.specs.Reply.{reply}
+use Rattle.serve_core.specs.declared.transport.Transport.TheVariants.{Udp}
+use Rattle.serve_core.specs.Reply.{reply}
 use Rattle.dnsd.specs.WorldSteps.{Turn, answer_of}
 use Rattle.dnsd.specs.WorldSteps.Turn.{Load, Drop, Ask, Publish}
 use Rattle.dnsd.specs.World.{World, started, zone_of, with_name, without_name, GivesUp, Refuses, Loads, Asks, Publishes, Turns, PlaysFrom, Plays}

@@ -1,10 +1,8 @@
 pub mod Input
 pub mod Lines
-pub mod Reply
 pub mod Run
 pub mod Script
 pub mod Told
-pub mod Transport
 pub mod World
 pub mod WorldPlay
 pub mod WorldReplies

@@ -7,8 +7,8 @@ use Rattle.cell_core.specs.Cell.{Cell, CellStep, IsLast, Steps, HasStep, start}
 use Rattle.dns_rdata.specs.Record.{Record}
 use Rattle.dnsd.specs.declared.world.step.WorldReply.{WorldReply}
 use Rattle.dnsd.specs.declared.world.step.WorldReply.TheVariants.{Owner, Left, Buried, Published, NotEnabled}
-use Rattle.dnsd.specs.declared.transport.Transport.TheVariants.{Udp}
-use Rattle.dnsd.specs.Reply.{reply}
+use Rattle.serve_core.specs.declared.transport.Transport.TheVariants.{Udp}
+use Rattle.serve_core.specs.Reply.{reply}
 use Rattle.dnsd.specs.WorldSteps.{Turn, answer_of}
 use Rattle.dnsd.specs.WorldSteps.Turn.{Load, Drop, Ask, Publish}
 

@@ -5,8 +5,8 @@ use Rattle.cell_core.specs.Cell.{CellStep, Runs, start}
 use Rattle.cell_core.specs.Loaded.{loaded, IsLoad, WasLast}
 use Rattle.dns_rdata.specs.Record.{Record}
 use Rattle.dnsd.specs.declared.world.step.WorldReply.{WorldReply}
-use Rattle.dnsd.specs.declared.transport.Transport.TheVariants.{Udp}
-use Rattle.dnsd.specs.Reply.{reply}
+use Rattle.serve_core.specs.declared.transport.Transport.TheVariants.{Udp}
+use Rattle.serve_core.specs.Reply.{reply}
 use Rattle.dnsd.specs.WorldSteps.{answer_of}
 use Rattle.dnsd.specs.World.{World}
 

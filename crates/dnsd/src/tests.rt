@@ -3,10 +3,10 @@ mod faults;
 
 use crate::command::{Command, CommandFault, Source, parse_words};
 use crate::run::run_text;
-use crate::transport::Transport;
 use crate::world::{self, Handle, WorldReply, WorldStep};
 use crate::zone_text::read_zone;
 use dns_name::Name;
+use serve_core::Transport;
 use std::alloc::AllocError;
 use std::io::{BufWriter, Cursor};
 use std::process::Abort;

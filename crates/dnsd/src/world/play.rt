@@ -2,17 +2,16 @@
 ghost use Rattle.std.specs.Prelude.{◌≡◌, IfOk, filter, not, bytes_eq};
 ghost use Rattle.std.specs.Option.{option_copied};
 ghost use Rattle.cell_core.specs.Kept.{cell_of};
-ghost use Rattle.dnsd.specs.declared.transport.Transport.TheVariants.{Udp};
-ghost use Rattle.dnsd.specs.Reply.{reply};
+ghost use Rattle.serve_core.specs.declared.transport.Transport.TheVariants.{Udp};
+ghost use Rattle.serve_core.specs.Reply.{reply};
 ghost use Rattle.dnsd.specs.World.{started, zone_of, GivesUp, Turns};
 ghost use Rattle.dnsd.specs.WorldPlay.{world_of, names_in_use, number_of};
 ghost use Rattle.dnsd.specs.WorldSteps.{Turn, turn_of, answer_of};
 
 use super::fault::WorldFault;
 use super::step::{Handle, Octets, WorldReply, WorldStep};
-use crate::reply::respond;
-use crate::transport::{Transport, UDP_LIMIT};
 use cell_core::{Machine, Step, StepFault};
+use serve_core::{Transport, UDP_LIMIT, respond};
 use std::alloc::Global;
 use zone_tree::Zone;
 

@@ -1,6 +1,6 @@
 //! What carries requests and replies (RFC 1035, 4.2).
 ghost use Rattle.std.specs.Prelude.{◌≡◌, ◌≤◌};
-ghost use Rattle.dnsd.specs.Transport.{limit_of};
+ghost use Rattle.serve_core.specs.Transport.{limit_of};
 
 use dns_message::{MAX_LIMIT, MIN_LIMIT};
 

@@ -15,8 +15,8 @@ use Rattle.dns_message.specs.Reads.{reads}
 use Rattle.dns_message.specs.Octets.{fit}
 use Rattle.zone_tree.specs.Zone.{apex_of}
 use Rattle.lookup_core.specs.Sections.{Sections, sections}
-use Rattle.dnsd.specs.declared.transport.Transport.{Transport}
-use Rattle.dnsd.specs.Transport.{limit_of}
+use Rattle.serve_core.specs.declared.transport.Transport.{Transport}
+use Rattle.serve_core.specs.Transport.{limit_of}
 
 -- a header alone, with a code
 abbrev pub bare : Head → Rcode → Message

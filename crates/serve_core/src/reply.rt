@@ -2,8 +2,8 @@
 ghost use Rattle.std.specs.Prelude.{◌≡◌, ◌≤◌, length, take, MatchOption, Some, None};
 ghost use Rattle.dns_message.specs.Message.{message_of};
 ghost use Rattle.dns_message.specs.Octets.{fit};
-ghost use Rattle.dnsd.specs.Reply.{reply, reply_to, answered_in, bare as bare_message, refused};
-ghost use Rattle.dnsd.specs.Transport.{limit_of};
+ghost use Rattle.serve_core.specs.Reply.{reply, reply_to, answered_in, bare as bare_message, refused};
+ghost use Rattle.serve_core.specs.Transport.{limit_of};
 
 use crate::transport::Transport;
 use dns_message::{Head, Parsed, Query, Question, Reply, parse, write_reply};
