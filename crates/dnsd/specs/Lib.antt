@@ -3,8 +3,3 @@ pub mod Lines
 pub mod Run
 pub mod Script
 pub mod Told
-pub mod World
-pub mod WorldPlay
-pub mod WorldReplies
-pub mod WorldRuns
-pub mod WorldSteps
