@@ -1,10 +1,3 @@
 pub mod InputLemmas
 pub mod LinesLemmas
 pub mod ScriptLemmas
-pub mod WorldBuried
-pub mod WorldHandles
-pub mod WorldKept
-pub mod WorldLaws
-pub mod WorldPast
-pub mod WorldRuns
-pub mod WorldZones

@@ -7,8 +7,8 @@ use Rattle.std.proofs.lemmas.List.{take-append-drop}
 use Rattle.hex.specs.declared.error.FromHexError.{FromHexError}
 use Rattle.hex.specs.Hex.{decode_of}
 use Rattle.dns_rdata.specs.Record.{Record}
-use Rattle.dnsd.specs.declared.transport.Transport.{Transport}
-use Rattle.dnsd.specs.Reply.{reply}
+use Rattle.serve_core.specs.declared.transport.Transport.{Transport}
+use Rattle.serve_core.specs.Reply.{reply}
 use Rattle.dnsd.specs.Lines.{TakesLine, Begins, line_of, line_for, written, input_lines, output_of, onto_first, MOST_OCTETS}
 
 -- what is no hexadecimal of so many octets gets `!`

@@ -8,10 +8,10 @@ use Rattle.dns_rdata.specs.Record.{Record}
 use Rattle.dnsd.proofs.LinesLemmas.{input_lines-first, IsWritten, Appends-twice}
 use Rattle.dnsd.specs.Lines.{input_lines, Begins}
 use Rattle.dnsd.specs.Script.{step_of, onto_steps, steps_from, script_of, said_by, named_by, printed, printed_lines}
-use Rattle.dnsd.specs.WorldReplies.{replies_behind, replies_of}
-use Rattle.dnsd.specs.WorldSteps.{Turn}
+use Rattle.world_run.specs.WorldReplies.{replies_behind, replies_of}
+use Rattle.world_run.specs.WorldSteps.{Turn}
 use Rattle.dnsd.specs.declared.script.ScriptStep.{ScriptStep}
-use Rattle.dnsd.specs.declared.world.step.WorldReply.{WorldReply}
+use Rattle.world_run.specs.declared.step.WorldReply.{WorldReply}
 
 -- steps in front of others, or of a line that says none
 abbrev pub behind_steps : List Turn → Result (List Turn) ℕ → Result (List Turn) ℕ

@@ -1,12 +1,5 @@
 pub mod Input
 pub mod Lines
-pub mod Reply
 pub mod Run
 pub mod Script
 pub mod Told
-pub mod Transport
-pub mod World
-pub mod WorldPlay
-pub mod WorldReplies
-pub mod WorldRuns
-pub mod WorldSteps

@@ -5,8 +5,8 @@ use Rattle.std.specs.Io.KnownBytes.{Appends}
 use Rattle.hex.specs.declared.error.FromHexError.{FromHexError}
 use Rattle.hex.specs.Hex.{decode_of, encode_lower}
 use Rattle.dns_rdata.specs.Record.{Record}
-use Rattle.dnsd.specs.declared.transport.Transport.{Transport}
-use Rattle.dnsd.specs.Reply.{reply}
+use Rattle.serve_core.specs.declared.transport.Transport.{Transport}
+use Rattle.serve_core.specs.Reply.{reply}
 
 -- the most octets of a request (RFC 1035, 4.2.2)
 abbrev pub MOST_OCTETS : ℕ

@@ -4,16 +4,16 @@ use Rattle.std.specs.List.{list_all, slice_split}
 use Rattle.hex.specs.declared.error.FromHexError.{FromHexError}
 use Rattle.hex.specs.Hex.{decode_of, encode_lower}
 use Rattle.dns_rdata.specs.Record.{Record}
-use Rattle.dnsd.specs.declared.world.step.WorldReply.{WorldReply}
-use Rattle.dnsd.specs.declared.world.step.WorldReply.TheVariants.{Owner, Left, Buried, Answer, Silent, Published, NotEnabled}
+use Rattle.world_run.specs.declared.step.WorldReply.{WorldReply}
+use Rattle.world_run.specs.declared.step.WorldReply.TheVariants.{Owner, Left, Buried, Answer, Silent, Published, NotEnabled}
 use Rattle.dnsd.specs.declared.script.ScriptFault.{ScriptFault}
 use Rattle.dnsd.specs.declared.script.ScriptFault.TheVariants.{Bad, Device}
 use Rattle.dnsd.specs.declared.script.ScriptStep.{ScriptStep}
 use Rattle.dnsd.specs.declared.script.ScriptStep.TheVariants as script
 use Rattle.dnsd.specs.Lines.{MOST_OCTETS, input_lines}
-use Rattle.dnsd.specs.WorldReplies.{replies_of}
-use Rattle.dnsd.specs.WorldSteps.{Turn}
-use Rattle.dnsd.specs.WorldSteps.Turn.{Load, Drop, Ask, Publish}
+use Rattle.world_run.specs.WorldReplies.{replies_of}
+use Rattle.world_run.specs.WorldSteps.{Turn}
+use Rattle.world_run.specs.WorldSteps.Turn.{Load, Drop, Ask, Publish}
 
 -- the words of a line, with one space between: between two spaces stands an empty word
 abbrev pub words_of : List ℕ → List (List ℕ)

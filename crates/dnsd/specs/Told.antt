@@ -3,7 +3,7 @@ use Rattle.std.specs.Prelude.{ℕ, List, [], ◌∷◌, ◌++◌, codes, decimal
 use Rattle.std.specs.Io.KnownBytes.{Appends}
 use Rattle.dnsd.specs.declared.fault.Fault.{Fault}
 use Rattle.dnsd.specs.declared.fault.Fault.TheVariants.{Zone, Script, World, Device}
-use Rattle.dnsd.specs.declared.world.fault.WorldFault.{WorldFault}
+use Rattle.world_run.specs.Told.{world_words}
 use Rattle.dnsd.specs.declared.zone_text.fault.Cause.{Cause}
 use Rattle.dnsd.specs.declared.zone_text.fault.Cause.TheVariants.{BadName, Number, BadClass, UnknownType, BadData, Unclosed, Outside, Apex, Conflict, Limit, NoMemory}
 
@@ -20,10 +20,6 @@ cause_words Apex = codes "M11 Apex"
 cause_words Conflict = codes "M12 Conflict"
 cause_words Limit = codes "M13 Limit"
 cause_words NoMemory = codes "M14 NoMemory"
-
--- the code and the name of why steps aren't made
-abbrev pub world_words : WorldFault → List ℕ
-world_words fault = codes "V1 NoMemory"
 
 -- what is told of a fault: `line N: CODE NAME` of a zone's text, `line N: bad` of a script; none where the device words it
 abbrev pub told : Fault → Option (List ℕ)

@@ -4,14 +4,13 @@ ghost use Rattle.std.specs.Io.BufRead.{strip_last};
 ghost use Rattle.std.specs.Io.KnownBytes.{Appends};
 ghost use Rattle.hex.specs.Hex.{decode_of, encode_lower};
 ghost use Rattle.dnsd.specs.declared.answer.TheConstants.{MAX_REQUEST, MAX_DIGITS};
-ghost use Rattle.dnsd.specs.declared.transport.TheConstants.{TCP_LIMIT};
-ghost use Rattle.dnsd.specs.Reply.{reply as reply_in};
+ghost use Rattle.serve_core.specs.declared.transport.TheConstants.{TCP_LIMIT};
+ghost use Rattle.serve_core.specs.Reply.{reply as reply_in};
 ghost use Rattle.dnsd.specs.Lines.{written, line_for, output_of, Begins, TakesLine, Writes};
-ghost use Rattle.dnsd.specs.Transport.{limit_of};
+ghost use Rattle.serve_core.specs.Transport.{limit_of};
 
 use crate::input::{MAX_READS, endless};
-use crate::reply::respond;
-use crate::transport::{TCP_LIMIT, Transport};
+use serve_core::{TCP_LIMIT, Transport, respond};
 use std::alloc::Global;
 use std::io::{self, BufRead, Write};
 use zone_tree::ZoneRead;

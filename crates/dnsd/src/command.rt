@@ -2,9 +2,9 @@
 ghost use Rattle.std.specs.Prelude.{◌≡◌};
 ghost use Rattle.dnsd.specs.Run.{source_of, origin_of};
 
-use crate::transport::Transport;
 use clap::{Arg, ArgAction, Command as Parser};
 use dns_name::{Name, NameFault};
+use serve_core::Transport;
 use std::alloc::{AllocError, Global};
 use std::convert::AsStr;
 

@@ -5,10 +5,10 @@ ghost use Rattle.dnsd.specs.Run.{status_of, fault_of};
 ghost use Rattle.dnsd.specs.Told.{cause_words, told};
 
 use crate::script::ScriptFault;
-use crate::world::WorldFault;
 use crate::zone_text::{Cause, FileFault};
 use std::error::Error;
 use std::{fmt, io};
+use world_run::WorldFault;
 
 /// The status of a command that was done.
 pub const DONE: u8 = 0;

@@ -1,9 +1,8 @@
 //! `dnsd`: an authoritative name server for one zone of class IN.
 //!
 //! The command line is parsed by `command`, the zone's text is read by `zone_text`, and `answer` replies to each request
-//! that it reads, over the `transport` that is asked for. `steps` plays a `script`: names come into use for versions of the
-//! zone, as `world` keeps them, and requests over UDP are answered in them. All that a reply says is in `reply`, over the
-//! crates below.
+//! that it reads, over UDP or TCP. `steps` plays a `script`: names come into use for versions of the zone, and requests over
+//! UDP are answered in them. What a reply says is `serve_core`'s, and what a step does is `world_run`'s.
 #![tactic(auto)]
 
 ghost use Rattle.std.specs.Prelude.{◌≡◌, ◌⊎◌};
@@ -13,12 +12,9 @@ pub mod command;
 pub mod fault;
 mod input;
 mod lines;
-pub mod reply;
 pub mod run;
 pub mod script;
 pub mod steps;
-pub mod transport;
-pub mod world;
 pub mod zone_text;
 
 use command::{Command, CommandFault, Source, parse_words};

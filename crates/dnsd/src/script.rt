@@ -9,14 +9,14 @@ ghost use Rattle.dnsd.specs.declared.script.ScriptFault.TheVariants.{Device};
 ghost use Rattle.dnsd.specs.Script.{AtBad};
 ghost use Rattle.dnsd.specs.Script.{words_of as words_on, is_name as says_name, is_name_octet as says_name_octet, request_in, asking, step_in as says_step, step_of as step_on, script_of, said_by, named_by};
 ghost use Rattle.hex.specs.Hex.{decode_of};
-ghost use Rattle.dnsd.specs.WorldSteps.{turn_of};
+ghost use Rattle.world_run.specs.WorldSteps.{turn_of};
 
 use crate::answer::{MAX_REQUEST, without_lf};
 use crate::input::{MAX_READS, endless};
-use crate::world::{Handle, WorldStep};
 use hex::FromHexError;
 use std::alloc::{AllocError, Global};
 use std::io::{self, BufRead};
+use world_run::{Handle, WorldStep};
 
 /// The most octets of a strong owner's name.
 const MAX_NAME: usize = 8;

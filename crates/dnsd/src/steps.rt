@@ -5,15 +5,15 @@ ghost use Rattle.hex.specs.Hex.{encode_lower};
 ghost use Rattle.dnsd.specs.Lines.{Begins};
 ghost use Rattle.dnsd.specs.Run.{status_of, AtRefusedZone, AtDevice, IsOfScript, IsOfPlay};
 ghost use Rattle.dnsd.specs.Script.{script_of, script_output, said_by, named_by, printed, printed_lines};
-ghost use Rattle.dnsd.specs.WorldReplies.{replies_of};
-ghost use Rattle.dnsd.specs.WorldSteps.{turn_of};
+ghost use Rattle.world_run.specs.WorldReplies.{replies_of};
+ghost use Rattle.world_run.specs.WorldSteps.{turn_of};
 
 use crate::answer::write_whole;
 use crate::fault::Fault;
 use crate::script::{ScriptStep, read_script};
-use crate::world::{self, WorldReply, WorldStep};
 use std::alloc::Global;
 use std::io::{self, BufRead, Write};
+use world_run::{WorldReply, WorldStep, run};
 use zone_tree::Zone;
 
 /// Plays the script that the reader gives, from a zone on, and writes for each step a line: `NAME N` for a strong owner of
@@ -53,7 +53,7 @@ fn play<'a>(
     ensures fault { IfErr result (λ fault. IsOfPlay fault) }
 {
     let steps = world_steps(alloc, script)?;
-    let replies = world::run(alloc, zone, steps.as_slice())?;
+    let replies = run(alloc, zone, steps.as_slice())?;
     Ok(replies)
 }
 

@@ -3,10 +3,8 @@ mod faults;
 
 use crate::command::{Command, CommandFault, Source, parse_words};
 use crate::run::run_text;
-use crate::transport::Transport;
-use crate::world::{self, Handle, WorldReply, WorldStep};
-use crate::zone_text::read_zone;
 use dns_name::Name;
+use serve_core::Transport;
 use std::alloc::AllocError;
 use std::io::{BufWriter, Cursor};
 use std::process::Abort;
@@ -669,51 +667,6 @@ fn bad_lines(rt: HostRuntime) -> Result<(), Fail> {
     let longer = format!(in rt.alloc(); "load a\nask a {:0>65535}{:0>65535}00\n", "", "")?;
     let (_, _, errors) = run_command(&rt, &steps(), ZONE, longer.as_str())?;
     assert_eq!(rt; errors.as_str(), "line 2: bad\n");
-    Ok(())
-}
-
-// A name that only the second version has: asked of the first it is a name error (RFC 1035, 4.1.1: RCODE 3), of the second
-// it has its address. The first version is buried when nobody owns it any more.
-#[test]
-fn versions(rt: HostRuntime) -> Result<(), Fail> {
-    let alloc = rt.alloc();
-    let query =
-        b"\x12\x34\x01\x00\x00\x01\x00\x00\x00\x00\x00\x00\x03new\x07example\x04test\x00\x00\x01\x00\x01";
-    let first = read_zone(alloc, ZONE.as_bytes(), &Name::root()).expect(&rt, "a zone");
-    let text = format!(in alloc; "{ZONE}new.example.test. 3600 IN A 192.0.2.77\n")?;
-    let second = read_zone(alloc, text.as_bytes(), &Name::root()).expect(&rt, "a zone");
-    let (a, b) = (Handle(b"a"), Handle(b"b"));
-    let steps = [
-        WorldStep::Load(a),
-        WorldStep::Publish(&second),
-        WorldStep::Load(b),
-        WorldStep::Ask(a, query),
-        WorldStep::Ask(b, query),
-        WorldStep::Drop(a),
-        WorldStep::Drop(b),
-    ];
-    let replies = world::run(alloc, &first, &steps).expect(&rt, "memory");
-    let WorldReply::Answer(in_first) = &replies[3] else {
-        return Err(Fail::from("no answer"));
-    };
-    let WorldReply::Answer(in_second) = &replies[4] else {
-        return Err(Fail::from("no answer"));
-    };
-    assert!(rt; matches!(&replies[0], WorldReply::Owner(0)));
-    assert!(rt; matches!(&replies[2], WorldReply::Owner(1)));
-    assert!(rt;
-        in_first
-            .as_slice()
-            .starts_with(b"\x12\x34\x85\x03\x00\x01\x00\x00")
-    );
-    assert!(rt;
-        in_second
-            .as_slice()
-            .starts_with(b"\x12\x34\x85\x00\x00\x01\x00\x01")
-    );
-    assert!(rt; in_second.as_slice().ends_with(b"\x00\x04\xc0\x00\x02\x4d"));
-    assert!(rt; matches!(&replies[5], WorldReply::Buried(0)));
-    assert!(rt; matches!(&replies[6], WorldReply::Left));
     Ok(())
 }
 

@@ -3,12 +3,12 @@ use super::{WWW, WWW_REPLY, ZONE, answer, run, run_command, steps};
 use crate::command::Command;
 use crate::fault::{BAD_COMMAND, DONE, FAILED, Fault, REFUSED};
 use crate::run::run_text;
-use crate::transport::Transport;
-use crate::world::WorldFault;
 use crate::zone_text::{Cause, FileFault};
+use serve_core::Transport;
 use std::io::{self, BufWriter, Cursor, ErrorKind, Write};
 use std::process::Abort;
 use std::test::Fail;
+use world_run::WorldFault;
 
 /// A writer that takes so many octets and no more, and may fail to flush.
 #[derive(Drop)]

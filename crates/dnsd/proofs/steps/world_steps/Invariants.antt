@@ -1,6 +1,6 @@
 use Rattle.std.proofs.Common.{◌≡◌, map, take}
 use Rattle.dnsd.specs.Script.{said_by}
-use Rattle.dnsd.specs.WorldSteps.{turn_of}
+use Rattle.world_run.specs.WorldSteps.{turn_of}
 use Rattle.dnsd.proofs.steps.world_steps.Given as goal
 
 -- the steps so far

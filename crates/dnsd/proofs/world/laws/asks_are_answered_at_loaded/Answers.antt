@@ -1,5 +1,0 @@
-use Rattle.dnsd.proofs.WorldRuns.{answered_at_loaded}
-use Rattle.dnsd.proofs.world.laws.asks_are_answered_at_loaded.Goals as goal
-
-pub returns : goal.returns
-returns c = answered_at_loaded

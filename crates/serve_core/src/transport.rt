@@ -1,0 +1,35 @@
+//! What carries requests and replies (RFC 1035, 4.2).
+ghost use Rattle.std.specs.Prelude.{◌≡◌, ◌≤◌};
+ghost use Rattle.serve_core.specs.Transport.{limit_of};
+
+use dns_message::{MAX_LIMIT, MIN_LIMIT};
+
+/// The most octets of a reply over UDP (RFC 1035, 4.2.1).
+pub const UDP_LIMIT: usize = MIN_LIMIT;
+
+/// The most octets of a reply over TCP (RFC 1035, 4.2.2).
+pub const TCP_LIMIT: usize = MAX_LIMIT;
+
+/// What carries a request and its reply (RFC 1035, 4.2).
+#[derive(Clone, Copy, Debug, PartialEq, Eq)]
+pub enum Transport {
+    /// A datagram each (RFC 1035, 4.2.1).
+    Udp,
+    /// A connection, on which each message stands behind its length in two octets (RFC 1035, 4.2.2).
+    Tcp,
+}
+
+impl Transport {
+    /// The most octets of a reply (RFC 1035, 4.2.1 and 4.2.2).
+    pub fn limit(self) -> usize
+        ensures limit { result ≡ limit_of self }
+        // What the writing of a reply takes.
+        ensures least { MIN_LIMIT ≤ result }
+        ensures most { result ≤ MAX_LIMIT }
+    {
+        match self {
+            Transport::Udp => UDP_LIMIT,
+            Transport::Tcp => TCP_LIMIT,
+        }
+    }
+}

@@ -1,0 +1,25 @@
+//! Why steps aren't made.
+ghost use Rattle.std.specs.Prelude.{Some};
+ghost use Rattle.world_run.specs.Told.{world_words};
+
+use std::error::Error;
+use std::fmt;
+
+/// Why steps of the world aren't made.
+#[derive(Clone, Copy, Debug, PartialEq, Eq)]
+pub enum WorldFault {
+    /// A growth was refused.
+    NoMemory,
+}
+
+impl fmt::Display for WorldFault {
+    ghost output = { λ fault. Some (world_words fault) };
+
+    fn fmt<W: fmt::Write>(&self, f: &mut fmt::Formatter<W>) -> fmt::Result {
+        match self {
+            WorldFault::NoMemory => write!(f, "V1 NoMemory"),
+        }
+    }
+}
+
+impl Error for WorldFault {}
