@@ -6,7 +6,7 @@ ghost use Rattle.dnsd.specs.Told.{cause_words, told};
 
 use crate::script::ScriptFault;
 use crate::world::WorldFault;
-use crate::zone_text::{Cause, FileFault};
+use master_file::{Cause, FileFault};
 use std::error::Error;
 use std::{fmt, io};
 
@@ -67,12 +67,15 @@ fn words_of(cause: Cause) -> &'static str
     ensures { result.now ≡ cause_words cause }
 {
     match cause {
+        Cause::Directive => "M1 Directive",
         Cause::BadName => "M2 BadName",
         Cause::Number => "M3 Number",
         Cause::BadClass => "M4 BadClass",
         Cause::UnknownType => "M5 UnknownType",
         Cause::BadData => "M6 BadData",
         Cause::Unclosed => "M7 Unclosed",
+        Cause::NoTtl => "M8 NoTtl",
+        Cause::NoOwner => "M9 NoOwner",
         Cause::Outside => "M10 Outside",
         Cause::Apex => "M11 Apex",
         Cause::Conflict => "M12 Conflict",
