@@ -1,5 +1,5 @@
 -- Lemmas on lines and on the line for a request.
-use Rattle.std.proofs.Common.{◌≡◌, ℕ, suc, ◌-◌, ◌<◌, ◌≤◌, Bool, true, false, cond, eqb, ltb, List, [], ◌∷◌, ◌++◌, length, slice_index, take, drop, Option, Some, None, Result, Ok, Err, refl, sym, ap, ◌∙◌, arith, codes, append_assoc, flat_map, subst, IfSome, OnErr, MatchBool, append-nil}
+use Rattle.std.proofs.Common.{◌≡◌, ℕ, suc, ◌-◌, ◌<◌, ◌≤◌, Bool, true, false, cond, eqb, ltb, List, [], ◌∷◌, ◌++◌, length, slice_index, take, drop, Option, Some, None, Result, Ok, Err, refl, sym, ap, ◌∙◌, arith, codes, append_assoc, flat_map, subst, IfSome, OnOk, OnErr, MatchBool, append-nil}
 use Rattle.std.specs.Io.BufRead.{take_through, drop_through, strip_last, first_piece}
 use Rattle.std.specs.Io.KnownBytes.{Appends, Keeps}
 use Rattle.std.proofs.lemmas.Bool.{le-leb, lt-leb, lt-ltb, cond-true, cond-false}
@@ -9,7 +9,8 @@ use Rattle.hex.specs.Hex.{decode_of}
 use Rattle.dns_rdata.specs.Record.{Record}
 use Rattle.serve_core.specs.declared.transport.Transport.{Transport}
 use Rattle.serve_core.specs.Reply.{reply}
-use Rattle.dnsd.specs.Lines.{TakesLine, Begins, line_of, line_for, written, input_lines, output_of, onto_first, MOST_OCTETS}
+use Rattle.dnsd.specs.Told.{AppendsSome}
+use Rattle.dnsd.specs.Lines.{TakesLine, Begins, Writes, line_of, line_for, written, input_lines, output_of, onto_first, MOST_OCTETS}
 
 -- what is no hexadecimal of so many octets gets `!`
 line_of-refused : (transport : Transport) (zone : List Record) (r : Result (List ℕ) FromHexError) → ((octets : List ℕ) → r ≡ Ok octets → MOST_OCTETS < length octets) → line_of transport zone r ≡ codes "!"
@@ -205,3 +206,8 @@ Begins-read transport zone (Some (c ∷ cs)) cleared line before after none read
 pub OnErr-each : {T E : Type 0} (r : Result T E) (P : Type 0) → P → OnErr r P
 OnErr-each (Ok x) P fact = tt
 OnErr-each (Err e) P fact = fact
+
+-- what is written behind something that was written is something with it
+pub AppendsSome-behind : {T E : Type 0} (r : Result T E) (before between after : Option (List ℕ)) (first second : List ℕ) → Appends before between first → Writes r between after second → OnOk r (AppendsSome before after)
+AppendsSome-behind (Ok t) before between after first second done writes = (first ++ second, Appends-twice before between after first second done writes)
+AppendsSome-behind (Err e) before between after first second done writes = tt

@@ -1,15 +1,19 @@
 -- What a run of the program comes to (own).
-use Rattle.std.specs.Prelude.{◌≡◌, ℕ, ◌⊎◌, List, Option, IfSome, Err, IsOk}
+use Rattle.std.specs.Prelude.{◌≡◌, ℕ, ◌⊎◌, List, Option, IfSome, Result, Ok, Err, IsOk}
 use Rattle.std.specs.Io.KnownBytes.{Appends}
 use Rattle.dns_rdata.specs.Record.{Record}
-use Rattle.zone_tree.specs.Zone.{IsZone}
+use Rattle.master_file.specs.declared.fault.FileFault.{FileFault}
+use Rattle.master_file.specs.ZoneText.{zone_of_text}
+use Rattle.master_file.specs.WrittenZone.{zone_text}
+use Rattle.master_file.specs.Fault.{no_memory}
 use Rattle.dnsd.specs.declared.command.Source.{Source}
 use Rattle.dnsd.specs.declared.command.Command.{Command}
-use Rattle.dnsd.specs.declared.command.Command.TheVariants.{Answer, Steps}
+use Rattle.dnsd.specs.declared.command.Command.TheVariants.{Answer, Check, Steps}
 use Rattle.dnsd.specs.declared.fault.Fault.{Fault}
 use Rattle.dnsd.specs.declared.fault.Fault.TheVariants.{Zone, Script, World, Device}
 use Rattle.dnsd.specs.declared.script.ScriptFault.{ScriptFault}
 use Rattle.dnsd.specs.declared.script.ScriptFault.TheVariants as script
+use Rattle.dnsd.specs.Input.{zone_text_of, behind_zone_text}
 use Rattle.dnsd.specs.Lines.{output_of, Begins}
 use Rattle.dnsd.specs.Script.{script_of, script_output}
 use Rattle.dnsd.specs.Told.{IsTold}
@@ -50,13 +54,42 @@ IsOfScript input (Script line) = script_of input ≡ Err line
 IsOfScript input (World fault) = IsOk (script_of input)
 IsOfScript input (Device fault) = Unit
 
--- a fault that a command may be given for its input: requests are never refused
+-- a fault that a command may be given for its input: requests are never refused, and where the zone is printed nothing is
 abbrev pub IsOfInput : Command → List ℕ → Fault → Type 0
 IsOfInput (Answer zone origin transport) input (Device fault) = Unit
 IsOfInput (Answer zone origin transport) input fault = ⊥
+IsOfInput (Check zone origin) input (Device fault) = Unit
+IsOfInput (Check zone origin) input fault = ⊥
 IsOfInput (Steps zone origin) input fault = IsOfScript input fault
 
--- a fault that a command may be given, whose zone's text was read: that text's, or one of its input's
+-- where a command's zone comes from
+abbrev pub source_of : Command → Source
+source_of (Answer zone origin transport) = zone
+source_of (Check zone origin) = zone
+source_of (Steps zone origin) = zone
+
+-- the origin at the start of a command's zone's text
+abbrev pub origin_of : Command → List (List ℕ)
+origin_of (Answer zone origin transport) = origin
+origin_of (Check zone origin) = origin
+origin_of (Steps zone origin) = origin
+
+-- what a command writes for an input in a zone
+abbrev pub output_for : Command → List Record → List ℕ → List ℕ
+output_for (Answer zone origin transport) records input = output_of transport records input
+output_for (Check zone origin) records input = zone_text records
+output_for (Steps zone origin) records input = script_output records input
+
+-- the zone of a command's text, or the fault that is told of it (RFC 1035, 5)
+abbrev pub zone_for : Command → List ℕ → Result (List Record) FileFault
+zone_for command text = zone_of_text (origin_of command) text
+
+-- a fault of a zone's text is the one that is told of it, or want of memory; any other is of a text that is a zone
+abbrev pub IsOfZone : Result (List Record) FileFault → Fault → Type 0
+IsOfZone read (Zone fault) = (fault ≡ no_memory) ⊎ (read ≡ Err fault)
+IsOfZone read fault = IsOk read
+
+-- a fault that a command may be given for its input, where its zone's text isn't refused
 abbrev pub IsOfRun : Command → List ℕ → Fault → Type 0
 IsOfRun command input (Zone fault) = Unit
 IsOfRun command input fault = IsOfInput command input fault
@@ -65,36 +98,23 @@ IsOfRun command input fault = IsOfInput command input fault
 abbrev pub EndsBy : Fault → ℕ → Option (List ℕ) → Option (List ℕ) → Type 0
 EndsBy fault status before after = ((status ≡ status_of fault) × IsTold fault before after) ⊎ (status ≡ 3)
 
--- a command was refused: a fault with status 1 was told on a line, and is one that the command may be given
-pub record IsRefused (command : Command) (input before after : Option (List ℕ)) : Type 0 where
+-- a command was refused: a fault with status 1 was told on a line, that of the zone's text at the front of what is read, or
+-- one that the command may be given for its input behind it
+pub record IsRefused (command : Command) (read before after : Option (List ℕ)) : Type 0 where
   pub fault : Fault
   pub status : status_of fault ≡ 1
   pub told : IsTold fault before after
-  pub is : IfSome input (λ octets. IsOfRun command octets fault)
+  pub of_zone : IfSome read (λ octets. IsOfZone (zone_for command (zone_text_of octets)) fault)
+  pub of_input : IfSome read (λ octets. IsOfRun command (behind_zone_text octets) fault)
 
--- where a command's zone comes from
-abbrev pub source_of : Command → Source
-source_of (Answer zone origin transport) = zone
-source_of (Steps zone origin) = zone
-
--- the origin at the start of a command's zone's text
-abbrev pub origin_of : Command → List (List ℕ)
-origin_of (Answer zone origin transport) = origin
-origin_of (Steps zone origin) = origin
-
--- what a command writes for an input in a zone
-abbrev pub output_for : Command → List Record → List ℕ → List ℕ
-output_for (Answer zone origin transport) records input = output_of transport records input
-output_for (Steps zone origin) records input = script_output records input
-
--- for some zone, what a command writes for an input was written
-pub record Does (command : Command) (input : List ℕ) (before after : Option (List ℕ)) : Type 0 where
+-- a text is a zone, and what a command writes for an input in that zone was written
+pub record Does (command : Command) (text input : List ℕ) (before after : Option (List ℕ)) : Type 0 where
   pub zone : List Record
-  pub is_zone : IsZone zone
+  pub is_zone : zone_for command text ≡ Ok zone
   pub written : Appends before after (output_for command zone input)
 
--- for some zone, a beginning of what a command writes for an input was written
-pub record BeginsToDo (command : Command) (input : List ℕ) (before after : Option (List ℕ)) : Type 0 where
+-- a text is a zone, and a beginning of what a command writes for an input in that zone was written
+pub record BeginsToDo (command : Command) (text input : List ℕ) (before after : Option (List ℕ)) : Type 0 where
   pub zone : List Record
-  pub is_zone : IsZone zone
+  pub is_zone : zone_for command text ≡ Ok zone
   pub written : Begins before after (output_for command zone input)

@@ -29,6 +29,13 @@ pub enum Command<'a> {
         /// What carries the requests and replies.
         transport: Transport,
     },
+    /// The zone's text in its written form.
+    Check {
+        /// Where the zone's text comes from.
+        zone: Source<'a>,
+        /// The origin at the start of the zone's text.
+        origin: Name,
+    },
     /// Plays a script of steps over the versions of a zone.
     Steps {
         /// Where the zone's text comes from.
@@ -44,7 +51,9 @@ impl<'a> Command<'a> {
         ensures { result ≡ source_of self.now }
     {
         match self {
-            Command::Answer { zone, .. } | Command::Steps { zone, .. } => *zone,
+            Command::Answer { zone, .. }
+            | Command::Check { zone, .. }
+            | Command::Steps { zone, .. } => *zone,
         }
     }
 
@@ -53,7 +62,9 @@ impl<'a> Command<'a> {
         ensures { result.now ≡ origin_of self.now }
     {
         match self {
-            Command::Answer { origin, .. } | Command::Steps { origin, .. } => origin,
+            Command::Answer { origin, .. }
+            | Command::Check { origin, .. }
+            | Command::Steps { origin, .. } => origin,
         }
     }
 }
@@ -96,8 +107,10 @@ pub fn parse_words<'a, S: AsStr>(
         Some("-") | None => Source::Input,
         Some(path) => Source::File(path),
     };
-    if name == "steps" {
-        return Ok(Command::Steps { zone, origin });
+    match name {
+        "check" => return Ok(Command::Check { zone, origin }),
+        "steps" => return Ok(Command::Steps { zone, origin }),
+        _ => {}
     }
     let transport = if found.get_flag("tcp") {
         Transport::Tcp
@@ -122,6 +135,11 @@ fn program<'a>(alloc: Global) -> Result<Parser<'a>, AllocError> {
         "answer",
         "replies to requests in hexadecimal, a line each",
     )?;
+    let check = subcommand(
+        alloc,
+        "check",
+        "prints the zone's text in its written form, one record a line",
+    )?;
     let steps = subcommand(
         alloc,
         "steps",
@@ -133,6 +151,7 @@ fn program<'a>(alloc: Global) -> Result<Parser<'a>, AllocError> {
             .subcommand_required(true)
             .arg_required_else_help(true)
             .subcommand(answer.arg(tcp)?)?
+            .subcommand(check)?
             .subcommand(steps)?,
     )
 }

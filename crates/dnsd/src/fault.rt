@@ -2,10 +2,10 @@
 ghost use Rattle.std.specs.Prelude.{◌≡◌};
 ghost use Rattle.dnsd.specs.declared.fault.Fault.TheVariants.{Zone, World, Device};
 ghost use Rattle.dnsd.specs.Run.{status_of, fault_of};
-ghost use Rattle.dnsd.specs.Told.{cause_words, told};
+ghost use Rattle.dnsd.specs.Told.{told};
 
 use crate::script::ScriptFault;
-use crate::zone_text::{Cause, FileFault};
+use master_file::FileFault;
 use std::error::Error;
 use std::{fmt, io};
 use world_run::WorldFault;
@@ -49,10 +49,7 @@ impl fmt::Display for Fault {
 
     fn fmt<W: fmt::Write>(&self, f: &mut fmt::Formatter<W>) -> fmt::Result {
         match self {
-            Fault::Zone(FileFault { line, cause }) => {
-                let words = words_of(*cause);
-                write!(f, "line {line}: {words}")
-            }
+            Fault::Zone(fault) => write!(f, "{fault}"),
             Fault::Script(line) => write!(f, "line {line}: bad"),
             Fault::World(fault) => write!(f, "{fault}"),
             Fault::Device(fault) => write!(f, "{fault}"),
@@ -61,25 +58,6 @@ impl fmt::Display for Fault {
 }
 
 impl Error for Fault {}
-
-/// The code and the name of what is wrong with a zone's text.
-fn words_of(cause: Cause) -> &'static str
-    ensures { result.now ≡ cause_words cause }
-{
-    match cause {
-        Cause::BadName => "M2 BadName",
-        Cause::Number => "M3 Number",
-        Cause::BadClass => "M4 BadClass",
-        Cause::UnknownType => "M5 UnknownType",
-        Cause::BadData => "M6 BadData",
-        Cause::Unclosed => "M7 Unclosed",
-        Cause::Outside => "M10 Outside",
-        Cause::Apex => "M11 Apex",
-        Cause::Conflict => "M12 Conflict",
-        Cause::Limit => "M13 Limit",
-        Cause::NoMemory => "M14 NoMemory",
-    }
-}
 
 impl From<FileFault> for Fault {
     ghost from_gives = { λ fault given. given ≡ Zone fault };

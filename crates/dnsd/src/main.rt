@@ -1,13 +1,15 @@
 //! `dnsd`: an authoritative name server for one zone of class IN.
 //!
-//! The command line is parsed by `command`, the zone's text is read by `zone_text`, and `answer` replies to each request
-//! that it reads, over UDP or TCP. `steps` plays a `script`: names come into use for versions of the zone, and requests over
-//! UDP are answered in them. What a reply says is `serve_core`'s, and what a step does is `world_run`'s.
+//! The command line is parsed by `command`, the zone's text is read by `master_file`, and `answer` replies to each request
+//! that it reads, over UDP or TCP. `check` prints the zone's written text. `steps` plays a `script`: names come into use for
+//! versions of the zone, and requests over UDP are answered in them. What a reply says is `serve_core`'s, and what a step does
+//! is `world_run`'s.
 #![tactic(auto)]
 
 ghost use Rattle.std.specs.Prelude.{◌≡◌, ◌⊎◌};
 
 pub mod answer;
+pub mod check;
 pub mod command;
 pub mod fault;
 mod input;
@@ -15,15 +17,16 @@ mod lines;
 pub mod run;
 pub mod script;
 pub mod steps;
-pub mod zone_text;
+pub mod tell;
 
 use command::{Command, CommandFault, Source, parse_words};
 use fault::{BAD_COMMAND, DONE, FAILED};
-use run::{run_text, run_with_zone, tell};
+use run::{run_text, run_with_zone};
 use std::io::{self, BufReader, BufWriter};
 use std::process::ExitCode;
 use std::rt::{Env, Files};
 use std::{env, fs};
+use tell::tell;
 
 fn main(rt: HostRuntime) -> ExitCode {
     match run_words(&rt) {
@@ -75,9 +78,15 @@ fn run_command<R: Files + Print + Eprint + Input + AllocGlobal>(
     let status = match command.zone() {
         Source::Input => run_text(alloc, command, &mut reader, &mut writer, &mut errors),
         Source::File(path) => {
-            let text = fs::read(rt, path)?;
+            let text = match fs::read(rt, path) {
+                Ok(text) => text,
+                Err(fault) => {
+                    eprintln!(rt; "error: the zone's file '{path}' can't be read: {fault}")?;
+                    return Ok(FAILED);
+                }
+            };
             let done = run_with_zone(alloc, command, text.as_slice(), &mut reader, &mut writer);
-            tell(done, &mut errors)
+            tell(done, text.as_slice(), &mut errors)
         }
     };
     rt.eprint(String::from_utf8_lossy(alloc, errors.as_slice())?)?;

@@ -1,25 +1,27 @@
 //! Doing a command.
 ghost use Rattle.std.specs.Prelude.{◌≡◌, ◌⊎◌, [], Ok, Err, OnOk, OnErr, IfOk, IfErr, IfSome};
 ghost use Rattle.std.specs.Io.Buffered.{writer_buffer, writer_contents};
-ghost use Rattle.std.specs.Option.{option_map};
 ghost use Rattle.std.specs.Io.KnownBytes.{Appends};
-ghost use Rattle.dnsd.specs.Input.{behind_zone_text};
+ghost use Rattle.dnsd.specs.Input.{zone_text_of, behind_zone_text};
 ghost use Rattle.dnsd.specs.Lines.{Begins};
-ghost use Rattle.dnsd.specs.Run.{status_of, AtRefusedZone, AtDevice, IsOfInput, IsOfRun, EndsBy, IsRefused, output_for, Does, BeginsToDo};
+ghost use Rattle.dnsd.specs.Run.{status_of, AtRefusedZone, AtDevice, IsOfInput, IsOfRun, IsOfZone, IsRefused, zone_for, output_for, Does, BeginsToDo};
 
 use crate::answer::run_answer;
+use crate::check::run_check;
 use crate::command::Command;
-use crate::fault::{DONE, FAILED, Fault};
+use crate::fault::Fault;
 use crate::input::read_zone_text;
 use crate::steps::run_steps;
-use crate::zone_text::{FileFault, read_zone};
+use crate::tell::tell;
+use master_file::{FileFault, read_zone};
 use std::alloc::Global;
 use std::io::{BufRead, BufWriter, Write};
 use zone_tree::Zone;
 
 /// Does one parsed command whose zone's text is the front of the reader, up to a line `%` or its end; the command's input
-/// follows it. What is wrong goes to `errors`, a sentence on a line. Gives the program's status: 0 done, 1 the zone or the
-/// script is refused, 3 a device's fault or want of memory. At 0 nothing that was written is left in the buffer.
+/// follows it. What is wrong goes to `errors`, on a line, and for a zone's text what it means below it. Gives the program's
+/// status: 0 done, 1 the zone or the script is refused, 3 a device's fault or want of memory. At 0 nothing that was written is
+/// left in the buffer.
 pub fn run_text<R: BufRead, W: Write + Drop, E: Write>(
     alloc: Global,
     command: &Command<'_>,
@@ -29,25 +31,27 @@ pub fn run_text<R: BufRead, W: Write + Drop, E: Write>(
 ) -> u8
     // Where the reader tells its octets, and the writers those that they hold.
     ensures done { result ≡ 0 → IfSome (R.remaining reader.old) (λ input.
-        Does command.now (behind_zone_text input) (writer_contents W.contents writer.old) (writer_contents W.contents writer.new)) }
+        Does command.now (zone_text_of input) (behind_zone_text input) (writer_contents W.contents writer.old) (writer_contents W.contents writer.new)) }
     ensures flushed { result ≡ 0 → writer_buffer writer.new ≡ [] }
     ensures quiet { result ≡ 0 → E.contents errors.new ≡ E.contents errors.old }
-    ensures refused { result ≡ 1 → IsRefused command.now (option_map behind_zone_text (R.remaining reader.old))
+    ensures refused { result ≡ 1 → IsRefused command.now (R.remaining reader.old)
         (E.contents errors.old) (E.contents errors.new) }
     ensures unwritten { result ≡ 1 → writer_contents W.contents writer.new ≡ writer_contents W.contents writer.old }
     ensures failed { result ≡ 3 → (writer_contents W.contents writer.new ≡ writer_contents W.contents writer.old)
         ⊎ IfSome (R.remaining reader.old) (λ input.
-        BeginsToDo command.now (behind_zone_text input) (writer_contents W.contents writer.old) (writer_contents W.contents writer.new)) }
+        BeginsToDo command.now (zone_text_of input) (behind_zone_text input) (writer_contents W.contents writer.old) (writer_contents W.contents writer.new)) }
     ensures statuses { (result ≡ 0) ⊎ (result ≡ 1) ⊎ (result ≡ 3) }
 {
-    let done = match read_zone_text(alloc, reader) {
-        Ok(text) => run_with_zone(alloc, command, text.as_slice(), reader, writer),
-        Err(fault) => Err(Fault::Device(fault)),
-    };
-    tell(done, errors)
+    match read_zone_text(alloc, reader) {
+        Ok(text) => {
+            let done = run_with_zone(alloc, command, text.as_slice(), reader, writer);
+            tell(done, text.as_slice(), errors)
+        }
+        Err(fault) => tell(Err(Fault::Device(fault)), b"", errors),
+    }
 }
 
-/// Does one parsed command over a zone's text that was read already, as `run_text` does it.
+/// Does one parsed command over the zone of a text that was read already, as `run_text` does it.
 pub fn run_with_zone<R: BufRead, W: Write + Drop>(
     alloc: Global,
     command: &Command<'_>,
@@ -57,14 +61,15 @@ pub fn run_with_zone<R: BufRead, W: Write + Drop>(
 ) -> Result<(), Fault>
     // Where the reader tells its octets and the writer those that it holds.
     ensures ok { OnOk result (IfSome (R.remaining reader.old) (λ input.
-        Does command.now input (writer_contents W.contents writer.old) (writer_contents W.contents writer.new))) }
+        Does command.now text.now input (writer_contents W.contents writer.old) (writer_contents W.contents writer.new))) }
     ensures flushed { OnOk result (writer_buffer writer.new ≡ []) }
+    ensures zone { IfErr result (λ fault. IsOfZone (zone_for command.now text.now) fault) }
     ensures fault { IfErr result (λ fault. IfSome (R.remaining reader.old) (λ input. IsOfRun command.now input fault)) }
     ensures unread { IfErr result (λ fault. AtRefusedZone fault (R.remaining reader.new ≡ R.remaining reader.old)) }
     ensures unwritten { IfErr result (λ fault. status_of fault ≡ 1
         → writer_contents W.contents writer.new ≡ writer_contents W.contents writer.old) }
     ensures failed { IfErr result (λ fault. AtDevice fault (IfSome (R.remaining reader.old) (λ input.
-        BeginsToDo command.now input (writer_contents W.contents writer.old) (writer_contents W.contents writer.new)))) }
+        BeginsToDo command.now text.now input (writer_contents W.contents writer.old) (writer_contents W.contents writer.new)))) }
 {
     let read = read_zone(alloc, text, command.origin());
     run_read(alloc, command, read, reader, writer)
@@ -140,22 +145,7 @@ fn do_command<R: BufRead, W: Write>(
         Command::Answer { transport, .. } => {
             Ok(run_answer(alloc, zone, *transport, reader, writer)?)
         }
+        Command::Check { .. } => Ok(run_check(alloc, zone, writer)?),
         Command::Steps { .. } => run_steps(alloc, zone, reader, writer),
-    }
-}
-
-/// The status of what was done; what is wrong goes to `errors` first, on a line. Where it can't be told, that is a device's
-/// fault too.
-pub fn tell<E: Write>(done: Result<(), Fault>, errors: &mut E) -> u8
-    ensures done { OnOk done ((result ≡ 0) × (E.contents errors.new ≡ E.contents errors.old)) }
-    ensures fault { IfErr done (λ fault. EndsBy fault result (E.contents errors.old) (E.contents errors.new)) }
-{
-    let Err(fault) = done else {
-        return DONE;
-    };
-    let status = fault.status();
-    match writeln!(errors, "{fault}") {
-        Ok(()) => status,
-        Err(_) => FAILED,
     }
 }

@@ -1,5 +1,7 @@
 //! The program's replies and refusals, by the octets that the standard gives for them.
+mod answers;
 mod faults;
+mod zones;
 
 use crate::command::{Command, CommandFault, Source, parse_words};
 use crate::run::run_text;
@@ -348,210 +350,14 @@ fn longest_request(rt: HostRuntime) -> Result<(), Fail> {
     Ok(())
 }
 
-// RFC 1035, 3.3.12; RFC 3596, 2.2; RFC 2782. The addresses are written as in RFC 4291, 2.2.
-#[test]
-fn data_of_types(rt: HostRuntime) -> Result<(), Fail> {
-    let cases = [
-        (
-            "AAAA 2001:db8::1",
-            "001c",
-            "001020010db8000000000000000000000001",
-        ),
-        ("aaaa ::", "001c", "001000000000000000000000000000000000"),
-        (
-            "AAAA ::ffff:192.0.2.1",
-            "001c",
-            "001000000000000000000000ffffc0000201",
-        ),
-        (
-            "AAAA 1:02:003:0004:A:b:Cd:eF0",
-            "001c",
-            "00100001000200030004000a000b00cd0ef0",
-        ),
-        ("PTR Host.Other.", "000c", "000c04686f7374056f7468657200"),
-        (
-            "SRV 1 2 65535 host",
-            "0021",
-            "001900010002ffff04686f7374076578616d706c65047465737400",
-        ),
-        ("SRV 0 0 0 .", "0021", "000700000000000000"),
-    ];
-    for (written, rtype, data) in cases {
-        let zone = format!(in rt.alloc(); "{ZONE}new.example.test. 3600 IN {written}\n")?;
-        let request = format!(in rt.alloc();
-            "123401000001000000000000036e6577076578616d706c65047465737400{rtype}0001"
-        )?;
-        let (_, reply, _) = run(&rt, zone.as_str(), request.as_str())?;
-        let end = format!(in rt.alloc(); "{rtype}000100000e10{data}\n")?;
-        assert!(rt;
-            reply.as_str().starts_with("123485000001000100000000"),
-            "{written}"
-        );
-        assert!(rt; reply.as_str().ends_with(end.as_str()), "{written}");
-    }
-    Ok(())
-}
-
-#[test]
-fn refused_zones(rt: HostRuntime) -> Result<(), Fail> {
-    let cases = [
-        ("", "line 0: M11 Apex"),
-        ("a..b. 3600 IN A 192.0.2.1", "line 1: M2 BadName"),
-        ("\"a.\" 3600 IN A 192.0.2.1", "line 1: M2 BadName"),
-        ("a. 3600 IN NS b..c.", "line 1: M2 BadName"),
-        ("a. 2147483648 IN A 192.0.2.1", "line 1: M3 Number"),
-        ("a. 3600 IN MX 65536 b.", "line 1: M3 Number"),
-        ("a. 3600 IN MX ten b.", "line 1: M3 Number"),
-        (
-            "a. 3600 IN SOA b. c. 1 2 3 4 4294967296",
-            "line 1: M3 Number",
-        ),
-        ("a. 3600 CH A 192.0.2.1", "line 1: M4 BadClass"),
-        ("a. 3600 IN HINFO b c", "line 1: M5 UnknownType"),
-        ("a. 3600 IN TYPE28 ::1", "line 1: M5 UnknownType"),
-        ("a. 3600 IN AAAA 1::2::3", "line 1: M6 BadData"),
-        ("a. 3600 IN AAAA 1:2:3:4:5:6:7", "line 1: M6 BadData"),
-        ("a. 3600 IN AAAA 1:2:3:4:5:6:7::8", "line 1: M6 BadData"),
-        ("a. 3600 IN AAAA 12345::", "line 1: M6 BadData"),
-        ("a. 3600 IN AAAA 192.0.2.1", "line 1: M6 BadData"),
-        ("a. 3600 IN AAAA fe80::1%1", "line 1: M6 BadData"),
-        ("a. 3600 IN AAAA fe80::/10", "line 1: M6 BadData"),
-        ("a. 3600 IN AAAA [::1]", "line 1: M6 BadData"),
-        ("a. 3600 IN AAAA \"::1\"", "line 1: M6 BadData"),
-        ("a. 3600 IN AAAA ::1 b", "line 1: M6 BadData"),
-        ("a. 3600 IN PTR", "line 1: M6 BadData"),
-        ("a. 3600 IN PTR b..c.", "line 1: M2 BadName"),
-        ("a. 3600 IN SRV 65536 0 0 b.", "line 1: M3 Number"),
-        ("a. 3600 IN SRV 0 65536 0 b.", "line 1: M3 Number"),
-        ("a. 3600 IN SRV 0 0 65536 b.", "line 1: M3 Number"),
-        ("a. 3600 IN SRV 0 0 b.", "line 1: M3 Number"),
-        ("a. 3600 IN SRV 0 0 0", "line 1: M6 BadData"),
-        ("a. 3600 IN SRV 0 0 0 b. c", "line 1: M6 BadData"),
-        ("a. 3600 IN A", "line 1: M6 BadData"),
-        ("a. 3600 IN A 192.0.2.256", "line 1: M6 BadData"),
-        ("a. 3600 IN A 192.0.2.01", "line 1: M6 BadData"),
-        ("a. 3600 IN A 192.0.2.1 b", "line 1: M6 BadData"),
-        ("a. 3600 IN TXT", "line 1: M6 BadData"),
-        ("a. 3600 IN TXT \\300", "line 1: M6 BadData"),
-        ("a 3600 IN A 192.0.2.1", "line 1: M6 BadData"),
-        ("a. IN A 192.0.2.1", "line 1: M6 BadData"),
-        ("a. 3600  IN A 192.0.2.1", "line 1: M6 BadData"),
-        ("a. 3600 IN A 192.0.2.1 ; b", "line 1: M6 BadData"),
-        ("$TTL 3600", "line 1: M6 BadData"),
-        ("a. 3600 IN TXT \"b", "line 1: M7 Unclosed"),
-    ];
-    for (line, fault) in cases {
-        let zone = format!(in rt.alloc(); "{line}\n")?;
-        let zone = if line.is_empty() { "" } else { zone.as_str() };
-        let told = format!(in rt.alloc(); "{fault}\n")?;
-        let (status, written, errors) = run(&rt, zone, "xy\n")?;
-        assert_eq!(rt; errors.as_str(), told.as_str(), "{line}");
-        assert_eq!(rt; status, 1, "{line}");
-        assert!(rt; written.is_empty(), "{line}");
-    }
-    Ok(())
-}
-
-// Each of these lines stands behind the zone's thirteen.
-#[test]
-fn refused_records(rt: HostRuntime) -> Result<(), Fail> {
-    let cases = [
-        ("", "line 14: M6 BadData"),
-        (
-            "host.example.net. 3600 IN A 192.0.2.1",
-            "line 14: M10 Outside",
-        ),
-        (
-            "host.example.net. 3600 IN SRV 0 0 0 web",
-            "line 14: M10 Outside",
-        ),
-        (
-            "a.example.test. 3600 IN SOA b. c. 1 2 3 4 5",
-            "line 14: M11 Apex",
-        ),
-        (
-            "example.test. 3600 IN SOA b. c. 1 2 3 4 5",
-            "line 14: M11 Apex",
-        ),
-        (
-            "www.example.test. 3600 IN A 192.0.2.1",
-            "line 14: M12 Conflict",
-        ),
-        (
-            "www.example.test. 3600 IN AAAA 2001:db8::1",
-            "line 14: M12 Conflict",
-        ),
-        (
-            "web.example.test. 3600 IN CNAME www",
-            "line 14: M12 Conflict",
-        ),
-        (
-            "www.example.test. 3600 IN CNAME www",
-            "line 14: M12 Conflict",
-        ),
-        ("*.a.example.test. 3600 IN NS www", "line 14: M12 Conflict"),
-    ];
-    for (line, fault) in cases {
-        let zone = format!(in rt.alloc(); "{ZONE}{line}\n")?;
-        let told = format!(in rt.alloc(); "{fault}\n")?;
-        let (status, _, errors) = run(&rt, zone.as_str(), "")?;
-        assert_eq!(rt; errors.as_str(), told.as_str(), "{line}");
-        assert_eq!(rt; status, 1, "{line}");
-    }
-    let (_, _, errors) = run(&rt, "a. 1 IN NS b.\n", "")?;
-    assert_eq!(rt; errors.as_str(), "line 0: M11 Apex\n", "no SOA");
-    let (_, _, errors) = run(&rt, "a. 1 IN SOA b. c. 1 2 3 4 5\n", "")?;
-    assert_eq!(rt; errors.as_str(), "line 0: M11 Apex\n", "no NS");
-    Ok(())
-}
-
-// A set has at most 256 records, and data at most 4,096 octets: sixteen strings of 255, each behind its length.
-#[test]
-fn limits(rt: HostRuntime) -> Result<(), Fail> {
-    let many = [("MX ", " web"), ("SRV 0 0 ", " web"), ("AAAA ::", "")];
-    for (front, back) in many {
-        let mut zone = format!(in rt.alloc(); "{ZONE}")?;
-        for i in 0..257 {
-            let line = format!(in rt.alloc(); "many.example.test. 3600 IN {front}{i}{back}\n")?;
-            zone.push_str(line.as_str())?;
-        }
-        let (_, _, errors) = run(&rt, zone.as_str(), "")?;
-        assert_eq!(rt; errors.as_str(), "line 270: M13 Limit\n", "{front}");
-    }
-    let mut long = format!(in rt.alloc(); "{ZONE}long.example.test. 3600 IN TXT")?;
-    for _ in 0..16 {
-        let string = format!(in rt.alloc(); " {:x>255}", "")?;
-        long.push_str(string.as_str())?;
-    }
-    let fits = format!(in rt.alloc(); "{long}\n")?;
-    let (status, _, _) = run(&rt, fits.as_str(), "")?;
-    assert_eq!(rt; status, 0);
-    let over = format!(in rt.alloc(); "{long} x\n")?;
-    let (_, _, errors) = run(&rt, over.as_str(), "")?;
-    assert_eq!(rt; errors.as_str(), "line 14: M13 Limit\n");
-    Ok(())
-}
-
-// A relative name in the data is under the origin; equal records are one, and the last one sets the TTL of its set.
-#[test]
-fn origin_and_ttl(rt: HostRuntime) -> Result<(), Fail> {
-    let zone = format!(in rt.alloc();
-        "{ZONE}new.example.test. 60 IN CNAME web\r\nWEB.example.test. 5 in a 192.0.2.10"
-    )?;
-    let request = "123401000001000000000000036e6577076578616d706c6504746573740000010001";
-    let reply =
-        "123485000001000200000000036e6577076578616d706c6504746573740000010001c00c000500010000003c000603776562c010c02e00010001000000050004c000020a\n";
-    let zone = format!(in rt.alloc(); "{zone}\n")?;
-    let (status, written, _) = run(&rt, zone.as_str(), request)?;
-    assert_eq!(rt; written.as_str(), reply);
-    assert_eq!(rt; status, 0);
-    Ok(())
-}
-
 // The words after the program's name, and whether they are a command.
 #[test]
 fn command_lines(rt: HostRuntime) -> Result<(), Fail> {
-    let cases: [(&[&str], bool); 12] = [
+    let cases: [(&[&str], bool); 16] = [
+        (&["dnsd", "check", "-"], true),
+        (&["dnsd", "check", "--origin", "example.test", "zone"], true),
+        (&["dnsd", "check", "--tcp", "-"], false),
+        (&["dnsd", "check"], false),
         (&["dnsd", "answer", "-"], true),
         (&["dnsd", "answer", "--tcp", "-"], true),
         (&["dnsd", "answer", "--tcp=1", "-"], false),
@@ -680,7 +486,7 @@ fn wrote_or_had_no_memory(rt: &(impl AllocGlobal + Abort), request: &str, reply:
         return true;
     }
     assert!(rt; written.is_empty() || reply.starts_with(written.as_str()));
-    assert!(rt; status == 3 || errors.as_str().ends_with(": M14 NoMemory\n"));
+    assert!(rt; status == 3 || errors.as_str().starts_with("line 0: M14 NoMemory\n"));
     false
 }
 
@@ -705,7 +511,7 @@ fn played_or_had_no_memory(rt: &(impl AllocGlobal + Abort), script: &str, told: 
         return true;
     }
     assert!(rt; told.starts_with(written.as_str()));
-    assert!(rt; status == 3 || errors.as_str().ends_with(" NoMemory\n"));
+    assert!(rt; status == 3 || errors.as_str().contains(" NoMemory\n"));
     false
 }
 

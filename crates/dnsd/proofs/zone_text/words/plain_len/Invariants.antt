@@ -1,6 +1,0 @@
-use Rattle.std.proofs.Common.{length, ◌-◌}
-use Rattle.dnsd.proofs.zone_text.words.plain_len.Given as goal
-
--- the octets left
-abbrev pub decreases-loop-at : goal.decreases-loop-at
-decreases-loop-at l = length l.text - l.at

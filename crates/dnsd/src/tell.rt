@@ -1,0 +1,102 @@
+//! What the program says of a fault, and the status that goes with it.
+ghost use Rattle.std.specs.Prelude.{◌≡◌, OnOk, IfErr};
+ghost use Rattle.dnsd.specs.Run.{EndsBy};
+ghost use Rattle.dnsd.specs.Told.{IsTold, AppendsSome};
+
+use crate::answer::write_whole;
+use crate::fault::{DONE, FAILED, Fault};
+use crate::lines::{Line, lines_of};
+use master_file::{Cause, FileFault};
+use std::io::{self, Write};
+
+/// The most octets that are shown of a zone's line.
+const MAX_SHOWN: usize = 400;
+
+/// The status of what was done over a zone's text; what is wrong goes to `errors` first, on a line, and for a zone's text
+/// what it means below it, with the line of the text. Where it can't be told, that is a device's fault too.
+pub fn tell<E: Write>(done: Result<(), Fault>, text: &[u8], errors: &mut E) -> u8
+    ensures done { OnOk done ((result ≡ 0) × (E.contents errors.new ≡ E.contents errors.old)) }
+    ensures fault { IfErr done (λ fault. EndsBy fault result (E.contents errors.old) (E.contents errors.new)) }
+{
+    let Err(fault) = done else {
+        return DONE;
+    };
+    let status = fault.status();
+    match write_fault(&fault, text, errors) {
+        Ok(()) => status,
+        Err(_) => FAILED,
+    }
+}
+
+/// Writes what is told of a fault on a line, and below it what it means where it is a zone's text's.
+fn write_fault<E: Write>(fault: &Fault, text: &[u8], errors: &mut E) -> io::Result<()>
+    ensures { OnOk result (IsTold fault.now (E.contents errors.old) (E.contents errors.new)) }
+{
+    writeln!(errors, "{fault}")?;
+    match fault {
+        Fault::Zone(fault) => write_reason(*fault, text, errors),
+        _ => Ok(()),
+    }
+}
+
+/// Writes what a fault of a zone's text means, and the line of the text that shows it, on a line.
+fn write_reason<E: Write>(fault: FileFault, text: &[u8], errors: &mut E) -> io::Result<()>
+    ensures { OnOk result (AppendsSome (E.contents errors.old) (E.contents errors.new)) }
+{
+    let (between, line) = match shown_line(text, fault.line) {
+        Some(line) => (b": ".as_slice(), line),
+        None => (b"".as_slice(), b"".as_slice()),
+    };
+    write_whole(errors, reason_of(fault).as_bytes())?;
+    write_whole(errors, between)?;
+    write_whole(errors, line)?;
+    write_whole(errors, b"\n")
+}
+
+/// The front of a text's line, by its number; None where the text hasn't the line, or an octet of the line isn't printed.
+fn shown_line(text: &[u8], number: u64) -> Option<&[u8]> {
+    for line in lines_of(text) {
+        if line.number == number {
+            return front_shown(line);
+        }
+    }
+    None
+}
+
+/// The front of a line; None where an octet of the line isn't printed.
+fn front_shown(line: Line<'_>) -> Option<&[u8]> {
+    let is_printed = line
+        .octets
+        .iter()
+        .all(|octet| matches!(octet, b'\t' | b' '..=b'~'));
+    if !is_printed {
+        return None;
+    }
+    Some(&line.octets[..line.octets.len().min(MAX_SHOWN)])
+}
+
+/// What a fault of a zone's text means, in words.
+fn reason_of(fault: FileFault) -> &'static str {
+    match fault.cause {
+        Cause::Directive => "a directive is due, $ORIGIN or $TTL with its argument",
+        Cause::BadName => "a name is due, and this is none",
+        Cause::Number => "a number is due, and this is none, or too great for its field",
+        Cause::BadClass => "the class isn't IN",
+        Cause::UnknownType => "a type is due, and this is none that is served",
+        Cause::BadData => "the data isn't of its type's form, or a word is missing or too many",
+        Cause::Unclosed =>
+            "a quote or a parenthesis has no other one, or stands within parentheses",
+        Cause::NoTtl => "a TTL is due, and none is in force",
+        Cause::NoOwner => "an owner is due, and no record before this one has one",
+        Cause::Outside => "the owner is neither the apex nor below it",
+        Cause::Apex if fault.line == 0 => "the zone has no SOA, or no NS at the owner of its SOA",
+        Cause::Apex => "the zone has an SOA already, and this is another",
+        Cause::Conflict => {
+            "a CNAME stands beside other data or another CNAME, or an NS at a wildcard"
+        }
+        Cause::Limit => {
+            "more than 1000000 records, 256 records of an owner and type, or 4096 octets of data"
+        }
+        Cause::NoMemory => "the zone needs more memory than there is",
+    }
+}
