@@ -1,5 +1,5 @@
 //! A zone's text in its written form.
-ghost use Rattle.master_file.specs.ZoneText.{zone_text};
+ghost use Rattle.master_file.specs.WrittenZone.{zone_text};
 ghost use Rattle.dnsd.specs.Lines.{Writes};
 
 use crate::answer::write_whole;
