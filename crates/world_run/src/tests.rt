@@ -13,20 +13,24 @@ const SOA: &[u8] = b"\0\0\0\0\0\x01\0\0\x1c\x20\0\0\x03\x84\0\x12\x75\0\0\0\x01\
 /// The data of an NS: `ns1.example.test.`.
 const NS: &[u8] = b"\x03ns1\x07example\x04test\0";
 
-/// The zone `example.test.`, with an address at `new.example.test.` where that is asked for.
-fn zone_of(alloc: Global, has_new: bool) -> Result<Zone, Fail> {
-    let apex = Name::from_text(b"example.test.", &Name::root())?;
-    let new = Name::from_text(b"new", &apex)?;
-    let mut sets: Vec<RRset> = Vec::new(alloc);
-    for (rtype, octets) in [(RType::NS, NS), (RType::SOA, SOA)] {
-        let data = RData::from_wire(alloc, rtype, octets)?;
-        sets.push(RRset::new(alloc, &apex, Ttl(3600), data)?)?;
-    }
+/// The zone `example.test.`, with an address at `new.example.test.` where that is asked for; None where there is no memory.
+fn zone_of(alloc: Global, has_new: bool) -> Option<Zone> {
+    let apex = Name::from_text(b"example.test.", &Name::root()).ok()?;
+    let new = Name::from_text(b"new", &apex).ok()?;
+    let mut sets = Vec::new(alloc);
+    sets.push(set_of(alloc, &apex, RType::NS, NS)?).ok()?;
+    sets.push(set_of(alloc, &apex, RType::SOA, SOA)?).ok()?;
     if has_new {
-        let data = RData::from_wire(alloc, RType::A, &[192, 0, 2, 77])?;
-        sets.push(RRset::new(alloc, &new, Ttl(3600), data)?)?;
+        sets.push(set_of(alloc, &new, RType::A, &[192, 0, 2, 77])?)
+            .ok()?;
     }
-    Ok(Zone::new(sets)?)
+    Zone::new(sets).ok()
+}
+
+/// A set of one record.
+fn set_of(alloc: Global, owner: &Name, rtype: RType, octets: &[u8]) -> Option<RRset> {
+    let data = RData::from_wire(alloc, rtype, octets).ok()?;
+    RRset::new(alloc, owner, Ttl(3600), data).ok()
 }
 
 // A name that only the second version has: asked of the first it is a name error (RFC 1035, 4.1.1: RCODE 3), of the second
@@ -36,8 +40,8 @@ fn versions(rt: HostRuntime) -> Result<(), Fail> {
     let alloc = rt.alloc();
     let query =
         b"\x12\x34\x01\x00\x00\x01\x00\x00\x00\x00\x00\x00\x03new\x07example\x04test\x00\x00\x01\x00\x01";
-    let first = zone_of(alloc, false)?;
-    let second = zone_of(alloc, true)?;
+    let first = zone_of(alloc, false).expect(&rt, "a zone");
+    let second = zone_of(alloc, true).expect(&rt, "a zone");
     let (a, b) = (Handle(b"a"), Handle(b"b"));
     let steps = [
         WorldStep::Load(a),
@@ -75,7 +79,7 @@ fn versions(rt: HostRuntime) -> Result<(), Fail> {
 
 /// Whether a step was made; else there was no memory for it, or for the test itself.
 fn made_or_had_no_memory(rt: &(impl AllocGlobal + Abort)) -> bool {
-    let Ok(zone) = zone_of(rt.alloc(), false) else {
+    let Some(zone) = zone_of(rt.alloc(), false) else {
         return false;
     };
     match run(rt.alloc(), &zone, &[WorldStep::Load(Handle(b"a"))]) {
