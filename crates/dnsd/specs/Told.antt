@@ -1,5 +1,5 @@
 -- What the program tells of a fault, in a line (own).
-use Rattle.std.specs.Prelude.{ℕ, List, [], ◌∷◌, ◌++◌, codes, decimal, Option, Some, None, IfSome}
+use Rattle.std.specs.Prelude.{ℕ, List, ◌∷◌, ◌++◌, codes, decimal, Option, Some, None, IfSome}
 use Rattle.std.specs.Io.KnownBytes.{Appends}
 use Rattle.dnsd.specs.declared.fault.Fault.{Fault}
 use Rattle.dnsd.specs.declared.fault.Fault.TheVariants.{Zone, Script, World, Device}
