@@ -114,8 +114,10 @@ each_label (label ∷ labels) e f =
     neither : (a b : Bool) → (a || b) ≡ false → (a ≡ false) × (b ≡ false)
     neither true b g = absurd (true≢false g)
     neither false b g = (refl, g)
+
     some : (n : ℕ) → (n == 0) ≡ false → 0 < n
     some n g = grind (arith, nat_tests)
+
     few : (n : ℕ) → nat_lt 63 n ≡ false → n < 64
     few n g = grind (arith, nat_tests)
 
