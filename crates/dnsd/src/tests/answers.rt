@@ -78,7 +78,7 @@ fn ask_all(
 fn wildcard_of_the_examples(rt: HostRuntime) -> Result<(), Fail> {
     let cases = [
         (
-            "row 4, as it is spelt",
+            "a wildcard, as it is spelt",
             "123401000001000000000000015001710344594e076578616d706c6504746573740000010001",
             "123485000001000100000000015001710344594e076578616d706c6504746573740000010001c00c0001000100000e100004c0000263",
         ),
