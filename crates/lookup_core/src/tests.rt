@@ -277,7 +277,9 @@ fn thirty_three_sets(rt: HostRuntime) -> Result<(), Fail> {
             [b'z', b'b' + at - 26]
         };
         let host = Name::from_text(&text, &name(EXAMPLE)?)?;
-        servers.insert(RData::from_wire(rt.alloc(), RType::NS, host.wire())?)?;
+        let server = RData::from_wire(rt.alloc(), RType::NS, host.wire())?;
+        assert_eq!(rt; servers.rtype(), server.rtype());
+        servers.insert(server)?;
         let address = RData::from_wire(rt.alloc(), RType::A, &[192, 0, 2, at])?;
         hosts.push(RRset::new(rt.alloc(), &host, Ttl(3600), address)?)?;
     }
