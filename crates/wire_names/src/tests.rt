@@ -185,7 +185,9 @@ fn positions_of_14_bits(rt: HostRuntime) -> Result<(), Fail> {
     let first = name(b"\x01a\x01b\x00")?;
     let last = name(b"\x01b\x00")?;
     let at = writer.write(&first, true, &mut out, 16383).ok_or("full")?;
+    assert_eq!(rt; at, 16388);
     let at = writer.write(&first, true, &mut out, at).ok_or("full")?;
+    assert_eq!(rt; at, 16390);
     let at = writer.write(&last, true, &mut out, at).ok_or("full")?;
     assert_eq!(rt; at, 16393);
     assert_eq!(rt;
