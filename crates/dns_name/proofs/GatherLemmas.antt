@@ -70,7 +70,7 @@ front_of-append (label ∷ labels) more =
     let assoc = append_assoc label (front_of labels) (front_of more) in
     cc
 
-front_last : (labels : List (List ℕ)) (label : List ℕ) → front_of (labels ++ label ∷ []) ≡ front_of labels ++ length label ∷ label
+pub front_last : (labels : List (List ℕ)) (label : List ℕ) → front_of (labels ++ label ∷ []) ≡ front_of labels ++ length label ∷ label
 front_last labels label =
     front_of-append labels (label ∷ []) ∙ ap (λ (xs : List ℕ). front_of labels ++ length label ∷ xs) (append-nil label)
 

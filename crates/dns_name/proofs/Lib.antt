@@ -5,5 +5,6 @@ pub mod OrderLemmas
 pub mod ReadLemmas
 pub mod RoundLemmas
 pub mod SameLemmas
+pub mod StoredLemmas
 pub mod TextLemmas
 pub mod NamedLemmas

@@ -2,4 +2,5 @@ pub mod Gather
 pub mod Labels
 pub mod Name
 pub mod Order
+pub mod Stored
 pub mod Text

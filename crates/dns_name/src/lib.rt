@@ -12,6 +12,7 @@ mod name;
 mod octets;
 mod order;
 mod print;
+mod stored;
 mod text;
 
 pub use labels::Labels;
@@ -21,6 +22,7 @@ pub use laws::{
 };
 pub use name::{MAX_BELOW_ASTERISK, MAX_LABEL, MAX_NAME, Name};
 pub use print::MAX_TEXT;
+pub use stored::{MAX_STORED, SoughtName, StoredName};
 pub use text::{NameFault, octet_at};
 
 #[cfg(test)]

@@ -1,0 +1,48 @@
+use Rattle.std.proofs.Common.{◌≡◌, ◌+◌, ◌∙◌, ◌<◌, ◌++◌, ◌∷◌, All, IsTrue, List, ℕ, length, reverse, true, refl, sym, ap, append_assoc, arith, rules}
+use Rattle.std.proofs.lemmas.List.{length-append}
+use Rattle.std.proofs.lemmas.List.Elements.{All-same, All-tail}
+use Rattle.dns_name.specs.Gather.{front_of}
+use Rattle.dns_name.specs.Stored.{IsFirstPiece, octets_stored, labels_stored}
+use Rattle.dns_name.proofs.StoredLemmas.{front_reverse}
+use Rattle.dns_name.proofs.stored.+put_front.Goals as goal
+
+-- the front of the labels behind the first, and that of all
+front_at : (octets piece rest : List ℕ) → IsFirstPiece octets piece rest → front_of (reverse (labels_stored octets)) ≡ front_of (reverse (labels_stored rest)) ++ length (octets_stored piece) ∷ octets_stored piece
+front_at octets piece rest first = ap (λ (ls : List (List ℕ)). front_of (reverse ls)) first.labels ∙ front_reverse (octets_stored piece) (labels_stored rest)
+
+size_at : (octets piece rest : List ℕ) → IsFirstPiece octets piece rest → length (front_of (reverse (labels_stored octets))) ≡ length (front_of (reverse (labels_stored rest))) + (length (octets_stored piece) + 1)
+size_at octets piece rest first =
+    let size = ap length (front_at octets piece rest first) in
+    let both = length-append (front_of (reverse (labels_stored rest))) (length (octets_stored piece) ∷ octets_stored piece) in
+    omega arith
+
+short_rest : (octets piece rest : List ℕ) → IsFirstPiece octets piece rest → All (λ (label : List ℕ). length label < 64) (labels_stored octets) → All (λ (label : List ℕ). length label < 64) (labels_stored rest)
+short_rest octets piece rest first h =
+    let P : List ℕ → Type 0 = λ label. length label < 64 in
+    All-tail P (octets_stored piece) (labels_stored rest) (All-same P _ _ (sym first.labels) h)
+
+pub put_front-requires : goal.put_front-requires
+put_front-requires t c =
+    let first = c.in-Some.ensures in
+    let size = size_at _ _ _ first in
+    let shorter = first.shorter in
+    (search rules, (first.closed, (omega (arith, c.requires.room), short_rest _ _ _ first c.requires.short)))
+
+-- the label behind the front of the others
+joined : (new old mid label octets piece rest : List ℕ) → IsFirstPiece octets piece rest → mid ≡ old ++ front_of (reverse (labels_stored rest)) → label ≡ octets_stored piece → new ≡ mid ++ length label ∷ label → new ≡ old ++ front_of (reverse (labels_stored octets))
+joined new old mid label octets piece rest first e l put =
+    let front = front_at octets piece rest first in
+    let all : new ≡ (old ++ front_of (reverse (labels_stored rest))) ++ length (octets_stored piece) ∷ octets_stored piece = rw (← e, ← l) put in
+    all ∙ append_assoc old (front_of (reverse (labels_stored rest))) (length (octets_stored piece) ∷ octets_stored piece) ∙ ap (λ (xs : List ℕ). old ++ xs) (sym front)
+
+pub returns-in-Some : goal.returns-in-Some
+returns-in-Some t c =
+    let first = c.in-Some.ensures in
+    let size = size_at _ _ _ first in
+    let mid = ap length c.put_front.ensures in
+    let both = length-append c.args.to.now.items (front_of (reverse (labels_stored c.in-Some.behind.now))) in
+    let label = c.as_slice.ensures.value ∙ c.label_of-label.ensures in
+    let len = ap length label in
+    let room : IsTrue c.append_label.result = c.append_label.ensures.room.1 (omega (arith, c.requires.room)) in
+    let is : c.append_label.result ≡ true = room in
+    joined _ _ _ _ _ _ _ first c.put_front.ensures label (rw is at c.append_label.ensures.put)

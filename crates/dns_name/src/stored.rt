@@ -1,0 +1,246 @@
+//! Names as a zone keeps them: on the heap, in as many octets as they take.
+ghost use Rattle.std.specs.Prelude.{◌≡◌, ◌==◌, ◌+◌, ◌*◌, ◌<◌, ◌≤◌, [], ◌∷◌, ◌++◌, length, map, reverse, flat_map, position, All, IfOk, IfSome, MatchOption, Some};
+ghost use Rattle.dns_name.specs.Gather.{front_of};
+ghost use Rattle.dns_name.specs.Labels.{labels_in, IsWhole};
+ghost use Rattle.dns_name.specs.Name.{IsName, fold_name, is_under, canonical_cmp};
+ghost use Rattle.dns_name.specs.Stored.{stored_octet, stored_label, octets_stored, labels_stored, name_stored, IsStored, IsClosed, IsFirstPiece};
+ghost use Rattle.dns_name.specs.Text.{text_of};
+
+use crate::name::{MAX_LABEL, MAX_NAME, Name};
+use crate::octets::{append_label, first_label};
+use arrayvec::ArrayVec;
+use std::alloc::{AllocError, Global};
+use std::cmp::Ordering;
+use std::fmt;
+use std::marker::Model;
+
+/// The most octets that stand for a name: two for each that it has on the wire.
+pub const MAX_STORED: usize = 510;
+
+/// The octet that closes a label.
+const CLOSING: u8 = 0;
+
+/// The octet in front of one that stands for another.
+const ESCAPE: u8 = 1;
+
+/// What stands for an octet of a label, behind the others.
+fn put_octet(to: &mut ArrayVec<u8, MAX_STORED>, octet: u8)
+    requires { length to.old.items + 2 ≤ MAX_STORED }
+    ensures octets { to.new.items ≡ to.old.items ++ stored_octet octet }
+    ensures len { length to.new.items ≤ length to.old.items + 2 }
+{
+    if octet > ESCAPE {
+        to.push(octet);
+    } else {
+        to.push(ESCAPE);
+        to.push(octet + 1);
+    }
+}
+
+/// What stands for a label, behind the others.
+fn put_label(to: &mut ArrayVec<u8, MAX_STORED>, label: &[u8])
+    requires { length to.old.items + 2 * length label.now + 1 ≤ MAX_STORED }
+    ensures octets { to.new.items ≡ to.old.items ++ stored_label label.now }
+    ensures len { length to.new.items ≤ length to.old.items + 2 * length label.now + 1 }
+{
+    for octet in label {
+        put_octet(to, *octet);
+    }
+    to.push(CLOSING);
+}
+
+/// What stands for labels behind the others, from the rightmost label on.
+fn put_labels(to: &mut ArrayVec<u8, MAX_STORED>, octets: &[u8])
+    requires whole { IsWhole octets.now }
+    requires room { length to.old.items + 2 * length octets.now ≤ MAX_STORED }
+    ensures octets { to.new.items ≡ to.old.items ++ flat_map stored_label (reverse (labels_in octets.now)) }
+    ensures len { length to.new.items ≤ length to.old.items + 2 * length octets.now }
+{
+    if let Some((label, behind)) = first_label(octets) {
+        put_labels(to, behind);
+        put_label(to, label);
+    }
+}
+
+/// The place of the octet that closes the first label.
+fn first_closing(octets: &[u8]) -> Option<usize>
+    ensures { result ≡ position (λ octet. octet == 0) octets.now }
+{
+    octets.iter().position(|octet| *octet == CLOSING)
+}
+
+/// What stands for the first label, and the octets behind the one that closes it; None where there is no label.
+fn first_piece(octets: &[u8]) -> Option<(&[u8], &[u8])>
+    requires { IsClosed octets.now }
+    ensures { MatchOption result (labels_stored octets.now ≡ []) (λ parts. IsFirstPiece octets.now parts.0.now parts.1.now) }
+{
+    let at = first_closing(octets)?;
+    Some((&octets[..at], &octets[at + 1..]))
+}
+
+/// The first octet that a piece stands for, and the rest of the piece.
+fn first_octet(piece: &[u8]) -> Option<(u8, &[u8])>
+    ensures octet { MatchOption result (octets_stored piece.now ≡ []) (λ parts. octets_stored piece.now ≡ parts.0 ∷ octets_stored parts.1.now) }
+    ensures shorter { IfSome result (λ parts. length parts.1.now < length piece.now) }
+{
+    let (first, rest) = piece.split_first()?;
+    if *first != ESCAPE {
+        return Some((*first, rest));
+    }
+    match rest.split_first() {
+        Some((octet, behind)) => Some((octet.saturating_sub(1), behind)),
+        None => Some((*first, rest)),
+    }
+}
+
+/// The label that a piece stands for.
+fn label_of(piece: &[u8]) -> ArrayVec<u8, MAX_LABEL>
+    requires { length (octets_stored piece.now) ≤ MAX_LABEL }
+    ensures { result.items ≡ octets_stored piece.now }
+{
+    let mut label = ArrayVec::new();
+    let mut rest = piece;
+    while let Some((octet, behind)) = first_octet(rest) {
+        label.push(octet);
+        rest = behind;
+    }
+    label
+}
+
+/// Labels behind the others, each behind its length, as they stand on the wire.
+fn put_front(to: &mut ArrayVec<u8, MAX_NAME>, octets: &[u8])
+    requires closed { IsClosed octets.now }
+    requires room { length to.old.items + length (front_of (reverse (labels_stored octets.now))) < MAX_NAME }
+    requires short { All (λ label. length label < 64) (labels_stored octets.now) }
+    ensures { to.new.items ≡ to.old.items ++ front_of (reverse (labels_stored octets.now)) }
+{
+    if let Some((piece, behind)) = first_piece(octets) {
+        put_front(to, behind);
+        let label = label_of(piece);
+        append_label(to, label.as_slice());
+    }
+}
+
+/// A name in lower case, in the form in which it is sought among stored names. It lies in the value itself.
+#[derive(Drop)]
+pub struct SoughtName {
+    octets: ArrayVec<u8, MAX_STORED>,
+}
+
+impl Model for SoughtName {
+    ghost use Rattle.std.specs.Prelude.{ℕ, List};
+    ghost use Rattle.dns_name.specs.Stored.{name_stored, IsStored};
+
+    ghost Value = { List (List ℕ) };
+
+    ghost view = { λ a. name_stored a.octets.items };
+
+    ghost invariant = { λ a. IsStored a.octets.items };
+}
+
+impl SoughtName {
+    /// The name in lower case.
+    pub fn new(name: &Name) -> SoughtName
+        ensures { result ≡ fold_name name.now }
+    {
+        let folded = name.fold();
+        let mut octets = ArrayVec::new();
+        put_labels(&mut octets, folded.octets());
+        SoughtName { octets }
+    }
+
+    /// The octets that stand for the name.
+    fn octets(&self) -> &[u8]
+        ensures stored { IsStored result.now }
+        ensures name { name_stored result.now ≡ self.now }
+    {
+        self.octets.as_slice()
+    }
+
+    /// The canonical order against a stored name, in one pass over the octets (RFC 4034, 6.1).
+    pub fn order(&self, other: &StoredName) -> Ordering
+        ensures { result ≡ canonical_cmp self.now other.now }
+    {
+        self.octets().cmp(&other.octets())
+    }
+
+    /// Whether a stored name is this one or has it among its ancestors (RFC 1034, 3.1).
+    pub fn is_above(&self, other: &StoredName) -> bool
+        ensures { result ≡ is_under other.now self.now }
+    {
+        other.octets().starts_with(self.octets())
+    }
+}
+
+/// A name in lower case, on the heap, in as many octets as it takes: as a zone keeps it. Contracts see the list of its
+/// labels.
+#[derive(Drop)]
+pub struct StoredName {
+    octets: Vec<u8>,
+}
+
+impl Model for StoredName {
+    ghost use Rattle.std.specs.Prelude.{ℕ, List};
+    ghost use Rattle.dns_name.specs.Stored.{name_stored, IsStored};
+
+    ghost Value = { List (List ℕ) };
+
+    ghost view = { λ a. name_stored a.octets.items };
+
+    ghost invariant = { λ a. IsStored a.octets.items };
+}
+
+impl StoredName {
+    /// The name in lower case. `AllocError` where a growth was refused.
+    pub fn new(alloc: Global, name: &Name) -> Result<StoredName, AllocError>
+        ensures { IfOk result (λ stored. stored ≡ fold_name name.now) }
+    {
+        let sought = SoughtName::new(name);
+        let octets = Vec::from_slice(alloc, sought.octets())?;
+        Ok(StoredName { octets })
+    }
+
+    /// The octets that stand for the name.
+    pub(crate) fn octets(&self) -> &[u8]
+        ensures stored { IsStored result.now }
+        ensures name { name_stored result.now ≡ self.now }
+    {
+        self.octets.as_slice()
+    }
+
+    /// The name itself, in lower case. It takes no memory.
+    pub fn to_name(&self) -> Name
+        ensures name { result ≡ self.now }
+        ensures folded { result ≡ fold_name result }
+    {
+        let mut octets = ArrayVec::new();
+        put_front(&mut octets, self.octets());
+        octets.push(0);
+        Name::from_octets(octets)
+    }
+
+    /// The canonical order: by the labels from the rightmost on, without regard to case (RFC 4034, 6.1). To seek one
+    /// name among many, make a [`SoughtName`] of it once.
+    pub fn order(&self, other: &Name) -> Ordering
+        ensures { result ≡ canonical_cmp self.now other.now }
+    {
+        let sought = SoughtName::new(other);
+        self.octets().cmp(&sought.octets())
+    }
+
+    /// Whether the name is the other or has it among its ancestors, without regard to case (RFC 1034, 3.1).
+    pub fn is_under(&self, other: &Name) -> bool
+        ensures { result ≡ is_under self.now other.now }
+    {
+        let sought = SoughtName::new(other);
+        self.octets().starts_with(sought.octets())
+    }
+}
+
+impl fmt::Display for StoredName {
+    ghost output = { λ name. Some (text_of name) };
+
+    fn fmt<W: fmt::Write>(&self, f: &mut fmt::Formatter<W>) -> fmt::Result {
+        f.pad(self.to_name().to_text().as_str())
+    }
+}
