@@ -198,11 +198,11 @@ pub under_from_front : (name other : List (List ℕ)) (rest : List ℕ) → stor
 under_from_front name other rest e =
     let more = labels_stored rest in
     let labels : reverse (fold_name name) ≡ reverse (fold_name other) ++ more =
-        sym (labels_back (reverse (fold_name name))) ∙ ap labels_stored e ∙ labels_front (reverse (fold_name other)) rest
+    sym (labels_back (reverse (fold_name name))) ∙ ap labels_stored e ∙ labels_front (reverse (fold_name other)) rest
     in
     let ends : fold_name name ≡ reverse more ++ fold_name other =
-        sym (reverse-reverse (fold_name name)) ∙ ap reverse labels ∙ reverse-append (reverse (fold_name other)) more
-        ∙ ap (λ (n : List (List ℕ)). reverse more ++ n) (reverse-reverse (fold_name other))
+    sym (reverse-reverse (fold_name name)) ∙ ap reverse labels ∙ reverse-append (reverse (fold_name other)) more
+    ∙ ap (λ (n : List (List ℕ)). reverse more ++ n) (reverse-reverse (fold_name other))
     in
     under_from_ending name other (reverse more) ends
 
@@ -211,7 +211,7 @@ front_from_under name other h =
     let ending = ending_from_under name other h in
     let front = ending.0 in
     let labels : reverse (fold_name name) ≡ reverse (fold_name other) ++ reverse front =
-        ap reverse ending.1 ∙ reverse-append front (fold_name other)
+    ap reverse ending.1 ∙ reverse-append front (fold_name other)
     in
     (flat_map stored_label (reverse front), ap (flat_map stored_label) labels ∙ flat_map-append stored_label (reverse (fold_name other)) (reverse front))
 

@@ -1,12 +1,16 @@
 //! Laws of the definitions, each the contract of a function that does nothing, and worked examples.
-ghost use Rattle.std.specs.Prelude.{◌≡◌, ℕ, ◌<◌, ◌≤◌, ◌↔◌, List, [], ◌∷◌, ◌++◌, length, drop, map, codes, All, IsTrue, Ok, Some, true, false};
+ghost use Rattle.std.specs.Prelude.{◌≡◌, ℕ, ◌<◌, ◌≤◌, ◌*◌, ◌↔◌, List, [], ◌∷◌, ◌++◌, length, drop, map, codes, All, IsTrue, Ok, Some, true, false};
 ghost use Rattle.std.specs.Cmp.{IsTotalOrder, IsEquivalence};
+ghost use Rattle.std.specs.Cmp.Lexicographic.{slice_cmp};
+ghost use Rattle.std.specs.Ordering.{nat_cmp};
 ghost use Rattle.std.specs.declared.cmp.Ordering.TheVariants.{Less, Equal, Greater};
 ghost use Rattle.dns_name.specs.Text.{name_of_text, text_of};
 ghost use Rattle.dns_name.specs.Name.{Name, wire_of, name_in, IsName, fold_name, is_same, is_under, self_and_ancestors, canonical_cmp, parent_of};
+ghost use Rattle.dns_name.specs.Stored.{stored_of, name_stored};
 
 use crate::name::{MAX_BELOW_ASTERISK, MAX_LABEL, MAX_NAME};
 use crate::print::MAX_TEXT;
+use crate::stored::MAX_STORED;
 
 /// What octets are read as is a name, and its octets stand in front of them; a name's octets are read as that name,
 /// whatever stands behind them (RFC 1035, 3.1).
@@ -39,17 +43,25 @@ pub fn text_is_read_back()
     ensures { (name origin : Name) → IsName name → All (All (λ octet. octet < 256)) name → name_of_text (text_of name) origin ≡ Ok name }
 {}
 
+/// Octets that stand for names compare as the names do in canonical order, and are read as the names in lower case
+/// (RFC 4034, 6.1; own).
+pub fn stored_names()
+    ensures order { (name other : Name) → slice_cmp nat_cmp (stored_of name) (stored_of other) ≡ canonical_cmp name other }
+    ensures back { (name : Name) → name_stored (stored_of name) ≡ fold_name name }
+{}
+
 /// The limits of names by their numbers: 255 octets and 63 of a label (RFC 1035, 2.3.4), 253 below the label `*` with
-/// its length octet, and four characters for each octet but the closing one.
+/// its length octet, and four characters for each octet but the closing one. At most two octets are stored for each octet.
 pub fn limits()
     ensures name { MAX_NAME ≡ 255 }
     ensures label { MAX_LABEL ≡ 63 }
     ensures below_asterisk { MAX_BELOW_ASTERISK ≡ 253 }
     ensures text { MAX_TEXT ≡ 1016 }
+    ensures stored { MAX_STORED ≡ 2 * MAX_NAME }
 {}
 
 /// Worked examples of the definitions: the names in the canonical order of RFC 4034, 6.1; case (RFC 4343, 3); and `@`
-/// alone, which is the origin, beside `\@`, which is a label (RFC 1035, 5.1).
+/// alone, which is the origin, beside `\@`, which is a label (RFC 1035, 5.1). Last, what is stored for a name.
 pub fn examples()
     ensures first { canonical_cmp (codes "example" ∷ []) (codes "a" ∷ codes "example" ∷ []) ≡ Less }
     ensures second { canonical_cmp (codes "a" ∷ codes "example" ∷ []) (codes "yljkjljk" ∷ codes "a" ∷ codes "example" ∷ []) ≡ Less }
@@ -67,4 +79,7 @@ pub fn examples()
     ensures origin { name_of_text (codes "@") (codes "example" ∷ []) ≡ Ok (codes "example" ∷ []) }
     ensures at_sign { name_of_text (92 ∷ codes "@") (codes "example" ∷ []) ≡ Ok (codes "@" ∷ codes "example" ∷ []) }
     ensures read { name_in (1 ∷ 97 ∷ 0 ∷ 7 ∷ []) ≡ Some (codes "a" ∷ []) }
+    ensures stored { stored_of (codes "a" ∷ codes "BC" ∷ []) ≡ 98 ∷ 99 ∷ 0 ∷ 97 ∷ 0 ∷ [] }
+    ensures escaped { stored_of ((0 ∷ 1 ∷ 2 ∷ []) ∷ []) ≡ 1 ∷ 1 ∷ 1 ∷ 2 ∷ 2 ∷ 0 ∷ [] }
+    ensures root_stored { stored_of [] ≡ [] }
 {}

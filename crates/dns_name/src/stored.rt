@@ -193,7 +193,9 @@ impl Model for StoredName {
 impl StoredName {
     /// The name in lower case. `AllocError` where a growth was refused.
     pub fn new(alloc: Global, name: &Name) -> Result<StoredName, AllocError>
-        ensures { IfOk result (λ stored. stored ≡ fold_name name.now) }
+        ensures folded { IfOk result (λ stored. stored ≡ fold_name name.now) }
+        ensures lawful { IfOk result (λ stored. IsName stored) }
+        ensures bytes { IfOk result (λ stored. All (All (λ octet. octet < 256)) stored) }
     {
         let sought = SoughtName::new(name);
         let octets = Vec::from_slice(alloc, sought.octets())?;

@@ -1,6 +1,8 @@
 //! Outside values, each public call at least once.
 use crate::name::Name;
+use crate::stored::{SoughtName, StoredName};
 use crate::text::NameFault;
+use std::alloc::{AllocError, Global};
 use std::cmp::Ordering;
 use std::test::Fail;
 
@@ -240,5 +242,86 @@ fn parts(rt: HostRuntime) -> Result<(), Fail> {
     assert!(rt; Name::root().parent().is_none());
     let wild = parent.with_asterisk().ok_or("an asterisk")?;
     assert_eq!(rt; wild.to_text().as_str(), "*.example.");
+    Ok(())
+}
+
+/// The stored name, made once more where memory was refused.
+fn stored(alloc: Global, name: &Name) -> Result<StoredName, AllocError> {
+    match StoredName::new(alloc, name) {
+        Ok(stored) => Ok(stored),
+        Err(_) => StoredName::new(alloc, name),
+    }
+}
+
+#[test]
+fn stored_order(rt: HostRuntime) -> Result<(), Fail> {
+    // The names of RFC 4034, 6.1, in their order, and octets that are stored as two. With any one growth refused, each is
+    // made anew.
+    let texts = [
+        b".".as_slice(),
+        b"example".as_slice(),
+        b"a.example".as_slice(),
+        b"yljkjljk.a.example".as_slice(),
+        b"Z.a.example".as_slice(),
+        b"zABC.a.EXAMPLE".as_slice(),
+        b"z.example".as_slice(),
+        b"\\000.z.example".as_slice(),
+        b"\\000\\001.z.example".as_slice(),
+        b"\\001.z.example".as_slice(),
+        b"\\001\\000.z.example".as_slice(),
+        b"\\002.z.example".as_slice(),
+        b"*.z.example".as_slice(),
+        b"\\200.z.example".as_slice(),
+    ];
+    for pair in texts.windows(2) {
+        let [first, second] = pair else {
+            continue;
+        };
+        let before = stored(rt.alloc(), &name(first)?)?;
+        let after = stored(rt.alloc(), &name(second)?)?;
+        assert!(rt; before.cmp(&after).is_lt(), "{before} and {after}");
+        assert!(rt; before != after, "{before} and {after}");
+        assert_eq!(rt;
+            after.order(&name(first)?),
+            Ordering::Greater,
+            "{before} and {after}"
+        );
+        assert_eq!(rt;
+            SoughtName::new(&name(first)?).order(&after),
+            Ordering::Less,
+            "{before} and {after}"
+        );
+        assert_eq!(rt;
+            after.order(&after.to_name()),
+            Ordering::Equal,
+            "{after} and itself"
+        );
+        assert!(rt;
+            after.to_name().wire() == name(second)?.fold().wire(),
+            "{after} is read back"
+        );
+    }
+    Ok(())
+}
+
+#[test]
+fn stored_parts(rt: HostRuntime) -> Result<(), Fail> {
+    // RFC 1034, 3.1: what is under what, by whole labels.
+    let own = stored(rt.alloc(), &name(b"www.Example.")?)?;
+    let cases = [
+        (b".".as_slice(), true),
+        (b"EXAMPLE.".as_slice(), true),
+        (b"www.example.".as_slice(), true),
+        (b"w.example.".as_slice(), false),
+        (b"a.www.example.".as_slice(), false),
+        (b"ample.".as_slice(), false),
+    ];
+    for (text, under) in cases {
+        let other = name(text)?;
+        assert_eq!(rt; own.is_under(&other), under, "{other}");
+        assert_eq!(rt; SoughtName::new(&other).is_above(&own), under, "{other}");
+    }
+    let told = format!(in rt.alloc(); "{own}")?;
+    assert_eq!(rt; told.as_str(), "www.example.");
     Ok(())
 }

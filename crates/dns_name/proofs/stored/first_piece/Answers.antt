@@ -8,7 +8,6 @@ returns-in_err-at c =
     let none = no_piece _ _ c.requires refl (sym c.first_closing.ensures ∙ c.in_err-at.was) in
     rw c.from_residual.ensures none
 
-
 pub returns : goal.returns
 returns c =
     let octets = c.args.octets.now in

@@ -32,7 +32,7 @@ returns-clause-name c =
 pub returns-clause-folded : goal.returns-clause-folded
 returns-clause-folded c =
     let is =
-        c.from_octets.ensures
-        ∙ (wire_at _ _ _ _ c.octets.ensures.stored.name c.new-octets.ensures c.put_front.ensures c.push.ensures.items).named
+    c.from_octets.ensures
+    ∙ (wire_at _ _ _ _ c.octets.ensures.stored.name c.new-octets.ensures c.put_front.ensures c.push.ensures.items).named
     in
     is ∙ c.octets.ensures.stored.folded ∙ ap fold_name (sym is)

@@ -1,6 +1,6 @@
 use Rattle.std.proofs.Common.{◌∙◌}
 use Rattle.dns_name.proofs.StoredLemmas.{stored_is, order_at}
-use Rattle.dns_name.proofs.order.StoredNameOrd.cmp.Goals as goal
+use Rattle.dns_name.proofs.stored_order.StoredNameOrd.cmp.Goals as goal
 
 pub returns : goal.returns
 returns c =
