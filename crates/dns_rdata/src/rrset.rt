@@ -7,7 +7,7 @@ ghost use Rattle.dns_rdata.specs.Record.{Record, IsLawful, records_with, owner_o
 
 use crate::data::RData;
 use crate::numbers::{RType, Ttl};
-use dns_name::Name;
+use dns_name::{Name, StoredName};
 use std::alloc::{AllocError, Global};
 use std::cmp::Ordering;
 use std::marker::Model;
@@ -31,7 +31,7 @@ pub enum SetFault {
 /// [`MAX_SET`], no two equal (RFC 2181, 5; RFC 4034, 6.3). The owner is in lower case.
 #[derive(Drop)]
 pub struct RRset {
-    owner: Name,
+    owner: StoredName,
     rtype: RType,
     ttl: Ttl,
     rdata: Vec<RData>,
@@ -56,10 +56,11 @@ impl RRset {
             ≡ record { owner = fold_name owner.now; rtype = rdata.rtype; ttl = ttl.0; rdata = rdata.octets } ∷ []) }
     {
         let rtype = rdata.rtype();
+        let stored = StoredName::new(alloc, owner)?;
         let mut own = Vec::new(alloc);
         own.push(rdata)?;
         Ok(RRset {
-            owner: owner.fold(),
+            owner: stored,
             rtype,
             ttl,
             rdata: own,
@@ -67,7 +68,16 @@ impl RRset {
     }
 
     /// The owner, in lower case.
-    pub fn owner(&self) -> &Name
+    pub fn owner(&self) -> Name
+        ensures of { result ≡ owner_of self.now }
+        ensures shared { All (λ r. r.owner ≡ result) self.now }
+        ensures folded { result ≡ fold_name result }
+    {
+        self.owner.to_name()
+    }
+
+    /// The owner as it is kept, for those who compare and copy nothing.
+    pub fn stored_owner(&self) -> &StoredName
         ensures of { result.now ≡ owner_of self.now }
         ensures shared { All (λ r. r.owner ≡ result.now) self.now }
         ensures folded { result.now ≡ fold_name result.now }
