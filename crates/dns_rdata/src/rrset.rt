@@ -57,7 +57,7 @@ impl RRset {
     {
         let rtype = rdata.rtype();
         let stored = StoredName::new(alloc, owner)?;
-        let mut own = Vec::new(alloc);
+        let mut own = Vec::with_capacity(alloc, 1)?;
         own.push(rdata)?;
         Ok(RRset {
             owner: stored,

@@ -9,5 +9,5 @@ invariant_of-result c =
     let own = c.in_ok-stored.ensures in
     let folded = fold_name-fold_name c.args.owner.now in
     let same : c.in_ok-stored.stored ≡ fold_name c.in_ok-stored.stored = cc in
-    rw (c.in_ok-push.ensures.items, c.new-own.ensures.items)
+    rw (c.in_ok-push.ensures.items, c.in_ok-own.ensures.items)
     (IsSet-one _ _ _ _ own.lawful own.bytes same c.requires (sym c.rtype-rtype.ensures.rtype) c.rtype-rtype.ensures.lawful)
