@@ -20,7 +20,7 @@ pub(crate) fn check(sets: &[RRset]) -> Result<usize, ZoneFault>
     check_count(sets)?;
     check_order(sets)?;
     let soa = find_soa(sets)?;
-    check_rules(sets, sets[soa].owner())?;
+    check_rules(sets, &sets[soa].owner())?;
     Ok(soa)
 }
 
@@ -53,8 +53,8 @@ fn check_count(sets: &[RRset]) -> Result<(), ZoneFault>
 fn is_before(set: &RRset, other: &RRset) -> bool
     ensures { result ≡ is_lt (set_cmp set.now other.now) }
 {
-    set.owner()
-        .order(other.owner())
+    set.stored_owner()
+        .cmp(other.stored_owner())
         .then(set.rtype().cmp(&other.rtype()))
         .is_lt()
 }

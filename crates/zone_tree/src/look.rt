@@ -21,7 +21,7 @@ fn count_before(sets: &[RRset], name: &Name) -> usize
     sets.partition_point(
         |set: &RRset| -> bool
             ensures { result ≡ is_lt (canonical_cmp (owner_of set.now) name.entry.now) }
-        { set.owner().order(name).is_lt() },
+        { set.stored_owner().order(name).is_lt() },
     )
 }
 
@@ -34,7 +34,7 @@ fn count_upto(sets: &[RRset], name: &Name) -> usize
     sets.partition_point(
         |set: &RRset| -> bool
             ensures { result ≡ is_le (canonical_cmp (owner_of set.now) name.entry.now) }
-        { set.owner().order(name).is_le() },
+        { set.stored_owner().order(name).is_le() },
     )
 }
 
@@ -61,7 +61,7 @@ pub(crate) fn has_name(sets: &[RRset], name: &Name) -> bool
     ensures { result ≡ exists (records_in sets.now) name.now }
 {
     match sets.get(count_before(sets, name)) {
-        Some(set) => set.owner().is_under(name),
+        Some(set) => set.stored_owner().is_under(name),
         None => false,
     }
 }

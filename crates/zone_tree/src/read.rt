@@ -38,8 +38,8 @@ pub trait ZoneRead {
         ensures whole { AreWhole (records self.now) result.now };
 
     /// The apex: the owner of the SOA (RFC 1034, 4.2).
-    final fn apex(&self) -> &Name
-        ensures { result.now ≡ apex_of (records self.now) }
+    final fn apex(&self) -> Name
+        ensures { result ≡ apex_of (records self.now) }
     {
         self.soa().owner()
     }

@@ -42,7 +42,7 @@ pub(crate) fn check_rules(sets: &[RRset], apex: &Name) -> Result<(), ZoneFault>
 fn has_outside(sets: &[RRset], apex: &Name) -> bool
     ensures { result ≡ list_any (λ set. not (is_under (owner_of set) apex.now)) sets.now }
 {
-    sets.iter().any(|set| !set.owner().is_under(apex))
+    sets.iter().any(|set| !set.stored_owner().is_under(apex))
 }
 
 // Whether an NS stands at the apex.
@@ -50,7 +50,7 @@ fn has_name_server(sets: &[RRset], apex: &Name) -> bool
     ensures { result ≡ list_any (λ set. is_same (owner_of set) apex.now && rtype_of set == type_NS) sets.now }
 {
     sets.iter()
-        .any(|set| set.owner() == apex && set.rtype() == RType::NS)
+        .any(|set| set.owner() == *apex && set.rtype() == RType::NS)
 }
 
 // Whether an owner has one record.
@@ -69,7 +69,7 @@ fn has_crowded_alias(sets: &[RRset]) -> bool
     requires { AreAscending sets.now }
     ensures { result ≡ list_any (λ set. rtype_of set == type_CNAME && not (length (rrsets_of (records_in sets.now) (owner_of set)) == 1)) sets.now }
 {
-    sets.iter().any(|set| set.rtype() == RType::CNAME && !has_one_record(sets, set.owner()))
+    sets.iter().any(|set| set.rtype() == RType::CNAME && !has_one_record(sets, &set.owner()))
 }
 
 // Whether the first label is `*`: its length, and then its octet (RFC 4592, 2.1.1).
@@ -83,5 +83,5 @@ fn has_asterisk(name: &Name) -> bool
 fn has_wild_cut(sets: &[RRset]) -> bool
     ensures { result ≡ list_any (λ set. is_wild (owner_of set) && rtype_of set == type_NS) sets.now }
 {
-    sets.iter().any(|set| has_asterisk(set.owner()) && set.rtype() == RType::NS)
+    sets.iter().any(|set| has_asterisk(&set.owner()) && set.rtype() == RType::NS)
 }

@@ -72,7 +72,7 @@ fn looks_up(rt: HostRuntime) -> Result<(), Fail> {
     assert_eq!(rt; found.rtype(), RType::TXT);
     assert!(rt; zone.rrset(&wild, RType::A).is_none());
     assert_eq!(rt; zone.soa().rtype(), RType::SOA);
-    assert!(rt; *zone.apex() == name(EXAMPLE)?);
+    assert!(rt; zone.apex() == name(EXAMPLE)?);
     assert_eq!(rt; zone.walk().len(), 7);
     Ok(())
 }

@@ -9,7 +9,7 @@ pub returns-in-Some : goal.returns-in-Some
 returns-in-Some c =
     let h = c.in-Some.ensures.lookup in
     let name = c.args.name.now in
-    c.is_under.ensures ∙ ap (λ owner. is_under owner name) c.owner.ensures.of ∙ ap (λ set. is_under (owner_of set) name) h.1 ∙
+    c.is_under.ensures ∙ ap (λ owner. is_under owner name) c.stored_owner.ensures.of ∙ ap (λ set. is_under (owner_of set) name) h.1 ∙
     sym (exists_first c.args.sets.now c.requires name c.count_before.result c.count_before.ensures.place c.in-Some.set.now h.3.0)
 
 pub returns-in-None : goal.returns-in-None
