@@ -46,10 +46,10 @@ look_by zone name rtype p =
     ]
 
 -- where a name stands that doesn't exist, and one that may exist
-abbrev by_source : List Record → Option (List (List ℕ)) → Place
+abbrev pub by_source : List Record → Option (List (List ℕ)) → Place
 by_source zone source = elim source [ None ↦ place.Missing | Some s ↦ if exists zone s then place.Wild s else place.Missing ]
 
-abbrev by_name : List Record → Bool → Option (List (List ℕ)) → Place
+abbrev pub by_name : List Record → Bool → Option (List (List ℕ)) → Place
 by_name zone b source = if b then place.Exact else by_source zone source
 
 -- there is no name exactly where neither the name nor the source of synthesis exists

@@ -1,3 +1,6 @@
+pub mod ApexLemmas
+pub mod SetLemmas
+pub mod PlaceLemmas
 pub mod WalkLemmas
 pub mod AliasLemmas
 pub mod SectionLemmas

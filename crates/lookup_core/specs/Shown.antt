@@ -5,6 +5,12 @@ use Rattle.dns_name.specs.Name.{Name}
 use Rattle.dns_rdata.specs.declared.shown.Shown.{Shown}
 use Rattle.dns_rdata.specs.Record.{Record}
 use Rattle.dns_rdata.specs.Shown.{records_shown}
+use Rattle.zone_tree.specs.Zone.{rrsets_of}
+use Rattle.zone_tree.specs.Sets.{AreWhole}
+use Rattle.lookup_core.specs.declared.matched.Place.{Place}
+use Rattle.lookup_core.specs.declared.matched.Place.TheVariants as place
+use Rattle.lookup_core.specs.declared.matched.Matched.{Matched}
+use Rattle.lookup_core.specs.declared.matched.Matched.TheVariants as matched
 use Rattle.lookup_core.specs.declared.look.Look.{Look}
 use Rattle.lookup_core.specs.declared.look.Look.TheVariants.{Cut, Alias, Data, NoData, NoName}
 use Rattle.lookup_core.specs.declared.aliases.Chain.{Chain}
@@ -19,6 +25,23 @@ use Rattle.lookup_core.specs.Sections.{Sections}
 -- the records of a section, in the order in which it shows them
 abbrev pub section_shown : List Shown → List Record
 section_shown section = flat_map records_shown section
+
+-- all sets at a name, each in whole
+pub record AreAllAt (zone : List Record) (name : Name) (sets : List (List Record)) : Type 0 where
+  pub records : flat_map (λ set. set) sets ≡ rrsets_of zone name
+  pub whole : AreWhole zone sets
+
+-- where a name stands, without its sets
+abbrev pub place_shown : Matched → Place
+place_shown (matched.Cut cut) = place.Cut cut
+place_shown (matched.Exact sets) = place.Exact
+place_shown (matched.Wild source) = place.Wild source
+place_shown matched.Missing = place.Missing
+
+-- the sets that come with a name that exists are all sets at it
+abbrev pub HasItsSets : List Record → Name → Matched → Type 0
+HasItsSets zone name (matched.Exact sets) = AreAllAt zone name sets.now
+HasItsSets zone name _ = Unit {0}
 
 -- what is found at a name, with the records under that name
 abbrev pub look_shown : Name → Look → look.Look

@@ -1,13 +1,15 @@
 //! The additional section: the addresses of the names in an answer's data (RFC 1034, 4.3.2, step 6).
-ghost use Rattle.std.specs.Prelude.{◌≡◌, ◌==◌, [], ◌∷◌, filter, option_to_list};
+ghost use Rattle.std.specs.Prelude.{◌≡◌, ◌==◌, List, [], ◌∷◌, length, filter, option_to_list};
 ghost use Rattle.std.specs.List.{flat_map, list_any};
-ghost use Rattle.dns_rdata.specs.Record.{owner_of, rtype_of};
+ghost use Rattle.dns_name.specs.Name.{Name};
+ghost use Rattle.dns_rdata.specs.Record.{Record, owner_of, rtype_of};
 ghost use Rattle.dns_rdata.specs.Shown.{records_shown};
 ghost use Rattle.zone_tree.specs.Zone.{is_of, rrset_of};
 ghost use Rattle.lookup_core.specs.Additional.{has_hosts, hosts_in, hosts_of, is_same_set, is_wanted, wanted_sets, additional_of};
-ghost use Rattle.lookup_core.specs.Shown.{section_shown, with_more};
+ghost use Rattle.lookup_core.specs.Shown.{AreAllAt, section_shown, with_more};
 
 use crate::sections::standing;
+use crate::sets::set_of;
 use arrayvec::ArrayVec;
 use dns_name::Name;
 use dns_rdata::{Layout, RData, RRset, RType, Shown};
@@ -44,6 +46,13 @@ impl<'z> Additional<'z> {
         Additional {
             shown: ArrayVec::new(),
         }
+    }
+
+    /// Whether there is room for no more.
+    fn is_full(&self) -> bool
+        ensures { result ≡ (length self.now == MOST_ADDITIONAL) }
+    {
+        self.shown.is_full()
     }
 
     /// Whether a set of this owner and type is among them.
@@ -158,7 +167,8 @@ fn add_data<'z, Z: ZoneRead>(
     }
 }
 
-/// Adds the address sets of a name: A, then AAAA (RFC 1035, 3.4.1; RFC 3596, 2.1 and 3).
+/// Adds the address sets of a name: A, then AAAA (RFC 1035, 3.4.1; RFC 3596, 2.1 and 3). Where there is no room for
+/// them, they aren't looked up.
 fn add_addresses<'z, Z: ZoneRead>(
     zone: &'z Z,
     answer: &[Shown<'z>],
@@ -168,8 +178,12 @@ fn add_addresses<'z, Z: ZoneRead>(
     ensures { additional.new ≡ with_more additional.old
         (wanted_sets (Z.records zone.now) (section_shown answer.now) (host.now ∷ [])) }
 {
-    add_rrset(zone, answer, host, RType::A, additional);
-    add_rrset(zone, answer, host, RType::AAAA, additional);
+    if additional.is_full() {
+        return;
+    }
+    let sets = zone.rrsets_at(host);
+    add_set(answer, sets, RType::A, additional);
+    add_set(answer, sets, RType::AAAA, additional);
 }
 
 /// The name in data whose addresses come along: that of NS, MX and SRV (RFC 1035, 3.3.9 and 3.3.11; RFC 2782).
@@ -196,18 +210,17 @@ fn has_hosts(rtype: RType) -> bool
     rtype == RType::NS || rtype == RType::MX || rtype == RType::SRV
 }
 
-/// Adds the set of a type that stands at exactly a name, unless it stands in the answer.
-fn add_rrset<'z, Z: ZoneRead>(
-    zone: &'z Z,
+/// Adds the set of a type among all sets at a name, unless it stands in the answer.
+fn add_set<'z>(
     answer: &[Shown<'z>],
-    host: &Name,
+    sets: &'z [RRset],
     rtype: RType,
     additional: &mut Additional<'z>,
 )
-    ensures { additional.new ≡ with_more additional.old
-        (filter (is_wanted (section_shown answer.now)) (rrset_of (Z.records zone.now) host.now rtype.0 ∷ [])) }
+    ensures { (zone : List Record) (host : Name) → AreAllAt zone host sets.now → additional.new ≡ with_more additional.old
+        (filter (is_wanted (section_shown answer.now)) (rrset_of zone host rtype.0 ∷ [])) }
 {
-    if let Some(set) = zone.rrset(host, rtype)
+    if let Some(set) = set_of(sets, rtype)
         && !is_answered(answer, set)
     {
         additional.add(set);

@@ -14,6 +14,7 @@ mod look;
 mod matched;
 mod question;
 mod sections;
+mod sets;
 mod walk;
 
 pub use additional::MOST_ADDITIONAL;

@@ -1,11 +1,13 @@
 //! What is found at a name of a zone (RFC 1034, 4.3.2, step 3; RFC 4592, 3.3).
 ghost use Rattle.std.specs.Prelude.{◌≡◌, ◌↔◌, ℕ, List, [], IsNone, IfSome};
 ghost use Rattle.std.specs.List.{flat_map};
+ghost use Rattle.dns_rdata.specs.Record.{Record};
 ghost use Rattle.lookup_core.specs.Look.{look, found_at, data_at, follows_aliases};
-ghost use Rattle.lookup_core.specs.Shown.{look_shown};
+ghost use Rattle.lookup_core.specs.Shown.{AreAllAt, look_shown};
 
-use crate::matched::Place;
-use crate::walk::place_below;
+use crate::matched::Matched;
+use crate::sets::set_of;
+use crate::walk::match_down;
 use dns_name::Name;
 use dns_rdata::{RRset, RType};
 use std::slice;
@@ -31,39 +33,41 @@ pub(crate) enum Look<'z> {
 pub(crate) fn look_up<'z, Z: ZoneRead>(zone: &'z Z, name: &Name, rtype: RType) -> Look<'z>
     ensures { look_shown name.now result ≡ look (Z.records zone.now) name.now rtype.0 }
 {
-    match place_below(zone, name) {
-        Place::Cut(cut) => Look::Cut(cut),
-        Place::Exact => found_at(zone, name, rtype),
-        Place::Wild(source) => found_at(zone, &source, rtype),
-        Place::Missing | Place::Outside => Look::NoName,
+    match match_down(zone, name) {
+        Matched::Cut(cut) => Look::Cut(cut),
+        Matched::Exact(sets) => found_in(sets, rtype),
+        Matched::Wild(source) => found_in(zone.rrsets_at(&source), rtype),
+        Matched::Missing => Look::NoName,
     }
 }
 
-/// What the records at a name say of a type, under any name searched (RFC 1034, 4.3.2, step 3a).
-fn found_at<'z, Z: ZoneRead>(zone: &'z Z, at: &Name, rtype: RType) -> Look<'z>
-    ensures { (name : List (List ℕ)) → look_shown name result ≡ found_at (Z.records zone.now) at.now name rtype.0 }
+/// What all sets at a name say of a type, under any name searched (RFC 1034, 4.3.2, step 3a).
+fn found_in<'z>(sets: &'z [RRset], rtype: RType) -> Look<'z>
+    ensures { (zone : List Record) (at name : List (List ℕ)) → AreAllAt zone at sets.now
+        → look_shown name result ≡ found_at zone at name rtype.0 }
 {
     // The alias before the type asked: an alias stands alone at its owner.
     if follows_aliases(rtype)
-        && let Some(alias) = zone.rrset(at, RType::CNAME)
+        && let Some(alias) = set_of(sets, RType::CNAME)
     {
         return Look::Alias(alias);
     }
-    match data_at(zone, at, rtype) {
+    match data_in(sets, rtype) {
         Some(sets) => Look::Data(sets),
         None => Look::NoData,
     }
 }
 
-/// The sets of the type asked at a name, all of them for ANY (RFC 1035, 3.2.3); None where there is none.
-fn data_at<'z, Z: ZoneRead>(zone: &'z Z, name: &Name, rtype: RType) -> Option<&'z [RRset]>
-    ensures none { IsNone result ↔ (data_at (Z.records zone.now) name.now rtype.0 ≡ []) }
-    ensures sets { IfSome result (λ sets. flat_map (λ set. set) sets.now ≡ data_at (Z.records zone.now) name.now rtype.0) }
+/// Of all sets at a name those of the type asked, all of them for ANY (RFC 1035, 3.2.3); None where there is none.
+fn data_in<'z>(sets: &'z [RRset], rtype: RType) -> Option<&'z [RRset]>
+    ensures none { (zone : List Record) (at : List (List ℕ)) → AreAllAt zone at sets.now
+        → IsNone result ↔ (data_at zone at rtype.0 ≡ []) }
+    ensures sets { (zone : List Record) (at : List (List ℕ)) → AreAllAt zone at sets.now
+        → IfSome result (λ found. flat_map (λ set. set) found.now ≡ data_at zone at rtype.0) }
 {
     if rtype != RType::ANY {
-        return Some(slice::from_ref(zone.rrset(name, rtype)?));
+        return Some(slice::from_ref(set_of(sets, rtype)?));
     }
-    let sets = zone.rrsets_at(name);
     let first = sets.first()?;
     prove!(!first.data().is_empty());
     Some(sets)

@@ -1,60 +1,96 @@
 //! From the apex to a name (RFC 1034, 4.3.2, steps 2 and 3; RFC 4592, 2.2.3 and 3.3.1).
-ghost use Rattle.std.specs.Prelude.{◌≡◌, ◌≤◌, length, IfSome};
-ghost use Rattle.dns_name.specs.Name.{wire_of};
+//!
+//! The zone is searched once for each name between the apex and the name asked, and once for that name: what is at the
+//! apex or above it is known, since the records are a zone.
+ghost use Rattle.std.specs.Prelude.{◌≡◌, ◌≤◌, length, reverse, drop, IfSome};
+ghost use Rattle.std.specs.List.{find};
+ghost use Rattle.dns_name.specs.Name.{wire_of, self_and_ancestors};
+ghost use Rattle.zone_tree.specs.Zone.{IsZone, apex_of, exists};
 ghost use Rattle.lookup_core.specs.Place.{place, place_below, is_cut, cut_of, closest_encloser, source_of};
+ghost use Rattle.lookup_core.specs.Shown.{AreAllAt, place_shown, HasItsSets};
 
-use crate::matched::Place;
+use crate::matched::{Matched, Place};
+use crate::sets::set_of;
 use dns_name::{MAX_BELOW_ASTERISK, MAX_NAME, Name};
-use dns_rdata::RType;
+use dns_rdata::{RRset, RType};
 use zone_tree::ZoneRead;
 
 /// Where a name stands in a zone (RFC 1034, 4.3.2, steps 2 and 3). No memory is taken.
 pub fn place<Z: ZoneRead>(zone: &Z, name: &Name) -> Place
     ensures { result ≡ place (Z.records zone.now) name.now }
 {
-    if name.is_under(zone.apex()) {
-        place_below(zone, name)
-    } else {
-        Place::Outside
+    if !name.is_under(zone.apex()) {
+        return Place::Outside;
+    }
+    match match_down(zone, name) {
+        Matched::Cut(cut) => Place::Cut(cut),
+        Matched::Exact(_) => Place::Exact,
+        Matched::Wild(source) => Place::Wild(source),
+        Matched::Missing => Place::Missing,
     }
 }
 
 /// Where a name stands on the way down from the apex (RFC 1034, 4.3.2, step 3).
-pub(crate) fn place_below<Z: ZoneRead>(zone: &Z, name: &Name) -> Place
-    ensures { result ≡ place_below (Z.records zone.now) name.now }
+pub(crate) fn match_down<'z, Z: ZoneRead>(zone: &'z Z, name: &Name) -> Matched<'z>
+    ensures place { place_shown result ≡ place_below (Z.records zone.now) name.now }
+    ensures sets { HasItsSets (Z.records zone.now) name.now result }
 {
-    if let Some(cut) = cut_of(zone, name) {
-        return Place::Cut(cut);
+    if let Some(cut) = cut_above(zone, name) {
+        return Matched::Cut(cut);
     }
-    if zone.exists(name) {
-        return Place::Exact;
+    let sets = zone.rrsets_at(name);
+    if is_cut(zone, name, sets) {
+        return Matched::Cut(name.copy());
+    }
+    if owns_or_exists(zone, name, sets) {
+        return Matched::Exact(sets);
     }
     match source_of(zone, name) {
-        Some(source) if zone.exists(&source) => Place::Wild(source),
-        _ => Place::Missing,
+        Some(source) if zone.exists(&source) => Matched::Wild(source),
+        _ => Matched::Missing,
     }
 }
 
-/// The first zone cut on the way down from the apex to the name, so the last one on the way up (RFC 1034, 4.3.2, step 3b).
+/// Whether a name that has these sets is a zone cut: another name than the apex that owns NS (RFC 2181, 6).
+fn is_cut<Z: ZoneRead>(zone: &Z, name: &Name, sets: &[RRset]) -> bool
+    requires { AreAllAt (Z.records zone.now) name.now sets.now }
+    ensures { result ≡ is_cut (Z.records zone.now) name.now }
+{
+    name != zone.apex() && set_of(sets, RType::NS).is_some()
+}
+
+/// Whether a name that has these sets exists: without any it does where a name below it owns some (RFC 4592, 2.2.3).
+fn owns_or_exists<Z: ZoneRead>(zone: &Z, name: &Name, sets: &[RRset]) -> bool
+    requires { AreAllAt (Z.records zone.now) name.now sets.now }
+    ensures { result ≡ exists (Z.records zone.now) name.now }
+{
+    !sets.is_empty() || zone.exists(name)
+}
+
+/// The first zone cut on the way down from the apex to the parent of the name.
+fn cut_above<Z: ZoneRead>(zone: &Z, name: &Name) -> Option<Name>
+    ensures { result ≡ find (is_cut (Z.records zone.now)) (reverse (drop 1 (self_and_ancestors name.now))) }
+{
+    let above = name.parent()?;
+    cut_of(zone, &above)
+}
+
+/// The first zone cut on the way down from the apex to the name (RFC 1034, 4.3.2, step 3b).
 fn cut_of<Z: ZoneRead>(zone: &Z, name: &Name) -> Option<Name>
     ensures { result ≡ cut_of (Z.records zone.now) name.now }
 {
-    let mut cut = None;
-    let mut at = Some(name.copy());
-    while let Some(ancestor) = at {
-        at = ancestor.parent();
-        if is_cut(zone, &ancestor) {
-            cut = Some(ancestor);
-        }
+    // The apex is no zone cut, and no name above it owns a record.
+    if apex(zone).is_under(name) {
+        return None;
     }
-    cut
-}
-
-/// Whether a name is a zone cut: another name than the apex that owns NS (RFC 2181, 6).
-fn is_cut<Z: ZoneRead>(zone: &Z, name: &Name) -> bool
-    ensures { result ≡ is_cut (Z.records zone.now) name.now }
-{
-    name != zone.apex() && zone.rrset(name, RType::NS).is_some()
+    let above = name.parent()?;
+    if let Some(cut) = cut_of(zone, &above) {
+        return Some(cut);
+    }
+    if zone.rrset(name, RType::NS).is_some() {
+        return Some(name.copy());
+    }
+    None
 }
 
 /// The source of synthesis: `*` in front of the closest encloser (RFC 4592, 3.3.1).
@@ -73,10 +109,25 @@ fn closest_encloser<Z: ZoneRead>(zone: &Z, name: &Name) -> Option<Name>
     prove!(name.wire().len() <= MAX_NAME);
     let mut at = name.parent();
     while let Some(ancestor) = at {
-        if zone.exists(&ancestor) {
+        if exists(zone, &ancestor) {
             return Some(ancestor);
         }
         at = ancestor.parent();
     }
     None
+}
+
+/// Whether a name exists: the apex and the names above it do, since the SOA stands at the apex (RFC 4592, 2.2.3).
+fn exists<Z: ZoneRead>(zone: &Z, name: &Name) -> bool
+    ensures { result ≡ exists (Z.records zone.now) name.now }
+{
+    apex(zone).is_under(name) || zone.exists(name)
+}
+
+/// The apex of the zone that the records are.
+fn apex<Z: ZoneRead>(zone: &Z) -> &Name
+    ensures name { result.now ≡ apex_of (Z.records zone.now) }
+    ensures lawful { IsZone (Z.records zone.now) }
+{
+    zone.soa().owner()
 }
