@@ -4,6 +4,7 @@ pub mod InsertLemmas
 pub mod IsZoneLemmas
 pub mod JudgeLemmas
 pub mod KeptLemmas
+pub mod LineLemmas
 pub mod OwnLemmas
 pub mod ReadableLemmas
 pub mod RecordLemmas
@@ -11,6 +12,7 @@ pub mod RuleLemmas
 pub mod SetLemmas
 pub mod ShownLemmas
 pub mod SummaryLemmas
+pub mod TextRecordLemmas
 pub mod ZoneBackLemmas
 pub mod ZoneLawLemmas
 pub mod ZoneTextLemmas

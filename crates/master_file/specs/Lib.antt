@@ -3,5 +3,6 @@ pub mod Fault
 pub mod RecordOrder
 pub mod Records
 pub mod Summary
+pub mod TextLaws
 pub mod WrittenZone
 pub mod ZoneText

@@ -13,6 +13,7 @@ mod record_entry;
 mod records;
 mod sets;
 mod summary;
+mod text_laws;
 mod zone;
 mod zone_laws;
 mod zone_text;
@@ -22,6 +23,10 @@ pub use fault::FileFault;
 pub use record_entry::RecordEntry;
 pub use record_text::Cause;
 pub use records::Records;
+pub use text_laws::{
+    blank_lines_change_no_zone, comments_change_no_zone, line_ends_change_no_zone,
+    parentheses_change_no_zone, zone_has_the_records_of_its_text,
+};
 pub use zone::read_zone;
 pub use zone_laws::{
     no_text_wants_memory, text_without_a_fault_is_a_zone, written_zone_has_an_entry_a_record,

@@ -13,7 +13,7 @@ use Rattle.zone_lexing.specs.declared.item.Token.TheVariants.{Bare, InQuotes, Bl
 use Rattle.zone_lexing.proofs.SpellingLemmas.{both, run_len-more}
 
 -- a choice, by its test
-by_test : {A : Type 0} (P : A → Type 0) (b : Bool) (x y : A) → (b ≡ true → P x) → (b ≡ false → P y) → P (cond b x y)
+pub by_test : {A : Type 0} (P : A → Type 0) (b : Bool) (x y : A) → (b ≡ true → P x) → (b ≡ false → P y) → P (cond b x y)
 by_test P true x y h k = h refl
 by_test P false x y h k = k refl
 
@@ -27,7 +27,7 @@ tested true n e = cc
 tested false n e = refl
 
 -- an octet at which no line ends is no LF
-no_lf : (c : ℕ) (text : List ℕ) → nat_lt 0 (line_end (c ∷ text)) ≡ false → (c == 10) ≡ false
+pub no_lf : (c : ℕ) (text : List ℕ) → nat_lt 0 (line_end (c ∷ text)) ≡ false → (c == 10) ≡ false
 no_lf c text line = tested (c == 10) _ line
 
 lfs-other : (c : ℕ) (text : List ℕ) → (c == 10) ≡ false → lfs (c ∷ text) ≡ lfs text
@@ -87,7 +87,7 @@ IsCut-string c text other =
     (λ quote. let e : n + 2 ≡ suc (suc n) = omega arith in record { some = omega arith; lines = rw e (lfs-other c (take (suc n) text) other ∙ quote-lfs n text quote none) })
     (λ _. let e : n + 1 ≡ suc n = omega arith in record { some = omega arith; lines = rw e (lfs-other c (take n text) other ∙ none) })
 
-no_end : (c : ℕ) → is_blank c ≡ false → (c == 40) ≡ false → (c == 41) ≡ false → (c == 59) ≡ false → (c == 34) ≡ false → ends OfWord false c ≡ false
+pub no_end : (c : ℕ) → is_blank c ≡ false → (c == 40) ≡ false → (c == 41) ≡ false → (c == 59) ≡ false → (c == 34) ≡ false → ends OfWord false c ≡ false
 no_end c blank opens closes remark quote = rw (blank, opens, closes, remark, quote) refl
 
 IsCut-token_at : (c : ℕ) (text : List ℕ) → IsCut c text (token_at c text)

@@ -9,7 +9,7 @@ items-drop zero text = refl
 items-drop (suc k) [] = refl
 items-drop (suc k) (c ∷ text) = items-drop k text
 
-drop_less : (n c : ℕ) (text : List ℕ) → 0 < n → drop n (c ∷ text) ≡ drop (n - 1) text
+pub drop_less : (n c : ℕ) (text : List ℕ) → 0 < n → drop n (c ∷ text) ≡ drop (n - 1) text
 drop_less zero c text h = absurd (omega arith)
 drop_less (suc n) c text h = let e : suc n - 1 ≡ n = omega arith in rw e
 

@@ -1,8 +1,12 @@
 pub mod CutLemmas
 pub mod EntryLemmas
 pub mod ItemLemmas
+pub mod LayoutLemmas
+pub mod LineLemmas
 pub mod OctetLemmas
+pub mod PlaceLemmas
 pub mod RunLemmas
 pub mod ScanLemmas
+pub mod SeamLemmas
 pub mod SpellingLemmas
 pub mod StepLemmas

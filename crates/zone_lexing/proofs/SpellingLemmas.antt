@@ -19,11 +19,11 @@ pub both : (a b : Bool) → a && b ≡ true → (a ≡ true) × (b ≡ true)
 both true b e = (refl, e)
 both false b e = cc
 
-neither : (a b : Bool) → a || b ≡ false → (a ≡ false) × (b ≡ false)
+pub neither : (a b : Bool) → a || b ≡ false → (a ≡ false) × (b ≡ false)
 neither true b e = cc
 neither false b e = (refl, e)
 
-negated : (a : Bool) → not a ≡ true → a ≡ false
+pub negated : (a : Bool) → not a ≡ true → a ≡ false
 negated true e = cc
 negated false e = refl
 
@@ -58,7 +58,7 @@ run_len-whole run escaped (c ∷ octets) back e stops =
     ∙ ap (λ (n : ℕ). suc n) (run_len-whole run (escapes escaped c) octets back is.more stops)
 
 -- an item in front of others
-items_front : (front back : List ℕ) (token : Token) → item_at (front ++ back) ≡ Some (token, length front) → 0 < length front → items 0 (front ++ back) ≡ (token, front) ∷ items 0 back
+pub items_front : (front back : List ℕ) (token : Token) → item_at (front ++ back) ≡ Some (token, length front) → 0 < length front → items 0 (front ++ back) ≡ (token, front) ∷ items 0 back
 items_front front back token e some =
     let step = items_step (front ++ back) token (length front) e some in
     let head = take-append_seam front back in

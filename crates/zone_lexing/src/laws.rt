@@ -1,10 +1,12 @@
 //! Laws of the entries of a text: each is the contract of a function that does nothing.
-ghost use Rattle.std.specs.Prelude.{◌≡◌, ℕ, List, true, All};
-ghost use Rattle.std.specs.List.{flat_map};
-ghost use Rattle.zone_lexing.specs.Items.{items};
+ghost use Rattle.std.specs.Prelude.{◌≡◌, ◌+◌, ◌++◌, ◌∷◌, ℕ, List, false, true, All, map};
+ghost use Rattle.std.specs.List.{flat_map, list_all};
+ghost use Rattle.zone_lexing.specs.Items.{is_blank, items};
 ghost use Rattle.zone_lexing.specs.Word.{Written};
 ghost use Rattle.zone_lexing.specs.Entries.{entries_of};
-ghost use Rattle.zone_lexing.specs.Order.{EndsAtLf, AreInOrder};
+ghost use Rattle.zone_lexing.specs.Lines.{lowered, on_lines, without_lines};
+ghost use Rattle.zone_lexing.specs.Order.{lfs, EndsAtLf, AreInOrder};
+ghost use Rattle.zone_lexing.specs.Place.{ends_in, ends_outside, is_remark, place_of};
 ghost use Rattle.zone_lexing.specs.Spelling.{spell, are_spelt, one_a_line};
 
 /// The items of a text are the text, cut: no octet is lost. An LF ends its line wherever it stands, so that lines are
@@ -23,4 +25,34 @@ pub fn entries_are_in_order()
 /// (RFC 1035, 5.1).
 pub fn lines_are_read_back()
     ensures { (lines : List (List Written)) → are_spelt lines ≡ true → entries_of (spell lines) ≡ one_a_line 1 lines }
+{}
+
+/// A comment changes no entry: from a semicolon that stands outside quotes, and behind no backslash, up to its line's end
+/// (RFC 1035, 5.1). The line may be the last, without an end.
+pub fn comments_change_nothing()
+    ensures line { (text remark more : List ℕ) → ends_outside text ≡ true → is_remark remark ≡ true
+        → entries_of (text ++ 59 ∷ remark ++ 10 ∷ more) ≡ entries_of (text ++ 10 ∷ more) }
+    ensures last { (text remark : List ℕ) → ends_outside text ≡ true → is_remark remark ≡ true
+        → entries_of (text ++ 59 ∷ remark) ≡ entries_of text }
+{}
+
+/// A blank line, behind a line or in front of the first, changes nothing but the lines that entries below it are on: each
+/// is one more (RFC 1035, 5.1).
+pub fn blank_lines_change_nothing()
+    ensures behind { (text blanks more : List ℕ) → list_all is_blank blanks ≡ true
+        → entries_of (text ++ 10 ∷ blanks ++ 10 ∷ more) ≡ map (on_lines (lowered (lfs text + 1))) (entries_of (text ++ 10 ∷ more)) }
+    ensures first { (blanks more : List ℕ) → list_all is_blank blanks ≡ true
+        → entries_of (blanks ++ 10 ∷ more) ≡ map (on_lines (lowered 0)) (entries_of more) }
+{}
+
+/// A line that ends by CR and LF is the line that ends by the LF, wherever it ends: in a comment, in quotes, behind a
+/// backslash (RFC 1035, 5.1).
+pub fn line_ends_are_alike()
+    ensures { (text more : List ℕ) → ends_in 13 text ≡ false → entries_of (text ++ 13 ∷ 10 ∷ more) ≡ entries_of (text ++ 10 ∷ more) }
+{}
+
+/// Between parentheses a line's end is a blank: an entry over several lines is the entry on one line (RFC 1035, 5.1).
+pub fn parentheses_join_lines()
+    ensures { (text more : List ℕ) → ends_outside text ≡ true → (place_of text).inside ≡ true
+        → map without_lines (entries_of (text ++ 10 ∷ more)) ≡ map without_lines (entries_of (text ++ 32 ∷ more)) }
 {}

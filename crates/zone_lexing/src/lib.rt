@@ -15,5 +15,8 @@ mod word;
 
 pub use entries::Entries;
 pub use entry::EntryHead;
-pub use laws::{entries_are_in_order, items_are_the_text, lines_are_read_back};
+pub use laws::{
+    blank_lines_change_nothing, comments_change_nothing, entries_are_in_order, items_are_the_text,
+    line_ends_are_alike, lines_are_read_back, parentheses_join_lines,
+};
 pub use word::Word;
