@@ -14,6 +14,7 @@ mod query;
 mod read;
 mod records;
 mod reply;
+mod update;
 mod worked;
 mod write;
 
@@ -26,6 +27,7 @@ pub use laws::{
 pub use query::{Head, Parsed, Query, Question};
 pub use read::{HEADER, parse};
 pub use reply::Reply;
+pub use update::{RawRecords, Update, ZoneEntry};
 pub use worked::{examples, read_examples};
 pub use write::{MAX_LIMIT, MIN_LIMIT, write_reply};
 
