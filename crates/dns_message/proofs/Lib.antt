@@ -8,5 +8,7 @@ pub mod KeepsLemmas
 pub mod OctetsLemmas
 pub mod ReadLemmas
 pub mod SectionLemmas
+pub mod SentLemmas
 pub mod SetLemmas
 pub mod TrueLemmas
+pub mod UpdatesLemmas

@@ -7,6 +7,7 @@
 
 mod count;
 mod data;
+mod entry;
 mod frame;
 mod laws;
 mod octets;
@@ -14,6 +15,8 @@ mod query;
 mod read;
 mod records;
 mod reply;
+mod sent;
+mod update;
 mod worked;
 mod write;
 
@@ -26,6 +29,7 @@ pub use laws::{
 pub use query::{Head, Parsed, Query, Question};
 pub use read::{HEADER, parse};
 pub use reply::Reply;
+pub use update::{RawRecords, Update, ZoneEntry, read_update};
 pub use worked::{examples, read_examples};
 pub use write::{MAX_LIMIT, MIN_LIMIT, write_reply};
 

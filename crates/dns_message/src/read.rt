@@ -1,8 +1,9 @@
 //! How a request is read (RFC 1035, 4.1 and 4.2).
-ghost use Rattle.std.specs.Prelude.{◌≡◌, ◌+◌, ◌<◌, ◌≤◌, length, nat_le, Some, None, option_map, option_and_then, if◌then◌else◌};
+ghost use Rattle.std.specs.Prelude.{◌≡◌, ◌+◌, ◌≤◌, length, option_map, option_and_then};
 ghost use Rattle.dns_message.specs.Message.{number_at};
 ghost use Rattle.dns_message.specs.Reads.{header_of, is_reply, question_at, record_at, records_at, body_in, has_opt, seen, asks_transfer, reads};
 
+use crate::entry::{entry_at, number_at};
 use crate::query::{Head, Parsed, Query, Question};
 use dns_rdata::{Class, RType, Rcode};
 use wire_names::read_name;
@@ -21,6 +22,18 @@ const NSCOUNT: usize = 8;
 
 /// Where a header counts the records of the additional section (RFC 1035, 4.1.1).
 const ARCOUNT: usize = 10;
+
+/// Where an update counts the entries of its zone section (RFC 2136, 2.2).
+pub(crate) const ZOCOUNT: usize = QDCOUNT;
+
+/// Where an update counts its prerequisites (RFC 2136, 2.2).
+pub(crate) const PRCOUNT: usize = ANCOUNT;
+
+/// Where an update counts its updates (RFC 2136, 2.2).
+pub(crate) const UPCOUNT: usize = NSCOUNT;
+
+/// Where an update counts its additional records (RFC 2136, 2.2).
+pub(crate) const ADCOUNT: usize = ARCOUNT;
 
 /// QR, by its place in the third octet: set in a reply (RFC 1035, 4.1.1).
 pub(crate) const QR: u8 = 128;
@@ -62,14 +75,6 @@ pub fn parse(bytes: &[u8]) -> Parsed
     }
 }
 
-/// The number of 16 bits at a position; None where the octets end before its end (RFC 1035, 2.3.2).
-fn number_at(bytes: &[u8], at: usize) -> Option<u16>
-    ensures { result ≡ (if nat_le (at + 2) (length bytes.now) then Some (number_at bytes.now at) else None) }
-{
-    let pair = bytes.get(at..)?.first_chunk::<2>()?;
-    Some(u16::from_be_bytes(*pair))
-}
-
 /// Whether a header is of a reply (RFC 1035, 4.1.1).
 fn is_reply(bytes: &[u8]) -> bool
     requires { HEADER ≤ length bytes.now }
@@ -93,7 +98,7 @@ fn header_of(bytes: &[u8]) -> Head
 }
 
 /// The count at a position of a header (RFC 1035, 4.1.1).
-fn count_at(bytes: &[u8], at: usize) -> u16
+pub(crate) fn count_at(bytes: &[u8], at: usize) -> u16
     requires { at + 2 ≤ length bytes.now }
     ensures { result ≡ number_at bytes.now at }
 {
@@ -117,7 +122,7 @@ fn one_question(bytes: &[u8]) -> Option<(Question, bool)>
 }
 
 /// The question at a position, and the position behind it; None where it can't be read (RFC 1035, 4.1.2).
-fn question_at(bytes: &[u8], at: usize) -> Option<(Question, usize)>
+pub(crate) fn question_at(bytes: &[u8], at: usize) -> Option<(Question, usize)>
     ensures { result ≡ question_at bytes.now at }
 {
     let Ok((name, at)) = read_name(bytes, at) else {
@@ -131,7 +136,7 @@ fn question_at(bytes: &[u8], at: usize) -> Option<(Question, usize)>
 
 /// Whether an OPT is among so many records, and the position behind the last; None where one of them can't be read
 /// (RFC 1035, 4.1.3; RFC 6891, 6.1.1).
-fn records_at(bytes: &[u8], at: usize, count: u16) -> Option<(bool, usize)>
+pub(crate) fn records_at(bytes: &[u8], at: usize, count: u16) -> Option<(bool, usize)>
     ensures { result ≡ option_map (λ r. (has_opt r.0, r.1)) (records_at count bytes.now at) }
 {
     let mut place = at;
@@ -149,16 +154,8 @@ fn records_at(bytes: &[u8], at: usize, count: u16) -> Option<(bool, usize)>
 fn record_at(bytes: &[u8], at: usize) -> Option<(RType, usize)>
     ensures { result ≡ option_map (λ r. (record { 0 = r.0.rtype }, r.1)) (record_at bytes.now at) }
 {
-    let Ok((_, at)) = read_name(bytes, at) else {
-        return None;
-    };
-    let rtype = RType(number_at(bytes, at)?);
-    let size = number_at(bytes, at + 8)?;
-    let next = at + 10 + usize::from(size);
-    if next > bytes.len() {
-        return None;
-    }
-    Some((rtype, next))
+    let (entry, next) = entry_at(bytes, at)?;
+    Some((entry.rtype, next))
 }
 
 /// Whether a question is for a transfer (RFC 1995, 4; RFC 5936, 2).

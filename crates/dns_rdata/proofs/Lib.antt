@@ -1,3 +1,4 @@
+pub mod SerialLemmas
 pub mod SetLemmas
 pub mod InsertLemmas
 pub mod NameLemmas

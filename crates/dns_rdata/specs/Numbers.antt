@@ -1,8 +1,8 @@
 -- The numbers of record types (RFC 1035, 3.2.2 and 3.2.3; RFC 1995, 4; RFC 2782; RFC 3596, 2.1), classes
--- (RFC 1035, 3.2.4) and reply codes (RFC 1035, 4.1.1).
+-- (RFC 1035, 3.2.4; RFC 2136, 1.1) and reply codes (RFC 1035, 4.1.1; RFC 2136, 2.2).
 use Rattle.std.specs.Prelude.{ℕ, Bool, ◌||◌, ◌&&◌, ◌==◌, nat_le}
 use Rattle.dns_rdata.specs.declared.numbers.Rcode.{Rcode}
-use Rattle.dns_rdata.specs.declared.numbers.Rcode.TheVariants.{NoError, FormErr, ServFail, NxDomain, NotImp, Refused}
+use Rattle.dns_rdata.specs.declared.numbers.Rcode.TheVariants.{NoError, FormErr, ServFail, NxDomain, NotImp, Refused, YXDomain, YXRRSet, NXRRSet, NotAuth, NotZone}
 
 abbrev pub type_A : ℕ
 type_A = 1
@@ -60,7 +60,15 @@ is_metatype rtype = rtype == 0 || rtype == type_OPT || (nat_le 128 rtype && nat_
 abbrev pub class_IN : ℕ
 class_IN = 1
 
--- the number of a reply code (RFC 1035, 4.1.1)
+-- the classes by which an update says that something isn't there or isn't to be there, and what it says of all that is at
+-- a name or of all records of a type (RFC 2136, 1.1, 2.4 and 2.5)
+abbrev pub class_NONE : ℕ
+class_NONE = 254
+
+abbrev pub class_ANY : ℕ
+class_ANY = 255
+
+-- the number of a reply code (RFC 1035, 4.1.1; RFC 2136, 2.2)
 abbrev pub rcode_number : Rcode → ℕ
 rcode_number NoError = 0
 rcode_number FormErr = 1
@@ -68,3 +76,8 @@ rcode_number ServFail = 2
 rcode_number NxDomain = 3
 rcode_number NotImp = 4
 rcode_number Refused = 5
+rcode_number YXDomain = 6
+rcode_number YXRRSet = 7
+rcode_number NXRRSet = 8
+rcode_number NotAuth = 9
+rcode_number NotZone = 10

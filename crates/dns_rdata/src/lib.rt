@@ -10,7 +10,9 @@ mod form;
 mod laws;
 mod layout;
 mod numbers;
+mod raw;
 mod rrset;
+mod serial;
 mod shown;
 
 pub use data::{DataFault, MAX_DATA, RData, Soa};
@@ -19,7 +21,9 @@ pub use laws::{
 };
 pub use layout::Layout;
 pub use numbers::{Class, RType, Rcode, Serial, Ttl};
+pub use raw::RawRecord;
 pub use rrset::{MAX_SET, RRset, SetFault};
+pub use serial::{serial_examples, serials_round_the_ring};
 pub use shown::Shown;
 
 #[cfg(test)]

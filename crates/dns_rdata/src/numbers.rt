@@ -45,6 +45,10 @@ pub struct Class(pub u16);
 impl Class {
     /// The Internet.
     pub const IN: Class = Class(1);
+    /// No class; in an update it says that something isn't there, or isn't to be there (RFC 2136, 1.1).
+    pub const NONE: Class = Class(254);
+    /// Any class; only a question or an update has it (RFC 1035, 3.2.5; RFC 2136, 2.4 and 2.5).
+    pub const ANY: Class = Class(255);
 }
 
 /// How long a record may be kept, in seconds (RFC 1035, 3.2.1).
@@ -60,7 +64,7 @@ impl Ttl {
 #[derive(Clone, Copy, Debug, PartialEq, Eq)]
 pub struct Serial(pub u32);
 
-/// A reply code (RFC 1035, 4.1.1).
+/// A reply code (RFC 1035, 4.1.1; RFC 2136, 2.2).
 #[derive(Clone, Copy, Debug, PartialEq, Eq)]
 pub enum Rcode {
     /// No error.
@@ -75,12 +79,22 @@ pub enum Rcode {
     NotImp,
     /// The server won't answer.
     Refused,
+    /// A name that ought not to exist does.
+    YXDomain,
+    /// A set that ought not to exist does.
+    YXRRSet,
+    /// A set that ought to exist doesn't.
+    NXRRSet,
+    /// The server isn't authoritative for the zone.
+    NotAuth,
+    /// A name isn't in the zone.
+    NotZone,
 }
 
 impl Rcode {
     ghost use Rattle.dns_rdata.specs.Numbers.{rcode_number};
 
-    /// The code's number, which fits four bits (RFC 1035, 4.1.1).
+    /// The code's number, which fits four bits (RFC 1035, 4.1.1; RFC 2136, 2.2).
     pub fn number(self) -> u8
         ensures { result ≡ rcode_number self }
     {
@@ -91,6 +105,11 @@ impl Rcode {
             Rcode::NxDomain => 3,
             Rcode::NotImp => 4,
             Rcode::Refused => 5,
+            Rcode::YXDomain => 6,
+            Rcode::YXRRSet => 7,
+            Rcode::NXRRSet => 8,
+            Rcode::NotAuth => 9,
+            Rcode::NotZone => 10,
         }
     }
 }

@@ -1,0 +1,94 @@
+//! Records as they stand in a message (RFC 1035, 4.1.3).
+ghost use Rattle.std.specs.Prelude.{◌≡◌, ◌+◌, ◌<◌, ◌≤◌, length, nat_le, if◌then◌else◌, Some, None, IfSome};
+ghost use Rattle.dns_message.specs.Message.{number_at};
+ghost use Rattle.dns_message.specs.Reads.{long_number_at, record_at};
+ghost use Rattle.dns_message.specs.Expanded.{octets_from};
+
+use dns_name::Name;
+use dns_rdata::{Class, RType};
+use std::marker::Model;
+use wire_names::read_name;
+
+/// A record as it stands in a message, its data not looked at.
+#[derive(Drop)]
+pub(crate) struct Entry {
+    /// The name that it stands at, as it is spelt.
+    pub owner: Name,
+    /// Its type.
+    pub rtype: RType,
+    /// Its class.
+    pub class: Class,
+    /// Its TTL.
+    pub ttl: u32,
+    /// Where its data begins.
+    pub at: usize,
+    /// How many octets its data has.
+    pub size: usize,
+}
+
+impl Model for Entry {
+    ghost use Rattle.dns_message.specs.Message.{Entry as Standing};
+
+    ghost Value = { Standing };
+
+    ghost view = { λ a. record {
+      owner = a.owner;
+      rtype = a.rtype.0;
+      class = a.class.0;
+      ttl = a.ttl;
+      at = a.at;
+      size = a.size;
+    } };
+}
+
+/// The record at a position, its owner through pointers, and the position behind it; None where it can't be read
+/// (RFC 1035, 4.1.3).
+pub(crate) fn entry_at(bytes: &[u8], at: usize) -> Option<(Entry, usize)>
+    ensures read { result ≡ record_at bytes.now at }
+    ensures within { IfSome result (λ r. r.0.at + r.0.size ≤ length bytes.now) }
+{
+    let Ok((owner, at)) = read_name(bytes, at) else {
+        return None;
+    };
+    let rtype = RType(number_at(bytes, at)?);
+    let class = Class(number_at(bytes, at + 2)?);
+    let ttl = long_number_at(bytes, at + 4)?;
+    let size = usize::from(number_at(bytes, at + 8)?);
+    let next = at + 10 + size;
+    if next > bytes.len() {
+        return None;
+    }
+    let entry = Entry {
+        owner,
+        rtype,
+        class,
+        ttl,
+        at: at + 10,
+        size,
+    };
+    Some((entry, next))
+}
+
+/// The number of 16 bits at a position; None where the octets end before its end (RFC 1035, 2.3.2).
+pub(crate) fn number_at(bytes: &[u8], at: usize) -> Option<u16>
+    ensures { result ≡ (if nat_le (at + 2) (length bytes.now) then Some (number_at bytes.now at) else None) }
+{
+    let pair = bytes.get(at..)?.first_chunk::<2>()?;
+    Some(u16::from_be_bytes(*pair))
+}
+
+/// The number of 32 bits at a position; None where the octets end before its end (RFC 1035, 2.3.2).
+fn long_number_at(bytes: &[u8], at: usize) -> Option<u32>
+    ensures { result ≡ (if nat_le (at + 4) (length bytes.now) then Some (long_number_at bytes.now at) else None) }
+{
+    let four = bytes.get(at..)?.first_chunk::<4>()?;
+    Some(u32::from_be_bytes(*four))
+}
+
+/// So many octets from a position on; fewer where the message ends before.
+pub(crate) fn octets_from(bytes: &[u8], at: usize, size: usize) -> &[u8]
+    ensures { result.now ≡ octets_from bytes.now at size }
+{
+    let rest = bytes.get(at..).unwrap_or(&[]);
+    rest.get(..size).unwrap_or(rest)
+}

@@ -1,0 +1,144 @@
+//! What an update says (RFC 2136, 2).
+ghost use Rattle.std.specs.Prelude.{◌≡◌, ◌≤◌, length, IfOk};
+ghost use Rattle.dns_message.specs.Updates.{zone_at, update_in};
+
+use crate::query::Head;
+use crate::read::{ADCOUNT, HEADER, PRCOUNT, UPCOUNT, ZOCOUNT, count_at, question_at, records_at};
+use crate::sent::raw_records;
+use dns_name::Name;
+use dns_rdata::{Class, RType, RawRecord};
+use std::alloc::{AllocError, Global};
+use std::marker::Model;
+
+/// Which records of an update are read.
+#[derive(Clone, Copy)]
+pub(crate) enum Section {
+    /// What is to hold of the zone before (RFC 2136, 2.4).
+    Prerequisites,
+    /// What is to be done to the zone (RFC 2136, 2.5).
+    Updates,
+}
+
+/// The entry of the zone section: the zone that is to be updated (RFC 2136, 2.3).
+#[derive(Drop)]
+pub struct ZoneEntry {
+    /// The name of the zone, as it is spelt.
+    pub name: Name,
+    /// The type, which is SOA.
+    pub rtype: RType,
+    /// The class of the zone.
+    pub class: Class,
+}
+
+/// Records as they were sent, in their order.
+#[derive(Drop)]
+pub struct RawRecords {
+    records: Vec<RawRecord>,
+}
+
+impl Model for RawRecords {
+    ghost use Rattle.std.specs.Prelude.{List};
+    ghost use Rattle.dns_rdata.specs.Raw.{RawRecord as Raw};
+
+    ghost Value = { List Raw };
+
+    ghost view = { λ a. a.records.items };
+}
+
+impl RawRecords {
+    /// The records of a vector. It takes no memory.
+    pub fn new(records: Vec<RawRecord>) -> RawRecords
+        ensures { result ≡ records.items }
+    {
+        RawRecords { records }
+    }
+
+    /// The records.
+    pub fn as_slice(&self) -> &[RawRecord]
+        ensures { result.now ≡ self.now }
+    {
+        &self.records
+    }
+
+    /// The vector of the records. It takes no memory.
+    pub fn into_vec(self) -> Vec<RawRecord>
+        ensures { result.items ≡ self }
+    {
+        self.records
+    }
+}
+
+/// A dynamic update (RFC 2136, 2).
+#[derive(Drop)]
+pub struct Update {
+    /// What the reply copies from its header.
+    pub head: Head,
+    /// The zone that is to be updated.
+    pub zone: ZoneEntry,
+    /// What is to hold of the zone before (RFC 2136, 2.4).
+    pub prerequisites: RawRecords,
+    /// What is to be done to the zone (RFC 2136, 2.5).
+    pub updates: RawRecords,
+}
+
+/// The update behind a header, which the update has as its head; None where none can be read: where the zone section has
+/// other than one entry, or one of another type than SOA, where a record of another section can't be read, where the data
+/// of one haven't their type's form, and with an OPT in the additional section (RFC 2136, 2; RFC 6891, 7; own). An `Err` only
+/// where a growth was refused.
+pub fn read_update(alloc: Global, bytes: &[u8], head: Head) -> Result<Option<Update>, AllocError>
+    requires { HEADER ≤ length bytes.now }
+    ensures { IfOk result (λ found. found ≡ update_in head bytes.now) }
+{
+    let Some((zone, at)) = zone_at(bytes) else {
+        return Ok(None);
+    };
+    let section = Section::Prerequisites;
+    let Some((prerequisites, at)) = raw_records(
+        alloc,
+        bytes,
+        section,
+        at,
+        count_at(bytes, PRCOUNT),
+    )?
+    else {
+        return Ok(None);
+    };
+    let section = Section::Updates;
+    let Some((updates, at)) = raw_records(alloc, bytes, section, at, count_at(bytes, UPCOUNT))?
+    else {
+        return Ok(None);
+    };
+    let Some((opt, _)) = records_at(bytes, at, count_at(bytes, ADCOUNT)) else {
+        return Ok(None);
+    };
+    if opt {
+        return Ok(None);
+    }
+    Ok(Some(Update {
+        head,
+        zone,
+        prerequisites,
+        updates,
+    }))
+}
+
+/// The entry of the zone section, and the position behind it; None of another number of entries than one, of one of another
+/// type than SOA, and where it can't be read (RFC 2136, 2.3).
+fn zone_at(bytes: &[u8]) -> Option<(ZoneEntry, usize)>
+    requires { HEADER ≤ length bytes.now }
+    ensures { result ≡ zone_at bytes.now }
+{
+    if count_at(bytes, ZOCOUNT) != 1 {
+        return None;
+    }
+    let (entry, at) = question_at(bytes, HEADER)?;
+    if entry.rtype != RType::SOA {
+        return None;
+    }
+    let zone = ZoneEntry {
+        name: entry.name,
+        rtype: entry.rtype,
+        class: entry.class,
+    };
+    Some((zone, at))
+}

@@ -1,0 +1,12 @@
+-- Records as they are sent (RFC 1035, 4.1.3).
+use Rattle.std.specs.Prelude.{ℕ, List}
+use Rattle.dns_name.specs.Name.{Name}
+
+-- a record as it is sent: its owner, the numbers of its type and of its class, its TTL of 32 bits, and the octets of its
+-- data, which can be none, or those of a type that isn't served (RFC 1035, 4.1.3; RFC 2136, 2.4 and 2.5)
+pub record RawRecord : Type 0 where
+  pub owner : Name
+  pub rtype : ℕ
+  pub class : ℕ
+  pub ttl : ℕ
+  pub octets : List ℕ
