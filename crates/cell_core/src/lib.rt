@@ -10,6 +10,9 @@ mod follows;
 mod laws;
 mod machine;
 mod step;
+mod word_laws;
+mod word_machine;
+mod words;
 
 pub use follows::Follows;
 pub use laws::{
@@ -19,6 +22,12 @@ pub use laws::{
 };
 pub use machine::Machine;
 pub use step::{Event, Step, StepFault};
+pub use word_laws::{
+    buried_is_unowned, buried_once, owner_finds_its_value, rest_is_buried_and_free,
+    word_runs_show_runs, word_steps_show_the_cell,
+};
+pub use word_machine::WordMachine;
+pub use words::{GRANTS, Owner, Publisher, SLOTS, Slot, Version, WordEvent, WordStep};
 
 #[cfg(test)]
 mod tests;

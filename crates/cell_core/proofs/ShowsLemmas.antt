@@ -1,0 +1,70 @@
+-- What words that show a cell tell of its last number, and of numbers that nobody has.
+use Rattle.std.proofs.Common.{◌≡◌, ◌≢◌, refl, sym, ap, ◌∙◌, subst, ℕ, ◌+◌, ◌-◌, ◌<◌, ◌≤◌, ◌⊎◌, Bool, true, false, inl, inr, List, length, arith}
+use Rattle.std.specs.Prelude.{Option, None, Some, ◌==◌, if◌then◌else◌}
+use Rattle.std.specs.List.{slice_get, slice_set}
+use Rattle.std.proofs.lemmas.Bool.{cases_Bool}
+use Rattle.std.proofs.lemmas.Bool.Decides.{eqb_tells}
+use Rattle.std.proofs.lemmas.Option.{slice_get_within}
+use Rattle.cell_core.proofs.CountLemmas.{one_if}
+use Rattle.cell_core.proofs.SeatLemmas.{get_set_same, get_set_other, set_cases, get_push_old, push_cases, held_push, held_set, held_some, held_none, set_there, get_push_new, get_within}
+use Rattle.cell_core.proofs.FrameLemmas.{shares_out, with_phase, Elsewhere, slot_stays, table_with, table_as, seat_stays, held_stays, Beside, beside_itself, lies_still, owner_stays, publisher_stays, phase_here, phase_there, phase_stays, numbers_with, owners_after, seat_elsewhere}
+use Rattle.cell_core.specs.Cell.{Cell, CellStep, IsLast, Steps, one_more, one_less, with_strong, without_strong, with_value, with_buried}
+use Rattle.cell_core.specs.Words.{State, slots, grants, free_word, dead_word, bulk, word_of, slot_of, given_of, fetch_sub, fetch_add, number_in}
+use Rattle.cell_core.specs.WordSteps.{Makes, with_slot, with_owner, with_new_owner, with_publisher, with_shares, with_version}
+use Rattle.cell_core.specs.Shows.{Phase, Plan, IsLive, SlotIs, LiesIn, OwnerIs, Numbers, Given, Counts, Table, Shows, ShowsStep, held, holds, kept_by, kept_by_cell, owned_by}
+use Rattle.cell_core.specs.Shows.Phase.{free, taken, live, dead}
+use Rattle.cell_core.specs.declared.words.Slot.{Slot}
+use Rattle.cell_core.specs.declared.words.Owner.{Owner}
+use Rattle.cell_core.specs.declared.words.Owner.TheVariants.{Holding, Burying, Freeing, Spent}
+use Rattle.cell_core.specs.declared.words.Publisher.{Publisher}
+use Rattle.cell_core.specs.declared.words.Publisher.TheVariants.{Probing, Preparing, Swapping, Settling}
+use Rattle.cell_core.specs.declared.words.WordStep.{WordStep}
+use Rattle.cell_core.specs.declared.words.WordEvent.{WordEvent}
+
+-- the version in W is the last one
+pub last_lies : {T : Type 0} (state : State T) (cell : Cell T) (s : Shows state cell) → (s.plan.slot s.plan.last < slots) × (s.plan.phase (s.plan.slot s.plan.last) ≡ live s.plan.last) × (cell.buried s.plan.last ≡ false)
+last_lies state cell s =
+    let unburied : cell.buried s.plan.last ≡ false = elim (cases_Bool (cell.buried s.plan.last)) [ inl gone ↦ (let l = s.numbers.buried s.plan.last gone in absurd (omega arith)) | inr there ↦ there ] in
+    let lies = s.numbers.lies s.plan.last (omega arith) unburied in
+    (lies.0, lies.1, unburied)
+
+-- W tells its slot and the shares given out
+pub tells_slot : (slot given : ℕ) → given ≤ grants → slot_of (word_of slot given) ≡ slot
+tells_slot slot given l = omega arith
+
+pub tells_given : (slot given : ℕ) → given ≤ grants → given_of (word_of slot given) ≡ given
+tells_given slot given l = omega arith
+
+pub latest_slot : {T : Type 0} (state : State T) (cell : Cell T) (s : Shows state cell) → slot_of state.latest ≡ s.plan.slot s.plan.last
+latest_slot state cell s = ap slot_of s.given.latest ∙ tells_slot (s.plan.slot s.plan.last) s.plan.given (omega (arith, s.given.given, s.given.granted))
+
+pub latest_given : {T : Type 0} (state : State T) (cell : Cell T) (s : Shows state cell) → given_of state.latest ≡ s.plan.given
+latest_given state cell s = ap given_of s.given.latest ∙ tells_given (s.plan.slot s.plan.last) s.plan.given (omega (arith, s.given.given, s.given.granted))
+
+-- the number that lies in a slot, by the version that lies there
+pub number_there : {T : Type 0} (state : State T) (place number : ℕ) (value : T) (there : Slot T) → slice_get state.table place ≡ Some there → there.version ≡ Some (record { number = number; value = value }) → number_in state place ≡ Some number
+number_there state place number value there at is = rw at (rw is refl)
+
+-- the number in W's slot is the last one
+pub latest_number : {T : Type 0} (state : State T) (cell : Cell T) (s : Shows state cell) (number : ℕ) → number_in state (slot_of state.latest) ≡ Some number → number ≡ s.plan.last
+latest_number {T} state cell s number h =
+    let lies = last_lies state cell s in
+    let found = get_within state.table (s.plan.slot s.plan.last) (omega (arith, lies.0, s.table.size)) in
+    let is : IsLive state cell s.plan (s.plan.slot s.plan.last) s.plan.last found.0 = subst (λ p. SlotIs state cell s.plan (s.plan.slot s.plan.last) p found.0) lies.1 (s.table.slot_is (s.plan.slot s.plan.last) found.0 found.1) in
+    let told = number_there state (s.plan.slot s.plan.last) s.plan.last is.value found.0 found.1 is.version in
+    let same = ap (number_in state) (latest_slot state cell s) in
+    (cc)
+
+-- a number that nobody published has no owner
+unheld : {T : Type 0} (cell : Cell T) (plan : Plan) (j i : ℕ) (how : Owner) → IsLast cell plan.last → plan.last < j → OwnerIs cell plan i how → holds j how ≡ false
+unheld cell plan j i (Holding number place) last l is = elim (eqb_tells j number) [ inl same ↦ absurd (omega (arith, same.1, is.published, last)) | inr other ↦ other.0 ]
+unheld cell plan j i (Burying place) last l is = refl
+unheld cell plan j i (Freeing place) last l is = refl
+unheld cell plan j i Spent last l is = refl
+
+pub unpublished : {T : Type 0} (state : State T) (cell : Cell T) (s : Shows state cell) (j : ℕ) → s.plan.last < j → held state.owners j ≡ 0
+unpublished state cell s j l = held_none state.owners j (λ i how h. unheld cell s.plan j i how s.numbers.last l (s.owner_is i how h))
+
+-- the publisher has nothing to settle
+pub unsettled : (publisher how : Publisher) (j : ℕ) → publisher ≡ how → owned_by how j ≡ 0 → kept_by how j ≡ 0 → (owned_by publisher j ≡ 0) × (kept_by publisher j ≡ 0)
+unsettled publisher how j e o k = (ap (λ p. owned_by p j) e ∙ o, ap (λ p. kept_by p j) e ∙ k)

@@ -1,0 +1,171 @@
+-- Shows: the cell that words, slots and calls under way show (own).
+use Rattle.std.specs.Prelude.{◌≡◌, ◌≢◌, ℕ, ◌+◌, ◌-◌, ◌<◌, ◌≤◌, Bool, true, false, ◌==◌, if◌then◌else◌, List, [], ◌∷◌, length, ◌⊎◌, Option, None, Some, count_by}
+use Rattle.std.specs.List.{slice_get}
+use Rattle.cell_core.specs.Cell.{Cell, CellStep, IsLast, Steps}
+use Rattle.cell_core.specs.Words.{State, slots, grants, free_word, dead_word, bulk, word_of, version_in}
+use Rattle.cell_core.specs.WordSteps.{Makes}
+use Rattle.cell_core.specs.declared.words.Slot.{Slot}
+use Rattle.cell_core.specs.declared.words.Version.{Version}
+use Rattle.cell_core.specs.declared.words.Owner.{Owner}
+use Rattle.cell_core.specs.declared.words.Owner.TheVariants.{Holding, Burying, Freeing, Spent}
+use Rattle.cell_core.specs.declared.words.Publisher.{Publisher}
+use Rattle.cell_core.specs.declared.words.Publisher.TheVariants.{Probing, Preparing, Swapping, Settling}
+use Rattle.cell_core.specs.declared.words.WordStep.{WordStep}
+use Rattle.cell_core.specs.declared.words.WordStep.TheVariants.{Load, Swap, Release, Bury}
+use Rattle.cell_core.specs.declared.words.WordEvent.{WordEvent}
+use Rattle.cell_core.specs.declared.words.WordEvent.TheVariants.{Loaded, Swapped, Buried}
+
+-- the phase of a slot (own)
+pub data Phase : Type 0 where
+  -- nobody has it
+  free : Phase
+  -- the publisher has it; whether its version lies there
+  taken : Bool → Phase
+  -- the version with this number lies there, and isn't buried
+  live : ℕ → Phase
+  -- the version with this number is buried, and this owner is to give the slot free
+  dead : ℕ → ℕ → Phase
+
+-- an owner has a number (own)
+abbrev pub holds : ℕ → Owner → Bool
+holds j (Holding number place) = j == number
+holds j (Burying place) = false
+holds j (Freeing place) = false
+holds j Spent = false
+
+-- how many owners have a number (own)
+abbrev pub held : List Owner → ℕ → ℕ
+held owners j = count_by (holds j) owners
+
+-- the publisher owns the number that it is to settle (own)
+abbrev pub owned_by : Publisher → ℕ → ℕ
+owned_by (Settling number place given) j = if j == number then 1 else 0
+owned_by (Probing place) j = 0
+owned_by (Preparing place) j = 0
+owned_by (Swapping place) j = 0
+
+-- the shares of a number that the publisher has between swap and settle (own)
+abbrev pub kept_by : Publisher → ℕ → ℕ
+kept_by (Settling number place given) j = if j == number then bulk - given else 0
+kept_by (Probing place) j = 0
+kept_by (Preparing place) j = 0
+kept_by (Swapping place) j = 0
+
+-- the shares of a number that the cell has: of the last one those that weren't given out (own)
+abbrev pub kept_by_cell : ℕ → ℕ → ℕ → ℕ
+kept_by_cell last given j = if j == last then bulk - given else 0
+
+-- how slots and numbers lie: the number published last and the shares given out of it, the slot of each number, and the
+-- phase of each slot (own)
+pub record Plan : Type 0 where
+  pub last : ℕ
+  pub given : ℕ
+  pub slot : ℕ → ℕ
+  pub phase : ℕ → Phase
+
+-- a slot in which a version lies that isn't buried: S is its owners, and the shares that the cell or the publisher has. Where
+-- S is 0, some owner is to try a bury (own)
+pub record IsLive {T : Type 0} (state : State T) (cell : Cell T) (plan : Plan) (place number : ℕ) (there : Slot T) : Type 0 where
+  pub here : plan.slot number ≡ place
+  pub unburied : cell.buried number ≡ false
+  pub value : T
+  pub version : there.version ≡ Some (record { number = number; value = value })
+  pub published : slice_get cell.published number ≡ Some value
+  pub shares : there.shares ≡ held state.owners number + kept_by_cell plan.last plan.given number + kept_by state.publisher number
+  pub due : there.shares ≡ 0 → (owner : ℕ) × (slice_get state.owners owner ≡ Some (Burying place))
+
+-- what a slot is, by its phase (own)
+abbrev pub SlotIs : {T : Type 0} → State T → Cell T → Plan → ℕ → Phase → Slot T → Type 0
+SlotIs state cell plan place free there = (there.shares ≡ free_word) × (there.version ≡ None)
+SlotIs state cell plan place (taken false) there =
+    (state.publisher ≡ Preparing place) × (there.shares ≡ free_word) × (there.version ≡ None)
+SlotIs {T} state cell plan place (taken true) there =
+    (state.publisher ≡ Swapping place) × (there.shares ≡ bulk)
+    × (value : T) × (there.version ≡ Some (record { number = plan.last + 1; value = value }))
+SlotIs state cell plan place (live number) there = IsLive state cell plan place number there
+SlotIs state cell plan place (dead number owner) there =
+    (there.shares ≡ dead_word) × (there.version ≡ None) × (slice_get state.owners owner ≡ Some (Freeing place))
+
+-- a number has been published, isn't buried, and lies in this slot (own)
+pub record LiesIn {T : Type 0} (cell : Cell T) (plan : Plan) (number place : ℕ) : Type 0 where
+  pub published : number < length cell.published
+  pub unburied : cell.buried number ≡ false
+  pub here : plan.slot number ≡ place
+
+-- what an owner is, by how far it has come (own)
+abbrev pub OwnerIs : {T : Type 0} → Cell T → Plan → ℕ → Owner → Type 0
+OwnerIs cell plan owner (Holding number place) = LiesIn cell plan number place
+OwnerIs cell plan owner (Burying place) = place < slots
+OwnerIs cell plan owner (Freeing place) = (number : ℕ) × (place < slots) × (plan.phase place ≡ dead number owner)
+OwnerIs cell plan owner Spent = Unit {0}
+
+-- what the publisher is, by how far it has come (own)
+abbrev pub PublisherIs : {T : Type 0} → Cell T → Plan → ℕ → Publisher → Type 0
+PublisherIs cell plan granted (Probing place) = place < slots
+PublisherIs cell plan granted (Preparing place) = (place < slots) × (plan.phase place ≡ taken false)
+PublisherIs cell plan granted (Swapping place) = (place < slots) × (plan.phase place ≡ taken true)
+PublisherIs cell plan granted (Settling number place given) =
+    LiesIn cell plan number place × (number < plan.last) × (given ≤ granted)
+
+-- the numbers of a cell: the last one is published, a buried one comes before it, and one that isn't buried lies in its
+-- slot (own)
+pub record Numbers {T : Type 0} (cell : Cell T) (plan : Plan) : Type 0 where
+  pub last : IsLast cell plan.last
+  pub buried : (j : ℕ) → cell.buried j ≡ true → j < plan.last
+  pub lies : (j : ℕ) → j ≤ plan.last → cell.buried j ≡ false → (plan.slot j < slots) × (plan.phase (plan.slot j) ≡ live j)
+
+-- W is the last number's slot with the shares given out of it, which are few (own)
+pub record Given {T : Type 0} (state : State T) (plan : Plan) : Type 0 where
+  pub latest : state.latest ≡ word_of (plan.slot plan.last) plan.given
+  pub given : plan.given ≤ state.granted
+  pub granted : state.granted ≤ grants
+
+-- the owners of a number are those who hold it, and the publisher that is to settle it; there are few of them, and no weak
+-- ones (own)
+pub record Counts {T : Type 0} (state : State T) (cell : Cell T) (plan : Plan) : Type 0 where
+  pub strong : (j : ℕ) → cell.strong j ≡ held state.owners j + owned_by state.publisher j
+  pub few : (j : ℕ) → cell.strong j ≤ state.granted + 1
+  pub few_of_last : cell.strong plan.last ≤ state.granted
+  pub weak : (j : ℕ) → cell.weak j ≡ 0
+
+-- each slot is what its phase says, and K is 1 (own)
+pub record Table {T : Type 0} (state : State T) (cell : Cell T) (plan : Plan) : Type 0 where
+  pub size : length state.table ≡ slots
+  pub slot_is : (place : ℕ) (there : Slot T) → slice_get state.table place ≡ Some there → SlotIs state cell plan place (plan.phase place) there
+  pub weak_word : (place : ℕ) (there : Slot T) → slice_get state.table place ≡ Some there → there.weak ≡ 1
+
+-- the words, slots and calls under way show a cell (own)
+pub record Shows {T : Type 0} (state : State T) (cell : Cell T) : Type 0 where
+  pub plan : Plan
+  pub numbers : Numbers cell plan
+  pub given : Given state plan
+  pub counts : Counts state cell plan
+  pub table : Table state cell plan
+  pub owner_is : (owner : ℕ) (how : Owner) → slice_get state.owners owner ≡ Some how → OwnerIs cell plan owner how
+  pub publisher_is : PublisherIs cell plan state.granted state.publisher
+
+-- the value that a swap publishes: it lies in the publisher's slot (own)
+abbrev pub IsPublished : {T : Type 0} → State T → T → Type 0
+IsPublished {T} state value =
+    (place : ℕ) × (number : ℕ) × (state.publisher ≡ Swapping place)
+    × (version_in state place ≡ Some (record { number = number; value = value }))
+
+-- the step of a cell that a step on a word shows; most show none (own)
+abbrev pub ShowsStep : {T : Type 0} → State T → WordStep T → WordEvent → Cell T → Cell T → Type 0
+ShowsStep state Load (Loaded owner number) before after = Steps before CellStep.Load (Some number) after
+ShowsStep {T} state Swap (Swapped number) before after =
+    (value : T) × IsPublished state value × Steps before (CellStep.Publish value) (Some number) after
+ShowsStep state (Release owner) event before after =
+    (number : ℕ) × (place : ℕ) × (slice_get state.owners owner ≡ Some (Holding number place)) × Steps before (CellStep.Drop number) None after
+ShowsStep state (Bury owner) (Buried number) before after = Steps before (CellStep.Bury number) None after
+ShowsStep state step event before after = after ≡ before
+
+-- a run: steps on words made in turn, each with what it told (own)
+abbrev pub WordRuns : {T : Type 0} → State T → List (WordStep T × WordEvent) → State T → Type 0
+WordRuns before [] after = after ≡ before
+WordRuns {T} before ((step, event) ∷ more) after = (between : State T) × Makes before step event between × WordRuns between more after
+
+-- no call is under way, and nobody owns anything but this number (own)
+pub record AtRest {T : Type 0} (state : State T) (number : ℕ) : Type 0 where
+  pub publisher : state.publisher ≡ Probing 0
+  pub owners : (owner : ℕ) (how : Owner) → slice_get state.owners owner ≡ Some how → (how ≡ Spent) ⊎ ((place : ℕ) × (how ≡ Holding number place))
