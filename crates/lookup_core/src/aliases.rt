@@ -105,7 +105,7 @@ fn target(alias: &RRset) -> Name
 fn is_final<Z: ZoneRead>(zone: &Z, aliases: &[Shown<'_>], target: &Name) -> bool
     ensures { result ≡ is_final (Z.records zone.now) (searched_before aliases.now) target.now }
 {
-    !target.is_under(zone.apex()) || is_searched(aliases, target)
+    !target.is_under(&zone.apex()) || is_searched(aliases, target)
 }
 
 /// Whether one of the aliases was found at a name.

@@ -12,7 +12,7 @@ use zone_tree::ZoneRead;
 pub fn place<Z: ZoneRead>(zone: &Z, name: &Name) -> Place
     ensures { result ≡ place (Z.records zone.now) name.now }
 {
-    if name.is_under(zone.apex()) {
+    if name.is_under(&zone.apex()) {
         place_below(zone, name)
     } else {
         Place::Outside
@@ -54,7 +54,7 @@ fn cut_of<Z: ZoneRead>(zone: &Z, name: &Name) -> Option<Name>
 fn is_cut<Z: ZoneRead>(zone: &Z, name: &Name) -> bool
     ensures { result ≡ is_cut (Z.records zone.now) name.now }
 {
-    name != zone.apex() && zone.rrset(name, RType::NS).is_some()
+    *name != zone.apex() && zone.rrset(name, RType::NS).is_some()
 }
 
 /// The source of synthesis: `*` in front of the closest encloser (RFC 4592, 3.3.1).
