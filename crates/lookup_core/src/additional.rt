@@ -100,7 +100,7 @@ fn holds(sets: &[RRset], set: &RRset) -> bool
 fn is_same_set(set: &RRset, other: &RRset) -> bool
     ensures { result ≡ is_same_set set.now other.now }
 {
-    set.owner() == other.owner() && set.rtype() == other.rtype()
+    set.stored_owner() == other.stored_owner() && set.rtype() == other.rtype()
 }
 
 /// The additional section of an answer: the address sets at the names in its data and then in the authority's, each
@@ -243,7 +243,7 @@ fn is_answered(answer: &[Shown<'_>], set: &RRset) -> bool
 fn shows(shown: &Shown<'_>, set: &RRset) -> bool
     ensures { result ≡ list_any (is_of (owner_of set.now) (rtype_of set.now)) (records_shown shown.now) }
 {
-    shown.owner == *set.owner() && has_type(shown.sets, set.rtype())
+    shown.owner == set.owner() && has_type(shown.sets, set.rtype())
 }
 
 /// Whether the sets have records of a type.

@@ -76,7 +76,7 @@ pub(crate) fn standing(set: &RRset) -> Shown<'_>
     ensures owner { result.owner ≡ owner_of set.now }
 {
     Shown {
-        owner: set.owner().copy(),
+        owner: set.owner(),
         ttl: None,
         sets: slice::from_ref(set),
     }
@@ -88,7 +88,7 @@ pub(crate) fn negative_soa<Z: ZoneRead>(zone: &Z) -> Shown<'_>
 {
     let soa = zone.soa();
     Shown {
-        owner: soa.owner().copy(),
+        owner: soa.owner(),
         ttl: Some(negative_ttl(soa)),
         sets: slice::from_ref(soa),
     }

@@ -75,7 +75,7 @@ fn zone_of(alloc: Global, rows: &[Row]) -> Result<Zone, Fail> {
         let data = RData::from_wire(alloc, *rtype, &data)?;
         let mut set = RRset::new(alloc, &owner, Ttl(3600), data)?;
         if let Some(last) = sets.pop() {
-            if *last.owner() == owner && last.rtype() == *rtype {
+            if last.owner() == owner && last.rtype() == *rtype {
                 let data = RData::from_wire(alloc, *rtype, set.data()[0].octets())?;
                 set = last;
                 set.insert(data)?;

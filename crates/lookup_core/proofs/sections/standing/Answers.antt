@@ -2,4 +2,4 @@ use Rattle.lookup_core.proofs.AdditionalLemmas.{shown_alone}
 use Rattle.lookup_core.proofs.sections.standing.Goals as goal
 
 pub returns-clause-records : goal.returns-clause-records
-returns-clause-records c = rw c.copy.ensures (shown_alone c.args.set.now c.from_ref.result.now c.owner.result.now c.from_ref.ensures.value c.owner.ensures.shared)
+returns-clause-records c = shown_alone c.args.set.now c.from_ref.result.now c.owner.result c.from_ref.ensures.value c.owner.ensures.shared
