@@ -1,4 +1,6 @@
 //! Answers of whole zones: what each section shows, by owner and type.
+mod searches;
+
 use crate::matched::Place;
 use crate::question::answer;
 use crate::walk::place;
