@@ -35,4 +35,6 @@ pub use zone_laws::{
 pub use zone_text::write_zone;
 
 #[cfg(test)]
+mod checked;
+#[cfg(test)]
 mod tests;
