@@ -7,7 +7,10 @@ use Rattle.std.proofs.lemmas.Nat.{from_be_bytes-to_be_bytes_2}
 use Rattle.dns_rdata.specs.declared.numbers.Rcode.TheVariants.{NotImp}
 use Rattle.dns_message.specs.Asked.{request_header, request_of, IsAnswerTo}
 use Rattle.dns_message.specs.Message.{Body, Message}
-use Rattle.dns_message.specs.Reads.{header_of, is_reply, body_in, seen, query_of, reads}
+use Rattle.dns_message.specs.Reads.{header_of, is_reply, body_in, seen}
+use Rattle.dns_message.specs.Request.{query_of, update_of, reads}
+use Rattle.dns_message.specs.Updates.{update_in}
+use Rattle.dns_message.specs.declared.update.Update.{Update}
 use Rattle.dns_message.specs.Octets.{bit, reply_octets}
 use Rattle.dns_message.specs.declared.query.Head.{Head}
 use Rattle.dns_message.specs.declared.query.Question.{Question}
@@ -52,25 +55,28 @@ asks : (opcode : ℕ) (rd : Bool) → opcode < 16 → nat_le 128 (8 * opcode + b
 asks opcode true h = grind (arith, nat_tests)
 asks opcode false h = grind (arith, nat_tests)
 
--- what is said where these parts of the octets are known: whether they are silent, the header, what stands behind it
-abbrev pub judged : Bool → Head → Option Body → Parsed
-judged silent head body =
+-- what is said where these parts of the octets are known: whether they are silent, the header, what stands behind it in a
+-- query, and in an update
+abbrev pub judged : Bool → Head → Option Body → Option Update → Parsed
+judged silent head body update =
     if silent then Silent
-    else if not (head.opcode == 0) then Fault head NotImp
-    else query_of head (option_and_then seen body)
+    else if head.opcode == 0 then query_of head (option_and_then seen body)
+    else if head.opcode == 5 then update_of head update
+    else Fault head NotImp
 
-judged_standard : (head : Head) (body : Option Body) → head.opcode ≡ 0 → judged false head body ≡ query_of head (option_and_then seen body)
-judged_standard head body z = let standard : (head.opcode == 0) ≡ true = eq-eqb _ _ z in rw standard
+judged_standard : (head : Head) (body : Option Body) (update : Option Update) → head.opcode ≡ 0 → judged false head body update ≡ query_of head (option_and_then seen body)
+judged_standard head body update z = let standard : (head.opcode == 0) ≡ true = eq-eqb _ _ z in rw standard
 
 -- a request is read as what its header and what stands behind it say
 reads-request : (head : Head) (rest : List ℕ) → head.id < 2 ^ 16 → head.opcode ≡ 0 → reads (request_header head ++ rest) ≡ query_of head (option_and_then seen (body_in (request_header head ++ rest)))
 reads-request head rest h z =
     let msg = request_header head ++ rest in
     let whole : nat_lt (length msg) 12 ≡ false = grind (arith, nat_tests) in
-    ap (λ b. judged (b || is_reply msg) (header_of msg) (body_in msg)) whole
-    ∙ ap (λ b. judged b (header_of msg) (body_in msg)) (asks head.opcode head.rd head.four_bits)
-    ∙ ap (λ a. judged false a (body_in msg)) (header_again head rest h z)
-    ∙ judged_standard head (body_in msg) z
+    let update = update_in (header_of msg) msg in
+    ap (λ b. judged (b || is_reply msg) (header_of msg) (body_in msg) update) whole
+    ∙ ap (λ b. judged b (header_of msg) (body_in msg) update) (asks head.opcode head.rd head.four_bits)
+    ∙ ap (λ a. judged false a (body_in msg) update) (header_again head rest h z)
+    ∙ judged_standard head (body_in msg) update z
 
 -- behind a request's header stands the question that the reply repeats
 question_stands : (m : Message) → Stands (request_of m) (request_header m.head) (question_part m ++ (answer_part m ++ (authority_part m ++ additional_part m))) [] 12

@@ -2,7 +2,8 @@
 use Rattle.std.proofs.Common.{◌≡◌, ℕ, Bool, true, false, List, Option, Some, None, refl, sym, ap, ◌∙◌, cond, option_map, option_and_then}
 use Rattle.dns_rdata.specs.Raw.{RawRecord}
 use Rattle.dns_message.specs.Message.{Entry, number_at}
-use Rattle.dns_message.specs.Reads.{records_at}
+use Rattle.dns_rdata.proofs.NameLemmas.{and_then_some}
+use Rattle.dns_message.specs.Reads.{records_at, has_opt}
 use Rattle.dns_message.specs.Updates.{raws_at, zone_at, update_with, update_in}
 use Rattle.dns_message.specs.declared.query.Head.{Head}
 use Rattle.dns_message.specs.declared.update.Section.TheVariants.{Prerequisites, Updates}
@@ -59,3 +60,18 @@ no_opt head zone prerequisites updates o s is e = ap (option_and_then (with_sigh
 
 pub an_opt : (head : Head) (zone : ZoneEntry) (prerequisites updates : List RawRecord) (o : Option (Bool × ℕ)) (s : Bool × ℕ) → o ≡ Some s → s.0 ≡ true → option_and_then (with_sight head zone prerequisites updates) o ≡ None
 an_opt head zone prerequisites updates o s is e = ap (option_and_then (with_sight head zone prerequisites updates)) is ∙ rw e refl
+
+-- an update has the header that it was read with
+unless : {A : Type 0} (b : Bool) (x y : A) → cond b None (Some x) ≡ Some y → x ≡ y
+unless true x y e = cc
+unless false x y e = cc
+
+pub head_kept : (head : Head) (msg : List ℕ) (update : Update) → update_in head msg ≡ Some update → update.head ≡ head
+unfolding update_in
+head_kept head msg update e =
+    let zone = and_then_some _ (zone_at msg) update e in
+    let prerequisites = and_then_some _ (raws_at Prerequisites (number_at msg 6) msg zone.0.1) update zone.2 in
+    let updates = and_then_some _ (raws_at Updates (number_at msg 8) msg prerequisites.0.1) update prerequisites.2 in
+    let additional = and_then_some _ (records_at (number_at msg 10) msg updates.0.1) update updates.2 in
+    let is = unless (has_opt additional.0.0) (record { head = head; zone = zone.0.0; prerequisites = prerequisites.0.0; updates = updates.0.0 }) update additional.2 in
+    sym (ap (λ (u : Update). u.head) is)

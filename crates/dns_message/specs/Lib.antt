@@ -7,6 +7,7 @@ pub mod Expanded
 pub mod Frame
 pub mod Message
 pub mod Reads
+pub mod Request
 pub mod Updates
 pub mod Octets
 pub use Rattle.dns_name.specs.Name

@@ -1,19 +1,16 @@
--- How a request is read (RFC 1035, 4.1 and 4.2; the order of the refusals is our own choice).
-use Rattle.std.specs.Prelude.{ℕ, zero, suc, Bool, ◌+◌, ◌/◌, ◌%◌, ◌&&◌, ◌||◌, not, ◌==◌, List, [], ◌∷◌, length, take, drop, nat_lt, nat_le, Option, Some, None, option_map, option_and_then, Result, Ok, Err, slice_index, if◌then◌else◌}
+-- How a request is read: its header, and what stands behind it (RFC 1035, 4.1).
+use Rattle.std.specs.Prelude.{ℕ, zero, suc, Bool, ◌+◌, ◌/◌, ◌%◌, ◌&&◌, ◌||◌, not, ◌==◌, List, [], ◌∷◌, length, take, drop, nat_le, Option, Some, None, option_map, option_and_then, Result, Ok, Err, slice_index, if◌then◌else◌}
 use Rattle.std.specs.Int.{from_be_bytes, w32}
 use Rattle.std.specs.List.{list_any}
 use Rattle.std.proofs.Common.{lit<}
 use Rattle.std.proofs.Math.Nat.{mod-lt}
 use Rattle.dns_name.specs.Name.{Name}
-use Rattle.dns_rdata.specs.declared.numbers.Rcode.TheVariants.{FormErr, NotImp}
 use Rattle.dns_rdata.specs.Numbers.{type_OPT, type_IXFR, type_AXFR}
 use Rattle.wire_names.specs.NameAt.{name_at}
 use Rattle.wire_names.specs.declared.part.NameReadFault.{NameReadFault}
-use Rattle.dns_message.specs.Message.{Entry, Body, opcode_QUERY, opcode_UPDATE, number_at}
+use Rattle.dns_message.specs.Message.{Entry, Body, opcode_UPDATE, number_at}
 use Rattle.dns_message.specs.declared.query.Head.{Head}
 use Rattle.dns_message.specs.declared.query.Question.{Question}
-use Rattle.dns_message.specs.declared.query.Parsed.{Parsed}
-use Rattle.dns_message.specs.declared.query.Parsed.TheVariants.{Silent, Fault, Query}
 
 -- OPCODE, the four bits below the top one of the third octet (RFC 1035, 4.1.1)
 abbrev pub opcode_of : List ℕ → ℕ
@@ -109,20 +106,3 @@ only_question (question ∷ other ∷ more) = None
 -- none of another number of questions
 abbrev pub seen : Body → Option (Question × Bool)
 seen body = option_map (λ question. (question, has_opt body.additional)) (only_question body.questions)
-
--- what a header and what is seen behind it say: FORMERR where that can't be read, hasn't one question, or has an OPT in its
--- additional section, as of a server without EDNS (RFC 6891, 7); NOTIMP of a transfer; else a query (RFC 1035, 4.1; own)
-abbrev pub query_of : Head → Option (Question × Bool) → Parsed
-query_of head None = Fault head FormErr
-query_of head (Some r) =
-    if r.1 then Fault head FormErr
-    else if asks_transfer r.0 then Fault head NotImp
-    else Query (record { head = head; question = r.0 })
-
--- how octets are read: fewer than twelve, or a reply, are silent; another OPCODE than QUERY is NOTIMP; else it is as the
--- header and what stands behind it say (RFC 1035, 4.1.1; own)
-abbrev pub reads : List ℕ → Parsed
-reads msg =
-    if nat_lt (length msg) 12 || is_reply msg then Silent
-    else if not (opcode_of msg == opcode_QUERY) then Fault (header_of msg) NotImp
-    else query_of (header_of msg) (option_and_then seen (body_in msg))

@@ -10,7 +10,11 @@ ghost use Rattle.dns_message.specs.Message.{Message};
 ghost use Rattle.dns_message.specs.Octets.{record_octets, reply_octets};
 ghost use Rattle.dns_message.specs.declared.query.Question.{Question};
 ghost use Rattle.dns_message.specs.Frame.{frame_of, frame_in};
-ghost use Rattle.dns_message.specs.Reads.{question_at, record_at, body_in, reads};
+ghost use Rattle.dns_message.specs.Reads.{question_at, record_at, body_in};
+ghost use Rattle.dns_message.specs.Request.{reads};
+ghost use Rattle.dns_message.specs.Updates.{update_in};
+ghost use Rattle.dns_message.specs.declared.query.Head.{Head};
+ghost use Rattle.dns_message.specs.declared.update.Update.{Update};
 
 use crate::query::Parsed;
 use crate::read::{HEADER, QR};
@@ -66,4 +70,9 @@ pub fn data_is_read_again()
 pub fn sections_are_read_again()
     ensures sections { (m : Message) (question : Question) → IsReply m question → IsReadAgain m question }
     ensures counted { (m : Message) (question : Question) → IsReply m question → body_in (reply_octets m) ≡ Some (body_written m question) }
+{}
+
+/// An update has the header that it was read with, so its reply has what that header says (RFC 2136, 2.2 and 3.8).
+pub fn update_keeps_its_header()
+    ensures { (head : Head) (msg : List ℕ) (update : Update) → update_in head msg ≡ Some update → update.head ≡ head }
 {}

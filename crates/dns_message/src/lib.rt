@@ -1,8 +1,8 @@
-//! Messages: how a request is read, how a reply is written, and their frames over TCP (RFC 1035, 4.1 and 4.2).
+//! Messages: how a request is read, how a reply is written, and their frames over TCP (RFC 1035, 4.1 and 4.2; RFC 2136, 2).
 //!
 //! Contracts see a request as what its octets say ([`Parsed`]), and a reply as its header, its question and the lists of
 //! its records. Names are read through pointers, and written with pointers to names in front of them (RFC 1035, 4.1.4).
-//! No call takes memory.
+//! No call takes memory but that which reads an update.
 #![tactic(auto)]
 
 mod count;
@@ -24,14 +24,16 @@ pub use frame::{put_frame, take_frame};
 pub use laws::{
     data_is_read_again, frame_is_taken_again, limits_of_replies, question_in_full_is_read,
     question_is_read_again, record_is_read_again, sections_are_read_again,
-    silent_is_short_or_reply,
+    silent_is_short_or_reply, update_keeps_its_header,
 };
 pub use query::{Head, Parsed, Query, Question};
 pub use read::{HEADER, parse};
 pub use reply::Reply;
-pub use update::{RawRecords, Update, ZoneEntry, read_update};
+pub use update::{RawRecords, Update, ZoneEntry};
 pub use worked::{examples, read_examples};
 pub use write::{MAX_LIMIT, MIN_LIMIT, write_reply};
 
 #[cfg(test)]
 mod tests;
+#[cfg(test)]
+mod update_tests;

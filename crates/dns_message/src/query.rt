@@ -1,6 +1,7 @@
 //! What a request says (RFC 1035, 4.1).
 ghost use Rattle.std.specs.Prelude.{◌<◌};
 
+use crate::update::Update;
 use dns_name::Name;
 use dns_rdata::{Class, RType, Rcode};
 
@@ -41,8 +42,12 @@ pub struct Query {
 pub enum Parsed {
     /// A query, which is looked up.
     Query(Query),
+    /// A dynamic update (RFC 2136, 2).
+    Update(Update),
     /// Nothing that is answered.
     Silent,
     /// A request that gets its header and a code alone.
     Fault(Head, Rcode),
+    /// An update that couldn't be read, since a growth was refused.
+    NoMemory(Head),
 }

@@ -1,11 +1,15 @@
 //! How a request is read (RFC 1035, 4.1 and 4.2).
-ghost use Rattle.std.specs.Prelude.{◌≡◌, ◌+◌, ◌≤◌, length, option_map, option_and_then};
+ghost use Rattle.std.specs.Prelude.{◌≡◌, ◌⊎◌, ◌+◌, ◌≤◌, length, option_map, option_and_then};
 ghost use Rattle.dns_message.specs.Message.{number_at};
-ghost use Rattle.dns_message.specs.Reads.{header_of, is_reply, question_at, record_at, records_at, body_in, has_opt, seen, asks_transfer, reads};
+ghost use Rattle.dns_message.specs.Reads.{header_of, is_reply, question_at, record_at, records_at, body_in, has_opt, seen, asks_transfer};
+ghost use Rattle.dns_message.specs.Request.{query_of, update_of, Tells};
+ghost use Rattle.dns_message.specs.Updates.{update_in};
 
 use crate::entry::{entry_at, number_at};
 use crate::query::{Head, Parsed, Query, Question};
+use crate::update::read_update;
 use dns_rdata::{Class, RType, Rcode};
+use std::alloc::Global;
 use wire_names::read_name;
 
 /// The octets of a header (RFC 1035, 4.1.1).
@@ -50,28 +54,54 @@ const QUERY: u8 = 0;
 /// The OPCODE of a dynamic update (RFC 2136, 1.3).
 const UPDATE: u8 = 5;
 
-/// What octets say: a query; nothing that is answered, where they are fewer than twelve or a reply; or a request that
-/// gets a code alone (RFC 1035, 4.1).
+/// What octets say: a query; an update; nothing that is answered, where they are fewer than twelve or a reply; or a request
+/// that gets a code alone (RFC 1035, 4.1; RFC 2136, 2).
 ///
-/// The code is NOTIMP of another OPCODE than QUERY; FORMERR of other than one question, where the question or a record
-/// can't be read, and of an OPT in the additional section (RFC 6891, 7); and NOTIMP of a transfer; the first of these
-/// that holds is told (own). Names are read through pointers, the data of a record isn't looked at, and octets behind
-/// the last record are ignored. It takes no memory.
-pub fn parse(bytes: &[u8]) -> Parsed
-    ensures { result ≡ reads bytes.now }
+/// The code is NOTIMP of an OPCODE other than QUERY and UPDATE; FORMERR of other than one question, where the question or a
+/// record can't be read, and of an OPT in the additional section (RFC 6891, 7); and NOTIMP of a transfer; the first of these
+/// that holds is told (own). Of an update it is FORMERR as well of a zone section of another type than SOA, and where the data
+/// of a prerequisite or of an update haven't their type's form (RFC 2136, 2.3 to 2.5; own). Names are read through pointers,
+/// the data of a query's records isn't looked at, and octets behind the last record are ignored.
+///
+/// Only an update takes memory: `NoMemory` is told only of one, where a growth was refused.
+pub fn parse(alloc: Global, bytes: &[u8]) -> Parsed
+    ensures { Tells bytes.now result }
 {
     if bytes.len() < HEADER || is_reply(bytes) {
         return Parsed::Silent;
     }
     let head = header_of(bytes);
-    if head.opcode != QUERY {
-        return Parsed::Fault(head, Rcode::NotImp);
+    if head.opcode == QUERY {
+        return parse_query(bytes, head);
     }
+    if head.opcode == UPDATE {
+        return parse_update(alloc, bytes, head);
+    }
+    Parsed::Fault(head, Rcode::NotImp)
+}
+
+/// What a header of a query and what stands behind it say (RFC 1035, 4.1; RFC 6891, 7; own).
+fn parse_query(bytes: &[u8], head: Head) -> Parsed
+    requires { HEADER ≤ length bytes.now }
+    ensures { result ≡ query_of head (option_and_then seen (body_in bytes.now)) }
+{
     match one_question(bytes) {
         None => Parsed::Fault(head, Rcode::FormErr),
         Some((_, true)) => Parsed::Fault(head, Rcode::FormErr),
         Some((question, false)) if asks_transfer(&question) => Parsed::Fault(head, Rcode::NotImp),
         Some((question, false)) => Parsed::Query(Query { head, question }),
+    }
+}
+
+/// What a header of an update and what stands behind it say, or that a growth was refused (RFC 2136, 2).
+fn parse_update(alloc: Global, bytes: &[u8], head: Head) -> Parsed
+    requires { HEADER ≤ length bytes.now }
+    ensures { (result ≡ update_of head (update_in head bytes.now)) ⊎ (result ≡ Parsed.NoMemory head) }
+{
+    match read_update(alloc, bytes, head) {
+        Ok(Some(update)) => Parsed::Update(update),
+        Ok(None) => Parsed::Fault(head, Rcode::FormErr),
+        Err(_) => Parsed::NoMemory(head),
     }
 }
 

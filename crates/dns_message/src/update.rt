@@ -85,7 +85,11 @@ pub struct Update {
 /// other than one entry, or one of another type than SOA, where a record of another section can't be read, where the data
 /// of one haven't their type's form, and with an OPT in the additional section (RFC 2136, 2; RFC 6891, 7; own). An `Err` only
 /// where a growth was refused.
-pub fn read_update(alloc: Global, bytes: &[u8], head: Head) -> Result<Option<Update>, AllocError>
+pub(crate) fn read_update(
+    alloc: Global,
+    bytes: &[u8],
+    head: Head,
+) -> Result<Option<Update>, AllocError>
     requires { HEADER ≤ length bytes.now }
     ensures { IfOk result (λ found. found ≡ update_in head bytes.now) }
 {

@@ -2,7 +2,8 @@
 ghost use Rattle.std.specs.Prelude.{◌≡◌, true, [], ◌∷◌, ◌++◌, Some, None, take};
 ghost use Rattle.dns_rdata.specs.declared.numbers.Rcode.TheVariants.{FormErr, NotImp};
 ghost use Rattle.dns_message.specs.declared.query.Parsed.TheVariants.{Silent, Fault, Query};
-ghost use Rattle.dns_message.specs.Reads.{header_of, reads};
+ghost use Rattle.dns_message.specs.Reads.{header_of};
+ghost use Rattle.dns_message.specs.Request.{reads};
 ghost use Rattle.dns_message.specs.Octets.{reply_octets, fit};
 ghost use Rattle.dns_message.specs.Examples.{request_front, asked_octets, asked, answer, answer_octets, cut_octets, service_answer, service_octets, shorter_octets, shortest_octets};
 

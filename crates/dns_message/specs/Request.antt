@@ -1,0 +1,45 @@
+-- What a request says (RFC 1035, 4.1 and 4.2; RFC 2136, 2; the order of the refusals is our own choice).
+use Rattle.std.specs.Prelude.{◌≡◌, ℕ, ◌≤◌, ◌⊎◌, Bool, false, ◌||◌, ◌==◌, List, length, nat_lt, Option, Some, None, option_and_then, if◌then◌else◌}
+use Rattle.dns_rdata.specs.declared.numbers.Rcode.TheVariants.{FormErr, NotImp}
+use Rattle.dns_message.specs.Message.{opcode_QUERY, opcode_UPDATE}
+use Rattle.dns_message.specs.Reads.{opcode_of, header_of, is_reply, body_in, asks_transfer, seen}
+use Rattle.dns_message.specs.Updates.{update_in}
+use Rattle.dns_message.specs.declared.query.Head.{Head}
+use Rattle.dns_message.specs.declared.query.Question.{Question}
+use Rattle.dns_message.specs.declared.query.Parsed.{Parsed}
+use Rattle.dns_message.specs.declared.query.Parsed.TheVariants.{Silent, Fault, Query, Update, NoMemory}
+use Rattle.dns_message.specs.declared.update.Update.{Update as DynamicUpdate}
+
+-- what a header and what is seen behind it say: FORMERR where that can't be read, hasn't one question, or has an OPT in its
+-- additional section, as of a server without EDNS (RFC 6891, 7); NOTIMP of a transfer; else a query (RFC 1035, 4.1; own)
+abbrev pub query_of : Head → Option (Question × Bool) → Parsed
+query_of head None = Fault head FormErr
+query_of head (Some r) =
+    if r.1 then Fault head FormErr
+    else if asks_transfer r.0 then Fault head NotImp
+    else Query (record { head = head; question = r.0 })
+
+-- what the header of an update and what is read behind it say: FORMERR where no update can be read (RFC 2136, 2; own)
+abbrev pub update_of : Head → Option DynamicUpdate → Parsed
+update_of head None = Fault head FormErr
+update_of head (Some update) = Update update
+
+-- how octets are read: fewer than twelve, or a reply, are silent; an OPCODE other than QUERY and UPDATE is NOTIMP; else it is
+-- as the header and what stands behind it say (RFC 1035, 4.1.1; RFC 2136, 2; own)
+abbrev pub reads : List ℕ → Parsed
+reads msg =
+    if nat_lt (length msg) 12 || is_reply msg then Silent
+    else if opcode_of msg == opcode_QUERY then query_of (header_of msg) (option_and_then seen (body_in msg))
+    else if opcode_of msg == opcode_UPDATE then update_of (header_of msg) (update_in (header_of msg) msg)
+    else Fault (header_of msg) NotImp
+
+-- memory was wanted while an update was read: so it is told with the update's header
+pub record IsWant (msg : List ℕ) (told : Parsed) : Type 0 where
+  pub whole : 12 ≤ length msg
+  pub asks : is_reply msg ≡ false
+  pub update : opcode_of msg ≡ opcode_UPDATE
+  pub is : told ≡ NoMemory (header_of msg)
+
+-- what is told of octets: how they are read, or that memory was wanted
+abbrev pub Tells : List ℕ → Parsed → Type 0
+Tells msg told = (told ≡ reads msg) ⊎ IsWant msg told
