@@ -1,2 +1,5 @@
 pub mod ListLemmas
 pub mod VerdictLemmas
+pub mod SerialData
+pub mod SoaKept
+pub mod SerialLaw

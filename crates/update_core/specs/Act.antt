@@ -87,13 +87,14 @@ effects zone (r ∷ rs) = option_and_then (λ next. effects next rs) (effect zon
 abbrev pub is_same_record : Record → Record → Bool
 is_same_record r s = is_eq (record_cmp r s) && r.ttl == s.ttl
 
+-- the data of the first of records; none of none
+abbrev pub first_data : List Record → List ℕ
+first_data [] = []
+first_data (r ∷ rs) = r.rdata
+
 -- a zone's serial: that of its SOA (RFC 1035, 3.3.13)
 abbrev pub zone_serial : List Record → ℕ
-zone_serial zone = serial_in (soa_of zone)
-  where
-    serial_in : List Record → ℕ
-    serial_in [] = 0
-    serial_in (r ∷ rs) = serial_of r.rdata
+zone_serial zone = serial_of (first_data (soa_of zone))
 
 -- an SOA's data with another serial: the first of the five numbers of four octets that end it (RFC 1035, 3.3.13)
 abbrev pub with_serial : ℕ → List ℕ → List ℕ

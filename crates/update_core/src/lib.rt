@@ -7,6 +7,8 @@
 #![tactic(auto)]
 
 mod examples;
+mod judgement;
+mod laws;
 mod prerequisites;
 mod update_section;
 
@@ -14,5 +16,10 @@ pub use examples::{
     examples_are_zones, examples_of_adds, examples_of_deletions, examples_of_prerequisites,
     examples_of_prescan, examples_of_serials, examples_of_sets, examples_of_verdicts,
 };
+pub use judgement::verdict;
+pub use laws::{prerequisites_change_nothing, replays_agree, serials_rise};
 pub use prerequisites::check;
 pub use update_section::prescan;
+
+#[cfg(test)]
+mod tests;
