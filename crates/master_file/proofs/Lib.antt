@@ -4,12 +4,15 @@ pub mod InsertLemmas
 pub mod IsZoneLemmas
 pub mod JudgeLemmas
 pub mod KeptLemmas
+pub mod KeyLemmas
 pub mod OwnLemmas
+pub mod PutLemmas
 pub mod ReadableLemmas
 pub mod RecordLemmas
 pub mod RuleLemmas
 pub mod SetLemmas
 pub mod ShownLemmas
+pub mod SortLemmas
 pub mod SummaryLemmas
 pub mod ZoneBackLemmas
 pub mod ZoneLawLemmas
