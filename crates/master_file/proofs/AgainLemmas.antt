@@ -23,21 +23,21 @@ use Rattle.master_file.proofs.JudgeLemmas.{Ascends, ascends_all}
 use Rattle.master_file.proofs.ShownLemmas.{shown, each_of_all}
 use Rattle.master_file.proofs.IsZoneLemmas.{ok_zone, of_is_zone}
 
-first_or_behind : {X : Type 0} (x : X) (xs : List X) (y : X) → Contains (x ∷ xs) y → (x ≡ y) ⊎ Contains xs y
+pub first_or_behind : {X : Type 0} (x : X) (xs : List X) (y : X) → Contains (x ∷ xs) y → (x ≡ y) ⊎ Contains xs y
 first_or_behind x xs y (zero, l, e) = inl e
 first_or_behind x xs y (suc k, l, e) = inr (k, omega arith, e)
 
-is_first : {X : Type 0} (x : X) (xs : List X) → Contains (x ∷ xs) x
+pub is_first : {X : Type 0} (x : X) (xs : List X) → Contains (x ∷ xs) x
 is_first x xs = (0, omega arith, refl)
 
-is_behind : {X : Type 0} (x : X) (xs : List X) (y : X) → Contains xs y → Contains (x ∷ xs) y
+pub is_behind : {X : Type 0} (x : X) (xs : List X) (y : X) → Contains xs y → Contains (x ∷ xs) y
 is_behind x xs y h = (suc h.0, omega (arith, h.1), h.2)
 
-each_contained : {X : Type 0} (P : X → Type 0) (xs : List X) (y : X) → AllByRecursion P xs → Contains xs y → P y
+pub each_contained : {X : Type 0} (P : X → Type 0) (xs : List X) (y : X) → AllByRecursion P xs → Contains xs y → P y
 each_contained P [] y h k = absurd (omega (arith, k.1))
 each_contained P (x ∷ xs) y h k = ⊎_elim (λ e. subst P e h.0) (λ m. each_contained P xs y h.1 m) (first_or_behind x xs y k)
 
-each_in : {X : Type 0} (xs : List X) → AllByRecursion (λ x. Contains xs x) xs
+pub each_in : {X : Type 0} (xs : List X) → AllByRecursion (λ x. Contains xs x) xs
 each_in [] = tt
 each_in (x ∷ xs) = (is_first x xs, each_weaker (λ y. Contains xs y) (λ y. Contains (x ∷ xs) y) (λ y h. is_behind x xs y h) xs (each_in xs))
 

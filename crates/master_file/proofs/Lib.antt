@@ -4,13 +4,16 @@ pub mod InsertLemmas
 pub mod IsZoneLemmas
 pub mod JudgeLemmas
 pub mod KeptLemmas
+pub mod KeyLemmas
 pub mod LineLemmas
 pub mod OwnLemmas
+pub mod PutLemmas
 pub mod ReadableLemmas
 pub mod RecordLemmas
 pub mod RuleLemmas
 pub mod SetLemmas
 pub mod ShownLemmas
+pub mod SortLemmas
 pub mod SummaryLemmas
 pub mod TextRecordLemmas
 pub mod ZoneBackLemmas

@@ -23,7 +23,7 @@ use Rattle.master_file.proofs.SummaryLemmas.{same_set}
 use Rattle.master_file.proofs.JudgeLemmas.{Ascends, Judges, count_with}
 
 -- records that tie have one owner but for case, and one type
-tied_parts : (r s : Record) → record_cmp r s ≡ Equal → (fold_name r.owner ≡ fold_name s.owner) × (r.rtype ≡ s.rtype)
+pub tied_parts : (r s : Record) → record_cmp r s ≡ Equal → (fold_name r.owner ≡ fold_name s.owner) × (r.rtype ≡ s.rtype)
 tied_parts r s e =
     let tie : is_eq (record_cmp r s) ≡ true = ap is_eq e in
     let first = both_true (is_eq (canonical_cmp r.owner s.owner)) _ (tied_then (canonical_cmp r.owner s.owner) _ ∙ tie) in

@@ -119,12 +119,12 @@ or_left : (a b : Bool) → a ≡ true → (a || b) ≡ true
 or_left true b e = refl
 or_left false b e = absurd (true≢false (sym e))
 
-each_any : {X : Type 0} (g : X → X → Bool) → ((x : X) → g x x ≡ true) → (xs : List X) → AllByRecursion (λ x. list_any (g x) xs ≡ true) xs
+pub each_any : {X : Type 0} (g : X → X → Bool) → ((x : X) → g x x ≡ true) → (xs : List X) → AllByRecursion (λ x. list_any (g x) xs ≡ true) xs
 each_any g own [] = tt
 each_any g own (x ∷ xs) =
     (or_left (g x x) (list_any (g x) xs) (own x), each_weaker (λ y. list_any (g y) xs ≡ true) (λ y. (g y x || list_any (g y) xs) ≡ true) (λ y e. or_right (g y x) (list_any (g y) xs) e) xs (each_any g own xs))
 
-own_set : (r : Record) → is_of r.owner r.rtype r ≡ true
+pub own_set : (r : Record) → is_of r.owner r.rtype r ≡ true
 own_set r = let o = (is_same_Decides r.owner r.owner).1 refl in let t = (Decides-eqb r.rtype r.rtype).1 refl in rw (o, t) refl
 
 pub each_read : (ps : List RecordEntry) → AllByRecursion (λ r. is_read ps r ≡ true) (with_all [] ps)
@@ -186,7 +186,7 @@ pub apex_shown : (ps : List RecordEntry) (rs : List Record) → apex_of (map (sh
 apex_shown ps rs = ap owner_of (filter_shown (λ (r : Record). r.rtype == type_SOA) (shown ps) (shown_soa ps) rs) ∙ owner_of_shown ps (soa_of rs)
 
 -- the order
-order_shown : (ps : List RecordEntry) (r s : Record) → record_cmp (shown ps r) (shown ps s) ≡ record_cmp r s
+pub order_shown : (ps : List RecordEntry) (r s : Record) → record_cmp (shown ps r) (shown ps s) ≡ record_cmp r s
 order_shown ps r s =
     ap (λ (f : List (List ℕ)). ordering_then (slice_cmp (slice_cmp nat_cmp) (reverse f) (reverse (fold_name (shown ps s).owner))) (ordering_then (nat_cmp (timed ps r).rtype (timed ps s).rtype) (slice_cmp nat_cmp (timed ps r).rdata (timed ps s).rdata))) (shown_folds ps r)
     ∙ ap (λ (f : List (List ℕ)). ordering_then (slice_cmp (slice_cmp nat_cmp) (reverse (fold_name r.owner)) (reverse f)) (ordering_then (nat_cmp (timed ps r).rtype (timed ps s).rtype) (slice_cmp nat_cmp (timed ps r).rdata (timed ps s).rdata))) (shown_folds ps s)

@@ -2,6 +2,8 @@ pub mod Examples
 pub mod Fault
 pub mod RecordOrder
 pub mod Records
+pub mod SetOrder
+pub mod SortKey
 pub mod Summary
 pub mod TextLaws
 pub mod WrittenZone

@@ -1,5 +1,5 @@
 //! A zone's text as a zone (RFC 1035, 5).
-ghost use Rattle.std.specs.Prelude.{◌≡◌, ◌⊎◌, [], map, None, Some, Ok, Err, IfOk, IfErr, OnOk};
+ghost use Rattle.std.specs.Prelude.{◌≡◌, ◌⊎◌, [], map, None, Some, Ok, Err, IfOk, IfErr, IfSome, OnOk};
 ghost use Rattle.master_file.specs.Fault.{no_memory};
 ghost use Rattle.master_file.specs.ZoneText.{outside_line, zone_of_text, zone_records};
 ghost use Rattle.master_file.specs.Summary.{AreSummaries, LastsEach, IsGathered, shown_by, zone_gathered};
@@ -9,13 +9,52 @@ ghost use Rattle.master_file.specs.Records.{records_of};
 
 use crate::fault::FileFault;
 use crate::gathered::Gathered;
+use crate::kept::KeptRecord;
 use crate::records::Records;
 use crate::sets::put_behind;
+use crate::sorted::sets_of;
 use dns_name::Name;
 use dns_rdata::{RRset, RType};
 use record_text::Cause;
 use std::alloc::{AllocError, Global};
 use zone_tree::Zone;
+
+/// The records of a text, in its order; None where it has a fault.
+fn records_in(
+    alloc: Global,
+    text: &[u8],
+    origin: &Name,
+) -> Result<Option<Vec<KeptRecord>>, AllocError>
+    ensures { IfOk result (λ found. IfSome found (λ kept. (kept.items ≡ (records_of origin.now text.now).rrs)
+        × ((records_of origin.now text.now).fault ≡ None))) }
+{
+    let mut records = Records::new(alloc, text, origin);
+    let mut kept = Vec::new(alloc);
+    loop {
+        match records.next(alloc) {
+            Ok(Some(rr)) => kept.push(KeptRecord::new(alloc, rr)?)?,
+            Ok(None) => return Ok(Some(kept)),
+            Err(_) => return Ok(None),
+        }
+    }
+}
+
+/// The zone of a text; None where it may have a fault.
+fn zone_in(alloc: Global, text: &[u8], origin: &Name) -> Result<Option<Zone>, AllocError>
+    ensures zone { IfOk result (λ found. IfSome found (λ zone. zone_of_text origin.now text.now ≡ Ok zone)) }
+    ensures lawful { IfOk result (λ found. IfSome found (λ zone. IsZone zone)) }
+{
+    let Some(records) = records_in(alloc, text, origin)? else {
+        return Ok(None);
+    };
+    let Some(sets) = sets_of(alloc, records)? else {
+        return Ok(None);
+    };
+    match Zone::new(sets) {
+        Ok(zone) => Ok(Some(zone)),
+        Err(_) => Ok(None),
+    }
+}
 
 /// The records of a text, gathered; else its first fault, or the first record too many.
 fn gather(alloc: Global, text: &[u8], origin: &Name) -> Result<Gathered, FileFault>
@@ -80,6 +119,9 @@ pub fn read_zone(alloc: Global, text: &[u8], origin: &Name) -> Result<Zone, File
     ensures lawful { IfOk result (λ zone. IsZone zone) }
     ensures fault { IfErr result (λ fault. (fault ≡ no_memory) ⊎ (zone_of_text origin.now text.now ≡ Err fault)) }
 {
+    if let Some(zone) = zone_in(alloc, text, origin)? {
+        return Ok(zone);
+    }
     let gathered = gather_zone(alloc, text, origin)?;
     let Ok(sets) = build(alloc, gathered) else {
         return Err(told(0, Cause::NoMemory));

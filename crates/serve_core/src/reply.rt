@@ -49,7 +49,7 @@ fn respond_to_query<Z: ZoneRead>(
     if question.rtype == RType::MAILB || question.rtype == RType::MAILA {
         return write_bare(*head, Rcode::NotImp, transport, out);
     }
-    if !question.name.is_under(&zone.apex()) {
+    if !question.name.is_under(zone.apex()) {
         return write_refused(*head, question, transport, out);
     }
     write_answer(zone, *head, question, transport, out)

@@ -1,0 +1,93 @@
+#!/usr/bin/env bash
+# Makes zones of so many records, in canonical order and shuffled, and prints what reading and writing them costs: processor time,
+# records a second, peak memory, and octets of memory a record; of `dnsd check` (read and written), of `dnsd answer` without a query
+# (read alone), and of kzonecheck, nsd-checkzone and named-compilezone where these are installed.
+# Usage: [DNSD=PROGRAM] bench/load.sh [RECORDS ..], by default 10000 100000 1000000. `make dnsd` builds the program.
+set -euo pipefail
+cd "$(dirname "$0")/.."
+program=${DNSD:-$PWD/crates/dnsd/out/dnsd}
+work=$(mktemp -d)
+trap 'rm -rf "$work"' EXIT
+[ -x "$program" ] || { echo "bench: no program at $program: run make dnsd first" >&2; exit 1; }
+
+# The zone: of each 20 owners that are added, eight are delegations (three with glue), six hosts (four with mail and a text), three
+# aliases, one an SRV set, one a set of eight addresses, and one has a name of about 190 octets.
+zone() {
+    python3 - "$1" "$2" <<'PY'
+import random, sys
+n, order = int(sys.argv[1]), sys.argv[2]
+apex, records, i = "example.test.", [], 0
+def add(owner, rtype, data, ttl=3600):
+    records.append((owner, rtype, ttl, data))
+add(apex, "SOA", f"ns1.{apex} admin.{apex} 1 7200 900 1209600 300")
+for k in range(1, 5): add(apex, "NS", f"ns{k}.{apex}")
+for k in range(1, 3): add(apex, "MX", f"{k}0 mx{k}.{apex}")
+add(apex, "TXT", '"v=spf1 mx -all"', 300)
+while len(records) < n:
+    i += 1
+    kind = i % 20
+    if kind < 8:
+        owner = f"dom{i}.{apex}"
+        add(owner, "NS", f"ns1.{owner}", 86400)
+        add(owner, "NS", f"ns2.isp{i % 97}.example.", 86400)
+        if kind < 3:
+            add(f"ns1.{owner}", "A", f"192.0.2.{i % 256}", 86400)
+            add(f"ns1.{owner}", "AAAA", f"2001:db8::{i % 65536:x}", 86400)
+    elif kind < 14:
+        owner = f"host{i}.{apex}"
+        add(owner, "A", f"198.51.100.{i % 256}", 300)
+        add(owner, "AAAA", f"2001:db8:{i % 65536:x}::1", 300)
+        if kind < 12:
+            add(owner, "MX", f"10 mail.{owner}")
+            add(owner, "MX", f"20 mx2.{apex}")
+            add(owner, "TXT", f'"v=spf1 a mx include:_spf{i % 13}.{apex} -all" "id={i}"')
+    elif kind < 17:
+        add(f"www.host{i - 3}.{apex}", "CNAME", f"host{i - 3}.{apex}")
+    elif kind == 17:
+        for k in range(2): add(f"_sip._tcp.site{i}.{apex}", "SRV", f"{k} 10 5060 sip{k}.site{i}.{apex}")
+    elif kind == 18:
+        for k in range(8): add(f"pool{i}.{apex}", "A", f"203.0.113.{(i + k) % 256}", 60)
+    else:
+        words = [f"customer-{i:09d}-with-a-long-label-of-its-own-in-front"] + [f"region{i % 7}-datacenter{i % 31}-and-more-words"] * 3
+        owner = ".".join(words) + "." + apex
+        add(owner, "A", f"192.0.2.{i % 256}")
+        add(owner, "TXT", f'"{i}"')
+del records[n:]
+types = {"A": 1, "NS": 2, "CNAME": 5, "SOA": 6, "MX": 15, "TXT": 16, "AAAA": 28, "SRV": 33}
+if order == "sorted":
+    records.sort(key=lambda r: (r[0].split(".")[::-1], types[r[1]]))
+else:
+    random.Random(1).shuffle(records)
+for owner, rtype, ttl, data in records:
+    print(owner, ttl, "IN", rtype, data)
+PY
+}
+
+# Runs a program with no input and prints what it cost: processor seconds, records a second, MiB, octets a record.
+measure() {
+    local name=$1 records=$2
+    shift 2
+    python3 - "$name" "$records" "$@" <<'PY'
+import resource, subprocess, sys
+name, n, command = sys.argv[1], int(sys.argv[2]), sys.argv[3:]
+done = subprocess.run(command, stdin=subprocess.DEVNULL, stdout=subprocess.DEVNULL, stderr=subprocess.PIPE)
+used = resource.getrusage(resource.RUSAGE_CHILDREN)
+if done.returncode != 0:
+    print(f"  {name:18} status {done.returncode}: {done.stderr[:200].decode(errors='replace')}")
+else:
+    seconds = max(used.ru_utime + used.ru_stime, 0.001)
+    print(f"  {name:18} {seconds:8.2f} s {n / seconds:11,.0f} records/s {used.ru_maxrss / 1024:8.1f} MiB {used.ru_maxrss * 1024 / n:8.0f} octets a record")
+PY
+}
+
+for records in ${@:-10000 100000 1000000}; do for order in sorted shuffled; do
+    zone "$records" "$order" > "$work/zone"
+    echo "$records records, $order, $(stat -c %s "$work/zone") octets of text"
+    measure "dnsd check" "$records" "$program" check "$work/zone"
+    measure "dnsd answer" "$records" "$program" answer "$work/zone"
+    if command -v kzonecheck > /dev/null; then measure kzonecheck "$records" kzonecheck -o example.test. "$work/zone"; fi
+    if command -v nsd-checkzone > /dev/null; then measure nsd-checkzone "$records" nsd-checkzone example.test. "$work/zone"; fi
+    if command -v named-compilezone > /dev/null; then
+        measure named-compilezone "$records" named-compilezone -i none -k ignore -o /dev/null example.test. "$work/zone"
+    fi
+done; done

@@ -1,0 +1,35 @@
+use Rattle.std.proofs.Common.{◌≡◌, ◌++◌, [], ◌∷◌, map, length, sym, ap, ◌∙◌, arith}
+use Rattle.dns_rdata.specs.Record.{Record}
+use Rattle.master_file.specs.declared.record_entry.RecordEntry.{RecordEntry}
+use Rattle.master_file.specs.ZoneText.{record_in, in_lower}
+use Rattle.master_file.specs.SetOrder.{put_last}
+use Rattle.master_file.proofs.PutLemmas.{put_in, put_out, nil_from}
+use Rattle.master_file.proofs.sorted.put.Goals as goal
+use Rattle.master_file.proofs.sorted.put.Goals.{in-Some+else-is_of+in_ok-push-in-Some-2, in-None}
+
+pub returns-then-is_of : goal.returns-then-is_of
+returns-then-is_of c =
+    let rr = c.into_entry-owner.result in
+    c.in_ok-push-in-Some.ensures.items
+    ∙ put_in c.args.sets.now.items c.pop.new.self.items c.in-Some.last c.set_ttl.new.self rr c.in-Some.ensures.items (sym c.is_of.ensures.of ∙ c.if-is_of.true) (c.is_of.ensures.owner c.if-is_of.true)
+    (c.set_ttl.ensures ∙ ap (map (λ (s : Record). record s { ttl = rr.ttl.0 })) c.in-Ok.ensures.ok)
+    ∙ ap (λ (p : RecordEntry). put_last c.args.sets.now.items (in_lower (record_in p))) c.into_entry-owner.ensures.entry
+
+pub returns : goal.returns
+returns c =
+    let rr = c.into_entry-owner.result in
+    let old = c.args.sets.now.items in
+    let set = c.in_ok-new.field-0 in
+    let entry = ap (λ (p : RecordEntry). put_last old (in_lower (record_in p))) c.into_entry-owner.ensures.entry in
+    elim c.match-pop.branch [
+      | in-Some+else-is_of+in_ok-push-in-Some-2 w ↦
+          c.in_ok-push.ensures.items ∙ (λ i. (w.sets-is i).items ++ set ∷ []) ∙ (λ i. w.in_ok-push-in-Some-2.ensures.items i ++ set ∷ [])
+          ∙ put_out old c.pop.new.self.items w.in-Some.last set rr w.in-Some.ensures.items (sym w.is_of.ensures.of ∙ w.if-is_of.false) c.in_ok-new.ensures
+          ∙ entry
+      | in-None w ↦
+          let none : length old ≡ 0 = omega (arith, w.in-None.ensures.cases.0, c.args.sets.now.ok.0) in
+          let left : length c.pop.new.self.items ≡ 0 = omega (arith, w.in-None.ensures.cases.1, c.pop.new.self.ok.0) in
+          c.in_ok-push.ensures.items ∙ (λ i. (w.sets-is i).items ++ set ∷ []) ∙ (λ i. nil_from c.pop.new.self.items left i ++ set ∷ [])
+          ∙ (λ i. c.in_ok-new.ensures i ∷ []) ∙ (λ i. put_last (sym (nil_from old none) i) (in_lower (record_in rr)))
+          ∙ entry
+    ]

@@ -1,0 +1,112 @@
+//! A record of a text as it is kept until the text is read.
+ghost use Rattle.std.specs.Cmp.{partial_equiv_from_equiv, partial_order_from_agreeing_total};
+ghost use Rattle.std.specs.Ordering.{as_partial_cmp, eq_by_cmp};
+ghost use Rattle.std.specs.Prelude.{◌≡◌, ◌<◌, ◌^◌, IfOk, refl};
+ghost use Rattle.master_file.specs.SetOrder.{set_order, set_order_total, set_order_equiv};
+
+use crate::owner::Owner;
+use crate::record_entry::RecordEntry;
+use dns_rdata::{RData, Ttl};
+use std::alloc::{AllocError, Global};
+use std::cmp::Ordering;
+use std::marker::Model;
+
+/// A record of a text, ordered by its owner and type (RFC 4034, 6.1).
+#[derive(Drop)]
+pub(crate) struct KeptRecord {
+    owner: Owner,
+    line: u64,
+    ttl: Ttl,
+    rdata: RData,
+}
+
+impl Model for KeptRecord {
+    ghost use Rattle.std.specs.Prelude.{◌<◌, ◌^◌};
+    ghost use Rattle.master_file.specs.declared.record_entry.RecordEntry.{RecordEntry};
+
+    ghost Value = { RecordEntry };
+
+    ghost view = { λ a. record { line = a.line; owner = a.owner; ttl = a.ttl; rdata = a.rdata } };
+
+    ghost invariant = { λ a. a.ttl.0 < 2 ^ 31 };
+}
+
+impl KeptRecord {
+    /// A record of a text.
+    pub(crate) fn new(alloc: Global, rr: RecordEntry) -> Result<KeptRecord, AllocError>
+        requires { rr.ttl.0 < 2 ^ 31 }
+        ensures { IfOk result (λ kept. kept ≡ rr) }
+    {
+        let RecordEntry {
+            line,
+            owner,
+            ttl,
+            rdata,
+        } = rr;
+        Ok(KeptRecord {
+            owner: Owner::new(alloc, &owner)?,
+            line,
+            ttl,
+            rdata,
+        })
+    }
+
+    /// The record, as the text has it.
+    pub(crate) fn into_entry(self) -> RecordEntry
+        ensures entry { result ≡ self }
+        ensures lasts { result.ttl.0 < 2 ^ 31 }
+    {
+        let KeptRecord {
+            owner,
+            line,
+            ttl,
+            rdata,
+        } = self;
+        RecordEntry {
+            line,
+            owner: owner.name(),
+            ttl,
+            rdata,
+        }
+    }
+}
+
+impl PartialEq for KeptRecord {
+    ghost eq = { eq_by_cmp set_order };
+
+    ghost laws = { partial_equiv_from_equiv set_order_equiv };
+
+    fn eq(&self, other: &KeptRecord) -> bool {
+        self.cmp(other).is_eq()
+    }
+}
+
+impl Eq for KeptRecord {
+    ghost laws = { set_order_equiv };
+}
+
+impl Ord for KeptRecord {
+    ghost cmp = { set_order };
+
+    ghost total = { set_order_total };
+
+    ghost matches_partial_cmp = { λ _ _. refl };
+
+    ghost matches_eq = { λ _ _. refl };
+
+    fn cmp(&self, other: &KeptRecord) -> Ordering {
+        self.owner
+            .order(&other.owner)
+            .then_with(|| self.rdata.rtype().0.cmp(&other.rdata.rtype().0))
+    }
+}
+
+impl PartialOrd for KeptRecord {
+    ghost partial_cmp = { as_partial_cmp set_order };
+
+    ghost laws = { partial_order_from_agreeing_total set_order set_order_total (λ _ _. refl) (λ _ _. refl) };
+
+    fn partial_cmp(&self, other: &KeptRecord) -> Option<Ordering> {
+        Some(self.cmp(other))
+    }
+}

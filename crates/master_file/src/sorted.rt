@@ -1,0 +1,81 @@
+//! The sets of a zone, put together from the records of a text.
+ghost use Rattle.std.specs.Prelude.{◌≡◌, ◌&&◌, ◌==◌, [], true, IfOk, IfSome};
+ghost use Rattle.std.specs.Bool.{OnTrue};
+ghost use Rattle.dns_name.specs.Name.{is_same, fold_name};
+ghost use Rattle.dns_rdata.specs.Record.{owner_of, rtype_of};
+ghost use Rattle.zone_tree.specs.Sets.{records_in};
+ghost use Rattle.master_file.specs.SetOrder.{put_last, sets_with};
+ghost use Rattle.master_file.specs.ZoneText.{record_in, in_lower, zone_records};
+
+use crate::kept::KeptRecord;
+use crate::record_entry::RecordEntry;
+use dns_name::Name;
+use dns_rdata::{RData, RRset, SetFault};
+use std::alloc::{AllocError, Global};
+
+/// The sets of records, which are sorted by owner and type first; None where a set would have too many.
+pub(crate) fn sets_of(
+    alloc: Global,
+    mut records: Vec<KeptRecord>,
+) -> Result<Option<Vec<RRset>>, AllocError>
+    ensures { IfOk result (λ found. IfSome found (λ sets. records_in sets.items ≡ zone_records records.items)) }
+{
+    records.sort()?;
+    let Some(sets) = put_all(alloc, records)? else {
+        return Ok(None);
+    };
+    Ok(Some(sets))
+}
+
+/// The sets of records in the order of their sets; None where a set would have too many.
+#[tactic(auto, using(crate::proofs::PutLemmas::sets_append))]
+fn put_all(alloc: Global, records: Vec<KeptRecord>) -> Result<Option<Vec<RRset>>, AllocError>
+    ensures { IfOk result (λ found. IfSome found (λ sets. sets.items ≡ sets_with [] records.items)) }
+{
+    let mut sets = Vec::new(alloc);
+    for kept in records {
+        if !put(alloc, &mut sets, kept)? {
+            return Ok(None);
+        }
+    }
+    Ok(Some(sets))
+}
+
+/// Puts a record into the last of the sets where that is of its owner and type, and else behind them. Whether there was
+/// room for it.
+fn put(alloc: Global, sets: &mut Vec<RRset>, kept: KeptRecord) -> Result<bool, AllocError>
+    ensures { IfOk result (λ room. OnTrue room (sets.new.items ≡ put_last sets.old.items (in_lower (record_in kept)))) }
+{
+    let RecordEntry {
+        owner,
+        ttl,
+        rdata,
+        ..
+    } = kept.into_entry();
+    match sets.pop() {
+        Some(mut last) => {
+            if is_of(&last, &owner, &rdata) {
+                match last.insert(rdata) {
+                    Ok(_) => {}
+                    Err(SetFault::Limit) => return Ok(false),
+                    Err(SetFault::NoMemory) => return Err(AllocError),
+                }
+                last.set_ttl(ttl);
+                sets.push(last)?;
+                return Ok(true);
+            }
+            sets.push(last)?;
+        }
+        None => {}
+    }
+    sets.push(RRset::new(alloc, &owner, ttl, rdata)?)?;
+    Ok(true)
+}
+
+/// Whether data belongs to a set: of its owner and type.
+fn is_of(set: &RRset, owner: &Name, rdata: &RData) -> bool
+    ensures of { result ≡ (is_same (owner_of set.now) owner.now && rtype_of set.now == rdata.now.rtype) }
+    ensures owner { result ≡ true → owner_of set.now ≡ fold_name owner.now }
+{
+    set.owner() == owner && set.rtype() == rdata.rtype()
+}
