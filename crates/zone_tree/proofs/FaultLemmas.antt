@@ -7,8 +7,8 @@ use Rattle.std.proofs.lemmas.Bool.Decides.{nat_tests}
 use Rattle.dns_name.specs.Name.{is_under}
 use Rattle.dns_rdata.specs.Numbers.{type_NS}
 use Rattle.dns_rdata.specs.Record.{Record}
-use Rattle.zone_tree.specs.declared.fault.ZoneFault.{ZoneFault}
-use Rattle.zone_tree.specs.declared.fault.ZoneFault.TheVariants.{TooManyRecords, NotAscending, NoSoa, SecondSoa, Outside, NoNameServer, AliasNotAlone, WildCut}
+use Rattle.zone_tree.specs.declared.fault.BrokenRule.{BrokenRule}
+use Rattle.zone_tree.specs.declared.fault.BrokenRule.TheVariants.{TooManyRecords, NotAscending, NoSoa, SecondSoa, Outside, NoNameServer, AliasNotAlone, WildCut}
 use Rattle.zone_tree.specs.Fault.{IsFault, NoneBefore, place_of_rule}
 use Rattle.zone_tree.specs.Zone.{IsZone, IsBefore, apex_of, is_alone, is_wild}
 use Rattle.zone_tree.specs.Sets.{records_in, set_cmp, IsSetBefore, IsRRset, AreUnsplit}
@@ -32,7 +32,7 @@ sets_ascend sets each unsplit rise =
 pub too_many : (sets : List (List Record)) → IsFault TooManyRecords sets → AreUnsplit sets → IsZone (records_in sets) → ⊥
 too_many sets h unsplit zone = omega (arith, zone.limits.few)
 
-pub no_zone : (fault : ZoneFault) (sets : List (List Record)) → All IsRRset sets → IsFault fault sets → AreUnsplit sets → IsZone (records_in sets) → ⊥
+pub no_zone : (fault : BrokenRule) (sets : List (List Record)) → All IsRRset sets → IsFault fault sets → AreUnsplit sets → IsZone (records_in sets) → ⊥
 no_zone TooManyRecords sets each h unsplit zone = too_many sets h unsplit zone
 no_zone NotAscending sets each h unsplit zone = h (sets_ascend sets each unsplit zone.rules.ascending)
 no_zone NoSoa sets each h unsplit zone = omega (arith, ap length h, zone.rules.one_soa)
@@ -43,7 +43,7 @@ no_zone AliasNotAlone sets each h unsplit zone = not_each (is_alone (records_in 
 no_zone WildCut sets each h unsplit zone = not_none (λ r. is_wild r.owner && r.rtype == type_NS) (records_in sets) h zone.rules.no_wild_cuts
 
 -- a rule by its place
-rule_at : ℕ → ZoneFault
+rule_at : ℕ → BrokenRule
 rule_at zero = WildCut
 rule_at (suc zero) = TooManyRecords
 rule_at (suc (suc zero)) = NotAscending
@@ -54,7 +54,7 @@ rule_at (suc (suc (suc (suc (suc (suc zero)))))) = NoNameServer
 rule_at (suc (suc (suc (suc (suc (suc (suc zero))))))) = AliasNotAlone
 rule_at (suc (suc (suc (suc (suc (suc (suc (suc n)))))))) = WildCut
 
-at_place : (fault : ZoneFault) → rule_at (place_of_rule fault) ≡ fault
+at_place : (fault : BrokenRule) → rule_at (place_of_rule fault) ≡ fault
 unfolding rule_at
 at_place TooManyRecords = refl
 at_place NotAscending = refl
@@ -65,10 +65,10 @@ at_place NoNameServer = refl
 at_place AliasNotAlone = refl
 at_place WildCut = refl
 
-same_place : (fault other : ZoneFault) → place_of_rule fault ≡ place_of_rule other → fault ≡ other
+same_place : (fault other : BrokenRule) → place_of_rule fault ≡ place_of_rule other → fault ≡ other
 same_place fault other e = sym (at_place fault) ∙ ap rule_at e ∙ at_place other
 
-some_place : (fault : ZoneFault) → 0 < place_of_rule fault
+some_place : (fault : BrokenRule) → 0 < place_of_rule fault
 some_place TooManyRecords = omega arith
 some_place NotAscending = omega arith
 some_place NoSoa = omega arith
@@ -83,10 +83,10 @@ pub none_at_first : (sets : List (List Record)) → NoneBefore TooManyRecords se
 none_at_first sets other before broken = omega (arith, some_place other)
 
 -- one rule more holds
-pub one_more_rule : (fault next : ZoneFault) (sets : List (List Record)) → place_of_rule next ≡ place_of_rule fault + 1 → NoneBefore fault sets → (IsFault fault sets → ⊥) → NoneBefore next sets
+pub one_more_rule : (fault next : BrokenRule) (sets : List (List Record)) → place_of_rule next ≡ place_of_rule fault + 1 → NoneBefore fault sets → (IsFault fault sets → ⊥) → NoneBefore next sets
 one_more_rule fault next sets e first holds other before broken =
     by_test ⊥ (nat_lt (place_of_rule other) (place_of_rule fault))
     (λ t. let earlier : place_of_rule other < place_of_rule fault = grind (arith, nat_tests) in first other earlier broken)
     (λ t. let later : place_of_rule fault ≤ place_of_rule other = grind (arith, nat_tests) in
     let same : place_of_rule other ≡ place_of_rule fault = omega arith in
-    holds (subst (λ (f : ZoneFault). IsFault f sets) (same_place other fault same) broken))
+    holds (subst (λ (f : BrokenRule). IsFault f sets) (same_place other fault same) broken))

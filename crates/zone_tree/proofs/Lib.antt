@@ -2,7 +2,10 @@ pub mod NameOrder
 pub mod Rising
 pub mod SetLemmas
 pub mod LookLemmas
+pub mod OwnerLemmas
 pub mod ZoneLemmas
+pub mod FiledLemmas
+pub mod WalkLemmas
 pub mod CheckLemmas
 pub mod RuleLemmas
 pub mod FaultLemmas

@@ -60,7 +60,7 @@ eq_from_le_not_lt Less e h = absurd (true≢false h)
 eq_from_le_not_lt Equal e h = refl
 eq_from_le_not_lt Greater e h = absurd (true≢false (sym e))
 
-is_false : (b : Bool) → (b ≡ true → ⊥) → b ≡ false
+pub is_false : (b : Bool) → (b ≡ true → ⊥) → b ≡ false
 is_false true f = absurd (f refl)
 is_false false f = refl
 
@@ -71,7 +71,7 @@ lt_not_same a b h = is_false (is_same a b) (λ e. true≢false (sym h ∙ ap is_
 gt_not_same : (a b : List (List ℕ)) → is_le (canonical_cmp a b) ≡ false → is_same a b ≡ false
 gt_not_same a b h = is_false (is_same a b) (λ e. true≢false (sym (ap is_le (tie_from_same a b e)) ∙ h))
 
-lt_not_under : (a b : List (List ℕ)) → is_lt (canonical_cmp a b) ≡ true → is_under a b ≡ false
+pub lt_not_under : (a b : List (List ℕ)) → is_lt (canonical_cmp a b) ≡ true → is_under a b ≡ false
 lt_not_under a b h = is_false (is_under a b) (λ u. true≢false (sym h ∙ lt_turned canonical_total a b ∙ under_not_before a b u))
 
 not_nil : (set : List Record) → 0 < length set → set ≡ [] → ⊥
@@ -79,7 +79,7 @@ not_nil [] l e = omega arith
 not_nil (r ∷ rs) l e = cc
 
 -- a set that is before another doesn't have an owner after the other's
-owner_by : (o p : Ordering) → is_lt (ordering_then o p) ≡ true → is_gt o ≡ false
+pub owner_by : (o p : Ordering) → is_lt (ordering_then o p) ≡ true → is_gt o ≡ false
 owner_by Less p e = refl
 owner_by Equal p e = refl
 owner_by Greater p e = absurd (true≢false (sym e))

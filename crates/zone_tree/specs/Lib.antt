@@ -1,6 +1,8 @@
 pub mod Example
 pub mod Fault
+pub mod Filed
 pub mod Sets
+pub mod Walk
 pub mod Zone
 pub use Rattle.dns_name.specs.Name
 pub use Rattle.dns_rdata.specs.Numbers

@@ -1,12 +1,12 @@
 -- A zone in pieces: its sets, each the records of one owner and type (RFC 2181, 5).
-use Rattle.std.specs.Prelude.{◌≡◌, ℕ, ◌<◌, ◌≤◌, true, false, ◌&&◌, ◌==◌, List, [], ◌≢◌, length, All}
+use Rattle.std.specs.Prelude.{◌≡◌, ℕ, ◌<◌, ◌≤◌, true, false, ◌&&◌, ◌==◌, if◌then◌else◌, List, [], ◌∷◌, ◌≢◌, Option, Some, None, length, filter, All}
 use Rattle.std.specs.List.{AllPairs, flat_map, slice_index_or}
 use Rattle.std.specs.Ordering.{nat_cmp, ordering_then, is_lt}
 use Rattle.std.specs.declared.cmp.Ordering.{Ordering}
-use Rattle.dns_name.specs.Name.{is_same, is_under, canonical_cmp}
+use Rattle.dns_name.specs.Name.{Name, is_same, is_under, canonical_cmp}
 use Rattle.dns_rdata.specs.Numbers.{type_NS}
 use Rattle.dns_rdata.specs.Record.{Record, IsLawful, owner_of, rtype_of, ttl_of}
-use Rattle.zone_tree.specs.Zone.{IsZone, IsBefore, soa_of, apex_of, rrset_of, is_alone, is_wild}
+use Rattle.zone_tree.specs.Zone.{IsZone, IsBefore, soa_of, apex_of, rrset_of, rrsets_of, is_of, is_alone, is_wild}
 
 -- the records of sets, one set after another
 abbrev pub records_in : List (List Record) → List Record
@@ -64,8 +64,28 @@ pub record KeepsApexRules (zone : List Record) : Type 0 where
   pub aliases_alone : All (λ r. is_alone zone r ≡ true) zone
   pub no_wild_cuts : All (λ r. is_wild r.owner && r.rtype == type_NS ≡ false) zone
 
--- sets as a zone keeps them, with the place of its SOA
-pub record AreStored (sets : List (List Record)) (soa : ℕ) : Type 0 where
+-- sets that are a zone, with its apex and how many records it has
+pub record AreJudged (sets : List (List Record)) (at : Name) (count : ℕ) : Type 0 where
   pub rising : AreAscending sets
-  pub place : IsPlaceOf sets (soa_of (records_in sets)) soa
+  pub apex : at ≡ apex_of (records_in sets)
+  pub counted : count ≡ length (records_in sets)
   pub lawful : IsZone (records_in sets)
+
+-- the records whose owners come behind a name, or all
+abbrev pub records_behind : Option Name → List Record → List Record
+records_behind None zone = zone
+records_behind (Some name) zone = filter (λ r. is_lt (canonical_cmp name r.owner)) zone
+
+-- the records of the first owner behind a name, or of the first of all; none where no owner is left
+abbrev pub rrsets_after : Option Name → List Record → List Record
+rrsets_after name zone = rrsets_of (records_behind name zone) (owner_of (records_behind name zone))
+
+-- a record in front of sets: in the first one where it has its owner and type, and else in a set of its own
+abbrev pub in_front : Record → List (List Record) → List (List Record)
+in_front r [] = (r ∷ []) ∷ []
+in_front r (set ∷ sets) = if is_of (owner_of set) (rtype_of set) r then (r ∷ set) ∷ sets else (r ∷ []) ∷ set ∷ sets
+
+-- records in order as sets, each of one owner and type (RFC 2181, 5)
+abbrev pub sets_in : List Record → List (List Record)
+sets_in [] = []
+sets_in (r ∷ rs) = in_front r (sets_in rs)

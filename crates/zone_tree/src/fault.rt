@@ -1,10 +1,15 @@
 //! Why sets are no zone.
+ghost use Rattle.std.specs.Prelude.{◌≡◌};
+ghost use Rattle.zone_tree.specs.declared.fault.NewFault.TheVariants.{NoMemory as no_memory};
+
+use shared_tree::NoMemory;
+use std::alloc::AllocError;
 use thiserror::Error;
 
 /// Which rule sets break that are no zone (RFC 1034, 4.2.1; RFC 2181, 5 and 10.1). The rules are tried in this order,
 /// and the first that is broken is told.
 #[derive(Clone, Copy, Debug, PartialEq, Eq, Error)]
-pub enum ZoneFault {
+pub enum BrokenRule {
     /// More records than a zone may have.
     #[error("Z1 TooManyRecords")]
     TooManyRecords,
@@ -29,4 +34,31 @@ pub enum ZoneFault {
     /// An NS at an owner whose first label is `*`.
     #[error("Z8 WildCut")]
     WildCut,
+}
+
+/// Why sets give no zone. A broken rule is told before any memory is asked for.
+#[derive(Clone, Copy, Debug, PartialEq, Eq, Error)]
+pub enum NewFault {
+    /// The sets are no zone.
+    #[error("{0}")]
+    Broken(BrokenRule),
+    /// A growth was refused.
+    #[error("NoMemory")]
+    NoMemory,
+}
+
+impl From<AllocError> for NewFault {
+    ghost from_gives = { λ refused given. given ≡ no_memory };
+
+    fn from(_refused: AllocError) -> NewFault {
+        NewFault::NoMemory
+    }
+}
+
+impl From<NoMemory> for NewFault {
+    ghost from_gives = { λ refused given. given ≡ no_memory };
+
+    fn from(_refused: NoMemory) -> NewFault {
+        NewFault::NoMemory
+    }
 }

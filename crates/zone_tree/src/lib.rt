@@ -7,16 +7,20 @@
 
 mod check;
 mod fault;
+mod key;
 mod laws;
 mod look;
+mod owners;
 mod read;
 mod rules;
 mod soa;
+mod walk;
 mod zone;
 
-pub use fault::ZoneFault;
+pub use fault::{BrokenRule, NewFault};
 pub use laws::{example_is_a_zone, examples, names_that_exist, same_records, soa_at_apex};
 pub use read::ZoneRead;
+pub use walk::Walk;
 pub use zone::{MAX_RECORDS, Zone};
 
 #[cfg(test)]

@@ -6,8 +6,7 @@ ghost use Rattle.std.specs.Option.{option_copied};
 ghost use Rattle.std.specs.Ordering.{is_lt, is_le};
 ghost use Rattle.dns_name.specs.Name.{canonical_cmp, is_same};
 ghost use Rattle.dns_rdata.specs.Record.{owner_of, rtype_of};
-ghost use Rattle.zone_tree.specs.Zone.{exists};
-ghost use Rattle.zone_tree.specs.Sets.{AreAscending, records_in};
+ghost use Rattle.zone_tree.specs.Sets.{AreAscending};
 
 use dns_name::Name;
 use dns_rdata::{RRset, RType};
@@ -53,15 +52,4 @@ pub(crate) fn set_of_type<'a>(sets: &'a [RRset], rtype: RType) -> Option<&'a RRs
     ensures { option_copied result ≡ find (λ set. rtype_of set == rtype.0) sets.now }
 {
     sets.iter().find(|set| set.rtype() == rtype)
-}
-
-/// Whether the name is the owner of a set, or an ancestor of one: the sets under it begin where it would stand.
-pub(crate) fn has_name(sets: &[RRset], name: &Name) -> bool
-    requires { AreAscending sets.now }
-    ensures { result ≡ exists (records_in sets.now) name.now }
-{
-    match sets.get(count_before(sets, name)) {
-        Some(set) => set.stored_owner().is_under(name),
-        None => false,
-    }
 }

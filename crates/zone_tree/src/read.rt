@@ -1,16 +1,22 @@
 //! What a search asks of a zone.
 ghost use Rattle.std.specs.Prelude.{◌≡◌, ◌↔◌, List, [], length, IsNone, IfSome};
 ghost use Rattle.std.specs.List.{flat_map};
+ghost use Rattle.std.specs.Option.{option_copied};
 ghost use Rattle.dns_rdata.specs.Record.{Record};
 ghost use Rattle.zone_tree.specs.Zone.{IsZone, rrset_of, rrsets_of, exists, soa_of, apex_of};
-ghost use Rattle.zone_tree.specs.Sets.{AreWhole};
+ghost use Rattle.zone_tree.specs.Sets.{AreWhole, rrsets_after, sets_in};
 
+use crate::walk::Walk;
 use dns_name::Name;
 use dns_rdata::{RRset, RType};
 
-/// A zone that can be searched. Contracts see the list of its records.
+/// A zone that can be searched. Contracts see the list of its records, which are a zone.
 pub trait ZoneRead {
     ghost records: { Self → List Record };
+
+    /// The apex: the owner of the SOA (RFC 1034, 4.2).
+    fn apex(&self) -> &Name
+        ensures { result.now ≡ apex_of (records self.now) };
 
     /// The set of an owner and a type; None where the zone has no such record (RFC 2181, 5).
     fn rrset(&self, owner: &Name, rtype: RType) -> Option<&RRset>
@@ -32,15 +38,18 @@ pub trait ZoneRead {
         ensures one { length result.now ≡ 1 }
         ensures lawful { IsZone (records self.now) };
 
-    /// All sets, each in whole, in canonical order (RFC 4034, 6.1).
-    fn walk(&self) -> &[RRset]
-        ensures records { flat_map (λ set. set) result.now ≡ records self.now }
-        ensures whole { AreWhole (records self.now) result.now };
+    /// All sets of the first owner behind a name in canonical order, or of the first of all, each in whole, by type
+    /// number; none where no owner is left (RFC 4034, 6.1). The records are a zone.
+    fn sets_after(&self, name: Option<&Name>) -> &[RRset]
+        ensures records { flat_map (λ set. set) result.now ≡ rrsets_after (option_copied name.entry) (records self.now) }
+        ensures whole { AreWhole (records self.now) result.now }
+        ensures lawful { IsZone (records self.now) };
 
-    /// The apex: the owner of the SOA (RFC 1034, 4.2).
-    final fn apex(&self) -> Name
-        ensures { result ≡ apex_of (records self.now) }
+    /// All sets, each in whole, in canonical order (RFC 4034, 6.1). It takes no memory.
+    final fn walk(&self) -> Walk<'_, Self>
+        ensures sets { result ≡ sets_in (records self.now) }
+        ensures records { flat_map (λ set. set) result ≡ records self.now }
     {
-        self.soa().owner()
+        Walk::new(self)
     }
 }

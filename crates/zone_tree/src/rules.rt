@@ -9,31 +9,31 @@ ghost use Rattle.zone_tree.specs.Sets.{records_in, AreAscending, KeepsApexRules}
 ghost use Rattle.zone_tree.specs.Fault.{IsFirstFault, NoneBefore};
 
 use crate::check::len_of;
-use crate::fault::ZoneFault;
+use crate::fault::BrokenRule;
 use crate::look::sets_at;
 use dns_name::Name;
 use dns_rdata::{RRset, RType};
 
 /// That every owner is at or below the apex, the apex has an NS, each alias stands alone, and no NS stands at an owner
 /// whose first label is `*`.
-pub(crate) fn check_rules(sets: &[RRset], apex: &Name) -> Result<(), ZoneFault>
+pub(crate) fn check_rules(sets: &[RRset], apex: &Name) -> Result<(), BrokenRule>
     requires rising { AreAscending sets.now }
     requires apex { apex.now ≡ apex_of (records_in sets.now) }
-    requires first { NoneBefore ZoneFault.Outside sets.now }
+    requires first { NoneBefore BrokenRule.Outside sets.now }
     ensures kept { OnOk result (KeepsApexRules (records_in sets.now)) }
     ensures fault { IfErr result (λ fault. IsFirstFault fault sets.now) }
 {
     if has_outside(sets, apex) {
-        return Err(ZoneFault::Outside);
+        return Err(BrokenRule::Outside);
     }
     if !has_name_server(sets, apex) {
-        return Err(ZoneFault::NoNameServer);
+        return Err(BrokenRule::NoNameServer);
     }
     if has_crowded_alias(sets) {
-        return Err(ZoneFault::AliasNotAlone);
+        return Err(BrokenRule::AliasNotAlone);
     }
     if has_wild_cut(sets) {
-        return Err(ZoneFault::WildCut);
+        return Err(BrokenRule::WildCut);
     }
     Ok(())
 }

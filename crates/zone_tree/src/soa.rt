@@ -8,7 +8,7 @@ ghost use Rattle.zone_tree.specs.Sets.{records_in, AreAscending, IsPlaceOf};
 ghost use Rattle.zone_tree.specs.Fault.{IsFirstFault, NoneBefore};
 
 use crate::check::len_of;
-use crate::fault::ZoneFault;
+use crate::fault::BrokenRule;
 use dns_rdata::{RRset, RType};
 
 // The place of the first set of type SOA.
@@ -26,21 +26,21 @@ fn has_soa(sets: &[RRset]) -> bool
 }
 
 /// The place of the SOA's set, which is the only one of its type and has one record.
-pub(crate) fn find_soa(sets: &[RRset]) -> Result<usize, ZoneFault>
+pub(crate) fn find_soa(sets: &[RRset]) -> Result<usize, BrokenRule>
     requires rising { AreAscending sets.now }
-    requires first { NoneBefore ZoneFault.NoSoa sets.now }
+    requires first { NoneBefore BrokenRule.NoSoa sets.now }
     ensures found { IfOk result (IsPlaceOf sets.now (soa_of (records_in sets.now))) }
     ensures one { OnOk result (length (soa_of (records_in sets.now)) ≡ 1) }
     ensures fault { IfErr result (λ fault. IsFirstFault fault sets.now) }
 {
     let Some(at) = soa_place(sets) else {
-        return Err(ZoneFault::NoSoa);
+        return Err(BrokenRule::NoSoa);
     };
     if has_soa(&sets[at + 1..]) {
-        return Err(ZoneFault::SecondSoa);
+        return Err(BrokenRule::SecondSoa);
     }
     if len_of(&sets[at]) > 1 {
-        return Err(ZoneFault::SecondSoa);
+        return Err(BrokenRule::SecondSoa);
     }
     Ok(at)
 }

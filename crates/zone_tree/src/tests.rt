@@ -1,5 +1,5 @@
 //! A small zone through each call, and lists that are no zone.
-use crate::fault::ZoneFault;
+use crate::fault::{BrokenRule, NewFault};
 use crate::read::ZoneRead;
 use crate::zone::Zone;
 use dns_name::Name;
@@ -22,14 +22,65 @@ fn name(octets: &[u8]) -> Result<Name, Fail> {
 }
 
 /// The zone of sets of one record each.
-fn zone_of(alloc: Global, rows: &[Row]) -> Result<Result<Zone, ZoneFault>, Fail> {
+fn zone_of(alloc: Global, rows: &[Row]) -> Result<Result<Zone, NewFault>, Fail> {
     let mut sets = Vec::new(alloc);
     for (owner, rtype, octets) in rows {
         let data = RData::from_wire(alloc, *rtype, octets)?;
         let set = RRset::new(alloc, &name(owner)?, Ttl(3600), data)?;
         sets.push(set)?;
     }
-    Ok(Zone::new(sets))
+    Ok(Zone::new(alloc, sets))
+}
+
+/// Whether a walk gives a set of each row, in their order.
+fn walks(zone: &Zone, rows: &[Row]) -> Result<bool, Fail> {
+    let mut left = rows;
+    for set in zone.walk() {
+        let Some(((owner, rtype, _), rest)) = left.split_first() else {
+            return Ok(false);
+        };
+        if *set.owner() != name(owner)? || set.rtype() != *rtype {
+            return Ok(false);
+        }
+        left = rest;
+    }
+    Ok(left.is_empty())
+}
+
+/// What a call gives, or, where memory is refused, what the same call gives anew.
+fn twice<C: Fn() -> Option<Zone>>(call: C) -> Option<Zone>
+    requires { C.IsAlwaysCallable call }
+{
+    match call() {
+        Some(zone) => Some(zone),
+        None => call(),
+    }
+}
+
+/// The zone of sets of one record each; None where memory is refused.
+fn made(alloc: Global, rows: &[Row]) -> Option<Zone> {
+    let mut sets = Vec::new(alloc);
+    for (owner, rtype, octets) in rows {
+        let (owner, _) = Name::from_wire(owner)?;
+        let data = RData::from_wire(alloc, *rtype, octets).ok()?;
+        let set = RRset::new(alloc, &owner, Ttl(3600), data).ok()?;
+        sets.push(set).ok()?;
+    }
+    Zone::new(alloc, sets).ok()
+}
+
+// With one request for memory refused, whichever it is, the zone is made anew.
+#[test]
+fn is_made_anew_where_memory_is_refused(rt: HostRuntime) -> Result<(), Fail> {
+    let rows: [Row; 4] = [
+        (EXAMPLE, RType::NS, NS),
+        (EXAMPLE, RType::SOA, SOA),
+        (b"\x01a\x07example\0", RType::TXT, b"\x02hi"),
+        (b"\x01b\x07example\0", RType::A, &[192, 0, 2, 1]),
+    ];
+    let zone = twice(|| made(rt.alloc(), &rows)).ok_or("no zone")?;
+    assert!(rt; walks(&zone, &rows)?, "all sets");
+    Ok(())
 }
 
 // Names that exist and don't, with how many sets they own (RFC 4592, 2.2.1 to 2.2.3).
@@ -72,8 +123,8 @@ fn looks_up(rt: HostRuntime) -> Result<(), Fail> {
     assert_eq!(rt; found.rtype(), RType::TXT);
     assert!(rt; zone.rrset(&wild, RType::A).is_none());
     assert_eq!(rt; zone.soa().rtype(), RType::SOA);
-    assert!(rt; zone.apex() == name(EXAMPLE)?);
-    assert_eq!(rt; zone.walk().len(), 7);
+    assert!(rt; *zone.apex() == name(EXAMPLE)?);
+    assert!(rt; walks(&zone, &rows)?, "all sets");
     Ok(())
 }
 
@@ -84,25 +135,25 @@ fn refuses(rt: HostRuntime) -> Result<(), Fail> {
     let soa: Row = (EXAMPLE, RType::SOA, SOA);
     let address: Row = (b"\x03www\x07example\0", RType::A, &[192, 0, 2, 1]);
     let alias: Row = (b"\x03www\x07example\0", RType::CNAME, NS);
-    let cases: [(&[Row], ZoneFault); 11] = [
-        (&[soa, ns], ZoneFault::NotAscending),
-        (&[ns, soa, soa], ZoneFault::NotAscending),
-        (&[], ZoneFault::NoSoa),
-        (&[ns], ZoneFault::NoSoa),
+    let cases: [(&[Row], BrokenRule); 11] = [
+        (&[soa, ns], BrokenRule::NotAscending),
+        (&[ns, soa, soa], BrokenRule::NotAscending),
+        (&[], BrokenRule::NoSoa),
+        (&[ns], BrokenRule::NoSoa),
         (
             &[ns, soa, (b"\x03www\x07example\0", RType::SOA, SOA)],
-            ZoneFault::SecondSoa,
+            BrokenRule::SecondSoa,
         ),
-        (&[(b"\0", RType::NS, NS), ns, soa], ZoneFault::Outside),
-        (&[soa, address], ZoneFault::NoNameServer),
-        (&[ns, soa, address, alias], ZoneFault::AliasNotAlone),
+        (&[(b"\0", RType::NS, NS), ns, soa], BrokenRule::Outside),
+        (&[soa, address], BrokenRule::NoNameServer),
+        (&[ns, soa, address, alias], BrokenRule::AliasNotAlone),
         (
             &[ns, soa, (EXAMPLE, RType::CNAME, NS)],
-            ZoneFault::NotAscending,
+            BrokenRule::NotAscending,
         ),
         (
             &[ns, soa, (b"\x01*\x07example\0", RType::NS, NS)],
-            ZoneFault::WildCut,
+            BrokenRule::WildCut,
         ),
         // The first of several: an owner outside, no NS at the apex, and an NS at an asterisk.
         (
@@ -111,13 +162,13 @@ fn refuses(rt: HostRuntime) -> Result<(), Fail> {
                 soa,
                 (b"\x01*\x07example\0", RType::NS, NS),
             ],
-            ZoneFault::Outside,
+            BrokenRule::Outside,
         ),
     ];
     for (rows, want) in cases {
         match zone_of(rt.alloc(), rows)? {
             Ok(_) => assert!(rt; false, "{want:?}"),
-            Err(fault) => assert_eq!(rt; fault, want),
+            Err(fault) => assert_eq!(rt; fault, NewFault::Broken(want)),
         }
     }
     Ok(())
@@ -127,17 +178,21 @@ fn refuses(rt: HostRuntime) -> Result<(), Fail> {
 #[test]
 fn faults(rt: HostRuntime) -> Result<(), Fail> {
     let cases = [
-        (ZoneFault::TooManyRecords, "Z1 TooManyRecords"),
-        (ZoneFault::NotAscending, "Z2 NotAscending"),
-        (ZoneFault::NoSoa, "Z3 NoSoa"),
-        (ZoneFault::SecondSoa, "Z4 SecondSoa"),
-        (ZoneFault::Outside, "Z5 Outside"),
-        (ZoneFault::NoNameServer, "Z6 NoNameServer"),
-        (ZoneFault::AliasNotAlone, "Z7 AliasNotAlone"),
-        (ZoneFault::WildCut, "Z8 WildCut"),
+        (BrokenRule::TooManyRecords, "Z1 TooManyRecords"),
+        (BrokenRule::NotAscending, "Z2 NotAscending"),
+        (BrokenRule::NoSoa, "Z3 NoSoa"),
+        (BrokenRule::SecondSoa, "Z4 SecondSoa"),
+        (BrokenRule::Outside, "Z5 Outside"),
+        (BrokenRule::NoNameServer, "Z6 NoNameServer"),
+        (BrokenRule::AliasNotAlone, "Z7 AliasNotAlone"),
+        (BrokenRule::WildCut, "Z8 WildCut"),
     ];
     for (fault, want) in cases {
+        let broken = NewFault::Broken(fault);
         assert_eq!(rt; format!(in rt.alloc(); "{fault}")?.as_str(), want);
+        assert_eq!(rt; format!(in rt.alloc(); "{broken}")?.as_str(), want);
     }
+    let refused = NewFault::NoMemory;
+    assert_eq!(rt; format!(in rt.alloc(); "{refused}")?.as_str(), "NoMemory");
     Ok(())
 }

@@ -1,75 +1,129 @@
-//! A zone as the flat list of its sets.
+//! A zone as a shared tree of its owners.
 ghost use Rattle.std.specs.Prelude.{◌≡◌, List};
+ghost use Rattle.std.specs.Option.{option_copied};
+ghost use Rattle.dns_name.specs.Name.{canonical_cmp};
 ghost use Rattle.dns_rdata.specs.Record.{Record};
+ghost use Rattle.shared_tree.specs.Pairs.{first_pair, pairs_behind, value_at};
+ghost use Rattle.zone_tree.specs.Filed.{items_of};
 
-use crate::check::check;
-use crate::fault::ZoneFault;
-use crate::look::{has_name, set_of_type, sets_at};
+use crate::check::{Judged, check};
+use crate::fault::NewFault;
+use crate::key::OwnerKey;
+use crate::look::set_of_type;
+use crate::owners::{Owned, under_owners};
 use crate::read::ZoneRead;
 use dns_name::Name;
 use dns_rdata::{RRset, RType};
+use shared_tree::Tree;
+use std::alloc::Global;
 use std::marker::Model;
 
 /// The most records of a zone.
 pub const MAX_RECORDS: usize = 1_000_000;
 
-/// A zone: its sets in canonical order.
+/// A zone: its sets under their owners, in canonical order. A zone is never changed; zones share what they have in
+/// common.
 #[derive(Drop)]
 pub struct Zone {
-    sets: Vec<RRset>,
-    soa: usize,
+    apex: Name,
+    count: usize,
+    owners: Tree<OwnerKey, Vec<RRset>>,
 }
 
 impl Model for Zone {
     ghost use Rattle.std.specs.Prelude.{List};
     ghost use Rattle.dns_rdata.specs.Record.{Record};
-    ghost use Rattle.zone_tree.specs.Sets.{records_in, AreStored};
+    ghost use Rattle.zone_tree.specs.Filed.{records_under, AreKept};
 
     ghost Value = { List Record };
 
-    ghost view = { λ a. records_in a.sets.items };
+    ghost view = { λ a. records_under a.owners.pairs };
 
-    ghost invariant = { λ a. AreStored a.sets.items a.soa };
+    ghost invariant = { λ a. AreKept a.apex a.count a.owners.pairs };
 }
 
 impl Zone {
     ghost use Rattle.std.specs.Prelude.{IfOk, IfErr, OnErr};
+    ghost use Rattle.std.specs.Result.{IsErrOf};
     ghost use Rattle.zone_tree.specs.Zone.{IsZone};
     ghost use Rattle.zone_tree.specs.Sets.{records_in, AreUnsplit};
-    ghost use Rattle.zone_tree.specs.Fault.{IsFirstFault};
+    ghost use Rattle.zone_tree.specs.Fault.{IsFirstFault, IfBroken};
 
     /// The zone of these sets, which are in canonical order (RFC 4034, 6.1), each all that the zone has of its owner
-    /// and type. Where they are no zone, the first rule that they break, in the order of [`ZoneFault`].
-    pub fn new(sets: Vec<RRset>) -> Result<Zone, ZoneFault>
+    /// and type. Where they are no zone, the first rule that they break, in the order of
+    /// [`BrokenRule`](crate::BrokenRule). `NoMemory` only where a growth was refused, of sets that are a zone.
+    pub fn new(alloc: Global, sets: Vec<RRset>) -> Result<Zone, NewFault>
         ensures zone { IfOk result (λ zone. (zone ≡ records_in sets.items) × IsZone zone) }
-        ensures refused { OnErr result (AreUnsplit sets.items → IsZone (records_in sets.items) → ⊥) }
-        ensures fault { IfErr result (λ fault. IsFirstFault fault sets.items) }
+        ensures refused { IfErr result (λ fault. IfBroken fault (λ _. AreUnsplit sets.items → IsZone (records_in sets.items) → ⊥)) }
+        ensures fault { IfErr result (λ fault. IfBroken fault (λ rule. IsFirstFault rule sets.items)) }
+        ensures no_memory { IsErrOf result NewFault.NoMemory → IsZone (records_in sets.items) }
     {
-        let soa = check(&sets)?;
-        Ok(Zone { sets, soa })
+        let Judged { apex, count } = check(&sets).map_err(NewFault::Broken)?;
+        let owners = Tree::from_sorted(alloc, under_owners(alloc, sets)?)?;
+        Ok(Zone {
+            apex,
+            count,
+            owners,
+        })
     }
 }
 
 impl ZoneRead for Zone {
     ghost records = { λ zone. zone };
 
+    fn apex(&self) -> &Name {
+        &self.apex
+    }
+
     fn rrset(&self, owner: &Name, rtype: RType) -> Option<&RRset> {
-        set_of_type(sets_at(&self.sets, owner), rtype)
+        set_of_type(sets_at(&self.owners, owner), rtype)
     }
 
     fn rrsets_at(&self, owner: &Name) -> &[RRset] {
-        sets_at(&self.sets, owner)
+        sets_at(&self.owners, owner)
     }
 
     fn exists(&self, name: &Name) -> bool {
-        has_name(&self.sets, name)
+        if self.owners.get(name).is_some() {
+            return true;
+        }
+        match self.owners.after(name) {
+            Some(pair) => pair.0.is_under(name),
+            None => false,
+        }
     }
 
     fn soa(&self) -> &RRset {
-        &self.sets[self.soa]
+        match set_of_type(sets_at(&self.owners, &self.apex), RType::SOA) {
+            Some(set) => set,
+            None => unreachable!(),
+        }
     }
 
-    fn walk(&self) -> &[RRset] {
-        self.sets.as_slice()
+    fn sets_after(&self, owner: Option<&Name>) -> &[RRset] {
+        match next_owner(&self.owners, owner) {
+            Some(pair) => pair.1.as_slice(),
+            None => &[],
+        }
+    }
+}
+
+/// The sets of an owner.
+fn sets_at<'a>(owners: &'a Tree<OwnerKey, Vec<RRset>>, owner: &Name) -> &'a [RRset]
+    ensures { result.now ≡ items_of (value_at canonical_cmp owner.now owners.now.pairs) }
+{
+    match owners.get(owner) {
+        Some(sets) => sets.as_slice(),
+        None => &[],
+    }
+}
+
+/// The first owner behind a name, or of all, with its sets.
+fn next_owner<'a>(owners: &'a Tree<OwnerKey, Vec<RRset>>, name: Option<&Name>) -> Option<&'a Owned>
+    ensures { option_copied result ≡ first_pair (pairs_behind canonical_cmp (option_copied name.entry) owners.now.pairs) }
+{
+    match name {
+        Some(name) => owners.after(name),
+        None => owners.first(),
     }
 }

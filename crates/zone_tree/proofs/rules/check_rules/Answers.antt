@@ -5,7 +5,7 @@ use Rattle.std.specs.List.{list_any}
 use Rattle.dns_name.specs.Name.{is_under}
 use Rattle.dns_rdata.specs.Numbers.{type_NS}
 use Rattle.dns_rdata.specs.Record.{Record}
-use Rattle.zone_tree.specs.declared.fault.ZoneFault.TheVariants.{Outside, NoNameServer, AliasNotAlone, WildCut}
+use Rattle.zone_tree.specs.declared.fault.BrokenRule.TheVariants.{Outside, NoNameServer, AliasNotAlone, WildCut}
 use Rattle.zone_tree.specs.Fault.{NoneBefore}
 use Rattle.zone_tree.specs.Zone.{apex_of, rrset_of, is_alone, is_wild}
 use Rattle.zone_tree.specs.Sets.{records_in}

@@ -5,7 +5,7 @@ use Rattle.std.specs.List.{list_any}
 use Rattle.std.proofs.lemmas.List.{take_rest, get_or_read}
 use Rattle.dns_rdata.specs.Numbers.{type_SOA}
 use Rattle.dns_rdata.specs.Record.{Record, rtype_of}
-use Rattle.zone_tree.specs.declared.fault.ZoneFault.TheVariants.{NoSoa, SecondSoa}
+use Rattle.zone_tree.specs.declared.fault.BrokenRule.TheVariants.{NoSoa, SecondSoa}
 use Rattle.zone_tree.specs.Fault.{IsFirstFault, NoneBefore}
 use Rattle.zone_tree.specs.Sets.{records_in}
 use Rattle.zone_tree.specs.Zone.{soa_of}

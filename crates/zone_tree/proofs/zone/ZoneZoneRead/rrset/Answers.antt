@@ -1,18 +1,19 @@
 -- The set of the type among the sets of the owner is the one of that owner and type.
 use Rattle.std.proofs.Common.{sym, ap, ◌∙◌, ◌≡◌, []}
 use Rattle.std.specs.Prelude.{◌↔◌}
-use Rattle.std.specs.List.{filter}
 use Rattle.std.specs.Option.{IsNone, IfSome, option_copied}
-use Rattle.dns_name.specs.Name.{is_same}
-use Rattle.dns_rdata.specs.Record.{owner_of}
 use Rattle.zone_tree.specs.Zone.{rrset_of}
+use Rattle.zone_tree.specs.Filed.{sets_under}
 use Rattle.zone_tree.proofs.LookLemmas.{rrset_found, rrset_clauses}
+use Rattle.zone_tree.proofs.FiledLemmas.{sets_at_key}
 use Rattle.zone_tree.proofs.zone.ZoneZoneRead.rrset.Goals as goal
 
 both : (c : goal.After-set_of_type) → (IsNone c.set_of_type.result ↔ (rrset_of c.args.self.now c.args.owner.now c.args.rtype.0 ≡ [])) × IfSome c.set_of_type.result (λ set. set.now ≡ rrset_of c.args.self.now c.args.owner.now c.args.rtype.0)
 both c =
-    let at = sym (c.sets_at.ensures ∙ ap (filter (λ set. is_same (owner_of set) c.args.owner.now)) c.deref.ensures.value) in
-    let found = rrset_found c.self.inside.sets.items c.self.invariant.rising c.args.owner.now c.args.rtype.0 c.sets_at.result.now at (option_copied c.set_of_type.result) c.set_of_type.ensures in
+    let pairs = c.self.inside.owners.pairs in
+    let filed = c.self.invariant.filed in
+    let at = sets_at_key pairs filed c.args.owner.now ∙ sym c.sets_at.ensures in
+    let found = rrset_found (sets_under pairs) filed.rising c.args.owner.now c.args.rtype.0 c.sets_at.result.now at (option_copied c.set_of_type.result) c.set_of_type.ensures in
     rw (← c.self.view_is) (rrset_clauses _ c.set_of_type.result found)
 
 pub returns-clause-none : goal.returns-clause-none

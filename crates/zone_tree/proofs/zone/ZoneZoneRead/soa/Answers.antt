@@ -1,0 +1,25 @@
+-- The set of the SOA's type at the apex.
+use Rattle.std.proofs.Common.{◌≡◌, sym, ap, ◌∙◌, ℕ, List, [], length, arith, Some, None}
+use Rattle.std.specs.Prelude.{◌==◌}
+use Rattle.std.specs.Option.{option_copied}
+use Rattle.std.specs.List.{find}
+use Rattle.dns_name.specs.Name.{Name}
+use Rattle.dns_rdata.specs.Numbers.{type_SOA}
+use Rattle.dns_rdata.specs.Record.{Record, rtype_of}
+use Rattle.shared_tree.specs.Pairs.{value_at}
+use Rattle.zone_tree.specs.Zone.{soa_of}
+use Rattle.zone_tree.specs.Filed.{Filed, records_under, items_of, AreKept}
+use Rattle.zone_tree.proofs.FiledLemmas.{soa_none, soa_some}
+use Rattle.zone_tree.proofs.zone.ZoneZoneRead.soa.Goals as goal
+
+pub unreachable-requires : goal.unreachable-requires
+unreachable-requires c =
+    soa_none c.self.inside.apex c.self.inside.count c.self.inside.owners.pairs c.self.invariant c.sets_at.result.now c.sets_at.ensures (sym c.set_of_type.ensures ∙ ap option_copied c.in-None.is)
+
+pub returns-clause-set : goal.returns-clause-set
+returns-clause-set c =
+    soa_some c.self.inside.apex c.self.inside.count c.self.inside.owners.pairs c.self.invariant c.sets_at.result.now c.sets_at.ensures c.in-Some.set.now (sym c.set_of_type.ensures ∙ ap option_copied c.in-Some.is)
+    ∙ ap soa_of c.self.view_is
+
+pub returns-clause-one : goal.returns-clause-one
+returns-clause-one c = ap length (returns-clause-set c ∙ ap soa_of (sym c.self.view_is)) ∙ c.self.invariant.lawful.rules.one_soa

@@ -1,0 +1,94 @@
+//! The owners of a zone as the keys of its tree.
+ghost use Rattle.std.specs.Cmp.{partial_equiv_from_equiv, partial_order_from_agreeing_total};
+ghost use Rattle.std.specs.Ordering.{as_partial_cmp};
+ghost use Rattle.std.specs.Prelude.{◌≡◌, refl};
+ghost use Rattle.dns_name.specs.Name.{canonical_cmp, is_same, is_under};
+ghost use Rattle.dns_name.specs.Order.{canonical_total, is_same_equiv, is_same_tied};
+
+use dns_name::Name;
+use shared_tree::Seek;
+use std::cmp::Ordering;
+use std::marker::Model;
+
+/// An owner as a key: keys stand in the canonical order of names (RFC 4034, 6.1).
+#[derive(Drop)]
+pub(crate) struct OwnerKey {
+    name: Name,
+}
+
+impl Model for OwnerKey {
+    ghost use Rattle.std.specs.Prelude.{ℕ, List};
+
+    ghost Value = { List (List ℕ) };
+
+    ghost view = { λ key. key.name };
+}
+
+impl OwnerKey {
+    /// The key of an owner.
+    pub(crate) fn new(owner: &Name) -> OwnerKey
+        ensures { result ≡ owner.now }
+    {
+        OwnerKey { name: owner.copy() }
+    }
+
+    /// Whether it is the key of an owner (RFC 4343, 3).
+    pub(crate) fn is_of(&self, owner: &Name) -> bool
+        ensures { result ≡ is_same self.now owner.now }
+    {
+        self.name == *owner
+    }
+
+    /// Whether its owner is a name or below it (RFC 1034, 3.1).
+    pub(crate) fn is_under(&self, name: &Name) -> bool
+        ensures { result ≡ is_under self.now name.now }
+    {
+        self.name.is_under(name)
+    }
+}
+
+impl Seek<OwnerKey> for Name {
+    ghost key = { λ name. name };
+
+    fn cmp_key(&self, other: &OwnerKey) -> Ordering {
+        self.order(&other.name)
+    }
+}
+
+impl PartialEq for OwnerKey {
+    ghost eq = { is_same };
+
+    ghost laws = { partial_equiv_from_equiv is_same_equiv };
+
+    fn eq(&self, other: &OwnerKey) -> bool {
+        self.name == other.name
+    }
+}
+
+impl Eq for OwnerKey {
+    ghost laws = { is_same_equiv };
+}
+
+impl Ord for OwnerKey {
+    ghost cmp = { canonical_cmp };
+
+    ghost total = { canonical_total };
+
+    ghost matches_partial_cmp = { λ _ _. refl };
+
+    ghost matches_eq = { is_same_tied };
+
+    fn cmp(&self, other: &OwnerKey) -> Ordering {
+        self.name.order(&other.name)
+    }
+}
+
+impl PartialOrd for OwnerKey {
+    ghost partial_cmp = { as_partial_cmp canonical_cmp };
+
+    ghost laws = { partial_order_from_agreeing_total canonical_cmp canonical_total (λ _ _. refl) is_same_tied };
+
+    fn partial_cmp(&self, other: &OwnerKey) -> Option<Ordering> {
+        Some(self.cmp(other))
+    }
+}

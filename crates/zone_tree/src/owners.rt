@@ -1,0 +1,54 @@
+//! Sets put under their owners.
+ghost use Rattle.std.specs.Prelude.{◌≡◌, List, [], ◌∷◌, ◌++◌, IfOk, OnOk};
+ghost use Rattle.dns_rdata.specs.Record.{Record, owner_of};
+ghost use Rattle.zone_tree.specs.Filed.{sets_under, AreFiled, AreGathered, AreBefore, IsBehind};
+ghost use Rattle.zone_tree.specs.Sets.{AreAscending};
+
+use crate::key::OwnerKey;
+use dns_rdata::RRset;
+use std::alloc::{AllocError, Global};
+
+/// An owner and its sets.
+pub(crate) type Owned = (OwnerKey, Vec<RRset>);
+
+/// Sets in ascending order, under their owners.
+pub(crate) fn under_owners(alloc: Global, sets: Vec<RRset>) -> Result<Vec<Owned>, AllocError>
+    requires { AreAscending sets.items }
+    ensures filed { IfOk result (λ pairs. AreFiled pairs.items) }
+    ensures sets { IfOk result (λ pairs. sets_under pairs.items ≡ sets.items) }
+{
+    let mut pairs = Vec::new(alloc);
+    for set in sets {
+        put_behind(alloc, &mut pairs, set)?;
+    }
+    Ok(pairs)
+}
+
+/// Puts a set that comes behind all others under its owner, which is the last one or a new one.
+fn put_behind(alloc: Global, pairs: &mut Vec<Owned>, set: RRset) -> Result<(), AllocError>
+    ensures { OnOk result ((sets : List (List Record)) → AreGathered pairs.old.items sets → IsBehind set sets → AreGathered pairs.new.items (sets ++ set ∷ [])) }
+{
+    match pairs.pop() {
+        None => put_new(alloc, pairs, set),
+        Some((key, mut own)) => {
+            if key.is_of(&set.owner()) {
+                own.push(set)?;
+                pairs.push((key, own))?;
+                return Ok(());
+            }
+            pairs.push((key, own))?;
+            put_new(alloc, pairs, set)
+        }
+    }
+}
+
+/// Puts a set under a new owner, which comes behind all others.
+fn put_new(alloc: Global, pairs: &mut Vec<Owned>, set: RRset) -> Result<(), AllocError>
+    ensures { OnOk result ((sets : List (List Record)) → AreGathered pairs.old.items sets → AreBefore (owner_of set) pairs.old.items → AreGathered pairs.new.items (sets ++ set ∷ [])) }
+{
+    let key = OwnerKey::new(&set.owner());
+    let mut own = Vec::new(alloc);
+    own.push(set)?;
+    pairs.push((key, own))?;
+    Ok(())
+}
