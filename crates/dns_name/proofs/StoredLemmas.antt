@@ -355,3 +355,13 @@ made octets before wire folded name none e is f =
 -- a label behind the front of the others
 pub room_for : (old front label : ℕ) → old + (front + (label + 1)) < 255 → old + front + label + 2 ≤ 255
 room_for old front label h = omega arith
+
+-- a name in lower case stands to each name as the name itself does
+pub cmp_folded : (name other : List (List ℕ)) → canonical_cmp (fold_name name) other ≡ canonical_cmp name other
+cmp_folded name other = ap (λ (n : List (List ℕ)). slice_cmp (slice_cmp nat_cmp) (reverse n) (reverse (fold_name other))) (fold_name-fold_name name)
+
+pub under_folded : (other name : List (List ℕ)) → is_under other (fold_name name) ≡ is_under other name
+under_folded other name =
+    either_way (is_under other (fold_name name)) (is_under other name)
+    (λ t. let front = front_from_under other (fold_name name) t in under_from_front other name front.0 (front.1 ∙ ap (λ (xs : List ℕ). xs ++ front.0) (stored_of-fold name)))
+    (λ t. let front = front_from_under other name t in under_from_front other (fold_name name) front.0 (front.1 ∙ ap (λ (xs : List ℕ). xs ++ front.0) (sym (stored_of-fold name))))

@@ -2,7 +2,7 @@
 ghost use Rattle.std.specs.Prelude.{◌≡◌, ◌==◌, ◌+◌, ◌*◌, ◌<◌, ◌≤◌, [], ◌∷◌, ◌++◌, length, map, reverse, flat_map, position, All, IfOk, IfSome, MatchOption, Some};
 ghost use Rattle.dns_name.specs.Gather.{front_of};
 ghost use Rattle.dns_name.specs.Labels.{labels_in, IsWhole};
-ghost use Rattle.dns_name.specs.Name.{IsName, fold_name, is_under, canonical_cmp};
+ghost use Rattle.dns_name.specs.Name.{Name, IsName, fold_name, is_under, canonical_cmp};
 ghost use Rattle.dns_name.specs.Stored.{stored_octet, stored_label, octets_stored, labels_stored, name_stored, IsStored, IsClosed, IsFirstPiece};
 ghost use Rattle.dns_name.specs.Text.{text_of};
 
@@ -139,9 +139,11 @@ impl Model for SoughtName {
 }
 
 impl SoughtName {
-    /// The name in lower case.
+    /// The name in lower case, which stands to each name as the name itself does.
     pub fn new(name: &Name) -> SoughtName
-        ensures { result ≡ fold_name name.now }
+        ensures folded { result ≡ fold_name name.now }
+        ensures order { (other : Name) → canonical_cmp result other ≡ canonical_cmp name.now other }
+        ensures above { (other : Name) → is_under other result ≡ is_under other name.now }
     {
         let folded = name.fold();
         let mut octets = ArrayVec::new();
