@@ -5,6 +5,7 @@ pub mod IsZoneLemmas
 pub mod JudgeLemmas
 pub mod KeptLemmas
 pub mod KeyLemmas
+pub mod OverLemmas
 pub mod OwnLemmas
 pub mod PutLemmas
 pub mod ReadableLemmas
