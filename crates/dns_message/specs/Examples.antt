@@ -3,9 +3,11 @@ use Rattle.std.specs.Prelude.{ℕ, true, false, List, [], ◌∷◌, ◌++◌, S
 use Rattle.std.proofs.Common.{lit<}
 use Rattle.dns_rdata.specs.declared.numbers.Rcode.TheVariants.{NoError}
 use Rattle.dns_name.specs.Name.{Name, wire_of}
+use Rattle.dns_rdata.specs.Raw.{RawRecord}
 use Rattle.dns_rdata.specs.Record.{Record}
 use Rattle.dns_message.specs.declared.query.Head.{Head}
 use Rattle.dns_message.specs.declared.query.Question.{Question}
+use Rattle.dns_message.specs.declared.update.ZoneEntry.{ZoneEntry}
 use Rattle.dns_message.specs.Message.{Message}
 
 -- what is in front of a question: ID 0x1234, RD 1, one question
@@ -89,3 +91,44 @@ abbrev pub shortest_octets : List ℕ
 shortest_octets =
     (18 ∷ 52 ∷ 135 ∷ 0 ∷ 0 ∷ 1 ∷ 0 ∷ 0 ∷ 0 ∷ 0 ∷ 0 ∷ 0 ∷ [])
     ++ (1 ∷ 115 ∷ 7 ∷ 101 ∷ 120 ∷ 97 ∷ 109 ∷ 112 ∷ 108 ∷ 101 ∷ 4 ∷ 116 ∷ 101 ∷ 115 ∷ 116 ∷ 0 ∷ 0 ∷ 33 ∷ 0 ∷ 1 ∷ [])
+
+-- what is in front of the zone section of an update: ID 0x4321, OPCODE UPDATE, RD, which says nothing there, one entry of
+-- the zone section, and so many prerequisites and updates, no additional record (RFC 2136, 2.2)
+abbrev pub update_front : ℕ → ℕ → List ℕ
+update_front prerequisites updates = 67 ∷ 33 ∷ 41 ∷ 0 ∷ 0 ∷ 1 ∷ 0 ∷ prerequisites ∷ 0 ∷ updates ∷ 0 ∷ 0 ∷ []
+
+-- the zone example.test. SOA, class IN, in octets
+abbrev pub zone_octets : List ℕ
+zone_octets = 7 ∷ 101 ∷ 120 ∷ 97 ∷ 109 ∷ 112 ∷ 108 ∷ 101 ∷ 4 ∷ 116 ∷ 101 ∷ 115 ∷ 116 ∷ 0 ∷ 0 ∷ 6 ∷ 0 ∷ 1 ∷ []
+
+abbrev pub zone_name : Name
+zone_name = codes "example" ∷ codes "test" ∷ []
+
+abbrev pub zone : ZoneEntry
+zone = record { name = zone_name; rtype = record { 0 = 6 }; class = record { 0 = 1 } }
+
+-- the mail exchange of example.test is WEB.example.test with preference 10, for an hour: the owner is at position 12, and so
+-- is what stands behind WEB
+abbrev pub exchange_octets : List ℕ
+exchange_octets = 192 ∷ 12 ∷ 0 ∷ 15 ∷ 0 ∷ 1 ∷ 0 ∷ 0 ∷ 14 ∷ 16 ∷ 0 ∷ 8 ∷ 0 ∷ 10 ∷ 3 ∷ 87 ∷ 69 ∷ 66 ∷ 192 ∷ 12 ∷ []
+
+abbrev pub exchange : RawRecord
+exchange = record { owner = zone_name; rtype = 15; class = 1; ttl = 3600; octets = 0 ∷ 10 ∷ wire_of web }
+
+-- an address of example.test, of class NONE without data
+abbrev pub absent_octets : List ℕ
+absent_octets = 192 ∷ 12 ∷ 0 ∷ 1 ∷ 0 ∷ 254 ∷ 0 ∷ 0 ∷ 0 ∷ 0 ∷ 0 ∷ 0 ∷ []
+
+abbrev pub absent : RawRecord
+absent = record { owner = zone_name; rtype = 1; class = 254; ttl = 0; octets = [] }
+
+-- addresses of example.test, of class ANY with one octet of data
+abbrev pub any_octets : List ℕ
+any_octets = 192 ∷ 12 ∷ 0 ∷ 1 ∷ 0 ∷ 255 ∷ 0 ∷ 0 ∷ 0 ∷ 0 ∷ 0 ∷ 1 ∷ 7 ∷ []
+
+abbrev pub any_record : RawRecord
+any_record = record { owner = zone_name; rtype = 1; class = 255; ttl = 0; octets = 7 ∷ [] }
+
+-- what the reply to these updates copies from their header
+abbrev pub updater : Head
+updater = record { id = 17185; opcode = 5; rd = false; four_bits = lit< tt }

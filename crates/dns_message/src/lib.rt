@@ -30,7 +30,7 @@ pub use query::{Head, Parsed, Query, Question};
 pub use read::{HEADER, parse};
 pub use reply::Reply;
 pub use update::{RawRecords, Update, ZoneEntry};
-pub use worked::{examples, read_examples};
+pub use worked::{examples, read_examples, update_examples};
 pub use write::{MAX_LIMIT, MIN_LIMIT, write_reply};
 
 #[cfg(test)]

@@ -389,3 +389,35 @@ fn cut_short(rt: HostRuntime) -> Result<(), Fail> {
     assert_eq!(rt; said(rt.alloc(), &bytes), "update");
     Ok(())
 }
+
+/// An update with a prerequisite, `www.example.test. IN MX 10 MAIL.example.test.`, and an update, the address.
+const WHOLE: &[u8; 71] =
+    b"\x43\x21\x29\x00\x00\x01\x00\x01\x00\x01\x00\x00\x07example\x04test\x00\x00\x06\x00\x01\x03www\xc0\x0c\x00\x0f\x00\x01\x00\x00\x00\x00\x00\x09\x00\x0a\x04MAIL\xc0\x0c\xc0\x1e\x00\x01\x00\x01\x00\x00\x01\x2c\x00\x04\xc0\x00\x02\x0a";
+
+// With any one growth refused, the header is told with NoMemory, and the same octets are read once more as the update that
+// they are.
+#[test]
+fn refused_growth(rt: HostRuntime) -> Result<(), Fail> {
+    let mut told = parse(rt.alloc(), WHOLE);
+    if let Parsed::NoMemory(head) = &told {
+        assert_eq!(rt; (head.id, head.opcode, head.rd), (0x4321, 5, false));
+        told = parse(rt.alloc(), WHOLE);
+    }
+    let Parsed::Update(update) = told else {
+        return Err(Fail::from("no update"));
+    };
+    assert_eq!(rt;
+        only(&update.prerequisites),
+        Some((
+            RType::MX,
+            Class::IN,
+            0,
+            b"\x00\x0a\x04mail\x07example\x04test\x00".as_slice()
+        ))
+    );
+    assert_eq!(rt;
+        only(&update.updates),
+        Some((RType::A, Class::IN, 300, b"\xc0\x00\x02\x0a".as_slice()))
+    );
+    Ok(())
+}

@@ -4,8 +4,9 @@ ghost use Rattle.dns_rdata.specs.declared.numbers.Rcode.TheVariants.{FormErr, No
 ghost use Rattle.dns_message.specs.declared.query.Parsed.TheVariants.{Silent, Fault, Query};
 ghost use Rattle.dns_message.specs.Reads.{header_of};
 ghost use Rattle.dns_message.specs.Request.{reads};
+ghost use Rattle.dns_message.specs.Updates.{update_in};
 ghost use Rattle.dns_message.specs.Octets.{reply_octets, fit};
-ghost use Rattle.dns_message.specs.Examples.{request_front, asked_octets, asked, answer, answer_octets, cut_octets, service_answer, service_octets, shorter_octets, shortest_octets};
+ghost use Rattle.dns_message.specs.Examples.{request_front, asked_octets, asked, answer, answer_octets, cut_octets, service_answer, service_octets, shorter_octets, shortest_octets, update_front, zone_octets, zone, exchange_octets, exchange, absent_octets, absent, any_octets, any_record, updater};
 
 /// A request, and what stands for other octets: fewer than twelve, no question, a question whose name points to itself,
 /// one whose name points to a zero octet of the header, and an OPT (RFC 1035, 4.1 and 4.1.4; RFC 6891, 6.1.2 and 7).
@@ -32,4 +33,18 @@ pub fn examples()
     ensures without_additional { fit service_answer 87 ≡ shorter_octets }
     ensures shortest { fit service_answer 67 ≡ shortest_octets }
     ensures below_cut { fit (record service_answer { below_cut = true }) 87 ≡ shortest_octets }
+{}
+
+/// Updates: a record whose data has a name with a pointer; a record of class NONE without data, which is a prerequisite and
+/// no update; one of class ANY, whose data isn't looked at; and a zone section of another type than SOA
+/// (RFC 2136, 2.3 to 2.5).
+#[tactic(auto, unfolding(crate::specs::Updates::update_in, crate::specs::Updates::raws_at, crate::specs::Reads::records_at, crate::specs::Expanded::expanded_data, crate::specs::Expanded::names_at, dns_rdata::specs::Data::data_of, dns_rdata::specs::Layout::layout_of, wire_names::specs::NameAt::name_at, wire_names::specs::NameAt::name_from))]
+pub fn update_examples()
+    ensures add { update_in updater (update_front 0 1 ++ zone_octets ++ exchange_octets) ≡ Some (record { head = updater; zone = zone; prerequisites = []; updates = exchange ∷ [] }) }
+    ensures prerequisite { update_in updater (update_front 1 0 ++ zone_octets ++ absent_octets) ≡ Some (record { head = updater; zone = zone; prerequisites = absent ∷ []; updates = [] }) }
+    ensures no_data { update_in updater (update_front 0 1 ++ zone_octets ++ absent_octets) ≡ None }
+    ensures any_class { update_in updater (update_front 0 1 ++ zone_octets ++ any_octets) ≡ Some (record { head = updater; zone = zone; prerequisites = []; updates = any_record ∷ [] }) }
+    ensures zone_type { update_in updater (update_front 0 0 ++ take 15 zone_octets ++ 1 ∷ 0 ∷ 1 ∷ []) ≡ None }
+    ensures opcode { (header_of (update_front 0 1)).opcode ≡ updater.opcode }
+    ensures rd { (header_of (update_front 0 1)).rd ≡ updater.rd }
 {}
