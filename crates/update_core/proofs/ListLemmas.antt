@@ -1,5 +1,5 @@
 -- Facts on lists and tests.
-use Rattle.std.proofs.Common.{◌≡◌, Bool, true, false, not, ◌&&◌, ◌||◌, cond, List, [], ◌∷◌, map, filter, refl, sym, ap, ◌∙◌}
+use Rattle.std.proofs.Common.{◌≡◌, Bool, true, false, not, ◌&&◌, ◌||◌, cond, List, [], ◌∷◌, map, filter, refl, ap, ◌∙◌}
 use Rattle.std.specs.List.{list_any, list_all}
 
 -- a choice by a test

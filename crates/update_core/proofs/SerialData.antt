@@ -1,12 +1,12 @@
 -- An SOA's data with another serial.
-use Rattle.std.proofs.Common.{◌≡◌, ℕ, suc, ◌+◌, ◌-◌, ◌*◌, ◌^◌, ◌<◌, ◌==◌, nat_le, List, [], ◌∷◌, ◌++◌, length, take, drop, All, Some, None, Option, Bool, true, nat_lt, ◌≤◌, slice_index, refl, sym, ap, subst, ◌∙◌, arith, append_assoc, length-append}
+use Rattle.std.proofs.Common.{◌≡◌, ℕ, suc, ◌-◌, ◌^◌, ◌<◌, nat_le, List, [], ◌++◌, length, take, drop, All, Some, None, Option, Bool, true, nat_lt, ◌≤◌, slice_index, sym, ap, subst, ◌∙◌, arith, append_assoc, length-append}
 use Rattle.std.specs.Int.{from_be_bytes, to_be_bytes, w32}
 use Rattle.std.proofs.Math.Seq.{drop-append_seam, take-append_seam}
 use Rattle.std.proofs.lemmas.Bool.Decides.{Decides-eqb, nat_tests}
 use Rattle.std.proofs.lemmas.List.{get_or_past}
 use Rattle.std.proofs.lemmas.List.Elements.{All-drop, All-take}
 use Rattle.std.proofs.lemmas.Nat.{from_be_bytes-to_be_bytes_4}
-use Rattle.dns_name.specs.Name.{Name, IsName, wire_of, name_in, fold_name}
+use Rattle.dns_name.specs.Name.{Name, IsName, wire_of, name_in}
 use Rattle.dns_name.proofs.LawLemmas.{name_in-stands, name_in-wire_of}
 use Rattle.dns_rdata.specs.Layout.{layout_of}
 use Rattle.dns_rdata.specs.Data.{names_then, data_of, behind_names, serial_of}

@@ -1,25 +1,24 @@
 -- The serial of each zone that an update makes is greater than that of the zone before.
-use Rattle.std.proofs.Common.{◌≡◌, ◌⊎◌, inl, inr, ℕ, ◌<◌, ◌^◌, Bool, true, false, not, ◌&&◌, ◌||◌, ◌==◌, cond, if◌then◌else◌, List, [], ◌∷◌, length, filter, map, All, Option, None, Some, ◌+◌, refl, sym, ap, subst, ◌∙◌, arith, lit<}
+use Rattle.std.proofs.Common.{◌≡◌, ◌⊎◌, inl, inr, ℕ, ◌<◌, ◌^◌, Bool, true, false, not, ◌&&◌, ◌==◌, cond, if◌then◌else◌, List, [], ◌∷◌, length, All, Option, None, Some, ◌+◌, refl, ap, subst, ◌∙◌, arith, lit<}
 use Rattle.std.proofs.Math.Nat.{mod-lt}
 use Rattle.std.proofs.lemmas.Bool.{eqb-true}
-use Rattle.std.specs.Option.{is_some, option_or, option_map, IfSome}
+use Rattle.std.specs.Option.{option_or, option_map, IfSome}
 use Rattle.std.specs.Cmp.Lexicographic.{pointwise}
 use Rattle.std.proofs.lemmas.List.Elements.{All-nil, All-cons, All-head, All-tail, All-weaker}
-use Rattle.dns_name.specs.Name.{is_under}
 use Rattle.dns_rdata.specs.declared.numbers.Rcode.{Rcode}
-use Rattle.dns_rdata.specs.Numbers.{type_NS, type_SOA, type_ANY, class_IN, class_NONE, class_ANY}
+use Rattle.dns_rdata.specs.Numbers.{type_SOA, class_IN}
 use Rattle.dns_rdata.specs.Data.{data_of, serial_of}
 use Rattle.dns_rdata.specs.Record.{Record, IsLawful}
 use Rattle.dns_rdata.specs.Raw.{RawRecord}
 use Rattle.dns_rdata.specs.SerialOrder.{serial_less, serial_next}
 use Rattle.dns_rdata.proofs.SerialLemmas.{less-next}
 use Rattle.dns_message.specs.declared.update.Update.{Update}
-use Rattle.zone_tree.specs.Zone.{IsZone, soa_of, apex_of, is_wild}
-use Rattle.update_core.specs.Verdict.{check, permission, prescan, prescan_of, verdict, first_code, has_form, is_empty, is_recognised}
-use Rattle.update_core.specs.Act.{act, effects, completed, at_serial, record_at_serial, with_serial, zone_serial, first_data, is_same_record}
+use Rattle.zone_tree.specs.Zone.{IsZone, soa_of}
+use Rattle.update_core.specs.Verdict.{check, permission, prescan, prescan_of, verdict, has_form}
+use Rattle.update_core.specs.Act.{act, effects, completed, at_serial, zone_serial, first_data, is_same_record}
 use Rattle.update_core.proofs.ListLemmas.{by_test}
 use Rattle.update_core.proofs.SerialData.{serial_of-with_serial, serial_of-small}
-use Rattle.update_core.proofs.SoaKept.{HasSoa, IsFormed, effects_keep}
+use Rattle.update_core.proofs.SoaKept.{HasForm, HasSoa, IsFormed, effects_keep}
 
 -- a rule that gives no code, and those behind it
 no_first : (o p : Option Rcode) → option_or o p ≡ None → (o ≡ None) × (p ≡ None)
@@ -46,10 +45,10 @@ formed zone [] e = All-nil IsFormed
 formed zone (r ∷ rs) e = let both = no_first (prescan_of zone r) (prescan zone rs) e in All-cons IsFormed r rs (formed_one zone r both.0) (formed zone rs both.1)
 
 -- an SOA that is first has the serial that is put in
-first_serial : (n : ℕ) (zs : List Record) → n < 2 ^ 32 → 0 < length (soa_of zs) → All (λ s. s.rtype == type_SOA ≡ true → data_of type_SOA s.rdata ≡ Some s.rdata) zs → serial_of (first_data (soa_of (at_serial n zs))) ≡ n
+first_serial : (n : ℕ) (zs : List Record) → n < 2 ^ 32 → 0 < length (soa_of zs) → All HasForm zs → serial_of (first_data (soa_of (at_serial n zs))) ≡ n
 first_serial n [] small some form = absurd (omega arith)
 first_serial n (z ∷ zs) small some form =
-    by (z.rtype == type_SOA) refl some (λ more. first_serial n zs small more (All-tail (λ s. s.rtype == type_SOA ≡ true → data_of type_SOA s.rdata ≡ Some s.rdata) z zs form))
+    by (z.rtype == type_SOA) refl some (λ more. first_serial n zs small more (All-tail HasForm z zs form))
   where
     by : (b : Bool) → (z.rtype == type_SOA) ≡ b → 0 < length (cond b (z ∷ soa_of zs) (soa_of zs)) → (0 < length (soa_of zs) → serial_of (first_data (soa_of (at_serial n zs))) ≡ n)
         → serial_of (first_data (soa_of (at_serial n (z ∷ zs)))) ≡ n
@@ -86,14 +85,11 @@ by_effects zone after (Some made) is keeps e =
     let same : after ≡ completed zone made = cc in
     rw same (rises_by zone made is keeps)
 
-abbrev IsSoaFormed : Record → Type 0
-IsSoaFormed s = s.rtype == type_SOA ≡ true → data_of type_SOA s.rdata ≡ Some s.rdata
-
-lawful_form : (s : Record) → IsLawful s → IsSoaFormed s
+lawful_form : (s : Record) → IsLawful s → HasForm s
 lawful_form s k own = subst (λ t. data_of t s.rdata ≡ Some s.rdata) (eqb-true s.rtype type_SOA own) k.form
 
 own_soa : (zone : List Record) → IsZone zone → HasSoa zone
-own_soa zone is = record { some = omega (arith, is.rules.one_soa); form = All-weaker IsLawful IsSoaFormed lawful_form zone is.rules.lawful }
+own_soa zone is = record { some = omega (arith, is.rules.one_soa); form = All-weaker IsLawful HasForm lawful_form zone is.rules.lawful }
 
 pub rises : (zone after : List Record) (update : Update) (may : Bool) → IsZone zone → verdict zone update may ≡ None → act zone update ≡ Some after → (after ≡ zone) ⊎ (serial_less (zone_serial zone) (zone_serial after) ≡ true)
 rises zone after update may is taken e =

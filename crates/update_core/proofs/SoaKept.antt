@@ -1,7 +1,6 @@
 -- An update leaves a zone its SOA.
-use Rattle.std.proofs.Common.{◌≡◌, ℕ, ◌<◌, ◌≤◌, Bool, true, false, not, ◌&&◌, ◌||◌, ◌==◌, cond, if◌then◌else◌, nat_lt, List, [], ◌∷◌, length, filter, map, All, Option, None, Some, unwrap_or, bytes_eq, refl, sym, ap, subst, ◌∙◌, arith}
+use Rattle.std.proofs.Common.{◌≡◌, ℕ, ◌<◌, ◌≤◌, Bool, true, false, not, ◌&&◌, ◌||◌, ◌==◌, cond, if◌then◌else◌, nat_lt, List, [], ◌∷◌, length, filter, All, Option, None, Some, unwrap_or, bytes_eq, refl, sym, ap, ◌∙◌, arith}
 use Rattle.std.specs.Option.{is_some, IfSome, option_and_then}
-use Rattle.std.specs.List.{list_any}
 use Rattle.std.specs.Ordering.{is_lt, is_eq, nat_cmp, ordering_then, MatchOrdering}
 use Rattle.std.specs.declared.cmp.Ordering.{Ordering}
 use Rattle.std.specs.declared.cmp.Ordering.TheVariants.{Less, Equal, Greater}
@@ -9,25 +8,24 @@ use Rattle.std.specs.Cmp.Lexicographic.{slice_cmp}
 use Rattle.std.proofs.lemmas.Bool.{eqb-true}
 use Rattle.std.proofs.lemmas.Cmp.{ranked}
 use Rattle.std.proofs.lemmas.Bool.Decides.{nat_tests}
-use Rattle.std.proofs.lemmas.List.Elements.{All-nil, All-cons, All-head, All-tail, All-map, All-filter, All-weaker}
+use Rattle.std.proofs.lemmas.List.Elements.{All-cons, All-head, All-tail, All-map, All-filter, All-weaker}
 use Rattle.dns_name.specs.Name.{Name, is_same, canonical_cmp}
 use Rattle.dns_name.specs.Order.{is_same_equiv}
-use Rattle.dns_rdata.specs.declared.numbers.Rcode.{Rcode}
-use Rattle.dns_rdata.specs.Numbers.{type_NS, type_CNAME, type_SOA, type_ANY, class_IN, class_NONE, class_ANY}
+use Rattle.dns_rdata.specs.Numbers.{type_CNAME, type_SOA, type_ANY, class_IN, class_NONE, class_ANY}
 use Rattle.dns_rdata.specs.Data.{data_of}
 use Rattle.dns_rdata.proofs.DataLemmas.{IsRead-data}
 use Rattle.dns_rdata.specs.Record.{Record, record_cmp, owner_of}
 use Rattle.dns_rdata.specs.Raw.{RawRecord}
 use Rattle.zone_tree.specs.Zone.{is_of, stands_at, rrset_of, soa_of, apex_of}
-use Rattle.update_core.specs.Verdict.{has_rrset, has_form, prescan_of, prescan, first_code}
+use Rattle.update_core.specs.Verdict.{has_rrset}
 use Rattle.update_core.specs.Act.{entered, with_one, without_rrset, record_with_ttl, with_ttl, ttl_in_zone, has_other_than_alias, has_lesser_soa, within_limits, is_apex_set, is_last_apex_record, effect, effects}
 use Rattle.update_core.proofs.ListLemmas.{by_test, and_left, either_right}
 
-abbrev is_soa : Record → Bool
+abbrev pub is_soa : Record → Bool
 is_soa s = s.rtype == type_SOA
 
 -- a record that is an SOA has data of that form
-abbrev HasForm : Record → Type 0
+abbrev pub HasForm : Record → Type 0
 HasForm s = is_soa s ≡ true → data_of type_SOA s.rdata ≡ Some s.rdata
 
 -- an SOA stands, and each has its form
@@ -178,7 +176,7 @@ within_keeps : (r : RawRecord) (zone : List Record) → HasSoa zone → IfSome (
 within_keeps r zone h =
     by_test (λ (o : Option (List Record)). IfSome o HasSoa) (nat_lt 4096 (length r.octets) || nat_lt 256 (length (rrset_of zone r.owner r.rtype)) || nat_lt 1000000 (length zone)) None (Some zone) (λ _. tt) (λ _. h)
 
-abbrev Keeps : Option (List Record) → Type 0
+abbrev pub Keeps : Option (List Record) → Type 0
 Keeps o = IfSome o HasSoa
 
 -- a record of class IN has data of its type's form

@@ -3,7 +3,7 @@ use Rattle.std.specs.Prelude.{ℕ, false, List, [], ◌∷◌, ◌++◌, codes, 
 use Rattle.std.proofs.Common.{lit<}
 use Rattle.std.specs.Int.{w32, to_be_bytes}
 use Rattle.dns_name.specs.Name.{Name, wire_of}
-use Rattle.dns_rdata.specs.Numbers.{type_A, type_NS, type_CNAME, type_SOA, type_TXT, class_IN, class_NONE, class_ANY}
+use Rattle.dns_rdata.specs.Numbers.{type_A, type_NS, type_CNAME, type_SOA, class_IN, class_NONE, class_ANY}
 use Rattle.dns_rdata.specs.Record.{Record}
 use Rattle.dns_rdata.specs.Raw.{RawRecord}
 use Rattle.zone_tree.specs.Example.{example, in_example, hour_record}

@@ -1,6 +1,6 @@
 -- Whether an update is taken: the first rule that gives a code ends it, in the order of the zone section, the
 -- prerequisites, the permission and the prescan (RFC 2136, 3.1 to 3.4.1).
-use Rattle.std.specs.Prelude.{ℕ, Bool, true, false, ◌&&◌, ◌||◌, not, ◌==◌, List, [], ◌∷◌, length, filter, bytes_eq, if◌then◌else◌, Option, None, Some}
+use Rattle.std.specs.Prelude.{ℕ, Bool, ◌&&◌, ◌||◌, not, ◌==◌, List, [], ◌∷◌, length, filter, bytes_eq, if◌then◌else◌, Option, None, Some}
 use Rattle.std.specs.Option.{option_or, is_some}
 use Rattle.std.specs.List.{list_any, list_all}
 use Rattle.dns_name.specs.Name.{Name, is_same, is_under}

@@ -1,9 +1,10 @@
-//! Dynamic update of a zone (RFC 2136): whether an update is taken, and what it does.
+//! Dynamic update of a zone (RFC 2136): whether an update is taken, and what it makes of the zone.
 //!
 //! Contracts see a zone as the list of its records, an update as its zone section and the lists of its records, and the
-//! code that it gets as the first rule that gives one (`Verdict`), in the order of zone section, prerequisites, permission
-//! and prescan. What it then does is `Act`: its records one after another on the zone, and the serial. [`check`] and
-//! [`prescan`] take no memory and read the zone alone.
+//! code that it gets as that of the first rule that gives one (`Verdict`), in the order of zone section, prerequisites,
+//! permission and prescan: [`check`], [`prescan`] and [`verdict`] equal it, read the zone alone and take no memory. What
+//! an update that is taken makes of the zone is `Act`: its records one after another, and the serial. Laws and worked
+//! examples tell of it; no call makes that change.
 #![tactic(auto)]
 
 mod examples;

@@ -3,7 +3,7 @@ use Rattle.dns_rdata.specs.Raw.{RawRecord}
 use Rattle.dns_rdata.specs.Numbers.{class_IN}
 use Rattle.update_core.specs.Verdict.{is_met}
 use Rattle.update_core.proofs.ListLemmas.{either_right}
-use Rattle.update_core.proofs.VerdictLemmas.{compared, met_before, one_more_met, one_not_met}
+use Rattle.update_core.proofs.VerdictLemmas.{met_before, one_more_met}
 use Rattle.update_core.proofs.prerequisites.check_sets.Goals as goal
 use Rattle.update_core.proofs.prerequisites.check_sets.Goals.{else-eq-via-then-eq+then-not-is_repeated+else-not-is_met, else-eq-via-then-eq+else-not-is_repeated, else-eq-via-else-eq}
 
