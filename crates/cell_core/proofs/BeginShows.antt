@@ -1,26 +1,14 @@
 -- The words at the beginning show the first value alone.
-use Rattle.std.proofs.Common.{◌≡◌, ◌≢◌, refl, sym, ap, ◌∙◌, subst, ℕ, ◌+◌, ◌-◌, ◌<◌, ◌≤◌, ◌⊎◌, Bool, true, false, inl, inr, List, [], ◌∷◌, ◌++◌, length, length-append, arith}
-use Rattle.std.specs.Prelude.{Option, None, Some, ◌==◌, ◌^◌, if◌then◌else◌}
-use Rattle.std.specs.List.{slice_get, slice_set}
-use Rattle.std.proofs.lemmas.Bool.{cases_Bool}
+use Rattle.std.proofs.Common.{◌≡◌, refl, sym, ap, subst, ℕ, ◌<◌, ◌⊎◌, inl, inr, List, [], ◌∷◌, arith}
+use Rattle.std.specs.Prelude.{Some, ◌==◌, if◌then◌else◌}
+use Rattle.std.specs.List.{slice_get}
 use Rattle.std.proofs.lemmas.Bool.Decides.{eqb_tells}
-use Rattle.std.proofs.lemmas.Option.{slice_get_within}
-use Rattle.cell_core.proofs.CountLemmas.{one_if}
-use Rattle.cell_core.proofs.SeatLemmas.{get_set_same, get_set_other, set_cases, get_push_old, push_cases, held_push, held_set, held_some, held_none, set_there, get_push_new, get_within}
-use Rattle.cell_core.proofs.FrameLemmas.{shares_out, with_phase, Elsewhere, slot_stays, table_with, table_as, seat_stays, held_stays, Beside, beside_itself, lies_still, owner_stays, publisher_stays, phase_here, phase_there, phase_stays, numbers_with, owners_after, seat_elsewhere}
-use Rattle.cell_core.specs.Cell.{Cell, CellStep, IsLast, Steps, one_more, one_less, with_strong, without_strong, with_value, with_buried}
-use Rattle.cell_core.specs.Words.{State, slots, grants, free_word, dead_word, bulk, word_of, slot_of, given_of, fetch_sub, fetch_add, number_in}
-use Rattle.cell_core.specs.WordSteps.{Makes, with_slot, with_owner, with_new_owner, with_publisher, with_shares, with_version}
-use Rattle.cell_core.specs.Shows.{Phase, Plan, IsLive, SlotIs, LiesIn, OwnerIs, PublisherIs, Numbers, Given, Counts, Table, Shows, ShowsStep, held, holds, kept_by, kept_by_cell, owned_by}
-use Rattle.cell_core.specs.Shows.Phase.{free, taken, live, dead}
+use Rattle.cell_core.specs.Words.{slots}
+use Rattle.cell_core.specs.Shows.{Plan, IsLive, SlotIs, Shows}
+use Rattle.cell_core.specs.Shows.Phase.{free, live}
 use Rattle.cell_core.specs.declared.words.Slot.{Slot}
 use Rattle.cell_core.specs.declared.words.Owner.{Owner}
-use Rattle.cell_core.specs.declared.words.Owner.TheVariants.{Holding, Burying, Freeing, Spent}
-use Rattle.cell_core.specs.declared.words.Publisher.{Publisher}
-use Rattle.cell_core.specs.declared.words.Publisher.TheVariants.{Probing, Preparing, Swapping, Settling}
-use Rattle.cell_core.specs.declared.words.WordStep.{WordStep}
-use Rattle.cell_core.specs.declared.words.WordEvent.{WordEvent}
-use Rattle.cell_core.proofs.ShowsLemmas.{last_lies, latest_slot, latest_given, number_there, latest_number, unpublished, unsettled}
+use Rattle.cell_core.specs.declared.words.Publisher.TheVariants.{Probing}
 use Rattle.std.proofs.Common.{zero, suc}
 use Rattle.std.proofs.lemmas.List.{length-replicate}
 use Rattle.std.specs.Prelude.{replicate}

@@ -1,6 +1,6 @@
 -- What a step on one word leaves as it was: every slot but one, every owner but one, and the numbers that lie elsewhere.
-use Rattle.std.proofs.Common.{◌≡◌, ◌≢◌, refl, sym, ap, ◌∙◌, subst, ℕ, ◌+◌, ◌-◌, ◌<◌, ◌≤◌, ◌⊎◌, Bool, true, false, inl, inr, List, length, arith}
-use Rattle.std.specs.Prelude.{Option, None, Some, ◌==◌, if◌then◌else◌}
+use Rattle.std.proofs.Common.{◌≡◌, ◌≢◌, refl, sym, ap, ◌∙◌, subst, ℕ, ◌+◌, ◌<◌, ◌≤◌, ◌⊎◌, Bool, true, false, inl, inr, List, length, arith}
+use Rattle.std.specs.Prelude.{Some, ◌==◌, if◌then◌else◌}
 use Rattle.std.specs.List.{slice_get, slice_set}
 use Rattle.std.proofs.lemmas.Bool.Decides.{eqb_tells}
 use Rattle.std.proofs.lemmas.Option.{slice_get_within}
@@ -8,8 +8,8 @@ use Rattle.std.proofs.lemmas.List.{length-set}
 use Rattle.cell_core.proofs.CountLemmas.{one_if}
 use Rattle.cell_core.proofs.SeatLemmas.{get_set_other, set_cases, held_set}
 use Rattle.cell_core.specs.Cell.{Cell, IsLast}
-use Rattle.cell_core.specs.Words.{State, slots, bulk}
-use Rattle.cell_core.specs.Shows.{Phase, Plan, IsLive, SlotIs, LiesIn, OwnerIs, PublisherIs, Numbers, Table, Shows, held, holds, kept_by, kept_by_cell}
+use Rattle.cell_core.specs.Words.{State}
+use Rattle.cell_core.specs.Shows.{Phase, Plan, SlotIs, LiesIn, OwnerIs, PublisherIs, Numbers, Table, held, holds, kept_by, kept_by_cell}
 use Rattle.cell_core.specs.Shows.Phase.{free, taken, live, dead}
 use Rattle.cell_core.specs.declared.words.Slot.{Slot}
 use Rattle.cell_core.specs.declared.words.Owner.{Owner}

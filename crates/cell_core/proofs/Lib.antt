@@ -16,3 +16,4 @@ pub mod BeginShows
 pub mod RunShows
 pub mod TableLemmas
 pub mod UserLemmas
+pub mod GoesOn

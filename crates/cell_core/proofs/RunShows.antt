@@ -1,10 +1,9 @@
 -- A run of steps on words shows a run of a cell.
-use Rattle.std.proofs.Common.{◌≡◌, refl, sym, ap, ◌∙◌, subst, ℕ, ◌+◌, ◌≤◌, List, [], ◌∷◌, ◌++◌, length, length-append, arith}
+use Rattle.std.proofs.Common.{◌≡◌, refl, sym, subst, ℕ, ◌≤◌, List, [], ◌∷◌, ◌++◌, length, length-append, arith}
 use Rattle.std.specs.Prelude.{Option, None, Some}
 use Rattle.cell_core.proofs.StepShows.{step_shows}
 use Rattle.cell_core.specs.Cell.{Cell, CellStep, Steps, Runs}
 use Rattle.cell_core.specs.Words.{State}
-use Rattle.cell_core.specs.WordSteps.{Makes}
 use Rattle.cell_core.specs.Shows.{Shows, ShowsStep, WordRuns}
 use Rattle.cell_core.specs.declared.words.WordStep.{WordStep}
 use Rattle.cell_core.specs.declared.words.WordStep.TheVariants.{Load, Swap, Release, Bury}

@@ -1,26 +1,22 @@
 -- What words that show a cell tell a user of it.
-use Rattle.std.proofs.Common.{◌≡◌, ◌≢◌, refl, sym, ap, ◌∙◌, subst, ℕ, ◌+◌, ◌-◌, ◌<◌, ◌≤◌, ◌⊎◌, Bool, true, false, inl, inr, List, [], ◌∷◌, ◌++◌, length, length-append, arith}
-use Rattle.std.specs.Prelude.{Option, None, Some, ◌==◌, ◌^◌, if◌then◌else◌}
-use Rattle.std.specs.List.{slice_get, slice_set}
+use Rattle.std.proofs.Common.{◌≡◌, ◌≢◌, refl, sym, ap, ◌∙◌, subst, ℕ, ◌+◌, ◌<◌, ◌≤◌, ◌⊎◌, Bool, true, false, inl, inr, List, [], ◌∷◌, length, arith}
+use Rattle.std.specs.Prelude.{None, Some, ◌==◌}
+use Rattle.std.specs.List.{slice_get}
 use Rattle.std.proofs.lemmas.Bool.{cases_Bool}
 use Rattle.std.proofs.lemmas.Bool.Decides.{eqb_tells}
-use Rattle.std.proofs.lemmas.Option.{slice_get_within}
 use Rattle.cell_core.proofs.CountLemmas.{one_if}
-use Rattle.cell_core.proofs.SeatLemmas.{get_set_same, get_set_other, set_cases, get_push_old, push_cases, held_push, held_set, held_some, held_none, set_there, get_push_new, get_within}
-use Rattle.cell_core.proofs.FrameLemmas.{shares_out, with_phase, Elsewhere, slot_stays, table_with, table_as, seat_stays, held_stays, Beside, beside_itself, lies_still, owner_stays, publisher_stays, phase_here, phase_there, phase_stays, numbers_with, owners_after, seat_elsewhere}
-use Rattle.cell_core.specs.Cell.{Cell, CellStep, IsLast, Steps, one_more, one_less, with_strong, without_strong, with_value, with_buried}
-use Rattle.cell_core.specs.Words.{State, slots, grants, free_word, dead_word, bulk, word_of, slot_of, given_of, fetch_sub, fetch_add, number_in}
-use Rattle.cell_core.specs.WordSteps.{Makes, with_slot, with_owner, with_new_owner, with_publisher, with_shares, with_version}
-use Rattle.cell_core.specs.Shows.{Phase, Plan, IsLive, SlotIs, LiesIn, OwnerIs, PublisherIs, Numbers, Given, Counts, Table, Shows, ShowsStep, held, holds, kept_by, kept_by_cell, owned_by}
+use Rattle.cell_core.proofs.SeatLemmas.{held_none, get_within}
+use Rattle.cell_core.specs.Cell.{Cell, CellStep, IsLast, Steps, with_buried}
+use Rattle.cell_core.specs.Words.{State, free_word, slot_of, number_in}
+use Rattle.cell_core.specs.WordSteps.{Makes}
+use Rattle.cell_core.specs.Shows.{Phase, Plan, IsLive, SlotIs, Shows, ShowsStep, held, holds, kept_by, kept_by_cell, owned_by}
 use Rattle.cell_core.specs.Shows.Phase.{free, taken, live, dead}
 use Rattle.cell_core.specs.declared.words.Slot.{Slot}
-use Rattle.cell_core.specs.declared.words.Owner.{Owner}
-use Rattle.cell_core.specs.declared.words.Owner.TheVariants.{Holding, Burying, Freeing, Spent}
-use Rattle.cell_core.specs.declared.words.Publisher.{Publisher}
-use Rattle.cell_core.specs.declared.words.Publisher.TheVariants.{Probing, Preparing, Swapping, Settling}
+use Rattle.cell_core.specs.declared.words.Owner.TheVariants.{Holding, Burying, Freeing}
+use Rattle.cell_core.specs.declared.words.Publisher.TheVariants.{Probing, Preparing, Swapping}
 use Rattle.cell_core.specs.declared.words.WordStep.{WordStep}
 use Rattle.cell_core.specs.declared.words.WordEvent.{WordEvent}
-use Rattle.cell_core.proofs.ShowsLemmas.{last_lies, latest_slot, latest_given, number_there, latest_number, unpublished, unsettled}
+use Rattle.cell_core.proofs.ShowsLemmas.{last_lies, latest_slot, number_there, latest_number}
 use Rattle.std.proofs.Common.{zero, suc}
 use Rattle.std.specs.Prelude.{count_by}
 use Rattle.std.proofs.lemmas.List.Sums.{sum_by-cons}
@@ -29,7 +25,8 @@ use Rattle.cell_core.proofs.BuryKeeps.{can_bury}
 use Rattle.cell_core.proofs.ProbeKeeps.{few_shares}
 use Rattle.cell_core.proofs.StepShows.{step_shows}
 use Rattle.cell_core.proofs.RunShows.{step_runs}
-use Rattle.cell_core.specs.Words.{version_in}
+use Rattle.std.specs.Option.{option_and_then, option_map}
+use Rattle.cell_core.specs.Words.{version_in, place_of, found_by, found_last}
 use Rattle.cell_core.specs.Shows.{WordRuns, AtRest}
 use Rattle.cell_core.specs.declared.words.Version.{Version}
 use Rattle.cell_core.specs.declared.words.WordStep.TheVariants.{Bury}
@@ -45,6 +42,25 @@ owner_finds {T} state cell owner number place s seat =
     let found = get_within state.table place (omega (arith, there.0, lies.here, s.table.size)) in
     let is : IsLive state cell s.plan place number found.0 = subst (λ p. SlotIs state cell s.plan place p found.0) phase (s.table.slot_is place found.0 found.1) in
     (is.value, rw found.1 is.version, is.published)
+
+-- the owner is given that value
+pub owner_is_given : {T : Type 0} (state : State T) (cell : Cell T) (owner number place : ℕ) → Shows state cell → slice_get state.owners owner ≡ Some (Holding number place) → found_by state owner ≡ slice_get cell.published number
+owner_is_given {T} state cell owner number place s seat =
+    let found = owner_finds state cell owner number place s seat in
+    let there : option_and_then (version_in state) (option_and_then place_of (slice_get state.owners owner)) ≡ Some (record { number = number; value = found.0 }) =
+    ap (λ how. option_and_then (version_in state) (option_and_then place_of how)) seat ∙ found.1 in
+    ap (λ version. option_map (λ (v : Version T). v.value) version) there ∙ sym found.2
+
+-- the value in W's slot is the last one
+pub last_is_given : {T : Type 0} (state : State T) (cell : Cell T) (number : ℕ) → Shows state cell → IsLast cell number → found_last state ≡ slice_get cell.published number
+last_is_given {T} state cell number s is =
+    let lies = last_lies state cell s in
+    let at = get_within state.table (s.plan.slot s.plan.last) (omega (arith, lies.0, s.table.size)) in
+    let there : IsLive state cell s.plan (s.plan.slot s.plan.last) s.plan.last at.0 = subst (λ p. SlotIs state cell s.plan (s.plan.slot s.plan.last) p at.0) lies.1 (s.table.slot_is (s.plan.slot s.plan.last) at.0 at.1) in
+    let version : version_in state (slot_of state.latest) ≡ Some (record { number = s.plan.last; value = there.value }) =
+    ap (version_in state) (latest_slot state cell s) ∙ rw at.1 there.version in
+    let same : s.plan.last ≡ number = omega (arith, is, s.numbers.last) in
+    ap (λ v. option_map (λ (x : Version T). x.value) v) version ∙ sym there.published ∙ ap (slice_get cell.published) same
 
 -- what is buried has no owner and isn't in W
 pub bury_finds_unowned : {T : Type 0} (state new : State T) (cell : Cell T) (owner number : ℕ) → Shows state cell → Makes state (Bury owner) (Buried number) new → (held state.owners number ≡ 0) × (owned_by state.publisher number ≡ 0) × (number_in state (slot_of state.latest) ≢ Some number)

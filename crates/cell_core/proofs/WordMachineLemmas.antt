@@ -1,6 +1,6 @@
 -- Which steps on words can be made.
-use Rattle.std.proofs.Common.{◌≡◌, refl, ap, ℕ, ◌<◌}
-use Rattle.std.specs.Prelude.{Option, None, Some, Result, Ok, Err, ◌↔◌, IfOk, length}
+use Rattle.std.proofs.Common.{◌≡◌, refl, ℕ, ◌<◌}
+use Rattle.std.specs.Prelude.{Option, None, Some, Result, Ok, Err, ◌↔◌, IfOk}
 use Rattle.std.specs.List.{slice_get}
 use Rattle.std.specs.Option.{option_map}
 use Rattle.std.specs.Result.{IsErrOf}

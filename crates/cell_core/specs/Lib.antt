@@ -4,5 +4,6 @@ pub mod Kept
 pub mod Loaded
 pub mod Shows
 pub mod Steps
+pub mod WordExample
 pub mod WordSteps
 pub mod Words

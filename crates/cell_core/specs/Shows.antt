@@ -1,11 +1,10 @@
 -- Shows: the cell that words, slots and calls under way show (own).
-use Rattle.std.specs.Prelude.{◌≡◌, ◌≢◌, ℕ, ◌+◌, ◌-◌, ◌<◌, ◌≤◌, Bool, true, false, ◌==◌, if◌then◌else◌, List, [], ◌∷◌, length, ◌⊎◌, Option, None, Some, count_by}
+use Rattle.std.specs.Prelude.{◌≡◌, ℕ, ◌+◌, ◌-◌, ◌<◌, ◌≤◌, Bool, true, false, ◌==◌, if◌then◌else◌, List, [], ◌∷◌, length, ◌⊎◌, None, Some, count_by}
 use Rattle.std.specs.List.{slice_get}
 use Rattle.cell_core.specs.Cell.{Cell, CellStep, IsLast, Steps}
 use Rattle.cell_core.specs.Words.{State, slots, grants, free_word, dead_word, bulk, word_of, version_in}
 use Rattle.cell_core.specs.WordSteps.{Makes}
 use Rattle.cell_core.specs.declared.words.Slot.{Slot}
-use Rattle.cell_core.specs.declared.words.Version.{Version}
 use Rattle.cell_core.specs.declared.words.Owner.{Owner}
 use Rattle.cell_core.specs.declared.words.Owner.TheVariants.{Holding, Burying, Freeing, Spent}
 use Rattle.cell_core.specs.declared.words.Publisher.{Publisher}

@@ -1,5 +1,5 @@
 -- WordSteps: the steps on one word, and what each makes of the words, the slots and the calls under way (own).
-use Rattle.std.specs.Prelude.{◌≡◌, ℕ, ◌+◌, ◌-◌, ◌*◌, ◌^◌, ◌<◌, ◌==◌, if◌then◌else◌, List, [], ◌∷◌, ◌++◌, length, Option, None, Some, MatchBool}
+use Rattle.std.specs.Prelude.{◌≡◌, ℕ, ◌+◌, ◌-◌, ◌^◌, ◌<◌, ◌==◌, [], ◌∷◌, ◌++◌, length, Option, None, Some, MatchBool}
 use Rattle.std.specs.List.{slice_get, slice_set}
 use Rattle.cell_core.specs.Words.{State, slots, grants, free_word, dead_word, bulk, word_of, slot_of, given_of, fetch_add, fetch_sub, number_in}
 use Rattle.cell_core.specs.declared.words.Slot.{Slot}

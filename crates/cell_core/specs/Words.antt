@@ -1,5 +1,5 @@
 -- The words of a cell of 64 slots: their values, and the state of a cell whose steps are atomic acts on one word (own).
-use Rattle.std.specs.Prelude.{◌≡◌, ℕ, ◌+◌, ◌-◌, ◌*◌, ◌/◌, ◌%◌, ◌^◌, List, [], ◌∷◌, replicate, Option, None, Some}
+use Rattle.std.specs.Prelude.{ℕ, ◌+◌, ◌-◌, ◌*◌, ◌/◌, ◌%◌, ◌^◌, List, [], ◌∷◌, replicate, Option, None, Some}
 use Rattle.std.specs.List.{slice_get}
 use Rattle.std.specs.Option.{option_and_then, option_map}
 use Rattle.cell_core.specs.declared.words.Slot.{Slot}
@@ -7,6 +7,7 @@ use Rattle.cell_core.specs.declared.words.Version.{Version}
 use Rattle.cell_core.specs.declared.words.Publisher.{Publisher}
 use Rattle.cell_core.specs.declared.words.Publisher.TheVariants.{Probing}
 use Rattle.cell_core.specs.declared.words.Owner.{Owner}
+use Rattle.cell_core.specs.declared.words.Owner.TheVariants.{Holding, Burying, Freeing, Spent}
 
 -- how many slots there are (own)
 abbrev pub slots : ℕ
@@ -62,6 +63,22 @@ version_in state slot = option_and_then (λ there. there.version) (slice_get sta
 -- its number (own)
 abbrev pub number_in : {T : Type 0} → State T → ℕ → Option ℕ
 number_in state slot = option_map (λ version. version.number) (version_in state slot)
+
+-- the slot of what an owner has; none where it has nothing (own)
+abbrev pub place_of : Owner → Option ℕ
+place_of (Holding number place) = Some place
+place_of (Burying place) = None
+place_of (Freeing place) = None
+place_of Spent = None
+
+-- the value that an owner finds in its slot; none where it has nothing (own)
+abbrev pub found_by : {T : Type 0} → State T → ℕ → Option T
+found_by state owner =
+    option_map (λ version. version.value) (option_and_then (version_in state) (option_and_then place_of (slice_get state.owners owner)))
+
+-- the value that lies in the slot in W (own)
+abbrev pub found_last : {T : Type 0} → State T → Option T
+found_last state = option_map (λ version. version.value) (version_in state (slot_of state.latest))
 
 -- a slot that nobody has used (own)
 abbrev pub free_slot : {T : Type 0} → Slot T

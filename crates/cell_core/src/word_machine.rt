@@ -1,9 +1,9 @@
 //! A cell of words on plain data, one atomic act at a time.
 ghost use Rattle.std.specs.Prelude.{◌≡◌, ◌<◌, ◌↔◌, Option, Some, None, IfOk, IfErr, OnErr, length, ◌∷◌, replicate};
 ghost use Rattle.std.specs.List.{slice_get};
-ghost use Rattle.std.specs.Option.{option_map};
+ghost use Rattle.std.specs.Option.{option_copied, option_map};
 ghost use Rattle.std.specs.Result.{IsErrOf};
-ghost use Rattle.cell_core.specs.Words.{State, slot_of, given_of, number_in, dead_word, begun, first_slot, free_slot};
+ghost use Rattle.cell_core.specs.Words.{State, found_by, found_last, slot_of, given_of, number_in, dead_word, begun, first_slot, free_slot};
 ghost use Rattle.cell_core.specs.Cell.{Cell, start};
 ghost use Rattle.cell_core.specs.Shows.{Shows, ShowsStep};
 ghost use Rattle.cell_core.specs.WordSteps.{Makes, HasWordStep, GrowsOwners, with_new_owner, with_owner, with_slot, with_shares, with_version};
@@ -81,6 +81,25 @@ impl<T: Drop> WordMachine<T> {
             WordStep::Bury(owner) => self.bury(owner),
             WordStep::Free(owner) => self.free(owner),
         }
+    }
+
+    /// The value that an owner finds in its slot; none where it owns nothing.
+    pub fn value(&self, owner: usize) -> Option<&T>
+        ensures { option_copied result ≡ found_by self.now owner }
+    {
+        let Owner::Holding { number: _, slot } = self.owner(owner)? else {
+            return None;
+        };
+        let version = self.table.get(slot)?.version.as_ref()?;
+        Some(&version.value)
+    }
+
+    /// The value that lies in the slot in W.
+    pub fn last(&self) -> Option<&T>
+        ensures { option_copied result ≡ found_last self.now }
+    {
+        let version = self.table.get(self.last_slot())?.version.as_ref()?;
+        Some(&version.value)
     }
 
     /// The slot in W.
