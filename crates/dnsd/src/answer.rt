@@ -69,7 +69,7 @@ pub fn run_answer<Z: ZoneRead, R: BufRead, W: Write>(
 {
     let mut buffers = Buffers::new(alloc)?;
     for _ in 0..MAX_READS {
-        if !answer_next(zone, transport, reader, writer, &mut buffers)? {
+        if !answer_next(alloc, zone, transport, reader, writer, &mut buffers)? {
             return Ok(());
         }
     }
@@ -78,6 +78,7 @@ pub fn run_answer<Z: ZoneRead, R: BufRead, W: Write>(
 
 /// Answers the next line; false where there is none.
 fn answer_next<Z: ZoneRead, R: BufRead, W: Write>(
+    alloc: Global,
     zone: &Z,
     transport: Transport,
     reader: &mut R,
@@ -94,12 +95,13 @@ fn answer_next<Z: ZoneRead, R: BufRead, W: Write>(
     if reader.read_until(b'\n', &mut buffers.line)? == 0 {
         return Ok(false);
     }
-    write_line(zone, transport, writer, buffers)?;
+    write_line(alloc, zone, transport, writer, buffers)?;
     Ok(true)
 }
 
 /// Writes the line for the line that was read.
 fn write_line<Z: ZoneRead, W: Write>(
+    alloc: Global,
     zone: &Z,
     transport: Transport,
     writer: &mut W,
@@ -113,6 +115,7 @@ fn write_line<Z: ZoneRead, W: Write>(
         Some(len) => {
             let request = &buffers.request[..len];
             write_reply(
+                alloc,
                 zone,
                 transport,
                 request,
@@ -126,6 +129,7 @@ fn write_line<Z: ZoneRead, W: Write>(
 
 /// Writes the line for a request.
 fn write_reply<Z: ZoneRead, W: Write>(
+    alloc: Global,
     zone: &Z,
     transport: Transport,
     request: &[u8],
@@ -138,7 +142,7 @@ fn write_reply<Z: ZoneRead, W: Write>(
     ensures { Writes result (W.contents writer.old) (W.contents writer.new)
         (written (reply_in transport (Z.records zone.now) request.now) ++ 10 ∷ []) }
 {
-    match respond(zone, transport, request, reply) {
+    match respond(alloc, zone, transport, request, reply) {
         None => write_whole(writer, b"-\n"),
         Some(len) => write_octets(&reply[..len], digits, writer),
     }

@@ -1,27 +1,22 @@
 -- What is gathered of a text, record by record.
-use Rattle.std.proofs.Common.{◌≡◌, refl, sym, ap, ◌∙◌, subst, ℕ, Bool, true, false, cond, List, [], ◌∷◌, map, length, ◌==◌, Option, Some, None, MatchOption, Result, Ok, Err}
+use Rattle.std.proofs.Common.{◌≡◌, refl, sym, ap, ◌∙◌, subst, ℕ, Bool, true, false, cond, List, [], ◌∷◌, length, ◌==◌, Option, Some, None, MatchOption, Result, Ok, Err}
 use Rattle.std.specs.Option.{option_or}
 use Rattle.std.specs.List.{filter, find}
 use Rattle.dns_rdata.specs.Record.{Record}
-use Rattle.zone_tree.specs.Zone.{is_of, soa_of, apex_of, rrset_of}
+use Rattle.zone_tree.specs.Zone.{soa_of, apex_of, rrset_of}
 use Rattle.dns_rdata.specs.Numbers.{type_NS}
 use Rattle.record_text.specs.declared.cause.Cause.TheVariants.{Limit, Apex, Outside, Conflict}
 use Rattle.master_file.specs.declared.fault.FileFault.{FileFault}
 use Rattle.master_file.specs.declared.gathered.Gathered.{Gathered}
-use Rattle.master_file.specs.declared.summary.SetSummary.{SetSummary}
 use Rattle.master_file.specs.declared.record_entry.RecordEntry.{RecordEntry}
-use Rattle.master_file.specs.ZoneText.{record_in, in_lower, with_one, with_all, first_line, is_too_many, is_second_soa, is_conflict, timed, told, told_whole, outside_line, zone_records, zone_of_all, zone_of_read}
-use Rattle.master_file.specs.Summary.{AreSummaries, LastsEach, SetsTtl, IsGathered, zone_gathered, shown_by, summary_at, with_ttl_of, first_owner}
+use Rattle.master_file.specs.ZoneText.{with_one, with_all, first_line, is_too_many, is_second_soa, is_conflict, told, told_whole, outside_line, zone_records, zone_of_all, zone_of_read}
+use Rattle.master_file.specs.Summary.{AreSummaries, IsGathered, zone_gathered, first_owner}
 use Rattle.master_file.specs.Records.{Read, nothing, faulty, in_front}
 
 or_first : (before : Option ℕ) (b : Bool) (line : ℕ) (more : Option ℕ) → option_or (option_or before (cond b (Some line) None)) more ≡ option_or before (cond b (Some line) more)
 or_first None true line more = refl
 or_first None false line more = refl
 or_first (Some first) b line more = refl
-
-times_step : (o : Option SetSummary) (rest : List RecordEntry) (rr : RecordEntry) (r : Record) → timed rest (cond (is_of r.owner r.rtype (record_in rr)) (record r { ttl = rr.ttl.0 }) (with_ttl_of o r)) ≡ timed (rr ∷ rest) (with_ttl_of o r)
-times_step None rest rr r = refl
-times_step (Some summary) rest rr r = refl
 
 next_line : (test : List Record → RecordEntry → Bool) (kept after : List Record) (rr : RecordEntry) (rest : List RecordEntry) (before now whole : Option ℕ) → after ≡ with_one kept rr → now ≡ option_or before (cond (test kept rr) (Some rr.line) None) → option_or before (first_line test kept (rr ∷ rest)) ≡ whole → option_or now (first_line test after rest) ≡ whole
 next_line test kept after rr rest before now whole put is left =
@@ -31,16 +26,14 @@ next_line test kept after rr rest before now whole put is left =
     ∙ left
 
 -- what is gathered of one more record
-pub gathered_step : (all rest : List RecordEntry) (rr : RecordEntry) (old new : Gathered) → IsGathered all (rr ∷ rest) old → new.kept.keys ≡ with_one old.kept.keys rr → is_too_many old.kept.keys rr ≡ false → AreSummaries new.kept.keys new.summaries → LastsEach new.summaries → SetsTtl rr old.summaries new.summaries → new.second_soa ≡ option_or old.second_soa (cond (is_second_soa old.kept.keys rr) (Some rr.line) None) → new.conflict ≡ option_or old.conflict (cond (is_conflict old.kept.keys rr) (Some rr.line) None) → IsGathered all rest new
-gathered_step all rest rr old new is put few summaries lasts times second conflict = record {
+pub gathered_step : (all rest : List RecordEntry) (rr : RecordEntry) (old new : Gathered) → IsGathered all (rr ∷ rest) old → new.kept.keys ≡ with_one old.kept.keys rr → is_too_many old.kept.keys rr ≡ false → AreSummaries new.kept.keys new.summaries → new.second_soa ≡ option_or old.second_soa (cond (is_second_soa old.kept.keys rr) (Some rr.line) None) → new.conflict ≡ option_or old.conflict (cond (is_conflict old.kept.keys rr) (Some rr.line) None) → IsGathered all rest new
+gathered_step all rest rr old new is put few summaries second conflict = record {
   kept = ap (λ (k : List Record). with_all k rest) put ∙ is.kept;
   limit = ap (λ (k : List Record). first_line is_too_many k rest) put
       ∙ ap (λ (b : Bool). cond b (Some rr.line) (first_line is_too_many (with_one old.kept.keys rr) rest)) (sym few) ∙ is.limit;
   second = next_line is_second_soa old.kept.keys new.kept.keys rr rest old.second_soa new.second_soa (first_line is_second_soa [] all) put second is.second;
   conflict = next_line is_conflict old.kept.keys new.kept.keys rr rest old.conflict new.conflict (first_line is_conflict [] all) put conflict is.conflict;
   summaries = summaries;
-  lasts = lasts;
-  times = λ (r : Record). ap (timed rest) (times r) ∙ times_step (summary_at old.summaries r.owner r.rtype) rest rr r ∙ is.times r;
 }
 
 -- a record too many is told
@@ -98,13 +91,3 @@ found_owner p (r ∷ rs) = elim (p r) as (λ b. first_owner (cond b (r ∷ filte
 
 pub owner_found : (p : Record → Bool) (rs : List Record) (found : Option Record) → found ≡ find p rs → owner_in found ≡ first_owner (filter p rs)
 owner_found p rs found e = ap owner_in e ∙ sym (found_owner p rs)
-
-map_same : (f g : Record → Record) → ((r : Record) → f r ≡ g r) → (rs : List Record) → map f rs ≡ map g rs
-map_same f g same [] = refl
-map_same f g same (r ∷ rs) = ap (λ (s : Record). s ∷ map f rs) (same r) ∙ ap (λ (ss : List Record). g r ∷ ss) (map_same f g same rs)
-
--- the records of a zone, from what is gathered
-pub zone_records_from : (all : List RecordEntry) (gathered : Gathered) → IsGathered all [] gathered → map (shown_by gathered.summaries) gathered.kept.keys ≡ zone_records all
-zone_records_from all gathered is =
-    map_same (shown_by gathered.summaries) (λ (r : Record). in_lower (timed all r)) (λ (r : Record). ap in_lower (is.times r)) gathered.kept.keys
-    ∙ ap (λ (k : List Record). map (λ (r : Record). in_lower (timed all r)) k) is.kept

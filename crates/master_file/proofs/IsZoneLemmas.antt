@@ -45,7 +45,7 @@ whole_ok : (b : Bool) (next : Result (List Record) FileFault) (zone : List Recor
 whole_ok true next zone e = let no : ⊥ = cc in absurd no
 whole_ok false next zone e = (refl, e)
 
-few_none : AreFew []
+pub few_none : AreFew []
 few_none = record { all = omega arith; each = λ owner rtype. omega arith }
 
 apart_none : AreApart []
@@ -169,7 +169,7 @@ module _ (ps : List RecordEntry) where
   at_count : (owner : List (List ℕ)) → length (rrsets_of zone owner) ≡ length (rrsets_of (with_all [] ps) owner)
   at_count owner = count_map (stands_at owner) (shown ps) (shown_at ps owner) (with_all [] ps)
 
-  set_count : (owner : List (List ℕ)) (rtype : ℕ) → length (rrset_of zone owner rtype) ≡ length (rrset_of (with_all [] ps) owner rtype)
+  pub set_count : (owner : List (List ℕ)) (rtype : ℕ) → length (rrset_of zone owner rtype) ≡ length (rrset_of (with_all [] ps) owner rtype)
   set_count owner rtype = count_map (is_of owner rtype) (shown ps) (shown_of ps owner rtype) (with_all [] ps)
 
   soa_count : length (soa_of zone) ≡ length (soa_of (with_all [] ps))
@@ -275,6 +275,24 @@ module _ (ps : List RecordEntry) where
 no_fault : (fault : Option FileFault) (ps : List RecordEntry) (zone : List Record) → (elim fault as (λ _. Result (List Record) FileFault) [ Some f ↦ Err f | None ↦ zone_of_all ps ]) ≡ Ok zone → zone_of_all ps ≡ Ok zone
 no_fault None ps zone e = e
 no_fault (Some f) ps zone e = let no : ⊥ = cc in absurd no
+
+only_ok : (fault : Option FileFault) (ps : List RecordEntry) (zone : List Record) → (elim fault as (λ _. Result (List Record) FileFault) [ Some f ↦ Err f | None ↦ zone_of_all ps ]) ≡ Ok zone → fault ≡ None
+only_ok None ps zone e = refl
+only_ok (Some f) ps zone e = let no : ⊥ = cc in absurd no
+
+-- where what is read is a zone, it has no fault and no record too many
+pub read_whole : (read : Read) (zone : List Record) → zone_of_read read ≡ Ok zone → read.fault ≡ None
+read_whole read zone e =
+    only_ok read.fault read.rrs zone (told_ok Limit (first_line is_too_many [] read.rrs) (elim read.fault as (λ _. Result (List Record) FileFault) [ Some f ↦ Err f | None ↦ zone_of_all read.rrs ]) zone e).1
+
+pub read_few : (read : Read) (zone : List Record) → zone_of_read read ≡ Ok zone → first_line is_too_many [] read.rrs ≡ None
+read_few read zone e = (told_ok Limit (first_line is_too_many [] read.rrs) (elim read.fault as (λ _. Result (List Record) FileFault) [ Some f ↦ Err f | None ↦ zone_of_all read.rrs ]) zone e).0
+
+-- and it is the zone of its records
+pub read_records : (read : Read) (zone : List Record) → zone_of_read read ≡ Ok zone → zone ≡ zone_records read.rrs
+read_records read zone e =
+    let a = told_ok Limit (first_line is_too_many [] read.rrs) (elim read.fault as (λ _. Result (List Record) FileFault) [ Some f ↦ Err f | None ↦ zone_of_all read.rrs ]) zone e in
+    (of_zone read.rrs zone a.0 (no_fault read.fault read.rrs zone a.1)).1
 
 -- what is read without a fault is a zone
 pub read_is_zone : (read : Read) (zone : List Record) → AllByRecursion IsReadable read.rrs → zone_of_read read ≡ Ok zone → IsZone zone

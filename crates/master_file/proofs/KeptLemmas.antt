@@ -11,7 +11,6 @@ use Rattle.std.specs.BTreeSet.{BTreeSet, insert_key}
 use Rattle.std.specs.BTreeMap.{BTreeMap, is_at}
 use Rattle.dns_name.specs.Name.{is_same, canonical_cmp}
 use Rattle.dns_name.specs.Order.{is_same_tied}
-use Rattle.master_file.specs.declared.summary.SetSummary.{SetSummary}
 use Rattle.master_file.specs.Summary.{set_cmp}
 
 -- 1 where a test shows something
@@ -63,7 +62,7 @@ key_tied owner other rtype number =
     ∙ ap (λ (b : Bool). is_same owner other && b) (unsigned_tied rtype number)
 
 -- what is known with one more summary
-pub sets_put : (old new : BTreeMap (List (List ℕ) × ℕ) SetSummary) (owner copy : List (List ℕ)) (rtype : ℕ) (summary : SetSummary) → copy ≡ owner → tree.Updates set_cmp old new (copy, rtype) (Some summary) → (other : List (List ℕ)) (number : ℕ) → tree.get set_cmp new (other, number) ≡ cond (is_same owner other && rtype == number) (Some summary) (tree.get set_cmp old (other, number))
+pub sets_put : (old new : BTreeMap (List (List ℕ) × ℕ) ℕ) (owner copy : List (List ℕ)) (rtype : ℕ) (summary : ℕ) → copy ≡ owner → tree.Updates set_cmp old new (copy, rtype) (Some summary) → (other : List (List ℕ)) (number : ℕ) → tree.get set_cmp new (other, number) ≡ cond (is_same owner other && rtype == number) (Some summary) (tree.get set_cmp old (other, number))
 sets_put old new owner copy rtype summary same updates other number =
     updates.0 (other, number)
     ∙ ap (λ (b : Bool). cond b (Some summary) (tree.get set_cmp old (other, number))) (key_tied copy other rtype number)

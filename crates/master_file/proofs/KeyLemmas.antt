@@ -1,5 +1,5 @@
 -- Keys sort as the names do that they stand for.
-use Rattle.std.proofs.Common.{◌≡◌, refl, sym, ap, ◌∙◌, subst, ℕ, zero, suc, ◌+◌, ◌/◌, ◌<◌, ◌≤◌, ◌⊎◌, inl, inr, ⊎_elim, Bool, true, false, cond, ◌==◌, nat_lt, List, [], ◌∷◌, ◌++◌, map, length, take, drop, arith, append_assoc}
+use Rattle.std.proofs.Common.{◌≡◌, refl, sym, ap, ◌∙◌, ℕ, ◌+◌, ◌/◌, ◌<◌, ◌⊎◌, inl, inr, Bool, true, false, cond, ◌==◌, nat_lt, List, [], ◌∷◌, ◌++◌, map, length, take, drop, arith, append_assoc}
 use Rattle.std.specs.Prelude.{reverse}
 use Rattle.std.specs.Char.{to_ascii_lowercase}
 use Rattle.std.specs.declared.cmp.Ordering.{Ordering}
@@ -9,7 +9,7 @@ use Rattle.std.specs.Ordering.{nat_cmp, ordering_then}
 use Rattle.std.proofs.lemmas.Bool.Decides.{nat_tests}
 use Rattle.std.specs.Prelude.{unwrap_or, Option, Some}
 use Rattle.std.proofs.lemmas.List.{append-nil}
-use Rattle.dns_name.specs.Name.{wire_of, fold_name, canonical_cmp, IsName, name_in}
+use Rattle.dns_name.specs.Name.{wire_of, canonical_cmp, IsName, name_in}
 use Rattle.dns_name.proofs.LawLemmas.{name_in-wire_of}
 use Rattle.std.proofs.lemmas.List.{reverse-append, length-append, length-map}
 use Rattle.master_file.specs.SortKey.{key_octet, labels_key, name_key, first_half, second_half, keyed_name, IsKeyed}

@@ -6,6 +6,7 @@ pub mod JudgeLemmas
 pub mod KeptLemmas
 pub mod KeyLemmas
 pub mod LineLemmas
+pub mod OverLemmas
 pub mod OwnLemmas
 pub mod PutLemmas
 pub mod ReadableLemmas

@@ -1,5 +1,5 @@
 -- No fault of a text is want of memory.
-use Rattle.std.proofs.Common.{◌≡◌, ◌≢◌, refl, sym, subst, ℕ, Bool, true, false, cond, bytes_eq, ◌==◌, List, [], ◌∷◌, ◌++◌, length, codes, Option, Some, None, Result, Ok, Err, ok_or}
+use Rattle.std.proofs.Common.{◌≡◌, ◌≢◌, subst, ℕ, Bool, true, false, cond, bytes_eq, ◌==◌, List, [], ◌∷◌, length, codes, Option, Some, None, Result, Ok, Err, ok_or}
 use Rattle.std.specs.Prelude.{IfSome}
 use Rattle.std.specs.Option.{option_or}
 use Rattle.dns_name.specs.Name.{fold_name}
@@ -10,8 +10,8 @@ use Rattle.zone_tree.specs.Zone.{rrset_of, soa_of, apex_of}
 use Rattle.zone_lexing.specs.Entries.{Entry, entries_of}
 use Rattle.zone_lexing.specs.Word.{Written}
 use Rattle.record_text.specs.declared.cause.Cause.{Cause}
-use Rattle.record_text.specs.declared.cause.Cause.TheVariants.{Directive, BadName, Number, BadClass, UnknownType, BadData, Unclosed, NoTtl, NoOwner, Outside, Apex, Conflict, Limit, NoMemory}
-use Rattle.record_text.specs.Data.{data_of_words, surplus_of}
+use Rattle.record_text.specs.declared.cause.Cause.TheVariants.{Directive, NoTtl, NoOwner, Outside, Apex, Conflict, Limit, NoMemory}
+use Rattle.record_text.specs.Data.{data_of_words}
 use Rattle.record_text.specs.Front.{Front, ttl_of, front_of}
 use Rattle.record_text.specs.NameWord.{owner_of}
 use Rattle.record_text.specs.Reading.{on_ok, and_then}

@@ -1,5 +1,5 @@
 -- Sets put together from records in the order of their sets are those of the zone.
-use Rattle.std.proofs.Common.{◌≡◌, refl, sym, ap, ◌∙◌, subst, ℕ, ◌+◌, ◌<◌, Bool, true, false, cond, ◌&&◌, ◌==◌, List, [], ◌∷◌, ◌++◌, map, length, arith, true≢false, append_assoc}
+use Rattle.std.proofs.Common.{◌≡◌, refl, sym, ap, ◌∙◌, subst, ℕ, ◌<◌, Bool, true, false, cond, ◌&&◌, ◌==◌, List, [], ◌∷◌, ◌++◌, map, length, arith, true≢false, append_assoc}
 use Rattle.std.specs.Prelude.{bytes_eq, reverse}
 use Rattle.std.specs.declared.cmp.Ordering.{Ordering}
 use Rattle.std.specs.declared.cmp.Ordering.TheVariants.{Less, Equal, Greater}
@@ -8,7 +8,7 @@ use Rattle.std.specs.Cmp.{IsTotalOrder, tied_then, unsigned_tied}
 use Rattle.std.specs.Cmp.Lexicographic.{pointwise, slice_cmp}
 use Rattle.std.specs.List.{AllByRecursion}
 use Rattle.std.specs.Ordering.{is_eq, is_lt, is_gt, match_ordering, nat_cmp, ordering_reverse, ordering_then}
-use Rattle.std.proofs.lemmas.Cmp.{on_total, then_total, nat_cmp_total, tied_itself, tied_back, alike_right, upto}
+use Rattle.std.proofs.lemmas.Cmp.{on_total, then_total, nat_cmp_total, tied_itself, tied_back, alike_right}
 use Rattle.std.proofs.lemmas.List.{append-nil}
 use Rattle.dns_name.specs.Name.{is_same, fold_name, canonical_cmp}
 use Rattle.dns_name.specs.Order.{canonical_total, is_same_tied}
@@ -45,7 +45,7 @@ Before r e = by_set r e ≡ Less
 abbrev pub NotBehind : Record → Record → Type 0
 NotBehind r e = is_gt (by_set r e) ≡ false
 
-abbrev Tied : Record → Record → Type 0
+abbrev pub Tied : Record → Record → Type 0
 Tied r e = by_set r e ≡ Equal
 
 turned : (r e : Record) → Before r e → by_set e r ≡ Greater
@@ -130,7 +130,7 @@ some_with e [] = omega arith
 some_with e (x ∷ xs) = some_chosen (is_lt (slice_cmp nat_cmp e.rdata x.rdata)) (is_eq (slice_cmp nat_cmp e.rdata x.rdata)) e x xs (with_record e xs)
 
 -- a set's owner and type
-abbrev head : List Record → Record
+abbrev pub head : List Record → Record
 head set = record { owner = owner_of set; rtype = rtype_of set; ttl = 0; rdata = [] }
 
 -- a set: records of one owner and type
@@ -379,14 +379,14 @@ put_first : (b : Bool) (x : List Record) (xs ys : List (List Record)) → x ∷ 
 put_first true x xs ys = refl
 put_first false x xs ys = refl
 
-put_behind : (front : List (List Record)) (last : List Record) (r : Record) → put_last (front ++ last ∷ []) r ≡ cond (is_set_of r last) (front ++ joined last r ∷ []) (front ++ last ∷ (r ∷ []) ∷ [])
+pub put_behind : (front : List (List Record)) (last : List Record) (r : Record) → put_last (front ++ last ∷ []) r ≡ cond (is_set_of r last) (front ++ joined last r ∷ []) (front ++ last ∷ (r ∷ []) ∷ [])
 put_behind [] last r = refl
 put_behind (x ∷ []) last r = put_first (is_set_of r last) x (joined last r ∷ []) (last ∷ (r ∷ []) ∷ [])
 put_behind (x ∷ y ∷ front) last r =
     ap (λ (sets : List (List Record)). x ∷ sets) (put_behind (y ∷ front) last r)
     ∙ put_first (is_set_of r last) x ((y ∷ front) ++ joined last r ∷ []) ((y ∷ front) ++ last ∷ (r ∷ []) ∷ [])
 
-lower_set : (set : List Record) (p : RecordEntry) → is_set_of (in_lower (record_in p)) set ≡ (is_same (owner_of set) p.owner && rtype_of set == p.rdata.rtype)
+pub lower_set : (set : List Record) (p : RecordEntry) → is_set_of (in_lower (record_in p)) set ≡ (is_same (owner_of set) p.owner && rtype_of set == p.rdata.rtype)
 lower_set set p = ap (λ (f : List (List ℕ)). pointwise bytes_eq (fold_name (owner_of set)) f && rtype_of set == p.rdata.rtype) (fold_name-fold_name p.owner)
 
 map_chosen : (f : Record → Record) (a b : Bool) (e d x : Record) (xs more most : List Record) → f e ≡ f d → map f more ≡ map f most → map f (cond a (e ∷ x ∷ xs) (cond b (x ∷ xs) (x ∷ more))) ≡ map f (cond a (d ∷ x ∷ xs) (cond b (x ∷ xs) (x ∷ most)))

@@ -1,5 +1,5 @@
 -- The records of a text of octets are such as a zone may have.
-use Rattle.std.proofs.Common.{◌≡◌, refl, sym, ap, ◌∙◌, subst, ℕ, ◌+◌, ◌<◌, ◌≤◌, ◌^◌, Bool, true, false, cond, bytes_eq, List, [], ◌∷◌, ◌++◌, length, codes, All, Option, Some, None, Result, Ok, Err, ok_or, arith}
+use Rattle.std.proofs.Common.{◌≡◌, refl, sym, ℕ, ◌<◌, ◌^◌, Bool, true, false, cond, bytes_eq, List, [], ◌∷◌, ◌++◌, codes, All, Option, Some, None, Result, Ok, Err, ok_or}
 use Rattle.std.specs.Prelude.{IfSome}
 use Rattle.std.specs.Option.{option_or}
 use Rattle.std.specs.List.{AllByRecursion}
@@ -9,12 +9,11 @@ use Rattle.dns_name.proofs.LawLemmas.{fold-IsName}
 use Rattle.dns_name.proofs.NamedLemmas.{IsNamed}
 use Rattle.dns_rdata.proofs.NameLemmas.{fold_name-fold_name}
 use Rattle.dns_rdata.specs.declared.numbers.Ttl.{Ttl}
-use Rattle.dns_rdata.specs.Data.{data_of}
 use Rattle.zone_lexing.specs.Entries.{Entry, entries_of}
 use Rattle.zone_lexing.specs.Items.{begins_with}
 use Rattle.zone_lexing.specs.Word.{Written}
 use Rattle.zone_lexing.specs.Word.Written.{Plain, Quoted, Unclosed}
-use Rattle.zone_lexing.proofs.OctetLemmas.{IsOfOctets, AreOfOctets, EachEntry, entries_of_octets}
+use Rattle.zone_lexing.proofs.OctetLemmas.{AreOfOctets, EachEntry, entries_of_octets}
 use Rattle.record_text.specs.declared.cause.Cause.{Cause}
 use Rattle.record_text.specs.declared.cause.Cause.TheVariants.{Directive, NoTtl, NoOwner}
 use Rattle.record_text.specs.Data.{data_of_words}

@@ -1,23 +1,20 @@
 -- Records of a text in another order, which keeps that of each set, have one zone.
-use Rattle.std.proofs.Common.{◌≡◌, refl, sym, ap, ◌∙◌, subst, ℕ, zero, suc, ◌+◌, ◌<◌, ◌≤◌, Bool, true, false, cond, not, ◌&&◌, ◌||◌, ◌==◌, List, [], ◌∷◌, ◌++◌, map, length, get_or, arith, true≢false, ⊎_elim, ◌⊎◌, inl, inr}
-use Rattle.std.specs.Prelude.{bytes_eq, Contains}
+use Rattle.std.proofs.Common.{◌≡◌, refl, sym, ap, ◌∙◌, subst, ◌+◌, Bool, true, false, cond, not, ◌&&◌, List, [], ◌∷◌, map, get_or, arith, true≢false, ⊎_elim}
+use Rattle.std.specs.Prelude.{Contains}
 use Rattle.std.specs.declared.cmp.Ordering.{Ordering}
 use Rattle.std.specs.declared.cmp.Ordering.TheVariants.{Less, Equal, Greater}
 use Rattle.std.specs.BTreeSet.{insert_key}
-use Rattle.std.specs.Cmp.{IsTotalOrder, tied_then, unsigned_tied}
-use Rattle.std.specs.Cmp.Lexicographic.{pointwise, slice_cmp}
-use Rattle.std.specs.List.{filter, AllAdjacentBelow, AllByRecursion}
+use Rattle.std.specs.Cmp.{tied_then}
+use Rattle.std.specs.List.{filter, AllByRecursion}
 use Rattle.std.specs.List.Sorted.{IsSorted, IsPermutation, IsStable, ties}
 use Rattle.std.specs.Ordering.{is_eq, is_lt, is_gt, match_ordering, nat_cmp, ordering_reverse}
-use Rattle.std.proofs.lemmas.Bool.Decides.{Decides-eqb}
 use Rattle.std.proofs.lemmas.Cmp.{upto}
 use Rattle.std.proofs.lemmas.List.Sorted.{Contains-permutation, IsPermutation-sym}
 use Rattle.std.proofs.lemmas.Map.Text.{is_eq-slice_cmp}
 use Rattle.std.proofs.lemmas.Slice.Eq.{bytes_eq-Decides}
-use Rattle.dns_name.specs.Name.{is_same, fold_name, canonical_cmp}
-use Rattle.dns_name.specs.Order.{is_same_Decides, is_same_tied}
+use Rattle.dns_name.specs.Name.{fold_name, canonical_cmp}
 use Rattle.dns_rdata.specs.Record.{Record, record_cmp}
-use Rattle.zone_tree.specs.Zone.{is_of, IsBefore}
+use Rattle.zone_tree.specs.Zone.{is_of}
 use Rattle.zone_tree.proofs.LawLemmas.{same_lists}
 use Rattle.zone_tree.proofs.Rising.{Rises, each_weaker, each_map, rises_from_adjacent}
 use Rattle.master_file.specs.declared.record_entry.RecordEntry.{RecordEntry}
@@ -27,7 +24,7 @@ use Rattle.master_file.proofs.PutLemmas.{IsUpTo, same_by_set}
 use Rattle.master_file.proofs.AgainLemmas.{first_or_behind, is_first, is_behind, each_contained, each_in}
 use Rattle.master_file.proofs.JudgeLemmas.{ascends_all}
 use Rattle.master_file.proofs.RuleLemmas.{tied_parts}
-use Rattle.master_file.proofs.ShownLemmas.{shown, AreOfOneSet, one_ttl, is_read, each_any, own_set, timed_owner, timed_rtype, timed_rdata, each_of_all, ascends_shown}
+use Rattle.master_file.proofs.ShownLemmas.{shown, one_ttl, is_read, each_any, own_set, timed_owner, timed_rtype, timed_rdata, each_of_all, ascends_shown}
 
 -- in order, each is in no set behind another's
 turned_by : (o : Ordering) → is_lt (ordering_reverse o) ≡ is_gt o

@@ -13,11 +13,10 @@ use Rattle.dns_name.specs.Order.{is_same_Decides}
 use Rattle.dns_rdata.specs.Numbers.{type_SOA}
 use Rattle.dns_rdata.specs.Record.{Record, record_cmp}
 use Rattle.zone_tree.specs.Zone.{stands_at, is_of, rrset_of, soa_of}
-use Rattle.master_file.specs.declared.summary.SetSummary.{SetSummary}
 use Rattle.master_file.specs.declared.summary.Summaries.{Summaries}
 use Rattle.master_file.specs.declared.record_entry.RecordEntry.{RecordEntry}
 use Rattle.master_file.specs.ZoneText.{record_in, is_too_many}
-use Rattle.master_file.specs.Summary.{AreSummaries, summary_at, count_of, with_ttl_of}
+use Rattle.master_file.specs.Summary.{AreSummaries, summary_at, count_of}
 use Rattle.master_file.proofs.KeptLemmas.{one, count_more, any_more}
 
 both : (a b : Bool) → (a && b) ≡ true → (a ≡ true) × (b ≡ true)
@@ -37,7 +36,7 @@ same_set kept owner other rtype number e =
     ap (λ (f : List (List ℕ)). length (filter (λ (r : Record). pointwise bytes_eq (fold_name r.owner) f && r.rtype == rtype) kept)) folded
     ∙ ap (λ (n : ℕ). length (rrset_of kept other n)) numbers
 
-count_at : (b : Bool) (summary : SetSummary) (old : Option SetSummary) (m n extra : ℕ) → (b ≡ true → m ≡ n) → summary.count ≡ m + extra → count_of old ≡ n → count_of (cond b (Some summary) old) ≡ cond b extra 0 + n
+count_at : (b : Bool) (summary : ℕ) (old : Option ℕ) (m n extra : ℕ) → (b ≡ true → m ≡ n) → summary ≡ m + extra → count_of old ≡ n → count_of (cond b (Some summary) old) ≡ cond b extra 0 + n
 count_at true summary old m n extra same count before = let e = same refl in omega arith
 count_at false summary old m n extra same count before = omega arith
 
@@ -58,7 +57,7 @@ none_new true = refl
 none_new false = refl
 
 -- the summaries of records with one more are the summaries with that of the new one
-pub notes_put : (kept after : List Record) (old new : Summaries) (r : Record) (summary : SetSummary) (is_new : Bool) → is_new ≡ not (list_any (is_at (record_cmp r)) kept) → after ≡ insert_key record_cmp kept r → OnFalse is_new (after ≡ kept) → summary.count ≡ length (rrset_of kept r.owner r.rtype) + one is_new → ((other : List (List ℕ)) (number : ℕ) → summary_at new other number ≡ cond (is_of other number r) (Some summary) (summary_at old other number)) → ((other : List (List ℕ)) → sorted.contains canonical_cmp new.owners other ≡ cond (is_new && is_same r.owner other) true (sorted.contains canonical_cmp old.owners other)) → new.has_soa ≡ (old.has_soa || (is_new && r.rtype == type_SOA)) → AreSummaries kept old → AreSummaries after new
+pub notes_put : (kept after : List Record) (old new : Summaries) (r : Record) (summary : ℕ) (is_new : Bool) → is_new ≡ not (list_any (is_at (record_cmp r)) kept) → after ≡ insert_key record_cmp kept r → OnFalse is_new (after ≡ kept) → summary ≡ length (rrset_of kept r.owner r.rtype) + one is_new → ((other : List (List ℕ)) (number : ℕ) → summary_at new other number ≡ cond (is_of other number r) (Some summary) (summary_at old other number)) → ((other : List (List ℕ)) → sorted.contains canonical_cmp new.owners other ≡ cond (is_new && is_same r.owner other) true (sorted.contains canonical_cmp old.owners other)) → new.has_soa ≡ (old.has_soa || (is_new && r.rtype == type_SOA)) → AreSummaries kept old → AreSummaries after new
 notes_put kept after old new r summary true fresh put same count sets owners soa summaries =
     let apart = not_false (list_any (is_at (record_cmp r)) kept) fresh in record {
       counts = λ (other : List (List ℕ)) (number : ℕ).
@@ -86,11 +85,6 @@ notes_put kept after old new r summary false fresh put same count sets owners so
   owners = λ (other : List (List ℕ)). owners other ∙ summaries.owners other ∙ ap (λ (k : List Record). list_any (stands_at other) k) (sym same);
   soa = soa ∙ none_new old.has_soa ∙ summaries.soa ∙ ap (λ (k : List Record). nat_lt 0 (length (soa_of k))) (sym same);
 }
-
--- a record with the TTL of its set, with one more summary
-pub times_at : (b : Bool) (summary : SetSummary) (old : Option SetSummary) (r : Record) → with_ttl_of (cond b (Some summary) old) r ≡ cond b (record r { ttl = summary.ttl.0 }) (with_ttl_of old r)
-times_at true summary old r = refl
-times_at false summary old r = refl
 
 -- whether a record is one too many, from whether it is new and whether there is room for it
 pub too_many_at : (is_new is_full : Bool) (kept : List Record) (key : Record) (rr : RecordEntry) (owner : List (List ℕ)) (rtype : ℕ) → key ≡ record_in rr → owner ≡ rr.owner → rtype ≡ rr.rdata.rtype → is_new ≡ not (list_any (is_at (record_cmp key)) kept) → is_full ≡ (length (rrset_of kept owner rtype) == 256 || length kept == 1000000) → is_too_many kept rr ≡ (is_new && is_full)

@@ -1,5 +1,6 @@
 -- Records of a text in the order of their sets, and the sets put together from them (RFC 2181, 5 and 5.2).
-use Rattle.std.specs.Prelude.{ℕ, Bool, ◌&&◌, ◌==◌, List, [], ◌∷◌, map, if◌then◌else◌}
+use Rattle.std.specs.Prelude.{◌≡◌, Bool, true, ◌&&◌, ◌==◌, nat_lt, List, [], ◌∷◌, ◌++◌, map, length, if◌then◌else◌}
+use Rattle.std.specs.List.{list_any}
 use Rattle.std.specs.Cmp.{IsTotalOrder, IsEquivalence, eq_by_cmp_equiv}
 use Rattle.std.specs.Ordering.{nat_cmp, ordering_then, eq_by_cmp}
 use Rattle.std.specs.declared.cmp.Ordering.{Ordering}
@@ -40,3 +41,14 @@ put_last (set ∷ next ∷ sets) r = set ∷ put_last (next ∷ sets) r
 abbrev pub sets_with : List (List Record) → List RecordEntry → List (List Record)
 sets_with sets [] = sets
 sets_with sets (rr ∷ rest) = sets_with (put_last sets (in_lower (record_in rr))) rest
+
+-- whether a set has more records than a set may have (own)
+abbrev pub is_over : List Record → Bool
+is_over set = nat_lt 256 (length set)
+
+-- the first of the records, put one after another, make a set of too many
+pub record HasOver (all : List RecordEntry) : Type 0 where
+  pub done : List RecordEntry
+  pub rest : List RecordEntry
+  pub parts : all ≡ done ++ rest
+  pub over : list_any is_over (sets_with [] done) ≡ true

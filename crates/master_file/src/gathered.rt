@@ -1,4 +1,4 @@
-//! The records of a text, gathered while it is read.
+//! The records of a text, gathered to find the line that shows a fault.
 ghost use Rattle.std.specs.Prelude.{◌≡◌, ◌⊎◌, ◌+◌, ◌<◌, ◌^◌, ◌&&◌, ◌||◌, ◌==◌, nat_lt, length, false, true, if◌then◌else◌, [], Some, None, OnOk, IfErr};
 ghost use Rattle.std.specs.List.{list_any, find};
 ghost use Rattle.std.specs.Option.{option_or, option_copied};
@@ -7,11 +7,11 @@ ghost use Rattle.dns_rdata.specs.Record.{Record};
 ghost use Rattle.zone_tree.specs.Zone.{is_wild, stands_at, rrset_of, soa_of};
 ghost use Rattle.record_text.specs.declared.cause.Cause.TheVariants.{NoMemory, Limit};
 ghost use Rattle.master_file.specs.ZoneText.{is_too_many, is_second_soa, is_conflict, with_one};
-ghost use Rattle.master_file.specs.Summary.{AreSummaries, LastsEach, SetsTtl, first_owner, summary_at, with_ttl_of};
+ghost use Rattle.master_file.specs.Summary.{AreSummaries, first_owner};
 
 use crate::canonical::CanonicalRecord;
 use crate::record_entry::RecordEntry;
-use crate::summary::{SetSummary, Summaries};
+use crate::summary::Summaries;
 use dns_name::Name;
 use dns_rdata::{MAX_SET, RType};
 use record_text::Cause;
@@ -33,10 +33,8 @@ impl Gathered {
     pub(crate) fn new(alloc: Global) -> Gathered
         ensures kept { result.kept.keys ≡ [] }
         ensures summaries { AreSummaries [] result.summaries }
-        ensures lasts { LastsEach result.summaries }
         ensures second { result.second_soa ≡ None }
         ensures conflict { result.conflict ≡ None }
-        ensures times { (r : Record) → with_ttl_of (summary_at result.summaries r.owner r.rtype) r ≡ r }
     {
         Gathered {
             kept: BTreeSet::new(alloc),
@@ -46,18 +44,14 @@ impl Gathered {
         }
     }
 
-    /// One more record. Equal records are one, and the last one sets the TTL of its set.
+    /// One more record. Equal records are one.
     ///
     /// `Limit` where it is one record too many, of its set or in all.
     pub(crate) fn put(&mut self, rr: RecordEntry) -> Result<(), Cause>
-        requires lasts { rr.ttl.0 < 2 ^ 31 }
         requires summaries { AreSummaries self.old.kept.keys self.old.summaries }
-        requires lasting { LastsEach self.old.summaries }
         ensures kept { OnOk result (self.new.kept.keys ≡ with_one self.old.kept.keys rr) }
         ensures few { OnOk result (is_too_many self.old.kept.keys rr ≡ false) }
         ensures summaries { OnOk result (AreSummaries self.new.kept.keys self.new.summaries) }
-        ensures lasting { OnOk result (LastsEach self.new.summaries) }
-        ensures times { OnOk result (SetsTtl rr self.old.summaries self.new.summaries) }
         ensures second { OnOk result (self.new.second_soa
             ≡ option_or self.old.second_soa (if is_second_soa self.old.kept.keys rr then Some rr.line else None)) }
         ensures conflict { OnOk result (self.new.conflict
@@ -65,7 +59,6 @@ impl Gathered {
         ensures limit { IfErr result (λ cause. (cause ≡ NoMemory) ⊎ (cause ≡ Limit) × (is_too_many self.old.kept.keys rr ≡ true)) }
     {
         let line = rr.line;
-        let ttl = rr.ttl;
         let owner = rr.owner.copy();
         let rtype = rr.rdata.rtype();
         let is_full = self.is_full(&owner, rtype);
@@ -80,10 +73,7 @@ impl Gathered {
             return Err(Cause::Limit);
         }
         let count = more(count, is_new);
-        let Ok(()) = self
-            .summaries
-            .put(owner, rtype, SetSummary { count, ttl }, is_new)
-        else {
+        let Ok(()) = self.summaries.put(owner, rtype, count, is_new) else {
             return Err(Cause::NoMemory);
         };
         self.second_soa = first(self.second_soa, is_new & is_second_soa, line);

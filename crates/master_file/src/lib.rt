@@ -13,7 +13,6 @@ mod kept;
 mod owner;
 mod record_entry;
 mod records;
-mod sets;
 mod sorted;
 mod summary;
 mod text_laws;

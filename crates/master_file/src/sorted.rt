@@ -1,11 +1,13 @@
 //! The sets of a zone, put together from the records of a text.
-ghost use Rattle.std.specs.Prelude.{◌≡◌, ◌&&◌, ◌==◌, [], true, IfOk, IfSome};
-ghost use Rattle.std.specs.Bool.{OnTrue};
+ghost use Rattle.std.specs.Prelude.{◌≡◌, ◌&&◌, ◌==◌, [], true, None, IfOk, IfSome};
+ghost use Rattle.std.specs.Bool.{OnFalse, OnTrue};
+ghost use Rattle.std.specs.List.{list_any};
+ghost use Rattle.std.specs.Option.{IfNone};
 ghost use Rattle.dns_name.specs.Name.{is_same, fold_name};
 ghost use Rattle.dns_rdata.specs.Record.{owner_of, rtype_of};
-ghost use Rattle.zone_tree.specs.Sets.{records_in};
-ghost use Rattle.master_file.specs.SetOrder.{put_last, sets_with};
-ghost use Rattle.master_file.specs.ZoneText.{record_in, in_lower, zone_records};
+ghost use Rattle.zone_tree.specs.Sets.{records_in, AreUnsplit};
+ghost use Rattle.master_file.specs.SetOrder.{put_last, sets_with, is_over, HasOver};
+ghost use Rattle.master_file.specs.ZoneText.{record_in, in_lower, first_line, is_too_many, zone_records};
 
 use crate::kept::KeptRecord;
 use crate::record_entry::RecordEntry;
@@ -18,7 +20,9 @@ pub(crate) fn sets_of(
     alloc: Global,
     mut records: Vec<KeptRecord>,
 ) -> Result<Option<Vec<RRset>>, AllocError>
-    ensures { IfOk result (λ found. IfSome found (λ sets. records_in sets.items ≡ zone_records records.items)) }
+    ensures sets { IfOk result (λ found. IfSome found (λ sets. records_in sets.items ≡ zone_records records.items)) }
+    ensures unsplit { IfOk result (λ found. IfSome found (λ sets. AreUnsplit sets.items)) }
+    ensures many { IfOk result (λ found. IfNone found (first_line is_too_many [] records.items ≡ None → ⊥)) }
 {
     records.sort()?;
     let Some(sets) = put_all(alloc, records)? else {
@@ -30,7 +34,8 @@ pub(crate) fn sets_of(
 /// The sets of records in the order of their sets; None where a set would have too many.
 #[tactic(auto, using(crate::proofs::PutLemmas::sets_append))]
 fn put_all(alloc: Global, records: Vec<KeptRecord>) -> Result<Option<Vec<RRset>>, AllocError>
-    ensures { IfOk result (λ found. IfSome found (λ sets. sets.items ≡ sets_with [] records.items)) }
+    ensures sets { IfOk result (λ found. IfSome found (λ sets. sets.items ≡ sets_with [] records.items)) }
+    ensures over { IfOk result (λ found. IfNone found (HasOver records.items)) }
 {
     let mut sets = Vec::new(alloc);
     for kept in records {
@@ -44,7 +49,8 @@ fn put_all(alloc: Global, records: Vec<KeptRecord>) -> Result<Option<Vec<RRset>>
 /// Puts a record into the last of the sets where that is of its owner and type, and else behind them. Whether there was
 /// room for it.
 fn put(alloc: Global, sets: &mut Vec<RRset>, kept: KeptRecord) -> Result<bool, AllocError>
-    ensures { IfOk result (λ room. OnTrue room (sets.new.items ≡ put_last sets.old.items (in_lower (record_in kept)))) }
+    ensures put { IfOk result (λ room. OnTrue room (sets.new.items ≡ put_last sets.old.items (in_lower (record_in kept)))) }
+    ensures full { IfOk result (λ room. OnFalse room (list_any is_over (put_last sets.old.items (in_lower (record_in kept))) ≡ true)) }
 {
     let RecordEntry {
         owner,

@@ -1,28 +1,19 @@
-//! What is known of the sets of records kept while a text is read, by owner and type.
-ghost use Rattle.std.specs.Prelude.{◌≡◌, ℕ, ◌<◌, ◌^◌, ◌&&◌, ◌||◌, ◌==◌, true, if◌then◌else◌, List, [], Some, None, OnOk};
+//! What is known of the sets of records gathered of a text, by owner and type.
+ghost use Rattle.std.specs.Prelude.{◌≡◌, ℕ, ◌&&◌, ◌||◌, ◌==◌, true, if◌then◌else◌, List, [], Some, OnOk};
 ghost use Rattle.std.specs.BTreeSet.{contains};
 ghost use Rattle.dns_name.specs.Name.{canonical_cmp, is_same};
 ghost use Rattle.dns_rdata.specs.Numbers.{type_SOA};
-ghost use Rattle.master_file.specs.Summary.{summary_at, count_of, AreSummaries, LastsEach};
+ghost use Rattle.master_file.specs.Summary.{summary_at, count_of, AreSummaries};
 
 use dns_name::Name;
-use dns_rdata::{RType, Ttl};
+use dns_rdata::RType;
 use std::alloc::{AllocError, Global};
 use std::collections::{BTreeMap, BTreeSet};
-
-/// What is known of the records of an owner and type.
-#[derive(Clone, Copy)]
-pub(crate) struct SetSummary {
-    /// How many records there are.
-    pub(crate) count: usize,
-    /// The TTL of the last one read, in seconds.
-    pub(crate) ttl: Ttl,
-}
 
 /// What is known of the records kept.
 #[derive(Drop)]
 pub(crate) struct Summaries {
-    pub(crate) sets: BTreeMap<(Name, u16), SetSummary>,
+    pub(crate) sets: BTreeMap<(Name, u16), usize>,
     pub(crate) owners: BTreeSet<Name>,
     pub(crate) has_soa: bool,
 }
@@ -31,8 +22,6 @@ impl Summaries {
     /// The summaries of no records.
     pub(crate) fn new(alloc: Global) -> Summaries
         ensures summaries { AreSummaries [] result }
-        ensures lasts { LastsEach result }
-        ensures none { (owner : List (List ℕ)) (rtype : ℕ) → summary_at result owner rtype ≡ None }
     {
         Summaries {
             sets: BTreeMap::new(alloc),
@@ -41,21 +30,14 @@ impl Summaries {
         }
     }
 
-    /// What is known of an owner and type.
-    pub(crate) fn at(&self, owner: &Name, rtype: RType) -> Option<SetSummary>
-        ensures { result ≡ summary_at self.now owner.now rtype.0 }
-    {
-        self.sets.get(&(owner.copy(), rtype.0)).copied()
-    }
-
     /// How many records of an owner and type there are.
     pub(crate) fn count(&self, owner: &Name, rtype: RType) -> usize
         ensures { result ≡ count_of (summary_at self.now owner.now rtype.0) }
     {
-        match self.at(owner, rtype) {
-            Some(summary) => summary.count,
-            None => 0,
-        }
+        self.sets
+            .get(&(owner.copy(), rtype.0))
+            .copied()
+            .unwrap_or(0)
     }
 
     /// Whether there is a record of an owner.
@@ -65,21 +47,22 @@ impl Summaries {
         self.owners.contains(owner)
     }
 
-    /// Makes this the summary of an owner and type. Where the record is new, its owner is there from now on, and the SOA.
+    /// Makes this how many records of an owner and type there are. Where the last is new, its owner is there from now on, and the
+    /// SOA.
     pub(crate) fn put(
         &mut self,
         owner: Name,
         rtype: RType,
-        summary: SetSummary,
+        count: usize,
         is_new: bool,
     ) -> Result<(), AllocError>
         ensures sets { OnOk result ((other : List (List ℕ)) (number : ℕ) → summary_at self.new other number
-            ≡ (if is_same owner other && rtype.0 == number then Some summary else summary_at self.old other number)) }
+            ≡ (if is_same owner other && rtype.0 == number then Some count else summary_at self.old other number)) }
         ensures owners { OnOk result ((other : List (List ℕ)) → contains canonical_cmp self.new.owners other
             ≡ (if is_new && is_same owner other then true else contains canonical_cmp self.old.owners other)) }
         ensures soa { OnOk result (self.new.has_soa ≡ (self.old.has_soa || (is_new && rtype.0 == type_SOA))) }
     {
-        self.sets.insert((owner.copy(), rtype.0), summary)?;
+        self.sets.insert((owner.copy(), rtype.0), count)?;
         if is_new {
             self.owners.insert(owner)?;
             if rtype == RType::SOA {

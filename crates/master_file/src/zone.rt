@@ -1,9 +1,10 @@
 //! A zone's text as a zone (RFC 1035, 5).
-ghost use Rattle.std.specs.Prelude.{◌≡◌, ◌⊎◌, [], map, None, Some, Ok, Err, IfOk, IfErr, IfSome, OnOk};
+ghost use Rattle.std.specs.Prelude.{◌≡◌, ◌⊎◌, List, [], None, Ok, Err, IfOk, IfErr, IfSome, OnOk};
+ghost use Rattle.std.specs.Option.{IfNone};
+ghost use Rattle.dns_rdata.specs.Record.{Record};
 ghost use Rattle.master_file.specs.Fault.{no_memory};
 ghost use Rattle.master_file.specs.ZoneText.{outside_line, zone_of_text, zone_records};
-ghost use Rattle.master_file.specs.Summary.{AreSummaries, LastsEach, IsGathered, shown_by, zone_gathered};
-ghost use Rattle.zone_tree.specs.Sets.{records_in};
+ghost use Rattle.master_file.specs.Summary.{AreSummaries, IsGathered, zone_gathered};
 ghost use Rattle.zone_tree.specs.Zone.{IsZone};
 ghost use Rattle.master_file.specs.Records.{records_of};
 
@@ -11,10 +12,9 @@ use crate::fault::FileFault;
 use crate::gathered::Gathered;
 use crate::kept::KeptRecord;
 use crate::records::Records;
-use crate::sets::put_behind;
 use crate::sorted::sets_of;
 use dns_name::Name;
-use dns_rdata::{RRset, RType};
+use dns_rdata::RType;
 use record_text::Cause;
 use std::alloc::{AllocError, Global};
 use zone_tree::Zone;
@@ -25,8 +25,9 @@ fn records_in(
     text: &[u8],
     origin: &Name,
 ) -> Result<Option<Vec<KeptRecord>>, AllocError>
-    ensures { IfOk result (λ found. IfSome found (λ kept. (kept.items ≡ (records_of origin.now text.now).rrs)
+    ensures kept { IfOk result (λ found. IfSome found (λ kept. (kept.items ≡ (records_of origin.now text.now).rrs)
         × ((records_of origin.now text.now).fault ≡ None))) }
+    ensures fault { IfOk result (λ found. IfNone found ((records_of origin.now text.now).fault ≡ None → ⊥)) }
 {
     let mut records = Records::new(alloc, text, origin);
     let mut kept = Vec::new(alloc);
@@ -34,16 +35,22 @@ fn records_in(
         match records.next(alloc) {
             Ok(Some(rr)) => kept.push(KeptRecord::new(alloc, rr)?)?,
             Ok(None) => return Ok(Some(kept)),
-            Err(_) => return Ok(None),
+            Err(fault) => match fault.cause {
+                Cause::NoMemory => return Err(AllocError),
+                _ => return Ok(None),
+            },
         }
     }
 }
 
-/// The zone of a text; None where it may have a fault.
+/// The zone of a text; None where the text is no zone.
 fn zone_in(alloc: Global, text: &[u8], origin: &Name) -> Result<Option<Zone>, AllocError>
     ensures zone { IfOk result (λ found. IfSome found (λ zone. zone_of_text origin.now text.now ≡ Ok zone)) }
     ensures lawful { IfOk result (λ found. IfSome found (λ zone. IsZone zone)) }
+    ensures refused { IfOk result (λ found. IfNone found ((zone : List Record) → zone_of_text origin.now text.now ≡ Ok zone → ⊥)) }
 {
+    // What a name keeps is known of the origin from here on.
+    let _wire = origin.wire();
     let Some(records) = records_in(alloc, text, origin)? else {
         return Ok(None);
     };
@@ -98,58 +105,41 @@ fn first_outside(
     }
 }
 
-/// The records of a text that is a zone, gathered; else the fault that is told (RFC 1035, 5).
-fn gather_zone(alloc: Global, text: &[u8], origin: &Name) -> Result<Gathered, FileFault>
-    ensures gathered { IfOk result (IsGathered (records_of origin.now text.now).rrs []) }
+/// The fault that is told of a text which is no zone. It reads the text once more.
+fn fault_of(alloc: Global, text: &[u8], origin: &Name) -> FileFault
+    requires { (zone : List Record) → zone_of_text origin.now text.now ≡ Ok zone → ⊥ }
+    ensures { (result ≡ no_memory) ⊎ (zone_of_text origin.now text.now ≡ Err result) }
+{
+    match check(alloc, text, origin) {
+        Ok(()) => unreachable!(),
+        Err(fault) => fault,
+    }
+}
+
+/// The fault that is told of a text, where it has one.
+fn check(alloc: Global, text: &[u8], origin: &Name) -> Result<(), FileFault>
     ensures zone { OnOk result (zone_of_text origin.now text.now ≡ Ok (zone_records (records_of origin.now text.now).rrs)) }
     ensures fault { IfErr result (λ fault. (fault ≡ no_memory) ⊎ (zone_of_text origin.now text.now ≡ Err fault)) }
 {
     let gathered = gather(alloc, text, origin)?;
-    judge(alloc, text, origin, &gathered)?;
-    Ok(gathered)
+    judge(alloc, text, origin, &gathered)
 }
 
 /// The zone of a text, its names relative to the origin; else the fault that is told (RFC 1035, 5).
 ///
 /// A record too many and a fault of an entry are told at the first entry that has one. After the whole text a second SOA,
 /// no SOA or no NS at the apex, an owner outside the apex and a conflict are tried in this order. `NoMemory`, at line 0, where a
-/// growth was refused. Its time is that of sorting the records.
+/// growth was refused. Its time is that of sorting the records, and all of the text's are kept until its end; a text that is no
+/// zone is read again for the line that shows its fault.
 pub fn read_zone(alloc: Global, text: &[u8], origin: &Name) -> Result<Zone, FileFault>
     ensures zone { IfOk result (λ zone. zone_of_text origin.now text.now ≡ Ok zone) }
     ensures lawful { IfOk result (λ zone. IsZone zone) }
     ensures fault { IfErr result (λ fault. (fault ≡ no_memory) ⊎ (zone_of_text origin.now text.now ≡ Err fault)) }
 {
-    if let Some(zone) = zone_in(alloc, text, origin)? {
-        return Ok(zone);
+    match zone_in(alloc, text, origin)? {
+        Some(zone) => Ok(zone),
+        None => Err(fault_of(alloc, text, origin)),
     }
-    let gathered = gather_zone(alloc, text, origin)?;
-    let Ok(sets) = build(alloc, gathered) else {
-        return Err(told(0, Cause::NoMemory));
-    };
-    match Zone::new(sets) {
-        Ok(zone) => Ok(zone),
-        Err(_) => Err(told(0, Cause::NoMemory)),
-    }
-}
-
-/// The sets of what is gathered.
-fn build(alloc: Global, gathered: Gathered) -> Result<Vec<RRset>, AllocError>
-    requires { LastsEach gathered.summaries }
-    ensures { IfOk result (λ sets. records_in sets.items ≡ map (shown_by gathered.summaries) gathered.kept.keys) }
-{
-    let Gathered {
-        kept,
-        summaries,
-        ..
-    } = gathered;
-    let mut sets = Vec::new(alloc);
-    for record in kept {
-        let Some(summary) = summaries.at(&record.owner, record.rdata.rtype()) else {
-            return Err(AllocError);
-        };
-        put_behind(alloc, &mut sets, record, summary.ttl)?;
-    }
-    Ok(sets)
 }
 
 /// The fault of a text that is told after the whole of it: a second SOA, no SOA, no NS at the apex, an owner outside the

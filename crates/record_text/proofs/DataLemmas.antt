@@ -12,7 +12,8 @@ use Rattle.dns_rdata.specs.Data.{data_of}
 use Rattle.dns_rdata.proofs.DataLemmas.{IsRead-data}
 use Rattle.std.proofs.lemmas.Bool.Decides.{nat_tests}
 use Rattle.record_text.specs.Fault.{cause_of_data}
-use Rattle.record_text.specs.Data.{fields_of, form_of, octets_of_words, as_data, surplus_of, ReadsBehind, IsToldOf}
+use Rattle.record_text.specs.Data.{fields_of, form_of, octets_of_words, as_data, surplus_of, IsToldOf}
+use Rattle.record_text.specs.Private.{ReadsBehind}
 use Rattle.record_text.specs.Strings.{strings_of}
 use Rattle.zone_lexing.specs.Word.{Written, written}
 use Rattle.record_text.specs.Reading.{on_ok, and_then}

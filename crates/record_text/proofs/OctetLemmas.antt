@@ -26,7 +26,8 @@ use Rattle.record_text.specs.declared.front.Mark.{Mark}
 use Rattle.record_text.specs.declared.front.Mark.TheVariants as mark
 use Rattle.record_text.specs.Address.{dotted, colon_hex, address_of, address6_of}
 use Rattle.record_text.specs.Data.{field_of, fields_of, form_of, text_of, octets_of_words, as_data, data_of_words}
-use Rattle.record_text.specs.Front.{Front, ttl_of, type_mark, mark_of, front_from, front_of, IsLasting}
+use Rattle.record_text.specs.Front.{Front, ttl_of, type_mark, mark_of, front_from, front_of}
+use Rattle.record_text.specs.Private.{IsLasting}
 use Rattle.record_text.specs.Mnemonics.{class_of, type_of}
 use Rattle.record_text.specs.NameWord.{name_named, name_of, owner_of}
 use Rattle.record_text.specs.Number.{are_digits, value_of, decimal_of, number_of, is_number}

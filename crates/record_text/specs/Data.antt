@@ -76,9 +76,3 @@ data_of_words rtype origin words = and_then (octets_of_words rtype origin words)
 -- a fault that is told of a reading: its own, or want of memory
 abbrev pub IsToldOf : {A : Type 0} → Result A Cause → Cause → Type 0
 IsToldOf reading cause = (cause ≡ NoMemory) ⊎ (reading ≡ Err cause)
-
--- octets that a reading gives stand behind the others
-pub record ReadsBehind (reading : Result (List ℕ) Cause) (before after : List ℕ) : Type 0 where
-  pub front : List ℕ
-  pub read : reading ≡ Ok front
-  pub octets : after ≡ before ++ front

@@ -1,5 +1,5 @@
 -- What stands in front of a record's data: its TTL, its class and its type (RFC 1035, 5.1).
-use Rattle.std.specs.Prelude.{ℕ, ◌<◌, ◌^◌, Bool, true, false, not, ◌&&◌, List, [], ◌∷◌, map, if◌then◌else◌, Option, Some, None, Result, Ok, Err}
+use Rattle.std.specs.Prelude.{ℕ, Bool, true, false, not, ◌&&◌, List, [], ◌∷◌, map, if◌then◌else◌, Option, Some, None, Result, Ok, Err}
 use Rattle.std.specs.Option.{is_some}
 use Rattle.dns_rdata.specs.declared.numbers.Ttl.{Ttl}
 use Rattle.record_text.specs.declared.cause.Cause.{Cause}
@@ -33,12 +33,6 @@ mark_of timed classed word =
     if not timed && is_number word then on_ok mark.Ttl (ttl_of word)
     else if classed then type_mark word
     else and_then (class_of word) (λ is_class. if is_class then Ok mark.Class else type_mark word)
-
--- a TTL lasts at most 2^31 - 1 seconds (RFC 2181, 8)
-abbrev pub IsLasting : Mark → Type 0
-IsLasting (mark.Ttl ttl) = ttl.0 < 2 ^ 31
-IsLasting mark.Class = Unit {0}
-IsLasting (mark.Type rtype) = Unit {0}
 
 -- what the words behind an owner begin with, where a TTL or a class has stood before them: TTL and class stand in either
 -- order, and the type behind them (RFC 1035, 5.1)

@@ -5,6 +5,7 @@ pub mod Front
 pub mod Mnemonics
 pub mod NameWord
 pub mod Number
+pub mod Private
 pub mod Reading
 pub mod Strings
 pub mod Text

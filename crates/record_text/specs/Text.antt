@@ -1,5 +1,5 @@
 -- The data of a record as text (RFC 1035, 5.1; RFC 4291, 2.2), each word behind a space.
-use Rattle.std.specs.Prelude.{ℕ, zero, suc, ◌≡◌, false, ◌||◌, ◌==◌, List, [], ◌∷◌, ◌++◌, length, take, drop, map, nat_lt, nat_le, if◌then◌else◌, Option, Some, None, option_map, decimal, flat_map}
+use Rattle.std.specs.Prelude.{ℕ, zero, suc, false, ◌||◌, ◌==◌, List, [], ◌∷◌, ◌++◌, length, take, drop, map, nat_lt, nat_le, if◌then◌else◌, Option, Some, None, option_map, decimal, flat_map}
 use Rattle.std.specs.Fmt.{digits}
 use Rattle.std.specs.Int.{from_be_bytes, w16, w32}
 use Rattle.std.specs.Net.Addr.{segments_of}
@@ -63,8 +63,3 @@ as_text Unclosed = []
 -- words as text, each behind a space
 abbrev pub text_of_words : List Written → List ℕ
 text_of_words words = flat_map (λ word. 32 ∷ as_text word) words
-
--- a word is written behind a space, and how many octets it takes is told; nothing where there is none
-abbrev pub WritesWord : Option (List ℕ × ℕ) → List ℕ → List ℕ → Option ℕ → Type 0
-WritesWord None before after len = (len ≡ None) × (after ≡ before)
-WritesWord (Some word) before after len = (len ≡ Some word.1) × (after ≡ before ++ 32 ∷ word.0)

@@ -1,6 +1,7 @@
 //! The data of a record as words (RFC 1035, 3.3, 3.4.1 and 5.1; RFC 2782; RFC 3596).
 ghost use Rattle.std.specs.Prelude.{◌≡◌, OnOk, IfOk, IfErr, Ok, map, option_copied};
-ghost use Rattle.record_text.specs.Data.{ReadsBehind, IsToldOf, field_of, fields_of, form_of, octets_of_words, data_of_words, surplus_of};
+ghost use Rattle.record_text.specs.Data.{IsToldOf, field_of, fields_of, form_of, octets_of_words, data_of_words, surplus_of};
+ghost use Rattle.record_text.specs.Private.{ReadsBehind};
 ghost use Rattle.zone_lexing.specs.Word.{written};
 
 use crate::addresses::{address, address6};

@@ -1,7 +1,8 @@
 //! What stands in front of a record's data: its TTL, its class and its type (RFC 1035, 5.1).
 ghost use Rattle.std.specs.Prelude.{◌≡◌, ◌<◌, ◌^◌, Ok, map, IfOk, IfErr, IfSome, Err};
 ghost use Rattle.std.specs.Option.{is_some};
-ghost use Rattle.record_text.specs.Front.{IsLasting, mark_of, front_of, front_seen};
+ghost use Rattle.record_text.specs.Front.{mark_of, front_of, front_seen};
+ghost use Rattle.record_text.specs.Private.{IsLasting};
 ghost use Rattle.zone_lexing.specs.Word.{written};
 
 use crate::cause::Cause;

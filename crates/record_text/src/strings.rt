@@ -1,7 +1,8 @@
 //! Strings of text as words (RFC 1035, 3.3.14 and 5.1).
 ghost use Rattle.std.specs.Prelude.{◌≡◌, OnOk, IfOk, IfErr, map};
 ghost use Rattle.std.specs.Option.{option_map};
-ghost use Rattle.record_text.specs.Data.{ReadsBehind, IsToldOf};
+ghost use Rattle.record_text.specs.Data.{IsToldOf};
+ghost use Rattle.record_text.specs.Private.{ReadsBehind};
 ghost use Rattle.record_text.specs.Strings.{unescaped, string_in, string_of, strings_of};
 ghost use Rattle.zone_lexing.specs.Word.{written};
 

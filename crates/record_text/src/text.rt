@@ -2,7 +2,8 @@
 ghost use Rattle.std.specs.Prelude.{◌≡◌, ◌≤◌, ◌++◌, length, OnOk, IfOk, IfSome, string_bytes, flat_map};
 ghost use Rattle.dns_rdata.specs.Numbers.{type_TXT};
 ghost use Rattle.record_text.specs.declared.data.Field.TheVariants as field;
-ghost use Rattle.record_text.specs.Text.{groups_text, string_octet, word_at, words_at, words_of, text_of_words, WritesWord};
+ghost use Rattle.record_text.specs.Text.{groups_text, string_octet, word_at, words_at, words_of, text_of_words};
+ghost use Rattle.record_text.specs.Private.{WritesWord};
 
 use crate::data::{Field, form_of};
 use dns_name::Name;

@@ -9,9 +9,9 @@ use Rattle.dns_message.specs.declared.query.Head.{Head}
 use Rattle.dns_message.specs.declared.query.Question.{Question}
 use Rattle.dns_message.specs.declared.query.Query.{Query as QueryAsked}
 use Rattle.dns_message.specs.declared.query.Parsed.{Parsed}
-use Rattle.dns_message.specs.declared.query.Parsed.TheVariants.{Silent, Fault, Query}
-use Rattle.dns_message.specs.Message.{Message}
-use Rattle.dns_message.specs.Reads.{reads}
+use Rattle.dns_message.specs.declared.query.Parsed.TheVariants.{Silent, Fault, Query, Update, NoMemory}
+use Rattle.dns_message.specs.Message.{Message, opcode_UPDATE}
+use Rattle.dns_message.specs.Request.{reads}
 use Rattle.dns_message.specs.Octets.{fit}
 use Rattle.zone_tree.specs.Zone.{apex_of}
 use Rattle.lookup_core.specs.Sections.{Sections, sections}
@@ -43,10 +43,16 @@ reply_to zone query =
     else if not (is_under query.question.name (apex_of zone)) then refused query.head query.question
     else answered_in zone query.head query.question
 
+-- the code that a request is answered with: NOTIMP of every update, as of a server without updates (RFC 1035, 4.1.1; own)
+abbrev pub code_told : Head → Rcode → Rcode
+code_told head rcode = if head.opcode == opcode_UPDATE then NotImp else rcode
+
 -- the octets for what a request says, over a transport; none where there is no reply (RFC 1035, 4.2.1 and 4.2.2)
 abbrev pub reply_for : Transport → List Record → Parsed → Option (List ℕ)
 reply_for transport zone Silent = None
-reply_for transport zone (Fault head rcode) = Some (fit (bare head rcode) (limit_of transport))
+reply_for transport zone (Fault head rcode) = Some (fit (bare head (code_told head rcode)) (limit_of transport))
+reply_for transport zone (Update update) = Some (fit (bare update.head NotImp) (limit_of transport))
+reply_for transport zone (NoMemory head) = Some (fit (bare head NotImp) (limit_of transport))
 reply_for transport zone (Query query) = Some (fit (reply_to zone query) (limit_of transport))
 
 -- the octets that answer a request in a zone, over a transport; none where there is no reply (RFC 1035, 4.2.1 and 4.2.2)

@@ -2,19 +2,22 @@
 ghost use Rattle.std.specs.Prelude.{◌≡◌, ◌≤◌, length, take, MatchOption, Some, None};
 ghost use Rattle.dns_message.specs.Message.{message_of};
 ghost use Rattle.dns_message.specs.Octets.{fit};
-ghost use Rattle.serve_core.specs.Reply.{reply, reply_to, answered_in, bare as bare_message, refused};
+ghost use Rattle.serve_core.specs.Reply.{reply, reply_to, code_told, answered_in, bare as bare_message, refused};
 ghost use Rattle.serve_core.specs.Transport.{limit_of};
 
 use crate::transport::Transport;
 use dns_message::{Head, Parsed, Query, Question, Reply, parse, write_reply};
 use dns_rdata::{Class, RType, Rcode};
 use lookup_core::answer;
+use std::alloc::Global;
 use zone_tree::ZoneRead;
 
 /// Writes the reply to a request over a transport to the front of `out`, and gives how many octets it has; None where there
-/// is no reply. It takes no memory (RFC 1034, 4.3.2; RFC 1035, 4.1 and 4.2).
+/// is no reply. Only an update takes memory, and the reply is the same where it has none (RFC 1034, 4.3.2; RFC 1035, 4.1 and
+/// 4.2).
 #[tactic(auto, unfolding(crate::specs::Reply::reply))]
 pub fn respond<Z: ZoneRead>(
+    alloc: Global,
     zone: &Z,
     transport: Transport,
     request: &[u8],
@@ -24,11 +27,28 @@ pub fn respond<Z: ZoneRead>(
     ensures { MatchOption result (reply transport (Z.records zone.now) request.now ≡ None)
         (λ len. (len ≤ limit_of transport) × (reply transport (Z.records zone.now) request.now ≡ Some (take len out.new))) }
 {
-    match parse(request) {
+    match parse(alloc, request) {
         Parsed::Silent => None,
-        Parsed::Fault(head, rcode) => Some(write_bare(head, rcode, transport, out)),
+        Parsed::Fault(head, rcode) => {
+            Some(write_bare(head, code_told(head, rcode), transport, out))
+        }
+        Parsed::Update(update) => Some(write_bare(update.head, Rcode::NotImp, transport, out)),
+        Parsed::NoMemory(head) => Some(write_bare(head, Rcode::NotImp, transport, out)),
         Parsed::Query(query) => Some(respond_to_query(zone, &query, transport, out)),
     }
+}
+
+/// The OPCODE of a dynamic update (RFC 2136, 1.3).
+const UPDATE: u8 = 5;
+
+/// The code that a request is answered with: NOTIMP of every update (RFC 1035, 4.1.1; own).
+fn code_told(head: Head, rcode: Rcode) -> Rcode
+    ensures { result ≡ code_told head rcode }
+{
+    if head.opcode == UPDATE {
+        return Rcode::NotImp;
+    }
+    rcode
 }
 
 /// Writes the reply to a query: the first refusal that holds, else the zone's answer (RFC 1034, 4.3.2; own).

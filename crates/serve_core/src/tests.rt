@@ -98,7 +98,7 @@ fn replies(rt: HostRuntime) -> Result<(), Fail> {
     for (what, request, reply) in cases {
         for transport in [Transport::Udp, Transport::Tcp] {
             let mut out = [0; TCP_LIMIT];
-            let len = respond(&zone, transport, request, &mut out);
+            let len = respond(rt.alloc(), &zone, transport, request, &mut out);
             assert_eq!(rt; len, reply.map(|octets| octets.len()), "{what}");
             let octets = reply.unwrap_or(b"");
             assert!(rt; out.starts_with(octets), "{what}");
@@ -126,11 +126,11 @@ fn limits(rt: HostRuntime) -> Result<(), Fail> {
         let whole = 34 + 12 + 256 + 1 + len;
         assert_eq!(rt; whole <= UDP_LIMIT, fits);
         assert_eq!(rt;
-            respond(&zone, Transport::Tcp, request, &mut out),
+            respond(rt.alloc(), &zone, Transport::Tcp, request, &mut out),
             Some(whole)
         );
         assert!(rt; out.starts_with(b"\x12\x34\x85\x00\x00\x01\x00\x01\x00\x00\x00\x00\x03big"));
-        let over_udp = respond(&zone, Transport::Udp, request, &mut out);
+        let over_udp = respond(rt.alloc(), &zone, Transport::Udp, request, &mut out);
         if fits {
             assert_eq!(rt; over_udp, Some(whole));
         } else {

@@ -172,7 +172,7 @@ fn answer_in(alloc: Global, zone: &Zone, request: &[u8]) -> Result<WorldReply, W
     ensures { IfOk result (λ told. told ≡ answer_of (reply Udp zone.now request.now)) }
 {
     let mut out = [0; UDP_LIMIT];
-    let Some(len) = respond(zone, Transport::Udp, request, &mut out) else {
+    let Some(len) = respond(alloc, zone, Transport::Udp, request, &mut out) else {
         return Ok(WorldReply::Silent);
     };
     match out[..len].to_vec(alloc) {

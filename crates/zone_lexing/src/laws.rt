@@ -1,5 +1,5 @@
 //! Laws of the entries of a text: each is the contract of a function that does nothing.
-ghost use Rattle.std.specs.Prelude.{◌≡◌, ◌+◌, ◌++◌, ◌∷◌, ℕ, List, false, true, All, map};
+ghost use Rattle.std.specs.Prelude.{◌≡◌, ◌+◌, ◌++◌, ◌∷◌, ℕ, List, [], codes, false, true, All, map};
 ghost use Rattle.std.specs.List.{flat_map, list_all};
 ghost use Rattle.zone_lexing.specs.Items.{is_blank, items};
 ghost use Rattle.zone_lexing.specs.Word.{Written};
@@ -55,4 +55,17 @@ pub fn line_ends_are_alike()
 pub fn parentheses_join_lines()
     ensures { (text more : List ℕ) → ends_outside text ≡ true → (place_of text).inside ≡ true
         → map without_lines (entries_of (text ++ 10 ∷ more)) ≡ map without_lines (entries_of (text ++ 32 ∷ more)) }
+{}
+
+/// Worked examples of where a comment may stand and where parentheses are open (RFC 1035, 5.1).
+pub fn examples_of_places()
+    ensures behind_string { ends_outside (34 ∷ codes "a;(" ++ 34 ∷ []) ≡ true }
+    ensures in_string { ends_outside (34 ∷ codes "a;") ≡ false }
+    ensures in_comment { ends_outside (codes "a ; b") ≡ false }
+    ensures behind_comment { ends_outside (codes "a ; (" ++ 10 ∷ codes "b") ≡ true }
+    ensures behind_backslash { ends_outside (codes "a" ++ 92 ∷ []) ≡ false }
+    ensures behind_two { ends_outside (codes "a" ++ 92 ∷ 92 ∷ []) ≡ true }
+    ensures over_lines { (place_of (codes "a (b" ++ 10 ∷ codes "c")).inside ≡ true }
+    ensures closed { (place_of (codes "a (b)")).inside ≡ false }
+    ensures commented { (place_of (codes "a ;(" ++ 10 ∷ [])).inside ≡ false }
 {}

@@ -16,7 +16,7 @@ mod word;
 pub use entries::Entries;
 pub use entry::EntryHead;
 pub use laws::{
-    blank_lines_change_nothing, comments_change_nothing, entries_are_in_order, items_are_the_text,
-    line_ends_are_alike, lines_are_read_back, parentheses_join_lines,
+    blank_lines_change_nothing, comments_change_nothing, entries_are_in_order, examples_of_places,
+    items_are_the_text, line_ends_are_alike, lines_are_read_back, parentheses_join_lines,
 };
 pub use word::Word;

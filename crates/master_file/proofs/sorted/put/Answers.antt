@@ -1,22 +1,24 @@
-use Rattle.std.proofs.Common.{◌≡◌, ◌++◌, [], ◌∷◌, map, length, sym, ap, ◌∙◌, arith}
+use Rattle.std.proofs.Common.{◌≡◌, ◌++◌, [], ◌∷◌, map, length, Err, sym, ap, ◌∙◌, arith}
+use Rattle.std.specs.List.{list_any}
 use Rattle.dns_rdata.specs.Record.{Record}
 use Rattle.master_file.specs.declared.record_entry.RecordEntry.{RecordEntry}
 use Rattle.master_file.specs.ZoneText.{record_in, in_lower}
-use Rattle.master_file.specs.SetOrder.{put_last}
+use Rattle.master_file.specs.SetOrder.{put_last, is_over}
 use Rattle.master_file.proofs.PutLemmas.{put_in, put_out, nil_from}
+use Rattle.master_file.proofs.OverLemmas.{put_full}
 use Rattle.master_file.proofs.sorted.put.Goals as goal
 use Rattle.master_file.proofs.sorted.put.Goals.{in-Some+else-is_of+in_ok-push-in-Some-2, in-None}
 
-pub returns-then-is_of : goal.returns-then-is_of
-returns-then-is_of c =
+pub returns-then-is_of-clause-put : goal.returns-then-is_of-clause-put
+returns-then-is_of-clause-put c =
     let rr = c.into_entry-owner.result in
     c.in_ok-push-in-Some.ensures.items
     ∙ put_in c.args.sets.now.items c.pop.new.self.items c.in-Some.last c.set_ttl.new.self rr c.in-Some.ensures.items (sym c.is_of.ensures.of ∙ c.if-is_of.true) (c.is_of.ensures.owner c.if-is_of.true)
     (c.set_ttl.ensures ∙ ap (map (λ (s : Record). record s { ttl = rr.ttl.0 })) c.in-Ok.ensures.ok)
     ∙ ap (λ (p : RecordEntry). put_last c.args.sets.now.items (in_lower (record_in p))) c.into_entry-owner.ensures.entry
 
-pub returns : goal.returns
-returns c =
+pub returns-clause-put : goal.returns-clause-put
+returns-clause-put c =
     let rr = c.into_entry-owner.result in
     let old = c.args.sets.now.items in
     let set = c.in_ok-new.field-0 in
@@ -33,3 +35,10 @@ returns c =
           ∙ (λ i. c.in_ok-new.ensures i ∷ []) ∙ (λ i. put_last (sym (nil_from old none) i) (in_lower (record_in rr)))
           ∙ entry
     ]
+
+pub returns-in-Err-Limit-clause-full : goal.returns-in-Err-Limit-clause-full
+returns-in-Err-Limit-clause-full c =
+    let rr = c.into_entry-owner.result in
+    let full = c.in-Err-Limit.ensures.limit.0 (λ i. Err (c.in-Err-Limit.field-0-is i)) in
+    ap (λ (p : RecordEntry). list_any is_over (put_last c.args.sets.now.items (in_lower (record_in p)))) (sym c.into_entry-owner.ensures.entry)
+    ∙ put_full c.args.sets.now.items c.pop.new.self.items c.in-Some.last rr c.in-Some.ensures.items (sym c.is_of.ensures.of ∙ c.if-is_of.true) full.0 full.1

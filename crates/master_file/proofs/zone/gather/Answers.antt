@@ -11,6 +11,6 @@ loop-gathered-preserved c =
     let before = subst (λ (l : Read). IsGathered all l.rrs c.loop-gathered.gathered) front c.loop-gathered.invariant.gathered in
     let put = c.in-Ok.ensures in
     record {
-      gathered = gathered_step all c.next.new.self.rrs c.in-Some.rr c.loop-gathered.gathered c.put.new.self before put.kept put.few put.summaries put.lasting put.times put.second put.conflict;
+      gathered = gathered_step all c.next.new.self.rrs c.in-Some.rr c.loop-gathered.gathered c.put.new.self before put.kept put.few put.summaries put.second put.conflict;
       fault = ap (λ (l : Read). l.fault) (sym front) ∙ c.loop-gathered.invariant.fault;
     }

@@ -1,15 +1,29 @@
-use Rattle.std.proofs.Common.{◌≡◌, List, Ok, sym, ap, ◌∙◌, subst}
+use Rattle.std.proofs.Common.{◌≡◌, ◌<◌, List, All, Ok, sym, ap, ◌∙◌, subst, arith}
+use Rattle.std.proofs.lemmas.Grind.{get_or_default_zero}
 use Rattle.dns_rdata.specs.Record.{Record}
 use Rattle.zone_tree.specs.Zone.{IsZone}
 use Rattle.master_file.specs.ZoneText.{zone_records}
 use Rattle.master_file.specs.Records.{records_of}
-use Rattle.master_file.proofs.IsZoneLemmas.{zone_is_read}
+use Rattle.master_file.proofs.IsZoneLemmas.{zone_is_read, read_is_zone, read_records}
+use Rattle.master_file.proofs.ReadableLemmas.{records_readable}
 use Rattle.master_file.proofs.zone.zone_in.Goals as goal
 
 pub returns-in-Ok-clause-zone : goal.returns-in-Ok-clause-zone
 returns-in-Ok-clause-zone c =
     let read = records_of c.args.origin.now c.args.text.now in
-    let kept = rw c.in-Some.is at c.in_ok-records.ensures in
-    let sets = rw c.in-Some-2.is at c.in_ok-sets.ensures in
+    let kept = rw c.in-Some.is at c.in_ok-records.ensures.kept in
+    let sets = rw c.in-Some-2.is at c.in_ok-sets.ensures.sets in
     let is : c.in-Ok.zone ≡ zone_records read.rrs = c.in-Ok.ensures.zone.0 ∙ sets ∙ ap zone_records kept.0 in
     zone_is_read read kept.1 (subst (λ (zone : List Record). IsZone zone) is c.in-Ok.ensures.zone.1) ∙ ap (λ (zone : List Record). Ok zone) (sym is)
+
+pub returns-in-Err-clause-refused : goal.returns-in-Err-clause-refused
+returns-in-Err-clause-refused c = λ zone e.
+    let text = c.args.text.now in
+    let read = records_of c.args.origin.now text in
+    let kept = rw c.in-Some.is at c.in_ok-records.ensures.kept in
+    let sets = rw c.in-Some-2.is at c.in_ok-sets.ensures.sets in
+    let unsplit = rw c.in-Some-2.is at c.in_ok-sets.ensures.unsplit in
+    let small : All (λ octet. octet < 256) text = λ k d within. omega (arith, c.type_inv.text k, get_or_default_zero text k d within) in
+    let is = read_is_zone read zone (records_readable c.args.origin.now text c.wire-wire.ensures.lawful c.wire-wire.ensures.bytes small) e in
+    let same = read_records read zone e ∙ ap zone_records (sym kept.0) ∙ sym sets in
+    c.in-Err.ensures.refused unsplit (subst (λ (all : List Record). IsZone all) same is)

@@ -2,7 +2,8 @@ use Rattle.std.proofs.Common.{ℕ, List, true, false, ◌==◌, ◌≡◌, ◌<�
 use Rattle.std.proofs.lemmas.Bool.Decides.{nat_tests}
 use Rattle.record_text.specs.declared.cause.Cause.{Cause}
 use Rattle.zone_lexing.specs.declared.word.Word.{Word}
-use Rattle.record_text.specs.Data.{ReadsBehind, IsToldOf}
+use Rattle.record_text.specs.Data.{IsToldOf}
+use Rattle.record_text.specs.Private.{ReadsBehind}
 use Rattle.zone_lexing.specs.Word.{written}
 use Rattle.record_text.proofs.DataLemmas.{words_text, words_no_text, words_fields, words_unknown}
 use Rattle.record_text.proofs.data.put_words.Goals as goal

@@ -1,7 +1,8 @@
 use Rattle.std.proofs.Common.{ℕ, ◌≡◌, ◌≤◌, ◌∷◌, [], ◌++◌, ◌∙◌, List, Option, Some, refl, sym, ap, subst, take, length, string_bytes, lit<}
 use Rattle.std.proofs.lemmas.List.{append_assoc}
 use Rattle.std.specs.Net.Addr.{segments_of}
-use Rattle.record_text.specs.Text.{groups_text, WritesWord}
+use Rattle.record_text.specs.Text.{groups_text}
+use Rattle.record_text.specs.Private.{WritesWord}
 use Rattle.record_text.proofs.TextLemmas.{address6_word}
 use Rattle.record_text.proofs.text.write_address6.Goals as goal
 

@@ -49,7 +49,7 @@ returns-clause-judged c =
     let sets = c.args.sets.now in
     record {
       rising = c.in_ok-check_order.ensures.rising;
-      apex = c.copy.ensures ∙ c.owner-apex.ensures.of ∙ ap owner_of (c.index-sets-soa.is ∙ c.in_ok-soa.ensures.found.is c.index-sets-soa.result);
+      apex = c.owner-apex.ensures.of ∙ ap owner_of (c.index-sets-soa.is ∙ c.in_ok-soa.ensures.found.is c.index-sets-soa.result);
       counted = c.in_ok-count.ensures.counted;
       lawful = zone_from_rules sets c.in_ok-check_order.ensures.rising c.in_ok-soa.ensures.one c.in_ok-count.ensures.few c.in_ok-check_rules.ensures.kept;
     }

@@ -1,4 +1,4 @@
-use Rattle.std.proofs.Common.{◌+◌, ℕ, List, true, cond, not, ◌&&◌, ◌||◌, ◌==◌, length, Option, Some, ap, refl, ◌∙◌, inr}
+use Rattle.std.proofs.Common.{◌+◌, ℕ, List, true, cond, not, ◌&&◌, ◌||◌, ◌==◌, length, Some, ap, refl, ◌∙◌, inr}
 use Rattle.std.specs.List.{list_any}
 use Rattle.std.specs.Ordering.{is_eq}
 use Rattle.std.specs.BTreeSet.{insert_key}
@@ -6,11 +6,10 @@ use Rattle.std.specs.BTreeSet as sorted
 use Rattle.dns_name.specs.Name.{is_same, canonical_cmp}
 use Rattle.dns_rdata.specs.Numbers.{type_SOA}
 use Rattle.dns_rdata.specs.Record.{Record, record_cmp}
-use Rattle.zone_tree.specs.Zone.{rrset_of, is_of}
-use Rattle.master_file.specs.declared.summary.SetSummary.{SetSummary}
+use Rattle.zone_tree.specs.Zone.{rrset_of}
 use Rattle.master_file.specs.ZoneText.{record_in}
-use Rattle.master_file.specs.Summary.{summary_at, with_ttl_of}
-use Rattle.master_file.proofs.SummaryLemmas.{notes_put, times_at, too_many_at}
+use Rattle.master_file.specs.Summary.{summary_at}
+use Rattle.master_file.proofs.SummaryLemmas.{notes_put, too_many_at}
 use Rattle.master_file.proofs.gathered.Gathered.put.Goals as goal
 
 pub returns-then-is_new-is_full-clause-limit : goal.returns-then-is_new-is_full-clause-limit
@@ -24,24 +23,15 @@ returns-clause-summaries c =
     let fresh = c.in-Ok.ensures.added ∙ ap (λ (k : Record). not (list_any (λ (r : Record). is_eq (record_cmp k r)) kept)) c.new.ensures in
     let put = c.in-Ok.ensures.keys ∙ ap (λ (k : Record). insert_key record_cmp kept k) c.new.ensures in
     notes_put kept c.insert.new.self.keys c.args.self.now.summaries c.put.new.self r
-    (record { count = c.more-count.result; ttl = c.args.rr.ttl }) c.in-Ok.is_new fresh put c.in-Ok.ensures.unchanged
+    c.more-count.result c.in-Ok.is_new fresh put c.in-Ok.ensures.unchanged
     (c.more-count.ensures
     ∙ ap (λ (n : ℕ). n + cond c.in-Ok.is_new 1 0) (c.count-count.ensures.count
     ∙ ap (λ (o : List (List ℕ)). length (rrset_of kept o c.rtype-rtype.result.0)) c.copy-owner.ensures
     ∙ ap (λ (t : ℕ). length (rrset_of kept c.args.rr.owner t)) c.rtype-rtype.ensures.rtype))
     (λ (other : List (List ℕ)) (number : ℕ). c.in-Ok-put.ensures.sets other number
-    ∙ ap (λ (o : List (List ℕ)). cond (is_same o other && c.rtype-rtype.result.0 == number) (Some (record { count = c.more-count.result; ttl = c.args.rr.ttl })) (summary_at c.args.self.now.summaries other number)) c.copy-owner.ensures
-    ∙ ap (λ (t : ℕ). cond (is_same c.args.rr.owner other && t == number) (Some (record { count = c.more-count.result; ttl = c.args.rr.ttl })) (summary_at c.args.self.now.summaries other number)) c.rtype-rtype.ensures.rtype)
+    ∙ ap (λ (o : List (List ℕ)). cond (is_same o other && c.rtype-rtype.result.0 == number) (Some c.more-count.result) (summary_at c.args.self.now.summaries other number)) c.copy-owner.ensures
+    ∙ ap (λ (t : ℕ). cond (is_same c.args.rr.owner other && t == number) (Some c.more-count.result) (summary_at c.args.self.now.summaries other number)) c.rtype-rtype.ensures.rtype)
     (λ (other : List (List ℕ)). c.in-Ok-put.ensures.owners other
     ∙ ap (λ (o : List (List ℕ)). cond (c.in-Ok.is_new && is_same o other) true (sorted.contains canonical_cmp c.args.self.now.summaries.owners other)) c.copy-owner.ensures)
     (c.in-Ok-put.ensures.soa ∙ ap (λ (t : ℕ). c.args.self.now.summaries.has_soa || (c.in-Ok.is_new && t == type_SOA)) c.rtype-rtype.ensures.rtype)
     c.requires.summaries
-
-pub returns-clause-times : goal.returns-clause-times
-returns-clause-times c = λ (r : Record).
-    let summary : SetSummary = record { count = c.more-count.result; ttl = c.args.rr.ttl } in
-    ap (λ (o : Option SetSummary). with_ttl_of o r)
-    (c.in-Ok-put.ensures.sets r.owner r.rtype
-    ∙ ap (λ (o : List (List ℕ)). cond (is_same o r.owner && c.rtype-rtype.result.0 == r.rtype) (Some summary) (summary_at c.args.self.now.summaries r.owner r.rtype)) c.copy-owner.ensures
-    ∙ ap (λ (t : ℕ). cond (is_same c.args.rr.owner r.owner && t == r.rtype) (Some summary) (summary_at c.args.self.now.summaries r.owner r.rtype)) c.rtype-rtype.ensures.rtype)
-    ∙ times_at (is_of r.owner r.rtype (record_in c.args.rr)) summary (summary_at c.args.self.now.summaries r.owner r.rtype) r

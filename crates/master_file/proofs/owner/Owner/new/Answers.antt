@@ -1,4 +1,4 @@
-use Rattle.std.proofs.Common.{◌≡◌, ◌++◌, List, ℕ, sym, ap, ◌∙◌}
+use Rattle.std.proofs.Common.{◌≡◌, ◌++◌, List, ℕ, ap, ◌∙◌}
 use Rattle.dns_name.specs.Name.{wire_of}
 use Rattle.master_file.specs.SortKey.{name_key, keyed_name}
 use Rattle.master_file.proofs.KeyLemmas.{keyed_is}
