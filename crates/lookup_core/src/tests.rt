@@ -87,7 +87,7 @@ fn zone_of(alloc: Global, rows: &[Row]) -> Result<Zone, Fail> {
         }
         sets.push(set)?;
     }
-    Ok(Zone::new(sets)?)
+    Ok(Zone::new(alloc, sets)?)
 }
 
 /// Whether a section shows these sets, under owners spelt so.
@@ -290,7 +290,7 @@ fn thirty_three_sets(rt: HostRuntime) -> Result<(), Fail> {
     for host in hosts {
         sets.push(host)?;
     }
-    let zone = Zone::new(sets)?;
+    let zone = Zone::new(rt.alloc(), sets)?;
     let said = answer(&zone, &name(EXAMPLE)?, RType::NS);
     assert_eq!(rt; said.additional.len(), 32);
     Ok(())

@@ -83,5 +83,5 @@ fn is_of(set: &RRset, owner: &Name, rdata: &RData) -> bool
     ensures of { result ≡ (is_same (owner_of set.now) owner.now && rtype_of set.now == rdata.now.rtype) }
     ensures owner { result ≡ true → owner_of set.now ≡ fold_name owner.now }
 {
-    set.owner() == owner && set.rtype() == rdata.rtype()
+    set.owner() == *owner && set.rtype() == rdata.rtype()
 }

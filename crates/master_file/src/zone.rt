@@ -17,7 +17,7 @@ use dns_name::Name;
 use dns_rdata::RType;
 use record_text::Cause;
 use std::alloc::{AllocError, Global};
-use zone_tree::Zone;
+use zone_tree::{NewFault, Zone};
 
 /// The records of a text, in its order; None where it has a fault.
 fn records_in(
@@ -57,9 +57,10 @@ fn zone_in(alloc: Global, text: &[u8], origin: &Name) -> Result<Option<Zone>, Al
     let Some(sets) = sets_of(alloc, records)? else {
         return Ok(None);
     };
-    match Zone::new(sets) {
+    match Zone::new(alloc, sets) {
         Ok(zone) => Ok(Some(zone)),
-        Err(_) => Ok(None),
+        Err(NewFault::NoMemory) => Err(AllocError),
+        Err(NewFault::Broken(_)) => Ok(None),
     }
 }
 

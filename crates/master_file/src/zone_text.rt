@@ -1,7 +1,6 @@
 //! A zone as text, one record a line (RFC 1035, 5.1).
 ghost use Rattle.std.specs.Prelude.{◌≡◌, ◌++◌, OnOk, IfOk, string_bytes, filter, flat_map};
 ghost use Rattle.dns_rdata.specs.Record.{Record};
-ghost use Rattle.zone_tree.specs.Sets.{records_in};
 ghost use Rattle.master_file.specs.WrittenZone.{record_line, is_other, zone_text};
 
 use dns_name::Name;
@@ -20,15 +19,15 @@ pub fn write_zone<Z: ZoneRead>(alloc: Global, zone: &Z) -> Result<String, AllocE
 {
     let mut text = String::new(alloc);
     write_set(&mut text, zone.soa())?;
-    write_others(&mut text, zone.walk())?;
+    write_others(&mut text, zone)?;
     Ok(text)
 }
 
 /// Writes the lines of the records that are no SOA.
-fn write_others(text: &mut String, sets: &[RRset]) -> Result<(), AllocError>
-    ensures { OnOk result (string_bytes text.new ≡ string_bytes text.old ++ flat_map record_line (filter is_other (records_in sets.now))) }
+fn write_others<Z: ZoneRead>(text: &mut String, zone: &Z) -> Result<(), AllocError>
+    ensures { OnOk result (string_bytes text.new ≡ string_bytes text.old ++ flat_map record_line (filter is_other (Z.records zone.now))) }
 {
-    for set in sets {
+    for set in zone.walk() {
         if set.rtype() != RType::SOA {
             write_set(text, set)?;
         }
@@ -43,7 +42,7 @@ fn write_set(text: &mut String, set: &RRset) -> Result<(), AllocError>
     let owner = set.owner();
     let ttl = set.ttl();
     for rdata in set.data() {
-        write_record(text, owner, ttl, rdata)?;
+        write_record(text, &owner, ttl, rdata)?;
     }
     Ok(())
 }

@@ -48,7 +48,7 @@ fn zone_of(alloc: Global, rows: &[Row]) -> Result<Zone, Fail> {
         let data = RData::from_wire(alloc, *rtype, &data)?;
         sets.push(RRset::new(alloc, &owner, Ttl(3600), data)?)?;
     }
-    Ok(Zone::new(sets)?)
+    Ok(Zone::new(alloc, sets)?)
 }
 
 #[test]

@@ -50,7 +50,7 @@ fn small_zone(alloc: Global) -> Result<Zone, Fail> {
         web.insert(second)?;
     }
     sets.push(web)?;
-    Ok(Zone::new(sets)?)
+    Ok(Zone::new(alloc, sets)?)
 }
 
 /// Records as they were sent.

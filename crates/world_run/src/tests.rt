@@ -24,7 +24,7 @@ fn zone_of(alloc: Global, has_new: bool) -> Option<Zone> {
         sets.push(set_of(alloc, &new, RType::A, &[192, 0, 2, 77])?)
             .ok()?;
     }
-    Zone::new(sets).ok()
+    Zone::new(alloc, sets).ok()
 }
 
 /// A set of one record.

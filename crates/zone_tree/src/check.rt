@@ -30,10 +30,7 @@ pub(crate) fn check(sets: &[RRset]) -> Result<Judged, BrokenRule>
     let soa = find_soa(sets)?;
     let apex = sets[soa].owner();
     check_rules(sets, &apex)?;
-    Ok(Judged {
-        apex,
-        count,
-    })
+    Ok(Judged { apex, count })
 }
 
 /// How many records a set has.

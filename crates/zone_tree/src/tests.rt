@@ -34,17 +34,17 @@ fn zone_of(alloc: Global, rows: &[Row]) -> Result<Result<Zone, NewFault>, Fail> 
 
 /// Whether a walk gives a set of each row, in their order.
 fn walks(zone: &Zone, rows: &[Row]) -> Result<bool, Fail> {
-    let mut left = rows;
+    let mut at = 0usize;
     for set in zone.walk() {
-        let Some(((owner, rtype, _), rest)) = left.split_first() else {
+        let Some((owner, rtype, _)) = rows.get(at) else {
             return Ok(false);
         };
-        if *set.owner() != name(owner)? || set.rtype() != *rtype {
+        if set.owner() != name(owner)? || set.rtype() != *rtype {
             return Ok(false);
         }
-        left = rest;
+        at = at.saturating_add(1);
     }
-    Ok(left.is_empty())
+    Ok(at == rows.len())
 }
 
 /// What a call gives, or, where memory is refused, what the same call gives anew.

@@ -18,7 +18,7 @@ fn told(alloc: Global, head: &str, lines: &str) -> Result<String, AllocError> {
     text.push_str(lines)?;
     match read_zone(alloc, text.as_bytes(), &origin) {
         Ok(zone) => {
-            let sets = zone.walk().len();
+            let sets = zone.walk().count();
             format!(in alloc; "{sets} sets")
         }
         Err(fault) if fault.cause == Cause::NoMemory => Err(AllocError),

@@ -44,7 +44,7 @@ fn rewritten(alloc: Global, text: &str) -> Result<String, Fail> {
             sets.swap(i - 1, i);
         }
     }
-    let zone = Zone::new(sets)?;
+    let zone = Zone::new(alloc, sets)?;
     Ok(write_zone(alloc, &zone)?)
 }
 

@@ -1,28 +1,33 @@
-use Rattle.std.proofs.Common.{◌≡◌, ◌+◌, ◌++◌, ◌∷◌, List, ℕ, String, Global, flat_map, drop, string_bytes, sym, ap, ◌∙◌}
-use Rattle.std.proofs.lemmas.List.{append_assoc, drop_more}
+use Rattle.std.proofs.Common.{◌≡◌, ◌++◌, ◌∷◌, [], List, ℕ, String, Global, filter, flat_map, string_bytes, sym, ap, ◌∙◌}
+use Rattle.std.proofs.lemmas.List.{append_assoc, append-nil}
 use Rattle.dns_rdata.specs.Record.{Record}
-use Rattle.master_file.specs.WrittenZone.{record_line}
+use Rattle.master_file.specs.WrittenZone.{record_line, is_other}
 use Rattle.master_file.proofs.ZoneTextLemmas.{other_lines, set_in_front, soa_in_front}
 use Rattle.master_file.proofs.zone_text.write_others.Goals as goal
-use Rattle.master_file.proofs.zone_text.write_others.Goals.{then-ne+in_ok-write_set, else-ne}
+
+pub loop-set-init : goal.loop-set-init
+loop-set-init g c = ap (λ (rs : List Record). string_bytes c.args.text.now ++ flat_map record_line (filter is_other rs)) (ap (flat_map (λ (set : List Record). set)) c.into_iter-set-iterator.ensures.into_iter_gives ∙ c.walk-set-items.ensures.records)
+
+pub loop-set-preserved-in-Continue-1 : goal.loop-set-preserved-in-Continue-1
+loop-set-preserved-in-Continue-1 g c =
+    let rest = c.next.new.self in
+    let set = c.in-Some.set.now in
+    let before = string_bytes c.loop-set.text in
+    let left = ap other_lines c.in-Some.ensures.steps in
+    ap (λ (os : List ℕ). os ++ other_lines rest) c.in_ok-write_set.ensures
+    ∙ append_assoc before (flat_map record_line set) (other_lines rest)
+    ∙ ap (λ (os : List ℕ). before ++ os) (sym (left ∙ set_in_front c.rtype.result.0 set rest c.rtype.ensures.shared (sym c.ne.ensures ∙ c.if-ne.true)))
+    ∙ c.loop-set.invariant
 
 pub loop-set-preserved : goal.loop-set-preserved
-loop-set-preserved c =
-    let rest = drop (c.loop-set.set-index + 1) c.args.sets.now in
-    let set = c.set-item.result in
+loop-set-preserved g c =
+    let rest = c.next.new.self in
+    let set = c.in-Some.set.now in
     let before = string_bytes c.loop-set.text in
-    let cut : drop c.loop-set.set-index c.args.sets.now ≡ set ∷ rest =
-    drop_more c.args.sets.now c.loop-set.set-index set c.loop-set-test.true ∙ ap (λ (s : List Record). s ∷ rest) (sym c.set-item.is) in
-    let left = ap other_lines cut in
-    elim c.if-ne.branch [
-      | then-ne+in_ok-write_set w ↦
-          ap (λ (t : String Global). string_bytes t ++ other_lines rest) w.text-is
-          ∙ ap (λ (os : List ℕ). os ++ other_lines rest) w.in_ok-write_set.ensures
-          ∙ append_assoc before (flat_map record_line set) (other_lines rest)
-          ∙ ap (λ (os : List ℕ). before ++ os) (sym (left ∙ set_in_front c.rtype.result.0 set rest c.rtype.ensures.shared (sym c.ne.ensures ∙ w.if-ne.true)))
-          ∙ c.loop-set.invariant
-      | else-ne w ↦
-          ap (λ (t : String Global). string_bytes t ++ other_lines rest) w.text-is
-          ∙ ap (λ (os : List ℕ). before ++ os) (sym (left ∙ soa_in_front c.rtype.result.0 set rest c.rtype.ensures.shared (sym c.ne.ensures ∙ w.if-ne.false)))
-          ∙ c.loop-set.invariant
-    ]
+    let left = ap other_lines c.in-Some.ensures.steps in
+    ap (λ (os : List ℕ). before ++ os) (sym (left ∙ soa_in_front c.rtype.result.0 set rest c.rtype.ensures.shared (sym c.ne.ensures ∙ c.if-ne.false)))
+    ∙ c.loop-set.invariant
+
+pub returns : goal.returns
+returns g c =
+    sym (ap (λ (ss : List (List Record)). string_bytes c.loop-set.text ++ other_lines ss) c.in-None.ensures.steps.0 ∙ append-nil (string_bytes c.loop-set.text)) ∙ c.loop-set.invariant

@@ -14,8 +14,8 @@ returns c =
     let all : data_lines (owner_of set) (ttl_of set) ds ≡ flat_map record_line set = lines ∙ ap (flat_map record_line) (sym c.data-rdata-items.ensures.records) in
     let owner = c.owner-owner.ensures.of in
     let ttl = c.ttl-ttl.ensures.of in
-    let same : data_lines c.owner-owner.result.now c.ttl-ttl.result.0 ds ≡ data_lines (owner_of set) (ttl_of set) ds = ap (λ (o : List (List ℕ)). data_lines o c.ttl-ttl.result.0 ds) owner ∙ ap (λ (t : ℕ). data_lines (owner_of set) t ds) ttl in
-    let lines_of = data_lines c.owner-owner.result.now c.ttl-ttl.result.0 in
+    let same : data_lines c.owner-owner.result c.ttl-ttl.result.0 ds ≡ data_lines (owner_of set) (ttl_of set) ds = ap (λ (o : List (List ℕ)). data_lines o c.ttl-ttl.result.0 ds) owner ∙ ap (λ (t : ℕ). data_lines (owner_of set) t ds) ttl in
+    let lines_of = data_lines c.owner-owner.result c.ttl-ttl.result.0 in
     let left : lines_of (drop c.loop-rdata.rdata-index ds) ≡ [] = ap lines_of (drop_all c.loop-rdata.rdata-index ds c.loop-rdata-test.false) in
     sym (ap (λ (os : List ℕ). string_bytes c.loop-rdata.text ++ os) left ∙ append-nil (string_bytes c.loop-rdata.text))
     ∙ c.loop-rdata.invariant ∙ ap (λ (os : List ℕ). before ++ os) (same ∙ all)
