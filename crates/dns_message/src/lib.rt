@@ -35,5 +35,3 @@ pub use write::{MAX_LIMIT, MIN_LIMIT, write_reply};
 
 #[cfg(test)]
 mod tests;
-#[cfg(test)]
-mod update_tests;
