@@ -129,5 +129,6 @@ fn apex<Z: ZoneRead>(zone: &Z) -> &Name
     ensures name { result.now ≡ apex_of (Z.records zone.now) }
     ensures lawful { IsZone (Z.records zone.now) }
 {
-    zone.soa().owner()
+    let _soa = zone.soa();
+    zone.apex()
 }

@@ -23,6 +23,10 @@ impl Counted {
 impl ZoneRead for Counted {
     ghost records = { λ counted. counted.zone };
 
+    fn apex(&self) -> &Name {
+        self.zone.apex()
+    }
+
     fn rrset(&self, owner: &Name, rtype: RType) -> Option<&RRset> {
         self.count();
         self.zone.rrset(owner, rtype)
@@ -42,8 +46,8 @@ impl ZoneRead for Counted {
         self.zone.soa()
     }
 
-    fn walk(&self) -> &[RRset] {
-        self.zone.walk()
+    fn sets_after(&self, name: Option<&Name>) -> &[RRset] {
+        self.zone.sets_after(name)
     }
 }
 
