@@ -2,6 +2,8 @@ use Rattle.std.proofs.Common.{◌≡◌, ◌<◌, List, All, Ok, sym, ap, ◌∙
 use Rattle.std.proofs.lemmas.Grind.{get_or_default_zero}
 use Rattle.dns_rdata.specs.Record.{Record}
 use Rattle.zone_tree.specs.Zone.{IsZone}
+use Rattle.zone_tree.specs.Fault.{IfBroken}
+use Rattle.zone_tree.specs.Sets.{records_in, AreUnsplit}
 use Rattle.master_file.specs.ZoneText.{zone_records}
 use Rattle.master_file.specs.Records.{records_of}
 use Rattle.master_file.proofs.IsZoneLemmas.{zone_is_read, read_is_zone, read_records}
@@ -16,8 +18,8 @@ returns-in-Ok-clause-zone c =
     let is : c.in-Ok.zone ≡ zone_records read.rrs = c.in-Ok.ensures.zone.0 ∙ sets ∙ ap zone_records kept.0 in
     zone_is_read read kept.1 (subst (λ (zone : List Record). IsZone zone) is c.in-Ok.ensures.zone.1) ∙ ap (λ (zone : List Record). Ok zone) (sym is)
 
-pub returns-in-Err-clause-refused : goal.returns-in-Err-clause-refused
-returns-in-Err-clause-refused c = λ zone e.
+pub returns-in-Err-Broken-clause-refused : goal.returns-in-Err-Broken-clause-refused
+returns-in-Err-Broken-clause-refused c = λ zone e.
     let text = c.args.text.now in
     let read = records_of c.args.origin.now text in
     let kept = rw c.in-Some.is at c.in_ok-records.ensures.kept in
@@ -26,4 +28,5 @@ returns-in-Err-clause-refused c = λ zone e.
     let small : All (λ octet. octet < 256) text = λ k d within. omega (arith, c.type_inv.text k, get_or_default_zero text k d within) in
     let is = read_is_zone read zone (records_readable c.args.origin.now text c.wire-wire.ensures.lawful c.wire-wire.ensures.bytes small) e in
     let same = read_records read zone e ∙ ap zone_records (sym kept.0) ∙ sym sets in
-    c.in-Err.ensures.refused unsplit (subst (λ (all : List Record). IsZone all) same is)
+    let told : AreUnsplit c.in-Some-2.sets.items → IsZone (records_in c.in-Some-2.sets.items) → ⊥ = rw c.in-Err-Broken.field-0-is at c.in-Err-Broken.ensures.refused in
+    told unsplit (subst (λ (all : List Record). IsZone all) same is)
