@@ -24,7 +24,7 @@ fn sets_of(alloc: Global, text: &str) -> Result<Vec<RRset>, Fail> {
             ..
         } = rr;
         match sets.last_mut() {
-            Some(set) if *set.owner() == owner && set.rtype() == rdata.rtype() => {
+            Some(set) if set.owner() == owner && set.rtype() == rdata.rtype() => {
                 set.insert(rdata)?;
             }
             _ => sets.push(RRset::new(alloc, &owner, ttl, rdata)?)?,
