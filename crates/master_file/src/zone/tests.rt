@@ -4,9 +4,18 @@ use dns_name::Name;
 use record_text::Cause;
 use std::alloc::{AllocError, Global};
 use std::test::Fail;
-use zone_tree::ZoneRead;
+use zone_tree::{Zone, ZoneRead};
 
 const HEAD: &str = "$TTL 60\n@ SOA a b 1 2 3 4 5\n@ NS a\n";
+
+/// How many sets a zone has.
+fn set_count(zone: &Zone) -> u32 {
+    let mut count = 0u32;
+    for _ in zone.walk() {
+        count = count.saturating_add(1);
+    }
+    count
+}
 
 /// How many sets the zone of a head and these lines has, under the origin `test.`; or the fault that is told.
 fn told(alloc: Global, head: &str, lines: &str) -> Result<String, AllocError> {
@@ -18,7 +27,7 @@ fn told(alloc: Global, head: &str, lines: &str) -> Result<String, AllocError> {
     text.push_str(lines)?;
     match read_zone(alloc, text.as_bytes(), &origin) {
         Ok(zone) => {
-            let sets = zone.walk().count();
+            let sets = set_count(&zone);
             format!(in alloc; "{sets} sets")
         }
         Err(fault) if fault.cause == Cause::NoMemory => Err(AllocError),
