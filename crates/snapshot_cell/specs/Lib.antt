@@ -1,0 +1,2 @@
+pub mod History
+pub use Rattle.cell_core.specs.Cell

@@ -1,0 +1,22 @@
+//! Why a call of the cell is refused.
+use thiserror::Error;
+
+/// Why a cell isn't made.
+#[derive(Clone, Copy, Debug, PartialEq, Eq, Error)]
+pub enum NewFault {
+    /// No memory for the cell or its readers.
+    #[error("H1 NoMemory")]
+    NoMemory,
+    /// More readers than a cell may have.
+    #[error("H2 TooManyReaders")]
+    TooManyReaders,
+}
+
+/// A reader's owners can't be counted any more: the count of the last version's owners is full.
+#[derive(Clone, Copy, Debug, PartialEq, Eq, Error)]
+#[error("spent")]
+pub struct Spent;
+
+/// A value that wasn't published, since there was no memory for its version.
+#[derive(Debug, Drop)]
+pub struct NoSlot<T>(pub T);
