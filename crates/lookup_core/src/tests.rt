@@ -1,62 +1,58 @@
-//! Answers of whole zones: what each section shows, by owner and type.
+//! Answers of whole zones: what each section shows, by owner and type. Zones and answers are tables as text, a row a line.
 mod searches;
 
 use crate::matched::Place;
 use crate::question::answer;
+use crate::sections::Answer;
 use crate::walk::place;
 use dns_name::Name;
-use dns_rdata::{RData, RRset, RType, Rcode, Shown, Ttl};
+use dns_rdata::{RData, RRset, RType, Shown, Ttl};
 use std::alloc::Global;
 use std::process::Abort;
 use std::test::Fail;
 use zone_tree::Zone;
 
-/// A record: its owner, its type, the octets of its data, and a name behind them where the text isn't empty.
-type Row<'a> = (&'a str, RType, &'a [u8], &'a str);
-
-/// What a section shows: the owner and the type of each set.
-type Section<'a> = &'a [(&'a str, RType)];
-
-/// A question, the code, AA and whether it ends at or below a zone cut, and the three sections.
-type Case<'a> = (
-    (&'a str, RType),
-    (Rcode, bool, bool),
-    (Section<'a>, Section<'a>, Section<'a>),
-);
-
-/// The data of an SOA: the root twice, and five numbers of which the last, MINIMUM, is 300.
-const SOA: &[u8] = b"\0\0\0\0\0\x01\0\0\x1c\x20\0\0\x03\x84\0\x12\x75\0\0\0\x01\x2c";
-
 /// Where the examples stand.
 const EXAMPLE: &str = "example.test.";
 
+/// The data of an SOA: the root twice, and five numbers of which the last, MINIMUM, is 300.
+const SOA: &str = "00000000000100001c2000000384001275000000012c";
+
 /// Below `example.test.`: an empty non-terminal `b`, a wildcard below `dyn` with an empty non-terminal `e` beside it,
-/// aliases in a loop, out of the zone, into a delegated zone and to `web`, and zone cuts, one below the other.
-const ROWS: [Row; 19] = [
-    (EXAMPLE, RType::NS, b"", "ns1"),
-    (EXAMPLE, RType::SOA, SOA, ""),
-    ("a.b", RType::TXT, b"\x01x", ""),
-    ("deep", RType::CNAME, b"", "x.sub"),
-    ("*.dyn", RType::A, &[192, 0, 2, 99], ""),
-    ("x.e.dyn", RType::A, &[192, 0, 2, 3], ""),
-    ("loop1", RType::CNAME, b"", "loop2"),
-    ("loop2", RType::CNAME, b"", "loop1"),
-    ("mail", RType::MX, b"\0\x0a", "web"),
-    ("mail", RType::MX, b"\0\x14", "q.dyn"),
-    ("ns1", RType::A, &[192, 0, 2, 1], ""),
-    ("out", RType::CNAME, b"", "host.example.net."),
-    ("s", RType::SRV, &[0, 1, 0, 2, 0, 53], "web"),
-    ("sub", RType::NS, b"", "ns.sub"),
-    ("ns.sub", RType::A, &[192, 0, 2, 53], ""),
-    ("z.sub", RType::NS, b"", "ns1"),
-    ("web", RType::A, &[192, 0, 2, 10], ""),
-    (
-        "web",
-        RType::AAAA,
-        b"\x20\x01\x0d\xb8\0\0\0\0\0\0\0\0\0\0\0\x0a",
-        "",
-    ),
-    ("www", RType::CNAME, b"", "web"),
+/// aliases in a loop, out of the zone, into a delegated zone and to `web`, and zone cuts, one below the other. A row is an
+/// owner, a type, the data's octets in hexadecimal, and a name behind them where there is one.
+const ZONE: &str = "\
+example.test. NS  ns1\n\
+example.test. SOA 00000000000100001c2000000384001275000000012c\n\
+a.b TXT 0178\n\
+deep CNAME  x.sub\n\
+*.dyn A c0000263\n\
+x.e.dyn A c0000203\n\
+loop1 CNAME  loop2\n\
+loop2 CNAME  loop1\n\
+mail MX 000a web\n\
+mail MX 0014 q.dyn\n\
+ns1 A c0000201\n\
+out CNAME  host.example.net.\n\
+s SRV 000100020035 web\n\
+sub NS  ns.sub\n\
+ns.sub A c0000235\n\
+z.sub NS  ns1\n\
+web A c000020a\n\
+web AAAA 20010db800000000000000000000000a\n\
+www CNAME  web\n";
+
+/// The types and their words.
+const TYPES: [(&str, RType); 9] = [
+    ("A", RType::A),
+    ("NS", RType::NS),
+    ("CNAME", RType::CNAME),
+    ("SOA", RType::SOA),
+    ("MX", RType::MX),
+    ("TXT", RType::TXT),
+    ("AAAA", RType::AAAA),
+    ("SRV", RType::SRV),
+    ("ANY", RType::ANY),
 ];
 
 /// A name below `example.test.`; a whole one where the text ends in a dot.
@@ -65,20 +61,57 @@ fn name(text: &str) -> Result<Name, Fail> {
     Ok(Name::from_text(text.as_bytes(), &origin)?)
 }
 
-/// The zone of records in canonical order.
-fn zone_of(alloc: Global, rows: &[Row]) -> Result<Zone, Fail> {
-    let mut sets: Vec<RRset> = Vec::new(alloc);
-    for (owner, rtype, octets, host) in rows {
-        let owner = name(owner)?;
-        let mut data = octets.to_vec(alloc)?;
-        if !host.is_empty() {
-            data.extend_from_slice(name(host)?.wire())?;
+/// The type of a word.
+fn rtype_of(word: &str) -> Result<RType, Fail> {
+    for (known, rtype) in TYPES {
+        if known == word {
+            return Ok(rtype);
         }
-        let data = RData::from_wire(alloc, *rtype, &data)?;
-        let mut set = RRset::new(alloc, &owner, Ttl(3600), data)?;
+    }
+    Err(Fail::from("no type"))
+}
+
+/// The word of a type.
+fn word_of(rtype: RType) -> &'static str {
+    for (word, known) in TYPES {
+        if known == rtype {
+            return word;
+        }
+    }
+    "?"
+}
+
+/// The octets that hexadecimal stands for.
+fn octets_of(alloc: Global, text: &str) -> Result<Vec<u8>, Fail> {
+    let mut octets = Vec::new(alloc);
+    for pair in text.as_bytes().chunks(2) {
+        let digits = std::str::from_utf8(pair)?;
+        octets.push(u8::from_str_radix(digits, 16)?)?;
+    }
+    Ok(octets)
+}
+
+/// The set of a row, of one record.
+fn set_of(alloc: Global, row: &str) -> Result<RRset, Fail> {
+    let mut words = row.split(' ');
+    let owner = name(words.next().unwrap_or(""))?;
+    let rtype = rtype_of(words.next().unwrap_or(""))?;
+    let mut octets = octets_of(alloc, words.next().unwrap_or(""))?;
+    if let Some(host) = words.next() {
+        octets.extend_from_slice(name(host)?.wire())?;
+    }
+    let data = RData::from_wire(alloc, rtype, &octets)?;
+    Ok(RRset::new(alloc, &owner, Ttl(3600), data)?)
+}
+
+/// The zone of rows in canonical order.
+fn zone_of(alloc: Global, rows: &str) -> Result<Zone, Fail> {
+    let mut sets: Vec<RRset> = Vec::new(alloc);
+    for row in rows.lines() {
+        let mut set = set_of(alloc, row)?;
         if let Some(last) = sets.pop() {
-            if last.owner() == owner && last.rtype() == *rtype {
-                let data = RData::from_wire(alloc, *rtype, set.data()[0].octets())?;
+            if last.owner() == set.owner() && last.rtype() == set.rtype() {
+                let data = RData::from_wire(alloc, set.rtype(), set.data()[0].octets())?;
                 set = last;
                 set.insert(data)?;
             } else {
@@ -90,183 +123,132 @@ fn zone_of(alloc: Global, rows: &[Row]) -> Result<Zone, Fail> {
     Ok(Zone::new(alloc, sets)?)
 }
 
-/// Whether a section shows these sets, under owners spelt so.
-fn shows(section: &[Shown], want: Section) -> Result<bool, Fail> {
-    let mut at = 0;
+/// Adds what a section shows: the owner, as it is spelt, and the type of each set.
+fn tell_section(alloc: Global, text: &mut String, section: &[Shown]) -> Result<(), Fail> {
+    text.push_str(" |")?;
     for shown in section {
         for set in shown.sets {
-            let Some((owner, rtype)) = want.get(at) else {
-                return Ok(false);
-            };
-            if shown.owner.wire() != name(owner)?.wire() || set.rtype() != *rtype {
-                return Ok(false);
-            }
-            at += 1;
+            let owner = shown.owner.to_text();
+            let word = word_of(set.rtype());
+            let told = format!(in alloc; " {owner} {word}")?;
+            text.push_str(told.as_str())?;
         }
-    }
-    Ok(at == want.len())
-}
-
-fn check(rt: &impl Abort, zone: &Zone, cases: &[Case]) -> Result<(), Fail> {
-    for ((asked, rtype), (rcode, aa, below_cut), (shown, authority, additional)) in cases {
-        let said = answer(zone, &name(asked)?, *rtype);
-        assert_eq!(rt; said.rcode, *rcode, "{asked} {rtype:?}");
-        assert_eq!(rt; said.aa, *aa, "{asked} {rtype:?}");
-        assert_eq!(rt; said.below_cut, *below_cut, "{asked} {rtype:?}");
-        assert!(rt;
-            shows(said.answer.as_slice(), shown)?,
-            "{asked} {rtype:?}: answer"
-        );
-        assert!(rt;
-            shows(said.authority.as_slice(), authority)?,
-            "{asked} {rtype:?}: authority"
-        );
-        assert!(rt;
-            shows(said.additional.as_slice(), additional)?,
-            "{asked} {rtype:?}: additional"
-        );
     }
     Ok(())
 }
 
-/// The SOA of the examples, in the authority section.
-const NEGATIVE: Section = &[(EXAMPLE, RType::SOA)];
+/// What an answer says: its code, `aa`, `cut` where it ends at or below a zone cut, and what its sections show.
+fn told(alloc: Global, said: &Answer) -> Result<String, Fail> {
+    let code = said.rcode;
+    let mut text = format!(in alloc; "{code:?}")?;
+    if said.aa {
+        text.push_str(" aa")?;
+    }
+    if said.below_cut {
+        text.push_str(" cut")?;
+    }
+    tell_section(alloc, &mut text, said.answer.as_slice())?;
+    tell_section(alloc, &mut text, said.authority.as_slice())?;
+    tell_section(alloc, &mut text, said.additional.as_slice())?;
+    Ok(text)
+}
 
-/// No sets.
-const NONE: Section = &[];
+/// Asks each row's name and type, and wants the answer behind them.
+fn check(rt: &impl Abort, alloc: Global, zone: &Zone, rows: &str) -> Result<(), Fail> {
+    for row in rows.lines() {
+        let mut words = row.splitn(3, ' ');
+        let asked = name(words.next().unwrap_or(""))?;
+        let rtype = rtype_of(words.next().unwrap_or(""))?;
+        let want = words.next().unwrap_or("");
+        let said = told(alloc, &answer(zone, &asked, rtype))?;
+        assert_eq!(rt; said.as_str(), want, "{row}");
+    }
+    Ok(())
+}
 
-/// Names that exist, names that don't, and what a wildcard covers (RFC 1034, 4.3.2; RFC 2308, 2; RFC 4592, 2.2.2).
+/// Names that exist, names that don't, and what a wildcard covers.
+const NAMES: &str = "\
+www A NoError aa | www.example.test. CNAME web.example.test. A | |\n\
+WwW A NoError aa | WwW.example.test. CNAME web.example.test. A | |\n\
+www CNAME NoError aa | www.example.test. CNAME | |\n\
+web ANY NoError aa | web.example.test. A web.example.test. AAAA | |\n\
+nope A NxDomain aa | | example.test. SOA |\n\
+b A NoError aa | | example.test. SOA |\n\
+zz.b A NxDomain aa | | example.test. SOA |\n\
+P.q.DYN A NoError aa | P.q.DYN.example.test. A | |\n\
+p.q.dyn MX NoError aa | | example.test. SOA |\n\
+e.dyn A NoError aa | | example.test. SOA |\n\
+f.e.dyn A NxDomain aa | | example.test. SOA |\n\
+f.x.e.dyn A NxDomain aa | | example.test. SOA |\n\
+www MX NoError aa | www.example.test. CNAME | example.test. SOA |\n";
+
+// RFC 1034, 4.3.2; RFC 2308, 2; RFC 4592, 2.2.2.
 #[test]
 fn names_and_wildcards(rt: HostRuntime) -> Result<(), Fail> {
-    let zone = zone_of(rt.alloc(), &ROWS)?;
-    let yes = (Rcode::NoError, true, false);
-    let no = (Rcode::NxDomain, true, false);
-    let web: Section = &[("web", RType::A), ("web", RType::AAAA)];
-    let cases: [Case; 13] = [
-        (
-            ("www", RType::A),
-            yes,
-            (&[("www", RType::CNAME), ("web", RType::A)], NONE, NONE),
-        ),
-        (
-            ("WwW", RType::A),
-            yes,
-            (&[("WwW", RType::CNAME), ("web", RType::A)], NONE, NONE),
-        ),
-        (
-            ("www", RType::CNAME),
-            yes,
-            (&[("www", RType::CNAME)], NONE, NONE),
-        ),
-        (("web", RType::ANY), yes, (web, NONE, NONE)),
-        (("nope", RType::A), no, (NONE, NEGATIVE, NONE)),
-        (("b", RType::A), yes, (NONE, NEGATIVE, NONE)),
-        (("zz.b", RType::A), no, (NONE, NEGATIVE, NONE)),
-        (
-            ("P.q.DYN", RType::A),
-            yes,
-            (&[("P.q.DYN", RType::A)], NONE, NONE),
-        ),
-        (("p.q.dyn", RType::MX), yes, (NONE, NEGATIVE, NONE)),
-        (("e.dyn", RType::A), yes, (NONE, NEGATIVE, NONE)),
-        (("f.e.dyn", RType::A), no, (NONE, NEGATIVE, NONE)),
-        (("f.x.e.dyn", RType::A), no, (NONE, NEGATIVE, NONE)),
-        (
-            ("www", RType::MX),
-            yes,
-            (&[("www", RType::CNAME)], NEGATIVE, NONE),
-        ),
-    ];
-    check(&rt, &zone, &cases)
+    let zone = zone_of(rt.alloc(), ZONE)?;
+    check(&rt, rt.alloc(), &zone, NAMES)
 }
 
-/// Referrals: at the first zone cut on the way down, with glue, authoritative for the aliases in front of them alone
-/// (RFC 1034, 4.3.2, step 3b; RFC 2181, 6.1).
+/// Referrals: at the first zone cut on the way down, with glue, authoritative for the aliases in front of them alone.
+const REFERRALS: &str = "\
+x.sub A NoError cut | | sub.example.test. NS | ns.sub.example.test. A\n\
+sub NS NoError cut | | sub.example.test. NS | ns.sub.example.test. A\n\
+ns.sub A NoError cut | | sub.example.test. NS | ns.sub.example.test. A\n\
+y.z.sub A NoError cut | | sub.example.test. NS | ns.sub.example.test. A\n\
+deep A NoError aa cut | deep.example.test. CNAME | sub.example.test. NS | ns.sub.example.test. A\n\
+example.test. NS NoError aa | example.test. NS | | ns1.example.test. A\n";
+
+// RFC 1034, 4.3.2, step 3b; RFC 2181, 6.1.
 #[test]
 fn referrals(rt: HostRuntime) -> Result<(), Fail> {
-    let zone = zone_of(rt.alloc(), &ROWS)?;
-    let bare = (Rcode::NoError, false, true);
-    let servers: Section = &[("sub", RType::NS)];
-    let glue: Section = &[("ns.sub", RType::A)];
-    let cases: [Case; 6] = [
-        (("x.sub", RType::A), bare, (NONE, servers, glue)),
-        (("sub", RType::NS), bare, (NONE, servers, glue)),
-        (("ns.sub", RType::A), bare, (NONE, servers, glue)),
-        (("y.z.sub", RType::A), bare, (NONE, servers, glue)),
-        (
-            ("deep", RType::A),
-            (Rcode::NoError, true, true),
-            (&[("deep", RType::CNAME)], servers, glue),
-        ),
-        (
-            (EXAMPLE, RType::NS),
-            (Rcode::NoError, true, false),
-            (&[(EXAMPLE, RType::NS)], NONE, &[("ns1", RType::A)]),
-        ),
-    ];
-    check(&rt, &zone, &cases)
+    let zone = zone_of(rt.alloc(), ZONE)?;
+    check(&rt, rt.alloc(), &zone, REFERRALS)
 }
 
-/// Chains that stop: at a name already searched, and at one outside the zone (RFC 1034, 3.6.2).
+/// Chains that stop: at a name already searched, and at one outside the zone.
+const CHAINS: &str = "\
+loop1 A NoError aa | loop1.example.test. CNAME loop2.example.test. CNAME | |\n\
+out A NoError aa | out.example.test. CNAME | |\n";
+
+// RFC 1034, 3.6.2.
 #[test]
 fn chains(rt: HostRuntime) -> Result<(), Fail> {
-    let zone = zone_of(rt.alloc(), &ROWS)?;
-    let yes = (Rcode::NoError, true, false);
-    let twice: Section = &[("loop1", RType::CNAME), ("loop2", RType::CNAME)];
-    let cases: [Case; 2] = [
-        (("loop1", RType::A), yes, (twice, NONE, NONE)),
-        (
-            ("out", RType::A),
-            yes,
-            (&[("out", RType::CNAME)], NONE, NONE),
-        ),
-    ];
-    check(&rt, &zone, &cases)
+    let zone = zone_of(rt.alloc(), ZONE)?;
+    check(&rt, rt.alloc(), &zone, CHAINS)
 }
 
-/// Addresses of names in data: A before AAAA, none that a wildcard would give, none that the answer has
-/// (RFC 1034, 4.3.2, step 6; RFC 1035, 3.3.9; RFC 2782).
+/// Addresses of names in data: A before AAAA, none that a wildcard would give.
+const ADDITIONAL: &str = "\
+mail MX NoError aa | mail.example.test. MX | | web.example.test. A web.example.test. AAAA\n\
+s SRV NoError aa | s.example.test. SRV | | web.example.test. A web.example.test. AAAA\n";
+
+/// A zone with a name whose exchange is itself.
+const OWN_EXCHANGE: &str = "\
+example.test. NS  ns1\n\
+example.test. SOA 00000000000100001c2000000384001275000000012c\n\
+own A c0000201\n\
+own MX 000a own\n\
+own AAAA 00000000000000000000000000000000\n";
+
+/// Its A and AAAA stand in the answer to ANY, and so not in the additional section.
+const OWN_ADDITIONAL: &str = "\
+own ANY NoError aa | own.example.test. A own.example.test. MX own.example.test. AAAA | |\n\
+own MX NoError aa | own.example.test. MX | | own.example.test. A own.example.test. AAAA\n";
+
+// RFC 1034, 4.3.2, step 6; RFC 1035, 3.3.9; RFC 2782.
 #[test]
 fn additional_data(rt: HostRuntime) -> Result<(), Fail> {
-    let zone = zone_of(rt.alloc(), &ROWS)?;
-    let yes = (Rcode::NoError, true, false);
-    let web: Section = &[("web", RType::A), ("web", RType::AAAA)];
-    let cases: [Case; 2] = [
-        (
-            ("mail", RType::MX),
-            yes,
-            (&[("mail", RType::MX)], NONE, web),
-        ),
-        (("s", RType::SRV), yes, (&[("s", RType::SRV)], NONE, web)),
-    ];
-    check(&rt, &zone, &cases)?;
-    // A name whose exchange is itself: its A and AAAA stand in the answer to ANY.
-    let rows: [Row; 5] = [
-        (EXAMPLE, RType::NS, b"", "ns1"),
-        (EXAMPLE, RType::SOA, SOA, ""),
-        ("own", RType::A, &[192, 0, 2, 1], ""),
-        ("own", RType::MX, b"\0\x0a", "own"),
-        ("own", RType::AAAA, &[0; 16], ""),
-    ];
-    let zone = zone_of(rt.alloc(), &rows)?;
-    let all: Section = &[("own", RType::A), ("own", RType::MX), ("own", RType::AAAA)];
-    let addresses: Section = &[("own", RType::A), ("own", RType::AAAA)];
-    let cases: [Case; 2] = [
-        (("own", RType::ANY), yes, (all, NONE, NONE)),
-        (
-            ("own", RType::MX),
-            yes,
-            (&[("own", RType::MX)], NONE, addresses),
-        ),
-    ];
-    check(&rt, &zone, &cases)
+    let zone = zone_of(rt.alloc(), ZONE)?;
+    check(&rt, rt.alloc(), &zone, ADDITIONAL)?;
+    let zone = zone_of(rt.alloc(), OWN_EXCHANGE)?;
+    check(&rt, rt.alloc(), &zone, OWN_ADDITIONAL)
 }
 
 /// An additional section has 32 sets at most (own).
 #[test]
 fn thirty_three_sets(rt: HostRuntime) -> Result<(), Fail> {
     let mut sets = Vec::new(rt.alloc());
-    let soa = RData::from_wire(rt.alloc(), RType::SOA, SOA)?;
+    let soa = RData::from_wire(rt.alloc(), RType::SOA, &octets_of(rt.alloc(), SOA)?)?;
     let server = RData::from_wire(rt.alloc(), RType::NS, name("a")?.wire())?;
     let mut servers = RRset::new(rt.alloc(), &name(EXAMPLE)?, Ttl(3600), server)?;
     let soa = RRset::new(rt.alloc(), &name(EXAMPLE)?, Ttl(3600), soa)?;
@@ -296,75 +278,42 @@ fn thirty_three_sets(rt: HostRuntime) -> Result<(), Fail> {
     Ok(())
 }
 
-/// The zone of RFC 4592, 2.2.1, with each query of its text: three are synthesized, the others aren't.
+/// The zone of RFC 4592, 2.2.1.
+const WILDCARDS: &str = "\
+example. NS  ns.example.com.\n\
+example. NS  ns.example.net.\n\
+example. SOA 00000000000100001c2000000384001275000000012c\n\
+*.example. MX 000a host1.example.\n\
+*.example. TXT 127468697320697320612077696c6463617264\n\
+sub.*.example. TXT 1674686973206973206e6f7420612077696c6463617264\n\
+host1.example. A c0000201\n\
+_ssh._tcp.host1.example. SRV 000000000016 host1.example.\n\
+_ssh._tcp.host2.example. SRV 000000000016 host2.example.\n\
+subdel.example. NS  ns.example.com.\n\
+subdel.example. NS  ns.example.net.\n";
+
+/// Each query of its text: three are synthesized, the others aren't.
+const WILDCARD_ANSWERS: &str = "\
+host3.example. MX NoError aa | host3.example. MX | | host1.example. A\n\
+host3.example. A NoError aa | | example. SOA |\n\
+foo.bar.example. TXT NoError aa | foo.bar.example. TXT | |\n\
+host1.example. MX NoError aa | | example. SOA |\n\
+sub.*.example. MX NoError aa | | example. SOA |\n\
+_telnet._tcp.host1.example. SRV NxDomain aa | | example. SOA |\n\
+host.subdel.example. A NoError cut | | subdel.example. NS |\n\
+ghost.*.example. MX NxDomain aa | | example. SOA |\n";
+
+// RFC 4592, 2.2.1.
 #[test]
 fn wildcards_of_the_standard(rt: HostRuntime) -> Result<(), Fail> {
-    let rows: [Row; 11] = [
-        ("example.", RType::NS, b"", "ns.example.com."),
-        ("example.", RType::NS, b"", "ns.example.net."),
-        ("example.", RType::SOA, SOA, ""),
-        ("*.example.", RType::MX, b"\0\x0a", "host1.example."),
-        ("*.example.", RType::TXT, b"\x12this is a wildcard", ""),
-        (
-            "sub.*.example.",
-            RType::TXT,
-            b"\x16this is not a wildcard",
-            "",
-        ),
-        ("host1.example.", RType::A, &[192, 0, 2, 1], ""),
-        (
-            "_ssh._tcp.host1.example.",
-            RType::SRV,
-            &[0, 0, 0, 0, 0, 22],
-            "host1.example.",
-        ),
-        (
-            "_ssh._tcp.host2.example.",
-            RType::SRV,
-            &[0, 0, 0, 0, 0, 22],
-            "host2.example.",
-        ),
-        ("subdel.example.", RType::NS, b"", "ns.example.com."),
-        ("subdel.example.", RType::NS, b"", "ns.example.net."),
-    ];
-    let zone = zone_of(rt.alloc(), &rows)?;
-    let yes = (Rcode::NoError, true, false);
-    let no = (Rcode::NxDomain, true, false);
-    let host: Section = &[("host1.example.", RType::A)];
-    let soa: Section = &[("example.", RType::SOA)];
-    let cases: [Case; 8] = [
-        (
-            ("host3.example.", RType::MX),
-            yes,
-            (&[("host3.example.", RType::MX)], NONE, host),
-        ),
-        (("host3.example.", RType::A), yes, (NONE, soa, NONE)),
-        (
-            ("foo.bar.example.", RType::TXT),
-            yes,
-            (&[("foo.bar.example.", RType::TXT)], NONE, NONE),
-        ),
-        (("host1.example.", RType::MX), yes, (NONE, soa, NONE)),
-        (("sub.*.example.", RType::MX), yes, (NONE, soa, NONE)),
-        (
-            ("_telnet._tcp.host1.example.", RType::SRV),
-            no,
-            (NONE, soa, NONE),
-        ),
-        (
-            ("host.subdel.example.", RType::A),
-            (Rcode::NoError, false, true),
-            (NONE, &[("subdel.example.", RType::NS)], NONE),
-        ),
-        (("ghost.*.example.", RType::MX), no, (NONE, soa, NONE)),
-    ];
-    check(&rt, &zone, &cases)
+    let zone = zone_of(rt.alloc(), WILDCARDS)?;
+    check(&rt, rt.alloc(), &zone, WILDCARD_ANSWERS)
 }
 
 /// Where names stand.
 #[test]
 fn places(rt: HostRuntime) -> Result<(), Fail> {
-    let zone = zone_of(rt.alloc(), &ROWS)?;
+    let zone = zone_of(rt.alloc(), ZONE)?;
     assert!(rt; matches!(place(&zone, &name("example.net.")?), Place::Outside));
     assert!(rt; matches!(place(&zone, &name("test.")?), Place::Outside));
     assert!(rt; matches!(place(&zone, &name("EXAMPLE.test.")?), Place::Exact));
@@ -385,7 +334,7 @@ fn places(rt: HostRuntime) -> Result<(), Fail> {
 /// (RFC 2308, 3: MINIMUM is 300, the SOA's own TTL 3600).
 #[test]
 fn owners_and_ttls(rt: HostRuntime) -> Result<(), Fail> {
-    let zone = zone_of(rt.alloc(), &ROWS)?;
+    let zone = zone_of(rt.alloc(), ZONE)?;
     let said = answer(&zone, &name("nope")?, RType::A);
     let shown = said.authority.as_slice();
     assert_eq!(rt; shown.len(), 1);

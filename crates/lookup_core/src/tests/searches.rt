@@ -1,5 +1,5 @@
 //! How often an answer searches the zone.
-use super::{EXAMPLE, ROWS, name, zone_of};
+use super::{EXAMPLE, ZONE, name, zone_of};
 use crate::question::answer;
 use dns_name::Name;
 use dns_rdata::{RRset, RType};
@@ -56,7 +56,7 @@ impl ZoneRead for Counted {
 #[test]
 fn searches(rt: HostRuntime) -> Result<(), Fail> {
     let zone = Counted {
-        zone: zone_of(rt.alloc(), &ROWS)?,
+        zone: zone_of(rt.alloc(), ZONE)?,
         searches: Cell::new(0),
     };
     let cases = [
