@@ -204,12 +204,12 @@ impl StoredName {
         Ok(StoredName { octets })
     }
 
-    /// The octets that stand for the name.
-    pub(crate) fn octets(&self) -> &[u8]
+    /// The octets that stand for the name: those of two names compare as the names do (RFC 4034, 6.1; own).
+    pub fn octets(&self) -> &[u8]
         ensures stored { IsStored result.now }
         ensures name { name_stored result.now ≡ self.now }
     {
-        self.octets.as_slice()
+        &self.octets
     }
 
     /// The name itself, in lower case. It takes no memory.

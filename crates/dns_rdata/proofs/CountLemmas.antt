@@ -1,7 +1,7 @@
 -- How many names data has.
-use Rattle.std.proofs.Common.{◌≡◌, ℕ, zero, suc, Bool, nat_le, List, [], ◌∷◌, ◌++◌, length, take, drop, Option, Some, None, IsSome, refl, sym, ap, ◌∙◌}
-use Rattle.std.specs.Option.{option_map, option_and_then}
-use Rattle.dns_name.specs.Name.{Name, wire_of, fold_name, name_in}
+use Rattle.std.proofs.Common.{◌≡◌, ℕ, zero, suc, Bool, nat_le, List, [], ◌∷◌, length, drop, Option, Some, None, IsSome, refl, sym, ap, ◌∙◌}
+use Rattle.std.specs.Option.{option_and_then}
+use Rattle.dns_name.specs.Name.{Name, wire_of, name_in}
 use Rattle.dns_rdata.specs.declared.layout.Layout.{Layout}
 use Rattle.dns_rdata.specs.declared.layout.Layout.TheVariants.{Fields}
 use Rattle.dns_rdata.specs.Layout.{layout_of, names_in, names_by, names_in_data}

@@ -55,12 +55,28 @@ impl RRset {
         ensures { IfOk result (λ set. set
             ≡ record { owner = fold_name owner.now; rtype = rdata.rtype; ttl = ttl.0; rdata = rdata.octets } ∷ []) }
     {
-        let rtype = rdata.rtype();
         let stored = StoredName::new(alloc, owner)?;
+        RRset::with_owner(alloc, stored, ttl, rdata)
+    }
+
+    /// The set of one record, at an owner as it is kept. The TTL is in seconds.
+    pub fn with_owner(
+        alloc: Global,
+        owner: StoredName,
+        ttl: Ttl,
+        rdata: RData,
+    ) -> Result<RRset, AllocError>
+        requires { ttl.0 < 2 ^ 31 }
+        ensures { IfOk result (λ set. set
+            ≡ record { owner = owner; rtype = rdata.rtype; ttl = ttl.0; rdata = rdata.octets } ∷ []) }
+    {
+        // What a stored name keeps is known of the owner from here on.
+        let _octets = owner.octets();
+        let rtype = rdata.rtype();
         let mut own = Vec::with_capacity(alloc, 1)?;
         own.push(rdata)?;
         Ok(RRset {
-            owner: stored,
+            owner,
             rtype,
             ttl,
             rdata: own,

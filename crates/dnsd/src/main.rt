@@ -16,6 +16,7 @@ mod input;
 mod lines;
 pub mod run;
 pub mod script;
+mod shown;
 pub mod steps;
 pub mod tell;
 
@@ -86,7 +87,7 @@ fn run_command<R: Files + Print + Eprint + Input + AllocGlobal>(
                 }
             };
             let done = run_with_zone(alloc, command, text.as_slice(), &mut reader, &mut writer);
-            tell(done, text.as_slice(), &mut errors)
+            tell(alloc, done, text.as_slice(), &mut errors)
         }
     };
     rt.eprint(String::from_utf8_lossy(alloc, errors.as_slice())?)?;

@@ -45,9 +45,9 @@ pub fn run_text<R: BufRead, W: Write + Drop, E: Write>(
     match read_zone_text(alloc, reader) {
         Ok(text) => {
             let done = run_with_zone(alloc, command, text.as_slice(), reader, writer);
-            tell(done, text.as_slice(), errors)
+            tell(alloc, done, text.as_slice(), errors)
         }
-        Err(fault) => tell(Err(Fault::Device(fault)), b"", errors),
+        Err(fault) => tell(alloc, Err(Fault::Device(fault)), b"", errors),
     }
 }
 

@@ -5,16 +5,14 @@ ghost use Rattle.dnsd.specs.Told.{IsTold, AppendsSome};
 
 use crate::answer::write_whole;
 use crate::fault::{DONE, FAILED, Fault};
-use crate::lines::{Line, lines_of};
+use crate::shown::shown;
 use master_file::{Cause, FileFault};
+use std::alloc::Global;
 use std::io::{self, Write};
 
-/// The most octets that are shown of a zone's line.
-const MAX_SHOWN: usize = 400;
-
 /// The status of what was done over a zone's text; what is wrong goes to `errors` first, on a line, and for a zone's text
-/// what it means below it, with the line of the text. Where it can't be told, that is a device's fault too.
-pub fn tell<E: Write>(done: Result<(), Fault>, text: &[u8], errors: &mut E) -> u8
+/// what it means below it, with the word at fault and the line of the text. Where it can't be told, that is a device's fault too.
+pub fn tell<E: Write>(alloc: Global, done: Result<(), Fault>, text: &[u8], errors: &mut E) -> u8
     ensures done { OnOk done ((result ≡ 0) × (E.contents errors.new ≡ E.contents errors.old)) }
     ensures fault { IfErr done (λ fault. EndsBy fault result (E.contents errors.old) (E.contents errors.new)) }
 {
@@ -22,57 +20,44 @@ pub fn tell<E: Write>(done: Result<(), Fault>, text: &[u8], errors: &mut E) -> u
         return DONE;
     };
     let status = fault.status();
-    match write_fault(&fault, text, errors) {
+    match write_fault(alloc, &fault, text, errors) {
         Ok(()) => status,
         Err(_) => FAILED,
     }
 }
 
 /// Writes what is told of a fault on a line, and below it what it means where it is a zone's text's.
-fn write_fault<E: Write>(fault: &Fault, text: &[u8], errors: &mut E) -> io::Result<()>
+fn write_fault<E: Write>(
+    alloc: Global,
+    fault: &Fault,
+    text: &[u8],
+    errors: &mut E,
+) -> io::Result<()>
     ensures { OnOk result (IsTold fault.now (E.contents errors.old) (E.contents errors.new)) }
 {
     writeln!(errors, "{fault}")?;
     match fault {
-        Fault::Zone(fault) => write_reason(*fault, text, errors),
+        Fault::Zone(fault) => write_reason(alloc, *fault, text, errors),
         _ => Ok(()),
     }
 }
 
-/// Writes what a fault of a zone's text means, and the line of the text that shows it, on a line.
-fn write_reason<E: Write>(fault: FileFault, text: &[u8], errors: &mut E) -> io::Result<()>
+/// Writes what a fault of a zone's text means, on a line, with what is shown of the text where there is memory for it.
+fn write_reason<E: Write>(
+    alloc: Global,
+    fault: FileFault,
+    text: &[u8],
+    errors: &mut E,
+) -> io::Result<()>
     ensures { OnOk result (AppendsSome (E.contents errors.old) (E.contents errors.new)) }
 {
-    let (between, line) = match shown_line(text, fault.line) {
-        Some(line) => (b": ".as_slice(), line),
-        None => (b"".as_slice(), b"".as_slice()),
+    let shown = match shown(alloc, fault, text) {
+        Ok(shown) => shown,
+        Err(_) => Vec::new(alloc),
     };
     write_whole(errors, reason_of(fault).as_bytes())?;
-    write_whole(errors, between)?;
-    write_whole(errors, line)?;
+    write_whole(errors, shown.as_slice())?;
     write_whole(errors, b"\n")
-}
-
-/// The front of a text's line, by its number; None where the text hasn't the line, or an octet of the line isn't printed.
-fn shown_line(text: &[u8], number: u64) -> Option<&[u8]> {
-    for line in lines_of(text) {
-        if line.number == number {
-            return front_shown(line);
-        }
-    }
-    None
-}
-
-/// The front of a line; None where an octet of the line isn't printed.
-fn front_shown(line: Line<'_>) -> Option<&[u8]> {
-    let is_printed = line
-        .octets
-        .iter()
-        .all(|octet| matches!(octet, b'\t' | b' '..=b'~'));
-    if !is_printed {
-        return None;
-    }
-    Some(&line.octets[..line.octets.len().min(MAX_SHOWN)])
 }
 
 /// What a fault of a zone's text means, in words.

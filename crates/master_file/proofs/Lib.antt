@@ -4,7 +4,6 @@ pub mod InsertLemmas
 pub mod IsZoneLemmas
 pub mod JudgeLemmas
 pub mod KeptLemmas
-pub mod KeyLemmas
 pub mod LineLemmas
 pub mod OverLemmas
 pub mod OwnLemmas

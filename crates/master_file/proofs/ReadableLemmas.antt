@@ -25,13 +25,18 @@ use Rattle.record_text.proofs.DataLemmas.{IsData-read}
 use Rattle.record_text.proofs.OctetLemmas.{GivesOctets, data_gives, GivesName, owner_gives, GivesTtl, ttl_gives, IsFront, GivesFront, front_of_gives}
 use Rattle.master_file.specs.declared.context.Context.{Context}
 use Rattle.master_file.specs.declared.record_entry.RecordEntry.{RecordEntry}
-use Rattle.master_file.specs.Records.{alone, argument_of, directed, directive_of, owned_of, ttl_in, rr_of, record_of, behind, judged, words_of, fault_at, Read, faulty, in_front, records_from, start, records_of, AreLasting}
+use Rattle.master_file.specs.Records.{alone, argument_of, directed, directive_of, owned_of, ttl_in, rr_of, record_of, behind, judged, words_of, fault_at, Read, faulty, in_front, records_from, start, records_of}
 use Rattle.master_file.proofs.IsZoneLemmas.{IsReadable}
 
 -- an owner
 pub record IsOwner (owner : List (List ℕ)) : Type 0 where
   pub named : IsNamed owner
   pub folded : owner ≡ fold_name owner
+
+-- the TTLs in force last at most 2^31 - 1 seconds
+pub record AreLasting (context : Context) : Type 0 where
+  pub default_ttl : IfSome context.default_ttl (λ ttl. ttl.0 < 2 ^ 31)
+  pub ttl : IfSome context.ttl (λ ttl. ttl.0 < 2 ^ 31)
 
 -- what is in force
 pub record IsContext (context : Context) : Type 0 where

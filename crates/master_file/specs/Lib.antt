@@ -3,7 +3,6 @@ pub mod Fault
 pub mod RecordOrder
 pub mod Records
 pub mod SetOrder
-pub mod SortKey
 pub mod Summary
 pub mod TextLaws
 pub mod WrittenZone

@@ -134,7 +134,8 @@ pub record IsFirst (before after : List Entry) (head : EntryHead) (words : List 
   pub unclosed : entry.unclosed ≡ head.unclosed
   pub all : words ≡ words_of entry
 
--- the TTLs in force last at most 2^31 - 1 seconds (RFC 2181, 8)
-pub record AreLasting (context : Context) : Type 0 where
+-- the owner in force is in lower case (RFC 4343, 3), and the TTLs last at most 2^31 - 1 seconds (RFC 2181, 8)
+pub record IsInForce (context : Context) : Type 0 where
+  pub owner : IfSome context.owner (λ owner. owner ≡ fold_name owner)
   pub default_ttl : IfSome context.default_ttl (λ ttl. ttl.0 < 2 ^ 31)
   pub ttl : IfSome context.ttl (λ ttl. ttl.0 < 2 ^ 31)

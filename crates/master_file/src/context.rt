@@ -3,7 +3,7 @@ ghost use Rattle.std.specs.Prelude.{◌≡◌, ◌<◌, ◌^◌, Ok, Err, Some, 
 ghost use Rattle.std.specs.Option.{option_map};
 ghost use Rattle.record_text.specs.Front.{ttl_of};
 ghost use Rattle.record_text.specs.NameWord.{owner_of};
-ghost use Rattle.master_file.specs.Records.{argument_of, directed, directive_of, ttl_in, start, AreLasting};
+ghost use Rattle.master_file.specs.Records.{argument_of, directed, directive_of, ttl_in, start, IsInForce};
 ghost use Rattle.zone_lexing.specs.Word.{written};
 
 use dns_name::Name;
@@ -48,7 +48,7 @@ impl Context {
     /// What is in force where a text begins.
     pub fn new(origin: &Name) -> Context
         ensures start { result ≡ start origin.now }
-        ensures lasting { AreLasting result }
+        ensures in_force { IsInForce result }
     {
         Context {
             origin: origin.copy(),
@@ -64,10 +64,10 @@ impl Context {
     /// `Unclosed` where no word stands. Nothing changes then.
     #[tactic(auto, unfolding(crate::specs::Records::directed))]
     pub fn direct(&mut self, directive: &[u8], arguments: &[Word<'_>]) -> Result<(), Cause>
-        requires lasting { AreLasting self.old }
+        requires in_force { IsInForce self.old }
         ensures put { OnOk result (directed self.old directive.now (map written arguments.now) ≡ Ok self.new) }
         ensures fault { IfErr result (λ cause. directed self.old directive.now (map written arguments.now) ≡ Err cause) }
-        ensures lasting { AreLasting self.new }
+        ensures in_force { IsInForce self.new }
     {
         if directive == b"$ORIGIN".as_slice() {
             self.origin = origin_of(arguments, &self.origin)?;
@@ -82,7 +82,7 @@ impl Context {
 
     /// The TTL of a record: its own, else that of `$TTL`, else that of the record before; `NoTtl` where there is none.
     pub fn ttl(&self, own: Option<Ttl>) -> Result<Ttl, Cause>
-        requires lasting { AreLasting self.now }
+        requires in_force { IsInForce self.now }
         requires lasts { IfSome own (λ ttl. ttl.0 < 2 ^ 31) }
         ensures ttl { result ≡ ttl_in self.now own }
         ensures lasts { IfOk result (λ ttl. ttl.0 < 2 ^ 31) }

@@ -2,10 +2,11 @@
 ghost use Rattle.std.specs.Cmp.{partial_equiv_from_equiv, partial_order_from_agreeing_total};
 ghost use Rattle.std.specs.Ordering.{as_partial_cmp, eq_by_cmp};
 ghost use Rattle.std.specs.Prelude.{◌≡◌, ◌<◌, ◌^◌, IfOk, refl};
+ghost use Rattle.dns_name.specs.Name.{fold_name};
 ghost use Rattle.master_file.specs.SetOrder.{set_order, set_order_total, set_order_equiv};
 
-use crate::owner::Owner;
 use crate::record_entry::RecordEntry;
+use dns_name::StoredName;
 use dns_rdata::{RData, Ttl};
 use std::alloc::{AllocError, Global};
 use std::cmp::Ordering;
@@ -14,7 +15,7 @@ use std::marker::Model;
 /// A record of a text, ordered by its owner and type (RFC 4034, 6.1).
 #[derive(Drop)]
 pub(crate) struct KeptRecord {
-    owner: Owner,
+    owner: StoredName,
     line: u64,
     ttl: Ttl,
     rdata: RData,
@@ -32,9 +33,10 @@ impl Model for KeptRecord {
 }
 
 impl KeptRecord {
-    /// A record of a text.
+    /// A record of a text, whose owner is in lower case.
     pub(crate) fn new(alloc: Global, rr: RecordEntry) -> Result<KeptRecord, AllocError>
-        requires { rr.ttl.0 < 2 ^ 31 }
+        requires lasts { rr.ttl.0 < 2 ^ 31 }
+        requires folded { rr.owner ≡ fold_name rr.owner }
         ensures { IfOk result (λ kept. kept ≡ rr) }
     {
         let RecordEntry {
@@ -44,30 +46,30 @@ impl KeptRecord {
             rdata,
         } = rr;
         Ok(KeptRecord {
-            owner: Owner::new(alloc, &owner)?,
+            owner: StoredName::new(alloc, &owner)?,
             line,
             ttl,
             rdata,
         })
     }
 
-    /// The record, as the text has it.
-    pub(crate) fn into_entry(self) -> RecordEntry
-        ensures entry { result ≡ self }
-        ensures lasts { result.ttl.0 < 2 ^ 31 }
+    /// The record's owner, which is in lower case, its TTL and its data.
+    pub(crate) fn into_parts(self) -> (StoredName, Ttl, RData)
+        ensures owner { result.0 ≡ self.owner }
+        ensures folded { result.0 ≡ fold_name result.0 }
+        ensures ttl { result.1 ≡ self.ttl }
+        ensures data { result.2 ≡ self.rdata }
+        ensures lasts { result.1.0 < 2 ^ 31 }
     {
         let KeptRecord {
             owner,
-            line,
             ttl,
             rdata,
+            ..
         } = self;
-        RecordEntry {
-            line,
-            owner: owner.name(),
-            ttl,
-            rdata,
-        }
+        // What a stored name keeps is known of the owner from here on.
+        let _octets = owner.octets();
+        (owner, ttl, rdata)
     }
 }
 
@@ -96,7 +98,7 @@ impl Ord for KeptRecord {
 
     fn cmp(&self, other: &KeptRecord) -> Ordering {
         self.owner
-            .order(&other.owner)
+            .cmp(&other.owner)
             .then_with(|| self.rdata.rtype().0.cmp(&other.rdata.rtype().0))
     }
 }

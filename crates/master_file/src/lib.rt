@@ -10,7 +10,6 @@ mod examples;
 mod fault;
 mod gathered;
 mod kept;
-mod owner;
 mod record_entry;
 mod records;
 mod sorted;

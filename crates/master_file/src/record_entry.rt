@@ -1,7 +1,8 @@
 //! The records of a zone's text (RFC 1035, 5.1).
 ghost use Rattle.std.specs.Prelude.{◌≡◌, ◌<◌, ◌^◌, Ok, Err, map, IfOk, IfErr};
+ghost use Rattle.dns_name.specs.Name.{fold_name};
 ghost use Rattle.record_text.specs.Data.{IsToldOf};
-ghost use Rattle.master_file.specs.Records.{owned_of, rr_of, record_of, AreLasting};
+ghost use Rattle.master_file.specs.Records.{owned_of, rr_of, record_of, IsInForce};
 ghost use Rattle.zone_lexing.specs.Word.{written};
 
 use crate::context::Context;
@@ -33,9 +34,10 @@ pub(crate) fn read_record(
     indented: bool,
     words: &[Word<'_>],
 ) -> Result<RecordEntry, Cause>
-    requires lasting { AreLasting context.now }
+    requires in_force { IsInForce context.now }
     ensures rr { IfOk result (λ rr. record_of context.now line indented (map written words.now) ≡ Ok rr) }
     ensures lasts { IfOk result (λ rr. rr.ttl.0 < 2 ^ 31) }
+    ensures folded { IfOk result (λ rr. rr.owner ≡ fold_name rr.owner) }
     ensures fault { IfErr result (IsToldOf (record_of context.now line indented (map written words.now))) }
 {
     let (owner, behind) = read_owner(context, indented, words)?;
@@ -48,6 +50,8 @@ fn read_owner<'w, 'a>(
     indented: bool,
     words: &'w [Word<'a>],
 ) -> Result<(Name, &'w [Word<'a>]), Cause>
+    requires in_force { IsInForce context.now }
+    ensures folded { IfOk result (λ owned. owned.0 ≡ fold_name owned.0) }
     ensures owned { IfOk result (λ owned. owned_of context.now indented (map written words.now) ≡ Ok (owned.0, map written owned.1.now)) }
     ensures fault { IfErr result (λ cause. owned_of context.now indented (map written words.now) ≡ Err cause) }
 {
@@ -71,9 +75,11 @@ fn read_behind(
     owner: Name,
     words: &[Word<'_>],
 ) -> Result<RecordEntry, Cause>
-    requires lasting { AreLasting context.now }
+    requires in_force { IsInForce context.now }
+    requires folded { owner ≡ fold_name owner }
     ensures rr { IfOk result (λ rr. rr_of context.now line owner (map written words.now) ≡ Ok rr) }
     ensures lasts { IfOk result (λ rr. rr.ttl.0 < 2 ^ 31) }
+    ensures folded { IfOk result (λ rr. rr.owner ≡ fold_name rr.owner) }
     ensures fault { IfErr result (IsToldOf (rr_of context.now line owner (map written words.now))) }
 {
     let front = read_front(words)?;

@@ -1,9 +1,10 @@
 //! A zone's text, read record by record (RFC 1035, 5.1; RFC 2308, 4).
 ghost use Rattle.std.specs.Prelude.{◌≡◌, ◌<◌, ◌^◌, ◌⊎◌, List, [], map, Some, Ok, Err, IfOk, IfErr, OnErr, IfSome, MatchOption};
+ghost use Rattle.dns_name.specs.Name.{fold_name};
 ghost use Rattle.record_text.specs.declared.cause.Cause.TheVariants.{NoMemory};
 ghost use Rattle.record_text.specs.Data.{IsToldOf};
 ghost use Rattle.master_file.specs.Fault.{no_memory};
-ghost use Rattle.master_file.specs.Records.{records_of, nothing, faulty, in_front, judged, fault_at, IsFirst, AreLasting};
+ghost use Rattle.master_file.specs.Records.{records_of, nothing, faulty, in_front, judged, fault_at, IsFirst, IsInForce};
 ghost use Rattle.zone_lexing.specs.Word.{written};
 
 use crate::context::{Context, directive};
@@ -25,13 +26,13 @@ pub struct Records<'a> {
 }
 
 impl<'a> Model for Records<'a> {
-    ghost use Rattle.master_file.specs.Records.{Read, records_from, AreLasting};
+    ghost use Rattle.master_file.specs.Records.{Read, records_from, IsInForce};
 
     ghost Value = { Read };
 
     ghost view = { λ a. records_from a.context a.entries };
 
-    ghost invariant = { λ a. AreLasting a.context };
+    ghost invariant = { λ a. IsInForce a.context };
 }
 
 impl<'a> Records<'a> {
@@ -55,6 +56,7 @@ impl<'a> Records<'a> {
             (self.old ≡ nothing)
             (λ rr. self.old ≡ in_front rr self.new)) }
         ensures lasts { IfOk result (λ found. IfSome found (λ rr. rr.ttl.0 < 2 ^ 31)) }
+        ensures folded { IfOk result (λ found. IfSome found (λ rr. rr.owner ≡ fold_name rr.owner)) }
         ensures fault { IfErr result (λ fault. (fault ≡ no_memory) ⊎ (self.old ≡ faulty fault)) }
     {
         loop {
@@ -111,11 +113,12 @@ fn judge(
     head: EntryHead,
     words: &[Word<'_>],
 ) -> Result<Option<RecordEntry>, Cause>
-    requires lasting { AreLasting context.old }
+    requires in_force { IsInForce context.old }
     ensures judged { IfOk result (λ found. judged context.old head.line head.indented (map written words.now) ≡ Ok (context.new, found)) }
     ensures lasts { IfOk result (λ found. IfSome found (λ rr. rr.ttl.0 < 2 ^ 31)) }
+    ensures folded { IfOk result (λ found. IfSome found (λ rr. rr.owner ≡ fold_name rr.owner)) }
     ensures fault { IfErr result (IsToldOf (judged context.old head.line head.indented (map written words.now))) }
-    ensures lasting { AreLasting context.new }
+    ensures in_force { IsInForce context.new }
 {
     if let Some((directive, arguments)) = directive(head.indented, words) {
         context.direct(directive, arguments)?;

@@ -10,8 +10,7 @@ ghost use Rattle.master_file.specs.SetOrder.{put_last, sets_with, is_over, HasOv
 ghost use Rattle.master_file.specs.ZoneText.{record_in, in_lower, first_line, is_too_many, zone_records};
 
 use crate::kept::KeptRecord;
-use crate::record_entry::RecordEntry;
-use dns_name::Name;
+use dns_name::StoredName;
 use dns_rdata::{RData, RRset, SetFault};
 use std::alloc::{AllocError, Global};
 
@@ -25,10 +24,7 @@ pub(crate) fn sets_of(
     ensures many { IfOk result (λ found. IfNone found (first_line is_too_many [] records.items ≡ None → ⊥)) }
 {
     records.sort()?;
-    let Some(sets) = put_all(alloc, records)? else {
-        return Ok(None);
-    };
-    Ok(Some(sets))
+    put_all(alloc, records)
 }
 
 /// The sets of records in the order of their sets; None where a set would have too many.
@@ -52,12 +48,7 @@ fn put(alloc: Global, sets: &mut Vec<RRset>, kept: KeptRecord) -> Result<bool, A
     ensures put { IfOk result (λ room. OnTrue room (sets.new.items ≡ put_last sets.old.items (in_lower (record_in kept)))) }
     ensures full { IfOk result (λ room. OnFalse room (list_any is_over (put_last sets.old.items (in_lower (record_in kept))) ≡ true)) }
 {
-    let RecordEntry {
-        owner,
-        ttl,
-        rdata,
-        ..
-    } = kept.into_entry();
+    let (owner, ttl, rdata) = kept.into_parts();
     match sets.pop() {
         Some(mut last) => {
             if is_of(&last, &owner, &rdata) {
@@ -74,14 +65,14 @@ fn put(alloc: Global, sets: &mut Vec<RRset>, kept: KeptRecord) -> Result<bool, A
         }
         None => {}
     }
-    sets.push(RRset::new(alloc, &owner, ttl, rdata)?)?;
+    sets.push(RRset::with_owner(alloc, owner, ttl, rdata)?)?;
     Ok(true)
 }
 
 /// Whether data belongs to a set: of its owner and type.
-fn is_of(set: &RRset, owner: &Name, rdata: &RData) -> bool
+fn is_of(set: &RRset, owner: &StoredName, rdata: &RData) -> bool
     ensures of { result ≡ (is_same (owner_of set.now) owner.now && rtype_of set.now == rdata.now.rtype) }
     ensures owner { result ≡ true → owner_of set.now ≡ fold_name owner.now }
 {
-    set.owner() == *owner && set.rtype() == rdata.rtype()
+    set.stored_owner() == owner && set.rtype() == rdata.rtype()
 }

@@ -327,26 +327,78 @@ an alias and the address of its target|\
 123485000001000200000000036e6577076578616d706c6504746573740000010001c00c000500010000003c000603776562c010c02e00010001000000050004c000020a\n";
 
 /// Zones that are refused, and all that is said of it.
-const REASONS: [(&str, &str); 4] = [
+const REASONS: [(&str, &str); 17] = [
     (
         "a.test. IN A 192.0.2.1\n",
-        "line 1: M8 NoTtl\na TTL is due, and none is in force: a.test. IN A 192.0.2.1\n",
+        "line 1: M8 NoTtl\na TTL is due, and none is in force: `a.test. IN A 192.0.2.1`\n",
+    ),
+    (
+        "$INCLUDE more.zone\n",
+        "line 1: M1 Directive\na directive is due, $ORIGIN or $TTL with its argument: `$INCLUDE`, in `$INCLUDE more.zone`\n",
+    ),
+    (
+        "a. 5 NS (\n b..c. )\n",
+        "line 1: M2 BadName\na name is due, and this is none: `b..c.`, in `a. 5 NS (`\n",
+    ),
+    (
+        "a. 2147483648 NS a.\n",
+        "line 1: M3 Number\na number is due, and this is none, or too great for its field: `2147483648`, in `a. 2147483648 NS a.`\n",
+    ),
+    (
+        "a. 5 MX 65536 a.\n",
+        "line 1: M3 Number\na number is due, and this is none, or too great for its field: `a. 5 MX 65536 a.`\n",
+    ),
+    (
+        "a. 5 ch A 192.0.2.1\n",
+        "line 1: M4 BadClass\nthe class isn't IN: `ch`, in `a. 5 ch A 192.0.2.1`\n",
     ),
     (
         "\n\na.test. 5 IN WKS x\r\n",
-        "line 3: M5 UnknownType\na type is due, and this is none that is served: a.test. 5 IN WKS x\n",
+        "line 3: M5 UnknownType\na type is due, and this is none that is served: `WKS`, in `a.test. 5 IN WKS x`\n",
     ),
     (
-        "a. 5 IN WKS \u{1b}\n",
-        "line 1: M5 UnknownType\na type is due, and this is none that is served\n",
+        "a. 5 A 192.0.2.1\n 5 WKS x\n",
+        "line 2: M5 UnknownType\na type is due, and this is none that is served: `WKS`, in ` 5 WKS x`\n",
+    ),
+    (
+        "a. 5 IN W\u{1b}S\n",
+        "line 1: M5 UnknownType\na type is due, and this is none that is served: `W\\027S`, in `a. 5 IN W\\027S`\n",
+    ),
+    (
+        "www 3600 IN A 192.0.2.256\n",
+        "line 1: M6 BadData\nthe data isn't of its type's form, or a word is missing or too many: `www 3600 IN A 192.0.2.256`\n",
+    ),
+    (
+        "a. 5 TXT (\n \"x\n )\n",
+        "line 2: M7 Unclosed\na quote or a parenthesis has no other one, or stands within parentheses: ` \"x`\n",
+    ),
+    (
+        " 5 A 192.0.2.1\n",
+        "line 1: M9 NoOwner\nan owner is due, and no record before this one has one: ` 5 A 192.0.2.1`\n",
+    ),
+    (
+        "$TTL 5\na. SOA a. a. 1 2 3 4 5\na. NS a.\nb. A 192.0.2.1\n A 192.0.2.2\n",
+        "line 4: M10 Outside\nthe owner is neither the apex nor below it: `b.`, in `b. A 192.0.2.1`\n",
+    ),
+    (
+        "$TTL 5\na. SOA a. a. 1 2 3 4 5\n NS a.\n SOA a. a. 2 2 3 4 5\n",
+        "line 4: M11 Apex\nthe zone has an SOA already, and this is another: `a.`, in ` SOA a. a. 2 2 3 4 5`\n",
     ),
     (
         "; nothing\n",
         "line 0: M11 Apex\nthe zone has no SOA, or no NS at the owner of its SOA\n",
     ),
+    (
+        "$TTL 5\na. SOA a. a. 1 2 3 4 5\n NS a.\nw.a. CNAME a.\n A 192.0.2.1\n",
+        "line 5: M12 Conflict\na CNAME stands beside other data or another CNAME, or an NS at a wildcard: `w.a.`, in ` A 192.0.2.1`\n",
+    ),
+    (
+        "a. 5 TXT \t\n",
+        "line 1: M6 BadData\nthe data isn't of its type's form, or a word is missing or too many: `a. 5 TXT \\009`\n",
+    ),
 ];
 
-// Below the first line stands what the fault means, with the line of the text where all of it can be printed.
+// Below the first line stands what the fault means, with the word or the owner at fault, where it is known, and the line.
 #[test]
 fn reasons(rt: HostRuntime) -> Result<(), Fail> {
     for (zone, errors) in REASONS {

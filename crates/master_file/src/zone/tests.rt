@@ -1,5 +1,7 @@
 //! Texts that are zones, and the fault that is told of others.
 use super::read_zone;
+use crate::fault::FileFault;
+use crate::zone_text::write_zone;
 use dns_name::Name;
 use record_text::Cause;
 use std::alloc::{AllocError, Global};
@@ -61,6 +63,71 @@ fn zones_and_faults(rt: HostRuntime) -> Result<(), Fail> {
     for (head, lines, want) in cases {
         let got = told(rt.alloc(), head, lines)?;
         assert_eq!(rt; got.as_str(), want);
+    }
+    Ok(())
+}
+
+/// The zone of a text under the root, read once more where memory was refused, which is told at line 0.
+fn read_anew(alloc: Global, text: &[u8]) -> Result<Zone, FileFault> {
+    let no_memory = FileFault {
+        line: 0,
+        cause: Cause::NoMemory,
+    };
+    match read_zone(alloc, text, &Name::root()) {
+        Err(fault) if fault == no_memory => read_zone(alloc, text, &Name::root()),
+        told => told,
+    }
+}
+
+// With one request for memory refused, whichever it is, NoMemory is told at line 0, no other fault, and the text is read
+// anew; and so is the zone written.
+#[test]
+fn goes_on_where_memory_is_refused(rt: HostRuntime) -> Result<(), Fail> {
+    let text = "t. 60 IN SOA a.t. b.t. 1 2 3 4 5\n\
+                t. 60 IN NS a.t.\n\
+                t. 60 IN MX 0 a.t.\n\
+                t. 60 IN TXT \"x\" \"y\"\n\
+                _x._tcp.t. 60 IN SRV 0 0 53 a.t.\n\
+                a.t. 60 IN A 192.0.2.1\n\
+                a.t. 60 IN A 192.0.2.2\n\
+                b.t. 60 IN CNAME a.t.\n";
+    let zone = read_anew(rt.alloc(), text.as_bytes())?;
+    let written = match write_zone(rt.alloc(), &zone) {
+        Ok(written) => written,
+        Err(AllocError) => write_zone(rt.alloc(), &zone)?,
+    };
+    assert_eq!(rt; written.as_str(), text);
+    Ok(())
+}
+
+// And so with a text that is no zone: its own fault is told, or NoMemory at line 0, and then its own.
+#[test]
+fn refuses_anew_where_memory_is_refused(rt: HostRuntime) -> Result<(), Fail> {
+    let cases: [(&[u8], u64, Cause); 6] = [
+        (b"$TTL 60\nt. NS a.t.\n\nt. A 1.2.3\n", 4, Cause::BadData),
+        (b"$TTL 60\nt. NS a.t.\nt. NS b.t.\n", 0, Cause::Apex),
+        (
+            b"$TTL 60\nt. SOA a.t. b.t. 1 2 3 4 5\nt. NS a.t.\nt. SOA a.t. b.t. 2 2 3 4 5\n",
+            4,
+            Cause::Apex,
+        ),
+        (b"$TTL 60\nt. SOA a.t. b.t. 1 2 3 4 5\n", 0, Cause::Apex),
+        (
+            b"$TTL 60\nt. SOA a.t. b.t. 1 2 3 4 5\nt. NS a.t.\na. A 1.2.3.4\n",
+            4,
+            Cause::Outside,
+        ),
+        (
+            b"$TTL 60\nt. SOA a.t. b.t. 1 2 3 4 5\nt. NS a.t.\na.t. A 1.2.3.4\na.t. CNAME t.\n",
+            5,
+            Cause::Conflict,
+        ),
+    ];
+    for (text, line, cause) in cases {
+        match read_anew(rt.alloc(), text) {
+            Ok(_) => assert!(rt; false, "a zone"),
+            Err(fault) => assert_eq!(rt; fault, FileFault { line, cause }),
+        }
     }
     Ok(())
 }

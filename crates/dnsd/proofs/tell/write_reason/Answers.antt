@@ -4,5 +4,4 @@ use Rattle.dnsd.proofs.tell.write_reason.Goals as goal
 pub returns : goal.returns
 returns g c =
     let two = Appends-twice _ (g.E.Write.contents c.write_whole.new.writer) (g.E.Write.contents c.write_whole-2.new.writer) _ _ c.in_ok-write_whole.ensures c.in_ok-write_whole-2.ensures in
-    let three = Appends-twice _ (g.E.Write.contents c.write_whole-2.new.writer) (g.E.Write.contents c.write_whole-3.new.writer) _ _ two c.in_ok-write_whole-3.ensures in
-    AppendsSome-behind _ _ (g.E.Write.contents c.write_whole-3.new.writer) _ _ _ three c.write_whole-4.ensures
+    AppendsSome-behind _ _ (g.E.Write.contents c.write_whole-2.new.writer) _ _ _ two c.write_whole-3.ensures

@@ -2,7 +2,6 @@ use Rattle.std.proofs.Common.{◌≡◌, ◌<◌, List, All, Ok, sym, ap, ◌∙
 use Rattle.std.proofs.lemmas.Grind.{get_or_default_zero}
 use Rattle.dns_rdata.specs.Record.{Record}
 use Rattle.zone_tree.specs.Zone.{IsZone}
-use Rattle.zone_tree.specs.Fault.{IfBroken}
 use Rattle.zone_tree.specs.Sets.{records_in, AreUnsplit}
 use Rattle.master_file.specs.ZoneText.{zone_records}
 use Rattle.master_file.specs.Records.{records_of}

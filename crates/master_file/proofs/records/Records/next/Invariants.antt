@@ -1,11 +1,11 @@
 use Rattle.std.proofs.Common.{◌≡◌, length}
-use Rattle.master_file.specs.Records.{records_from, AreLasting}
+use Rattle.master_file.specs.Records.{records_from, IsInForce}
 use Rattle.master_file.proofs.records.Records.next.Given as goal
 
 abbrev pub invariant-loop-head : goal.invariant-loop-head
 invariant-loop-head l = record {
   left : records_from l.self-inside.context l.self-inside.entries ≡ l.fn.self;
-  lasting : AreLasting l.self-inside.context;
+  in_force : IsInForce l.self-inside.context;
 }
 
 abbrev pub decreases-loop-head : goal.decreases-loop-head
