@@ -12,7 +12,9 @@ use Rattle.dns_rdata.specs.Data.{data_of, serial_of}
 use Rattle.dns_rdata.specs.Record.{Record, record_cmp}
 use Rattle.dns_rdata.specs.Raw.{RawRecord}
 use Rattle.dns_rdata.specs.SerialOrder.{serial_less, serial_next}
-use Rattle.zone_tree.specs.Zone.{is_of, stands_at, rrset_of, apex_of, soa_of}
+use Rattle.zone_tree.specs.Zone.{is_of, stands_at, rrset_of, apex_of}
+use Rattle.zone_tree.specs.Change.{without_rrset, is_same_record}
+use Rattle.zone_tree.specs.Version.{zone_serial}
 use Rattle.dns_message.specs.declared.update.Update.{Update}
 use Rattle.update_core.specs.Verdict.{has_rrset}
 
@@ -29,10 +31,6 @@ entered r = record { owner = fold_name r.owner; rtype = r.rtype; ttl = ttl_in_zo
 abbrev pub with_one : Record → List Record → List Record
 with_one r [] = r ∷ []
 with_one r (s ∷ ss) = if is_lt (record_cmp r s) then r ∷ s ∷ ss else if is_eq (record_cmp r s) then s ∷ ss else s ∷ with_one r ss
-
--- a zone without the records of one owner and type
-abbrev pub without_rrset : List Record → Name → ℕ → List Record
-without_rrset zone owner rtype = filter (λ s. not (is_of owner rtype s)) zone
 
 -- a record with another TTL, where it is of one owner and type
 abbrev pub record_with_ttl : Name → ℕ → ℕ → Record → Record
@@ -82,19 +80,6 @@ effect zone r =
 abbrev pub effects : List Record → List RawRecord → Option (List Record)
 effects zone [] = Some zone
 effects zone (r ∷ rs) = option_and_then (λ next. effects next rs) (effect zone r)
-
--- whether two records are equal
-abbrev pub is_same_record : Record → Record → Bool
-is_same_record r s = is_eq (record_cmp r s) && r.ttl == s.ttl
-
--- the data of the first of records; none of none
-abbrev pub first_data : List Record → List ℕ
-first_data [] = []
-first_data (r ∷ rs) = r.rdata
-
--- a zone's serial: that of its SOA (RFC 1035, 3.3.13)
-abbrev pub zone_serial : List Record → ℕ
-zone_serial zone = serial_of (first_data (soa_of zone))
 
 -- an SOA's data with another serial: the first of the five numbers of four octets that end it (RFC 1035, 3.3.13)
 abbrev pub with_serial : ℕ → List ℕ → List ℕ

@@ -5,6 +5,7 @@
 //! Changes of a zone, and reading one from text, are not here.
 #![tactic(auto)]
 
+mod change;
 mod check;
 mod fault;
 mod key;
@@ -17,6 +18,7 @@ mod soa;
 mod walk;
 mod zone;
 
+pub use change::Change;
 pub use fault::{BrokenRule, NewFault};
 pub use laws::{example_is_a_zone, examples, names_that_exist, same_records, soa_at_apex};
 pub use read::ZoneRead;
