@@ -6,3 +6,6 @@ pub mod SerialLaw
 pub mod OneMore
 pub mod RulesBeside
 pub mod RulesChanged
+pub mod SentLemmas
+pub mod Candidates
+pub mod RowsKeep
