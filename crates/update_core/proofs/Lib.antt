@@ -9,3 +9,4 @@ pub mod RulesChanged
 pub mod SentLemmas
 pub mod Candidates
 pub mod RowsKeep
+pub mod AddsKeep

@@ -5,6 +5,7 @@ use Rattle.std.specs.Ordering.{is_lt, nat_cmp, ordering_then}
 use Rattle.std.specs.declared.cmp.Ordering.TheVariants.{Less, Equal, Greater}
 use Rattle.std.specs.Cmp.Lexicographic.{slice_cmp}
 use Rattle.std.proofs.lemmas.Bool.{eqb-true}
+use Rattle.std.proofs.lemmas.Bool.Decides.{nat_tests}
 use Rattle.std.proofs.lemmas.Cmp.{tied_itself, nat_cmp_total, nat_list_cmp_total}
 use Rattle.std.proofs.lemmas.Slice.Eq.{bytes_eq-Decides}
 use Rattle.std.proofs.lemmas.List.{length-map}
@@ -24,7 +25,7 @@ use Rattle.zone_tree.proofs.Rising.{place_from_any}
 use Rattle.zone_tree.proofs.RuleLemmas.{none_passes}
 use Rattle.update_core.specs.Verdict.{prescan_of, has_rrset}
 use Rattle.update_core.specs.Act.{entered, with_one, with_ttl, record_with_ttl, ttl_in_zone, has_other_than_alias, has_lesser_soa, is_apex_set, is_last_apex_record, IsSent}
-use Rattle.update_core.proofs.ListLemmas.{and_left, and_right, either_right}
+use Rattle.update_core.proofs.ListLemmas.{and_left, and_right, either_right, filter_alike as filter_same}
 use Rattle.update_core.proofs.SoaKept.{is_soa}
 use Rattle.update_core.proofs.OneMore.{filter-with_one_not, filter-with_one_alone, tied}
 use Rattle.update_core.proofs.RulesBeside.{KeepsBeside, beside_from, rules_from, filter_beside}
@@ -32,14 +33,14 @@ use Rattle.update_core.proofs.RulesChanged.{filter-map, of_stays, stands_stays, 
 use Rattle.update_core.proofs.SentLemmas.{IsPassed, passed, IsEntered, entered_lawful, under_lower, wild_lower, stands_lower, of_lower, ttl_small}
 use Rattle.update_core.proofs.Candidates.{put_in, added_to, without_all, without_set, without_record, Keeps, IsPut, IsAdded}
 
--- where no SOA is, none is at any place, and the one that is stands at the apex
-none_soa : (zs : List Record) → length (soa_of zs) ≡ 0 → All (λ s. is_soa s ≡ false) zs
-none_soa [] e = All-nil (λ s. is_soa s ≡ false)
-none_soa (z ∷ zs) e = by (is_soa z) refl e (none_soa zs)
+-- what a filter that keeps nothing says of each; so no SOA is at any place where there is none, and the one that is stands at the apex
+pub nothing_kept : (p : Record → Bool) (zs : List Record) → length (filter p zs) ≡ 0 → All (λ s. p s ≡ false) zs
+nothing_kept p [] e = All-nil (λ s. p s ≡ false)
+nothing_kept p (z ∷ zs) e = by (p z) refl e (nothing_kept p zs)
   where
-    by : (b : Bool) → is_soa z ≡ b → length (cond b (z ∷ soa_of zs) (soa_of zs)) ≡ 0 → (length (soa_of zs) ≡ 0 → All (λ s. is_soa s ≡ false) zs) → All (λ s. is_soa s ≡ false) (z ∷ zs)
+    by : (b : Bool) → p z ≡ b → length (cond b (z ∷ filter p zs) (filter p zs)) ≡ 0 → (length (filter p zs) ≡ 0 → All (λ s. p s ≡ false) zs) → All (λ s. p s ≡ false) (z ∷ zs)
     by true is none more = absurd (omega arith)
-    by false is none more = All-cons (λ s. is_soa s ≡ false) z zs is (more none)
+    by false is none more = All-cons (λ s. p s ≡ false) z zs is (more none)
 
 abbrev AtApex : Name → Record → Type 0
 AtApex apex s = is_soa s ≡ true → s.owner ≡ apex
@@ -49,7 +50,7 @@ soa_places apex [] one at = All-nil (AtApex apex)
 soa_places apex (z ∷ zs) one at = by (is_soa z) refl one at (soa_places apex zs)
   where
     by : (b : Bool) → is_soa z ≡ b → length (cond b (z ∷ soa_of zs) (soa_of zs)) ≡ 1 → owner_of (cond b (z ∷ soa_of zs) (soa_of zs)) ≡ apex → (length (soa_of zs) ≡ 1 → owner_of (soa_of zs) ≡ apex → All (AtApex apex) zs) → All (AtApex apex) (z ∷ zs)
-    by true is here at more = All-cons (AtApex apex) z zs (λ _. at) (All-weaker (λ s. is_soa s ≡ false) (AtApex apex) (λ s no yes. cc) zs (none_soa zs (omega arith)))
+    by true is here at more = All-cons (AtApex apex) z zs (λ _. at) (All-weaker (λ s. is_soa s ≡ false) (AtApex apex) (λ s no yes. cc) zs (nothing_kept is_soa zs (omega arith)))
     by false is here at more = All-cons (AtApex apex) z zs (λ yes. cc) (more here at)
 
 pub soa_places_of : (zone : List Record) → KeepsRules zone → All (AtApex (apex_of zone)) zone
@@ -118,3 +119,88 @@ set_keeps_rules zone r h =
     filter_rules zone h (λ s. not (is_of r.owner r.rtype s) || is_apex_set zone s.owner s.rtype)
     (λ s is at. either_right (not (is_of r.owner r.rtype s)) (is_apex_set zone s.owner s.rtype) (apex_soa zone s is at))
     (servers_stay zone h (λ s. not (is_of r.owner r.rtype s) || is_apex_set zone s.owner s.rtype) (λ s is. either_right (not (is_of r.owner r.rtype s)) (is_apex_set zone s.owner s.rtype) (apex_ns zone s is)))
+
+-- records of the same owner, type and data tie, so of two in ascending order one differs
+tied_from : (r s : Record) → is_same r.owner s.owner ≡ true → r.rtype ≡ s.rtype → r.rdata ≡ s.rdata → record_cmp r s ≡ Equal
+tied_from r s owners types datas =
+    let types_tie : nat_cmp r.rtype s.rtype ≡ Equal = ap (λ t. nat_cmp t s.rtype) types ∙ tied_itself nat_cmp_total s.rtype in
+    let datas_tie : slice_cmp nat_cmp r.rdata s.rdata ≡ Equal = ap (λ os. slice_cmp nat_cmp os s.rdata) datas ∙ tied_itself nat_list_cmp_total s.rdata in
+    λ i. ordering_then (tie_from_same r.owner s.owner owners i) (ordering_then (types_tie i) (datas_tie i))
+
+module _ (zone : List Record) (r : RawRecord) (h : KeepsRules zone) where
+  abbrev home : Name
+  home = apex_of zone
+
+  abbrev is_server : Record → Bool
+  is_server = is_of home type_NS
+
+  abbrev is_meant : Record → Bool
+  is_meant s = is_of r.owner r.rtype s && bytes_eq r.octets s.rdata
+
+  abbrev is_left : Record → Bool
+  is_left s = not (is_meant s) || is_last_apex_record zone s.owner s.rtype
+
+  meant_by : (b c : Bool) → not b || c ≡ false → b ≡ true
+  meant_by true c e = refl
+  meant_by false c e = cc
+
+  meant_once : (s t : Record) → IsBefore s t → is_left s ≡ false → is_left t ≡ false → ⊥
+  meant_once s t before gone also =
+      let one = meant_by (is_meant s) (is_last_apex_record zone s.owner s.rtype) gone in
+      let other = meant_by (is_meant t) (is_last_apex_record zone t.owner t.rtype) also in
+      let of_one = and_left (is_of r.owner r.rtype s) (bytes_eq r.octets s.rdata) one in
+      let of_other = and_left (is_of r.owner r.rtype t) (bytes_eq r.octets t.rdata) other in
+      let owners : is_same s.owner t.owner ≡ true =
+      is_same_equiv.congr s.owner r.owner t.owner (and_left (is_same s.owner r.owner) (s.rtype == r.rtype) of_one) ∙ is_same_equiv.symm r.owner t.owner ∙ and_left (is_same t.owner r.owner) (t.rtype == r.rtype) of_other in
+      let types : s.rtype ≡ t.rtype =
+      eqb-true s.rtype r.rtype (and_right (is_same s.owner r.owner) (s.rtype == r.rtype) of_one) ∙ sym (eqb-true t.rtype r.rtype (and_right (is_same t.owner r.owner) (t.rtype == r.rtype) of_other)) in
+      let datas : s.rdata ≡ t.rdata =
+      sym ((bytes_eq-Decides r.octets s.rdata).0 (and_right (is_of r.owner r.rtype s) (bytes_eq r.octets s.rdata) one)) ∙ (bytes_eq-Decides r.octets t.rdata).0 (and_right (is_of r.owner r.rtype t) (bytes_eq r.octets t.rdata) other) in
+      true≢false (sym before ∙ ap is_lt (tied_from s t owners types datas))
+
+  longer : (b : Bool) (s : Record) (rest : List Record) → 0 < length rest → 0 < length (cond b (s ∷ rest) rest)
+  longer true s rest some = omega arith
+  longer false s rest some = some
+
+  one_left : (rs : List Record) → 1 < length rs → AllPairs IsBefore rs → 0 < length (filter is_left rs)
+  one_left [] two rises = absurd (omega arith)
+  one_left (s ∷ []) two rises = absurd (omega arith)
+  one_left (s ∷ t ∷ rs) two rises = by (is_left s) (is_left t) refl refl
+    where
+      by : (b c : Bool) → is_left s ≡ b → is_left t ≡ c → 0 < length (cond b (s ∷ cond c (t ∷ filter is_left rs) (filter is_left rs)) (cond c (t ∷ filter is_left rs) (filter is_left rs)))
+      by true c e k = omega arith
+      by false true e k = omega arith
+      by false false e k = absurd (meant_once s t (rises 0 1 s (omega arith) (omega arith)) e k)
+
+  -- a set of one NS at the apex stays, and of more one is left
+  server_last : (s : Record) → (length (rrset_of zone home type_NS) == 1) ≡ true → is_server s ≡ true → is_last_apex_record zone s.owner s.rtype ≡ true
+  server_last s one is =
+      let same = and_left (is_same s.owner home) (s.rtype == type_NS) is in
+      let ns = and_right (is_same s.owner home) (s.rtype == type_NS) is in
+      let own : rrset_of zone s.owner type_NS ≡ rrset_of zone home type_NS =
+      filter_same (is_of s.owner type_NS) is_server (λ x. ap (λ b. b && x.rtype == type_NS) (is_same_equiv.symm x.owner s.owner ∙ is_same_equiv.congr s.owner home x.owner same ∙ is_same_equiv.symm home x.owner)) zone in
+      rw (own, same, ns, one) (either_right (s.rtype == type_SOA) true refl)
+
+  servers_left : (b : Bool) → (length (rrset_of zone home type_NS) == 1) ≡ b → 0 < length (rrset_of (filter is_left zone) home type_NS)
+  servers_left true one = servers_stay zone h is_left (λ s is. either_right (not (is_meant s)) (is_last_apex_record zone s.owner s.rtype) (server_last s one is))
+  servers_left false many =
+      let some = (beside_from zone h).name_servers in
+      let two : 1 < length (rrset_of zone home type_NS) = grind (arith, nat_tests) in
+      let left = one_left (rrset_of zone home type_NS) two (AllPairs-filter IsBefore is_server zone h.ascending) in
+      omega (arith, ap length (filter_swap is_left is_server zone))
+
+  last_soa : (s : Record) → is_soa s ≡ true → s.owner ≡ home → is_last_apex_record zone s.owner s.rtype ≡ true
+  last_soa s is at = rw (at, is_same_equiv.refl home, is) refl
+
+  pub record_keeps_rules : Keeps zone (without_record zone r)
+  record_keeps_rules =
+      filter_rules zone h is_left (λ s is at. either_right (not (is_meant s)) (is_last_apex_record zone s.owner s.rtype) (last_soa s is at))
+      (servers_left (length (rrset_of zone home type_NS) == 1) refl)
+
+-- the owners and the data that an added record meets
+none_of : (rs : List Record) → not (length rs == 0) ≡ false → length rs ≡ 0
+none_of rs e = grind (arith, nat_tests)
+
+pub no_alias_at : (zone : List Record) (owner : Name) → has_rrset zone owner type_CNAME ≡ false → All (λ s. is_of owner type_CNAME s ≡ false) zone
+no_alias_at zone owner e = nothing_kept (is_of owner type_CNAME) zone (none_of (rrset_of zone owner type_CNAME) e)
+
