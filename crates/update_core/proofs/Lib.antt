@@ -10,3 +10,4 @@ pub mod SentLemmas
 pub mod Candidates
 pub mod RowsKeep
 pub mod AddsKeep
+pub mod ZoneParts
