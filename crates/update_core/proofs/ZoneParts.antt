@@ -118,3 +118,93 @@ module _ (owner : Name) (rtype : ℕ) where
           let none = none_before (ap is_lt e) in
           let nothing = none_own (ap is_gt e) in
           rw (e, of, none, nothing) (ap (λ l. z ∷ l) (rest ∙ λ i. none i ++ (nothing i ++ behind_part zs)))
+
+  -- a filter that touches the records of the owner and type alone
+  same_front : (q : Record → Bool) → ((s : Record) → is_of owner rtype s ≡ false → q s ≡ true) → (b : Ordering → Bool) → ((o : Ordering) → b o ≡ true → is_eq o ≡ false) → (zs : List Record) → filter q (filter (λ s. b (at s)) zs) ≡ filter (λ s. b (at s)) zs
+  same_front q stays b apart [] = refl
+  same_front q stays b apart (z ∷ zs) = by (b (at z)) refl (same_front q stays b apart zs)
+    where
+      by : (c : Bool) → b (at z) ≡ c → filter q (filter (λ s. b (at s)) zs) ≡ filter (λ s. b (at s)) zs → filter q (cond c (z ∷ filter (λ s. b (at s)) zs) (filter (λ s. b (at s)) zs)) ≡ cond c (z ∷ filter (λ s. b (at s)) zs) (filter (λ s. b (at s)) zs)
+      by true e rest = rw (stays z (of_place z ∙ apart (at z) e)) (ap (λ l. z ∷ l) rest)
+      by false e rest = rest
+
+  lt_apart : (o : Ordering) → is_lt o ≡ true → is_eq o ≡ false
+  lt_apart Less e = refl
+  lt_apart Equal e = cc
+  lt_apart Greater e = refl
+
+  pub left_parts : (q : Record → Bool) → ((s : Record) → is_of owner rtype s ≡ false → q s ≡ true) → (zone : List Record) → Rises IsBefore zone → filter q zone ≡ before_part zone ++ (filter q (own_part zone) ++ behind_part zone)
+  left_parts q stays zone h =
+      ap (filter q) (three_parts zone h)
+      ∙ filter-append q (before_part zone) (own_part zone ++ behind_part zone)
+      ∙ (λ i. same_front q stays is_lt lt_apart zone i ++ (filter-append q (own_part zone) (behind_part zone) ∙ ap (λ l. filter q (own_part zone) ++ l) (same_front q stays is_gt is_not_eq zone)) i)
+
+  -- a set of the owner and type in the place of their records
+  pub set_parts : (zone set : List Record) → is_same (owner_of set) owner ≡ true → rtype_of set ≡ rtype → with_rrset zone set ≡ before_part zone ++ (set ++ behind_part zone)
+  set_parts zone set same types =
+      let alike : (s : Record) → beside set s ≡ at s = λ s. (λ i. ordering_then (alike_right canonical_total (owner_of set) owner s.owner (tie_from_same (owner_of set) owner same) i) (nat_cmp s.rtype (types i))) in
+      (λ i. (filter_agree (λ s. is_lt (beside set s)) (λ s. is_lt (at s)) (λ s. ap is_lt (alike s)) zone i ++ set) ++ filter_agree (λ s. is_gt (beside set s)) (λ s. is_gt (at s)) (λ s. ap is_gt (alike s)) zone i)
+      ∙ append_assoc (before_part zone) set (behind_part zone)
+
+  -- one record more of the owner and type
+  module _ (r : Record) (same : is_same r.owner owner ≡ true) (types : r.rtype ≡ rtype) where
+    key_is : (s : Record) → key_cmp r s ≡ ordering_reverse (at s)
+    key_is s =
+        key_total.congr r key s (λ i. ordering_then (tie_from_same r.owner owner same i) ((ap (λ t. nat_cmp t rtype) types ∙ tied_itself nat_cmp_total rtype) i))
+        ∙ key_total.antisymm key s
+
+    cmp_is : (s : Record) → record_cmp r s ≡ ordering_then (ordering_reverse (at s)) (slice_cmp nat_cmp r.rdata s.rdata)
+    cmp_is s = by_data r s ∙ ap (λ o. ordering_then o (slice_cmp nat_cmp r.rdata s.rdata)) (key_is s)
+
+    less_is : (o : Ordering) → is_lt o ≡ true → o ≡ Less
+    less_is Less e = refl
+    less_is Equal e = cc
+    less_is Greater e = cc
+
+    equal_is : (o : Ordering) → is_eq o ≡ true → o ≡ Equal
+    equal_is Less e = cc
+    equal_is Equal e = refl
+    equal_is Greater e = cc
+
+    greater_is : (o : Ordering) → is_gt o ≡ true → o ≡ Greater
+    greater_is Less e = cc
+    greater_is Equal e = cc
+    greater_is Greater e = refl
+
+    behind_before : (xs ys : List Record) → AllByRecursion (λ s. is_lt (at s) ≡ true) xs → with_one r (xs ++ ys) ≡ xs ++ with_one r ys
+    behind_before [] ys h = refl
+    behind_before (x ∷ xs) ys h =
+        let o = cmp_is x ∙ ap (λ p. ordering_then (ordering_reverse p) (slice_cmp nat_cmp r.rdata x.rdata)) (less_is (at x) h.0) in
+        rw o (ap (λ l. x ∷ l) (behind_before xs ys h.1))
+
+    in_front : (zs : List Record) → AllByRecursion (λ s. is_gt (at s) ≡ true) zs → with_one r zs ≡ r ∷ zs
+    in_front [] h = refl
+    in_front (z ∷ zs) h =
+        let o = cmp_is z ∙ ap (λ p. ordering_then (ordering_reverse p) (slice_cmp nat_cmp r.rdata z.rdata)) (greater_is (at z) h.0) in
+        rw o refl
+
+    among : (ys zs : List Record) → AllByRecursion (λ s. is_eq (at s) ≡ true) ys → AllByRecursion (λ s. is_gt (at s) ≡ true) zs → with_one r (ys ++ zs) ≡ with_record r ys ++ zs
+    among [] zs h k = in_front zs k
+    among (y ∷ ys) zs h k =
+        let o = cmp_is y ∙ ap (λ p. ordering_then (ordering_reverse p) (slice_cmp nat_cmp r.rdata y.rdata)) (equal_is (at y) h.0) in
+        rw o (by (slice_cmp nat_cmp r.rdata y.rdata) (among ys zs h.1 k))
+      where
+        by : (o : Ordering) → with_one r (ys ++ zs) ≡ with_record r ys ++ zs → cond (is_lt o) (r ∷ y ∷ (ys ++ zs)) (cond (is_eq o) (y ∷ (ys ++ zs)) (y ∷ with_one r (ys ++ zs))) ≡ cond (is_lt o) (r ∷ y ∷ ys) (cond (is_eq o) (y ∷ ys) (y ∷ with_record r ys)) ++ zs
+        by Less rest = refl
+        by Equal rest = refl
+        by Greater rest = ap (λ l. y ∷ l) rest
+
+    pub with_one_parts : (xs ys zs : List Record) → AllByRecursion (λ s. is_lt (at s) ≡ true) xs → AllByRecursion (λ s. is_eq (at s) ≡ true) ys → AllByRecursion (λ s. is_gt (at s) ≡ true) zs → with_one r (xs ++ (ys ++ zs)) ≡ xs ++ (with_record r ys ++ zs)
+    with_one_parts xs ys zs h k m = behind_before xs (ys ++ zs) h ∙ ap (λ l. xs ++ l) (among ys zs k m)
+
+  -- each part is where it is
+  pub each_passes : (p : Record → Bool) (zs : List Record) → AllByRecursion (λ s. p s ≡ true) (filter p zs)
+  each_passes p [] = tt
+  each_passes p (z ∷ zs) = by (p z) refl (each_passes p zs)
+    where
+      by : (b : Bool) → p z ≡ b → AllByRecursion (λ s. p s ≡ true) (filter p zs) → AllByRecursion (λ s. p s ≡ true) (cond b (z ∷ filter p zs) (filter p zs))
+      by true e rest = (e, rest)
+      by false e rest = rest
+
+  pub own_beside : (zone : List Record) → AllByRecursion (λ s. is_eq (at s) ≡ true) (own_part zone)
+  own_beside zone = each_weaker (λ s. is_of owner rtype s ≡ true) (λ s. is_eq (at s) ≡ true) (λ s e. sym (of_place s) ∙ e) (own_part zone) (each_passes (is_of owner rtype) zone)
