@@ -12,3 +12,4 @@ pub mod RowsKeep
 pub mod AddsKeep
 pub mod ZoneParts
 pub mod EditLemmas
+pub mod DeletionEdits
