@@ -155,3 +155,83 @@ entered_owner zone r lawful some =
     by : (zs : List Record) → zs ≢ [] → AllByRecursion (λ s. is_of r.owner r.rtype s ≡ true) zs → AllByRecursion IsLawful zs → owner_of zs ≡ fold_name r.owner
     by [] k h m = absurd (k refl)
     by (z ∷ zs) k h m = m.0.folded ∙ folds_from_same z.owner r.owner (and_left (is_same z.owner r.owner) (z.rtype == r.rtype) h.0)
+
+-- whether a change removes a record's set
+abbrev pub is_removed : Record → Change → Bool
+is_removed s (Put set) = false
+is_removed s (Remove owner rtype) = is_of owner rtype.0 s
+
+-- a change removes a set
+abbrev pub IsRemove : Change → Type 0
+IsRemove (Put set) = ⊥
+IsRemove (Remove owner rtype) = Unit {0}
+
+both_filters : (p q : Record → Bool) (zs : List Record) → filter (λ s. not (q s)) (filter (λ s. not (p s)) zs) ≡ filter (λ s. not (p s || q s)) zs
+both_filters p q [] = refl
+both_filters p q (z ∷ zs) = by (p z) (both_filters p q zs)
+  where
+    by : (b : Bool) → filter (λ s. not (q s)) (filter (λ s. not (p s)) zs) ≡ filter (λ s. not (p s || q s)) zs
+        → filter (λ s. not (q s)) (cond (not b) (z ∷ filter (λ s. not (p s)) zs) (filter (λ s. not (p s)) zs)) ≡ cond (not (b || q z)) (z ∷ filter (λ s. not (p s || q s)) zs) (filter (λ s. not (p s || q s)) zs)
+    by true rest = rest
+    by false rest = ap (λ l. cond (not (q z)) (z ∷ l) l) rest
+
+-- sets that are removed one after another
+pub removes_edit : (changes : List Change) (zone : List Record) → AllByRecursion IsRemove changes → edited zone changes ≡ filter (λ s. not (list_any (is_removed s) changes)) zone
+removes_edit [] zone h = sym (each_kept (λ s. true) zone (always (λ s. true ≡ true) (λ s. refl) zone))
+removes_edit (Put set ∷ changes) zone h = absurd (h.0)
+removes_edit (Remove owner rtype ∷ changes) zone h = removes_edit changes (without_rrset zone owner rtype.0) h.1 ∙ both_filters (is_of owner rtype.0) (λ s. list_any (is_removed s) changes) zone
+
+-- where what is removed is what stands at the owner, but for the SOA and the NS at the apex
+pub all_edits : (zone : List Record) (r : RawRecord) (changes : List Change) → AllByRecursion IsRemove changes → AllByRecursion (λ s. list_any (is_removed s) changes ≡ stands_at r.owner s && not (is_apex_set zone s.owner s.rtype)) zone → without_all zone r ≡ edited zone changes
+all_edits zone r changes removes same =
+    agree_on (λ s. not (stands_at r.owner s) || is_apex_set zone s.owner s.rtype) (λ s. not (list_any (is_removed s) changes)) zone
+    (each_weaker (λ s. list_any (is_removed s) changes ≡ stands_at r.owner s && not (is_apex_set zone s.owner s.rtype)) (λ s. not (stands_at r.owner s) || is_apex_set zone s.owner s.rtype ≡ not (list_any (is_removed s) changes))
+    (λ s e. either (stands_at r.owner s) (is_apex_set zone s.owner s.rtype) ∙ ap not (sym e)) zone same)
+    ∙ sym (removes_edit changes zone removes)
+  where
+    either : (a b : Bool) → not a || b ≡ not (a && not b)
+    either true true = refl
+    either true false = refl
+    either false b = refl
+
+-- the sets of an owner, but for the SOA and the NS at the apex, removed
+abbrev pub may_go : List Record → Name → List Record → Bool
+may_go zone owner set = not (is_apex_set zone owner (rtype_of set))
+
+abbrev pub removals : Name → List (List Record) → List Change
+removals owner sets = map (λ set. Remove owner (record { 0 = rtype_of set })) sets
+
+removals_remove : (owner : Name) (sets : List (List Record)) → AllByRecursion IsRemove (removals owner sets)
+removals_remove owner [] = tt
+removals_remove owner (set ∷ sets) = (tt, removals_remove owner sets)
+
+-- a set of the record's type that is among those that go
+module _ (zone : List Record) (owner : Name) (s : Record) where
+  removed_if : (sets : List (List Record)) → stands_at owner s ≡ true → list_any (is_removed s) (removals owner (filter (may_go zone owner) sets)) ≡ list_any (λ set. s.rtype == rtype_of set) sets && not (is_apex_set zone s.owner s.rtype)
+  removed_if [] at = refl
+  removed_if (set ∷ sets) at = by (s.rtype == rtype_of set) (may_go zone owner set) refl refl (removed_if sets at)
+    where
+      free : (s.rtype == rtype_of set) ≡ true → may_go zone owner set ≡ not (is_apex_set zone s.owner s.rtype)
+      free e = ap not (sym (apex_set_same zone owner (rtype_of set) s (rw (at, e) refl)))
+
+      by : (b c : Bool) → (s.rtype == rtype_of set) ≡ b → may_go zone owner set ≡ c
+          → list_any (is_removed s) (removals owner (filter (may_go zone owner) sets)) ≡ list_any (λ set. s.rtype == rtype_of set) sets && not (is_apex_set zone s.owner s.rtype)
+          → list_any (is_removed s) (removals owner (cond c (set ∷ filter (may_go zone owner) sets) (filter (may_go zone owner) sets))) ≡ (b || list_any (λ set. s.rtype == rtype_of set) sets) && not (is_apex_set zone s.owner s.rtype)
+      by true true e k rest = let may : not (is_apex_set zone s.owner s.rtype) ≡ true = sym (free e) ∙ k in rw (at, e, may) refl
+      by true false e k rest =
+          let may : not (is_apex_set zone s.owner s.rtype) ≡ false = sym (free e) ∙ k in
+          rest ∙ rw may (nothing (list_any (λ set. s.rtype == rtype_of set) sets))
+        where
+          nothing : (d : Bool) → d && false ≡ false
+          nothing true = refl
+          nothing false = refl
+      by false true e k rest = rw (at, e) rest
+      by false false e k rest = rest
+
+  kept_if : (sets : List (List Record)) → stands_at owner s ≡ false → list_any (is_removed s) (removals owner (filter (may_go zone owner) sets)) ≡ false
+  kept_if [] away = refl
+  kept_if (set ∷ sets) away = by (may_go zone owner set) (kept_if sets away)
+    where
+      by : (c : Bool) → list_any (is_removed s) (removals owner (filter (may_go zone owner) sets)) ≡ false → list_any (is_removed s) (removals owner (cond c (set ∷ filter (may_go zone owner) sets) (filter (may_go zone owner) sets))) ≡ false
+      by true rest = rw away rest
+      by false rest = rest
