@@ -15,7 +15,7 @@ use Rattle.zone_tree.specs.Zone.{IsBefore, stands_at, is_of, rrset_of, rrsets_of
 use Rattle.zone_tree.specs.Change.{with_rrset, without_rrset, changed, edited}
 use Rattle.zone_tree.specs.Sets.{AreWhole}
 use Rattle.zone_tree.proofs.NameOrder.{folds_from_same}
-use Rattle.zone_tree.proofs.Rising.{Rises, rises_from_pairs, each_weaker, each_filter, filter_alike}
+use Rattle.zone_tree.proofs.Rising.{Rises, rises_from_pairs, each_weaker, each_filter, each_append, filter_alike}
 use Rattle.update_core.specs.Act.{entered, is_apex_set, is_last_apex_record}
 use Rattle.update_core.proofs.ListLemmas.{and_left, and_right, filter_alike as filter_same}
 use Rattle.update_core.proofs.VerdictLemmas.{rrset_of-same}
@@ -235,3 +235,46 @@ module _ (zone : List Record) (owner : Name) (s : Record) where
       by : (c : Bool) → list_any (is_removed s) (removals owner (filter (may_go zone owner) sets)) ≡ false → list_any (is_removed s) (removals owner (cond c (set ∷ filter (may_go zone owner) sets) (filter (may_go zone owner) sets))) ≡ false
       by true rest = rw away rest
       by false rest = rest
+
+-- each record of sets is of the type of one of them
+typed_set : (zone set : List Record) → set ≡ rrset_of zone (owner_of set) (rtype_of set) → AllByRecursion (λ s. s.rtype == rtype_of set ≡ true) set
+typed_set zone set whole =
+    let own = rrset_of zone (owner_of set) (rtype_of set) in
+    let each : AllByRecursion (λ s. s.rtype == rtype_of set ≡ true) own =
+    each_weaker (λ s. is_of (owner_of set) (rtype_of set) s ≡ true) (λ s. s.rtype == rtype_of set ≡ true) (λ s is. and_right (is_same s.owner (owner_of set)) (s.rtype == rtype_of set) is) own
+    (each_passes (owner_of set) (rtype_of set) (is_of (owner_of set) (rtype_of set)) zone) in
+    subst (AllByRecursion (λ s. s.rtype == rtype_of set ≡ true)) (sym whole) each
+
+or_right : (b c : Bool) → c ≡ true → b || c ≡ true
+or_right true c e = refl
+or_right false c e = e
+
+typed_each : (zone : List Record) (sets : List (List Record)) → AllByRecursion (λ set. set ≡ rrset_of zone (owner_of set) (rtype_of set)) sets → AllByRecursion (λ s. list_any (λ set. s.rtype == rtype_of set) sets ≡ true) (flat_map (λ set. set) sets)
+typed_each zone [] h = tt
+typed_each zone (set ∷ sets) h =
+    each_append (λ s. list_any (λ other. s.rtype == rtype_of other) (set ∷ sets) ≡ true) set (flat_map (λ other. other) sets)
+    (each_weaker (λ s. s.rtype == rtype_of set ≡ true) (λ s. list_any (λ other. s.rtype == rtype_of other) (set ∷ sets) ≡ true) (λ s e. rw e refl) set (typed_set zone set h.0))
+    (each_weaker (λ s. list_any (λ other. s.rtype == rtype_of other) sets ≡ true) (λ s. list_any (λ other. s.rtype == rtype_of other) (set ∷ sets) ≡ true) (λ s e. or_right (s.rtype == rtype_of set) (list_any (λ other. s.rtype == rtype_of other) sets) e) (flat_map (λ other. other) sets) (typed_each zone sets h.1))
+
+-- what holds of what a filter keeps
+of_kept : (P : Record → Type 0) (p : Record → Bool) (zs : List Record) → AllByRecursion P (filter p zs) → AllByRecursion (λ s. p s ≡ true → P s) zs
+of_kept P p [] h = tt
+of_kept P p (z ∷ zs) h = by (p z) refl h (of_kept P p zs)
+  where
+    by : (b : Bool) → p z ≡ b → AllByRecursion P (cond b (z ∷ filter p zs) (filter p zs)) → (AllByRecursion P (filter p zs) → AllByRecursion (λ s. p s ≡ true → P s) zs) → AllByRecursion (λ s. p s ≡ true → P s) (z ∷ zs)
+    by true e k rest = (λ _. k.0, rest k.1)
+    by false e k rest = (λ is. cc, rest k)
+
+-- all of an owner goes, set by set
+pub all_edits_by_sets : (zone : List Record) (r : RawRecord) (sets : List (List Record)) → flat_map (λ set. set) sets ≡ rrsets_of zone r.owner → AreWhole zone sets → without_all zone r ≡ edited zone (removals r.owner (filter (may_go zone r.owner) sets))
+all_edits_by_sets zone r sets are whole =
+    let changes = removals r.owner (filter (may_go zone r.owner) sets) in
+    let typed : AllByRecursion (λ s. list_any (λ set. s.rtype == rtype_of set) sets ≡ true) (rrsets_of zone r.owner) =
+    subst (AllByRecursion (λ s. list_any (λ set. s.rtype == rtype_of set) sets ≡ true)) are (typed_each zone sets (recursion_from_All (λ set. set ≡ rrset_of zone (owner_of set) (rtype_of set)) sets whole.whole)) in
+    all_edits zone r changes (removals_remove r.owner (filter (may_go zone r.owner) sets))
+    (each_weaker (λ s. stands_at r.owner s ≡ true → list_any (λ set. s.rtype == rtype_of set) sets ≡ true) (λ s. list_any (is_removed s) changes ≡ stands_at r.owner s && not (is_apex_set zone s.owner s.rtype))
+    (λ s has. one s (stands_at r.owner s) refl has) zone (of_kept (λ s. list_any (λ set. s.rtype == rtype_of set) sets ≡ true) (stands_at r.owner) zone typed))
+  where
+    one : (s : Record) (b : Bool) → stands_at r.owner s ≡ b → (b ≡ true → list_any (λ set. s.rtype == rtype_of set) sets ≡ true) → list_any (is_removed s) (removals r.owner (filter (may_go zone r.owner) sets)) ≡ b && not (is_apex_set zone s.owner s.rtype)
+    one s true at has = removed_if zone r.owner s sets at ∙ rw (has refl) refl
+    one s false at has = kept_if zone r.owner s sets at
