@@ -13,3 +13,4 @@ pub mod AddsKeep
 pub mod ZoneParts
 pub mod EditLemmas
 pub mod DeletionEdits
+pub mod LimitsKept
