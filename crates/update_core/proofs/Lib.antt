@@ -14,3 +14,4 @@ pub mod ZoneParts
 pub mod EditLemmas
 pub mod DeletionEdits
 pub mod LimitsKept
+pub mod EffectKeeps
