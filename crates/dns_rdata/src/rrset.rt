@@ -1,9 +1,9 @@
 //! The records that share an owner and a type (RFC 2181, 5).
-ghost use Rattle.std.specs.Prelude.{◌≡◌, ◌↔◌, ◌<◌, ◌≤◌, ◌^◌, false, not, [], ◌∷◌, length, map, insert, All, IfOk, OnOk, OnErr, MatchResult};
+ghost use Rattle.std.specs.Prelude.{◌≡◌, ◌↔◌, ◌<◌, ◌≤◌, ◌^◌, false, not, [], ◌∷◌, length, map, filter, insert, bytes_eq, All, IfOk, IfSome, IsNone, OnOk, OnErr, MatchResult};
 ghost use Rattle.std.specs.Result.{IsErrOf};
 ghost use Rattle.dns_name.specs.Name.{fold_name};
 ghost use Rattle.dns_rdata.specs.Data.{IsData};
-ghost use Rattle.dns_rdata.specs.Record.{Record, IsLawful, records_with, owner_of, rtype_of, ttl_of, IsSet, with_data, with_record, has_data};
+ghost use Rattle.dns_rdata.specs.Record.{Record, IsLawful, records_with, owner_of, rtype_of, ttl_of, IsSet, with_data, with_record, has_data, without_data};
 
 use crate::data::RData;
 use crate::numbers::{RType, Ttl};
@@ -141,6 +141,29 @@ impl RRset {
         Ok(true)
     }
 
+    /// The set without the record of these data octets; None where it has no other (RFC 2181, 5).
+    pub fn without(self, octets: &[u8]) -> Option<RRset>
+        ensures none { IsNone result ↔ (without_data self octets.now ≡ []) }
+        ensures left { IfSome result (λ left. left ≡ without_data self octets.now) }
+    {
+        let RRset {
+            owner,
+            rtype,
+            ttl,
+            rdata,
+        } = self;
+        let rdata = without_octets(rdata, octets);
+        if rdata.is_empty() {
+            return None;
+        }
+        Some(RRset {
+            owner,
+            rtype,
+            ttl,
+            rdata,
+        })
+    }
+
     /// Gives each record this TTL, in seconds.
     pub fn set_ttl(&mut self, ttl: Ttl)
         requires { ttl.0 < 2 ^ 31 }
@@ -148,6 +171,18 @@ impl RRset {
     {
         self.ttl = ttl;
     }
+}
+
+/// The data but for that of these octets.
+fn without_octets(mut all: Vec<RData>, octets: &[u8]) -> Vec<RData>
+    ensures { result.items ≡ filter (λ d. not (bytes_eq octets.now d.octets)) all.items }
+{
+    all.retain(
+        |own: &RData| -> bool
+            ensures { result ≡ not (bytes_eq octets.entry.now own.now.octets) }
+        { octets != own.octets() },
+    );
+    all
 }
 
 /// Where data stands among data in order; where it isn't there, the place that keeps them in order.
