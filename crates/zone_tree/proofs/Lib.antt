@@ -11,3 +11,4 @@ pub mod RuleLemmas
 pub mod FaultLemmas
 pub mod LawLemmas
 pub mod ZoneTest
+pub mod VersionLemmas

@@ -15,6 +15,7 @@ mod owners;
 mod read;
 mod rules;
 mod soa;
+mod version;
 mod walk;
 mod zone;
 
@@ -22,6 +23,7 @@ pub use change::Change;
 pub use fault::{BrokenRule, NewFault};
 pub use laws::{example_is_a_zone, examples, names_that_exist, same_records, soa_at_apex};
 pub use read::ZoneRead;
+pub use version::Version;
 pub use walk::Walk;
 pub use zone::{MAX_RECORDS, Zone};
 
