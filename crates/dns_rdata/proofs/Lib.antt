@@ -2,6 +2,7 @@ pub mod SerialLemmas
 pub mod SetLemmas
 pub mod InsertLemmas
 pub mod KeptLemmas
+pub mod SameLemmas
 pub mod NameLemmas
 pub mod DataLemmas
 pub mod FormLemmas

@@ -1,5 +1,5 @@
 //! The records that share an owner and a type (RFC 2181, 5).
-ghost use Rattle.std.specs.Prelude.{◌≡◌, ◌↔◌, ◌<◌, ◌≤◌, ◌^◌, false, not, [], ◌∷◌, length, map, filter, insert, bytes_eq, All, IfOk, IfSome, IsNone, OnOk, OnErr, MatchResult};
+ghost use Rattle.std.specs.Prelude.{◌≡◌, ◌≢◌, ◌↔◌, ◌<◌, ◌≤◌, ◌^◌, false, not, [], ◌∷◌, length, map, filter, insert, bytes_eq, All, IfOk, IfSome, IsNone, OnOk, OnErr, MatchBool, MatchResult};
 ghost use Rattle.std.specs.Result.{IsErrOf};
 ghost use Rattle.dns_name.specs.Name.{fold_name};
 ghost use Rattle.dns_rdata.specs.Data.{IsData};
@@ -141,6 +141,22 @@ impl RRset {
         Ok(true)
     }
 
+    /// Whether another set has the same records, with the same TTL.
+    pub fn is_same(&self, other: &RRset) -> bool
+        ensures { MatchBool result (self.now ≡ other.now) (self.now ≢ other.now) }
+    {
+        if self.owner != other.owner {
+            return false;
+        }
+        if self.rtype != other.rtype {
+            return false;
+        }
+        if self.ttl != other.ttl {
+            return false;
+        }
+        are_same(&self.rdata, &other.rdata)
+    }
+
     /// The set without the record of these data octets; None where it has no other (RFC 2181, 5).
     pub fn without(self, octets: &[u8]) -> Option<RRset>
         ensures none { IsNone result ↔ (without_data self octets.now ≡ []) }
@@ -171,6 +187,28 @@ impl RRset {
     {
         self.ttl = ttl;
     }
+}
+
+/// Whether data are the same, one by one.
+fn are_same(own: &[RData], other: &[RData]) -> bool
+    ensures { MatchBool result (own.now ≡ other.now) (own.now ≢ other.now) }
+{
+    if own.len() != other.len() {
+        return false;
+    }
+    for (at, rdata) in own.iter().enumerate() {
+        if !is_same_datum(rdata, &other[at]) {
+            return false;
+        }
+    }
+    true
+}
+
+/// Whether two data are the same: their type, and their octets.
+fn is_same_datum(own: &RData, other: &RData) -> bool
+    ensures { MatchBool result (own.now ≡ other.now) (own.now ≢ other.now) }
+{
+    own.rtype() == other.rtype() && own.octets() == other.octets()
 }
 
 /// The data but for that of these octets.

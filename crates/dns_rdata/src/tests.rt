@@ -213,6 +213,11 @@ fn one_less(rt: HostRuntime) -> Result<(), Fail> {
     assert_eq!(rt; set.data().len(), 2);
     let set = set.without(&[10, 0, 0, 1]).ok_or("one is left")?;
     assert_eq!(rt; set.data().len(), 1);
+    let alone = RData::from_wire(rt.alloc(), RType::A, &[10, 0, 0, 2])?;
+    let mut other = RRset::new(rt.alloc(), &Name::root(), Ttl(60), alone)?;
+    assert!(rt; set.is_same(&other));
+    other.set_ttl(Ttl(61));
+    assert!(rt; !set.is_same(&other));
     assert_eq!(rt; set.data()[0].octets(), [10u8, 0, 0, 2].as_slice());
     assert_eq!(rt; set.ttl(), Ttl(60));
     assert!(rt; set.without(&[10, 0, 0, 2]).is_none());
