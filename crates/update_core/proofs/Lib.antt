@@ -3,3 +3,11 @@ pub mod VerdictLemmas
 pub mod SoaKept
 pub mod SerialLaw
 pub mod BesideLemmas
+pub mod OneMore
+pub mod RulesBeside
+pub mod RulesChanged
+pub mod SentLemmas
+pub mod Candidates
+pub mod RowsKeep
+pub mod AddsKeep
+pub mod ZoneParts

@@ -1,12 +1,12 @@
 -- What an update does to a zone: its records in order, each on the zone that those before it leave (RFC 2136, 3.4.2), and
 -- then the serial (RFC 2136, 3.6).
-use Rattle.std.specs.Prelude.{ℕ, ◌-◌, ◌^◌, Bool, ◌&&◌, ◌||◌, not, ◌==◌, nat_lt, List, [], ◌∷◌, ◌++◌, length, take, drop, filter, map, bytes_eq, if◌then◌else◌, Option, None, Some, unwrap_or}
+use Rattle.std.specs.Prelude.{ℕ, ◌-◌, ◌^◌, ◌<◌, Bool, ◌&&◌, ◌||◌, not, ◌==◌, nat_lt, List, [], ◌∷◌, ◌++◌, length, take, drop, filter, map, All, bytes_eq, if◌then◌else◌, Option, None, Some, unwrap_or}
 use Rattle.std.specs.Option.{option_map, option_and_then}
 use Rattle.std.specs.List.{list_any}
 use Rattle.std.specs.Int.{to_be_bytes, w32}
 use Rattle.std.specs.Ordering.{is_lt, is_eq}
 use Rattle.std.specs.Cmp.Lexicographic.{pointwise}
-use Rattle.dns_name.specs.Name.{Name, fold_name, is_same}
+use Rattle.dns_name.specs.Name.{Name, IsName, fold_name, is_same}
 use Rattle.dns_rdata.specs.Numbers.{type_NS, type_CNAME, type_SOA, type_ANY, class_IN, class_NONE, class_ANY}
 use Rattle.dns_rdata.specs.Data.{data_of, serial_of, with_serial}
 use Rattle.dns_rdata.specs.Record.{Record, record_cmp}
@@ -106,3 +106,10 @@ act zone update = option_map (completed zone) (effects zone update.updates)
 abbrev pub replay : List Record → List Update → List Record
 replay zone [] = zone
 replay zone (update ∷ updates) = replay (unwrap_or (act zone update) zone) updates
+
+-- what each record of an update that is read keeps: its owner is a name, and its owner and its data are octets (RFC 1035, 2.3.4 and
+-- 4.1.3)
+pub record IsSent (r : RawRecord) : Type 0 where
+  pub name : IsName r.owner
+  pub owner_octets : All (All (λ octet. octet < 256)) r.owner
+  pub octets : All (λ octet. octet < 256) r.octets
