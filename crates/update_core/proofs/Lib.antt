@@ -11,3 +11,4 @@ pub mod Candidates
 pub mod RowsKeep
 pub mod AddsKeep
 pub mod ZoneParts
+pub mod SerialPut
