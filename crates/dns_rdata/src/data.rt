@@ -9,7 +9,7 @@ use crate::form::{has_form, lowered};
 use crate::layout::SOA_NUMBERS;
 use crate::numbers::{RType, Serial, Ttl};
 use dns_name::Name;
-use std::alloc::Global;
+use std::alloc::{AllocError, Global};
 use std::marker::Model;
 use thiserror::Error;
 
@@ -106,6 +106,17 @@ impl RData {
         ensures lawful { IsData self.now }
     {
         &self.octets
+    }
+
+    /// The same data once more. `AllocError` where a growth was refused.
+    pub fn copy(&self, alloc: Global) -> Result<RData, AllocError>
+        ensures { IfOk result (λ d. d ≡ self.now) }
+    {
+        let octets = Vec::from_slice(alloc, self.octets.as_slice())?;
+        Ok(RData {
+            rtype: self.rtype,
+            octets,
+        })
     }
 
     /// The name that an alias stands for; None of any type but CNAME (RFC 1035, 3.3.1).
