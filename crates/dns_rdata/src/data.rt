@@ -108,6 +108,17 @@ impl RData {
         &self.octets
     }
 
+    /// The same data once more. `AllocError` where a growth was refused.
+    pub fn copy(&self, alloc: Global) -> Result<RData, AllocError>
+        ensures { IfOk result (λ d. d ≡ self.now) }
+    {
+        let octets = Vec::from_slice(alloc, self.octets.as_slice())?;
+        Ok(RData {
+            rtype: self.rtype,
+            octets,
+        })
+    }
+
     /// The name that an alias stands for; None of any type but CNAME (RFC 1035, 3.3.1).
     #[tactic(auto, unfolding(crate::specs::Data::data_of, crate::specs::Layout::layout_of))]
     pub fn target(&self) -> Option<Name>

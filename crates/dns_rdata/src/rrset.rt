@@ -113,6 +113,20 @@ impl RRset {
         self.rdata.as_slice()
     }
 
+    /// The same records once more. `AllocError` where a growth was refused.
+    pub fn copy(&self, alloc: Global) -> Result<RRset, AllocError>
+        ensures { IfOk result (λ set. set ≡ self.now) }
+    {
+        let owner = StoredName::new(alloc, &self.owner())?;
+        let rdata = copies(alloc, &self.rdata)?;
+        Ok(RRset {
+            owner,
+            rtype: self.rtype,
+            ttl: self.ttl,
+            rdata,
+        })
+    }
+
     /// Puts one more record into its place: equal records are one. Whether it is new (RFC 2181, 5).
     ///
     /// `Limit` where the set has [`MAX_SET`] records and this would be another. Where it fails, the set is unchanged.
@@ -238,4 +252,15 @@ fn place_of(sorted: &[RData], rdata: &RData) -> Result<usize, usize>
         }
     }
     Err(sorted.len())
+}
+
+/// The same data once more.
+fn copies(alloc: Global, from: &[RData]) -> Result<Vec<RData>, AllocError>
+    ensures { IfOk result (λ own. own.items ≡ from.now) }
+{
+    let mut own = Vec::with_capacity(alloc, from.len())?;
+    for rdata in from {
+        own.push(rdata.copy(alloc)?)?;
+    }
+    Ok(own)
 }
