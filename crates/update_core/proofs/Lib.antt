@@ -12,3 +12,6 @@ pub mod RowsKeep
 pub mod AddsKeep
 pub mod ZoneParts
 pub mod SerialPut
+pub mod EditLemmas
+pub mod DeletionEdits
+pub mod LimitsKept

@@ -86,7 +86,7 @@ still_alone zone next r h there few =
     (counted (stands_at r.owner) next r there (is_same_equiv.refl r.owner))
 
 -- what is left by a filter
-fewer : (p q : Record → Bool) (rs : List Record) → length (filter p (filter q rs)) ≤ length (filter p rs)
+pub fewer : (p q : Record → Bool) (rs : List Record) → length (filter p (filter q rs)) ≤ length (filter p rs)
 fewer p q [] = omega arith
 fewer p q (r ∷ rs) = by (q r) (p r) (fewer p q rs) (more (p r) r (filter p rs))
   where
