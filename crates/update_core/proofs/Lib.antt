@@ -1,8 +1,8 @@
 pub mod ListLemmas
 pub mod VerdictLemmas
-pub mod SerialData
 pub mod SoaKept
 pub mod SerialLaw
+pub mod BesideLemmas
 pub mod OneMore
 pub mod RulesBeside
 pub mod RulesChanged
@@ -11,6 +11,7 @@ pub mod Candidates
 pub mod RowsKeep
 pub mod AddsKeep
 pub mod ZoneParts
+pub mod SerialPut
 pub mod EditLemmas
 pub mod DeletionEdits
 pub mod LimitsKept

@@ -19,7 +19,7 @@ use Rattle.zone_tree.specs.Change.{is_same_record}
 use Rattle.zone_tree.specs.Version.{zone_serial, first_data}
 use Rattle.update_core.specs.Act.{act, effects, completed, at_serial}
 use Rattle.update_core.proofs.ListLemmas.{by_test}
-use Rattle.update_core.proofs.SerialData.{serial_of-with_serial, serial_of-small}
+use Rattle.dns_rdata.proofs.SoaSerial.{serial_of-with_serial, serial_of-small}
 use Rattle.update_core.proofs.SoaKept.{HasForm, HasSoa, IsFormed, effects_keep}
 
 -- a rule that gives no code, and those behind it

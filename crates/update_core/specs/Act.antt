@@ -8,7 +8,7 @@ use Rattle.std.specs.Ordering.{is_lt, is_eq}
 use Rattle.std.specs.Cmp.Lexicographic.{pointwise}
 use Rattle.dns_name.specs.Name.{Name, IsName, fold_name, is_same}
 use Rattle.dns_rdata.specs.Numbers.{type_NS, type_CNAME, type_SOA, type_ANY, class_IN, class_NONE, class_ANY}
-use Rattle.dns_rdata.specs.Data.{data_of, serial_of}
+use Rattle.dns_rdata.specs.Data.{data_of, serial_of, with_serial}
 use Rattle.dns_rdata.specs.Record.{Record, record_cmp}
 use Rattle.dns_rdata.specs.Raw.{RawRecord}
 use Rattle.dns_rdata.specs.SerialOrder.{serial_less, serial_next}
@@ -80,10 +80,6 @@ effect zone r =
 abbrev pub effects : List Record → List RawRecord → Option (List Record)
 effects zone [] = Some zone
 effects zone (r ∷ rs) = option_and_then (λ next. effects next rs) (effect zone r)
-
--- an SOA's data with another serial: the first of the five numbers of four octets that end it (RFC 1035, 3.3.13)
-abbrev pub with_serial : ℕ → List ℕ → List ℕ
-with_serial serial octets = take (length octets - 20) octets ++ to_be_bytes w32 serial ++ drop (length octets - 16) octets
 
 -- a record with another serial, where it is an SOA
 abbrev pub record_at_serial : ℕ → Record → Record

@@ -15,6 +15,11 @@ first_data (r ∷ rs) = r.rdata
 abbrev pub zone_serial : List Record → ℕ
 zone_serial zone = serial_of (first_data (soa_of zone))
 
+-- a version: its number, counted from 0, and its zone
+pub record Version : Type 0 where
+  pub number : ℕ
+  pub zone : List Record
+
 -- what a version changed of the zone before it: that zone's SOA, the records that it took out and those that it put in, SOA apart
 -- (RFC 1995, 4)
 pub record Changes : Type 0 where
