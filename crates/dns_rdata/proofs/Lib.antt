@@ -1,10 +1,13 @@
 pub mod SerialLemmas
 pub mod SetLemmas
 pub mod InsertLemmas
+pub mod KeptLemmas
+pub mod SameLemmas
 pub mod NameLemmas
 pub mod DataLemmas
 pub mod FormLemmas
 pub mod SoaLemmas
+pub mod SoaSerial
 pub mod LawLemmas
 pub mod LayoutLemmas
 pub mod StringLemmas

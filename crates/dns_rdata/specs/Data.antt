@@ -1,8 +1,8 @@
 -- What a record's data is: which octets have the form of their type, with names written in full (RFC 1035, 3.3 and
 -- 3.4.1; RFC 2782; RFC 3596, 2.2), and what stands in them.
-use Rattle.std.specs.Prelude.{◌≡◌, ℕ, zero, suc, ◌*◌, ◌<◌, ◌≤◌, Bool, true, false, ◌&&◌, ◌==◌, List, [], ◌∷◌, ◌++◌, length, take, drop, nat_lt, nat_le, if◌then◌else◌, Option, Some, None, All}
+use Rattle.std.specs.Prelude.{◌≡◌, ℕ, zero, suc, ◌*◌, ◌-◌, ◌<◌, ◌≤◌, Bool, true, false, ◌&&◌, ◌==◌, List, [], ◌∷◌, ◌++◌, length, take, drop, nat_lt, nat_le, if◌then◌else◌, Option, Some, None, All}
 use Rattle.std.specs.Option.{option_map, option_and_then}
-use Rattle.std.specs.Int.{from_be_bytes, w32}
+use Rattle.std.specs.Int.{from_be_bytes, to_be_bytes, w32}
 use Rattle.dns_name.specs.Name.{Name, wire_of, fold_name, name_in}
 use Rattle.dns_rdata.specs.declared.layout.Layout.{Layout}
 use Rattle.dns_rdata.specs.declared.layout.Layout.TheVariants.{Fields, Strings}
@@ -83,3 +83,7 @@ expire_of octets = soa_number 3 octets
 
 abbrev pub minimum_of : List ℕ → ℕ
 minimum_of octets = soa_number 4 octets
+
+-- an SOA's data with another serial: the first of the five numbers of four octets that end it (RFC 1035, 3.3.13)
+abbrev pub with_serial : ℕ → List ℕ → List ℕ
+with_serial serial octets = take (length octets - 20) octets ++ to_be_bytes w32 serial ++ drop (length octets - 16) octets

@@ -1,5 +1,5 @@
 -- Records (RFC 1034, 3.6), and the sets of those that share an owner and a type (RFC 2181, 5).
-use Rattle.std.specs.Prelude.{ℕ, ◌<◌, ◌≤◌, ◌^◌, Bool, true, List, [], ◌∷◌, map, length, if◌then◌else◌, Option, Some, unwrap_or, bytes_eq, ◌≡◌, All}
+use Rattle.std.specs.Prelude.{ℕ, ◌<◌, ◌≤◌, ◌^◌, Bool, true, not, List, [], ◌∷◌, map, filter, length, if◌then◌else◌, Option, Some, unwrap_or, bytes_eq, ◌≡◌, All}
 use Rattle.std.specs.List.{AllPairs, list_any}
 use Rattle.std.specs.Ordering.{nat_cmp, ordering_then, is_lt, is_eq}
 use Rattle.std.specs.declared.cmp.Ordering.{Ordering}
@@ -76,6 +76,10 @@ with_data d (c ∷ cs) = if is_lt (slice_cmp nat_cmp d.octets c.octets) then d �
 abbrev pub with_record : Record → List Record → List Record
 with_record r [] = r ∷ []
 with_record r (s ∷ ss) = if is_lt (slice_cmp nat_cmp r.rdata s.rdata) then r ∷ s ∷ ss else if is_eq (slice_cmp nat_cmp r.rdata s.rdata) then s ∷ ss else s ∷ with_record r ss
+
+-- a set's records without the one that has these data octets
+abbrev pub without_data : List Record → List ℕ → List Record
+without_data rs octets = filter (λ r. not (bytes_eq octets r.rdata)) rs
 
 -- whether one of a set's records has these data octets
 abbrev pub has_data : List Record → List ℕ → Bool

@@ -2,14 +2,14 @@
 ghost use Rattle.std.specs.Prelude.{◌≡◌, ◌-◌, ◌<◌, ◌≤◌, ◌↔◌, ◌==◌, if◌then◌else◌, length, take, drop, IfOk, IfSome, Some, None, IsSome};
 ghost use Rattle.std.specs.Int.{from_be_bytes, w32};
 ghost use Rattle.std.specs.Result.{IsErrOf};
-ghost use Rattle.dns_rdata.specs.Data.{IsData, data_of, target_of, serial_of, refresh_of, retry_of, expire_of, minimum_of};
+ghost use Rattle.dns_rdata.specs.Data.{IsData, data_of, target_of, serial_of, refresh_of, retry_of, expire_of, minimum_of, with_serial};
 ghost use Rattle.dns_rdata.specs.Numbers.{type_CNAME, type_SOA};
 
 use crate::form::{has_form, lowered};
 use crate::layout::SOA_NUMBERS;
 use crate::numbers::{RType, Serial, Ttl};
 use dns_name::Name;
-use std::alloc::Global;
+use std::alloc::{AllocError, Global};
 use std::marker::Model;
 use thiserror::Error;
 
@@ -108,6 +108,17 @@ impl RData {
         &self.octets
     }
 
+    /// The same data once more. `AllocError` where a growth was refused.
+    pub fn copy(&self, alloc: Global) -> Result<RData, AllocError>
+        ensures { IfOk result (λ d. d ≡ self.now) }
+    {
+        let octets = Vec::from_slice(alloc, self.octets.as_slice())?;
+        Ok(RData {
+            rtype: self.rtype,
+            octets,
+        })
+    }
+
     /// The name that an alias stands for; None of any type but CNAME (RFC 1035, 3.3.1).
     #[tactic(auto, unfolding(crate::specs::Data::data_of, crate::specs::Layout::layout_of))]
     pub fn target(&self) -> Option<Name>
@@ -135,6 +146,33 @@ impl RData {
         }
         Some(soa_numbers(self.octets()))
     }
+
+    /// An SOA's data with another serial, and all else as it is (RFC 1035, 3.3.13). An `Err` only where a growth was
+    /// refused.
+    pub fn with_serial(&self, alloc: Global, serial: Serial) -> Result<RData, AllocError>
+        requires { self.now.rtype ≡ type_SOA }
+        ensures rtype { IfOk result (λ d. d.rtype ≡ type_SOA) }
+        ensures octets { IfOk result (λ d. d.octets ≡ with_serial serial.0 self.now.octets) }
+    {
+        let octets = octets_with_serial(alloc, self.octets(), serial)?;
+        Ok(RData {
+            rtype: self.rtype,
+            octets,
+        })
+    }
+}
+
+/// An SOA's data octets with another serial: it is the first of the numbers that end them.
+fn octets_with_serial(alloc: Global, octets: &[u8], serial: Serial) -> Result<Vec<u8>, AllocError>
+    requires { SOA_NUMBERS ≤ length octets.now }
+    ensures { IfOk result (λ own. own.items ≡ with_serial serial.0 octets.now) }
+{
+    let (names, numbers) = octets.split_at(octets.len() - SOA_NUMBERS);
+    let mut own = Vec::with_capacity(alloc, octets.len())?;
+    own.extend_from_slice(names)?;
+    own.extend_from_slice(&serial.0.to_be_bytes())?;
+    own.extend_from_slice(&numbers[4..])?;
+    Ok(own)
 }
 
 /// The numbers behind the two names of an SOA's data: they end it.

@@ -1,9 +1,9 @@
 //! The records that share an owner and a type (RFC 2181, 5).
-ghost use Rattle.std.specs.Prelude.{◌≡◌, ◌↔◌, ◌<◌, ◌≤◌, ◌^◌, false, not, [], ◌∷◌, length, map, insert, All, IfOk, OnOk, OnErr, MatchResult};
+ghost use Rattle.std.specs.Prelude.{◌≡◌, ◌≢◌, ◌↔◌, ◌<◌, ◌≤◌, ◌^◌, false, not, [], ◌∷◌, length, map, filter, insert, bytes_eq, All, IfOk, IfSome, IsNone, OnOk, OnErr, MatchBool, MatchResult};
 ghost use Rattle.std.specs.Result.{IsErrOf};
 ghost use Rattle.dns_name.specs.Name.{fold_name};
 ghost use Rattle.dns_rdata.specs.Data.{IsData};
-ghost use Rattle.dns_rdata.specs.Record.{Record, IsLawful, records_with, owner_of, rtype_of, ttl_of, IsSet, with_data, with_record, has_data};
+ghost use Rattle.dns_rdata.specs.Record.{Record, IsLawful, records_with, owner_of, rtype_of, ttl_of, IsSet, with_data, with_record, has_data, without_data};
 
 use crate::data::RData;
 use crate::numbers::{RType, Ttl};
@@ -129,6 +129,20 @@ impl RRset {
         self.rdata.as_slice()
     }
 
+    /// The same records once more. `AllocError` where a growth was refused.
+    pub fn copy(&self, alloc: Global) -> Result<RRset, AllocError>
+        ensures { IfOk result (λ set. set ≡ self.now) }
+    {
+        let owner = StoredName::new(alloc, &self.owner())?;
+        let rdata = copies(alloc, &self.rdata)?;
+        Ok(RRset {
+            owner,
+            rtype: self.rtype,
+            ttl: self.ttl,
+            rdata,
+        })
+    }
+
     /// Puts one more record into its place: equal records are one. Whether it is new (RFC 2181, 5).
     ///
     /// `Limit` where the set has [`MAX_SET`] records and this would be another. Where it fails, the set is unchanged.
@@ -157,6 +171,45 @@ impl RRset {
         Ok(true)
     }
 
+    /// Whether another set has the same records, with the same TTL.
+    pub fn is_same(&self, other: &RRset) -> bool
+        ensures { MatchBool result (self.now ≡ other.now) (self.now ≢ other.now) }
+    {
+        if self.owner != other.owner {
+            return false;
+        }
+        if self.rtype != other.rtype {
+            return false;
+        }
+        if self.ttl != other.ttl {
+            return false;
+        }
+        are_same(&self.rdata, &other.rdata)
+    }
+
+    /// The set without the record of these data octets; None where it has no other (RFC 2181, 5).
+    pub fn without(self, octets: &[u8]) -> Option<RRset>
+        ensures none { IsNone result ↔ (without_data self octets.now ≡ []) }
+        ensures left { IfSome result (λ left. left ≡ without_data self octets.now) }
+    {
+        let RRset {
+            owner,
+            rtype,
+            ttl,
+            rdata,
+        } = self;
+        let rdata = without_octets(rdata, octets);
+        if rdata.is_empty() {
+            return None;
+        }
+        Some(RRset {
+            owner,
+            rtype,
+            ttl,
+            rdata,
+        })
+    }
+
     /// Gives each record this TTL, in seconds.
     pub fn set_ttl(&mut self, ttl: Ttl)
         requires { ttl.0 < 2 ^ 31 }
@@ -164,6 +217,40 @@ impl RRset {
     {
         self.ttl = ttl;
     }
+}
+
+/// Whether data are the same, one by one.
+fn are_same(own: &[RData], other: &[RData]) -> bool
+    ensures { MatchBool result (own.now ≡ other.now) (own.now ≢ other.now) }
+{
+    if own.len() != other.len() {
+        return false;
+    }
+    for (at, rdata) in own.iter().enumerate() {
+        if !is_same_datum(rdata, &other[at]) {
+            return false;
+        }
+    }
+    true
+}
+
+/// Whether two data are the same: their type, and their octets.
+fn is_same_datum(own: &RData, other: &RData) -> bool
+    ensures { MatchBool result (own.now ≡ other.now) (own.now ≢ other.now) }
+{
+    own.rtype() == other.rtype() && own.octets() == other.octets()
+}
+
+/// The data but for that of these octets.
+fn without_octets(mut all: Vec<RData>, octets: &[u8]) -> Vec<RData>
+    ensures { result.items ≡ filter (λ d. not (bytes_eq octets.now d.octets)) all.items }
+{
+    all.retain(
+        |own: &RData| -> bool
+            ensures { result ≡ not (bytes_eq octets.entry.now own.now.octets) }
+        { octets != own.octets() },
+    );
+    all
 }
 
 /// Where data stands among data in order; where it isn't there, the place that keeps them in order.
@@ -181,4 +268,15 @@ fn place_of(sorted: &[RData], rdata: &RData) -> Result<usize, usize>
         }
     }
     Err(sorted.len())
+}
+
+/// The same data once more.
+fn copies(alloc: Global, from: &[RData]) -> Result<Vec<RData>, AllocError>
+    ensures { IfOk result (λ own. own.items ≡ from.now) }
+{
+    let mut own = Vec::with_capacity(alloc, from.len())?;
+    for rdata in from {
+        own.push(rdata.copy(alloc)?)?;
+    }
+    Ok(own)
 }

@@ -181,6 +181,49 @@ fn sets(rt: HostRuntime) -> Result<(), Fail> {
     Ok(())
 }
 
+// The SOA of RFC 1035, 5.3, with other serials; each is made at the second call where a growth is refused.
+#[test]
+fn other_serials(rt: HostRuntime) {
+    let octets =
+        b"\x06venera\x03isi\x03edu\0\x06action\x03isi\x03edu\0\0\0\0\x14\0\0\x1c\x20\0\0\x02\x58\0\x36\xee\x80\0\0\0\x3c";
+    let soa = read(rt.alloc(), RType::SOA, octets).expect(&rt, "an SOA");
+    assert!(rt; soa.rtype() == RType::SOA);
+    for serial in [0, 21, 0x0102_0304, 0xffff_ffff] {
+        let mut made = soa.with_serial(rt.alloc(), Serial(serial));
+        if made.is_err() {
+            made = soa.with_serial(rt.alloc(), Serial(serial));
+        }
+        let other = made.expect(&rt, "memory");
+        let numbers = other.soa().expect(&rt, "an SOA has numbers");
+        assert_eq!(rt; numbers.serial, Serial(serial));
+        assert_eq!(rt; (numbers.refresh, numbers.minimum), (7200, Ttl(60)));
+        assert_eq!(rt; other.octets().len(), octets.len());
+    }
+}
+
+// A set without one of its records, without one that it hasn't, and without its last.
+#[test]
+fn one_less(rt: HostRuntime) -> Result<(), Fail> {
+    let first = RData::from_wire(rt.alloc(), RType::A, &[10, 0, 0, 1])?;
+    let mut set = RRset::new(rt.alloc(), &Name::root(), Ttl(60), first)?;
+    let second = RData::from_wire(rt.alloc(), RType::A, &[10, 0, 0, 2])?;
+    assert!(rt; second.rtype() == set.rtype());
+    assert!(rt; set.insert(second)?);
+    let set = set.without(&[10, 0, 0, 3]).ok_or("both are left")?;
+    assert_eq!(rt; set.data().len(), 2);
+    let set = set.without(&[10, 0, 0, 1]).ok_or("one is left")?;
+    assert_eq!(rt; set.data().len(), 1);
+    let alone = RData::from_wire(rt.alloc(), RType::A, &[10, 0, 0, 2])?;
+    let mut other = RRset::new(rt.alloc(), &Name::root(), Ttl(60), alone)?;
+    assert!(rt; set.is_same(&other));
+    other.set_ttl(Ttl(61));
+    assert!(rt; !set.is_same(&other));
+    assert_eq!(rt; set.data()[0].octets(), [10u8, 0, 0, 2].as_slice());
+    assert_eq!(rt; set.ttl(), Ttl(60));
+    assert!(rt; set.without(&[10, 0, 0, 2]).is_none());
+    Ok(())
+}
+
 // A set has 256 records; one that is there already still is.
 #[test]
 fn most_records(rt: HostRuntime) -> Result<(), Fail> {

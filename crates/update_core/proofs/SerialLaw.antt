@@ -15,9 +15,11 @@ use Rattle.dns_rdata.proofs.SerialLemmas.{less-next}
 use Rattle.dns_message.specs.declared.update.Update.{Update}
 use Rattle.zone_tree.specs.Zone.{IsZone, soa_of}
 use Rattle.update_core.specs.Verdict.{check, permission, prescan, prescan_of, verdict, has_form}
-use Rattle.update_core.specs.Act.{act, effects, completed, at_serial, zone_serial, first_data, is_same_record}
+use Rattle.zone_tree.specs.Change.{is_same_record}
+use Rattle.zone_tree.specs.Version.{zone_serial, first_data}
+use Rattle.update_core.specs.Act.{act, effects, completed, at_serial}
 use Rattle.update_core.proofs.ListLemmas.{by_test}
-use Rattle.update_core.proofs.SerialData.{serial_of-with_serial, serial_of-small}
+use Rattle.dns_rdata.proofs.SoaSerial.{serial_of-with_serial, serial_of-small}
 use Rattle.update_core.proofs.SoaKept.{HasForm, HasSoa, IsFormed, effects_keep}
 
 -- a rule that gives no code, and those behind it

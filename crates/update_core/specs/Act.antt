@@ -1,18 +1,20 @@
 -- What an update does to a zone: its records in order, each on the zone that those before it leave (RFC 2136, 3.4.2), and
 -- then the serial (RFC 2136, 3.6).
-use Rattle.std.specs.Prelude.{ℕ, ◌-◌, ◌^◌, Bool, ◌&&◌, ◌||◌, not, ◌==◌, nat_lt, List, [], ◌∷◌, ◌++◌, length, take, drop, filter, map, bytes_eq, if◌then◌else◌, Option, None, Some, unwrap_or}
+use Rattle.std.specs.Prelude.{ℕ, ◌-◌, ◌^◌, ◌<◌, Bool, ◌&&◌, ◌||◌, not, ◌==◌, nat_lt, List, [], ◌∷◌, ◌++◌, length, take, drop, filter, map, All, bytes_eq, if◌then◌else◌, Option, None, Some, unwrap_or}
 use Rattle.std.specs.Option.{option_map, option_and_then}
 use Rattle.std.specs.List.{list_any}
 use Rattle.std.specs.Int.{to_be_bytes, w32}
 use Rattle.std.specs.Ordering.{is_lt, is_eq}
 use Rattle.std.specs.Cmp.Lexicographic.{pointwise}
-use Rattle.dns_name.specs.Name.{Name, fold_name, is_same}
+use Rattle.dns_name.specs.Name.{Name, IsName, fold_name, is_same}
 use Rattle.dns_rdata.specs.Numbers.{type_NS, type_CNAME, type_SOA, type_ANY, class_IN, class_NONE, class_ANY}
-use Rattle.dns_rdata.specs.Data.{data_of, serial_of}
+use Rattle.dns_rdata.specs.Data.{data_of, serial_of, with_serial}
 use Rattle.dns_rdata.specs.Record.{Record, record_cmp}
 use Rattle.dns_rdata.specs.Raw.{RawRecord}
 use Rattle.dns_rdata.specs.SerialOrder.{serial_less, serial_next}
-use Rattle.zone_tree.specs.Zone.{is_of, stands_at, rrset_of, apex_of, soa_of}
+use Rattle.zone_tree.specs.Zone.{is_of, stands_at, rrset_of, apex_of}
+use Rattle.zone_tree.specs.Change.{without_rrset, is_same_record}
+use Rattle.zone_tree.specs.Version.{zone_serial}
 use Rattle.dns_message.specs.declared.update.Update.{Update}
 use Rattle.update_core.specs.Verdict.{has_rrset}
 
@@ -29,10 +31,6 @@ entered r = record { owner = fold_name r.owner; rtype = r.rtype; ttl = ttl_in_zo
 abbrev pub with_one : Record → List Record → List Record
 with_one r [] = r ∷ []
 with_one r (s ∷ ss) = if is_lt (record_cmp r s) then r ∷ s ∷ ss else if is_eq (record_cmp r s) then s ∷ ss else s ∷ with_one r ss
-
--- a zone without the records of one owner and type
-abbrev pub without_rrset : List Record → Name → ℕ → List Record
-without_rrset zone owner rtype = filter (λ s. not (is_of owner rtype s)) zone
 
 -- a record with another TTL, where it is of one owner and type
 abbrev pub record_with_ttl : Name → ℕ → ℕ → Record → Record
@@ -83,23 +81,6 @@ abbrev pub effects : List Record → List RawRecord → Option (List Record)
 effects zone [] = Some zone
 effects zone (r ∷ rs) = option_and_then (λ next. effects next rs) (effect zone r)
 
--- whether two records are equal
-abbrev pub is_same_record : Record → Record → Bool
-is_same_record r s = is_eq (record_cmp r s) && r.ttl == s.ttl
-
--- the data of the first of records; none of none
-abbrev pub first_data : List Record → List ℕ
-first_data [] = []
-first_data (r ∷ rs) = r.rdata
-
--- a zone's serial: that of its SOA (RFC 1035, 3.3.13)
-abbrev pub zone_serial : List Record → ℕ
-zone_serial zone = serial_of (first_data (soa_of zone))
-
--- an SOA's data with another serial: the first of the five numbers of four octets that end it (RFC 1035, 3.3.13)
-abbrev pub with_serial : ℕ → List ℕ → List ℕ
-with_serial serial octets = take (length octets - 20) octets ++ to_be_bytes w32 serial ++ drop (length octets - 16) octets
-
 -- a record with another serial, where it is an SOA
 abbrev pub record_at_serial : ℕ → Record → Record
 record_at_serial serial s = if s.rtype == type_SOA then record s { rdata = with_serial serial s.rdata } else s
@@ -125,3 +106,10 @@ act zone update = option_map (completed zone) (effects zone update.updates)
 abbrev pub replay : List Record → List Update → List Record
 replay zone [] = zone
 replay zone (update ∷ updates) = replay (unwrap_or (act zone update) zone) updates
+
+-- what each record of an update that is read keeps: its owner is a name, and its owner and its data are octets (RFC 1035, 2.3.4 and
+-- 4.1.3)
+pub record IsSent (r : RawRecord) : Type 0 where
+  pub name : IsName r.owner
+  pub owner_octets : All (All (λ octet. octet < 256)) r.owner
+  pub octets : All (λ octet. octet < 256) r.octets

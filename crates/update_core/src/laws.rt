@@ -5,7 +5,8 @@ ghost use Rattle.dns_rdata.specs.SerialOrder.{serial_less};
 ghost use Rattle.dns_message.specs.declared.update.Update.{Update};
 ghost use Rattle.zone_tree.specs.Zone.{IsZone};
 ghost use Rattle.update_core.specs.Verdict.{verdict};
-ghost use Rattle.update_core.specs.Act.{act, replay, zone_serial};
+ghost use Rattle.zone_tree.specs.Version.{zone_serial};
+ghost use Rattle.update_core.specs.Act.{act, replay};
 
 /// Prerequisites and the zone section change nothing: updates of the same records do the same (RFC 2136, 3.2 and 3.4).
 pub fn prerequisites_change_nothing()

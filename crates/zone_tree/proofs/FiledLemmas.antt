@@ -159,7 +159,7 @@ behind_records (Some last) pairs h =
 abbrev pub first_sets : List Filed → List (List Record)
 first_sets pairs = items_of (option_map (λ pair. pair.1) (first_pair pairs))
 
-owner_first : (items rest : List (List Record)) (name : List (List ℕ)) → 0 < length items → AllByRecursion (λ set. 0 < length set) (items ++ rest) → AllByRecursion (λ set. owner_of set ≡ name) items → owner_of (records_in (items ++ rest)) ≡ name
+pub owner_first : (items rest : List (List Record)) (name : List (List ℕ)) → 0 < length items → AllByRecursion (λ set. 0 < length set) (items ++ rest) → AllByRecursion (λ set. owner_of set ≡ name) items → owner_of (records_in (items ++ rest)) ≡ name
 owner_first [] rest name l h k = absurd (omega arith)
 owner_first ([] ∷ items) rest name l h k = absurd (omega (arith, h.0))
 owner_first ((r ∷ rs) ∷ items) rest name l h k = k.0

@@ -5,9 +5,13 @@ pub mod LookLemmas
 pub mod OwnerLemmas
 pub mod ZoneLemmas
 pub mod FiledLemmas
+pub mod PutLemmas
+pub mod EditLemmas
+pub mod ApexLemmas
 pub mod WalkLemmas
 pub mod CheckLemmas
 pub mod RuleLemmas
 pub mod FaultLemmas
 pub mod LawLemmas
 pub mod ZoneTest
+pub mod VersionLemmas

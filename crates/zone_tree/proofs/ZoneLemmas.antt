@@ -177,7 +177,7 @@ lt_cases Equal Equal q h = inr (refl, refl)
 lt_cases Equal Greater q h = absurd (true≢false (sym h))
 lt_cases Greater p q h = absurd (true≢false (sym h))
 
-eqb_from_tie : (t u : ℕ) → nat_cmp t u ≡ Equal → (t == u) ≡ true
+pub eqb_from_tie : (t u : ℕ) → nat_cmp t u ≡ Equal → (t == u) ≡ true
 eqb_from_tie t u e = eq-eqb t u (elim (nat_cmp t u) as (λ o. nat_cmp t u ≡ o → o ≡ Equal → t ≡ u) [ Less ↦ λ f g. cc | Equal ↦ λ f g. ranked t u Equal (sym f) | Greater ↦ λ f g. cc ] refl e)
 
 both_so : (b c : Bool) → b ≡ true → c ≡ true → b && c ≡ true

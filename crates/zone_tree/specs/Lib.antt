@@ -1,7 +1,10 @@
+pub mod Change
+pub mod Edit
 pub mod Example
 pub mod Fault
 pub mod Filed
 pub mod Sets
+pub mod Version
 pub mod Walk
 pub mod Zone
 pub use Rattle.dns_name.specs.Name

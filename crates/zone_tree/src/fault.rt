@@ -1,6 +1,7 @@
 //! Why sets are no zone.
 ghost use Rattle.std.specs.Prelude.{◌≡◌};
 ghost use Rattle.zone_tree.specs.declared.fault.NewFault.TheVariants.{NoMemory as no_memory};
+ghost use Rattle.zone_tree.specs.declared.fault.ZoneFault.TheVariants.{NoMemory as edit_no_memory};
 
 use shared_tree::NoMemory;
 use std::alloc::AllocError;
@@ -45,6 +46,25 @@ pub enum NewFault {
     /// A growth was refused.
     #[error("NoMemory")]
     NoMemory,
+}
+
+/// Why changes give no zone.
+#[derive(Clone, Copy, Debug, PartialEq, Eq, Error)]
+pub enum ZoneFault {
+    /// A growth was refused.
+    #[error("B1 NoMemory")]
+    NoMemory,
+    /// More records than a zone may have.
+    #[error("B2 Limit")]
+    Limit,
+}
+
+impl From<NoMemory> for ZoneFault {
+    ghost from_gives = { λ refused given. given ≡ edit_no_memory };
+
+    fn from(_refused: NoMemory) -> ZoneFault {
+        ZoneFault::NoMemory
+    }
 }
 
 impl From<AllocError> for NewFault {

@@ -2,7 +2,7 @@
 ghost use Rattle.std.specs.Cmp.{partial_equiv_from_equiv, partial_order_from_agreeing_total};
 ghost use Rattle.std.specs.Ordering.{as_partial_cmp};
 ghost use Rattle.std.specs.Prelude.{◌≡◌, refl};
-ghost use Rattle.dns_name.specs.Name.{canonical_cmp, is_same, is_under};
+ghost use Rattle.dns_name.specs.Name.{canonical_cmp, fold_name, is_same, is_under};
 ghost use Rattle.dns_name.specs.Order.{canonical_total, is_same_equiv, is_same_tied};
 
 use dns_name::Name;
@@ -27,9 +27,16 @@ impl Model for OwnerKey {
 impl OwnerKey {
     /// The key of an owner.
     pub(crate) fn new(owner: &Name) -> OwnerKey
-        ensures { result ≡ owner.now }
+        ensures { result ≡ fold_name owner.now }
     {
-        OwnerKey { name: owner.copy() }
+        OwnerKey { name: owner.fold() }
+    }
+
+    /// The owner.
+    pub(crate) fn owner(&self) -> Name
+        ensures { result ≡ self.now }
+    {
+        self.name.copy()
     }
 
     /// Whether it is the key of an owner (RFC 4343, 3).

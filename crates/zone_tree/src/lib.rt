@@ -5,23 +5,29 @@
 //! Changes of a zone, and reading one from text, are not here.
 #![tactic(auto)]
 
+mod change;
 mod check;
+mod draft;
 mod fault;
 mod key;
 mod laws;
 mod look;
+mod own;
 mod owners;
 mod read;
 mod rules;
 mod soa;
+mod version;
 mod walk;
 mod zone;
 
-pub use fault::{BrokenRule, NewFault};
+pub use change::Change;
+pub use fault::{BrokenRule, NewFault, ZoneFault};
 pub use laws::{example_is_a_zone, examples, names_that_exist, same_records, soa_at_apex};
 pub use read::ZoneRead;
+pub use version::Version;
 pub use walk::Walk;
-pub use zone::{MAX_RECORDS, Zone};
+pub use zone::{MAX_RECORDS, Zone, edit};
 
 #[cfg(test)]
 mod tests;

@@ -6,10 +6,14 @@ ghost use Rattle.zone_tree.specs.Sets.{AreAscending};
 
 use crate::key::OwnerKey;
 use dns_rdata::RRset;
+use shared_tree::Tree;
 use std::alloc::{AllocError, Global};
 
 /// An owner and its sets.
 pub(crate) type Owned = (OwnerKey, Vec<RRset>);
+
+/// A zone's owners with their sets.
+pub(crate) type Owners = Tree<OwnerKey, Vec<RRset>>;
 
 /// Sets in ascending order, under their owners.
 pub(crate) fn under_owners(alloc: Global, sets: Vec<RRset>) -> Result<Vec<Owned>, AllocError>
@@ -47,7 +51,7 @@ fn put_new(alloc: Global, pairs: &mut Vec<Owned>, set: RRset) -> Result<(), Allo
     ensures { OnOk result ((sets : List (List Record)) → AreGathered pairs.old.items sets → AreBefore (owner_of set) pairs.old.items → AreGathered pairs.new.items (sets ++ set ∷ [])) }
 {
     let key = OwnerKey::new(&set.owner());
-    let mut own = Vec::new(alloc);
+    let mut own = Vec::with_capacity(alloc, 1)?;
     own.push(set)?;
     pairs.push((key, own))?;
     Ok(())

@@ -1,9 +1,10 @@
 //! A small zone through each call, and lists that are no zone.
 use crate::fault::{BrokenRule, NewFault};
 use crate::read::ZoneRead;
+use crate::version::Version;
 use crate::zone::Zone;
 use dns_name::Name;
-use dns_rdata::{RData, RRset, RType, Ttl};
+use dns_rdata::{RData, RRset, RType, Serial, Ttl};
 use std::alloc::Global;
 use std::test::Fail;
 
@@ -171,6 +172,21 @@ fn refuses(rt: HostRuntime) -> Result<(), Fail> {
             Err(fault) => assert_eq!(rt; fault, NewFault::Broken(want)),
         }
     }
+    Ok(())
+}
+
+// The first version has number 0, the one behind it number 1, each the serial of its own zone.
+#[test]
+fn versions(rt: HostRuntime) -> Result<(), Fail> {
+    let later = b"\0\0\0\0\0\x09\0\0\0\x02\0\0\0\x03\0\0\0\x04\0\0\0\x05";
+    let ns: Row = (EXAMPLE, RType::NS, NS);
+    let first = Version::first(zone_of(rt.alloc(), &[ns, (EXAMPLE, RType::SOA, SOA)])??);
+    assert_eq!(rt; (first.number(), first.serial()), (0, Serial(1)));
+    assert!(rt; first.number() < 9);
+    let second = first.next(zone_of(rt.alloc(), &[ns, (EXAMPLE, RType::SOA, later)])??);
+    assert_eq!(rt; (second.number(), second.serial()), (1, Serial(9)));
+    assert!(rt; *second.zone().apex() == name(EXAMPLE)?);
+    assert_eq!(rt; (first.number(), first.serial()), (0, Serial(1)));
     Ok(())
 }
 

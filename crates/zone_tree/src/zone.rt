@@ -1,16 +1,20 @@
 //! A zone as a shared tree of its owners.
-ghost use Rattle.std.specs.Prelude.{◌≡◌, List};
+ghost use Rattle.std.specs.Prelude.{◌≡◌, ◌<◌, List, length, IfOk};
+ghost use Rattle.std.specs.Result.{IsErrOf};
 ghost use Rattle.std.specs.Option.{option_copied};
 ghost use Rattle.dns_name.specs.Name.{canonical_cmp};
 ghost use Rattle.dns_rdata.specs.Record.{Record};
 ghost use Rattle.shared_tree.specs.Pairs.{first_pair, pairs_behind, value_at};
+ghost use Rattle.zone_tree.specs.Change.{edited};
 ghost use Rattle.zone_tree.specs.Filed.{items_of};
+ghost use Rattle.zone_tree.specs.Zone.{IsZone, KeepsRules};
 
+use crate::change::Change;
 use crate::check::{Judged, check};
-use crate::fault::NewFault;
-use crate::key::OwnerKey;
+use crate::draft::{Draft, with_changes};
+use crate::fault::{NewFault, ZoneFault};
 use crate::look::set_of_type;
-use crate::owners::{Owned, under_owners};
+use crate::owners::{Owned, Owners, under_owners};
 use crate::read::ZoneRead;
 use dns_name::Name;
 use dns_rdata::{RRset, RType};
@@ -27,7 +31,7 @@ pub const MAX_RECORDS: usize = 1_000_000;
 pub struct Zone {
     apex: Name,
     count: usize,
-    owners: Tree<OwnerKey, Vec<RRset>>,
+    owners: Owners,
 }
 
 impl Model for Zone {
@@ -109,7 +113,7 @@ impl ZoneRead for Zone {
 }
 
 /// The sets of an owner.
-fn sets_at<'a>(owners: &'a Tree<OwnerKey, Vec<RRset>>, owner: &Name) -> &'a [RRset]
+pub(crate) fn sets_at<'a>(owners: &'a Owners, owner: &Name) -> &'a [RRset]
     ensures { result.now ≡ items_of (value_at canonical_cmp owner.now owners.now.pairs) }
 {
     match owners.get(owner) {
@@ -119,11 +123,39 @@ fn sets_at<'a>(owners: &'a Tree<OwnerKey, Vec<RRset>>, owner: &Name) -> &'a [RRs
 }
 
 /// The first owner behind a name, or of all, with its sets.
-fn next_owner<'a>(owners: &'a Tree<OwnerKey, Vec<RRset>>, name: Option<&Name>) -> Option<&'a Owned>
+fn next_owner<'a>(owners: &'a Owners, name: Option<&Name>) -> Option<&'a Owned>
     ensures { option_copied result ≡ first_pair (pairs_behind canonical_cmp (option_copied name.entry) owners.now.pairs) }
 {
     match name {
         Some(name) => owners.after(name),
         None => owners.first(),
     }
+}
+
+/// The zone that changes make of a zone, one after the other; that zone stays as it is (RFC 2136, 3.4.2). The zones on
+/// the way needn't keep the rules of a zone, the last one does.
+///
+/// `Limit` where it has more than [`MAX_RECORDS`] records. `NoMemory` where a growth was refused.
+pub fn edit(alloc: Global, zone: &Zone, changes: &[Change]) -> Result<Zone, ZoneFault>
+    requires { KeepsRules (edited zone.now changes.now) }
+    ensures edited { IfOk result (λ new. (new ≡ edited zone.now changes.now) × IsZone new) }
+    ensures limit { IsErrOf result ZoneFault.Limit → 1000000 < length (edited zone.now changes.now) }
+{
+    let draft = Draft {
+        owners: zone.owners.share()?,
+        count: zone.count,
+    };
+    let Draft { owners, count } = with_changes(alloc, draft, changes)?;
+    if count > MAX_RECORDS {
+        return Err(ZoneFault::Limit);
+    }
+    let Some(first) = owners.first() else {
+        unreachable!()
+    };
+    let apex = first.0.owner();
+    Ok(Zone {
+        apex,
+        count,
+        owners,
+    })
 }

@@ -1,0 +1,24 @@
+-- Sets in place of others, as changes of a zone put them (own).
+use Rattle.std.specs.Prelude.{◌≡◌, ℕ, List, ◌++◌, length, filter}
+use Rattle.std.specs.Ordering.{nat_cmp, ordering_then, is_lt, is_gt}
+use Rattle.std.specs.declared.cmp.Ordering.{Ordering}
+use Rattle.dns_name.specs.Name.{Name, canonical_cmp, fold_name}
+use Rattle.dns_rdata.specs.Record.{Record, owner_of, rtype_of}
+use Rattle.zone_tree.specs.Filed.{Filed, AreFiled, records_under}
+
+-- a list with others in place of what stands at one place: what comes before that place, the others, and what comes behind it
+abbrev pub put_at : {X : Type 0} → (X → Ordering) → List X → List X → List X
+put_at beside others xs = filter (λ x. is_lt (beside x)) xs ++ others ++ filter (λ x. is_gt (beside x)) xs
+
+-- where a set stands beside an owner and a type (RFC 4034, 6.1)
+abbrev pub set_beside : Name → ℕ → List Record → Ordering
+set_beside owner rtype set = ordering_then (canonical_cmp (owner_of set) owner) (nat_cmp (rtype_of set) rtype)
+
+-- a set has an owner, in lower case, and a type
+abbrev pub IsFor : Name → ℕ → List Record → Type 0
+IsFor owner rtype set = (owner_of set ≡ fold_name owner) × (rtype_of set ≡ rtype)
+
+-- owners with their sets, which needn't be a zone, and how many records they have
+pub record IsDraft (pairs : List Filed) (count : ℕ) : Type 0 where
+  pub filed : AreFiled pairs
+  pub counted : count ≡ length (records_under pairs)

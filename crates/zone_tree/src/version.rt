@@ -1,0 +1,92 @@
+//! Versions of a zone: the zones that it becomes, one behind the other.
+ghost use Rattle.std.specs.Prelude.{◌≡◌, ◌+◌, ◌<◌, ◌^◌, length};
+ghost use Rattle.dns_rdata.specs.Numbers.{type_SOA};
+ghost use Rattle.dns_rdata.specs.Data.{serial_of};
+ghost use Rattle.dns_rdata.specs.Record.{rtype_of};
+ghost use Rattle.zone_tree.specs.Version.{zone_serial, first_data};
+
+use crate::read::ZoneRead;
+use crate::zone::Zone;
+use dns_rdata::{RRset, Serial};
+use std::marker::Model;
+
+/// A version of a zone: its number among the zone's versions, counted from 0, and the zone with its serial.
+#[derive(Drop)]
+pub struct Version {
+    number: u64,
+    zone: Zone,
+    serial: Serial,
+}
+
+impl Model for Version {
+    ghost use Rattle.std.specs.Prelude.{◌≡◌};
+    ghost use Rattle.zone_tree.specs.Version.{Version as Numbered, zone_serial};
+
+    ghost Value = { Numbered };
+
+    ghost view = { λ a. record { number = a.number; zone = a.zone } };
+
+    ghost invariant = { λ a. a.serial.0 ≡ zone_serial a.zone };
+}
+
+impl Version {
+    /// The first version, of number 0.
+    pub fn first(zone: Zone) -> Version
+        ensures { result ≡ record { number = 0; zone = zone } }
+    {
+        Version {
+            number: 0,
+            serial: serial_of(&zone),
+            zone,
+        }
+    }
+
+    /// The version behind this one.
+    pub fn next(&self, zone: Zone) -> Version
+        requires { self.now.number + 1 < 2 ^ 64 }
+        ensures { result ≡ record { number = self.now.number + 1; zone = zone } }
+    {
+        Version {
+            number: self.number + 1,
+            serial: serial_of(&zone),
+            zone,
+        }
+    }
+
+    /// Its number among the zone's versions, counted from 0.
+    pub fn number(&self) -> u64
+        ensures { result ≡ self.now.number }
+    {
+        self.number
+    }
+
+    /// Its zone.
+    pub fn zone(&self) -> &Zone
+        ensures { result.now ≡ self.now.zone }
+    {
+        &self.zone
+    }
+
+    /// Its zone's serial (RFC 1035, 3.3.13).
+    pub fn serial(&self) -> Serial
+        ensures { result.0 ≡ zone_serial self.now.zone }
+    {
+        self.serial
+    }
+}
+
+/// A zone's serial: that of its SOA (RFC 1035, 3.3.13).
+fn serial_of(zone: &Zone) -> Serial
+    ensures { result.0 ≡ zone_serial zone.now }
+{
+    serial_in(zone.soa())
+}
+
+/// The serial of an SOA's set.
+fn serial_in(soa: &RRset) -> Serial
+    requires typed { rtype_of soa.now ≡ type_SOA }
+    requires one { length soa.now ≡ 1 }
+    ensures { result.0 ≡ serial_of (first_data soa.now) }
+{
+    soa.data()[0].soa().unwrap().serial
+}
