@@ -17,3 +17,4 @@ pub mod RunShows
 pub mod TableLemmas
 pub mod UserLemmas
 pub mod GoesOn
+pub mod MadeLemmas

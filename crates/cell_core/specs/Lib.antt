@@ -2,6 +2,7 @@ pub mod Cell
 pub mod Example
 pub mod Kept
 pub mod Loaded
+pub mod Made
 pub mod Shows
 pub mod Steps
 pub mod WordExample

@@ -1,9 +1,10 @@
 //! Laws of the steps on words, each the contract of a function that does nothing.
-ghost use Rattle.std.specs.Prelude.{◌≡◌, ◌≢◌, ℕ, ◌+◌, ◌-◌, ◌<◌, ◌≤◌, ◌==◌, ◌^◌, true, List, length, count_by, Option, Some};
+ghost use Rattle.std.specs.Prelude.{◌≡◌, ◌≢◌, ℕ, ◌+◌, ◌-◌, ◌<◌, ◌≤◌, ◌==◌, ◌^◌, true, List, length, count_by, Option, Some, None};
 ghost use Rattle.std.specs.List.{slice_get};
 ghost use Rattle.cell_core.specs.Cell.{Cell, CellStep, IsLast, Runs};
 ghost use Rattle.cell_core.specs.Words.{State, found_by, found_last, grants, free_word, slot_of, number_in, version_in, word_of, given_of, fetch_add, fetch_sub, bulk, dead_word, begun, first_slot};
 ghost use Rattle.cell_core.specs.WordSteps.{Makes, HasWordStep, with_publisher, with_owner, with_slot, with_shares};
+ghost use Rattle.cell_core.specs.Made.{made};
 ghost use Rattle.cell_core.specs.WordExample.{once_loaded};
 ghost use Rattle.cell_core.specs.Shows.{Shows, ShowsStep, WordRuns, AtRest, held, owned_by};
 ghost use Rattle.cell_core.specs.declared.words.Owner.TheVariants.{Holding, Burying, Freeing, Spent};
@@ -74,6 +75,13 @@ pub fn calls_go_on<T>()
         → HasWordStep {T = T} state Swap }
     ensures settle { (state : State T) (cell : Cell T) (number place given : ℕ) → Shows state cell
         → state.publisher ≡ Settling number place given → HasWordStep {T = T} state Settle }
+{}
+
+/// What a step on a word makes is a function of the state: none exactly where there is no such step.
+pub fn steps_are_a_function<T>()
+    ensures made { (old new : State T) (step : WordStep T) (event : WordEvent) → Makes old step event new → made old step ≡ Some (event, new) }
+    ensures makes { (old new : State T) (step : WordStep T) (event : WordEvent) → made old step ≡ Some (event, new) → Makes old step event new }
+    ensures none { (old : State T) (step : WordStep T) → (HasWordStep old step → ⊥) → made old step ≡ None }
 {}
 
 /// Worked examples of the words and of the steps on them: 10 is published, and then loaded.
