@@ -29,4 +29,6 @@ pub use walk::Walk;
 pub use zone::{MAX_RECORDS, Zone, edit};
 
 #[cfg(test)]
+mod edit_tests;
+#[cfg(test)]
 mod tests;
