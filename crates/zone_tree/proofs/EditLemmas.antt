@@ -111,9 +111,6 @@ module _ (owner : List (List ℕ)) (rtype : ℕ) (others : List (List Record)) w
   value_key : (pairs : List Filed) → value_at canonical_cmp owner pairs ≡ value_at canonical_cmp key pairs
   value_key pairs = λ i. option_map (λ (p : Filed). p.1) (find (λ (pair : Filed). is_eq (sym (cmp_folded owner pair.0) i)) pairs)
 
-  without_key : (pairs : List Filed) → pairs_without canonical_cmp owner pairs ≡ pairs_without canonical_cmp key pairs
-  without_key pairs = λ i. filter (λ (pair : Filed). is_ne (sym (cmp_folded owner pair.0) i)) pairs
-
   -- the records, and how many they are
   pub put_records : (sets : List (List Record)) → All IsRRset sets → records_in (put sets) ≡ put_at (record_beside owner rtype) (records_in others) (records_in sets)
   put_records sets h =
@@ -127,6 +124,20 @@ module _ (owner : List (List ℕ)) (rtype : ℕ) (others : List (List Record)) w
       let tie : filter (λ r. is_eq (record_beside owner rtype r)) (records_in sets) ≡ rrset_of (records_in sets) owner rtype =
       λ i. filter (λ (r : Record). same_place r.owner owner r.rtype rtype i) (records_in sets) in
       (λ i. length (put_records sets h i) + length (sym tie i)) ∙ put_length (record_beside owner rtype) (records_in others) (records_in sets)
+
+  -- sets in order come in order again
+  pub put_ascends : (sets : List (List Record)) → AreAscending sets → AllByRecursion IsRRset others → AllByRecursion (IsFor owner rtype) others → Rises IsSetBefore others → AreAscending (put sets)
+  put_ascends sets rising lawful own_type one =
+      let place : List Record = record { owner = owner; rtype = rtype; ttl = 0; rdata = [] } ∷ [] in
+      let ties =
+      each_weaker (IsFor owner rtype) (λ s. set_cmp s place ≡ Equal)
+      (λ s h. (λ i. ordering_then (canonical_cmp (h.0 i) owner) (nat_cmp (h.1 i) rtype))
+      ∙ (λ i. ordering_then ((cmp_folded owner owner ∙ tied_itself canonical_total owner) i) (tied_itself nat_cmp_total rtype i)))
+      others own_type in
+      record {
+        each = All-from_recursion IsRRset (put sets) (put_each (set_beside owner rtype) others IsRRset sets (recursion_from_All IsRRset sets rising.each) lawful);
+        ascending = pairs_from_rises IsSetBefore (put sets) (put_rises set_total place others sets (rises_from_pairs IsSetBefore sets rising.ascending) one ties);
+      }
 
   module _ (pairs : List Filed) (filed : AreFiled pairs) where
     -- the sets of the owner
@@ -152,23 +163,6 @@ module _ (owner : List (List ℕ)) (rtype : ℕ) (others : List (List Record)) w
         rrset_at (sets_under pairs) filed.rising owner rtype ∙ ap (λ l. records_in (option_to_list (find (λ s. rtype_of s == rtype) l))) (sets_at_key pairs filed owner ∙ sym e)
 
     module _ (lawful : AllByRecursion IsRRset others) (own_type : AllByRecursion (IsFor owner rtype) others) (one : Rises IsSetBefore others) where
-      -- a set at the place
-      abbrev place : List Record
-      place = record { owner = owner; rtype = rtype; ttl = 0; rdata = [] } ∷ []
-
-      ties : AllByRecursion (λ s. set_cmp s place ≡ Equal) others
-      ties =
-          each_weaker (IsFor owner rtype) (λ s. set_cmp s place ≡ Equal)
-          (λ s h. (λ i. ordering_then (canonical_cmp (h.0 i) owner) (nat_cmp (h.1 i) rtype))
-          ∙ (λ i. ordering_then ((cmp_folded owner owner ∙ tied_itself canonical_total owner) i) (tied_itself nat_cmp_total rtype i)))
-          others own_type
-
-      pub put_ascends : AreAscending (put (sets_under pairs))
-      put_ascends = record {
-        each = All-from_recursion IsRRset (put (sets_under pairs)) (put_each (set_beside owner rtype) others IsRRset (sets_under pairs) (recursion_from_All IsRRset (sets_under pairs) filed.rising.each) lawful);
-        ascending = pairs_from_rises IsSetBefore (put (sets_under pairs)) (put_rises set_total place others (sets_under pairs) (rises_from_pairs IsSetBefore (sets_under pairs) filed.rising.ascending) one ties);
-      }
-
       -- the owners are in order again, with these sets
       module _ (own : Vec (List Record)) (is : own.items ≡ put_at (λ s. nat_cmp (rtype_of s) rtype) others (items_of (value_at canonical_cmp owner pairs))) where
         pub sets_with : sets_under (pairs_with canonical_cmp key own pairs) ≡ put (sets_under pairs)
@@ -183,7 +177,7 @@ module _ (owner : List (List ℕ)) (rtype : ℕ) (others : List (List Record)) w
 
         pub filed_with : 0 < length own.items → AreFiled (pairs_with canonical_cmp key own pairs)
         filed_with some = record {
-          rising = subst AreAscending (sym sets_with) put_ascends;
+          rising = subst AreAscending (sym sets_with) (put_ascends (sets_under pairs) filed.rising lawful own_type one);
           each = each_append IsFiled (pairs_below canonical_cmp key pairs) ((key, own) ∷ pairs_above canonical_cmp key pairs)
               (each_filter (λ pair. is_gt (canonical_cmp key pair.0)) IsFiled pairs filed.each)
               (record { some = some; own = own_key }, each_filter (λ pair. is_lt (canonical_cmp key pair.0)) IsFiled pairs filed.each);
@@ -197,14 +191,14 @@ module _ (owner : List (List ℕ)) (rtype : ℕ) (others : List (List Record)) w
             by [] f = refl
             by (x ∷ xs) f = absurd (omega arith)
 
-        pub sets_without : length own.items ≡ 0 → sets_under (pairs_without canonical_cmp owner pairs) ≡ put (sets_under pairs)
-        sets_without e = ap sets_under (without_key pairs) ∙ under_without pairs filed.each filed.ascends (sym by_type ∙ sym is ∙ none e)
+        pub sets_without : length own.items ≡ 0 → sets_under (pairs_without canonical_cmp key pairs) ≡ put (sets_under pairs)
+        sets_without e = under_without pairs filed.each filed.ascends (sym by_type ∙ sym is ∙ none e)
 
-        pub filed_without : length own.items ≡ 0 → AreFiled (pairs_without canonical_cmp owner pairs)
+        pub filed_without : length own.items ≡ 0 → AreFiled (pairs_without canonical_cmp key pairs)
         filed_without e = record {
-          rising = subst AreAscending (sym (sets_without e)) put_ascends;
-          each = each_filter (λ pair. is_ne (canonical_cmp owner pair.0)) IsFiled pairs filed.each;
-          ascends = filter_ascends canonical_cmp (λ pair. is_ne (canonical_cmp owner pair.0)) pairs filed.ascends;
+          rising = subst AreAscending (sym (sets_without e)) (put_ascends (sets_under pairs) filed.rising lawful own_type one);
+          each = each_filter (λ pair. is_ne (canonical_cmp key pair.0)) IsFiled pairs filed.each;
+          ascends = filter_ascends canonical_cmp (λ pair. is_ne (canonical_cmp key pair.0)) pairs filed.ascends;
         }
 
 -- what a change makes of the records, by the sets
@@ -241,7 +235,7 @@ module _ (owner : List (List ℕ)) (rtype : ℕ) (pairs : List Filed) (count : �
 
   module _ (new : Option (List Record)) (lawful : IfSome new IsRRset) (fits : IfSome new (IsFor owner rtype))
       (own : Vec (List Record)) (is : own.items ≡ put_at (λ s. nat_cmp (rtype_of s) rtype) (option_to_list new) (items_of (value_at canonical_cmp owner pairs)))
-      (next : List Filed) (kept : 0 < length own.items → next ≡ pairs_with canonical_cmp (fold_name owner) own pairs) (gone : length own.items ≡ 0 → next ≡ pairs_without canonical_cmp owner pairs) where
+      (next : List Filed) (kept : 0 < length own.items → next ≡ pairs_with canonical_cmp (fold_name owner) own pairs) (gone : length own.items ≡ 0 → next ≡ pairs_without canonical_cmp (fold_name owner) pairs) where
     abbrev others : List (List Record)
     others = option_to_list new
 

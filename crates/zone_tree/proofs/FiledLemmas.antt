@@ -243,3 +243,11 @@ module _ (at : List (List ℕ)) (count : ℕ) (pairs : List Filed) (kept : AreKe
 
   pub soa_some : (set : List Record) → find (λ s. rtype_of s == type_SOA) sets ≡ Some set → set ≡ soa_of (records_under pairs)
   soa_some set e = soa_match (Some set) (sym e)
+
+-- what stands to all owners as a name does is sought as the name is
+module _ (sought name : List (List ℕ)) (alike : (other : List (List ℕ)) → canonical_cmp sought other ≡ canonical_cmp name other) (pairs : List Filed) where
+  pub same_value : value_at canonical_cmp sought pairs ≡ value_at canonical_cmp name pairs
+  same_value = λ i. option_map (λ (pair : Filed). pair.1) (find (λ (pair : Filed). is_eq (alike pair.0 i)) pairs)
+
+  pub same_after : pair_after canonical_cmp sought pairs ≡ pair_after canonical_cmp name pairs
+  same_after = λ i. find (λ (pair : Filed). is_lt (alike pair.0 i)) pairs

@@ -14,7 +14,7 @@ use crate::look::set_of_type;
 use crate::own::{count_of, sets_with};
 use crate::owners::Owners;
 use crate::zone::sets_at;
-use dns_name::Name;
+use dns_name::{Name, SoughtName};
 use dns_rdata::{RRset, RType};
 use shared_tree::NoMemory;
 use std::alloc::Global;
@@ -34,13 +34,13 @@ fn with_own(
     own: Vec<RRset>,
 ) -> Result<(Owners, u64), NoMemory>
     ensures kept { 0 < length own.items → IfOk result (λ next. next.0.pairs ≡ pairs_with canonical_cmp (fold_name owner.now) own owners.now.pairs) }
-    ensures gone { length own.items ≡ 0 → IfOk result (λ next. next.0.pairs ≡ pairs_without canonical_cmp owner.now owners.now.pairs) }
+    ensures gone { length own.items ≡ 0 → IfOk result (λ next. next.0.pairs ≡ pairs_without canonical_cmp (fold_name owner.now) owners.now.pairs) }
     ensures made { IfOk result (λ next. next.1 ≤ 4 * (owners.now.height + 1)) }
 {
     if own.is_empty() {
-        return owners.without(alloc, owner);
+        return owners.without(alloc, &SoughtName::new(owner));
     }
-    owners.with(alloc, OwnerKey::new(owner), own)
+    owners.with(alloc, OwnerKey::new(alloc, owner)?, own)
 }
 
 // How many records there are with a set, or none, in place of one of them. `NoMemory` where it would be more than memory

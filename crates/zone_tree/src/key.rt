@@ -1,19 +1,21 @@
 //! The owners of a zone as the keys of its tree.
 ghost use Rattle.std.specs.Cmp.{partial_equiv_from_equiv, partial_order_from_agreeing_total};
 ghost use Rattle.std.specs.Ordering.{as_partial_cmp};
-ghost use Rattle.std.specs.Prelude.{◌≡◌, refl};
+ghost use Rattle.std.specs.Prelude.{◌≡◌, IfOk, refl};
 ghost use Rattle.dns_name.specs.Name.{canonical_cmp, fold_name, is_same, is_under};
 ghost use Rattle.dns_name.specs.Order.{canonical_total, is_same_equiv, is_same_tied};
 
-use dns_name::Name;
+use dns_name::{Name, SoughtName, StoredName};
 use shared_tree::Seek;
+use std::alloc::{AllocError, Global};
 use std::cmp::Ordering;
 use std::marker::Model;
 
-/// An owner as a key: keys stand in the canonical order of names (RFC 4034, 6.1).
+/// An owner as a key, in lower case and in as many octets as it takes: keys stand in the canonical order of names
+/// (RFC 4034, 6.1).
 #[derive(Drop)]
 pub(crate) struct OwnerKey {
-    name: Name,
+    name: StoredName,
 }
 
 impl Model for OwnerKey {
@@ -25,36 +27,37 @@ impl Model for OwnerKey {
 }
 
 impl OwnerKey {
-    /// The key of an owner.
-    pub(crate) fn new(owner: &Name) -> OwnerKey
-        ensures { result ≡ fold_name owner.now }
+    /// The key of an owner. `AllocError` where a growth was refused.
+    pub(crate) fn new(alloc: Global, owner: &Name) -> Result<OwnerKey, AllocError>
+        ensures { IfOk result (λ key. key ≡ fold_name owner.now) }
     {
-        OwnerKey { name: owner.fold() }
+        let name = StoredName::new(alloc, owner)?;
+        Ok(OwnerKey { name })
     }
 
     /// The owner.
     pub(crate) fn owner(&self) -> Name
         ensures { result ≡ self.now }
     {
-        self.name.copy()
+        self.name.to_name()
     }
 
     /// Whether it is the key of an owner (RFC 4343, 3).
-    pub(crate) fn is_of(&self, owner: &Name) -> bool
+    pub(crate) fn is_of(&self, owner: &StoredName) -> bool
         ensures { result ≡ is_same self.now owner.now }
     {
         self.name == *owner
     }
 
     /// Whether its owner is a name or below it (RFC 1034, 3.1).
-    pub(crate) fn is_under(&self, name: &Name) -> bool
+    pub(crate) fn is_under(&self, name: &SoughtName) -> bool
         ensures { result ≡ is_under self.now name.now }
     {
-        self.name.is_under(name)
+        name.is_above(&self.name)
     }
 }
 
-impl Seek<OwnerKey> for Name {
+impl Seek<OwnerKey> for SoughtName {
     ghost key = { λ name. name };
 
     fn cmp_key(&self, other: &OwnerKey) -> Ordering {
@@ -86,7 +89,7 @@ impl Ord for OwnerKey {
     ghost matches_eq = { is_same_tied };
 
     fn cmp(&self, other: &OwnerKey) -> Ordering {
-        self.name.order(&other.name)
+        self.name.cmp(&other.name)
     }
 }
 

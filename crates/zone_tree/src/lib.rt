@@ -1,8 +1,8 @@
 //! A zone: its sets of records, and what stands at a name (RFC 1034, 4.2 and 4.3.2; RFC 2181, 5; RFC 4592, 2.2).
 //!
 //! Contracts see a zone as the list of its records in canonical order (RFC 4034, 6), so that equal zones are equal
-//! lists. A [`Zone`] keeps the rules of a zone (`IsZone`), and [`ZoneRead`] is what a search may ask of any zone.
-//! Changes of a zone, and reading one from text, are not here.
+//! lists. A [`Zone`] keeps the rules of a zone (`IsZone`), [`edit`] gives the zone that changes make of it, and
+//! [`ZoneRead`] is what a search may ask of any zone. Reading one from text is not here.
 #![tactic(auto)]
 
 mod change;
@@ -25,9 +25,12 @@ pub use change::Change;
 pub use fault::{BrokenRule, NewFault, ZoneFault};
 pub use laws::{example_is_a_zone, examples, names_that_exist, same_records, soa_at_apex};
 pub use read::ZoneRead;
+pub use rules::has_asterisk;
 pub use version::Version;
 pub use walk::Walk;
 pub use zone::{MAX_RECORDS, Zone, edit};
 
+#[cfg(test)]
+mod edit_tests;
 #[cfg(test)]
 mod tests;

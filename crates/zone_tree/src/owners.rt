@@ -35,7 +35,7 @@ fn put_behind(alloc: Global, pairs: &mut Vec<Owned>, set: RRset) -> Result<(), A
     match pairs.pop() {
         None => put_new(alloc, pairs, set),
         Some((key, mut own)) => {
-            if key.is_of(&set.owner()) {
+            if key.is_of(set.stored_owner()) {
                 own.push(set)?;
                 pairs.push((key, own))?;
                 return Ok(());
@@ -50,7 +50,7 @@ fn put_behind(alloc: Global, pairs: &mut Vec<Owned>, set: RRset) -> Result<(), A
 fn put_new(alloc: Global, pairs: &mut Vec<Owned>, set: RRset) -> Result<(), AllocError>
     ensures { OnOk result ((sets : List (List Record)) → AreGathered pairs.old.items sets → AreBefore (owner_of set) pairs.old.items → AreGathered pairs.new.items (sets ++ set ∷ [])) }
 {
-    let key = OwnerKey::new(&set.owner());
+    let key = OwnerKey::new(alloc, &set.owner())?;
     let mut own = Vec::with_capacity(alloc, 1)?;
     own.push(set)?;
     pairs.push((key, own))?;

@@ -72,8 +72,8 @@ fn has_crowded_alias(sets: &[RRset]) -> bool
     sets.iter().any(|set| set.rtype() == RType::CNAME && !has_one_record(sets, &set.owner()))
 }
 
-// Whether the first label is `*`: its length, and then its octet (RFC 4592, 2.1.1).
-fn has_asterisk(name: &Name) -> bool
+/// Whether the first label is `*`: its length, and then its octet (RFC 4592, 2.1.1).
+pub fn has_asterisk(name: &Name) -> bool
     ensures { result ≡ is_wild name.now }
 {
     matches!(name.wire(), [1, b'*', ..])

@@ -8,16 +8,16 @@ use dns_rdata::{RData, RRset, RType, Serial, Ttl};
 use std::alloc::Global;
 use std::test::Fail;
 
-const EXAMPLE: &[u8] = b"\x07example\0";
+pub(crate) const EXAMPLE: &[u8] = b"\x07example\0";
 
-const SOA: &[u8] = b"\0\0\0\0\0\x01\0\0\0\x02\0\0\0\x03\0\0\0\x04\0\0\0\x05";
+pub(crate) const SOA: &[u8] = b"\0\0\0\0\0\x01\0\0\0\x02\0\0\0\x03\0\0\0\x04\0\0\0\x05";
 
-const NS: &[u8] = b"\x02ns\x07example\0";
+pub(crate) const NS: &[u8] = b"\x02ns\x07example\0";
 
 /// An owner, a type and data octets.
-type Row<'a> = (&'a [u8], RType, &'a [u8]);
+pub(crate) type Row<'a> = (&'a [u8], RType, &'a [u8]);
 
-fn name(octets: &[u8]) -> Result<Name, Fail> {
+pub(crate) fn name(octets: &[u8]) -> Result<Name, Fail> {
     let (name, _) = Name::from_wire(octets).ok_or("no name")?;
     Ok(name)
 }
@@ -34,7 +34,7 @@ fn zone_of(alloc: Global, rows: &[Row]) -> Result<Result<Zone, NewFault>, Fail> 
 }
 
 /// Whether a walk gives a set of each row, in their order.
-fn walks(zone: &Zone, rows: &[Row]) -> Result<bool, Fail> {
+pub(crate) fn walks(zone: &Zone, rows: &[Row]) -> Result<bool, Fail> {
     let mut at = 0usize;
     for set in zone.walk() {
         let Some((owner, rtype, _)) = rows.get(at) else {

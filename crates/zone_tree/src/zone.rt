@@ -1,10 +1,10 @@
 //! A zone as a shared tree of its owners.
-ghost use Rattle.std.specs.Prelude.{◌≡◌, ◌<◌, List, length, IfOk};
+ghost use Rattle.std.specs.Prelude.{◌≡◌, ◌<◌, ◌≤◌, List, length, Err, IfOk, OnOk, OnErr};
 ghost use Rattle.std.specs.Result.{IsErrOf};
 ghost use Rattle.std.specs.Option.{option_copied};
 ghost use Rattle.dns_name.specs.Name.{canonical_cmp};
 ghost use Rattle.dns_rdata.specs.Record.{Record};
-ghost use Rattle.shared_tree.specs.Pairs.{first_pair, pairs_behind, value_at};
+ghost use Rattle.shared_tree.specs.Pairs.{first_pair, pair_after, pairs_behind, value_at};
 ghost use Rattle.zone_tree.specs.Change.{edited};
 ghost use Rattle.zone_tree.specs.Filed.{items_of};
 ghost use Rattle.zone_tree.specs.Zone.{IsZone, KeepsRules};
@@ -16,7 +16,7 @@ use crate::fault::{NewFault, ZoneFault};
 use crate::look::set_of_type;
 use crate::owners::{Owned, Owners, under_owners};
 use crate::read::ZoneRead;
-use dns_name::Name;
+use dns_name::{Name, SoughtName};
 use dns_rdata::{RRset, RType};
 use shared_tree::Tree;
 use std::alloc::Global;
@@ -88,11 +88,12 @@ impl ZoneRead for Zone {
     }
 
     fn exists(&self, name: &Name) -> bool {
-        if self.owners.get(name).is_some() {
+        let sought = SoughtName::new(name);
+        if self.owners.get(&sought).is_some() {
             return true;
         }
-        match self.owners.after(name) {
-            Some(pair) => pair.0.is_under(name),
+        match owner_behind(&self.owners, &sought) {
+            Some(pair) => pair.0.is_under(&sought),
             None => false,
         }
     }
@@ -112,8 +113,26 @@ impl ZoneRead for Zone {
     }
 }
 
+/// That a zone may have so many records.
+fn check_limit(count: usize) -> Result<(), ZoneFault>
+    ensures few { OnOk result (count ≤ 1000000) }
+    ensures limit { OnErr result ((result ≡ Err ZoneFault.Limit) × (1000000 < count)) }
+{
+    if count > MAX_RECORDS {
+        return Err(ZoneFault::Limit);
+    }
+    Ok(())
+}
+
 /// The sets of an owner.
 pub(crate) fn sets_at<'a>(owners: &'a Owners, owner: &Name) -> &'a [RRset]
+    ensures { result.now ≡ items_of (value_at canonical_cmp owner.now owners.now.pairs) }
+{
+    sets_of(owners, &SoughtName::new(owner))
+}
+
+/// The sets of an owner that is sought.
+fn sets_of<'a>(owners: &'a Owners, owner: &SoughtName) -> &'a [RRset]
     ensures { result.now ≡ items_of (value_at canonical_cmp owner.now owners.now.pairs) }
 {
     match owners.get(owner) {
@@ -122,12 +141,19 @@ pub(crate) fn sets_at<'a>(owners: &'a Owners, owner: &Name) -> &'a [RRset]
     }
 }
 
+/// The first owner behind a name, with its sets.
+fn owner_behind<'a>(owners: &'a Owners, name: &SoughtName) -> Option<&'a Owned>
+    ensures { option_copied result ≡ pair_after canonical_cmp name.now owners.now.pairs }
+{
+    owners.after(name)
+}
+
 /// The first owner behind a name, or of all, with its sets.
 fn next_owner<'a>(owners: &'a Owners, name: Option<&Name>) -> Option<&'a Owned>
     ensures { option_copied result ≡ first_pair (pairs_behind canonical_cmp (option_copied name.entry) owners.now.pairs) }
 {
     match name {
-        Some(name) => owners.after(name),
+        Some(name) => owner_behind(owners, &SoughtName::new(name)),
         None => owners.first(),
     }
 }
@@ -146,9 +172,7 @@ pub fn edit(alloc: Global, zone: &Zone, changes: &[Change]) -> Result<Zone, Zone
         count: zone.count,
     };
     let Draft { owners, count } = with_changes(alloc, draft, changes)?;
-    if count > MAX_RECORDS {
-        return Err(ZoneFault::Limit);
-    }
+    check_limit(count)?;
     let Some(first) = owners.first() else {
         unreachable!()
     };

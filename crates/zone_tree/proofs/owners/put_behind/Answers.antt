@@ -11,8 +11,8 @@ use Rattle.zone_tree.proofs.owners.put_behind.Goals as goal
 pub returns-then-is_of : goal.returns-then-is_of
 returns-then-is_of c = λ sets h before.
     let g = subst (λ l. AreGathered l sets) c.in-Some.ensures.items h in
-    let folded : owner_of c.args.set ≡ fold_name (owner_of c.args.set) = subst (λ n. n ≡ fold_name n) c.owner.ensures.of c.owner.ensures.folded in
-    let same : is_same c.in-Some.key (owner_of c.args.set) ≡ true = ap (is_same c.in-Some.key) (sym c.owner.ensures.of) ∙ sym c.is_of.ensures ∙ c.if-is_of.true in
+    let folded : owner_of c.args.set ≡ fold_name (owner_of c.args.set) = subst (λ n. n ≡ fold_name n) c.stored_owner.ensures.of c.stored_owner.ensures.folded in
+    let same : is_same c.in-Some.key (owner_of c.args.set) ≡ true = ap (is_same c.in-Some.key) (sym c.stored_owner.ensures.of) ∙ sym c.is_of.ensures ∙ c.if-is_of.true in
     rw c.in_ok-push-in-Some-2.ensures.items (grown _ _ _ sets c.args.set g refl c.in_ok-push-in-Some.ensures.items (same_last _ _ (c.in-Some.key, c.in-Some.own) sets c.args.set g folded same))
 
 -- the set is the first of an owner behind the last one
@@ -20,7 +20,7 @@ pub returns-in_ok-push-in-Some-3 : goal.returns-in_ok-push-in-Some-3
 returns-in_ok-push-in-Some-3 c = weaker_ok c.put_new-in-Some.result
     (λ put sets h before.
     let g = subst (λ l. AreGathered l sets) c.in-Some.ensures.items h in
-    let apart : is_same c.in-Some.key (owner_of c.args.set) ≡ false = ap (is_same c.in-Some.key) (sym c.owner.ensures.of) ∙ sym c.is_of.ensures ∙ c.if-is_of.false in
+    let apart : is_same c.in-Some.key (owner_of c.args.set) ≡ false = ap (is_same c.in-Some.key) (sym c.stored_owner.ensures.of) ∙ sym c.is_of.ensures ∙ c.if-is_of.false in
     let same = sym c.in_ok-push-in-Some-3.ensures.items in
     put sets (subst (λ l. AreGathered l sets) same g) (subst (AreBefore (owner_of c.args.set)) same (all_before _ _ (c.in-Some.key, c.in-Some.own) sets c.args.set g before apart)))
     c.put_new-in-Some.ensures

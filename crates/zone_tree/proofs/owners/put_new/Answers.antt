@@ -8,4 +8,4 @@ use Rattle.zone_tree.proofs.owners.put_new.Goals as goal
 pub returns : goal.returns
 returns c = λ sets h before.
     let folded : owner_of c.args.set ≡ fold_name (owner_of c.args.set) = subst (λ n. n ≡ fold_name n) c.owner.ensures.of c.owner.ensures.folded in
-    rw c.in_ok-push-2.ensures.items (put_new c.args.pairs.now.items _ sets c.args.set h (c.new-key.ensures ∙ sym c.owner.ensures.folded ∙ c.owner.ensures.of) (c.in_ok-push.ensures.items ∙ ap (λ l. l ++ c.args.set ∷ []) c.in_ok-own.ensures.items) folded before)
+    rw c.in_ok-push-2.ensures.items (put_new c.args.pairs.now.items _ sets c.args.set h (c.in_ok-key.ensures ∙ sym c.owner.ensures.folded ∙ c.owner.ensures.of) (c.in_ok-push.ensures.items ∙ ap (λ l. l ++ c.args.set ∷ []) c.in_ok-own.ensures.items) folded before)

@@ -23,7 +23,7 @@ invariant_of-result c =
     let is = c.in_ok-owners.ensures.records ∙ ap (λ (rs : List Record). edited rs c.args.changes.now) zone in
     subst (λ name. AreKept name count pairs) (sym c.owner-apex.ensures)
     (kept pairs c.in_ok-owners.ensures.kept.filed (subst KeepsRules (sym is) c.requires) c.in-Some.first.now count
-    (sym c.first.ensures ∙ ap option_copied c.in-Some.is) c.in_ok-owners.ensures.kept.counted c.if-count-gt-MAX_RECORDS.false)
+    (sym c.first.ensures ∙ ap option_copied c.in-Some.is) c.in_ok-owners.ensures.kept.counted c.in_ok-check_limit.ensures.few)
 
 pub returns-clause-edited : goal.returns-clause-edited
 returns-clause-edited c =
