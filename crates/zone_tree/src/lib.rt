@@ -11,6 +11,7 @@ mod key;
 mod laws;
 mod look;
 mod owners;
+mod parts;
 mod read;
 mod rules;
 mod soa;
@@ -19,6 +20,7 @@ mod zone;
 
 pub use fault::{BrokenRule, NewFault};
 pub use laws::{example_is_a_zone, examples, names_that_exist, same_records, soa_at_apex};
+pub use parts::{Apex, find_apex, has_conflict};
 pub use read::ZoneRead;
 pub use walk::Walk;
 pub use zone::{MAX_RECORDS, Zone};
