@@ -16,8 +16,7 @@ use Rattle.record_text.specs.declared.cause.Cause.TheVariants.{Limit, Outside, A
 use Rattle.master_file.specs.declared.fault.FileFault.{FileFault}
 use Rattle.master_file.specs.ZoneText.{record_in, with_all, timed, first_line, is_too_many, is_second_soa, is_conflict, outside_line, told, told_whole, zone_of_all, zone_of_read, zone_records}
 use Rattle.master_file.specs.Records.{Read}
-use Rattle.master_file.proofs.KeptLemmas.{one, count_cons}
-use Rattle.master_file.proofs.SummaryLemmas.{same_set}
+use Rattle.master_file.proofs.KeptLemmas.{one, count_cons, same_set}
 use Rattle.master_file.proofs.JudgeLemmas.{ascends_all, holds_of_all, no_line, AreFew, limits_judge, HasOneSoa, soa_judges}
 use Rattle.master_file.proofs.RuleLemmas.{AreApart, conflicts_judge, is_outside, AreInside, outside_judges, outside_first, is_wild_cut, same_at}
 use Rattle.master_file.proofs.ShownLemmas.{shown, count_map, shown_at, shown_of, shown_soa, shown_cut, shown_outside, apex_folded, apex_shown, ascends_shown, share_shown, lawful_shown, is_read, each_read, each_of_all, timed_rdata}
@@ -48,7 +47,7 @@ whole_ok false next zone e = (refl, e)
 pub few_none : AreFew []
 few_none = record { all = omega arith; each = λ owner rtype. omega arith }
 
-apart_none : AreApart []
+pub apart_none : AreApart []
 apart_none = record { alone = λ owner some. omega arith; cuts = omega arith }
 
 abbrev kept_of : List RecordEntry → List Record
@@ -154,10 +153,10 @@ alias_alone : (a b : Bool) → a ≡ true → (not a || b) ≡ true → b ≡ tr
 alias_alone true b e h = h
 alias_alone false b e h = absurd (true≢false (sym e))
 
-not_zero : (n : ℕ) → 0 < n → (n == 0) ≡ false
+pub not_zero : (n : ℕ) → 0 < n → (n == 0) ≡ false
 not_zero n h = grind (arith, nat_tests)
 
-not_nil : (rs : List Record) → rs ≢ [] → 0 < length rs
+pub not_nil : (rs : List Record) → rs ≢ [] → 0 < length rs
 not_nil [] h = absurd (h refl)
 not_nil (r ∷ rs) h = omega arith
 
@@ -172,7 +171,7 @@ module _ (ps : List RecordEntry) where
   pub set_count : (owner : List (List ℕ)) (rtype : ℕ) → length (rrset_of zone owner rtype) ≡ length (rrset_of (with_all [] ps) owner rtype)
   set_count owner rtype = count_map (is_of owner rtype) (shown ps) (shown_of ps owner rtype) (with_all [] ps)
 
-  soa_count : length (soa_of zone) ≡ length (soa_of (with_all [] ps))
+  pub soa_count : length (soa_of zone) ≡ length (soa_of (with_all [] ps))
   soa_count = count_map (λ (r : Record). r.rtype == type_SOA) (shown ps) (shown_soa ps) (with_all [] ps)
 
   cut_count : length (filter is_wild_cut zone) ≡ length (filter is_wild_cut (with_all [] ps))
@@ -191,13 +190,29 @@ module _ (ps : List RecordEntry) where
           count_cons (is_outside (fold_name apex)) r rs ∙ ap (λ (b : Bool). one (not b) + length (filter (is_outside (fold_name apex)) rs)) (apex_folded r.owner apex)
           ∙ ap (λ (n : ℕ). one (is_outside apex r) + n) (filter_alike_count rs) ∙ sym (count_cons (is_outside apex) r rs)
 
-  server_count : length (rrset_of zone (apex_of zone) type_NS) ≡ length (rrset_of (with_all [] ps) (apex_of (with_all [] ps)) type_NS)
+  pub server_count : length (rrset_of zone (apex_of zone) type_NS) ≡ length (rrset_of (with_all [] ps) (apex_of (with_all [] ps)) type_NS)
   server_count =
       ap (λ (apex : List (List ℕ)). length (rrset_of zone apex type_NS)) (apex_shown ps (with_all [] ps)) ∙ set_count (fold_name (apex_of (with_all [] ps))) type_NS
       ∙ same_set (with_all [] ps) (fold_name (apex_of (with_all [] ps))) (apex_of (with_all [] ps)) type_NS type_NS (let e = (is_same_Decides (fold_name (apex_of (with_all [] ps))) (apex_of (with_all [] ps))).1 (fold_name-fold_name (apex_of (with_all [] ps))) in rw e refl)
 
-  len_zone : length zone ≡ length (with_all [] ps)
+  pub len_zone : length zone ≡ length (with_all [] ps)
   len_zone = length-map (with_all [] ps) (shown ps)
+
+  -- aliases alone and no wild cuts, from what they hold
+  pub aliases_alone : AreApart (with_all [] ps) → All (λ r. is_alone zone r ≡ true) zone
+  aliases_alone apart = all_from_each (λ (r : Record). is_alone zone r ≡ true) zone (each_weaker
+      (λ (r : Record). (is_of r.owner type_CNAME r ≡ true → 0 < length (rrset_of zone r.owner type_CNAME)) × (stands_at r.owner r ≡ true → 0 < length (rrsets_of zone r.owner)))
+      (λ (r : Record). is_alone zone r ≡ true)
+      (λ r counted. alone_by (r.rtype == type_CNAME) (length (rrsets_of zone r.owner)) (length (rrset_of zone r.owner type_CNAME))
+      (λ e. counted.1 (own_same r.owner)) (λ e. counted.0 (let o = own_same r.owner in rw (o, e) refl))
+      (λ some. let a = set_count r.owner type_CNAME in let b = at_count r.owner in let c = apart.alone r.owner (omega arith) in omega arith))
+      zone (each_both (λ (r : Record). is_of r.owner type_CNAME r ≡ true → 0 < length (rrset_of zone r.owner type_CNAME)) (λ (r : Record). stands_at r.owner r ≡ true → 0 < length (rrsets_of zone r.owner)) zone
+      (each_counted (λ (r : Record). is_of r.owner type_CNAME) zone) (each_counted (λ (r : Record). stands_at r.owner) zone)))
+
+  pub no_wild_cuts : AreApart (with_all [] ps) → All (λ r. is_wild r.owner && r.rtype == type_NS ≡ false) zone
+  no_wild_cuts apart =
+      let none = none_each is_wild_cut zone (let a = cut_count in let b = apart.cuts in omega arith) in
+      all_from_each (λ (r : Record). is_wild r.owner && r.rtype == type_NS ≡ false) zone none
 
   -- a zone, from what they hold
   pub zone_is : AllByRecursion IsReadable ps → AreOfZone (with_all [] ps) → IsZone (zone_records ps)
@@ -218,15 +233,8 @@ module _ (ps : List RecordEntry) where
           under_apex = let none = none_each (is_outside (apex_of zone)) zone (let a = outside_count in let b = h.inside in omega arith) in
               all_from_each (λ (r : Record). is_under r.owner (apex_of zone) ≡ true) zone (each_weaker (λ (r : Record). is_outside (apex_of zone) r ≡ false) (λ (r : Record). is_under r.owner (apex_of zone) ≡ true) (λ r e. not_outside r.owner (apex_of zone) e) zone none);
           name_servers = λ e. let n : length (rrset_of zone (apex_of zone) type_NS) ≡ 0 = ap length e in let a = server_count in let k = h.servers in let some : 0 < length (rrset_of kept (apex_of kept) type_NS) = grind (arith, nat_tests) in omega arith;
-          aliases_alone = all_from_each (λ (r : Record). is_alone zone r ≡ true) zone (each_weaker
-              (λ (r : Record). (is_of r.owner type_CNAME r ≡ true → 0 < length (rrset_of zone r.owner type_CNAME)) × (stands_at r.owner r ≡ true → 0 < length (rrsets_of zone r.owner)))
-              (λ (r : Record). is_alone zone r ≡ true)
-              (λ r counted. alone_by (r.rtype == type_CNAME) (length (rrsets_of zone r.owner)) (length (rrset_of zone r.owner type_CNAME))
-              (λ e. counted.1 (own_same r.owner)) (λ e. counted.0 (let o = own_same r.owner in rw (o, e) refl))
-              (λ some. let a = set_count r.owner type_CNAME in let b = at_count r.owner in let c = h.apart.alone r.owner (omega arith) in omega arith))
-              zone (each_both (λ (r : Record). is_of r.owner type_CNAME r ≡ true → 0 < length (rrset_of zone r.owner type_CNAME)) (λ (r : Record). stands_at r.owner r ≡ true → 0 < length (rrsets_of zone r.owner)) zone
-              (each_counted (λ (r : Record). is_of r.owner type_CNAME) zone) (each_counted (λ (r : Record). stands_at r.owner) zone)));
-          no_wild_cuts = let none = none_each is_wild_cut zone (let a = cut_count in let b = h.apart.cuts in omega arith) in all_from_each (λ (r : Record). is_wild r.owner && r.rtype == type_NS ≡ false) zone none;
+          aliases_alone = aliases_alone h.apart;
+          no_wild_cuts = no_wild_cuts h.apart;
         };
         limits = record {
           few = let a = len_zone in let b = h.few.all in omega arith;
@@ -236,16 +244,16 @@ module _ (ps : List RecordEntry) where
       }
 
   -- what a test shows of a zone
-  few_of : (owner : List (List ℕ)) (rtype : ℕ) → IsZone zone → length (rrset_of zone owner rtype) ≤ 256
-  few_of owner rtype is = by (nat_lt 0 (length (rrset_of zone owner rtype))) refl
+  few_of : (owner : List (List ℕ)) (rtype : ℕ) → All (λ r. length (rrset_of zone r.owner r.rtype) ≤ 256) zone → length (rrset_of zone owner rtype) ≤ 256
+  few_of owner rtype small = by (nat_lt 0 (length (rrset_of zone owner rtype))) refl
     where
       by : (b : Bool) → nat_lt 0 (length (rrset_of zone owner rtype)) ≡ b → length (rrset_of zone owner rtype) ≤ 256
       by true e = from_counted (λ (r : Record). length (rrset_of zone r.owner r.rtype) ≤ 256) (is_of owner rtype) (length (rrset_of zone owner rtype) ≤ 256)
-          (λ r few same. let a = same_set zone r.owner owner r.rtype rtype same in omega arith) zone (recursion_from_All (λ (r : Record). length (rrset_of zone r.owner r.rtype) ≤ 256) zone is.limits.small_sets) (grind (arith, nat_tests))
+          (λ r few same. let a = same_set zone r.owner owner r.rtype rtype same in omega arith) zone (recursion_from_All (λ (r : Record). length (rrset_of zone r.owner r.rtype) ≤ 256) zone small) (grind (arith, nat_tests))
       by false e = let none : length (rrset_of zone owner rtype) ≡ 0 = grind (arith, nat_tests) in omega arith
 
-  alone_of : (owner : List (List ℕ)) → IsZone zone → 0 < length (rrset_of zone owner type_CNAME) → length (rrsets_of zone owner) ≤ 1
-  alone_of owner is some =
+  alone_of : (owner : List (List ℕ)) → All (λ r. is_alone zone r ≡ true) zone → 0 < length (rrset_of zone owner type_CNAME) → length (rrsets_of zone owner) ≤ 1
+  alone_of owner each some =
       from_counted (λ (r : Record). is_alone zone r ≡ true) (is_of owner type_CNAME) (length (rrsets_of zone owner) ≤ 1)
       (λ r alone same.
       let parts = both_true (is_same r.owner owner) (r.rtype == type_CNAME) same in
@@ -253,20 +261,27 @@ module _ (ps : List RecordEntry) where
       let a = same_at zone r.owner owner parts.0 in
       let b = (Decides-eqb (length (rrsets_of zone r.owner)) 1).0 n in
       omega arith)
-      zone (recursion_from_All (λ (r : Record). is_alone zone r ≡ true) zone is.rules.aliases_alone) some
+      zone (recursion_from_All (λ (r : Record). is_alone zone r ≡ true) zone each) some
+
+  -- and what the records kept hold by it
+  pub are_few : length zone ≤ 1000000 → All (λ r. length (rrset_of zone r.owner r.rtype) ≤ 256) zone → AreFew (with_all [] ps)
+  are_few few small = record {
+    all = let a = len_zone in omega arith;
+    each = λ owner rtype. let a = set_count owner rtype in let b = few_of owner rtype small in omega arith;
+  }
+
+  pub are_apart : All (λ r. is_alone zone r ≡ true) zone → All (λ r. is_wild r.owner && r.rtype == type_NS ≡ false) zone → AreApart (with_all [] ps)
+  are_apart each cuts = record {
+    alone = λ owner some. let a = set_count owner type_CNAME in let b = at_count owner in let c = alone_of owner each (omega arith) in omega arith;
+    cuts = let a = cut_count in let b = each_none is_wild_cut zone (recursion_from_All (λ (r : Record). is_wild r.owner && r.rtype == type_NS ≡ false) zone cuts) in omega arith;
+  }
 
   -- what the records kept hold of a zone
   pub of_is_zone : IsZone (zone_records ps) → AreOfZone (with_all [] ps)
   of_is_zone is = record {
-    few = record {
-      all = let a = len_zone in let b = is.limits.few in omega arith;
-      each = λ owner rtype. let a = set_count owner rtype in let b = few_of owner rtype is in omega arith;
-    };
+    few = are_few is.limits.few is.limits.small_sets;
     one_soa = let a = soa_count in let b = is.rules.one_soa in omega arith;
-    apart = record {
-      alone = λ owner some. let a = set_count owner type_CNAME in let b = at_count owner in let c = alone_of owner is (omega arith) in omega arith;
-      cuts = let a = cut_count in let b = each_none is_wild_cut zone (recursion_from_All (λ (r : Record). is_wild r.owner && r.rtype == type_NS ≡ false) zone is.rules.no_wild_cuts) in omega arith;
-    };
+    apart = are_apart is.rules.aliases_alone is.rules.no_wild_cuts;
     inside = let a = outside_count in let b = each_none (is_outside (apex_of zone)) zone (each_weaker (λ (r : Record). is_under r.owner (apex_of zone) ≡ true) (λ (r : Record). is_outside (apex_of zone) r ≡ false) (λ r e. ap not e) zone (recursion_from_All (λ (r : Record). is_under r.owner (apex_of zone) ≡ true) zone is.rules.under_apex)) in omega arith;
     soa = let a = soa_count in let b = is.rules.one_soa in not_zero (length (soa_of (with_all [] ps))) (omega arith);
     servers = let a = server_count in not_zero (length (rrset_of (with_all [] ps) (apex_of (with_all [] ps)) type_NS)) (let some = not_nil (rrset_of zone (apex_of zone) type_NS) is.rules.name_servers in omega arith);

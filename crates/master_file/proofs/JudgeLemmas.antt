@@ -13,8 +13,7 @@ use Rattle.zone_tree.proofs.SetLemmas.{record_total}
 use Rattle.master_file.specs.declared.record_entry.RecordEntry.{RecordEntry}
 use Rattle.master_file.specs.ZoneText.{record_in, with_one, with_all, first_line, is_new, is_too_many, is_second_soa}
 use Rattle.master_file.proofs.InsertLemmas.{count_inserted, rises_inserted}
-use Rattle.master_file.proofs.KeptLemmas.{one}
-use Rattle.master_file.proofs.SummaryLemmas.{same_set}
+use Rattle.master_file.proofs.KeptLemmas.{one, same_set}
 
 -- records in strictly ascending order
 abbrev pub Ascends : List Record → Type 0

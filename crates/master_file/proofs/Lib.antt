@@ -1,5 +1,5 @@
 pub mod AgainLemmas
-pub mod GatherLemmas
+pub mod FaultyLemmas
 pub mod InsertLemmas
 pub mod IsZoneLemmas
 pub mod JudgeLemmas
@@ -14,7 +14,6 @@ pub mod RuleLemmas
 pub mod SetLemmas
 pub mod ShownLemmas
 pub mod SortLemmas
-pub mod SummaryLemmas
 pub mod TextRecordLemmas
 pub mod ZoneBackLemmas
 pub mod ZoneLawLemmas

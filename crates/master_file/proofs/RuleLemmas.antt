@@ -18,8 +18,7 @@ use Rattle.zone_tree.proofs.SetLemmas.{record_total}
 use Rattle.master_file.specs.declared.record_entry.RecordEntry.{RecordEntry}
 use Rattle.master_file.specs.ZoneText.{record_in, with_one, first_line, is_new, is_beside_alias, is_conflict, outside_line}
 use Rattle.master_file.proofs.InsertLemmas.{some_tied}
-use Rattle.master_file.proofs.KeptLemmas.{one, count_cons}
-use Rattle.master_file.proofs.SummaryLemmas.{same_set}
+use Rattle.master_file.proofs.KeptLemmas.{one, count_cons, same_set}
 use Rattle.master_file.proofs.JudgeLemmas.{Ascends, Judges, count_with}
 
 -- records that tie have one owner but for case, and one type

@@ -1,9 +1,8 @@
 pub mod Examples
 pub mod Fault
-pub mod RecordOrder
+pub mod FaultyLine
 pub mod Records
 pub mod SetOrder
-pub mod Summary
 pub mod TextLaws
 pub mod WrittenZone
 pub mod ZoneText

@@ -2,11 +2,11 @@
 ghost use Rattle.std.specs.Cmp.{partial_equiv_from_equiv, partial_order_from_agreeing_total};
 ghost use Rattle.std.specs.Ordering.{as_partial_cmp, eq_by_cmp};
 ghost use Rattle.std.specs.Prelude.{◌≡◌, ◌<◌, ◌^◌, IfOk, refl};
-ghost use Rattle.dns_name.specs.Name.{fold_name};
+ghost use Rattle.dns_name.specs.Name.{fold_name, is_under};
 ghost use Rattle.master_file.specs.SetOrder.{set_order, set_order_total, set_order_equiv};
 
 use crate::record_entry::RecordEntry;
-use dns_name::StoredName;
+use dns_name::{Name, StoredName};
 use dns_rdata::{RData, Ttl};
 use std::alloc::{AllocError, Global};
 use std::cmp::Ordering;
@@ -51,6 +51,20 @@ impl KeptRecord {
             ttl,
             rdata,
         })
+    }
+
+    /// The line on which its entry begins, counted from 1.
+    pub(crate) fn line(&self) -> u64
+        ensures { result ≡ self.now.line }
+    {
+        self.line
+    }
+
+    /// Whether the owner is a name or has it among its ancestors (RFC 1034, 3.1).
+    pub(crate) fn is_under(&self, name: &Name) -> bool
+        ensures { result ≡ is_under self.now.owner name.now }
+    {
+        self.owner.is_under(name)
     }
 
     /// The record's owner, which is in lower case, its TTL and its data.

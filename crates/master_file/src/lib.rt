@@ -4,16 +4,14 @@
 //! its records. Entries are judged in order and the words of each from left to right, and the first fault is told.
 #![tactic(auto)]
 
-mod canonical;
 mod context;
 mod examples;
 mod fault;
-mod gathered;
+mod faulty;
 mod kept;
 mod record_entry;
 mod records;
 mod sorted;
-mod summary;
 mod text_laws;
 mod zone;
 mod zone_laws;

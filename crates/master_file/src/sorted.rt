@@ -1,11 +1,11 @@
 //! The sets of a zone, put together from the records of a text.
 ghost use Rattle.std.specs.Prelude.{◌≡◌, ◌&&◌, ◌==◌, [], true, None, IfOk, IfSome};
 ghost use Rattle.std.specs.Bool.{OnFalse, OnTrue};
-ghost use Rattle.std.specs.List.{list_any};
+ghost use Rattle.std.specs.List.{list_any, AllPairs};
 ghost use Rattle.std.specs.Option.{IfNone};
 ghost use Rattle.dns_name.specs.Name.{is_same, fold_name};
 ghost use Rattle.dns_rdata.specs.Record.{owner_of, rtype_of};
-ghost use Rattle.zone_tree.specs.Sets.{records_in, AreUnsplit};
+ghost use Rattle.zone_tree.specs.Sets.{records_in, AreUnsplit, IsSetBefore};
 ghost use Rattle.master_file.specs.SetOrder.{put_last, sets_with, is_over, HasOver};
 ghost use Rattle.master_file.specs.ZoneText.{record_in, in_lower, first_line, is_too_many, zone_records};
 
@@ -21,6 +21,7 @@ pub(crate) fn sets_of(
 ) -> Result<Option<Vec<RRset>>, AllocError>
     ensures sets { IfOk result (λ found. IfSome found (λ sets. records_in sets.items ≡ zone_records records.items)) }
     ensures unsplit { IfOk result (λ found. IfSome found (λ sets. AreUnsplit sets.items)) }
+    ensures ascending { IfOk result (λ found. IfSome found (λ sets. AllPairs IsSetBefore sets.items)) }
     ensures many { IfOk result (λ found. IfNone found (first_line is_too_many [] records.items ≡ None → ⊥)) }
 {
     records.sort()?;

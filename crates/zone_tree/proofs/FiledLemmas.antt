@@ -9,18 +9,18 @@ use Rattle.std.specs.Option.{option_map, option_to_list, option_copied, is_some,
 use Rattle.std.specs.Ordering.{is_lt, is_gt, is_eq, ordering_reverse}
 use Rattle.std.specs.Cmp.{Equal-is}
 use Rattle.std.proofs.lemmas.Cmp.{tied_itself}
-use Rattle.std.proofs.lemmas.List.Elements.{filter-append, recursion_from_All, All-filter}
+use Rattle.std.proofs.lemmas.List.Elements.{filter-append, All-filter}
 use Rattle.std.proofs.lemmas.List.Folds.{list_any-append}
-use Rattle.dns_name.specs.Name.{Name, is_same, is_under, canonical_cmp}
+use Rattle.dns_name.specs.Name.{is_same, is_under, canonical_cmp}
 use Rattle.dns_name.specs.Order.{is_same_equiv, is_same_tied}
 use Rattle.dns_rdata.specs.Numbers.{type_SOA}
 use Rattle.dns_rdata.specs.Record.{Record, owner_of, rtype_of}
 use Rattle.shared_tree.specs.Pairs.{IsAscending, value_at, pair_at, pair_after, pairs_above, pairs_behind, first_pair}
-use Rattle.shared_tree.proofs.PairLemmas.{find_first, filter_ascends, none_at_below}
+use Rattle.shared_tree.proofs.PairLemmas.{filter_ascends, none_at_below}
 use Rattle.zone_tree.specs.Zone.{rrsets_of, rrset_of, exists, soa_of}
-use Rattle.zone_tree.specs.Sets.{records_in, IsSetBefore, IsRRset, AreAscending, AreWhole, records_behind, rrsets_after}
+use Rattle.zone_tree.specs.Sets.{records_in, IsSetBefore, IsRRset, AreWhole, records_behind, rrsets_after}
 use Rattle.zone_tree.specs.Filed.{Filed, sets_under, records_under, IsFiled, AreFiled, AreKept, items_of}
-use Rattle.zone_tree.proofs.NameOrder.{canonical_total, folds_from_same, same_from_tie, under_from_front, under_between}
+use Rattle.zone_tree.proofs.NameOrder.{canonical_total, folds_from_same, under_from_front, under_between}
 use Rattle.zone_tree.proofs.Rising.{filter_alike, any_alike, each_weaker, each_filter, Rises, rises_from_pairs, pairs_from_rises, Rises-filter, filter_one}
 use Rattle.zone_tree.proofs.SetLemmas.{filter_by_sets, any_by_sets, some_each}
 use Rattle.zone_tree.proofs.LookLemmas.{lt_not_under, rrset_found}

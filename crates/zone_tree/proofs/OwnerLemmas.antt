@@ -1,14 +1,13 @@
 -- Sets put one behind another under their owners.
-use Rattle.std.proofs.Common.{◌≡◌, refl, sym, ap, ◌∙◌, subst, ℕ, ◌+◌, ◌<◌, Bool, true, false, List, [], ◌∷◌, ◌++◌, length, map, take, drop, get_or, append_assoc, append-nil, length-append, arith, true≢false}
+use Rattle.std.proofs.Common.{◌≡◌, refl, sym, ap, ◌∙◌, subst, ℕ, ◌+◌, ◌<◌, true, false, List, [], ◌∷◌, ◌++◌, length, map, take, drop, get_or, append_assoc, append-nil, length-append, arith, true≢false}
 use Rattle.std.specs.Prelude.{Result, Ok, Err, OnOk}
 use Rattle.std.specs.declared.cmp.Ordering.{Ordering}
 use Rattle.std.specs.declared.cmp.Ordering.TheVariants.{Less, Equal, Greater}
-use Rattle.std.specs.List.{flat_map, AllByRecursion}
+use Rattle.std.specs.List.{AllByRecursion}
 use Rattle.std.proofs.lemmas.List.{take-append-drop, drop_more}
 use Rattle.std.specs.Ordering.{nat_cmp, is_lt, ordering_then}
 use Rattle.dns_name.specs.Name.{is_same, canonical_cmp, fold_name}
 use Rattle.dns_rdata.specs.Record.{Record, owner_of, rtype_of}
-use Rattle.shared_tree.specs.Pairs.{IsAscending}
 use Rattle.shared_tree.proofs.PairLemmas.{Around, around, ascends_append, each_front, each_behind}
 use Rattle.zone_tree.specs.Sets.{IsSetBefore, AreAscending}
 use Rattle.zone_tree.specs.Filed.{Filed, sets_under, IsFiled, AreGathered, AreBefore, IsBehind}

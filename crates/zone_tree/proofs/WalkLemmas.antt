@@ -1,5 +1,5 @@
 -- Records as sets, and a walk over them, one owner's behind another's.
-use Rattle.std.proofs.Common.{◌≡◌, refl, sym, ap, ◌∙◌, subst, ℕ, zero, suc, ◌<◌, Bool, true, false, ◌&&◌, cond, List, [], ◌∷◌, ◌++◌, length, arith, append_assoc, append-nil, true≢false, eqb-true, eq-eqb, Option, Some, None, Bor, slice_get}
+use Rattle.std.proofs.Common.{◌≡◌, refl, sym, ap, ◌∙◌, subst, ℕ, zero, suc, ◌<◌, Bool, true, false, ◌&&◌, cond, List, [], ◌∷◌, ◌++◌, length, arith, true≢false, eqb-true, eq-eqb, Option, Some, None, Bor, slice_get}
 use Rattle.std.specs.Option.{option_copied, option_map}
 use Rattle.std.specs.Prelude.{◌==◌}
 use Rattle.std.specs.declared.cmp.Ordering.{Ordering}
@@ -12,13 +12,13 @@ use Rattle.std.proofs.lemmas.Cmp.{tied_itself, tied_back, alike_right}
 use Rattle.std.proofs.lemmas.List.Elements.{recursion_from_All}
 use Rattle.dns_name.specs.Name.{is_same, canonical_cmp}
 use Rattle.dns_name.specs.Order.{is_same_equiv, is_same_tied}
-use Rattle.dns_rdata.specs.Record.{Record, record_cmp, owner_of, rtype_of}
+use Rattle.dns_rdata.specs.Record.{Record, owner_of, rtype_of}
 use Rattle.shared_tree.proofs.PairLemmas.{each_passes, filter_all, filter_none, each_front, each_behind}
 use Rattle.zone_tree.specs.Zone.{IsZone, IsBefore, is_of, stands_at, rrsets_of, rrset_of}
 use Rattle.zone_tree.specs.Sets.{records_in, IsSetBefore, AreWhole, records_behind, rrsets_after, in_front, sets_in}
-use Rattle.zone_tree.specs.Walk.{sets_left, IsLastOwner, IsOnTheWay, AreNext}
-use Rattle.zone_tree.proofs.NameOrder.{canonical_total, tie_from_same, same_from_tie}
-use Rattle.zone_tree.proofs.Rising.{each_weaker, each_append, each_always, Rises, rises_from_pairs, Rises-filter}
+use Rattle.zone_tree.specs.Walk.{sets_left, IsOnTheWay, AreNext}
+use Rattle.zone_tree.proofs.NameOrder.{canonical_total, tie_from_same}
+use Rattle.zone_tree.proofs.Rising.{each_weaker, each_append, Rises, rises_from_pairs, Rises-filter}
 use Rattle.zone_tree.proofs.LookLemmas.{not_both, owner_by, is_false}
 use Rattle.zone_tree.proofs.SetLemmas.{less}
 

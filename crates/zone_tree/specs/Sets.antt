@@ -6,7 +6,7 @@ use Rattle.std.specs.declared.cmp.Ordering.{Ordering}
 use Rattle.dns_name.specs.Name.{Name, is_same, is_under, canonical_cmp}
 use Rattle.dns_rdata.specs.Numbers.{type_NS}
 use Rattle.dns_rdata.specs.Record.{Record, IsLawful, owner_of, rtype_of, ttl_of}
-use Rattle.zone_tree.specs.Zone.{IsZone, IsBefore, soa_of, apex_of, rrset_of, rrsets_of, is_of, is_alone, is_wild}
+use Rattle.zone_tree.specs.Zone.{IsZone, IsBefore, apex_of, rrset_of, rrsets_of, is_of, is_alone, is_wild}
 
 -- the records of sets, one set after another
 abbrev pub records_in : List (List Record) → List Record

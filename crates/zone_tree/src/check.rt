@@ -41,8 +41,8 @@ pub(crate) fn len_of(set: &RRset) -> usize
     set.data().len()
 }
 
-// How many records there are, where they aren't too many.
-fn check_count(sets: &[RRset]) -> Result<usize, BrokenRule>
+/// How many records there are, where they aren't too many.
+pub(crate) fn check_count(sets: &[RRset]) -> Result<usize, BrokenRule>
     ensures each { OnOk result (All IsRRset sets.now) }
     ensures counted { IfOk result (λ count. count ≡ length (records_in sets.now)) }
     ensures few { OnOk result (length (records_in sets.now) ≤ MAX_RECORDS) }
@@ -69,12 +69,12 @@ fn is_before(set: &RRset, other: &RRset) -> bool
         .is_lt()
 }
 
-// That each set comes before the next.
-fn check_order(sets: &[RRset]) -> Result<(), BrokenRule>
+/// That each set comes before the next.
+pub(crate) fn check_order(sets: &[RRset]) -> Result<(), BrokenRule>
     requires each { All IsRRset sets.now }
     requires first { NoneBefore BrokenRule.NotAscending sets.now }
     ensures rising { OnOk result (AreAscending sets.now) }
-    ensures fault { IfErr result (λ fault. IsFirstFault fault sets.now) }
+    ensures fault { IfErr result (λ fault. (fault ≡ BrokenRule.NotAscending) × IsFirstFault fault sets.now) }
 {
     for (i, set) in sets.iter().enumerate() {
         if i > 0 && !is_before(&sets[i - 1], set) {

@@ -45,8 +45,8 @@ fn has_outside(sets: &[RRset], apex: &Name) -> bool
     sets.iter().any(|set| !set.stored_owner().is_under(apex))
 }
 
-// Whether an NS stands at the apex.
-fn has_name_server(sets: &[RRset], apex: &Name) -> bool
+/// Whether an NS stands at the apex.
+pub(crate) fn has_name_server(sets: &[RRset], apex: &Name) -> bool
     ensures { result ≡ list_any (λ set. is_same (owner_of set) apex.now && rtype_of set == type_NS) sets.now }
 {
     sets.iter()
@@ -64,8 +64,8 @@ fn has_one_record(sets: &[RRset], owner: &Name) -> bool
     }
 }
 
-// Whether an alias stands beside another record (RFC 1034, 3.6.2).
-fn has_crowded_alias(sets: &[RRset]) -> bool
+/// Whether an alias stands beside another record (RFC 1034, 3.6.2).
+pub(crate) fn has_crowded_alias(sets: &[RRset]) -> bool
     requires { AreAscending sets.now }
     ensures { result ≡ list_any (λ set. rtype_of set == type_CNAME && not (length (rrsets_of (records_in sets.now) (owner_of set)) == 1)) sets.now }
 {
@@ -79,8 +79,8 @@ pub fn has_asterisk(name: &Name) -> bool
     matches!(name.wire(), [1, b'*', ..])
 }
 
-// Whether an NS stands at an owner whose first label is `*`.
-fn has_wild_cut(sets: &[RRset]) -> bool
+/// Whether an NS stands at an owner whose first label is `*`.
+pub(crate) fn has_wild_cut(sets: &[RRset]) -> bool
     ensures { result ≡ list_any (λ set. is_wild (owner_of set) && rtype_of set == type_NS) sets.now }
 {
     sets.iter().any(|set| has_asterisk(&set.owner()) && set.rtype() == RType::NS)

@@ -1,5 +1,5 @@
 //! The set of a zone's SOA.
-ghost use Rattle.std.specs.Prelude.{◌≡◌, ◌==◌, length, position, IfOk, IfErr, OnOk};
+ghost use Rattle.std.specs.Prelude.{◌≡◌, ◌==◌, ◌⊎◌, length, position, IfOk, IfErr, OnOk};
 ghost use Rattle.std.specs.List.{list_any};
 ghost use Rattle.dns_rdata.specs.Numbers.{type_SOA};
 ghost use Rattle.dns_rdata.specs.Record.{rtype_of};
@@ -31,7 +31,7 @@ pub(crate) fn find_soa(sets: &[RRset]) -> Result<usize, BrokenRule>
     requires first { NoneBefore BrokenRule.NoSoa sets.now }
     ensures found { IfOk result (IsPlaceOf sets.now (soa_of (records_in sets.now))) }
     ensures one { OnOk result (length (soa_of (records_in sets.now)) ≡ 1) }
-    ensures fault { IfErr result (λ fault. IsFirstFault fault sets.now) }
+    ensures fault { IfErr result (λ fault. ((fault ≡ BrokenRule.NoSoa) ⊎ (fault ≡ BrokenRule.SecondSoa)) × IsFirstFault fault sets.now) }
 {
     let Some(at) = soa_place(sets) else {
         return Err(BrokenRule::NoSoa);

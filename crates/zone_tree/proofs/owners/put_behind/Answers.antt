@@ -1,6 +1,4 @@
-use Rattle.std.proofs.Common.{◌≡◌, refl, subst, sym, ap, ◌∙◌, true, false, [], ◌∷◌, ◌++◌, arith, length, append-nil}
-use Rattle.std.specs.Prelude.{Ok, Err}
-use Rattle.std.specs.List.{AllByRecursion}
+use Rattle.std.proofs.Common.{◌≡◌, refl, subst, sym, ap, ◌∙◌, true, false, arith, append-nil}
 use Rattle.dns_name.specs.Name.{fold_name, is_same}
 use Rattle.dns_rdata.specs.Record.{owner_of}
 use Rattle.zone_tree.specs.Filed.{AreGathered, AreBefore}

@@ -1,7 +1,6 @@
-use Rattle.std.proofs.Common.{◌≡◌, ◌<◌, sym, ap, ◌∙◌, subst, [], length, eqb-true, Some, None}
+use Rattle.std.proofs.Common.{sym, ap, ◌∙◌, length, eqb-true, Some, None}
 use Rattle.dns_rdata.specs.Record.{owner_of}
 use Rattle.zone_tree.specs.Sets.{rrsets_after}
-use Rattle.zone_tree.specs.Walk.{AreNext, sets_left, IsOnTheWay}
 use Rattle.zone_tree.proofs.WalkLemmas.{rest_next, owner_next, none_left, some_left}
 use Rattle.zone_tree.proofs.walk.next_sets.Goals as goal
 

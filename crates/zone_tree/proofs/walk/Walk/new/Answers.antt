@@ -1,4 +1,4 @@
-use Rattle.std.proofs.Common.{◌≡◌, sym, ap, ◌∙◌, None}
+use Rattle.std.proofs.Common.{ap, ◌∙◌, None}
 use Rattle.zone_tree.proofs.WalkLemmas.{owner_next, first_way, first_left, records_of_sets}
 use Rattle.zone_tree.specs.Sets.{records_in}
 use Rattle.zone_tree.proofs.walk.Walk.new.Goals as goal

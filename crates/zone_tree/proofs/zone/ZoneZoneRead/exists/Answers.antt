@@ -1,5 +1,5 @@
 -- The name is an owner, or the owner after it is under it.
-use Rattle.std.proofs.Common.{◌≡◌, sym, ap, ◌∙◌, Some, None, true, false}
+use Rattle.std.proofs.Common.{sym, ap, ◌∙◌, Some, None}
 use Rattle.std.specs.Option.{option_copied}
 use Rattle.zone_tree.specs.Zone.{exists}
 use Rattle.zone_tree.proofs.FiledLemmas.{owner_exists, next_exists, same_value, same_after}

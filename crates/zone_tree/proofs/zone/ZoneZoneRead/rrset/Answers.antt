@@ -1,5 +1,5 @@
 -- The set of the type among the sets of the owner is the one of that owner and type.
-use Rattle.std.proofs.Common.{sym, ap, ◌∙◌, ◌≡◌, []}
+use Rattle.std.proofs.Common.{sym, ◌∙◌, ◌≡◌, []}
 use Rattle.std.specs.Prelude.{◌↔◌}
 use Rattle.std.specs.Option.{IsNone, IfSome, option_copied}
 use Rattle.zone_tree.specs.Zone.{rrset_of}

@@ -1,8 +1,8 @@
 -- The sets of the first owner behind the name.
-use Rattle.std.proofs.Common.{◌≡◌, sym, ap, ◌∙◌, subst, Option}
+use Rattle.std.proofs.Common.{sym, ap, ◌∙◌, Option}
 use Rattle.std.specs.Option.{option_copied, option_map}
-use Rattle.zone_tree.specs.Sets.{records_in, AreWhole, rrsets_after}
-use Rattle.zone_tree.specs.Filed.{Filed, items_of, records_under}
+use Rattle.zone_tree.specs.Sets.{records_in, rrsets_after}
+use Rattle.zone_tree.specs.Filed.{Filed, items_of}
 use Rattle.zone_tree.proofs.FiledLemmas.{next_records, next_whole}
 use Rattle.zone_tree.proofs.zone.ZoneZoneRead.sets_after.Goals as goal
 

@@ -1,14 +1,7 @@
 -- The set of the SOA's type at the apex.
-use Rattle.std.proofs.Common.{◌≡◌, sym, ap, ◌∙◌, ℕ, List, [], length, arith, Some, None}
-use Rattle.std.specs.Prelude.{◌==◌}
+use Rattle.std.proofs.Common.{sym, ap, ◌∙◌, length}
 use Rattle.std.specs.Option.{option_copied}
-use Rattle.std.specs.List.{find}
-use Rattle.dns_name.specs.Name.{Name}
-use Rattle.dns_rdata.specs.Numbers.{type_SOA}
-use Rattle.dns_rdata.specs.Record.{Record, rtype_of}
-use Rattle.shared_tree.specs.Pairs.{value_at}
 use Rattle.zone_tree.specs.Zone.{soa_of}
-use Rattle.zone_tree.specs.Filed.{Filed, records_under, items_of, AreKept}
 use Rattle.zone_tree.proofs.FiledLemmas.{soa_none, soa_some}
 use Rattle.zone_tree.proofs.zone.ZoneZoneRead.soa.Goals as goal
 

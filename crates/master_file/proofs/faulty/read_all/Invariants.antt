@@ -1,6 +1,6 @@
 use Rattle.std.proofs.Common.{◌≡◌, ◌++◌, length}
 use Rattle.master_file.specs.Records.{records_of}
-use Rattle.master_file.proofs.zone.records_in.Given as goal
+use Rattle.master_file.proofs.faulty.read_all.Given as goal
 
 abbrev pub invariant-loop-rr : goal.invariant-loop-rr
 invariant-loop-rr l = record {
