@@ -18,3 +18,4 @@ pub mod TableLemmas
 pub mod UserLemmas
 pub mod GoesOn
 pub mod MadeLemmas
+pub mod OwnerLemmas

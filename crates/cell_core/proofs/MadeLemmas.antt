@@ -17,3 +17,7 @@ none_left old step (Some r) e none = absurd (none (r.0, r.1, made_makes old r.1 
 -- without a step it makes nothing
 pub none_made : {T : Type 0} (old : State T) (step : WordStep T) → (HasWordStep old step → ⊥) → made old step ≡ None
 none_made old step none = none_left old step (made old step) refl none
+
+-- what a step makes is what the function makes
+pub makes_made : {T : Type 0} (old new : State T) (step : WordStep T) (event : WordEvent) → Makes old step event new → made old step ≡ Some (event, new)
+makes_made old new step event m = search rules

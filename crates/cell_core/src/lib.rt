@@ -23,8 +23,9 @@ pub use laws::{
 pub use machine::Machine;
 pub use step::{Event, Step, StepFault};
 pub use word_laws::{
-    buried_is_unowned, buried_once, calls_go_on, owner_finds_its_value, rest_is_buried_and_free,
-    steps_are_a_function, word_examples, word_runs_show_runs, word_steps_show_the_cell,
+    buried_is_unowned, buried_once, calls_go_on, load_gives_what_was_in_w, owner_finds_its_value,
+    rest_is_buried_and_free, steps_are_a_function, word_examples, word_runs_show_runs,
+    word_steps_show_the_cell,
 };
 pub use word_machine::WordMachine;
 pub use words::{GRANTS, Owner, Publisher, SLOTS, Slot, Version, WordEvent, WordStep};

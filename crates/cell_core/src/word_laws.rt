@@ -1,5 +1,5 @@
 //! Laws of the steps on words, each the contract of a function that does nothing.
-ghost use Rattle.std.specs.Prelude.{◌≡◌, ◌≢◌, ℕ, ◌+◌, ◌-◌, ◌<◌, ◌≤◌, ◌==◌, ◌^◌, true, List, length, count_by, Option, Some, None};
+ghost use Rattle.std.specs.Prelude.{◌≡◌, ◌≢◌, ℕ, ◌+◌, ◌-◌, ◌<◌, ◌≤◌, ◌==◌, ◌^◌, true, List, length, take, count_by, Option, Some, None};
 ghost use Rattle.std.specs.List.{slice_get};
 ghost use Rattle.cell_core.specs.Cell.{Cell, CellStep, IsLast, Runs};
 ghost use Rattle.cell_core.specs.Words.{State, found_by, found_last, grants, free_word, slot_of, number_in, version_in, word_of, given_of, fetch_add, fetch_sub, bulk, dead_word, begun, first_slot};
@@ -75,6 +75,15 @@ pub fn calls_go_on<T>()
         → HasWordStep {T = T} state Swap }
     ensures settle { (state : State T) (cell : Cell T) (number place given : ℕ) → Shows state cell
         → state.publisher ≡ Settling number place given → HasWordStep {T = T} state Settle }
+{}
+
+/// A load of a run gives the number that was in W then, and its owner has no other number, whatever is done behind it.
+pub fn load_gives_what_was_in_w<T>()
+    ensures was_last { (before after : State T) (run : List (WordStep T × WordEvent)) (place owner number : ℕ) → WordRuns before run after
+        → slice_get run place ≡ Some (Load, Loaded owner number)
+        → (between : State T) × WordRuns before (take place run) between × (number_in between (slot_of between.latest) ≡ Some number) }
+    ensures keeps { (before after : State T) (run : List (WordStep T × WordEvent)) (place owner number other slot : ℕ) → WordRuns before run after
+        → slice_get run place ≡ Some (Load, Loaded owner number) → slice_get after.owners owner ≡ Some (Holding other slot) → other ≡ number }
 {}
 
 /// What a step on a word makes is a function of the state: none exactly where there is no such step.

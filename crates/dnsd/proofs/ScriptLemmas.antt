@@ -1,30 +1,35 @@
 -- Lemmas on scripts and on what is printed of the replies.
-use Rattle.std.proofs.Common.{◌≡◌, ℕ, suc, ◌+◌, ◌<◌, List, [], ◌∷◌, ◌++◌, length, map, drop, Option, Some, None, Result, Ok, Err, IfSome, refl, sym, ap, ◌∙◌, arith, append_assoc}
+use Rattle.std.proofs.Common.{◌≡◌, ℕ, ◌+◌, ◌<◌, List, [], ◌∷◌, ◌++◌, length, map, drop, Option, Some, None, Result, Ok, Err, IfSome, IfErr, refl, sym, ap, ◌∙◌, subst, arith, append_assoc}
 use Rattle.std.specs.Io.BufRead.{take_through, drop_through, strip_last}
 use Rattle.std.specs.Io.KnownBytes.{Appends}
-use Rattle.std.proofs.Common.{get_or, drop-cons}
-use Rattle.std.proofs.lemmas.List.{length-map, map-append}
-use Rattle.dns_rdata.specs.Record.{Record}
+use Rattle.std.proofs.Common.{get_or}
+use Rattle.std.proofs.lemmas.List.{drop_more, map-append}
 use Rattle.dnsd.proofs.LinesLemmas.{input_lines-first, IsWritten, Appends-twice}
 use Rattle.dnsd.specs.Lines.{input_lines, Begins}
-use Rattle.dnsd.specs.Script.{step_of, onto_steps, steps_from, script_of, said_by, named_by, printed, printed_lines}
-use Rattle.world_run.specs.WorldReplies.{replies_behind, replies_of}
-use Rattle.world_run.specs.WorldSteps.{Turn}
+use Rattle.dnsd.specs.Script.{step_of, onto_steps, steps_from, script_of, said_by, printed, printed_lines, printed_replies, output_of_steps, script_output, IsPastLimit}
+use Rattle.dns_rdata.specs.Record.{Record}
+use Rattle.dnsd.specs.Run.{AtDevice, AtLimit}
+use Rattle.dnsd.specs.declared.fault.Fault.{Fault}
+use Rattle.dnsd.specs.declared.fault.Fault.TheVariants.{Zone, Script, World, Device}
+use Rattle.world_run.specs.World.{replies_of}
+use Rattle.world_run.specs.declared.fault.WorldFault.{WorldFault}
+use Rattle.world_run.specs.declared.fault.WorldFault.TheVariants.{NoMemory, Limit}
+use Rattle.world_run.specs.declared.step.WorldStep.{WorldStep}
 use Rattle.dnsd.specs.declared.script.ScriptStep.{ScriptStep}
 use Rattle.world_run.specs.declared.step.WorldReply.{WorldReply}
 
 -- steps in front of others, or of a line that says none
-abbrev pub behind_steps : List Turn → Result (List Turn) ℕ → Result (List Turn) ℕ
+abbrev pub behind_steps : List WorldStep → Result (List WorldStep) ℕ → Result (List WorldStep) ℕ
 behind_steps done (Ok steps) = Ok (done ++ steps)
 behind_steps done (Err line) = Err line
 
 -- the steps so far, of a script of which the rest is left: with the rest's they are the whole script's
-pub record IsOnTheWayThroughScript (input : List ℕ) (left : Option (List ℕ)) (done : List Turn) (number : ℕ) : Type 0 where
+pub record IsOnTheWayThroughScript (input : List ℕ) (left : Option (List ℕ)) (done : List WorldStep) (number : ℕ) : Type 0 where
   pub rest : List ℕ
   pub is_left : left ≡ Some rest
   pub whole : behind_steps done (steps_from number (input_lines rest)) ≡ script_of input
 
-behind_none : (steps : Result (List Turn) ℕ) → behind_steps [] steps ≡ steps
+behind_none : (steps : Result (List WorldStep) ℕ) → behind_steps [] steps ≡ steps
 behind_none (Ok steps) = refl
 behind_none (Err line) = refl
 
@@ -54,58 +59,38 @@ steps_from-first number (c ∷ cs) cleared line none more some =
     ap (steps_from number) (input_lines-first c cs) ∙ ap (λ xs. onto_steps number (step_of (strip_last 10 xs)) (steps_from (number + 1) (input_lines (drop_through 10 (c ∷ cs))))) (sym is)
 
 -- a line that says no step is the first such line of the script
-pub bad_line : (input : List ℕ) (left after : Option (List ℕ)) (cleared line : List ℕ) (done : List Turn) (number : ℕ) → IsOnTheWayThroughScript input left done number
+pub bad_line : (input : List ℕ) (left after : Option (List ℕ)) (cleared line : List ℕ) (done : List WorldStep) (number : ℕ) → IsOnTheWayThroughScript input left done number
     → ReadsFirstLine left after cleared line → step_of (strip_last 10 line) ≡ None → script_of input ≡ Err number
 bad_line input left after cleared line done number way reads is =
     let read : ReadsFirstLine (Some way.rest) after cleared line = rw way.is_left at reads in
     sym way.whole ∙ ap (behind_steps done) (steps_from-first number way.rest cleared line read.none read.more read.some ∙ ap (λ step. onto_steps number step (steps_from (number + 1) (input_lines (drop_through 10 way.rest)))) is)
 
-behind_one_more : (done : List Turn) (step : Turn) (number : ℕ) (steps : Result (List Turn) ℕ) → behind_steps (done ++ step ∷ []) steps ≡ behind_steps done (onto_steps number (Some step) steps)
+behind_one_more : (done : List WorldStep) (step : WorldStep) (number : ℕ) (steps : Result (List WorldStep) ℕ) → behind_steps (done ++ step ∷ []) steps ≡ behind_steps done (onto_steps number (Some step) steps)
 behind_one_more done step number (Ok steps) = ap Ok (append_assoc done (step ∷ []) steps)
 behind_one_more done step number (Err line) = refl
 
 -- a line that says a step is one step more
-pub IsOnTheWayThroughScript-line : (input : List ℕ) (left after : Option (List ℕ)) (cleared line : List ℕ) (done : List Turn) (step : Turn) (number : ℕ) → IsOnTheWayThroughScript input left done number
+pub IsOnTheWayThroughScript-line : (input : List ℕ) (left after : Option (List ℕ)) (cleared line : List ℕ) (done : List WorldStep) (step : WorldStep) (number : ℕ) → IsOnTheWayThroughScript input left done number
     → ReadsFirstLine left after cleared line → step_of (strip_last 10 line) ≡ Some step → IsOnTheWayThroughScript input after (done ++ step ∷ []) (number + 1)
 IsOnTheWayThroughScript-line input left after cleared line done step number way reads is =
     let read : ReadsFirstLine (Some way.rest) after cleared line = rw way.is_left at reads in
-    let others : Result (List Turn) ℕ = steps_from (number + 1) (input_lines (drop_through 10 way.rest)) in
+    let others : Result (List WorldStep) ℕ = steps_from (number + 1) (input_lines (drop_through 10 way.rest)) in
     record {
       rest = drop_through 10 way.rest;
       is_left = read.taken;
       whole = behind_one_more done step number others ∙ ap (behind_steps done) (ap (λ said. onto_steps number said others) (sym is) ∙ sym (steps_from-first number way.rest cleared line read.none read.more read.some)) ∙ way.whole;
     }
 
--- there are as many replies as steps
-length-replies_behind : (first : List Record) (earlier turns : List Turn) → length (replies_behind first earlier turns) ≡ length turns
-length-replies_behind first earlier [] = refl
-length-replies_behind first earlier (turn ∷ turns) = ap suc (length-replies_behind first (turn ∷ earlier) turns)
-
-pub length-replies_of : (first : List Record) (steps : List ScriptStep) → length (replies_of first (map said_by steps)) ≡ length steps
-length-replies_of first steps = length-replies_behind first [] (map said_by steps) ∙ length-map steps said_by
-
--- there are as many replies as steps, wherever the two are stored
-pub as_many_replies : (first : List Record) (script played told : List ScriptStep) (replies shown : List WorldReply) → played ≡ script → told ≡ script
-    → replies ≡ replies_of first (map said_by played) → shown ≡ replies → length told ≡ length shown
-as_many_replies first script played told replies shown is_played is_told is_replies is_shown =
-    ap length (is_told ∙ sym is_played) ∙ sym (length-replies_of first played) ∙ ap length (sym (is_shown ∙ is_replies))
-
 -- the line that is printed of a reply, as it is put together
-pub line_printed : (step : ScriptStep) (given : WorldReply) (cleared put shown name : List ℕ) → cleared ≡ [] → put ≡ cleared ++ (printed name given ++ 10 ∷ []) → shown ≡ put
-    → name ≡ named_by (said_by step) → shown ≡ printed (named_by (said_by step)) given ++ 10 ∷ []
-line_printed step given cleared put shown name none is_put is_shown is_name =
-    is_shown ∙ is_put ∙ ap (λ xs. xs ++ (printed name given ++ 10 ∷ [])) none ∙ ap (λ xs. printed xs given ++ 10 ∷ []) is_name
+pub line_printed : (given : WorldReply) (cleared put shown : List ℕ) → cleared ≡ [] → put ≡ cleared ++ (printed given ++ 10 ∷ []) → shown ≡ put → shown ≡ printed given ++ 10 ∷ []
+line_printed given cleared put shown none is_put is_shown = is_shown ∙ is_put ∙ ap (λ xs. xs ++ (printed given ++ 10 ∷ [])) none
 
 -- the lines that are left, by their first
-pub printed_lines-first : (steps : List ScriptStep) (replies : List WorldReply) (at : ℕ) (step : ScriptStep) (given : WorldReply) → at < length steps → at < length replies
-    → step ≡ get_or steps at step → given ≡ get_or replies at given → {line : List ℕ} → line ≡ printed (named_by (said_by step)) given ++ 10 ∷ []
-    → printed_lines (map said_by (drop at steps)) (drop at replies) ≡ line ++ printed_lines (map said_by (drop (at + 1) steps)) (drop (at + 1) replies)
-printed_lines-first steps replies at step given in_steps in_replies is_step is_given is_line =
-    let next : at + 1 ≡ suc at = omega arith in
-    let s : drop at steps ≡ step ∷ drop (at + 1) steps = drop-cons steps at step in_steps ∙ ap (λ x. x ∷ drop (suc at) steps) (sym is_step) ∙ ap (λ n. step ∷ drop n steps) (sym next) in
-    let r : drop at replies ≡ given ∷ drop (at + 1) replies = drop-cons replies at given in_replies ∙ ap (λ x. x ∷ drop (suc at) replies) (sym is_given) ∙ ap (λ n. given ∷ drop n replies) (sym next) in
-    ap (λ xs. printed_lines (map said_by xs) (drop at replies)) s ∙ ap (printed_lines (map said_by (step ∷ drop (at + 1) steps))) r
-    ∙ ap (λ xs. xs ++ printed_lines (map said_by (drop (at + 1) steps)) (drop (at + 1) replies)) (sym is_line)
+pub printed_lines-first : (replies : List WorldReply) (at : ℕ) (given : WorldReply) → at < length replies → given ≡ get_or replies at given → {line : List ℕ} → line ≡ printed given ++ 10 ∷ []
+    → printed_lines (drop at replies) ≡ line ++ printed_lines (drop (at + 1) replies)
+printed_lines-first replies at given in_replies is_given is_line =
+    ap printed_lines (drop_more replies at given in_replies ∙ ap (λ x. x ∷ drop (at + 1) replies) (sym is_given))
+    ∙ ap (λ xs. xs ++ printed_lines (drop (at + 1) replies)) (sym is_line)
 
 -- a line more is written
 pub IsWritten-line : (before between after : Option (List ℕ)) (octets rest line others : List ℕ) → IsWritten before between octets rest → rest ≡ line ++ others → Appends between after line → IsWritten before after octets others
@@ -127,3 +112,49 @@ Begins-part before between after octets rest line others is parts begins = recor
 -- one step more
 pub map-one_more : (steps longer : List ScriptStep) (step : ScriptStep) → longer ≡ steps ++ step ∷ [] → map said_by longer ≡ map said_by steps ++ said_by step ∷ []
 map-one_more steps longer step is = ap (map said_by) is ∙ map-append said_by steps (step ∷ [])
+
+-- a fact at the limit, of a fault of the world
+pub at_limit : (fault : WorldFault) (fact : Type 0) → (fault ≡ Limit → fact) → AtLimit (World fault) fact
+at_limit NoMemory fact there = tt
+at_limit Limit fact there = there refl
+
+pub AtLimit-each : (fault : Fault) (fact other : Type 0) → (fact → other) → AtLimit fault fact → AtLimit fault other
+AtLimit-each (Zone fault) fact other so at = tt
+AtLimit-each (Script line) fact other so at = tt
+AtLimit-each (World NoMemory) fact other so at = tt
+AtLimit-each (World Limit) fact other so at = so at
+AtLimit-each (Device fault) fact other so at = tt
+
+-- a script that is read passes the limit where its lines do
+pub past_limit : (left : Option (List ℕ)) (zone : List Record) (steps played : List ScriptStep) → IfSome left (λ input. script_of input ≡ Ok (map said_by steps)) → played ≡ steps → IsPastLimit zone (Ok (map said_by played)) → IfSome left (λ input. IsPastLimit zone (script_of input))
+past_limit None zone steps played read is past = tt
+past_limit (Some input) zone steps played read is past = rw read (rw (sym is) past)
+
+output_is : (zone : List Record) (input : List ℕ) (lines : List WorldStep) (replies : List WorldReply) → script_of input ≡ Ok lines → replies_of zone lines ≡ Some replies → printed_lines replies ≡ script_output zone input
+output_is zone input lines replies read told = sym (ap (output_of_steps zone) read ∙ ap printed_replies told)
+
+-- what is written of the replies is the script's output
+pub written_out : (left : Option (List ℕ)) (zone : List Record) (steps played : List ScriptStep) (replies shown : List WorldReply) (before after : Option (List ℕ)) → IfSome left (λ input. script_of input ≡ Ok (map said_by steps)) → played ≡ steps
+    → replies_of zone (map said_by played) ≡ Some replies → shown ≡ replies → Appends before after (printed_lines shown) → IfSome left (λ input. Appends before after (script_output zone input))
+written_out None zone steps played replies shown before after read is told same written = tt
+written_out (Some input) zone steps played replies shown before after read is told same written =
+    let lines : script_of input ≡ Ok (map said_by played) = read ∙ ap (λ (s : List ScriptStep). Ok (map said_by s)) (sym is) in
+    subst (λ octets. Appends before after octets) (ap printed_lines same ∙ output_is zone input (map said_by played) replies lines told) written
+
+pub begun_out : (left : Option (List ℕ)) (zone : List Record) (steps played : List ScriptStep) (replies shown : List WorldReply) (before after : Option (List ℕ)) → IfSome left (λ input. script_of input ≡ Ok (map said_by steps)) → played ≡ steps
+    → replies_of zone (map said_by played) ≡ Some replies → shown ≡ replies → Begins before after (printed_lines shown) → IfSome left (λ input. Begins before after (script_output zone input))
+begun_out None zone steps played replies shown before after read is told same written = tt
+begun_out (Some input) zone steps played replies shown before after read is told same written =
+    let lines : script_of input ≡ Ok (map said_by played) = read ∙ ap (λ (s : List ScriptStep). Ok (map said_by s)) (sym is) in
+    subst (λ octets. Begins before after octets) (ap printed_lines same ∙ output_is zone input (map said_by played) replies lines told) written
+
+at_device : (fault : Fault) (fact : Type 0) → fact → AtDevice fault fact
+at_device (Zone fault) fact there = tt
+at_device (Script line) fact there = tt
+at_device (World fault) fact there = tt
+at_device (Device fault) fact there = there
+
+-- a fact at a device's fault
+pub IfErr-at_device : {X : Type 0} (result : Result X Fault) (fact : Type 0) → fact → IfErr result (λ fault. AtDevice fault fact)
+IfErr-at_device (Ok x) fact there = tt
+IfErr-at_device (Err fault) fact there = at_device fault fact there

@@ -11,6 +11,7 @@ use Rattle.dnsd.specs.declared.command.Command.{Command}
 use Rattle.dnsd.specs.declared.command.Command.TheVariants.{Answer, Check, Steps}
 use Rattle.dnsd.specs.declared.fault.Fault.{Fault}
 use Rattle.dnsd.specs.declared.fault.Fault.TheVariants.{Zone, Script, World, Device}
+use Rattle.world_run.specs.declared.fault.WorldFault.TheVariants as world
 use Rattle.dnsd.specs.declared.script.ScriptFault.{ScriptFault}
 use Rattle.dnsd.specs.declared.script.ScriptFault.TheVariants as script
 use Rattle.dnsd.specs.Input.{zone_text_of, behind_zone_text}
@@ -39,6 +40,11 @@ AtRefusedZone fault fact = Unit
 abbrev pub AtDevice : Fault → Type 0 → Type 0
 AtDevice (Device fault) fact = fact
 AtDevice fault fact = Unit
+
+-- a fact where 64 calls are under way and a line begins one more
+abbrev pub AtLimit : Fault → Type 0 → Type 0
+AtLimit (World world.Limit) fact = fact
+AtLimit fault fact = Unit
 
 -- a fault that steps may be given: want of memory, or a device's fault
 abbrev pub IsOfPlay : Fault → Type 0

@@ -1,35 +1,47 @@
 //! Scripts: steps as lines of text.
 //!
-//! A line is `load NAME`, `drop NAME` or `ask NAME HEX`, its words with one space between; a name is 1 to 8 lower-case
-//! letters and digits, and HEX a request of 1 to 65,535 octets in hexadecimal. The last line may want its LF.
-ghost use Rattle.std.specs.Prelude.{◌≡◌, ◌==◌, ◌++◌, ◌∷◌, [], Ok, Err, OnOk, IfOk, IfErr, IfSome, map};
+//! A line is a call, `load NAME`, `drop NAME` or `ask NAME HEX`, or `begin NAME` and a call, or `next NAME`, its words with one
+//! space between; a name is 1 to 8 lower-case letters and digits, and HEX a request of 1 to 65,535 octets in hexadecimal. The
+//! last line may want its LF.
+ghost use Rattle.std.specs.Prelude.{◌≡◌, ◌==◌, ◌&&◌, bytes_eq, ◌++◌, ◌∷◌, [], Ok, Err, OnOk, IfOk, IfErr, IfSome, map};
 ghost use Rattle.std.specs.List.{list_all};
 ghost use Rattle.std.specs.Option.{option_map};
 ghost use Rattle.dnsd.specs.declared.script.ScriptFault.TheVariants.{Device};
 ghost use Rattle.dnsd.specs.Script.{AtBad};
-ghost use Rattle.dnsd.specs.Script.{words_of as words_on, is_name as says_name, is_name_octet as says_name_octet, request_in, asking, step_in as says_step, step_of as step_on, script_of, said_by, named_by};
+ghost use Rattle.dnsd.specs.Script.{words_of as words_on, is_name as says_name, is_name_octet as says_name_octet, request_in, asking, call_in as says_call, step_in as says_step, step_of as step_on, script_of, called_by, said_by};
 ghost use Rattle.hex.specs.Hex.{decode_of};
-ghost use Rattle.world_run.specs.WorldSteps.{turn_of};
+ghost use Rattle.world_run.specs.declared.step.WorldStep.TheVariants.{Whole, Begin};
 
 use crate::answer::{MAX_REQUEST, without_lf};
 use crate::input::{MAX_READS, endless};
 use hex::FromHexError;
 use std::alloc::{AllocError, Global};
 use std::io::{self, BufRead};
-use world_run::{Handle, WorldStep};
+use world_run::{Call, Handle, Request, WorldStep};
 
-/// The most octets of a strong owner's name.
+/// The most octets of a name.
 const MAX_NAME: usize = 8;
 
-/// A step that a script may say.
+/// A call that a script may say.
 #[derive(Drop)]
-pub enum ScriptStep {
+pub enum ScriptCall {
     /// A strong owner of the last version, under this name.
     Load(Vec<u8>),
     /// The strong owner of this name is given up.
     Drop(Vec<u8>),
     /// A request over UDP, answered in the version of the strong owner of this name.
     Ask(Vec<u8>, Vec<u8>),
+}
+
+/// A step that a script may say.
+#[derive(Drop)]
+pub enum ScriptStep {
+    /// A call with all its steps.
+    Whole(ScriptCall),
+    /// A call under way from now on, under this name.
+    Begin(Vec<u8>, ScriptCall),
+    /// One step of the call under way of this name.
+    Next(Vec<u8>),
 }
 
 /// Why a script isn't read.
@@ -49,28 +61,33 @@ impl From<io::Error> for ScriptFault {
     }
 }
 
-impl ScriptStep {
-    /// The name of the strong owner.
-    pub fn name(&self) -> &[u8]
-        ensures { result.now ≡ named_by (said_by self.now) }
+impl ScriptCall {
+    /// The call as the world takes one.
+    fn as_world(&self) -> Call<'_>
+        ensures { result ≡ called_by self.now }
     {
         match self {
-            ScriptStep::Load(name) | ScriptStep::Drop(name) | ScriptStep::Ask(name, _) => {
-                name.as_slice()
-            }
+            ScriptCall::Load(name) => Call::Load(Handle::new(name.as_slice())),
+            ScriptCall::Drop(name) => Call::Drop(Handle::new(name.as_slice())),
+            ScriptCall::Ask(name, request) => Call::Ask(
+                Handle::new(name.as_slice()),
+                Request::new(request.as_slice()),
+            ),
         }
     }
+}
 
+impl ScriptStep {
     /// The step as the world takes one.
     pub fn as_world(&self) -> WorldStep<'_>
-        ensures { turn_of result ≡ said_by self.now }
+        ensures { result ≡ said_by self.now }
     {
         match self {
-            ScriptStep::Load(name) => WorldStep::Load(Handle(name.as_slice())),
-            ScriptStep::Drop(name) => WorldStep::Drop(Handle(name.as_slice())),
-            ScriptStep::Ask(name, request) => {
-                WorldStep::Ask(Handle(name.as_slice()), request.as_slice())
+            ScriptStep::Whole(call) => WorldStep::Whole(call.as_world()),
+            ScriptStep::Begin(name, call) => {
+                WorldStep::Begin(Handle::new(name.as_slice()), call.as_world())
             }
+            ScriptStep::Next(name) => WorldStep::Next(Handle::new(name.as_slice())),
         }
     }
 }
@@ -132,11 +149,62 @@ fn step_in(alloc: Global, words: &[&[u8]]) -> io::Result<Option<ScriptStep>>
     ensures { IfOk result (λ step. option_map said_by step ≡ says_step (map (λ word. word.now) words.now)) }
 {
     match words {
+        [word, name] => {
+            if is_word_for(word, b"next", name) {
+                Ok(Some(ScriptStep::Next(Vec::from_slice(alloc, name)?)))
+            } else {
+                whole_of(alloc, words)
+            }
+        }
+        [word, name, _, ..] => {
+            if is_word_for(word, b"begin", name) {
+                begin_of(alloc, name, &words[2..])
+            } else {
+                whole_of(alloc, words)
+            }
+        }
+        _ => Ok(None),
+    }
+}
+
+/// Whether a word is this one, in front of a name.
+fn is_word_for(word: &[u8], this: &[u8], name: &[u8]) -> bool
+    ensures { result ≡ (bytes_eq word.now this.now && says_name name.now) }
+{
+    word == this && is_name(name)
+}
+
+/// A call with all its steps, by words that say one; None where they say none.
+fn whole_of(alloc: Global, words: &[&[u8]]) -> io::Result<Option<ScriptStep>>
+    ensures { IfOk result (λ step. option_map said_by step ≡ option_map Whole (says_call (map (λ word. word.now) words.now))) }
+{
+    match call_in(alloc, words)? {
+        Some(call) => Ok(Some(ScriptStep::Whole(call))),
+        None => Ok(None),
+    }
+}
+
+/// A call under way under a name, by words that say the call; None where they say none.
+fn begin_of(alloc: Global, name: &[u8], words: &[&[u8]]) -> io::Result<Option<ScriptStep>>
+    ensures { IfOk result (λ step. option_map said_by step ≡ option_map (Begin name.now) (says_call (map (λ word. word.now) words.now))) }
+{
+    match call_in(alloc, words)? {
+        Some(call) => Ok(Some(ScriptStep::Begin(Vec::from_slice(alloc, name)?, call))),
+        None => Ok(None),
+    }
+}
+
+/// The call that words say; None where they say none.
+#[tactic(auto, unfolding(crate::specs::Script::call_in))]
+fn call_in(alloc: Global, words: &[&[u8]]) -> io::Result<Option<ScriptCall>>
+    ensures { IfOk result (λ call. option_map called_by call ≡ says_call (map (λ word. word.now) words.now)) }
+{
+    match words {
         [word, name] if *word == b"load".as_slice() && is_name(name) => {
-            Ok(Some(ScriptStep::Load(Vec::from_slice(alloc, name)?)))
+            Ok(Some(ScriptCall::Load(Vec::from_slice(alloc, name)?)))
         }
         [word, name] if *word == b"drop".as_slice() && is_name(name) => {
-            Ok(Some(ScriptStep::Drop(Vec::from_slice(alloc, name)?)))
+            Ok(Some(ScriptCall::Drop(Vec::from_slice(alloc, name)?)))
         }
         [word, name, digits] if *word == b"ask".as_slice() && is_name(name) => {
             ask_of(alloc, name, digits)
@@ -146,20 +214,20 @@ fn step_in(alloc: Global, words: &[&[u8]]) -> io::Result<Option<ScriptStep>>
 }
 
 /// A request in hexadecimal, asked of a strong owner; None where it is none of 1 to 65,535 octets.
-fn ask_of(alloc: Global, name: &[u8], digits: &[u8]) -> io::Result<Option<ScriptStep>>
-    ensures { IfOk result (λ step. option_map said_by step ≡ asking name.now (request_in (decode_of digits.now))) }
+fn ask_of(alloc: Global, name: &[u8], digits: &[u8]) -> io::Result<Option<ScriptCall>>
+    ensures { IfOk result (λ call. option_map called_by call ≡ asking name.now (request_in (decode_of digits.now))) }
 {
     match hex::decode(alloc, digits) {
         Ok(octets) if !octets.is_empty() && octets.len() <= MAX_REQUEST => {
             let name = Vec::from_slice(alloc, name)?;
-            Ok(Some(ScriptStep::Ask(name, octets)))
+            Ok(Some(ScriptCall::Ask(name, octets)))
         }
         Err(FromHexError::OutOfMemory) => Err(io::Error::from(AllocError)),
         _ => Ok(None),
     }
 }
 
-/// Whether a word is a strong owner's name: 1 to 8 lower-case letters and digits.
+/// Whether a word is the name of a strong owner or of a call under way: 1 to 8 lower-case letters and digits.
 #[tactic(auto, unfolding(crate::specs::Script::is_name))]
 fn is_name(word: &[u8]) -> bool
     ensures { result ≡ says_name word.now }

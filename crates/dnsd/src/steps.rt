@@ -1,27 +1,28 @@
 //! Playing a script, and printing the replies.
-ghost use Rattle.std.specs.Prelude.{◌≡◌, ◌++◌, ◌∷◌, [], length, map, Err, OnOk, OnErr, IfOk, IfErr, IfSome, decimal};
+ghost use Rattle.std.specs.Prelude.{◌≡◌, ◌++◌, ◌∷◌, [], map, Some, Ok, Err, OnOk, OnErr, IfOk, IfErr, IfSome, decimal};
 ghost use Rattle.std.specs.Io.KnownBytes.{Appends};
 ghost use Rattle.hex.specs.Hex.{encode_lower};
 ghost use Rattle.dnsd.specs.Lines.{Begins};
-ghost use Rattle.dnsd.specs.Run.{status_of, AtRefusedZone, AtDevice, IsOfScript, IsOfPlay};
-ghost use Rattle.dnsd.specs.Script.{script_of, script_output, said_by, named_by, printed, printed_lines};
-ghost use Rattle.world_run.specs.WorldReplies.{replies_of};
-ghost use Rattle.world_run.specs.WorldSteps.{turn_of};
+ghost use Rattle.dnsd.specs.Run.{status_of, AtRefusedZone, AtDevice, AtLimit, IsOfScript, IsOfPlay};
+ghost use Rattle.dnsd.specs.Script.{script_of, script_output, IsPastLimit, said_by, printed_answer, printed, printed_lines};
+ghost use Rattle.world_run.specs.Told.{step_words};
+ghost use Rattle.world_run.specs.World.{replies_of};
 
 use crate::answer::write_whole;
 use crate::fault::Fault;
 use crate::script::{ScriptStep, read_script};
 use std::alloc::Global;
 use std::io::{self, BufRead, Write};
-use world_run::{WorldReply, WorldStep, run};
+use world_run::{Answer, StepName, WorldReply, WorldStep, run};
 use zone_tree::Zone;
 
-/// Plays the script that the reader gives, from a zone on, and writes for each step a line: `NAME N` for a strong owner of
-/// version N, `left`, `buried N`, the reply to a request in lower-case hexadecimal, `-` where there is none, and `not enabled`.
+/// Plays the script that the reader gives, from a zone on, and writes for each line what its call gave: `NAME N` for a strong
+/// owner of version N, `left`, `buried N`, the reply to a request in lower-case hexadecimal, `-` where there is none; `ok` for a
+/// call that is under way; the name of the step that one took, at its last step with what the call gave; and `not enabled`.
 ///
 /// The script is read whole before anything is done, and played before anything is written. `Script` is the first line that
-/// says no step, `World` want of memory while it is played, `Device` a device's fault or want of memory beside; then what was
-/// written is a beginning of the output.
+/// says no step, `World` want of memory while it is played or a line that begins a call where 64 are under way, `Device` a
+/// device's fault or want of memory beside; then what was written is a beginning of the output.
 pub fn run_steps<R: BufRead, W: Write>(
     alloc: Global,
     zone: &Zone,
@@ -33,13 +34,17 @@ pub fn run_steps<R: BufRead, W: Write>(
         Appends (W.contents writer.old) (W.contents writer.new) (script_output zone.now input))) }
     ensures zone { IfErr result (λ fault. AtRefusedZone fault ⊥) }
     ensures fault { IfErr result (λ fault. IfSome (R.remaining reader.old) (λ input. IsOfScript input fault)) }
+    ensures limit { IfErr result (λ fault. AtLimit fault (IfSome (R.remaining reader.old) (λ input. IsPastLimit zone.now (script_of input)))) }
     ensures unwritten { IfErr result (λ fault. status_of fault ≡ 1 → W.contents writer.new ≡ W.contents writer.old) }
     ensures failed { IfErr result (λ fault. AtDevice fault (IfSome (R.remaining reader.old) (λ input.
         Begins (W.contents writer.old) (W.contents writer.new) (script_output zone.now input)))) }
 {
     let script = read_script(alloc, reader)?;
-    let replies = play(alloc, zone, script.as_slice())?;
-    write_replies(alloc, script.as_slice(), replies.as_slice(), writer)?;
+    let replies = match play(alloc, zone, script.as_slice()) {
+        Ok(replies) => replies,
+        Err(fault) => return Err(fault),
+    };
+    write_replies(alloc, replies.as_slice(), writer)?;
     Ok(())
 }
 
@@ -49,17 +54,21 @@ fn play<'a>(
     zone: &'a Zone,
     script: &'a [ScriptStep],
 ) -> Result<Vec<WorldReply>, Fault>
-    ensures replies { IfOk result (λ replies. replies.items ≡ replies_of zone.now (map said_by script.now)) }
+    ensures replies { IfOk result (λ replies. replies_of zone.now (map said_by script.now) ≡ Some replies.items) }
     ensures fault { IfErr result (λ fault. IsOfPlay fault) }
+    ensures limit { IfErr result (λ fault. AtLimit fault (IsPastLimit zone.now (Ok (map said_by script.now)))) }
 {
     let steps = world_steps(alloc, script)?;
-    let replies = run(alloc, zone, steps.as_slice())?;
+    let replies = match run(alloc, zone, steps.as_slice()) {
+        Ok(replies) => replies,
+        Err(fault) => return Err(Fault::World(fault)),
+    };
     Ok(replies)
 }
 
 /// A script's steps as the world takes them.
 fn world_steps<'a>(alloc: Global, script: &'a [ScriptStep]) -> io::Result<Vec<WorldStep<'a>>>
-    ensures { IfOk result (λ steps. map turn_of steps.items ≡ map said_by script.now) }
+    ensures { IfOk result (λ steps. steps.items ≡ map said_by script.now) }
 {
     let mut steps = Vec::with_capacity(alloc, script.len())?;
     for step in script {
@@ -68,56 +77,72 @@ fn world_steps<'a>(alloc: Global, script: &'a [ScriptStep]) -> io::Result<Vec<Wo
     Ok(steps)
 }
 
-/// Writes the line for the reply to each step.
-fn write_replies<W: Write>(
-    alloc: Global,
-    script: &[ScriptStep],
-    replies: &[WorldReply],
-    writer: &mut W,
-) -> io::Result<()>
-    requires { length script.now ≡ length replies.now }
-    ensures ok { OnOk result (Appends (W.contents writer.old) (W.contents writer.new)
-        (printed_lines (map said_by script.now) replies.now)) }
-    ensures err { OnErr result (Begins (W.contents writer.old) (W.contents writer.new)
-        (printed_lines (map said_by script.now) replies.now)) }
+/// Writes the line for each reply.
+fn write_replies<W: Write>(alloc: Global, replies: &[WorldReply], writer: &mut W) -> io::Result<()>
+    ensures ok { OnOk result (Appends (W.contents writer.old) (W.contents writer.new) (printed_lines replies.now)) }
+    ensures err { OnErr result (Begins (W.contents writer.old) (W.contents writer.new) (printed_lines replies.now)) }
 {
     let mut line = Vec::new(alloc);
-    for (at, step) in script.iter().enumerate() {
+    for reply in replies {
         line.clear();
-        put_line(alloc, &mut line, step.name(), &replies[at])?;
+        put_line(alloc, &mut line, reply)?;
         write_whole(writer, line.as_slice())?;
     }
     Ok(())
 }
 
 /// Adds what is printed of a reply, and an LF.
-fn put_line(alloc: Global, line: &mut Vec<u8>, name: &[u8], reply: &WorldReply) -> io::Result<()>
-    ensures { OnOk result (line.new.items ≡ line.old.items ++ (printed name.now reply.now ++ 10 ∷ [])) }
+fn put_line(alloc: Global, line: &mut Vec<u8>, reply: &WorldReply) -> io::Result<()>
+    ensures { OnOk result (line.new.items ≡ line.old.items ++ (printed reply.now ++ 10 ∷ [])) }
 {
-    put_reply(alloc, line, name, reply)?;
+    put_reply(alloc, line, reply)?;
     put(line, b"\n")
 }
 
 /// Adds what is printed of a reply.
-fn put_reply(alloc: Global, line: &mut Vec<u8>, name: &[u8], reply: &WorldReply) -> io::Result<()>
-    ensures { OnOk result (line.new.items ≡ line.old.items ++ printed name.now reply.now) }
+fn put_reply(alloc: Global, line: &mut Vec<u8>, reply: &WorldReply) -> io::Result<()>
+    ensures { OnOk result (line.new.items ≡ line.old.items ++ printed reply.now) }
 {
     match reply {
-        WorldReply::Owner(number) => {
-            put(line, name)?;
+        WorldReply::Answered(answer) => put_answer(alloc, line, answer),
+        WorldReply::Begun => put(line, b"ok"),
+        WorldReply::Step(step) => put_step(line, *step),
+        WorldReply::Last(step, answer) => {
+            put_step(line, *step)?;
+            put(line, b" ")?;
+            put_answer(alloc, line, answer)
+        }
+        WorldReply::NotEnabled => put(line, b"not enabled"),
+    }
+}
+
+/// Adds what is printed of what a call gave.
+fn put_answer(alloc: Global, line: &mut Vec<u8>, answer: &Answer) -> io::Result<()>
+    ensures { OnOk result (line.new.items ≡ line.old.items ++ printed_answer answer.now) }
+{
+    match answer {
+        Answer::Owner(name, number) => {
+            put(line, name.as_slice())?;
             put(line, b" ")?;
             put_number(line, *number)
         }
-        WorldReply::Left => put(line, b"left"),
-        WorldReply::Buried(number) => {
+        Answer::Left => put(line, b"left"),
+        Answer::Buried(number) => {
             put(line, b"buried ")?;
             put_number(line, *number)
         }
-        WorldReply::Answer(octets) => put(line, hex::encode(alloc, octets.as_slice())?.as_bytes()),
-        WorldReply::Silent => put(line, b"-"),
-        WorldReply::Published => put(line, b"published"),
-        WorldReply::NotEnabled => put(line, b"not enabled"),
+        Answer::Reply(octets) => put(line, hex::encode(alloc, octets.as_slice())?.as_bytes()),
+        Answer::Silent => put(line, b"-"),
+        Answer::Published => put(line, b"published"),
+        Answer::NoSlot => put(line, b"no slot"),
     }
+}
+
+/// Adds the name of a step.
+fn put_step(line: &mut Vec<u8>, step: StepName) -> io::Result<()>
+    ensures { OnOk result (line.new.items ≡ line.old.items ++ step_words step) }
+{
+    write!(line, "{step}")
 }
 
 /// Adds a number in decimal digits.

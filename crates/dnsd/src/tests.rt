@@ -422,8 +422,42 @@ fn scripts(rt: HostRuntime) -> Result<(), Fail> {
     Ok(())
 }
 
+// A call under way reserves the name that it is to put into use, and gives up the one that it drops.
+#[test]
+fn calls_under_way(rt: HostRuntime) -> Result<(), Fail> {
+    let script = format!(in rt.alloc();
+        "begin x load a\nask a {WWW}\nload a\nload b\nnext x\nask a {WWW}\nbegin x drop a\nbegin y ask b {WWW}\nbegin y drop a\nload a\nnext x\nnext x\nbegin x drop c\n"
+    )?;
+    let want = format!(in rt.alloc();
+        "ok\nnot enabled\nnot enabled\nb 0\nload a 0\n{WWW_REPLY}\nok\n{WWW_REPLY}\nnot enabled\na 0\nrelease left\nnot enabled\nnot enabled\n"
+    )?;
+    let told = run_command(&rt, &steps(), ZONE, script.as_str())?;
+    told.is(&rt, "two calls", 0, want.as_str(), "");
+    Ok(())
+}
+
+// 64 calls are under way: a line that isn't enabled is no 65th, and one that is passes the limit.
+#[test]
+fn most_calls(rt: HostRuntime) -> Result<(), Fail> {
+    let mut script = String::new(rt.alloc());
+    let mut want = String::new(rt.alloc());
+    for number in 1..65_u64 {
+        let line = format!(in rt.alloc(); "begin x{number} load h{number}\n")?;
+        script.push_str(line.as_str())?;
+        want.push_str("ok\n")?;
+    }
+    script.push_str("load h1\nnext x1\nload z\n")?;
+    want.push_str("not enabled\nload h1 0\nz 0\n")?;
+    let told = run_command(&rt, &steps(), ZONE, script.as_str())?;
+    told.is(&rt, "63 calls", 0, want.as_str(), "");
+    script.push_str("begin x1 load y\nload v\n")?;
+    let told = run_command(&rt, &steps(), ZONE, script.as_str())?;
+    told.is(&rt, "64 calls", 1, "", "V2 Limit\n");
+    Ok(())
+}
+
 /// Lines that are no step.
-const BAD_LINES: [&str; 29] = [
+const BAD_LINES: [&str; 38] = [
     "",
     "load",
     "load ",
@@ -451,6 +485,15 @@ const BAD_LINES: [&str; 29] = [
     "update",
     "copy a b",
     "begin",
+    "begin x",
+    "begin x load",
+    "begin X load a",
+    "begin x  load a",
+    "begin x begin y load a",
+    "begin x next y",
+    "next",
+    "next ",
+    "next x y",
     "publish",
     "%",
 ];

@@ -1,7 +1,4 @@
-pub mod WorldBuried
-pub mod WorldHandles
-pub mod WorldKept
-pub mod WorldLaws
-pub mod WorldPast
-pub mod WorldRuns
-pub mod WorldZones
+pub mod EndLemmas
+pub mod PlayLemmas
+pub mod RunLemmas
+pub mod StepLemmas

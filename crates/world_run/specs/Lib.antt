@@ -1,6 +1,4 @@
+pub mod Phases
+pub mod Runs
 pub mod Told
 pub mod World
-pub mod WorldPlay
-pub mod WorldReplies
-pub mod WorldRuns
-pub mod WorldSteps

@@ -10,6 +10,8 @@ use std::fmt;
 pub enum WorldFault {
     /// A growth was refused.
     NoMemory,
+    /// A line that is enabled, other than one that takes a step of a call under way, stands where 64 calls are under way.
+    Limit,
 }
 
 impl fmt::Display for WorldFault {
@@ -18,6 +20,7 @@ impl fmt::Display for WorldFault {
     fn fmt<W: fmt::Write>(&self, f: &mut fmt::Formatter<W>) -> fmt::Result {
         match self {
             WorldFault::NoMemory => write!(f, "V1 NoMemory"),
+            WorldFault::Limit => write!(f, "V2 Limit"),
         }
     }
 }

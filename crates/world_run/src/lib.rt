@@ -1,23 +1,26 @@
-//! Strong owners of zone versions, by name, while further versions are published: whatever the steps, each request is
-//! answered in the one version that was published last when its name came into use.
+//! Strong owners of zone versions, by name, while further versions are published, with calls that are taken one step on a word
+//! at a time: whatever the lines, each request is answered in the one version that was last at the load which gave its name.
 //!
-//! Contracts see the versions as a cell, and the names in use with their numbers (`World`). What a list of steps gives is
-//! told twice: step by step (`Plays`), and from the steps alone (`replies_of`). The steps are our own; what answers a
-//! request is RFC 1034's and RFC 1035's. Steps as text, weak owners, updates and transfers are not here.
+//! Contracts see the words of the cell, the names in use with their owners, and the calls under way (`World`), and a line as
+//! what it makes of them (`turn`). Calls as steps are `Phases`; the words' own steps are `cell_core`'s. The lines are our own;
+//! what answers a request is RFC 1034's and RFC 1035's. Lines as text, weak owners, updates and transfers are not here.
 #![tactic(auto)]
 
 mod fault;
 mod laws;
+mod lent;
+mod phase;
 mod play;
+mod start;
 mod step;
 mod world;
 
 pub use fault::WorldFault;
 pub use laws::{
-    asks_are_answered_at_loaded, asks_keep_their_version, examples, plays_are_runs,
-    replies_are_told, unused_versions_are_buried,
+    asks_are_answered_at_loaded, examples, plays_are_runs, refused_lines_change_nothing,
 };
-pub use step::{Handle, Octets, WorldReply, WorldStep};
+pub use lent::{Handle, LentZone, Request};
+pub use step::{Answer, Call, Octets, StepName, WorldReply, WorldStep};
 pub use world::run;
 
 #[cfg(test)]

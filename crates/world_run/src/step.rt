@@ -1,22 +1,71 @@
 //! What is asked of the world, and what it replies.
+ghost use Rattle.std.specs.Prelude.{Some};
+ghost use Rattle.world_run.specs.Told.{step_words};
+
+use crate::lent::{Handle, LentZone, Request};
+use std::fmt;
 use std::marker::Model;
-use zone_tree::Zone;
 
-/// The name of a strong owner: octets that compare.
-#[derive(Clone, Copy, Drop)]
-pub struct Handle<'a>(pub &'a [u8]);
-
-/// A step.
-#[derive(Clone, Copy, Drop)]
-pub enum WorldStep<'a> {
-    /// A strong owner of the version that was published last, under this name.
+/// A call. All but `Ask` take steps on the words of the cell.
+#[derive(Drop)]
+pub enum Call<'a> {
+    /// A strong owner of the version that is published last, under this name.
     Load(Handle<'a>),
     /// A strong owner is given up.
     Drop(Handle<'a>),
     /// A request over UDP, answered in the version that a strong owner has.
-    Ask(Handle<'a>, &'a [u8]),
-    /// A version more.
-    Publish(&'a Zone),
+    Ask(Handle<'a>, Request<'a>),
+    /// A version more; the owner of the one before it, which the publication gives, is given up.
+    Publish(LentZone<'a>),
+}
+
+/// A line of a script.
+#[derive(Drop)]
+pub enum WorldStep<'a> {
+    /// A call with all its steps.
+    Whole(Call<'a>),
+    /// A call under way from now on, under this name, without a step.
+    Begin(Handle<'a>, Call<'a>),
+    /// One step of the call under way of this name.
+    Next(Handle<'a>),
+}
+
+/// The name of a step on a word.
+#[derive(Clone, Copy, Debug, PartialEq, Eq)]
+pub enum StepName {
+    /// A share is given out of W.
+    Load,
+    /// The publisher looks whether a slot is free.
+    Probe,
+    /// The publisher puts the version into its slot.
+    Prepare,
+    /// The publisher puts its slot into W.
+    Swap,
+    /// The publisher gives the shares back that weren't given out, but one.
+    Settle,
+    /// An owner gives its share back.
+    Release,
+    /// An owner tries to bury the version that it left without an owner.
+    Bury,
+    /// The owner whose bury won gives the slot free.
+    Free,
+}
+
+impl fmt::Display for StepName {
+    ghost output = { λ name. Some (step_words name) };
+
+    fn fmt<W: fmt::Write>(&self, f: &mut fmt::Formatter<W>) -> fmt::Result {
+        match self {
+            StepName::Load => write!(f, "load"),
+            StepName::Probe => write!(f, "probe"),
+            StepName::Prepare => write!(f, "prepare"),
+            StepName::Swap => write!(f, "swap"),
+            StepName::Settle => write!(f, "settle"),
+            StepName::Release => write!(f, "release"),
+            StepName::Bury => write!(f, "bury"),
+            StepName::Free => write!(f, "free"),
+        }
+    }
 }
 
 /// Octets of the world's own.
@@ -51,21 +100,37 @@ impl Octets {
     }
 }
 
-/// What a step gave.
+/// What a call gave.
 #[derive(Drop)]
-pub enum WorldReply {
-    /// The number of the version that the strong owner has, from 0 on.
-    Owner(u64),
-    /// The strong owner is gone, and its version stays: it is the last, or somebody else owns it.
+pub enum Answer {
+    /// The name of the strong owner, and the number of the version that it has, from 0 on.
+    Owner(Octets, u64),
+    /// The strong owner is gone, and the call has buried nothing.
     Left,
-    /// The strong owner is gone, and its version, which has this number, is buried.
+    /// The strong owner is gone, and the call has buried the version of this number.
     Buried(u64),
     /// The reply to a request, as on the wire.
-    Answer(Octets),
+    Reply(Octets),
     /// A request that gets no reply.
     Silent,
     /// A version was published.
     Published,
-    /// The step wasn't enabled, and changed nothing: a name that is in use already, or that is in no use.
+    /// No version was published: each of the 64 slots was seen in use.
+    NoSlot,
+}
+
+/// What a line gave.
+#[derive(Drop)]
+pub enum WorldReply {
+    /// The call of the line has made all its steps.
+    Answered(Answer),
+    /// The call of the line is under way.
+    Begun,
+    /// The step that the call under way has taken.
+    Step(StepName),
+    /// The step that the call under way has taken, its last, and what the call gave.
+    Last(StepName, Answer),
+    /// The line wasn't enabled, and changed nothing: a name that is in use already, or that is in no use; a second
+    /// publication; a step that the words don't have.
     NotEnabled,
 }

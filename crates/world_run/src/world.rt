@@ -1,8 +1,6 @@
-//! The steps of a world, made in turn.
-ghost use Rattle.std.specs.Prelude.{◌≡◌, IfOk, IfErr, map};
-ghost use Rattle.world_run.specs.World.{Plays};
-ghost use Rattle.world_run.specs.WorldReplies.{replies_of};
-ghost use Rattle.world_run.specs.WorldSteps.{turn_of};
+//! The lines of a script, played in turn.
+ghost use Rattle.std.specs.Prelude.{◌≡◌, Some, None, IfOk, IfErr};
+ghost use Rattle.world_run.specs.World.{replies_of};
 
 use crate::fault::WorldFault;
 use crate::play::Play;
@@ -10,22 +8,24 @@ use crate::step::{WorldReply, WorldStep};
 use std::alloc::Global;
 use zone_tree::Zone;
 
-/// Makes the steps in turn, from a world in which one version is published, and gives a reply for each.
+/// Plays the lines in turn, from a world in which one version is published, and gives a reply for each.
 ///
-/// `NoMemory` where a growth was refused.
+/// `NoMemory` where a growth was refused, `Limit` where a line begins a call and 64 are under way.
 pub fn run<'a>(
     alloc: Global,
     zone: &'a Zone,
-    steps: &[WorldStep<'a>],
+    lines: &[WorldStep<'a>],
 ) -> Result<Vec<WorldReply>, WorldFault>
-    ensures plays { IfOk result (λ replies. Plays zone.now (map turn_of steps.now) replies.items) }
-    ensures told { IfOk result (λ replies. replies.items ≡ replies_of zone.now (map turn_of steps.now)) }
-    ensures no_memory { IfErr result (λ fault. fault ≡ WorldFault.NoMemory) }
+    ensures told { IfOk result (λ replies. replies_of zone.now lines.now ≡ Some replies.items) }
+    ensures limit { IfErr result (λ fault. fault ≡ WorldFault.Limit → replies_of zone.now lines.now ≡ None) }
 {
     let mut play = Play::new(alloc, zone)?;
     let mut replies = Vec::new(alloc);
-    for step in steps {
-        let reply = play.turn(alloc, *step)?;
+    for line in lines {
+        let reply = match play.turn(alloc, line) {
+            Ok(reply) => reply,
+            Err(fault) => return Err(fault),
+        };
         let Ok(()) = replies.push(reply) else {
             return Err(WorldFault::NoMemory);
         };

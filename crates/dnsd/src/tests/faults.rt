@@ -145,6 +145,7 @@ fn words(rt: HostRuntime) -> Result<(), Fail> {
     let of_zone = |line, cause| Fault::Zone(FileFault { line, cause });
     let cases = [
         (Fault::World(WorldFault::NoMemory), "V1 NoMemory"),
+        (Fault::World(WorldFault::Limit), "V2 Limit"),
         (
             Fault::Script(18_446_744_073_709_551_615),
             "line 18446744073709551615: bad",

@@ -1,7 +1,15 @@
-use Rattle.dnsd.proofs.ScriptLemmas.{as_many_replies}
+use Rattle.dnsd.proofs.ScriptLemmas.{AtLimit-each, past_limit, written_out, begun_out, IfErr-at_device}
 use Rattle.dnsd.proofs.steps.run_steps.Goals as goal
 
-pub write_replies-requires : goal.write_replies-requires
-write_replies-requires g c =
-    as_many_replies c.args.zone.now c.in_ok-script.script.items c.as_slice.result.now c.as_slice-2.result.now c.in_ok-replies.replies.items c.as_slice-3.result.now
-    c.as_slice.ensures.value c.as_slice-2.ensures.value c.in_ok-replies.ensures.replies c.as_slice-3.ensures.value
+pub returns-in-Err-clause-limit : goal.returns-in-Err-clause-limit
+returns-in-Err-clause-limit g c =
+    AtLimit-each c.in-Err.fault _ _ (past_limit (g.R.Read.remaining c.args.reader.now) c.args.zone.now c.in_ok-script.script.items c.as_slice.result.now c.in_ok-script.ensures.ok c.as_slice.ensures.value) c.in-Err.ensures.limit
+
+pub returns-in_err-write_replies-clause-failed : goal.returns-in_err-write_replies-clause-failed
+returns-in_err-write_replies-clause-failed g c =
+    IfErr-at_device _ _
+    (begun_out (g.R.Read.remaining c.args.reader.now) c.args.zone.now c.in_ok-script.script.items c.as_slice.result.now c.in-Ok.replies.items c.as_slice-2.result.now (g.W.Write.contents c.args.writer.now) (g.W.Write.contents c.write_replies.new.writer) c.in_ok-script.ensures.ok c.as_slice.ensures.value c.in-Ok.ensures.replies c.as_slice-2.ensures.value c.in_err-write_replies.ensures.err)
+
+pub returns-clause-ok : goal.returns-clause-ok
+returns-clause-ok g c =
+    written_out (g.R.Read.remaining c.args.reader.now) c.args.zone.now c.in_ok-script.script.items c.as_slice.result.now c.in-Ok.replies.items c.as_slice-2.result.now (g.W.Write.contents c.args.writer.now) (g.W.Write.contents c.write_replies.new.writer) c.in_ok-script.ensures.ok c.as_slice.ensures.value c.in-Ok.ensures.replies c.as_slice-2.ensures.value c.in_ok-write_replies.ensures.ok

@@ -1,18 +1,11 @@
-use Rattle.std.proofs.Common.{◌≡◌, map, take, arith}
-use Rattle.std.proofs.lemmas.List.{take_all}
-use Rattle.world_run.specs.World.{started}
-use Rattle.world_run.specs.WorldPlay.{world_of}
-use Rattle.world_run.specs.WorldSteps.{turn_of}
-use Rattle.world_run.proofs.WorldZones.{plays_next}
-use Rattle.world_run.proofs.WorldLaws.{plays_told}
+use Rattle.std.proofs.Common.{arith}
+use Rattle.world_run.proofs.PlayLemmas.{next_played, all_played}
 use Rattle.world_run.proofs.world.run.Goals as goal
 
-pub loop-step-preserved : goal.loop-step-preserved
-loop-step-preserved c =
-    rw c.in-Ok.ensures.items
-    (plays_next c.args.steps.now c.loop-step.step-index c.step-item.result c.loop-step.replies.items (started c.args.zone.now) (world_of c.loop-step.play) (world_of c.turn.new.self) c.in_ok-reply.reply (omega arith) c.step-item.is c.loop-step.invariant c.in_ok-reply.ensures)
+pub loop-line-preserved : goal.loop-line-preserved
+loop-line-preserved c =
+    rw c.in-Ok-push.ensures.items
+    (next_played c.args.lines.now c.loop-line.line-index c.line-item.result c.loop-line.replies.items c.in-Ok.reply _ c.loop-line.play c.turn.new.self (omega arith) c.line-item.is c.in-Ok.ensures.ok c.loop-line.invariant)
 
 pub returns-clause-told : goal.returns-clause-told
-returns-clause-told c =
-    let whole : take c.loop-step.step-index c.args.steps.now ≡ c.args.steps.now = take_all c.loop-step.step-index c.args.steps.now (omega arith) in
-    plays_told c.args.zone.now (map turn_of c.args.steps.now) c.loop-step.replies.items (world_of c.loop-step.play, rw whole at c.loop-step.invariant)
+returns-clause-told c = all_played c.args.zone.now c.args.lines.now c.loop-line.line-index c.loop-line.replies.items c.loop-line.play (omega arith) c.loop-line.invariant

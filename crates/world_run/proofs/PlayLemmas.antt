@@ -1,0 +1,48 @@
+-- Lines played one after the other.
+use Rattle.std.proofs.Common.{◌≡◌, refl, sym, ap, ◌∙◌, ℕ, ◌+◌, ◌<◌, ◌≤◌, List, [], ◌∷◌, ◌++◌, length, drop, get_or, Option, Some, None}
+use Rattle.std.specs.Option.{option_and_then, option_map}
+use Rattle.std.proofs.lemmas.List.{drop_more, drop_all, append_assoc, append-nil}
+use Rattle.dns_rdata.specs.Record.{Record}
+use Rattle.world_run.specs.declared.step.WorldReply.{WorldReply}
+use Rattle.world_run.specs.declared.step.WorldStep.{WorldStep}
+use Rattle.world_run.specs.World.{World, started, turn, onto_replies, play, replies_of}
+
+-- replies in front of those that follow
+abbrev pub behind : List WorldReply → Option (List WorldReply × World) → Option (List WorldReply × World)
+behind replies more = option_map (λ rest. (replies ++ rest.0, rest.1)) more
+
+behind-none : (more : Option (List WorldReply × World)) → behind [] more ≡ more
+behind-none None = refl
+behind-none (Some rest) = refl
+
+behind-one : (replies : List WorldReply) (given : WorldReply) (more : Option (List WorldReply × World)) → behind replies (onto_replies given more) ≡ behind (replies ++ given ∷ []) more
+behind-one replies given None = refl
+behind-one replies given (Some rest) = ap (λ (l : List WorldReply). Some (l, rest.1)) (sym (append_assoc replies (given ∷ []) rest.0))
+
+-- nothing is played yet
+pub none_played : (lines : List WorldStep) (world : World) → play world lines ≡ behind [] (play world (drop 0 lines))
+none_played lines world = sym (behind-none (play world lines))
+
+line_due : (lines : List WorldStep) (i : ℕ) (line : WorldStep) → i < length lines → line ≡ get_or lines i line → drop i lines ≡ line ∷ drop (i + 1) lines
+line_due lines i line lt is = drop_more lines i line lt ∙ ap (λ (l : WorldStep). l ∷ drop (i + 1) lines) (sym is)
+
+-- one line more is played
+pub next_played : (lines : List WorldStep) (i : ℕ) (line : WorldStep) (replies : List WorldReply) (given : WorldReply) (first world after : World) → i < length lines → line ≡ get_or lines i line → turn world line ≡ Some (given, after)
+    → play first lines ≡ behind replies (play world (drop i lines)) → play first lines ≡ behind (replies ++ given ∷ []) (play after (drop (i + 1) lines))
+next_played lines i line replies given first world after lt is told so_far =
+    so_far ∙ ap (λ (l : List WorldStep). behind replies (play world l)) (line_due lines i line lt is)
+    ∙ ap (λ t. behind replies (option_and_then (λ told. onto_replies told.0 (play told.1 (drop (i + 1) lines))) t)) told
+    ∙ behind-one replies given (play after (drop (i + 1) lines))
+
+-- all lines are played
+pub all_played : (zone : List Record) (lines : List WorldStep) (i : ℕ) (replies : List WorldReply) (world : World) → length lines ≤ i → play (started zone) lines ≡ behind replies (play world (drop i lines)) → replies_of zone lines ≡ Some replies
+all_played zone lines i replies world end so_far =
+    ap (option_map (λ played. played.0)) (so_far ∙ ap (λ (l : List WorldStep). behind replies (play world l)) (drop_all i lines end))
+    ∙ ap (λ (l : List WorldReply). Some l) (append-nil replies)
+
+-- a line passes the limit
+pub limit_passed : (zone : List Record) (lines : List WorldStep) (i : ℕ) (line : WorldStep) (replies : List WorldReply) (world : World) → i < length lines → line ≡ get_or lines i line → turn world line ≡ None
+    → play (started zone) lines ≡ behind replies (play world (drop i lines)) → replies_of zone lines ≡ None
+limit_passed zone lines i line replies world lt is none so_far =
+    ap (option_map (λ played. played.0)) (so_far ∙ ap (λ (l : List WorldStep). behind replies (play world l)) (line_due lines i line lt is)
+    ∙ ap (λ t. behind replies (option_and_then (λ told. onto_replies told.0 (play told.1 (drop (i + 1) lines))) t)) none)

@@ -1,0 +1,112 @@
+//! What a script's lines are lent: names, requests and zones, seen as their octets and records.
+ghost use Rattle.std.specs.Prelude.{◌≡◌};
+
+use std::marker::Model;
+use zone_tree::Zone;
+
+/// The name of a strong owner, or of a call under way: octets that compare. Contracts see the octets.
+#[derive(Drop)]
+pub struct Handle<'a> {
+    octets: &'a [u8],
+}
+
+impl<'a> Model for Handle<'a> {
+    ghost use Rattle.std.specs.Prelude.{List, ℕ};
+
+    ghost Value = { List ℕ };
+
+    ghost view = { λ a. a.octets.now };
+}
+
+impl<'a> Handle<'a> {
+    /// A name of these octets.
+    pub fn new(octets: &'a [u8]) -> Handle<'a>
+        ensures { result ≡ octets.now }
+    {
+        Handle { octets }
+    }
+
+    /// The octets.
+    pub fn as_slice(&self) -> &'a [u8]
+        ensures { result.now ≡ self.now }
+    {
+        self.octets
+    }
+
+    /// The same name.
+    pub fn copy(&self) -> Handle<'a>
+        ensures { result ≡ self.now }
+    {
+        Handle {
+            octets: self.octets,
+        }
+    }
+}
+
+/// A request, as on the wire. Contracts see its octets.
+#[derive(Drop)]
+pub struct Request<'a> {
+    octets: &'a [u8],
+}
+
+impl<'a> Model for Request<'a> {
+    ghost use Rattle.std.specs.Prelude.{List, ℕ};
+
+    ghost Value = { List ℕ };
+
+    ghost view = { λ a. a.octets.now };
+}
+
+impl<'a> Request<'a> {
+    /// A request of these octets.
+    pub fn new(octets: &'a [u8]) -> Request<'a>
+        ensures { result ≡ octets.now }
+    {
+        Request { octets }
+    }
+
+    /// The octets.
+    pub fn as_slice(&self) -> &'a [u8]
+        ensures { result.now ≡ self.now }
+    {
+        self.octets
+    }
+}
+
+/// A zone that somebody else keeps. Contracts see its records.
+#[derive(Drop)]
+pub struct LentZone<'a> {
+    zone: &'a Zone,
+}
+
+impl<'a> Model for LentZone<'a> {
+    ghost use Rattle.std.specs.Prelude.{List};
+    ghost use Rattle.dns_rdata.specs.Record.{Record};
+
+    ghost Value = { List Record };
+
+    ghost view = { λ a. a.zone.now };
+}
+
+impl<'a> LentZone<'a> {
+    /// This zone.
+    pub fn new(zone: &'a Zone) -> LentZone<'a>
+        ensures { result ≡ zone.now }
+    {
+        LentZone { zone }
+    }
+
+    /// The zone.
+    pub fn zone(&self) -> &'a Zone
+        ensures { result.now ≡ self.now }
+    {
+        self.zone
+    }
+
+    /// The same zone.
+    pub fn copy(&self) -> LentZone<'a>
+        ensures { result ≡ self.now }
+    {
+        LentZone { zone: self.zone }
+    }
+}
