@@ -24,7 +24,7 @@ pub record IsNext (zone next : List Record) : Type 0 where
   pub is : IsZone next
   pub apex : apex_of next ≡ apex_of zone
 
-next_from : (zone next : List Record) → Keeps zone next → KeepsLimits next → IsNext zone next
+pub next_from : (zone next : List Record) → Keeps zone next → KeepsLimits next → IsNext zone next
 next_from zone next h limits = record { is = record { rules = h.rules; limits = limits }; apex = h.apex }
 
 -- the tests of the rows that add
@@ -121,7 +121,7 @@ module _ (zone : List Record) (r : RawRecord) (h : IsZone zone) (sent : IsSent r
       (λ _. by_test GivesNext (r.class == class_ANY) (Some (without_set zone r)) e8 (λ _. set_next)
       (λ _. by_test GivesNext (r.class == class_NONE) (Some (without_record zone r)) (Some zone) (λ _. record_next) (λ _. stays))))))))
 
-what_gives : (o : Option (List Record)) (P : List Record → Type 0) (next : List Record) → IfSome o P → o ≡ Some next → P next
+pub what_gives : (o : Option (List Record)) (P : List Record → Type 0) (next : List Record) → IfSome o P → o ≡ Some next → P next
 what_gives None P next h e = cc
 what_gives (Some x) P next h e = let same : x ≡ next = cc in subst P same h
 
@@ -146,7 +146,7 @@ pub same_prescan : (zone next : List Record) (rs : List RawRecord) → apex_of n
 same_prescan zone next [] same = refl
 same_prescan zone next (r ∷ rs) same = λ i. option_or (same_prescan_of zone next r same i) (same_prescan zone next rs same i)
 
-no_first : (o p : Option Rcode) → option_or o p ≡ None → (o ≡ None) × (p ≡ None)
+pub no_first : (o p : Option Rcode) → option_or o p ≡ None → (o ≡ None) × (p ≡ None)
 no_first None p e = (refl, e)
 no_first (Some code) p e = cc
 
