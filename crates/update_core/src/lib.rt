@@ -18,7 +18,7 @@ pub use examples::{
     examples_of_prescan, examples_of_serials, examples_of_sets, examples_of_verdicts,
 };
 pub use judgement::verdict;
-pub use laws::{prerequisites_change_nothing, replays_agree, serials_rise};
+pub use laws::{prerequisites_change_nothing, replays_agree, serials_rise, updates_keep_a_zone};
 pub use prerequisites::check;
 pub use update_section::prescan;
 
