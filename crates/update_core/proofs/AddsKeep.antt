@@ -1,30 +1,28 @@
 -- The rows of an update that add keep a zone's rules and its apex (RFC 2136, 3.4.2.2).
-use Rattle.std.proofs.Common.{◌≡◌, ◌⊎◌, inl, inr, ℕ, ◌<◌, ◌≤◌, Bool, true, false, not, ◌&&◌, ◌||◌, ◌==◌, cond, List, [], ◌∷◌, map, length, get_or, filter, All, refl, sym, ap, subst, ◌∙◌, arith, eq-eqb, true≢false, None}
-use Rattle.std.specs.List.{list_any}
+use Rattle.std.proofs.Common.{◌≡◌, ◌⊎◌, inl, inr, ℕ, ◌<◌, Bool, true, false, not, ◌&&◌, ◌||◌, ◌==◌, List, [], ◌∷◌, map, length, get_or, All, refl, sym, ap, subst, ◌∙◌, arith, eq-eqb, None}
 use Rattle.std.proofs.lemmas.Bool.{eqb-true}
-use Rattle.std.proofs.lemmas.Bool.Decides.{nat_tests}
 use Rattle.std.proofs.lemmas.List.{length-map}
 use Rattle.std.proofs.lemmas.List.Elements.{All-map, All-filter, All-weaker, filter_passes}
-use Rattle.dns_name.specs.Name.{Name, is_same, is_under, fold_name}
+use Rattle.dns_name.specs.Name.{Name, is_same, fold_name}
 use Rattle.dns_name.specs.Order.{is_same_equiv}
-use Rattle.dns_rdata.specs.Numbers.{type_NS, type_CNAME, type_SOA, class_IN}
+use Rattle.dns_rdata.specs.Numbers.{type_NS, type_CNAME, type_SOA}
 use Rattle.dns_rdata.specs.Data.{serial_of}
-use Rattle.dns_rdata.specs.Record.{Record, IsLawful, record_cmp, owner_of}
+use Rattle.dns_rdata.specs.Record.{Record, owner_of}
 use Rattle.dns_rdata.specs.Raw.{RawRecord}
 use Rattle.dns_rdata.specs.SerialOrder.{serial_less}
-use Rattle.zone_tree.specs.Zone.{KeepsRules, stands_at, is_of, rrset_of, soa_of, apex_of, is_wild}
+use Rattle.zone_tree.specs.Zone.{KeepsRules, stands_at, is_of, rrset_of, soa_of, apex_of}
 use Rattle.zone_tree.specs.Change.{without_rrset}
 use Rattle.zone_tree.proofs.NameOrder.{folds_from_same}
 use Rattle.zone_tree.proofs.Rising.{place_from_any}
 use Rattle.zone_tree.proofs.RuleLemmas.{none_passes}
 use Rattle.update_core.specs.Verdict.{prescan_of, has_rrset}
-use Rattle.update_core.specs.Act.{entered, with_one, with_ttl, record_with_ttl, ttl_in_zone, has_other_than_alias, has_lesser_soa, IsSent}
-use Rattle.update_core.proofs.ListLemmas.{and_left, and_right, either_right}
+use Rattle.update_core.specs.Act.{entered, with_ttl, record_with_ttl, ttl_in_zone, has_other_than_alias, has_lesser_soa, IsSent}
+use Rattle.update_core.proofs.ListLemmas.{and_left, and_right}
 use Rattle.update_core.proofs.SoaKept.{is_soa}
 use Rattle.update_core.proofs.OneMore.{filter-with_one_not, filter-with_one_alone, tied}
 use Rattle.update_core.proofs.RulesBeside.{KeepsBeside, beside_from, rules_from, filter_beside}
-use Rattle.update_core.proofs.RulesChanged.{filter-map, of_stays, stands_stays, FitsBeside, ttl_beside, ttl_owner, ttl_rtype, with_one_beside}
-use Rattle.update_core.proofs.SentLemmas.{IsPassed, passed, IsEntered, entered_lawful, under_lower, wild_lower, stands_lower, of_lower, ttl_small}
+use Rattle.update_core.proofs.RulesChanged.{filter-map, of_stays, FitsBeside, ttl_beside, ttl_owner, ttl_rtype, with_one_beside}
+use Rattle.update_core.proofs.SentLemmas.{IsPassed, passed, entered_lawful, under_lower, wild_lower, stands_lower, of_lower, ttl_small}
 use Rattle.update_core.proofs.Candidates.{put_in, added_to, Keeps, IsPut, IsAdded}
 use Rattle.update_core.proofs.RowsKeep.{soa_places_of, filter_kept, no_alias_at}
 

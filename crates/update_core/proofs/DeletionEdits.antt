@@ -1,22 +1,21 @@
 -- What the deletions of an update make of a zone is what changes of its sets make of it (RFC 2136, 3.4.2.3 and 3.4.2.4).
-use Rattle.std.proofs.Common.{◌≡◌, ◌≢◌, ℕ, ◌<◌, Bool, true, false, not, ◌&&◌, ◌||◌, ◌==◌, cond, List, [], ◌∷◌, ◌++◌, map, length, filter, All, bytes_eq, refl, sym, ap, subst, ◌∙◌, arith, eq-eqb}
+use Rattle.std.proofs.Common.{◌≡◌, ◌≢◌, ℕ, Bool, true, false, not, ◌&&◌, ◌||◌, ◌==◌, cond, List, [], ◌∷◌, ◌++◌, map, length, filter, All, bytes_eq, refl, sym, ap, subst, ◌∙◌}
 use Rattle.std.specs.List.{AllPairs, AllByRecursion, list_any, flat_map}
 use Rattle.std.proofs.lemmas.Bool.{eqb-true}
 use Rattle.std.proofs.lemmas.List.Elements.{recursion_from_All}
 use Rattle.dns_name.specs.Name.{Name, is_same, fold_name}
 use Rattle.dns_name.specs.Order.{is_same_equiv}
-use Rattle.dns_rdata.specs.declared.numbers.RType.{RType}
 use Rattle.dns_rdata.specs.Numbers.{type_NS, type_SOA}
 use Rattle.dns_rdata.specs.Record.{Record, IsLawful, owner_of, rtype_of}
 use Rattle.dns_rdata.specs.Raw.{RawRecord}
 use Rattle.zone_tree.specs.declared.change.Change.{Change}
 use Rattle.zone_tree.specs.declared.change.Change.TheVariants.{Put, Remove}
 use Rattle.zone_tree.specs.Zone.{IsBefore, stands_at, is_of, rrset_of, rrsets_of, apex_of}
-use Rattle.zone_tree.specs.Change.{with_rrset, without_rrset, changed, edited}
+use Rattle.zone_tree.specs.Change.{with_rrset, without_rrset, edited}
 use Rattle.zone_tree.specs.Sets.{AreWhole}
 use Rattle.zone_tree.proofs.NameOrder.{folds_from_same}
-use Rattle.zone_tree.proofs.Rising.{Rises, rises_from_pairs, each_weaker, each_filter, each_append, filter_alike}
-use Rattle.update_core.specs.Act.{entered, is_apex_set, is_last_apex_record}
+use Rattle.zone_tree.proofs.Rising.{rises_from_pairs, each_weaker, each_filter, each_append, filter_alike}
+use Rattle.update_core.specs.Act.{is_apex_set, is_last_apex_record}
 use Rattle.update_core.proofs.ListLemmas.{and_left, and_right, filter_alike as filter_same}
 use Rattle.update_core.proofs.VerdictLemmas.{rrset_of-same}
 use Rattle.update_core.proofs.Candidates.{without_all, without_set, without_record}

@@ -1,5 +1,5 @@
 -- Each effect of an update that the prescan let through makes a zone of the same apex (RFC 2136, 3.4.1 and 3.4.2).
-use Rattle.std.proofs.Common.{◌≡◌, ℕ, ◌<◌, Bool, true, false, not, ◌&&◌, ◌||◌, ◌==◌, cond, if◌then◌else◌, List, [], ◌∷◌, length, filter, All, Option, None, Some, bytes_eq, refl, sym, ap, subst, ◌∙◌, arith}
+use Rattle.std.proofs.Common.{◌≡◌, Bool, true, false, not, ◌&&◌, ◌||◌, ◌==◌, if◌then◌else◌, List, [], ◌∷◌, All, Option, None, Some, bytes_eq, refl, ap, subst, ◌∙◌}
 use Rattle.std.specs.Option.{IfSome, option_or, option_and_then}
 use Rattle.std.proofs.lemmas.List.Elements.{All-head, All-tail}
 use Rattle.dns_name.specs.Name.{Name, is_under}
@@ -8,10 +8,10 @@ use Rattle.dns_rdata.specs.declared.numbers.Rcode.TheVariants.{FormErr, Refused,
 use Rattle.dns_rdata.specs.Numbers.{type_NS, type_CNAME, type_SOA, type_ANY, class_IN, class_NONE, class_ANY}
 use Rattle.dns_rdata.specs.Record.{Record}
 use Rattle.dns_rdata.specs.Raw.{RawRecord}
-use Rattle.zone_tree.specs.Zone.{IsZone, KeepsRules, KeepsLimits, is_of, stands_at, rrset_of, apex_of, is_wild}
+use Rattle.zone_tree.specs.Zone.{IsZone, KeepsLimits, is_of, stands_at, apex_of, is_wild}
 use Rattle.zone_tree.specs.Change.{without_rrset}
-use Rattle.update_core.specs.Verdict.{has_rrset, is_empty, is_recognised, has_form, first_code, prescan_of, prescan}
-use Rattle.update_core.specs.Act.{entered, with_one, with_ttl, ttl_in_zone, has_other_than_alias, has_lesser_soa, within_limits, is_apex_set, is_last_apex_record, effect, effects, IsSent}
+use Rattle.update_core.specs.Verdict.{has_rrset, is_empty, is_recognised, has_form, prescan_of, prescan}
+use Rattle.update_core.specs.Act.{with_ttl, ttl_in_zone, has_other_than_alias, has_lesser_soa, within_limits, is_apex_set, is_last_apex_record, effect, effects, IsSent}
 use Rattle.update_core.proofs.ListLemmas.{by_test, and_left, and_right}
 use Rattle.update_core.proofs.SentLemmas.{passed, entered_lawful}
 use Rattle.update_core.proofs.Candidates.{put_in, added_to, without_all, without_set, without_record, Keeps, IsPut, IsAdded}

@@ -1,23 +1,15 @@
 -- The rules of a zone beside the one of its SOA, kept by filters, by changes of TTLs and by one record more.
-use Rattle.std.proofs.Common.{◌≡◌, ◌≢◌, ℕ, zero, suc, ◌<◌, ◌≤◌, ◌^◌, Bool, true, false, not, ◌&&◌, ◌||◌, ◌==◌, cond, List, [], ◌∷◌, map, length, filter, All, refl, sym, ap, subst, ◌∙◌, arith, eq-eqb, true≢false}
+use Rattle.std.proofs.Common.{◌≡◌, ◌≢◌, ℕ, zero, suc, ◌<◌, ◌≤◌, Bool, true, false, not, ◌&&◌, ◌||◌, ◌==◌, cond, List, [], ◌∷◌, length, filter, All, refl, sym, ap, subst, ◌∙◌, arith, eq-eqb}
 use Rattle.std.specs.Prelude.{Contains}
-use Rattle.std.specs.List.{AllPairs, AllByRecursion}
-use Rattle.std.specs.Ordering.{is_lt}
+use Rattle.std.specs.List.{AllPairs}
 use Rattle.std.proofs.lemmas.Bool.{eqb-true}
-use Rattle.std.proofs.lemmas.Bool.Decides.{Decides-eqb}
-use Rattle.std.proofs.lemmas.List.{length-map}
-use Rattle.std.proofs.lemmas.List.Elements.{All-nil, All-cons, All-head, All-tail, All-map, All-filter, All-weaker, All-contains, All-contains_itself, filter_passes}
+use Rattle.std.proofs.lemmas.List.Elements.{All-filter, All-weaker, All-contains_itself}
 use Rattle.std.proofs.lemmas.List.Kept.{AllPairs-filter}
-use Rattle.dns_name.specs.Name.{Name, is_same, is_under}
+use Rattle.dns_name.specs.Name.{Name, is_under}
 use Rattle.dns_name.specs.Order.{is_same_equiv}
-use Rattle.dns_rdata.specs.Numbers.{type_NS, type_CNAME, type_SOA}
-use Rattle.dns_rdata.specs.Record.{Record, IsLawful, record_cmp, owner_of}
-use Rattle.zone_tree.specs.Zone.{KeepsRules, IsBefore, stands_at, is_of, rrset_of, rrsets_of, soa_of, apex_of, is_wild, share_ttl, is_alone}
-use Rattle.zone_tree.proofs.Rising.{pairs_from_rises, rises_from_pairs, Rises, Rises-map}
-use Rattle.update_core.specs.Act.{with_one, record_with_ttl, with_ttl}
-use Rattle.update_core.proofs.ListLemmas.{and_left, and_right}
-use Rattle.update_core.proofs.SoaKept.{is_soa, All-with_one}
-use Rattle.update_core.proofs.OneMore.{rises-with_one, filter-with_one_not, filter-with_one_alone, filter-with_one_grows, tied_stands}
+use Rattle.dns_rdata.specs.Numbers.{type_NS, type_CNAME}
+use Rattle.dns_rdata.specs.Record.{Record, IsLawful}
+use Rattle.zone_tree.specs.Zone.{KeepsRules, IsBefore, stands_at, rrset_of, rrsets_of, soa_of, apex_of, is_wild, share_ttl, is_alone}
 
 -- the rules of a zone of an apex, beside that of the SOA
 pub record KeepsBeside (apex : Name) (zone : List Record) : Type 0 where

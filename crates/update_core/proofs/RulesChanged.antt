@@ -1,14 +1,14 @@
 -- The rules of a zone beside the one of its SOA, kept where its records change but for owner and type, and by one more.
-use Rattle.std.proofs.Common.{◌≡◌, ℕ, ◌<◌, ◌≤◌, ◌^◌, Bool, true, false, not, ◌&&◌, ◌||◌, ◌==◌, cond, List, [], ◌∷◌, map, length, get_or, filter, All, refl, sym, ap, subst, ◌∙◌, arith, eq-eqb}
+use Rattle.std.proofs.Common.{◌≡◌, ℕ, ◌<◌, ◌^◌, Bool, true, false, not, ◌&&◌, ◌||◌, ◌==◌, cond, List, [], ◌∷◌, map, length, get_or, filter, All, refl, sym, ap, ◌∙◌, arith, eq-eqb}
 use Rattle.std.specs.List.{AllPairs}
 use Rattle.std.proofs.lemmas.Bool.{eqb-true}
 use Rattle.std.proofs.lemmas.List.{length-map}
-use Rattle.std.proofs.lemmas.List.Elements.{All-cons, All-map, All-weaker}
+use Rattle.std.proofs.lemmas.List.Elements.{All-map, All-weaker}
 use Rattle.dns_name.specs.Name.{Name, is_same, is_under}
 use Rattle.dns_name.specs.Order.{is_same_equiv}
 use Rattle.dns_rdata.specs.Numbers.{type_NS, type_CNAME}
 use Rattle.dns_rdata.specs.Record.{Record, IsLawful, record_cmp}
-use Rattle.zone_tree.specs.Zone.{IsBefore, stands_at, is_of, rrset_of, rrsets_of, is_wild, share_ttl, is_alone}
+use Rattle.zone_tree.specs.Zone.{IsBefore, stands_at, is_of, rrsets_of, is_wild, share_ttl, is_alone}
 use Rattle.zone_tree.proofs.Rising.{pairs_from_rises, rises_from_pairs, Rises, Rises-map, rises_weaker}
 use Rattle.update_core.specs.Act.{with_one, record_with_ttl, with_ttl}
 use Rattle.update_core.proofs.ListLemmas.{and_left, and_right}
@@ -124,8 +124,8 @@ module _ (owner : Name) (rtype ttl : ℕ) where
       (All-map IsLawful set_to zone (All-weaker IsLawful (λ s. IsLawful (set_to s)) (λ s k. lawful_at (is_of owner rtype s) s small k) zone h.lawful))
       (pairs_from_rises IsBefore next (ttl_rises zone (rises_from_pairs IsBefore zone h.ascending)))
       (All-map (λ r. All (λ s. share_ttl r s ≡ true) next) set_to zone
-          (All-weaker (λ r. All (λ s. share_ttl r s ≡ true) zone) (λ r. All (λ s. share_ttl (set_to r) s ≡ true) next)
-          (λ r k. All-map (λ s. share_ttl (set_to r) s ≡ true) set_to zone (All-weaker (λ s. share_ttl r s ≡ true) (λ s. share_ttl (set_to r) (set_to s) ≡ true) (shares r) zone k)) zone h.one_ttl))
+      (All-weaker (λ r. All (λ s. share_ttl r s ≡ true) zone) (λ r. All (λ s. share_ttl (set_to r) s ≡ true) next)
+      (λ r k. All-map (λ s. share_ttl (set_to r) s ≡ true) set_to zone (All-weaker (λ s. share_ttl r s ≡ true) (λ s. share_ttl (set_to r) (set_to s) ≡ true) (shares r) zone k)) zone h.one_ttl))
 
 -- what a record needs to go among others
 pub record FitsBeside (apex : Name) (zone : List Record) (r : Record) : Type 0 where
