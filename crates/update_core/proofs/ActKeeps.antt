@@ -17,7 +17,8 @@ use Rattle.update_core.specs.Act.{record_at_serial, at_serial, completed, effect
 use Rattle.update_core.proofs.ListLemmas.{by_test}
 use Rattle.update_core.proofs.SerialPut.{serial_owner, serial_rtype, serial_keeps}
 use Rattle.update_core.proofs.LimitsKept.{small_from, limits_from, map_small}
-use Rattle.update_core.proofs.EffectKeeps.{IsNext, next_from, no_first, what_gives, effects_keep}
+use Rattle.update_core.proofs.SentLemmas.{no_first}
+use Rattle.update_core.proofs.EffectKeeps.{IsNext, next_from, what_gives, effects_keep}
 
 -- an SOA's data with another serial are short where it is
 serial_length : (n : ℕ) (octets : List ℕ) → length octets ≤ 4096 → length (with_serial n octets) ≤ 4096

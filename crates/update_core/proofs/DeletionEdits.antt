@@ -16,7 +16,7 @@ use Rattle.zone_tree.specs.Sets.{AreWhole}
 use Rattle.zone_tree.proofs.NameOrder.{folds_from_same}
 use Rattle.zone_tree.proofs.Rising.{rises_from_pairs, each_weaker, each_filter, each_append, filter_alike}
 use Rattle.update_core.specs.Act.{is_apex_set, is_last_apex_record}
-use Rattle.update_core.proofs.ListLemmas.{and_left, and_right, filter_alike as filter_same}
+use Rattle.update_core.proofs.ListLemmas.{and_left, and_right, either_right, implied, filter_alike as filter_same}
 use Rattle.update_core.proofs.VerdictLemmas.{rrset_of-same}
 use Rattle.update_core.proofs.Candidates.{without_all, without_set, without_record}
 use Rattle.update_core.proofs.ZoneParts.{before_part, behind_part, left_parts, set_parts, each_passes}
@@ -46,10 +46,6 @@ module _ (zone : List Record) (owner : Name) (rtype : ℕ) (s : Record) (is : is
 
   pub last_same : is_last_apex_record zone s.owner s.rtype ≡ is_last_apex_record zone owner rtype
   last_same = λ i. is_same_equiv.congr s.owner owner (apex_of zone) same_owner i && (same_type i == type_SOA || (same_type i == type_NS && length (rrset_of-same zone s.owner owner type_NS same_owner i) == 1))
-
-implied : (b c : Bool) → (b ≡ true → c ≡ true) → not b || c ≡ true
-implied true c f = f refl
-implied false c f = refl
 
 unless : (b c : Bool) → (b ≡ true → c ≡ false) → not b || c ≡ not b
 unless true c f = f refl
@@ -244,16 +240,12 @@ typed_set zone set whole =
     (each_passes (owner_of set) (rtype_of set) (is_of (owner_of set) (rtype_of set)) zone) in
     subst (AllByRecursion (λ s. s.rtype == rtype_of set ≡ true)) (sym whole) each
 
-or_right : (b c : Bool) → c ≡ true → b || c ≡ true
-or_right true c e = refl
-or_right false c e = e
-
 typed_each : (zone : List Record) (sets : List (List Record)) → AllByRecursion (λ set. set ≡ rrset_of zone (owner_of set) (rtype_of set)) sets → AllByRecursion (λ s. list_any (λ set. s.rtype == rtype_of set) sets ≡ true) (flat_map (λ set. set) sets)
 typed_each zone [] h = tt
 typed_each zone (set ∷ sets) h =
     each_append (λ s. list_any (λ other. s.rtype == rtype_of other) (set ∷ sets) ≡ true) set (flat_map (λ other. other) sets)
     (each_weaker (λ s. s.rtype == rtype_of set ≡ true) (λ s. list_any (λ other. s.rtype == rtype_of other) (set ∷ sets) ≡ true) (λ s e. rw e refl) set (typed_set zone set h.0))
-    (each_weaker (λ s. list_any (λ other. s.rtype == rtype_of other) sets ≡ true) (λ s. list_any (λ other. s.rtype == rtype_of other) (set ∷ sets) ≡ true) (λ s e. or_right (s.rtype == rtype_of set) (list_any (λ other. s.rtype == rtype_of other) sets) e) (flat_map (λ other. other) sets) (typed_each zone sets h.1))
+    (each_weaker (λ s. list_any (λ other. s.rtype == rtype_of other) sets ≡ true) (λ s. list_any (λ other. s.rtype == rtype_of other) (set ∷ sets) ≡ true) (λ s e. either_right (s.rtype == rtype_of set) (list_any (λ other. s.rtype == rtype_of other) sets) e) (flat_map (λ other. other) sets) (typed_each zone sets h.1))
 
 -- what holds of what a filter keeps
 of_kept : (P : Record → Type 0) (p : Record → Bool) (zs : List Record) → AllByRecursion P (filter p zs) → AllByRecursion (λ s. p s ≡ true → P s) zs

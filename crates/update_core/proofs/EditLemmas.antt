@@ -17,25 +17,11 @@ use Rattle.update_core.specs.Act.{entered, with_one, with_ttl, record_with_ttl, 
 use Rattle.update_core.proofs.ListLemmas.{and_left, and_right}
 use Rattle.update_core.proofs.SentLemmas.{same_lower}
 use Rattle.update_core.proofs.Candidates.{put_in, added_to}
-use Rattle.update_core.proofs.ZoneParts.{place, of_place, before_part, behind_part, three_parts, left_parts, set_parts, with_one_parts, each_passes, own_beside}
+use Rattle.update_core.proofs.ZoneParts.{lt_apart, gt_apart, place, of_place, before_part, behind_part, three_parts, left_parts, set_parts, with_one_parts, each_passes, own_beside}
 
 -- a record with another TTL
 abbrev pub at_ttl : ℕ → Record → Record
 at_ttl ttl s = record s { ttl = ttl }
-
-is_not : (b : Bool) → b ≡ false → not b ≡ true
-is_not true e = cc
-is_not false e = refl
-
--- all that a filter keeps
-all_kept : (p : Record → Bool) (zs : List Record) → ((s : Record) → p s ≡ true) → filter p zs ≡ zs
-all_kept p [] h = refl
-all_kept p (z ∷ zs) h = rw (h z) (ap (λ l. z ∷ l) (all_kept p zs h))
-
--- filters that agree on what is there
-agree_on : (p q : Record → Bool) (zs : List Record) → AllByRecursion (λ s. p s ≡ q s) zs → filter p zs ≡ filter q zs
-agree_on p q [] h = refl
-agree_on p q (z ∷ zs) h = rw (h.0) (ap (λ l. cond (q z) (z ∷ l) l) (agree_on p q zs h.1))
 
 module _ (zone : List Record) (r : RawRecord) (ascending : AllPairs IsBefore zone) where
   rises : Rises IsBefore zone
@@ -84,16 +70,6 @@ module _ (zone : List Record) (r : RawRecord) (ascending : AllPairs IsBefore zon
   ttl_own : (zs : List Record) → AllByRecursion (λ s. is_of r.owner r.rtype s ≡ true) zs → map set_to zs ≡ map (at_ttl ttl) zs
   ttl_own [] h = refl
   ttl_own (z ∷ zs) h = rw (h.0) (ap (λ l. at_ttl ttl z ∷ l) (ttl_own zs h.1))
-
-  lt_apart : (o : Ordering) → is_lt o ≡ true → is_eq o ≡ false
-  lt_apart Less e = refl
-  lt_apart Equal e = cc
-  lt_apart Greater e = refl
-
-  gt_apart : (o : Ordering) → is_gt o ≡ true → is_eq o ≡ false
-  gt_apart Less e = refl
-  gt_apart Equal e = cc
-  gt_apart Greater e = refl
 
   ttl_parts : with_ttl zone r.owner r.rtype ttl ≡ front ++ (map (at_ttl ttl) own ++ back)
   ttl_parts =

@@ -12,8 +12,8 @@ use Rattle.zone_tree.specs.Zone.{IsZone, KeepsLimits, is_of, stands_at, apex_of,
 use Rattle.zone_tree.specs.Change.{without_rrset}
 use Rattle.update_core.specs.Verdict.{has_rrset, is_empty, is_recognised, has_form, prescan_of, prescan}
 use Rattle.update_core.specs.Act.{with_ttl, ttl_in_zone, has_other_than_alias, has_lesser_soa, within_limits, is_apex_set, is_last_apex_record, effect, effects, IsSent}
-use Rattle.update_core.proofs.ListLemmas.{by_test, and_left, and_right}
-use Rattle.update_core.proofs.SentLemmas.{passed, entered_lawful}
+use Rattle.update_core.proofs.ListLemmas.{by_test, and_left, and_right, both_fail, right_fails}
+use Rattle.update_core.proofs.SentLemmas.{no_first, passed, entered_lawful}
 use Rattle.update_core.proofs.Candidates.{put_in, added_to, without_all, without_set, without_record, Keeps, IsPut, IsAdded}
 use Rattle.update_core.proofs.RowsKeep.{all_keeps_rules, set_keeps_rules, record_keeps_rules}
 use Rattle.update_core.proofs.AddsKeep.{put_keeps_rules, add_keeps_rules}
@@ -31,14 +31,6 @@ next_from zone next h limits = record { is = record { rules = h.rules; limits = 
 third_fails : (a b c : Bool) → a && b && c ≡ false → a ≡ true → b && c ≡ false
 third_fails true b c e is = e
 third_fails false b c e is = cc
-
-both_fail : (a b : Bool) → a || b ≡ false → (a ≡ false) × (b ≡ false)
-both_fail true b e = cc
-both_fail false b e = (refl, e)
-
-only_left : (a b : Bool) → a && b ≡ false → a ≡ true → b ≡ false
-only_left true b e is = e
-only_left false b e is = cc
 
 module _ (zone : List Record) (r : RawRecord) (h : IsZone zone) (sent : IsSent r) (scanned : prescan_of zone r ≡ None) where
   abbrev GivesNext : Option (List Record) → Type 0
@@ -95,12 +87,12 @@ module _ (zone : List Record) (r : RawRecord) (h : IsZone zone) (sent : IsSent r
 
   is_added : add_beside_test ≡ false → put_test ≡ false → (r.class == class_IN) ≡ true → IsAdded zone r
   is_added beside put class =
-      let many = only_left (r.class == class_IN) (r.rtype == type_CNAME || r.rtype == type_SOA) put class in
+      let many = right_fails (r.class == class_IN) (r.rtype == type_CNAME || r.rtype == type_SOA) put class in
       let other = (both_fail (r.rtype == type_CNAME) (r.rtype == type_SOA) many).0 in
       record {
         class = class;
         many = many;
-        no_alias = only_left (not (r.rtype == type_CNAME)) (has_rrset zone r.owner type_CNAME) (third_fails (r.class == class_IN) (not (r.rtype == type_CNAME)) (has_rrset zone r.owner type_CNAME) beside class) (ap not other);
+        no_alias = right_fails (not (r.rtype == type_CNAME)) (has_rrset zone r.owner type_CNAME) (third_fails (r.class == class_IN) (not (r.rtype == type_CNAME)) (has_rrset zone r.owner type_CNAME) beside class) (ap not other);
       }
 
   pub effect_gives : IfSome (effect zone r) (IsNext zone)
@@ -145,10 +137,6 @@ same_prescan_of zone next r same = ap (λ apex. scanned_at apex r) same
 pub same_prescan : (zone next : List Record) (rs : List RawRecord) → apex_of next ≡ apex_of zone → prescan next rs ≡ prescan zone rs
 same_prescan zone next [] same = refl
 same_prescan zone next (r ∷ rs) same = λ i. option_or (same_prescan_of zone next r same i) (same_prescan zone next rs same i)
-
-pub no_first : (o p : Option Rcode) → option_or o p ≡ None → (o ≡ None) × (p ≡ None)
-no_first None p e = (refl, e)
-no_first (Some code) p e = cc
 
 -- and so do all effects of an update
 then_next : (zone : List Record) (o : Option (List Record)) (rs : List RawRecord) → IfSome o (IsNext zone) → ((next : List Record) → IsNext zone next → IfSome (effects next rs) (IsNext next)) → IfSome (option_and_then (λ next. effects next rs) o) (IsNext zone)

@@ -20,7 +20,7 @@ use Rattle.zone_tree.proofs.NameOrder.{tie_from_same}
 use Rattle.update_core.specs.Verdict.{has_rrset}
 use Rattle.update_core.specs.Act.{is_apex_set, is_last_apex_record}
 use Rattle.update_core.proofs.ListLemmas.{and_left, and_right, either_right, filter_alike as filter_same}
-use Rattle.update_core.proofs.SoaKept.{is_soa}
+use Rattle.update_core.proofs.SoaKept.{is_soa, apex_soa, last_soa}
 use Rattle.update_core.proofs.RulesBeside.{beside_from, rules_from, filter_beside}
 use Rattle.update_core.proofs.Candidates.{without_all, without_set, without_record, Keeps}
 
@@ -33,7 +33,7 @@ nothing_kept p (z ∷ zs) e = by (p z) refl e (nothing_kept p zs)
     by true is none more = absurd (omega arith)
     by false is none more = All-cons (λ s. p s ≡ false) z zs is (more none)
 
-abbrev AtApex : Name → Record → Type 0
+abbrev pub AtApex : Name → Record → Type 0
 AtApex apex s = is_soa s ≡ true → s.owner ≡ apex
 
 soa_places : (apex : Name) (zs : List Record) → length (soa_of zs) ≡ 1 → owner_of (soa_of zs) ≡ apex → All (AtApex apex) zs
@@ -90,9 +90,6 @@ module _ (zone : List Record) (h : KeepsRules zone) (p : Record → Bool) where
       omega (arith, ap length same)
 
 -- what the deletions keep
-apex_soa : (zone : List Record) (s : Record) → is_soa s ≡ true → s.owner ≡ apex_of zone → is_apex_set zone s.owner s.rtype ≡ true
-apex_soa zone s is at = rw (at, is_same_equiv.refl (apex_of zone), is) refl
-
 apex_ns : (zone : List Record) (s : Record) → is_of (apex_of zone) type_NS s ≡ true → is_apex_set zone s.owner s.rtype ≡ true
 apex_ns zone s is =
     let same = and_left (is_same s.owner (apex_of zone)) (s.rtype == type_NS) is in
@@ -180,12 +177,9 @@ module _ (zone : List Record) (r : RawRecord) (h : KeepsRules zone) where
       let left = one_left (rrset_of zone home type_NS) two (AllPairs-filter IsBefore is_server zone h.ascending) in
       omega (arith, ap length (filter_swap is_left is_server zone))
 
-  last_soa : (s : Record) → is_soa s ≡ true → s.owner ≡ home → is_last_apex_record zone s.owner s.rtype ≡ true
-  last_soa s is at = rw (at, is_same_equiv.refl home, is) refl
-
   pub record_keeps_rules : Keeps zone (without_record zone r)
   record_keeps_rules =
-      filter_rules zone h is_left (λ s is at. either_right (not (is_meant s)) (is_last_apex_record zone s.owner s.rtype) (last_soa s is at))
+      filter_rules zone h is_left (λ s is at. either_right (not (is_meant s)) (is_last_apex_record zone s.owner s.rtype) (last_soa zone s is at))
       (servers_left (length (rrset_of zone home type_NS) == 1) refl)
 
 -- the owners and the data that an added record meets
