@@ -1,7 +1,7 @@
 -- One more record among records in order, and what a filter keeps of them.
-use Rattle.std.proofs.Common.{◌≡◌, ℕ, ◌<◌, ◌≤◌, Bool, true, false, ◌&&◌, ◌==◌, cond, List, [], ◌∷◌, length, filter, All, refl, sym, ap, ◌∙◌, arith}
+use Rattle.std.proofs.Common.{◌≡◌, ◌≤◌, Bool, true, false, cond, List, [], ◌∷◌, length, filter, All, refl, sym, ap, ◌∙◌, arith}
 use Rattle.std.specs.List.{AllByRecursion}
-use Rattle.std.specs.Ordering.{is_lt, is_eq, nat_cmp, ordering_then, ordering_reverse, MatchOrdering}
+use Rattle.std.specs.Ordering.{is_lt, is_eq, nat_cmp, ordering_then, ordering_reverse}
 use Rattle.std.specs.declared.cmp.Ordering.{Ordering}
 use Rattle.std.specs.declared.cmp.Ordering.TheVariants.{Less, Equal, Greater}
 use Rattle.std.specs.Cmp.Lexicographic.{slice_cmp}
@@ -13,7 +13,7 @@ use Rattle.dns_name.specs.Name.{Name, is_same, canonical_cmp}
 use Rattle.dns_name.specs.Order.{is_same_equiv}
 use Rattle.dns_rdata.specs.Record.{Record, record_cmp}
 use Rattle.dns_rdata.proofs.LawLemmas.{record_cmp_total}
-use Rattle.zone_tree.specs.Zone.{IsBefore, is_of, stands_at}
+use Rattle.zone_tree.specs.Zone.{IsBefore, stands_at}
 use Rattle.zone_tree.proofs.NameOrder.{same_from_tie}
 use Rattle.zone_tree.proofs.Rising.{Rises, each_weaker, filter_alike}
 use Rattle.update_core.specs.Act.{with_one}

@@ -1,12 +1,11 @@
 -- The serial of each zone that an update makes is greater than that of the zone before.
-use Rattle.std.proofs.Common.{◌≡◌, ◌⊎◌, inl, inr, ℕ, ◌<◌, ◌^◌, Bool, true, false, not, ◌&&◌, ◌==◌, cond, if◌then◌else◌, List, [], ◌∷◌, length, All, Option, None, Some, ◌+◌, refl, ap, subst, ◌∙◌, arith, lit<}
+use Rattle.std.proofs.Common.{◌≡◌, ◌⊎◌, inl, inr, ℕ, ◌<◌, ◌^◌, Bool, true, false, ◌==◌, cond, if◌then◌else◌, List, [], ◌∷◌, length, All, Option, None, Some, ◌+◌, refl, ap, subst, ◌∙◌, arith, lit<}
 use Rattle.std.proofs.Math.Nat.{mod-lt}
 use Rattle.std.proofs.lemmas.Bool.{eqb-true}
-use Rattle.std.specs.Option.{option_or, option_map, IfSome}
+use Rattle.std.specs.Option.{option_map, IfSome}
 use Rattle.std.specs.Cmp.Lexicographic.{pointwise}
 use Rattle.std.proofs.lemmas.List.Elements.{All-nil, All-cons, All-head, All-tail, All-weaker}
-use Rattle.dns_rdata.specs.declared.numbers.Rcode.{Rcode}
-use Rattle.dns_rdata.specs.Numbers.{type_SOA, class_IN}
+use Rattle.dns_rdata.specs.Numbers.{type_SOA}
 use Rattle.dns_rdata.specs.Data.{data_of, serial_of}
 use Rattle.dns_rdata.specs.Record.{Record, IsLawful}
 use Rattle.dns_rdata.specs.Raw.{RawRecord}
@@ -14,7 +13,7 @@ use Rattle.dns_rdata.specs.SerialOrder.{serial_less, serial_next}
 use Rattle.dns_rdata.proofs.SerialLemmas.{less-next}
 use Rattle.dns_message.specs.declared.update.Update.{Update}
 use Rattle.zone_tree.specs.Zone.{IsZone, soa_of}
-use Rattle.update_core.specs.Verdict.{check, permission, prescan, prescan_of, verdict, has_form}
+use Rattle.update_core.specs.Verdict.{check, permission, prescan, prescan_of, verdict}
 use Rattle.zone_tree.specs.Change.{is_same_record}
 use Rattle.zone_tree.specs.Version.{zone_serial, first_data}
 use Rattle.update_core.specs.Act.{act, effects, completed, at_serial}

@@ -1,10 +1,9 @@
-use Rattle.std.proofs.Common.{◌≡◌, ℕ, List, [], ◌∷◌, refl, lit<}
+use Rattle.std.proofs.Common.{[], refl, lit<}
 use Rattle.std.proofs.lemmas.List.Elements.{All-nil, All-cons}
 use Rattle.dns_rdata.specs.Numbers.{type_A}
 use Rattle.dns_rdata.specs.Data.{data_of}
 use Rattle.dns_rdata.specs.Layout.{layout_of}
 use Rattle.dns_rdata.specs.Record.{IsLawful}
-use Rattle.dns_rdata.specs.Raw.{RawRecord}
 use Rattle.zone_tree.specs.Example.{hour_record}
 use Rattle.zone_tree.proofs.ZoneTest.{zone_from_test}
 use Rattle.update_core.specs.Act.{IsSent}
