@@ -1,48 +1,30 @@
 -- The rows of an update that add keep a zone's rules and its apex (RFC 2136, 3.4.2.2).
-use Rattle.std.proofs.Common.{◌≡◌, ◌⊎◌, inl, inr, ℕ, ◌<◌, ◌≤◌, Bool, true, false, not, ◌&&◌, ◌||◌, ◌==◌, cond, List, [], ◌∷◌, map, length, get_or, filter, All, refl, sym, ap, subst, ◌∙◌, arith, eq-eqb, true≢false, None}
-use Rattle.std.specs.List.{list_any}
+use Rattle.std.proofs.Common.{◌≡◌, ◌⊎◌, inl, inr, ℕ, ◌<◌, Bool, true, false, not, ◌&&◌, ◌||◌, ◌==◌, List, [], ◌∷◌, map, length, get_or, All, refl, sym, ap, subst, ◌∙◌, arith, eq-eqb, None}
 use Rattle.std.proofs.lemmas.Bool.{eqb-true}
-use Rattle.std.proofs.lemmas.Bool.Decides.{nat_tests}
 use Rattle.std.proofs.lemmas.List.{length-map}
 use Rattle.std.proofs.lemmas.List.Elements.{All-map, All-filter, All-weaker, filter_passes}
-use Rattle.dns_name.specs.Name.{Name, is_same, is_under, fold_name}
+use Rattle.dns_name.specs.Name.{Name, is_same, fold_name}
 use Rattle.dns_name.specs.Order.{is_same_equiv}
-use Rattle.dns_rdata.specs.Numbers.{type_NS, type_CNAME, type_SOA, class_IN}
+use Rattle.dns_rdata.specs.Numbers.{type_NS, type_CNAME, type_SOA}
 use Rattle.dns_rdata.specs.Data.{serial_of}
-use Rattle.dns_rdata.specs.Record.{Record, IsLawful, record_cmp, owner_of}
+use Rattle.dns_rdata.specs.Record.{Record, owner_of}
 use Rattle.dns_rdata.specs.Raw.{RawRecord}
 use Rattle.dns_rdata.specs.SerialOrder.{serial_less}
-use Rattle.zone_tree.specs.Zone.{KeepsRules, stands_at, is_of, rrset_of, soa_of, apex_of, is_wild}
+use Rattle.zone_tree.specs.Zone.{KeepsRules, stands_at, is_of, rrset_of, soa_of, apex_of}
 use Rattle.zone_tree.specs.Change.{without_rrset}
 use Rattle.zone_tree.proofs.NameOrder.{folds_from_same}
 use Rattle.zone_tree.proofs.Rising.{place_from_any}
 use Rattle.zone_tree.proofs.RuleLemmas.{none_passes}
 use Rattle.update_core.specs.Verdict.{prescan_of, has_rrset}
-use Rattle.update_core.specs.Act.{entered, with_one, with_ttl, record_with_ttl, ttl_in_zone, has_other_than_alias, has_lesser_soa, IsSent}
-use Rattle.update_core.proofs.ListLemmas.{and_left, and_right, either_right}
+use Rattle.update_core.specs.Act.{entered, with_ttl, record_with_ttl, ttl_in_zone, has_other_than_alias, has_lesser_soa, IsSent}
+use Rattle.update_core.proofs.ListLemmas.{and_left, and_right, is_not, is_so, both_fail, left_fails, right_fails}
 use Rattle.update_core.proofs.SoaKept.{is_soa}
 use Rattle.update_core.proofs.OneMore.{filter-with_one_not, filter-with_one_alone, tied}
 use Rattle.update_core.proofs.RulesBeside.{KeepsBeside, beside_from, rules_from, filter_beside}
-use Rattle.update_core.proofs.RulesChanged.{filter-map, of_stays, stands_stays, FitsBeside, ttl_beside, ttl_owner, ttl_rtype, with_one_beside}
-use Rattle.update_core.proofs.SentLemmas.{IsPassed, passed, IsEntered, entered_lawful, under_lower, wild_lower, stands_lower, of_lower, ttl_small}
+use Rattle.update_core.proofs.RulesChanged.{filter-map, of_stays, FitsBeside, ttl_beside, ttl_owner, ttl_rtype, with_one_beside}
+use Rattle.update_core.proofs.SentLemmas.{IsPassed, passed, entered_lawful, under_lower, wild_lower, stands_lower, of_lower, ttl_small}
 use Rattle.update_core.proofs.Candidates.{put_in, added_to, Keeps, IsPut, IsAdded}
 use Rattle.update_core.proofs.RowsKeep.{soa_places_of, filter_kept, no_alias_at}
-
-not_second : (a b : Bool) → a && b ≡ false → b ≡ true → a ≡ false
-not_second true b e is = cc
-not_second false b e is = refl
-
-not_first : (a b : Bool) → a && b ≡ false → a ≡ true → b ≡ false
-not_first true b e is = e
-not_first false b e is = cc
-
-pub is_so : (b : Bool) → not b ≡ false → b ≡ true
-is_so true e = refl
-is_so false e = cc
-
-is_not : (b : Bool) → not b ≡ true → b ≡ false
-is_not true e = cc
-is_not false e = refl
 
 -- a record that isn't of an owner and a type that it has
 other_type : (a : Bool) (t u : ℕ) → (t == u) ≡ false → not (a && t == u) ≡ true
@@ -56,14 +38,10 @@ module _ (zone : List Record) (r : RawRecord) (h : KeepsRules zone) (sent : IsSe
   abbrev e : Record
   e = entered r
 
-  -- the aliases at the owner, where there is none
-  abbrev HasNoAlias : List Record → Type 0
-  HasNoAlias zs = All (λ s. is_of r.owner type_CNAME s ≡ false) zs
-
   away : (s : Record) → (r.rtype == type_CNAME) ≡ false → is_of r.owner type_CNAME s ≡ false → r.rtype == type_CNAME || s.rtype == type_CNAME ≡ true → stands_at (fold_name r.owner) s ≡ false
   away s other none is =
       let alias : (s.rtype == type_CNAME) ≡ true = rw other at is in
-      stands_lower r.owner s ∙ not_second (stands_at r.owner s) (s.rtype == type_CNAME) none alias
+      stands_lower r.owner s ∙ left_fails (stands_at r.owner s) (s.rtype == type_CNAME) none alias
 
   fits_by : (zs : List Record) → All (λ s. is_of r.owner r.rtype s ≡ true → s.ttl ≡ ttl_in_zone r.ttl) zs → All (λ s. r.rtype == type_CNAME || s.rtype == type_CNAME ≡ true → stands_at (fold_name r.owner) s ≡ false) zs → FitsBeside own zs e
   fits_by zs ttls apart = record {
@@ -82,10 +60,6 @@ module _ (zone : List Record) (r : RawRecord) (h : KeepsRules zone) (sent : IsSe
     abbrev set_to : Record → Record
     set_to = record_with_ttl r.owner r.rtype ttl
 
-    either_fails : (a b : Bool) → a || b ≡ false → (a ≡ false) × (b ≡ false)
-    either_fails true b k = cc
-    either_fails false b k = (refl, k)
-
     ttl_is : (s : Record) → is_of r.owner r.rtype (set_to s) ≡ true → (set_to s).ttl ≡ ttl
     ttl_is s k =
         let was : is_of r.owner r.rtype s ≡ true = sym (of_stays set_to (ttl_owner r.owner r.rtype ttl) (ttl_rtype r.owner r.rtype ttl) r.owner r.rtype s) ∙ k in
@@ -96,7 +70,7 @@ module _ (zone : List Record) (r : RawRecord) (h : KeepsRules zone) (sent : IsSe
 
     soas : soa_of (added_to zone r) ≡ map set_to (soa_of zone)
     soas =
-        filter-with_one_not is_soa e (with_ttl zone r.owner r.rtype ttl) (either_fails (r.rtype == type_CNAME) (r.rtype == type_SOA) is.many).1 ∙
+        filter-with_one_not is_soa e (with_ttl zone r.owner r.rtype ttl) (both_fail (r.rtype == type_CNAME) (r.rtype == type_SOA) is.many).1 ∙
         filter-map set_to (ttl_owner r.owner r.rtype ttl) (ttl_rtype r.owner r.rtype ttl) is_soa (λ s. ap (λ t. t == type_SOA) (ttl_rtype r.owner r.rtype ttl s)) zone
 
     first_owner : (zs : List Record) → owner_of (map set_to zs) ≡ owner_of zs
@@ -106,7 +80,7 @@ module _ (zone : List Record) (r : RawRecord) (h : KeepsRules zone) (sent : IsSe
     added_keeps : Keeps zone (added_to zone r)
     added_keeps =
         let zs = with_ttl zone r.owner r.rtype ttl in
-        let other = (either_fails (r.rtype == type_CNAME) (r.rtype == type_SOA) is.many).0 in
+        let other = (both_fail (r.rtype == type_CNAME) (r.rtype == type_SOA) is.many).0 in
         let none = All-map (λ s. is_of r.owner type_CNAME s ≡ false) set_to zone (All-weaker (λ s. is_of r.owner type_CNAME s ≡ false) (λ s. is_of r.owner type_CNAME (set_to s) ≡ false) no_alias_still zone (no_alias_at zone r.owner is.no_alias)) in
         let fits = fits_by zs (All-map (λ s. is_of r.owner r.rtype s ≡ true → s.ttl ≡ ttl) set_to zone (λ k d l. ttl_is (get_or zone k d)))
         (All-weaker (λ s. is_of r.owner type_CNAME s ≡ false) (λ s. r.rtype == type_CNAME || s.rtype == type_CNAME ≡ true → stands_at (fold_name r.owner) s ≡ false) (λ s k. away s other k) zs none) in
@@ -159,12 +133,12 @@ module _ (zone : List Record) (r : RawRecord) (h : KeepsRules zone) (sent : IsSe
 
     apart : (r.rtype ≡ type_CNAME) ⊎ (r.rtype ≡ type_SOA) → All (λ s. r.rtype == type_CNAME || s.rtype == type_CNAME ≡ true → stands_at (fold_name r.owner) s ≡ false) left
     apart (inl alias) =
-        let others = none_passes (λ s. stands_at r.owner s && not (s.rtype == type_CNAME)) zone (not_first (r.rtype == type_CNAME) (has_other_than_alias zone r.owner) is.no_other (eq-eqb r.rtype type_CNAME alias)) in
+        let others = none_passes (λ s. stands_at r.owner s && not (s.rtype == type_CNAME)) zone (right_fails (r.rtype == type_CNAME) (has_other_than_alias zone r.owner) is.no_other (eq-eqb r.rtype type_CNAME alias)) in
         let rest = All-filter stays (λ s. stands_at r.owner s && not (s.rtype == type_CNAME) ≡ false) zone others in
         λ k d l _. let s = get_or left k d in stands_lower r.owner s ∙ alone_alias s (rest k d l) (subst (λ t. is_of r.owner t s ≡ false) alias (gone k d l))
     apart (inr soa) =
         let other : (r.rtype == type_CNAME) ≡ false = rw soa refl in
-        let none = no_alias_at zone r.owner (not_first (not (r.rtype == type_CNAME)) (has_rrset zone r.owner type_CNAME) is.no_alias (rw other refl)) in
+        let none = no_alias_at zone r.owner (right_fails (not (r.rtype == type_CNAME)) (has_rrset zone r.owner type_CNAME) is.no_alias (rw other refl)) in
         All-weaker (λ s. is_of r.owner type_CNAME s ≡ false) (λ s. r.rtype == type_CNAME || s.rtype == type_CNAME ≡ true → stands_at (fold_name r.owner) s ≡ false) (λ s k. away s other k) left (All-filter stays (λ s. is_of r.owner type_CNAME s ≡ false) zone none)
 
     put_beside : KeepsBeside own (put_in zone r)
@@ -184,7 +158,7 @@ module _ (zone : List Record) (r : RawRecord) (h : KeepsRules zone) (sent : IsSe
     -- the SOA that stands at the owner
     lesser_at : r.rtype ≡ type_SOA → own ≡ fold_name r.owner
     lesser_at soa =
-        let lesser : has_lesser_soa zone r ≡ true = is_so (has_lesser_soa zone r) (not_first (r.rtype == type_SOA) (not (has_lesser_soa zone r)) is.lesser (eq-eqb r.rtype type_SOA soa)) in
+        let lesser : has_lesser_soa zone r ≡ true = is_so (has_lesser_soa zone r) (right_fails (r.rtype == type_SOA) (not (has_lesser_soa zone r)) is.lesser (eq-eqb r.rtype type_SOA soa)) in
         let place = place_from_any (λ s. is_of r.owner type_SOA s && serial_less (serial_of s.rdata) (serial_of (entered r).rdata)) zone (entered r) lesser in
         let s = get_or zone place.0 (entered r) in
         let of = and_left (is_of r.owner type_SOA s) (serial_less (serial_of s.rdata) (serial_of (entered r).rdata)) place.2 in

@@ -1,5 +1,5 @@
 -- The zones that the rows of an update make, and the conditions of those that add.
-use Rattle.std.proofs.Common.{◌≡◌, Bool, true, false, not, ◌&&◌, ◌||◌, ◌==◌, List, filter, bytes_eq}
+use Rattle.std.proofs.Common.{◌≡◌, true, false, not, ◌&&◌, ◌||◌, ◌==◌, List, filter, bytes_eq}
 use Rattle.dns_rdata.specs.Numbers.{type_CNAME, type_SOA, class_IN}
 use Rattle.dns_rdata.specs.Record.{Record}
 use Rattle.dns_rdata.specs.Raw.{RawRecord}

@@ -1,23 +1,22 @@
 -- What the deletions of an update make of a zone is what changes of its sets make of it (RFC 2136, 3.4.2.3 and 3.4.2.4).
-use Rattle.std.proofs.Common.{◌≡◌, ◌≢◌, ℕ, ◌<◌, Bool, true, false, not, ◌&&◌, ◌||◌, ◌==◌, cond, List, [], ◌∷◌, ◌++◌, map, length, filter, All, bytes_eq, refl, sym, ap, subst, ◌∙◌, arith, eq-eqb}
+use Rattle.std.proofs.Common.{◌≡◌, ◌≢◌, ℕ, Bool, true, false, not, ◌&&◌, ◌||◌, ◌==◌, cond, List, [], ◌∷◌, ◌++◌, map, length, filter, All, bytes_eq, refl, sym, ap, subst, ◌∙◌}
 use Rattle.std.specs.List.{AllPairs, AllByRecursion, list_any, flat_map}
 use Rattle.std.proofs.lemmas.Bool.{eqb-true}
 use Rattle.std.proofs.lemmas.List.Elements.{recursion_from_All}
 use Rattle.dns_name.specs.Name.{Name, is_same, fold_name}
 use Rattle.dns_name.specs.Order.{is_same_equiv}
-use Rattle.dns_rdata.specs.declared.numbers.RType.{RType}
 use Rattle.dns_rdata.specs.Numbers.{type_NS, type_SOA}
 use Rattle.dns_rdata.specs.Record.{Record, IsLawful, owner_of, rtype_of}
 use Rattle.dns_rdata.specs.Raw.{RawRecord}
 use Rattle.zone_tree.specs.declared.change.Change.{Change}
 use Rattle.zone_tree.specs.declared.change.Change.TheVariants.{Put, Remove}
 use Rattle.zone_tree.specs.Zone.{IsBefore, stands_at, is_of, rrset_of, rrsets_of, apex_of}
-use Rattle.zone_tree.specs.Change.{with_rrset, without_rrset, changed, edited}
+use Rattle.zone_tree.specs.Change.{with_rrset, without_rrset, edited}
 use Rattle.zone_tree.specs.Sets.{AreWhole}
 use Rattle.zone_tree.proofs.NameOrder.{folds_from_same}
-use Rattle.zone_tree.proofs.Rising.{Rises, rises_from_pairs, each_weaker, each_filter, each_append, filter_alike}
-use Rattle.update_core.specs.Act.{entered, is_apex_set, is_last_apex_record}
-use Rattle.update_core.proofs.ListLemmas.{and_left, and_right, filter_alike as filter_same}
+use Rattle.zone_tree.proofs.Rising.{rises_from_pairs, each_weaker, each_filter, each_append, filter_alike}
+use Rattle.update_core.specs.Act.{is_apex_set, is_last_apex_record}
+use Rattle.update_core.proofs.ListLemmas.{and_left, and_right, either_right, implied, filter_alike as filter_same}
 use Rattle.update_core.proofs.VerdictLemmas.{rrset_of-same}
 use Rattle.update_core.proofs.Candidates.{without_all, without_set, without_record}
 use Rattle.update_core.proofs.ZoneParts.{before_part, behind_part, left_parts, set_parts, each_passes}
@@ -47,10 +46,6 @@ module _ (zone : List Record) (owner : Name) (rtype : ℕ) (s : Record) (is : is
 
   pub last_same : is_last_apex_record zone s.owner s.rtype ≡ is_last_apex_record zone owner rtype
   last_same = λ i. is_same_equiv.congr s.owner owner (apex_of zone) same_owner i && (same_type i == type_SOA || (same_type i == type_NS && length (rrset_of-same zone s.owner owner type_NS same_owner i) == 1))
-
-implied : (b c : Bool) → (b ≡ true → c ≡ true) → not b || c ≡ true
-implied true c f = f refl
-implied false c f = refl
 
 unless : (b c : Bool) → (b ≡ true → c ≡ false) → not b || c ≡ not b
 unless true c f = f refl
@@ -245,16 +240,12 @@ typed_set zone set whole =
     (each_passes (owner_of set) (rtype_of set) (is_of (owner_of set) (rtype_of set)) zone) in
     subst (AllByRecursion (λ s. s.rtype == rtype_of set ≡ true)) (sym whole) each
 
-or_right : (b c : Bool) → c ≡ true → b || c ≡ true
-or_right true c e = refl
-or_right false c e = e
-
 typed_each : (zone : List Record) (sets : List (List Record)) → AllByRecursion (λ set. set ≡ rrset_of zone (owner_of set) (rtype_of set)) sets → AllByRecursion (λ s. list_any (λ set. s.rtype == rtype_of set) sets ≡ true) (flat_map (λ set. set) sets)
 typed_each zone [] h = tt
 typed_each zone (set ∷ sets) h =
     each_append (λ s. list_any (λ other. s.rtype == rtype_of other) (set ∷ sets) ≡ true) set (flat_map (λ other. other) sets)
     (each_weaker (λ s. s.rtype == rtype_of set ≡ true) (λ s. list_any (λ other. s.rtype == rtype_of other) (set ∷ sets) ≡ true) (λ s e. rw e refl) set (typed_set zone set h.0))
-    (each_weaker (λ s. list_any (λ other. s.rtype == rtype_of other) sets ≡ true) (λ s. list_any (λ other. s.rtype == rtype_of other) (set ∷ sets) ≡ true) (λ s e. or_right (s.rtype == rtype_of set) (list_any (λ other. s.rtype == rtype_of other) sets) e) (flat_map (λ other. other) sets) (typed_each zone sets h.1))
+    (each_weaker (λ s. list_any (λ other. s.rtype == rtype_of other) sets ≡ true) (λ s. list_any (λ other. s.rtype == rtype_of other) (set ∷ sets) ≡ true) (λ s e. either_right (s.rtype == rtype_of set) (list_any (λ other. s.rtype == rtype_of other) sets) e) (flat_map (λ other. other) sets) (typed_each zone sets h.1))
 
 -- what holds of what a filter keeps
 of_kept : (P : Record → Type 0) (p : Record → Bool) (zs : List Record) → AllByRecursion P (filter p zs) → AllByRecursion (λ s. p s ≡ true → P s) zs

@@ -1,46 +1,25 @@
 -- What each row of an update makes of a zone is what changes of its sets make of it (RFC 2136, 3.4.2.2 to 3.4.2.4).
-use Rattle.std.proofs.Common.{◌≡◌, ◌≢◌, ℕ, ◌<◌, Bool, true, false, not, ◌&&◌, ◌||◌, ◌==◌, cond, List, [], ◌∷◌, ◌++◌, map, length, filter, All, bytes_eq, refl, sym, ap, subst, ◌∙◌, arith, eq-eqb}
-use Rattle.std.specs.List.{AllPairs, AllByRecursion, list_any, flat_map}
+use Rattle.std.proofs.Common.{◌≡◌, ℕ, Bool, true, false, not, ◌==◌, cond, List, [], ◌∷◌, ◌++◌, map, filter, refl, sym, ap, ◌∙◌}
+use Rattle.std.specs.List.{AllPairs, AllByRecursion}
 use Rattle.std.specs.Ordering.{is_lt, is_gt, is_eq, nat_cmp}
 use Rattle.std.specs.Cmp.Lexicographic.{slice_cmp}
-use Rattle.std.specs.declared.cmp.Ordering.{Ordering}
-use Rattle.std.specs.declared.cmp.Ordering.TheVariants.{Less, Equal, Greater}
 use Rattle.std.proofs.lemmas.Bool.{eqb-true}
 use Rattle.std.proofs.lemmas.List.{map-append}
-use Rattle.std.proofs.lemmas.List.Elements.{filter_agree, recursion_from_All}
-use Rattle.dns_name.specs.Name.{Name, is_same, fold_name}
-use Rattle.dns_name.specs.Order.{is_same_equiv}
-use Rattle.dns_rdata.specs.Numbers.{type_NS, type_SOA}
-use Rattle.dns_rdata.specs.Record.{Record, IsLawful, with_record, owner_of, rtype_of}
+use Rattle.dns_name.specs.Name.{is_same}
+use Rattle.dns_rdata.specs.Record.{Record, with_record, owner_of, rtype_of}
 use Rattle.dns_rdata.specs.Raw.{RawRecord}
-use Rattle.zone_tree.specs.Zone.{IsBefore, stands_at, is_of, rrset_of, apex_of}
+use Rattle.zone_tree.specs.Zone.{IsBefore, is_of, rrset_of}
 use Rattle.zone_tree.specs.Change.{with_rrset, without_rrset}
-use Rattle.zone_tree.proofs.NameOrder.{folds_from_same}
 use Rattle.zone_tree.proofs.Rising.{Rises, rises_from_pairs, each_weaker, filter_alike}
-use Rattle.update_core.specs.Act.{entered, with_one, with_ttl, record_with_ttl, ttl_in_zone, is_apex_set, is_last_apex_record}
-use Rattle.update_core.proofs.ListLemmas.{and_left, and_right, filter_alike as filter_same}
-use Rattle.update_core.proofs.VerdictLemmas.{rrset_of-same}
+use Rattle.update_core.specs.Act.{entered, with_one, with_ttl, record_with_ttl, ttl_in_zone}
+use Rattle.update_core.proofs.ListLemmas.{and_left, and_right}
 use Rattle.update_core.proofs.SentLemmas.{same_lower}
-use Rattle.update_core.proofs.Candidates.{put_in, added_to, without_all, without_set, without_record}
-use Rattle.update_core.proofs.ZoneParts.{place, of_place, before_part, own_part, behind_part, three_parts, left_parts, set_parts, with_one_parts, each_passes, own_beside}
+use Rattle.update_core.proofs.Candidates.{put_in, added_to}
+use Rattle.update_core.proofs.ZoneParts.{lt_apart, gt_apart, place, of_place, before_part, behind_part, three_parts, left_parts, set_parts, with_one_parts, each_passes, own_beside}
 
 -- a record with another TTL
 abbrev pub at_ttl : ℕ → Record → Record
 at_ttl ttl s = record s { ttl = ttl }
-
-is_not : (b : Bool) → b ≡ false → not b ≡ true
-is_not true e = cc
-is_not false e = refl
-
--- all that a filter keeps
-all_kept : (p : Record → Bool) (zs : List Record) → ((s : Record) → p s ≡ true) → filter p zs ≡ zs
-all_kept p [] h = refl
-all_kept p (z ∷ zs) h = rw (h z) (ap (λ l. z ∷ l) (all_kept p zs h))
-
--- filters that agree on what is there
-agree_on : (p q : Record → Bool) (zs : List Record) → AllByRecursion (λ s. p s ≡ q s) zs → filter p zs ≡ filter q zs
-agree_on p q [] h = refl
-agree_on p q (z ∷ zs) h = rw (h.0) (ap (λ l. cond (q z) (z ∷ l) l) (agree_on p q zs h.1))
 
 module _ (zone : List Record) (r : RawRecord) (ascending : AllPairs IsBefore zone) where
   rises : Rises IsBefore zone
@@ -90,22 +69,12 @@ module _ (zone : List Record) (r : RawRecord) (ascending : AllPairs IsBefore zon
   ttl_own [] h = refl
   ttl_own (z ∷ zs) h = rw (h.0) (ap (λ l. at_ttl ttl z ∷ l) (ttl_own zs h.1))
 
-  lt_apart : (o : Ordering) → is_lt o ≡ true → is_eq o ≡ false
-  lt_apart Less e = refl
-  lt_apart Equal e = cc
-  lt_apart Greater e = refl
-
-  gt_apart : (o : Ordering) → is_gt o ≡ true → is_eq o ≡ false
-  gt_apart Less e = refl
-  gt_apart Equal e = cc
-  gt_apart Greater e = refl
-
   ttl_parts : with_ttl zone r.owner r.rtype ttl ≡ front ++ (map (at_ttl ttl) own ++ back)
   ttl_parts =
       ap (map set_to) (three_parts r.owner r.rtype zone rises)
       ∙ map-append set_to front (own ++ back)
       ∙ (λ i. ttl_apart (λ s. is_lt (place r.owner r.rtype s)) (λ s e. of_place r.owner r.rtype s ∙ lt_apart (place r.owner r.rtype s) e) zone i ++ (map-append set_to own back
-          ∙ (λ j. ttl_own own (each_passes r.owner r.rtype (is_of r.owner r.rtype) zone) j ++ ttl_apart (λ s. is_gt (place r.owner r.rtype s)) (λ s e. of_place r.owner r.rtype s ∙ gt_apart (place r.owner r.rtype s) e) zone j)) i)
+      ∙ (λ j. ttl_own own (each_passes r.owner r.rtype (is_of r.owner r.rtype) zone) j ++ ttl_apart (λ s. is_gt (place r.owner r.rtype s)) (λ s e. of_place r.owner r.rtype s ∙ gt_apart (place r.owner r.rtype s) e) zone j)) i)
 
   -- its owner and type are theirs
   one_more_owner : (zs : List Record) → AllByRecursion (λ s. is_of r.owner r.rtype s ≡ true) zs → is_same (owner_of (with_record (entered r) (map (at_ttl ttl) zs))) r.owner ≡ true

@@ -1,5 +1,5 @@
 -- Each effect of an update that the prescan let through makes a zone of the same apex (RFC 2136, 3.4.1 and 3.4.2).
-use Rattle.std.proofs.Common.{◌≡◌, ℕ, ◌<◌, Bool, true, false, not, ◌&&◌, ◌||◌, ◌==◌, cond, if◌then◌else◌, List, [], ◌∷◌, length, filter, All, Option, None, Some, bytes_eq, refl, sym, ap, subst, ◌∙◌, arith}
+use Rattle.std.proofs.Common.{◌≡◌, Bool, true, false, not, ◌&&◌, ◌||◌, ◌==◌, if◌then◌else◌, List, [], ◌∷◌, All, Option, None, Some, bytes_eq, refl, ap, subst, ◌∙◌}
 use Rattle.std.specs.Option.{IfSome, option_or, option_and_then}
 use Rattle.std.proofs.lemmas.List.Elements.{All-head, All-tail}
 use Rattle.dns_name.specs.Name.{Name, is_under}
@@ -8,12 +8,12 @@ use Rattle.dns_rdata.specs.declared.numbers.Rcode.TheVariants.{FormErr, Refused,
 use Rattle.dns_rdata.specs.Numbers.{type_NS, type_CNAME, type_SOA, type_ANY, class_IN, class_NONE, class_ANY}
 use Rattle.dns_rdata.specs.Record.{Record}
 use Rattle.dns_rdata.specs.Raw.{RawRecord}
-use Rattle.zone_tree.specs.Zone.{IsZone, KeepsRules, KeepsLimits, is_of, stands_at, rrset_of, apex_of, is_wild}
+use Rattle.zone_tree.specs.Zone.{IsZone, KeepsLimits, is_of, stands_at, apex_of, is_wild}
 use Rattle.zone_tree.specs.Change.{without_rrset}
-use Rattle.update_core.specs.Verdict.{has_rrset, is_empty, is_recognised, has_form, first_code, prescan_of, prescan}
-use Rattle.update_core.specs.Act.{entered, with_one, with_ttl, ttl_in_zone, has_other_than_alias, has_lesser_soa, within_limits, is_apex_set, is_last_apex_record, effect, effects, IsSent}
-use Rattle.update_core.proofs.ListLemmas.{by_test, and_left, and_right}
-use Rattle.update_core.proofs.SentLemmas.{passed, entered_lawful}
+use Rattle.update_core.specs.Verdict.{has_rrset, is_empty, is_recognised, has_form, prescan_of, prescan}
+use Rattle.update_core.specs.Act.{with_ttl, ttl_in_zone, has_other_than_alias, has_lesser_soa, within_limits, is_apex_set, is_last_apex_record, effect, effects, IsSent}
+use Rattle.update_core.proofs.ListLemmas.{by_test, and_left, and_right, both_fail, right_fails}
+use Rattle.update_core.proofs.SentLemmas.{no_first, passed, entered_lawful}
 use Rattle.update_core.proofs.Candidates.{put_in, added_to, without_all, without_set, without_record, Keeps, IsPut, IsAdded}
 use Rattle.update_core.proofs.RowsKeep.{all_keeps_rules, set_keeps_rules, record_keeps_rules}
 use Rattle.update_core.proofs.AddsKeep.{put_keeps_rules, add_keeps_rules}
@@ -24,21 +24,13 @@ pub record IsNext (zone next : List Record) : Type 0 where
   pub is : IsZone next
   pub apex : apex_of next ≡ apex_of zone
 
-next_from : (zone next : List Record) → Keeps zone next → KeepsLimits next → IsNext zone next
+pub next_from : (zone next : List Record) → Keeps zone next → KeepsLimits next → IsNext zone next
 next_from zone next h limits = record { is = record { rules = h.rules; limits = limits }; apex = h.apex }
 
 -- the tests of the rows that add
 third_fails : (a b c : Bool) → a && b && c ≡ false → a ≡ true → b && c ≡ false
 third_fails true b c e is = e
 third_fails false b c e is = cc
-
-both_fail : (a b : Bool) → a || b ≡ false → (a ≡ false) × (b ≡ false)
-both_fail true b e = cc
-both_fail false b e = (refl, e)
-
-only_left : (a b : Bool) → a && b ≡ false → a ≡ true → b ≡ false
-only_left true b e is = e
-only_left false b e is = cc
 
 module _ (zone : List Record) (r : RawRecord) (h : IsZone zone) (sent : IsSent r) (scanned : prescan_of zone r ≡ None) where
   abbrev GivesNext : Option (List Record) → Type 0
@@ -95,12 +87,12 @@ module _ (zone : List Record) (r : RawRecord) (h : IsZone zone) (sent : IsSent r
 
   is_added : add_beside_test ≡ false → put_test ≡ false → (r.class == class_IN) ≡ true → IsAdded zone r
   is_added beside put class =
-      let many = only_left (r.class == class_IN) (r.rtype == type_CNAME || r.rtype == type_SOA) put class in
+      let many = right_fails (r.class == class_IN) (r.rtype == type_CNAME || r.rtype == type_SOA) put class in
       let other = (both_fail (r.rtype == type_CNAME) (r.rtype == type_SOA) many).0 in
       record {
         class = class;
         many = many;
-        no_alias = only_left (not (r.rtype == type_CNAME)) (has_rrset zone r.owner type_CNAME) (third_fails (r.class == class_IN) (not (r.rtype == type_CNAME)) (has_rrset zone r.owner type_CNAME) beside class) (ap not other);
+        no_alias = right_fails (not (r.rtype == type_CNAME)) (has_rrset zone r.owner type_CNAME) (third_fails (r.class == class_IN) (not (r.rtype == type_CNAME)) (has_rrset zone r.owner type_CNAME) beside class) (ap not other);
       }
 
   pub effect_gives : IfSome (effect zone r) (IsNext zone)
@@ -121,7 +113,7 @@ module _ (zone : List Record) (r : RawRecord) (h : IsZone zone) (sent : IsSent r
       (λ _. by_test GivesNext (r.class == class_ANY) (Some (without_set zone r)) e8 (λ _. set_next)
       (λ _. by_test GivesNext (r.class == class_NONE) (Some (without_record zone r)) (Some zone) (λ _. record_next) (λ _. stays))))))))
 
-what_gives : (o : Option (List Record)) (P : List Record → Type 0) (next : List Record) → IfSome o P → o ≡ Some next → P next
+pub what_gives : (o : Option (List Record)) (P : List Record → Type 0) (next : List Record) → IfSome o P → o ≡ Some next → P next
 what_gives None P next h e = cc
 what_gives (Some x) P next h e = let same : x ≡ next = cc in subst P same h
 
@@ -145,10 +137,6 @@ same_prescan_of zone next r same = ap (λ apex. scanned_at apex r) same
 pub same_prescan : (zone next : List Record) (rs : List RawRecord) → apex_of next ≡ apex_of zone → prescan next rs ≡ prescan zone rs
 same_prescan zone next [] same = refl
 same_prescan zone next (r ∷ rs) same = λ i. option_or (same_prescan_of zone next r same i) (same_prescan zone next rs same i)
-
-no_first : (o p : Option Rcode) → option_or o p ≡ None → (o ≡ None) × (p ≡ None)
-no_first None p e = (refl, e)
-no_first (Some code) p e = cc
 
 -- and so do all effects of an update
 then_next : (zone : List Record) (o : Option (List Record)) (rs : List RawRecord) → IfSome o (IsNext zone) → ((next : List Record) → IsNext zone next → IfSome (effects next rs) (IsNext next)) → IfSome (option_and_then (λ next. effects next rs) o) (IsNext zone)

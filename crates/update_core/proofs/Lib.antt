@@ -16,3 +16,4 @@ pub mod EditLemmas
 pub mod DeletionEdits
 pub mod LimitsKept
 pub mod EffectKeeps
+pub mod ActKeeps

@@ -24,6 +24,31 @@ pub either_right : (a b : Bool) → b ≡ true → (a || b) ≡ true
 either_right true b h = refl
 either_right false b h = h
 
+pub implied : (b c : Bool) → (b ≡ true → c ≡ true) → (not b || c) ≡ true
+implied true c f = f refl
+implied false c f = refl
+
+-- tests that fail, and one whose opposite does
+pub is_not : (b : Bool) → not b ≡ true → b ≡ false
+is_not true e = absurd (cc)
+is_not false e = refl
+
+pub is_so : (b : Bool) → not b ≡ false → b ≡ true
+is_so true e = refl
+is_so false e = absurd (cc)
+
+pub both_fail : (a b : Bool) → (a || b) ≡ false → (a ≡ false) × (b ≡ false)
+both_fail true b e = absurd (cc)
+both_fail false b e = (refl, e)
+
+pub left_fails : (a b : Bool) → (a && b) ≡ false → b ≡ true → a ≡ false
+left_fails true b e is = absurd (cc)
+left_fails false b e is = refl
+
+pub right_fails : (a b : Bool) → (a && b) ≡ false → a ≡ true → b ≡ false
+right_fails true b e is = e
+right_fails false b e is = absurd (cc)
+
 -- a test that is a conjunction, where one side is known
 pub by_left : (x a b : Bool) → x ≡ (a && b) → a ≡ true → x ≡ b
 by_left x true b e h = e

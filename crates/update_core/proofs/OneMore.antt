@@ -1,8 +1,7 @@
 -- One more record among records in order, and what a filter keeps of them.
-use Rattle.std.proofs.Common.{◌≡◌, ℕ, ◌<◌, ◌≤◌, Bool, true, false, ◌&&◌, ◌==◌, cond, List, [], ◌∷◌, length, filter, All, refl, sym, ap, ◌∙◌, arith}
-use Rattle.std.specs.Prelude.{bytes_eq}
+use Rattle.std.proofs.Common.{◌≡◌, ◌≤◌, Bool, true, false, cond, List, [], ◌∷◌, length, filter, All, refl, sym, ap, ◌∙◌, arith}
 use Rattle.std.specs.List.{AllByRecursion}
-use Rattle.std.specs.Ordering.{is_lt, is_eq, nat_cmp, ordering_then, ordering_reverse, MatchOrdering}
+use Rattle.std.specs.Ordering.{is_lt, is_eq, nat_cmp, ordering_then, ordering_reverse}
 use Rattle.std.specs.declared.cmp.Ordering.{Ordering}
 use Rattle.std.specs.declared.cmp.Ordering.TheVariants.{Less, Equal, Greater}
 use Rattle.std.specs.Cmp.Lexicographic.{slice_cmp}
@@ -14,11 +13,11 @@ use Rattle.dns_name.specs.Name.{Name, is_same, canonical_cmp}
 use Rattle.dns_name.specs.Order.{is_same_equiv}
 use Rattle.dns_rdata.specs.Record.{Record, record_cmp}
 use Rattle.dns_rdata.proofs.LawLemmas.{record_cmp_total}
-use Rattle.zone_tree.specs.Zone.{IsBefore, is_of, stands_at}
+use Rattle.zone_tree.specs.Zone.{IsBefore, stands_at}
 use Rattle.zone_tree.proofs.NameOrder.{same_from_tie}
 use Rattle.zone_tree.proofs.Rising.{Rises, each_weaker, filter_alike}
 use Rattle.update_core.specs.Act.{with_one}
-use Rattle.update_core.proofs.SoaKept.{All-with_one}
+use Rattle.update_core.proofs.SoaKept.{grows, tied_numbers, All-with_one}
 
 -- the three ways in which a record goes among others
 by_order-at : (P : List Record → Type 0) (r z : Record) (zs : List Record) (o : Ordering) → (o ≡ Less → P (r ∷ z ∷ zs)) → (o ≡ Equal → P (z ∷ zs)) → (o ≡ Greater → P (z ∷ with_one r zs)) → P (cond (is_lt o) (r ∷ z ∷ zs) (cond (is_eq o) (z ∷ zs) (z ∷ with_one r zs)))
@@ -62,11 +61,6 @@ all_tied Equal Greater c e = cc
 all_tied Less b c e = cc
 all_tied Greater b c e = cc
 
-pub tied_numbers : (m n : ℕ) (o : Ordering) → o ≡ Equal → MatchOrdering o (m < n) (m ≡ n) (n < m) → m ≡ n
-tied_numbers m n Equal e is = is
-tied_numbers m n Less e is = cc
-tied_numbers m n Greater e is = cc
-
 pub tied : (r s : Record) → record_cmp r s ≡ Equal → IsTied r s
 tied r s e =
     let parts = all_tied (canonical_cmp r.owner s.owner) (nat_cmp r.rtype s.rtype) (slice_cmp nat_cmp r.rdata s.rdata) e in
@@ -76,12 +70,9 @@ tied r s e =
       rdata = (bytes_eq-Decides r.rdata s.rdata).0 (sym (is_eq-slice_cmp r.rdata s.rdata) ∙ ap is_eq parts.2);
     }
 
--- a test of an owner, and of an owner and a type, tells no records apart that tie
+-- a test of an owner tells no records apart that tie
 pub tied_stands : (name : Name) (r s : Record) → record_cmp r s ≡ Equal → stands_at name s ≡ stands_at name r
 tied_stands name r s e = sym (is_same_equiv.congr r.owner s.owner name (tied r s e).owner)
-
-pub tied_of : (name : Name) (rtype : ℕ) (r s : Record) → record_cmp r s ≡ Equal → is_of name rtype s ≡ is_of name rtype r
-tied_of name rtype r s e = ap (λ b. b && s.rtype == rtype) (tied_stands name r s e) ∙ ap (λ t. is_same r.owner name && t == rtype) (sym (tied r s e).rtype)
 
 module _ (p : Record → Bool) (r : Record) where
   -- a filter that doesn't keep the record keeps what it did
@@ -109,15 +100,11 @@ module _ (p : Record → Bool) (r : Record) where
   grown true z m n h = omega arith
   grown false z m n h = h
 
-  more : (b : Bool) (z : Record) (m : List Record) → length m ≤ length (cond b (z ∷ m) m)
-  more true z m = omega arith
-  more false z m = omega arith
-
   -- a filter keeps no fewer with the record
   pub filter-with_one_grows : (zs : List Record) → length (filter p zs) ≤ length (filter p (with_one r zs))
   filter-with_one_grows [] = omega arith
   filter-with_one_grows (z ∷ zs) =
       by_order (λ ys. length (filter p (z ∷ zs)) ≤ length (filter p ys)) r z zs
-      (λ _. more (p r) r (filter p (z ∷ zs)))
+      (λ _. grows (p r) r (filter p (z ∷ zs)))
       (λ _. omega arith)
       (λ _. grown (p z) z (filter p zs) (filter p (with_one r zs)) (filter-with_one_grows zs))

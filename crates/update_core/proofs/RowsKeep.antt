@@ -1,37 +1,28 @@
 -- Each row of an update keeps a zone's rules and its apex (RFC 2136, 3.4.2.2 to 3.4.2.4).
-use Rattle.std.proofs.Common.{◌≡◌, ◌⊎◌, inl, inr, ℕ, ◌<◌, ◌≤◌, Bool, true, false, not, ◌&&◌, ◌||◌, ◌==◌, cond, List, [], ◌∷◌, map, length, get_or, filter, All, bytes_eq, refl, sym, ap, subst, ◌∙◌, arith, eq-eqb, true≢false}
-use Rattle.std.specs.List.{AllPairs, list_any}
+use Rattle.std.proofs.Common.{◌≡◌, ◌<◌, Bool, true, false, not, ◌&&◌, ◌||◌, ◌==◌, cond, List, [], ◌∷◌, length, get_or, filter, All, bytes_eq, refl, sym, ap, ◌∙◌, arith, true≢false}
+use Rattle.std.specs.List.{AllPairs}
 use Rattle.std.specs.Ordering.{is_lt, nat_cmp, ordering_then}
-use Rattle.std.specs.declared.cmp.Ordering.TheVariants.{Less, Equal, Greater}
+use Rattle.std.specs.declared.cmp.Ordering.TheVariants.{Equal}
 use Rattle.std.specs.Cmp.Lexicographic.{slice_cmp}
 use Rattle.std.proofs.lemmas.Bool.{eqb-true}
 use Rattle.std.proofs.lemmas.Bool.Decides.{nat_tests}
 use Rattle.std.proofs.lemmas.Cmp.{tied_itself, nat_cmp_total, nat_list_cmp_total}
 use Rattle.std.proofs.lemmas.Slice.Eq.{bytes_eq-Decides}
-use Rattle.std.proofs.lemmas.List.{length-map}
-use Rattle.std.proofs.lemmas.List.Elements.{All-nil, All-cons, All-head, All-tail, All-map, All-filter, All-weaker, filter_passes}
+use Rattle.std.proofs.lemmas.List.Elements.{All-nil, All-cons, All-head, All-tail, All-weaker}
 use Rattle.std.proofs.lemmas.List.Kept.{AllPairs-filter}
-use Rattle.dns_name.specs.Name.{Name, is_same, is_under, fold_name, canonical_cmp}
+use Rattle.dns_name.specs.Name.{Name, is_same}
 use Rattle.dns_name.specs.Order.{is_same_equiv}
-use Rattle.dns_rdata.specs.Numbers.{type_NS, type_CNAME, type_SOA, class_IN}
-use Rattle.dns_rdata.specs.Data.{serial_of}
-use Rattle.dns_rdata.specs.Record.{Record, IsLawful, record_cmp, owner_of}
+use Rattle.dns_rdata.specs.Numbers.{type_NS, type_CNAME, type_SOA}
+use Rattle.dns_rdata.specs.Record.{Record, record_cmp, owner_of}
 use Rattle.dns_rdata.specs.Raw.{RawRecord}
-use Rattle.dns_rdata.specs.SerialOrder.{serial_less}
-use Rattle.zone_tree.specs.Zone.{KeepsRules, IsBefore, stands_at, is_of, rrset_of, soa_of, apex_of, is_wild}
-use Rattle.zone_tree.specs.Change.{without_rrset}
-use Rattle.zone_tree.proofs.NameOrder.{tie_from_same, folds_from_same}
-use Rattle.zone_tree.proofs.Rising.{place_from_any}
-use Rattle.zone_tree.proofs.RuleLemmas.{none_passes}
-use Rattle.update_core.specs.Verdict.{prescan_of, has_rrset}
-use Rattle.update_core.specs.Act.{entered, with_one, with_ttl, record_with_ttl, ttl_in_zone, has_other_than_alias, has_lesser_soa, is_apex_set, is_last_apex_record, IsSent}
+use Rattle.zone_tree.specs.Zone.{KeepsRules, IsBefore, stands_at, is_of, rrset_of, soa_of, apex_of}
+use Rattle.zone_tree.proofs.NameOrder.{tie_from_same}
+use Rattle.update_core.specs.Verdict.{has_rrset}
+use Rattle.update_core.specs.Act.{is_apex_set, is_last_apex_record}
 use Rattle.update_core.proofs.ListLemmas.{and_left, and_right, either_right, filter_alike as filter_same}
-use Rattle.update_core.proofs.SoaKept.{is_soa}
-use Rattle.update_core.proofs.OneMore.{filter-with_one_not, filter-with_one_alone, tied}
-use Rattle.update_core.proofs.RulesBeside.{KeepsBeside, beside_from, rules_from, filter_beside}
-use Rattle.update_core.proofs.RulesChanged.{filter-map, of_stays, stands_stays, FitsBeside, ttl_beside, ttl_owner, ttl_rtype, with_one_beside}
-use Rattle.update_core.proofs.SentLemmas.{IsPassed, passed, IsEntered, entered_lawful, under_lower, wild_lower, stands_lower, of_lower, ttl_small}
-use Rattle.update_core.proofs.Candidates.{put_in, added_to, without_all, without_set, without_record, Keeps, IsPut, IsAdded}
+use Rattle.update_core.proofs.SoaKept.{is_soa, apex_soa, last_soa}
+use Rattle.update_core.proofs.RulesBeside.{beside_from, rules_from, filter_beside}
+use Rattle.update_core.proofs.Candidates.{without_all, without_set, without_record, Keeps}
 
 -- what a filter that keeps nothing says of each; so no SOA is at any place where there is none, and the one that is stands at the apex
 pub nothing_kept : (p : Record → Bool) (zs : List Record) → length (filter p zs) ≡ 0 → All (λ s. p s ≡ false) zs
@@ -42,7 +33,7 @@ nothing_kept p (z ∷ zs) e = by (p z) refl e (nothing_kept p zs)
     by true is none more = absurd (omega arith)
     by false is none more = All-cons (λ s. p s ≡ false) z zs is (more none)
 
-abbrev AtApex : Name → Record → Type 0
+abbrev pub AtApex : Name → Record → Type 0
 AtApex apex s = is_soa s ≡ true → s.owner ≡ apex
 
 soa_places : (apex : Name) (zs : List Record) → length (soa_of zs) ≡ 1 → owner_of (soa_of zs) ≡ apex → All (AtApex apex) zs
@@ -99,9 +90,6 @@ module _ (zone : List Record) (h : KeepsRules zone) (p : Record → Bool) where
       omega (arith, ap length same)
 
 -- what the deletions keep
-apex_soa : (zone : List Record) (s : Record) → is_soa s ≡ true → s.owner ≡ apex_of zone → is_apex_set zone s.owner s.rtype ≡ true
-apex_soa zone s is at = rw (at, is_same_equiv.refl (apex_of zone), is) refl
-
 apex_ns : (zone : List Record) (s : Record) → is_of (apex_of zone) type_NS s ≡ true → is_apex_set zone s.owner s.rtype ≡ true
 apex_ns zone s is =
     let same = and_left (is_same s.owner (apex_of zone)) (s.rtype == type_NS) is in
@@ -189,12 +177,9 @@ module _ (zone : List Record) (r : RawRecord) (h : KeepsRules zone) where
       let left = one_left (rrset_of zone home type_NS) two (AllPairs-filter IsBefore is_server zone h.ascending) in
       omega (arith, ap length (filter_swap is_left is_server zone))
 
-  last_soa : (s : Record) → is_soa s ≡ true → s.owner ≡ home → is_last_apex_record zone s.owner s.rtype ≡ true
-  last_soa s is at = rw (at, is_same_equiv.refl home, is) refl
-
   pub record_keeps_rules : Keeps zone (without_record zone r)
   record_keeps_rules =
-      filter_rules zone h is_left (λ s is at. either_right (not (is_meant s)) (is_last_apex_record zone s.owner s.rtype) (last_soa s is at))
+      filter_rules zone h is_left (λ s is at. either_right (not (is_meant s)) (is_last_apex_record zone s.owner s.rtype) (last_soa zone s is at))
       (servers_left (length (rrset_of zone home type_NS) == 1) refl)
 
 -- the owners and the data that an added record meets
@@ -203,4 +188,3 @@ none_of rs e = grind (arith, nat_tests)
 
 pub no_alias_at : (zone : List Record) (owner : Name) → has_rrset zone owner type_CNAME ≡ false → All (λ s. is_of owner type_CNAME s ≡ false) zone
 no_alias_at zone owner e = nothing_kept (is_of owner type_CNAME) zone (none_of (rrset_of zone owner type_CNAME) e)
-

@@ -1,23 +1,16 @@
 -- The rules of a zone beside the one of its SOA, kept by filters, by changes of TTLs and by one record more.
-use Rattle.std.proofs.Common.{◌≡◌, ◌≢◌, ℕ, zero, suc, ◌<◌, ◌≤◌, ◌^◌, Bool, true, false, not, ◌&&◌, ◌||◌, ◌==◌, cond, List, [], ◌∷◌, map, length, filter, All, refl, sym, ap, subst, ◌∙◌, arith, eq-eqb, true≢false}
+use Rattle.std.proofs.Common.{◌≡◌, ◌≢◌, ℕ, zero, suc, ◌<◌, ◌≤◌, Bool, true, false, not, ◌&&◌, ◌||◌, ◌==◌, cond, List, [], ◌∷◌, length, filter, All, refl, sym, ap, subst, ◌∙◌, arith, eq-eqb}
 use Rattle.std.specs.Prelude.{Contains}
-use Rattle.std.specs.List.{AllPairs, AllByRecursion}
-use Rattle.std.specs.Ordering.{is_lt}
+use Rattle.std.specs.List.{AllPairs}
 use Rattle.std.proofs.lemmas.Bool.{eqb-true}
-use Rattle.std.proofs.lemmas.Bool.Decides.{Decides-eqb}
-use Rattle.std.proofs.lemmas.List.{length-map}
-use Rattle.std.proofs.lemmas.List.Elements.{All-nil, All-cons, All-head, All-tail, All-map, All-filter, All-weaker, All-contains, All-contains_itself, filter_passes}
+use Rattle.std.proofs.lemmas.List.Elements.{All-filter, All-weaker, All-contains_itself}
 use Rattle.std.proofs.lemmas.List.Kept.{AllPairs-filter}
-use Rattle.dns_name.specs.Name.{Name, is_same, is_under}
+use Rattle.dns_name.specs.Name.{Name, is_under}
 use Rattle.dns_name.specs.Order.{is_same_equiv}
-use Rattle.dns_rdata.specs.Numbers.{type_NS, type_CNAME, type_SOA}
-use Rattle.dns_rdata.specs.Record.{Record, IsLawful, record_cmp, owner_of}
-use Rattle.zone_tree.specs.Zone.{KeepsRules, IsBefore, stands_at, is_of, rrset_of, rrsets_of, soa_of, apex_of, is_wild, share_ttl, is_alone}
-use Rattle.zone_tree.proofs.Rising.{pairs_from_rises, rises_from_pairs, Rises, Rises-map}
-use Rattle.update_core.specs.Act.{with_one, record_with_ttl, with_ttl}
-use Rattle.update_core.proofs.ListLemmas.{and_left, and_right}
-use Rattle.update_core.proofs.SoaKept.{is_soa, All-with_one}
-use Rattle.update_core.proofs.OneMore.{rises-with_one, filter-with_one_not, filter-with_one_alone, filter-with_one_grows, tied_stands}
+use Rattle.dns_rdata.specs.Numbers.{type_NS, type_CNAME}
+use Rattle.dns_rdata.specs.Record.{Record, IsLawful}
+use Rattle.zone_tree.specs.Zone.{KeepsRules, IsBefore, stands_at, rrset_of, rrsets_of, soa_of, apex_of, is_wild, share_ttl, is_alone}
+use Rattle.update_core.proofs.SoaKept.{grows}
 
 -- the rules of a zone of an apex, beside that of the SOA
 pub record KeepsBeside (apex : Name) (zone : List Record) : Type 0 where
@@ -60,16 +53,12 @@ rules_from apex zone h one is = record {
 }
 
 -- a list in which a record is that passes keeps one
-more : (b : Bool) (s : Record) (kept : List Record) → length kept ≤ length (cond b (s ∷ kept) kept)
-more true s kept = omega arith
-more false s kept = omega arith
-
 counted : (p : Record → Bool) (rs : List Record) (r : Record) → Contains rs r → p r ≡ true → 0 < length (filter p rs)
 counted p [] r (k, l, e) is = absurd (omega arith)
 counted p (s ∷ rs) r (zero, l, e) is = rw (ap p e ∙ is) (omega arith)
 counted p (s ∷ rs) r (suc k, l, e) is =
     let rest = counted p rs r (k, omega arith, e) is in
-    let longer = more (p s) s (filter p rs) in
+    let longer = grows (p s) s (filter p rs) in
     omega arith
 
 -- an alias is alone where its owner gets no more records
@@ -88,7 +77,7 @@ still_alone zone next r h there few =
 -- what is left by a filter
 pub fewer : (p q : Record → Bool) (rs : List Record) → length (filter p (filter q rs)) ≤ length (filter p rs)
 fewer p q [] = omega arith
-fewer p q (r ∷ rs) = by (q r) (p r) (fewer p q rs) (more (p r) r (filter p rs))
+fewer p q (r ∷ rs) = by (q r) (p r) (fewer p q rs) (grows (p r) r (filter p rs))
   where
     by : (b c : Bool) → length (filter p (filter q rs)) ≤ length (filter p rs) → length (filter p rs) ≤ length (cond c (r ∷ filter p rs) (filter p rs))
         → length (filter p (cond b (r ∷ filter q rs) (filter q rs))) ≤ length (cond (p r) (r ∷ filter p rs) (filter p rs))
@@ -97,7 +86,7 @@ fewer p q (r ∷ rs) = by (q r) (p r) (fewer p q rs) (more (p r) r (filter p rs)
         both : (d : Bool) → length (filter p (filter q rs)) ≤ length (filter p rs) → length (cond d (r ∷ filter p (filter q rs)) (filter p (filter q rs))) ≤ length (cond d (r ∷ filter p rs) (filter p rs))
         both true less = omega arith
         both false less = less
-    by false c rest longer = let grown = more (p r) r (filter p rs) in omega arith
+    by false c rest longer = let grown = grows (p r) r (filter p rs) in omega arith
 
 pub filter_beside : (apex : Name) (p : Record → Bool) (zone : List Record) → KeepsBeside apex zone → 0 < length (rrset_of (filter p zone) apex type_NS) → KeepsBeside apex (filter p zone)
 filter_beside apex p zone h servers =

@@ -1,17 +1,17 @@
 -- The rules of a zone beside the one of its SOA, kept where its records change but for owner and type, and by one more.
-use Rattle.std.proofs.Common.{◌≡◌, ℕ, ◌<◌, ◌≤◌, ◌^◌, Bool, true, false, not, ◌&&◌, ◌||◌, ◌==◌, cond, List, [], ◌∷◌, map, length, get_or, filter, All, refl, sym, ap, subst, ◌∙◌, arith, eq-eqb}
+use Rattle.std.proofs.Common.{◌≡◌, ℕ, ◌<◌, ◌^◌, Bool, true, false, not, ◌&&◌, ◌||◌, ◌==◌, cond, List, [], ◌∷◌, map, length, get_or, filter, All, refl, sym, ap, ◌∙◌, arith, eq-eqb}
 use Rattle.std.specs.List.{AllPairs}
 use Rattle.std.proofs.lemmas.Bool.{eqb-true}
 use Rattle.std.proofs.lemmas.List.{length-map}
-use Rattle.std.proofs.lemmas.List.Elements.{All-cons, All-map, All-weaker}
+use Rattle.std.proofs.lemmas.List.Elements.{All-map, All-weaker}
 use Rattle.dns_name.specs.Name.{Name, is_same, is_under}
 use Rattle.dns_name.specs.Order.{is_same_equiv}
 use Rattle.dns_rdata.specs.Numbers.{type_NS, type_CNAME}
 use Rattle.dns_rdata.specs.Record.{Record, IsLawful, record_cmp}
-use Rattle.zone_tree.specs.Zone.{IsBefore, stands_at, is_of, rrset_of, rrsets_of, is_wild, share_ttl, is_alone}
+use Rattle.zone_tree.specs.Zone.{IsBefore, stands_at, is_of, rrsets_of, is_wild, share_ttl, is_alone}
 use Rattle.zone_tree.proofs.Rising.{pairs_from_rises, rises_from_pairs, Rises, Rises-map, rises_weaker}
 use Rattle.update_core.specs.Act.{with_one, record_with_ttl, with_ttl}
-use Rattle.update_core.proofs.ListLemmas.{and_left, and_right}
+use Rattle.update_core.proofs.ListLemmas.{and_left, and_right, either_right, implied}
 use Rattle.update_core.proofs.SoaKept.{All-with_one}
 use Rattle.update_core.proofs.OneMore.{rises-with_one, filter-with_one_not, filter-with_one_alone, filter-with_one_grows, tied_stands}
 use Rattle.update_core.proofs.RulesBeside.{KeepsBeside}
@@ -97,10 +97,6 @@ module _ (owner : Name) (rtype ttl : ℕ) where
   same_ttls true r s e k h = rw (e, k) refl
   same_ttls false r s e k h = rw (e, k) h
 
-  or_right : (b c : Bool) → c ≡ true → b || c ≡ true
-  or_right true c e = refl
-  or_right false c e = e
-
   shares : (r s : Record) → share_ttl r s ≡ true → share_ttl (set_to r) (set_to s) ≡ true
   shares r s h = by (is_of s.owner s.rtype r) refl
     where
@@ -111,7 +107,7 @@ module _ (owner : Name) (rtype ttl : ℕ) where
       by false e = rw (moved, e) refl
       by true e =
           let ttls : r.ttl ≡ s.ttl = eqb-true r.ttl s.ttl (rw e at h) in
-          or_right (not (is_of (set_to s).owner (set_to s).rtype (set_to r))) ((set_to r).ttl == (set_to s).ttl)
+          either_right (not (is_of (set_to s).owner (set_to s).rtype (set_to r))) ((set_to r).ttl == (set_to s).ttl)
           (eq-eqb (set_to r).ttl (set_to s).ttl (same_ttls (is_of owner rtype r) r s refl (of_together r s e) ttls))
 
   pub ttl_rises : (zone : List Record) → Rises IsBefore zone → Rises IsBefore (with_ttl zone owner rtype ttl)
@@ -124,8 +120,8 @@ module _ (owner : Name) (rtype ttl : ℕ) where
       (All-map IsLawful set_to zone (All-weaker IsLawful (λ s. IsLawful (set_to s)) (λ s k. lawful_at (is_of owner rtype s) s small k) zone h.lawful))
       (pairs_from_rises IsBefore next (ttl_rises zone (rises_from_pairs IsBefore zone h.ascending)))
       (All-map (λ r. All (λ s. share_ttl r s ≡ true) next) set_to zone
-          (All-weaker (λ r. All (λ s. share_ttl r s ≡ true) zone) (λ r. All (λ s. share_ttl (set_to r) s ≡ true) next)
-          (λ r k. All-map (λ s. share_ttl (set_to r) s ≡ true) set_to zone (All-weaker (λ s. share_ttl r s ≡ true) (λ s. share_ttl (set_to r) (set_to s) ≡ true) (shares r) zone k)) zone h.one_ttl))
+      (All-weaker (λ r. All (λ s. share_ttl r s ≡ true) zone) (λ r. All (λ s. share_ttl (set_to r) s ≡ true) next)
+      (λ r k. All-map (λ s. share_ttl (set_to r) s ≡ true) set_to zone (All-weaker (λ s. share_ttl r s ≡ true) (λ s. share_ttl (set_to r) (set_to s) ≡ true) (shares r) zone k)) zone h.one_ttl))
 
 -- what a record needs to go among others
 pub record FitsBeside (apex : Name) (zone : List Record) (r : Record) : Type 0 where
@@ -138,10 +134,6 @@ pub record FitsBeside (apex : Name) (zone : List Record) (r : Record) : Type 0 w
 module _ (apex : Name) (zone : List Record) (r : Record) (h : KeepsBeside apex zone) (fits : FitsBeside apex zone r) where
   abbrev grown : List Record
   grown = with_one r zone
-
-  implied : (b c : Bool) → (b ≡ true → c ≡ true) → not b || c ≡ true
-  implied true c f = f refl
-  implied false c f = refl
 
   shares_new : (s : Record) → (is_of r.owner r.rtype s ≡ true → s.ttl ≡ r.ttl) → share_ttl s r ≡ true
   shares_new s k = implied (is_of r.owner r.rtype s) (s.ttl == r.ttl) (λ e. eq-eqb s.ttl r.ttl (k e))
@@ -174,7 +166,7 @@ module _ (apex : Name) (zone : List Record) (r : Record) (h : KeepsBeside apex z
   alone_old : (s : Record) (b : Bool) → (s.rtype == type_CNAME) ≡ b → (r.rtype == type_CNAME || s.rtype == type_CNAME ≡ true → stands_at r.owner s ≡ false) → not b || length (rrsets_of zone s.owner) == 1 ≡ true → not b || length (rrsets_of grown s.owner) == 1 ≡ true
   alone_old s false e apart was = refl
   alone_old s true e apart was =
-      let away : stands_at s.owner r ≡ false = is_same_equiv.symm r.owner s.owner ∙ apart (or_right [] 0 0 (r.rtype == type_CNAME) (s.rtype == type_CNAME) e) in
+      let away : stands_at s.owner r ≡ false = is_same_equiv.symm r.owner s.owner ∙ apart (either_right (r.rtype == type_CNAME) (s.rtype == type_CNAME) e) in
       ap (λ rs. length rs == 1) (filter-with_one_not (stands_at s.owner) r zone away) ∙ was
 
   pub with_one_beside : KeepsBeside apex (with_one r zone)

@@ -1,8 +1,8 @@
 -- What the prescan says of a record, and the record as it enters a zone.
-use Rattle.std.proofs.Common.{◌≡◌, ℕ, ◌<◌, ◌+◌, ◌^◌, Bool, true, false, not, ◌&&◌, ◌||◌, ◌==◌, cond, nat_lt, List, [], ◌∷◌, map, length, All, Option, Some, None, unwrap_or, refl, sym, ap, subst, ◌∙◌, arith, lit<}
+use Rattle.std.proofs.Common.{◌≡◌, ℕ, ◌<◌, ◌+◌, ◌^◌, Bool, true, false, not, ◌&&◌, ◌==◌, cond, nat_lt, List, [], ◌∷◌, map, length, All, Option, Some, None, unwrap_or, refl, sym, ap, subst, ◌∙◌, arith, lit<}
 use Rattle.std.specs.Prelude.{bytes_eq}
 use Rattle.std.specs.Char.{to_ascii_lowercase}
-use Rattle.std.specs.Option.{is_some}
+use Rattle.std.specs.Option.{is_some, option_or}
 use Rattle.std.specs.Cmp.Lexicographic.{pointwise}
 use Rattle.std.proofs.lemmas.Bool.Decides.{nat_tests}
 use Rattle.dns_name.specs.Name.{Name, is_same, is_under, fold_name}
@@ -19,22 +19,22 @@ use Rattle.zone_tree.specs.Zone.{apex_of, is_wild, is_of, stands_at}
 use Rattle.zone_tree.proofs.NameOrder.{same_from_folds}
 use Rattle.update_core.specs.Verdict.{prescan_of, has_form}
 use Rattle.update_core.specs.Act.{entered, ttl_in_zone, IsSent}
-use Rattle.update_core.proofs.ListLemmas.{by_test}
+use Rattle.update_core.proofs.ListLemmas.{by_test, is_so}
 
--- a rule that gives no code
+-- a rule that gives no code, and those behind it
 pub skipped : (b : Bool) (code : Rcode) (rest : Option Rcode) → cond b (Some code) rest ≡ None → (b ≡ false) × (rest ≡ None)
 skipped true code rest e = absurd (cc)
 skipped false code rest e = (refl, e)
+
+pub no_first : (o p : Option Rcode) → option_or o p ≡ None → (o ≡ None) × (p ≡ None)
+no_first None p e = (refl, e)
+no_first (Some code) p e = absurd (cc)
 
 -- what the prescan says of a record of class IN
 pub record IsPassed (apex : Name) (r : RawRecord) : Type 0 where
   pub under_apex : is_under r.owner apex ≡ true
   pub form : is_some (data_of r.rtype r.octets) ≡ true
   pub no_wild_cut : is_wild r.owner && r.rtype == type_NS ≡ false
-
-is_so : (b : Bool) → not b ≡ false → b ≡ true
-is_so true e = refl
-is_so false e = cc
 
 form_by : (class form : Bool) → class && not form ≡ false → class ≡ true → form ≡ true
 form_by true form e is = is_so form e
@@ -67,16 +67,16 @@ star_by false true c e = no_star (c + 32) c (grind (arith, nat_tests)) (grind (a
     no_star m n h k = h ∙ sym k
 star_by false false c e = refl
 
-both_fail : (a b : Bool) → (a && false) ≡ (b && false)
-both_fail true true = refl
-both_fail true false = refl
-both_fail false true = refl
-both_fail false false = refl
+false_behind : (a b : Bool) → (a && false) ≡ (b && false)
+false_behind true true = refl
+false_behind true false = refl
+false_behind false true = refl
+false_behind false false = refl
 
 star_lower : (label : List ℕ) → bytes_eq (map to_ascii_lowercase label) (42 ∷ []) ≡ bytes_eq label (42 ∷ [])
 star_lower [] = refl
 star_lower (c ∷ []) = ap (λ (b : Bool). b && true) (star_by (nat_lt c 65) (nat_lt c 91) c refl)
-star_lower (c ∷ d ∷ label) = both_fail (to_ascii_lowercase c == 42) (c == 42)
+star_lower (c ∷ d ∷ label) = false_behind (to_ascii_lowercase c == 42) (c == 42)
 
 pub wild_lower : (name : Name) → is_wild (fold_name name) ≡ is_wild name
 wild_lower [] = refl

@@ -1,12 +1,11 @@
 -- The serial of each zone that an update makes is greater than that of the zone before.
-use Rattle.std.proofs.Common.{◌≡◌, ◌⊎◌, inl, inr, ℕ, ◌<◌, ◌^◌, Bool, true, false, not, ◌&&◌, ◌==◌, cond, if◌then◌else◌, List, [], ◌∷◌, length, All, Option, None, Some, ◌+◌, refl, ap, subst, ◌∙◌, arith, lit<}
+use Rattle.std.proofs.Common.{◌≡◌, ◌⊎◌, inl, inr, ℕ, ◌<◌, ◌^◌, Bool, true, false, ◌==◌, cond, if◌then◌else◌, List, [], ◌∷◌, length, All, Option, None, Some, ◌+◌, refl, ap, subst, ◌∙◌, arith, lit<}
 use Rattle.std.proofs.Math.Nat.{mod-lt}
 use Rattle.std.proofs.lemmas.Bool.{eqb-true}
-use Rattle.std.specs.Option.{option_or, option_map, IfSome}
+use Rattle.std.specs.Option.{option_map, IfSome}
 use Rattle.std.specs.Cmp.Lexicographic.{pointwise}
 use Rattle.std.proofs.lemmas.List.Elements.{All-nil, All-cons, All-head, All-tail, All-weaker}
-use Rattle.dns_rdata.specs.declared.numbers.Rcode.{Rcode}
-use Rattle.dns_rdata.specs.Numbers.{type_SOA, class_IN}
+use Rattle.dns_rdata.specs.Numbers.{type_SOA}
 use Rattle.dns_rdata.specs.Data.{data_of, serial_of}
 use Rattle.dns_rdata.specs.Record.{Record, IsLawful}
 use Rattle.dns_rdata.specs.Raw.{RawRecord}
@@ -14,37 +13,19 @@ use Rattle.dns_rdata.specs.SerialOrder.{serial_less, serial_next}
 use Rattle.dns_rdata.proofs.SerialLemmas.{less-next}
 use Rattle.dns_message.specs.declared.update.Update.{Update}
 use Rattle.zone_tree.specs.Zone.{IsZone, soa_of}
-use Rattle.update_core.specs.Verdict.{check, permission, prescan, prescan_of, verdict, has_form}
+use Rattle.update_core.specs.Verdict.{check, permission, prescan, prescan_of, verdict}
 use Rattle.zone_tree.specs.Change.{is_same_record}
 use Rattle.zone_tree.specs.Version.{zone_serial, first_data}
 use Rattle.update_core.specs.Act.{act, effects, completed, at_serial}
 use Rattle.update_core.proofs.ListLemmas.{by_test}
 use Rattle.dns_rdata.proofs.SoaSerial.{serial_of-with_serial, serial_of-small}
+use Rattle.update_core.proofs.SentLemmas.{no_first, passed}
 use Rattle.update_core.proofs.SoaKept.{HasForm, HasSoa, IsFormed, effects_keep}
 
--- a rule that gives no code, and those behind it
-no_first : (o p : Option Rcode) → option_or o p ≡ None → (o ≡ None) × (p ≡ None)
-no_first None p e = (refl, e)
-no_first (Some code) p e = absurd (cc)
-
-skipped : (b : Bool) (code : Rcode) (rest : Option Rcode) → cond b (Some code) rest ≡ None → (b ≡ false) × (rest ≡ None)
-skipped true code rest e = absurd (cc)
-skipped false code rest e = (refl, e)
-
-form_by : (class form : Bool) → (class && not form) ≡ false → class ≡ true → form ≡ true
-form_by true true e is = refl
-form_by true false e is = absurd (cc)
-form_by false form e is = absurd (cc)
-
-formed_one : (zone : List Record) (r : RawRecord) → prescan_of zone r ≡ None → IsFormed r
-formed_one zone r e =
-    let under = skipped _ _ _ e in
-    let form = skipped (r.class == class_IN && not (has_form r)) _ _ under.1 in
-    form_by (r.class == class_IN) (has_form r) form.0
-
+-- the records of class IN of a scanned update have their types' forms
 formed : (zone : List Record) (rs : List RawRecord) → prescan zone rs ≡ None → All IsFormed rs
 formed zone [] e = All-nil IsFormed
-formed zone (r ∷ rs) e = let both = no_first (prescan_of zone r) (prescan zone rs) e in All-cons IsFormed r rs (formed_one zone r both.0) (formed zone rs both.1)
+formed zone (r ∷ rs) e = let both = no_first (prescan_of zone r) (prescan zone rs) e in All-cons IsFormed r rs (λ class. (passed zone r both.0 class).form) (formed zone rs both.1)
 
 -- an SOA that is first has the serial that is put in
 first_serial : (n : ℕ) (zs : List Record) → n < 2 ^ 32 → 0 < length (soa_of zs) → All HasForm zs → serial_of (first_data (soa_of (at_serial n zs))) ≡ n

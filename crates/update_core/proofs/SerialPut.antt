@@ -53,10 +53,10 @@ module _ (n : ℕ) where
   ttl_at true s = refl
   ttl_at false s = refl
 
-  serial_owner : (s : Record) → (f s).owner ≡ s.owner
+  pub serial_owner : (s : Record) → (f s).owner ≡ s.owner
   serial_owner s = owner_at (is_soa s) s
 
-  serial_rtype : (s : Record) → (f s).rtype ≡ s.rtype
+  pub serial_rtype : (s : Record) → (f s).rtype ≡ s.rtype
   serial_rtype s = rtype_at (is_soa s) s
 
   serial_ttl : (s : Record) → (f s).ttl ≡ s.ttl

@@ -35,7 +35,7 @@ pub record HasSoa (zone : List Record) : Type 0 where
   pub form : All HasForm zone
 
 -- one record more in front of what a filter keeps
-grows : (b : Bool) (x : Record) (kept : List Record) → length kept ≤ length (cond b (x ∷ kept) kept)
+pub grows : (b : Bool) (x : Record) (kept : List Record) → length kept ≤ length (cond b (x ∷ kept) kept)
 grows true x kept = omega arith
 grows false x kept = omega arith
 
@@ -57,10 +57,10 @@ pub filter_keeps : (zone : List Record) (p : Record → Bool) → HasSoa zone �
 filter_keeps zone p h stays = record { some = kept_some (apex_of zone) p zone stays refl h.some; form = All-filter p HasForm zone h.form }
 
 -- what the deletions keep
-apex_soa : (zone : List Record) (s : Record) → is_soa s ≡ true → s.owner ≡ apex_of zone → is_apex_set zone s.owner s.rtype ≡ true
+pub apex_soa : (zone : List Record) (s : Record) → is_soa s ≡ true → s.owner ≡ apex_of zone → is_apex_set zone s.owner s.rtype ≡ true
 apex_soa zone s is at = rw (at, is_same_equiv.refl (apex_of zone), is) refl
 
-last_soa : (zone : List Record) (s : Record) → is_soa s ≡ true → s.owner ≡ apex_of zone → is_last_apex_record zone s.owner s.rtype ≡ true
+pub last_soa : (zone : List Record) (s : Record) → is_soa s ≡ true → s.owner ≡ apex_of zone → is_last_apex_record zone s.owner s.rtype ≡ true
 last_soa zone s is at = rw (at, is_same_equiv.refl (apex_of zone), is) refl
 
 -- one record more
@@ -92,7 +92,7 @@ tied_type Equal Greater c e = absurd (cc)
 tied_type Less b c e = absurd (cc)
 tied_type Greater b c e = absurd (cc)
 
-tied_numbers : (m n : ℕ) (o : Ordering) → o ≡ Equal → MatchOrdering o (m < n) (m ≡ n) (n < m) → m ≡ n
+pub tied_numbers : (m n : ℕ) (o : Ordering) → o ≡ Equal → MatchOrdering o (m < n) (m ≡ n) (n < m) → m ≡ n
 tied_numbers m n Equal e is = is
 tied_numbers m n Less e is = absurd (cc)
 tied_numbers m n Greater e is = absurd (cc)

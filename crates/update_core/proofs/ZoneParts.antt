@@ -1,14 +1,13 @@
 -- A zone as the records before an owner and a type, those of both, and those behind; and one record more among them.
-use Rattle.std.proofs.Common.{◌≡◌, ℕ, ◌<◌, Bool, true, false, ◌&&◌, ◌==◌, cond, List, [], ◌∷◌, ◌++◌, map, filter, nat_lt, refl, sym, ap, ◌∙◌, true≢false, append_assoc, arith}
+use Rattle.std.proofs.Common.{◌≡◌, ℕ, Bool, true, false, ◌==◌, cond, List, [], ◌∷◌, ◌++◌, filter, nat_lt, refl, sym, ap, ◌∙◌, true≢false, append_assoc, arith}
 use Rattle.std.specs.List.{AllByRecursion}
-use Rattle.std.specs.Ordering.{is_lt, is_gt, is_eq, nat_cmp, ordering_then, ordering_reverse, then_cmp, on}
+use Rattle.std.specs.Ordering.{is_lt, is_gt, is_eq, nat_cmp, ordering_then, ordering_reverse}
 use Rattle.std.specs.declared.cmp.Ordering.{Ordering}
 use Rattle.std.specs.declared.cmp.Ordering.TheVariants.{Less, Equal, Greater}
-use Rattle.std.specs.Cmp.{IsTotalOrder, Equal-is, both_tied}
+use Rattle.std.specs.Cmp.{IsTotalOrder, both_tied}
 use Rattle.std.specs.Cmp.Lexicographic.{slice_cmp}
 use Rattle.std.proofs.lemmas.Cmp.{on_total, then_total, nat_cmp_total, upto, alike_right, tied_itself}
 use Rattle.std.proofs.lemmas.Bool.Decides.{nat_tests}
-use Rattle.std.proofs.lemmas.List.{map-append}
 use Rattle.std.proofs.lemmas.List.Elements.{filter-append, filter_agree}
 use Rattle.dns_name.specs.Name.{Name, is_same, canonical_cmp}
 use Rattle.dns_name.specs.Order.{canonical_total, is_same_tied}
@@ -55,6 +54,17 @@ numbers_tied m n = by (nat_lt m n) refl
         other true = refl
         other false = refl
 
+-- what is before or behind isn't beside
+pub lt_apart : (o : Ordering) → is_lt o ≡ true → is_eq o ≡ false
+lt_apart Less e = refl
+lt_apart Equal e = cc
+lt_apart Greater e = refl
+
+pub gt_apart : (o : Ordering) → is_gt o ≡ true → is_eq o ≡ false
+gt_apart Less e = refl
+gt_apart Equal e = cc
+gt_apart Greater e = refl
+
 module _ (owner : Name) (rtype : ℕ) where
   abbrev at : Record → Ordering
   at = place owner rtype
@@ -74,12 +84,12 @@ module _ (owner : Name) (rtype : ℕ) where
   stays_from : (r s : Record) → IsBefore r s → is_lt (at r) ≡ false → is_lt (at s) ≡ false
   stays_from r s before from = not_before (is_lt (at s)) (λ less. true≢false (sym (before_by key_total r s key (in_order r s before) less) ∙ from))
 
-  is_so : (b : Bool) → (b ≡ false → ⊥) → b ≡ true
-  is_so true f = refl
-  is_so false f = absurd (f refl)
+  so_from : (b : Bool) → (b ≡ false → ⊥) → b ≡ true
+  so_from true f = refl
+  so_from false f = absurd (f refl)
 
   stays_behind : (r s : Record) → IsBefore r s → is_gt (at r) ≡ true → is_gt (at s) ≡ true
-  stays_behind r s before behind = is_so (is_gt (at s)) (λ none. true≢false (sym behind ∙ upto key_total r s key (in_order r s before) none))
+  stays_behind r s before behind = so_from (is_gt (at s)) (λ none. true≢false (sym behind ∙ upto key_total r s key (in_order r s before) none))
 
   -- the three parts
   abbrev pub before_part : List Record → List Record
@@ -91,11 +101,6 @@ module _ (owner : Name) (rtype : ℕ) where
   abbrev pub behind_part : List Record → List Record
   behind_part zone = filter (λ s. is_gt (at s)) zone
 
-  is_not_eq : (o : Ordering) → is_gt o ≡ true → is_eq o ≡ false
-  is_not_eq Less e = refl
-  is_not_eq Equal e = cc
-  is_not_eq Greater e = refl
-
   pub three_parts : (zone : List Record) → Rises IsBefore zone → zone ≡ before_part zone ++ (own_part zone ++ behind_part zone)
   three_parts [] h = refl
   three_parts (z ∷ zs) h = by (at z) refl (three_parts zs h.1)
@@ -105,7 +110,7 @@ module _ (owner : Name) (rtype : ℕ) where
 
       none_own : is_gt (at z) ≡ true → own_part zs ≡ []
       none_own behind =
-          filter_alike (is_of owner rtype) false zs (each_weaker (IsBefore z) (λ s. is_of owner rtype s ≡ false) (λ s before. of_place s ∙ is_not_eq (at s) (stays_behind z s before behind)) zs h.0)
+          filter_alike (is_of owner rtype) false zs (each_weaker (IsBefore z) (λ s. is_of owner rtype s ≡ false) (λ s before. of_place s ∙ gt_apart (at s) (stays_behind z s before behind)) zs h.0)
 
       by : (o : Ordering) → at z ≡ o → zs ≡ before_part zs ++ (own_part zs ++ behind_part zs) → z ∷ zs ≡ before_part (z ∷ zs) ++ (own_part (z ∷ zs) ++ behind_part (z ∷ zs))
       by Less e rest = let of = of_place z ∙ ap is_eq e in rw (e, of) (ap (λ l. z ∷ l) rest)
@@ -128,16 +133,11 @@ module _ (owner : Name) (rtype : ℕ) where
       by true e rest = rw (stays z (of_place z ∙ apart (at z) e)) (ap (λ l. z ∷ l) rest)
       by false e rest = rest
 
-  lt_apart : (o : Ordering) → is_lt o ≡ true → is_eq o ≡ false
-  lt_apart Less e = refl
-  lt_apart Equal e = cc
-  lt_apart Greater e = refl
-
   pub left_parts : (q : Record → Bool) → ((s : Record) → is_of owner rtype s ≡ false → q s ≡ true) → (zone : List Record) → Rises IsBefore zone → filter q zone ≡ before_part zone ++ (filter q (own_part zone) ++ behind_part zone)
   left_parts q stays zone h =
       ap (filter q) (three_parts zone h)
       ∙ filter-append q (before_part zone) (own_part zone ++ behind_part zone)
-      ∙ (λ i. same_front q stays is_lt lt_apart zone i ++ (filter-append q (own_part zone) (behind_part zone) ∙ ap (λ l. filter q (own_part zone) ++ l) (same_front q stays is_gt is_not_eq zone)) i)
+      ∙ (λ i. same_front q stays is_lt lt_apart zone i ++ (filter-append q (own_part zone) (behind_part zone) ∙ ap (λ l. filter q (own_part zone) ++ l) (same_front q stays is_gt gt_apart zone)) i)
 
   -- a set of the owner and type in the place of their records
   pub set_parts : (zone set : List Record) → is_same (owner_of set) owner ≡ true → rtype_of set ≡ rtype → with_rrset zone set ≡ before_part zone ++ (set ++ behind_part zone)

@@ -1,9 +1,8 @@
 -- What an update does to a zone: its records in order, each on the zone that those before it leave (RFC 2136, 3.4.2), and
 -- then the serial (RFC 2136, 3.6).
-use Rattle.std.specs.Prelude.{ℕ, ◌-◌, ◌^◌, ◌<◌, Bool, ◌&&◌, ◌||◌, not, ◌==◌, nat_lt, List, [], ◌∷◌, ◌++◌, length, take, drop, filter, map, All, bytes_eq, if◌then◌else◌, Option, None, Some, unwrap_or}
+use Rattle.std.specs.Prelude.{◌≡◌, ℕ, ◌^◌, ◌<◌, Bool, true, ◌&&◌, ◌||◌, not, ◌==◌, nat_lt, List, [], ◌∷◌, length, filter, map, All, bytes_eq, if◌then◌else◌, Option, None, Some, unwrap_or}
 use Rattle.std.specs.Option.{option_map, option_and_then}
 use Rattle.std.specs.List.{list_any}
-use Rattle.std.specs.Int.{to_be_bytes, w32}
 use Rattle.std.specs.Ordering.{is_lt, is_eq}
 use Rattle.std.specs.Cmp.Lexicographic.{pointwise}
 use Rattle.dns_name.specs.Name.{Name, IsName, fold_name, is_same}
@@ -16,7 +15,7 @@ use Rattle.zone_tree.specs.Zone.{is_of, stands_at, rrset_of, apex_of}
 use Rattle.zone_tree.specs.Change.{without_rrset, is_same_record}
 use Rattle.zone_tree.specs.Version.{zone_serial}
 use Rattle.dns_message.specs.declared.update.Update.{Update}
-use Rattle.update_core.specs.Verdict.{has_rrset}
+use Rattle.update_core.specs.Verdict.{has_rrset, verdict}
 
 -- a TTL as it enters a zone: one with its top bit set counts as 0 (RFC 2181, 8; own)
 abbrev pub ttl_in_zone : ℕ → ℕ
@@ -113,3 +112,9 @@ pub record IsSent (r : RawRecord) : Type 0 where
   pub name : IsName r.owner
   pub owner_octets : All (All (λ octet. octet < 256)) r.owner
   pub octets : All (λ octet. octet < 256) r.octets
+
+-- updates that come one after another are taken: each is of records that were read, and no rule gives it a code in the zone that
+-- those before it leave (RFC 2136, 3)
+abbrev pub AreTaken : List Record → List Update → Type 0
+AreTaken zone [] = Unit {0}
+AreTaken zone (update ∷ updates) = All IsSent update.updates × (verdict zone update true ≡ None) × AreTaken (unwrap_or (act zone update) zone) updates

@@ -6,7 +6,7 @@ ghost use Rattle.dns_rdata.specs.Numbers.{type_A, type_NS, type_CNAME, type_SOA,
 ghost use Rattle.zone_tree.specs.Zone.{IsZone};
 ghost use Rattle.zone_tree.specs.Example.{example, in_example, hour_record};
 ghost use Rattle.update_core.specs.Verdict.{zone_section, prerequisite, prerequisites, permission, prescan_of, check, verdict};
-ghost use Rattle.update_core.specs.Act.{effect, effects, act, replay};
+ghost use Rattle.update_core.specs.Act.{effect, effects, act, replay, AreTaken};
 ghost use Rattle.update_core.specs.Examples.{ns, web, www, empty, below_empty, fresh, outside, address, soa_data, zone_of_serial, zone_here, sent, there, add, any, none, delete, long_text, head_here, entry, update_of};
 
 /// The records of the worked examples are a zone.
@@ -83,6 +83,11 @@ pub fn examples_of_verdicts()
     ensures prerequisites_before_permission { verdict zone_here (record { head = head_here; zone = entry example type_SOA class_IN; prerequisites = any fresh type_ANY ∷ []; updates = [] }) false ≡ Some NxDomain }
     ensures permission_before_prescan { verdict zone_here (update_of (any outside type_A ∷ [])) false ≡ Some Refused }
     ensures prescan_last { verdict zone_here (update_of (add fresh type_A (address 1) ∷ any outside type_A ∷ [])) true ≡ Some NotZone }
+{}
+
+/// Two updates that are taken one after another: the address of a host goes, and comes again (RFC 2136, 3).
+pub fn examples_of_taken_updates()
+    ensures { AreTaken zone_here (update_of (delete web type_A (address 1) ∷ []) ∷ update_of (add web type_A (address 1) ∷ []) ∷ []) }
 {}
 
 /// What an added record makes of the zone, row by row (RFC 2136, 3.4.2.2).

@@ -15,10 +15,11 @@ mod update_section;
 
 pub use examples::{
     examples_are_zones, examples_of_adds, examples_of_deletions, examples_of_prerequisites,
-    examples_of_prescan, examples_of_serials, examples_of_sets, examples_of_verdicts,
+    examples_of_prescan, examples_of_serials, examples_of_sets, examples_of_taken_updates,
+    examples_of_verdicts,
 };
 pub use judgement::verdict;
-pub use laws::{prerequisites_change_nothing, replays_agree, serials_rise};
+pub use laws::{prerequisites_change_nothing, replays_agree, serials_rise, updates_keep_a_zone};
 pub use prerequisites::check;
 pub use update_section::prescan;
 
