@@ -105,7 +105,7 @@ module _ (zone : List Record) (r : RawRecord) (ascending : AllPairs IsBefore zon
       ap (map set_to) (three_parts r.owner r.rtype zone rises)
       ∙ map-append set_to front (own ++ back)
       ∙ (λ i. ttl_apart (λ s. is_lt (place r.owner r.rtype s)) (λ s e. of_place r.owner r.rtype s ∙ lt_apart (place r.owner r.rtype s) e) zone i ++ (map-append set_to own back
-          ∙ (λ j. ttl_own own (each_passes r.owner r.rtype (is_of r.owner r.rtype) zone) j ++ ttl_apart (λ s. is_gt (place r.owner r.rtype s)) (λ s e. of_place r.owner r.rtype s ∙ gt_apart (place r.owner r.rtype s) e) zone j)) i)
+      ∙ (λ j. ttl_own own (each_passes r.owner r.rtype (is_of r.owner r.rtype) zone) j ++ ttl_apart (λ s. is_gt (place r.owner r.rtype s)) (λ s e. of_place r.owner r.rtype s ∙ gt_apart (place r.owner r.rtype s) e) zone j)) i)
 
   -- its owner and type are theirs
   one_more_owner : (zs : List Record) → AllByRecursion (λ s. is_of r.owner r.rtype s ≡ true) zs → is_same (owner_of (with_record (entered r) (map (at_ttl ttl) zs))) r.owner ≡ true

@@ -203,4 +203,3 @@ none_of rs e = grind (arith, nat_tests)
 
 pub no_alias_at : (zone : List Record) (owner : Name) → has_rrset zone owner type_CNAME ≡ false → All (λ s. is_of owner type_CNAME s ≡ false) zone
 no_alias_at zone owner e = nothing_kept (is_of owner type_CNAME) zone (none_of (rrset_of zone owner type_CNAME) e)
-

@@ -124,8 +124,8 @@ module _ (owner : Name) (rtype ttl : ℕ) where
       (All-map IsLawful set_to zone (All-weaker IsLawful (λ s. IsLawful (set_to s)) (λ s k. lawful_at (is_of owner rtype s) s small k) zone h.lawful))
       (pairs_from_rises IsBefore next (ttl_rises zone (rises_from_pairs IsBefore zone h.ascending)))
       (All-map (λ r. All (λ s. share_ttl r s ≡ true) next) set_to zone
-          (All-weaker (λ r. All (λ s. share_ttl r s ≡ true) zone) (λ r. All (λ s. share_ttl (set_to r) s ≡ true) next)
-          (λ r k. All-map (λ s. share_ttl (set_to r) s ≡ true) set_to zone (All-weaker (λ s. share_ttl r s ≡ true) (λ s. share_ttl (set_to r) (set_to s) ≡ true) (shares r) zone k)) zone h.one_ttl))
+      (All-weaker (λ r. All (λ s. share_ttl r s ≡ true) zone) (λ r. All (λ s. share_ttl (set_to r) s ≡ true) next)
+      (λ r k. All-map (λ s. share_ttl (set_to r) s ≡ true) set_to zone (All-weaker (λ s. share_ttl r s ≡ true) (λ s. share_ttl (set_to r) (set_to s) ≡ true) (shares r) zone k)) zone h.one_ttl))
 
 -- what a record needs to go among others
 pub record FitsBeside (apex : Name) (zone : List Record) (r : Record) : Type 0 where
