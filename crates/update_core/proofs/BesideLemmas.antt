@@ -127,6 +127,7 @@ effects_miss q zone (r ∷ rs) inside =
         later : (a b : Bool) → not (a || b) ≡ true → not b ≡ true
         later true b e = absurd (cc)
         later false b e = e
+
     missed : (n : Name) (b : Bool) → q n ≡ b → is_same n r.owner ≡ true → b ≡ false
     missed n false e same = refl
     missed n true e same = here (is_same r.owner n) (list_any (λ s. is_same s.owner n) rs) (inside n e) (is_same_equiv.symm r.owner n ∙ same)

@@ -17,3 +17,6 @@ pub mod DeletionEdits
 pub mod LimitsKept
 pub mod EffectKeeps
 pub mod ActKeeps
+pub mod RowLemmas
+pub mod RowEffects
+pub mod AfterLemmas

@@ -79,3 +79,9 @@ rises zone after update may is taken e =
     let first = no_first (check zone update) _ taken in
     let last = no_first (permission may) (prescan zone update.updates) first.1 in
     by_effects zone after (effects zone update.updates) is (effects_keep zone update.updates (formed zone update.updates last.1) (own_soa zone is)) e
+
+-- the serial behind a zone's is greater, in any zone that has an SOA
+pub next_serial_less : (zone after : List Record) → IsZone zone → IsZone after → serial_less (zone_serial zone) (zone_serial (at_serial (serial_next (zone_serial zone)) after)) ≡ true
+next_serial_less zone after is also =
+    let soa = own_soa after also in
+    ap (serial_less (zone_serial zone)) (first_serial (serial_next (zone_serial zone)) after (mod-lt (zone_serial zone + 1) (lit< tt)) soa.some soa.form) ∙ less-next (zone_serial zone) (small_serial zone is)

@@ -154,8 +154,8 @@ module _ (n : ℕ) where
             (All-map IsLawful f zone (All-weaker IsLawful (λ s. IsLawful (f s)) (λ s k. lawful_at (is_soa s) s refl k) zone h.lawful))
             (pairs_from_rises IsBefore next (serial_rises zone few (rises_from_pairs IsBefore zone h.ascending)))
             (All-map (λ r. All (λ s. share_ttl r s ≡ true) next) f zone
-                (All-weaker (λ r. All (λ s. share_ttl r s ≡ true) zone) (λ r. All (λ s. share_ttl (f r) s ≡ true) next)
-                (λ r k. All-map (λ s. share_ttl (f r) s ≡ true) f zone (All-weaker (λ s. share_ttl r s ≡ true) (λ s. share_ttl (f r) (f s) ≡ true) (shares r) zone k)) zone h.one_ttl)))
+            (All-weaker (λ r. All (λ s. share_ttl r s ≡ true) zone) (λ r. All (λ s. share_ttl (f r) s ≡ true) next)
+            (λ r k. All-map (λ s. share_ttl (f r) s ≡ true) f zone (All-weaker (λ s. share_ttl r s ≡ true) (λ s. share_ttl (f r) (f s) ≡ true) (shares r) zone k)) zone h.one_ttl)))
             (ap length (soas zone) ∙ length-map (soa_of zone) f ∙ h.one_soa) same;
         apex = same;
       }
@@ -179,6 +179,7 @@ module _ (n : ℕ) where
     where
       ys : List Record
       ys = filter (is_of apex type_SOA) zs
+
       by : (b : Bool) → is_soa z ≡ b → cond (is_same z.owner apex && is_soa z) (z ∷ filter (is_of apex type_SOA) zs) (filter (is_of apex type_SOA) zs) ≡ cond b (z ∷ filter (is_of apex type_SOA) zs) (filter (is_of apex type_SOA) zs)
       by true k = let here : z.owner ≡ apex = All-head (AtApex apex) z zs at k in rw (here, is_same_equiv.refl apex, k) refl
       by false k = neither (is_same z.owner apex) k

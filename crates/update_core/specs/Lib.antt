@@ -1,5 +1,6 @@
 pub mod Verdict
 pub mod Act
+pub mod Applied
 pub mod Examples
 pub use Rattle.zone_tree.specs.Zone
 pub use Rattle.dns_name.specs.Name

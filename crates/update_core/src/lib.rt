@@ -3,14 +3,20 @@
 //! Contracts see a zone as the list of its records, an update as its zone section and the lists of its records, and the
 //! code that it gets as that of the first rule that gives one (`Verdict`), in the order of zone section, prerequisites,
 //! permission and prescan: [`check`], [`prescan`] and [`verdict`] equal it, read the zone alone and take no memory. What
-//! an update that is taken makes of the zone is `Act`: its records one after another, and the serial. Laws and worked
-//! examples tell of it; no call makes that change.
+//! an update that is taken makes of the zone is `Act`: its records one after another, and the serial. [`apply`] tells
+//! which version it makes of another (`Applied`), which stays as it is. Laws and worked examples tell of `Act`. What a
+//! version changed of the one before it is not here.
 #![tactic(auto)]
 
+mod additions;
+mod deletions;
+mod effects;
 mod examples;
 mod judgement;
 mod laws;
+mod outcome;
 mod prerequisites;
+mod rows;
 mod update_section;
 
 pub use examples::{
@@ -20,8 +26,11 @@ pub use examples::{
 };
 pub use judgement::verdict;
 pub use laws::{prerequisites_change_nothing, replays_agree, serials_rise, updates_keep_a_zone};
+pub use outcome::{Outcome, apply};
 pub use prerequisites::check;
 pub use update_section::prescan;
 
+#[cfg(test)]
+mod effect_tests;
 #[cfg(test)]
 mod tests;

@@ -70,7 +70,7 @@ fn check_one<Z: ZoneRead>(zone: &Z, raw: &RawRecord) -> Result<(), Rcode>
 }
 
 /// Whether a name is in use: it owns a record. An empty non-terminal isn't (RFC 2136, 2.4.4).
-fn is_in_use<Z: ZoneRead>(zone: &Z, name: &Name) -> bool
+pub(crate) fn is_in_use<Z: ZoneRead>(zone: &Z, name: &Name) -> bool
     ensures { result ≡ is_in_use (Z.records zone.now) name.now }
 {
     !zone.rrsets_at(name).is_empty()

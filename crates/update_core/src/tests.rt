@@ -8,17 +8,17 @@ use std::test::Fail;
 use zone_tree::Zone;
 
 /// A record: its owner, its type, its class, its TTL, and the octets of its data.
-type Row<'a> = (&'a str, RType, Class, u32, &'a [u8]);
+pub(crate) type Row<'a> = (&'a str, RType, Class, u32, &'a [u8]);
 
 /// The data of an SOA: the root twice, and five numbers.
-const SOA: &[u8] = b"\0\0\0\0\0\x01\0\0\x1c\x20\0\0\x03\x84\0\x12\x75\0\0\0\x01\x2c";
+pub(crate) const SOA: &[u8] = b"\0\0\0\0\0\x01\0\0\x1c\x20\0\0\x03\x84\0\x12\x75\0\0\0\x01\x2c";
 
 /// The data of an NS, and two addresses.
-const NS: &[u8] = b"\x03ns1\x07example\x04test\0";
+pub(crate) const NS: &[u8] = b"\x03ns1\x07example\x04test\0";
 
-const FIRST: &[u8] = &[192, 0, 2, 1];
+pub(crate) const FIRST: &[u8] = &[192, 0, 2, 1];
 
-const SECOND: &[u8] = &[192, 0, 2, 2];
+pub(crate) const SECOND: &[u8] = &[192, 0, 2, 2];
 
 /// A type that isn't served.
 const UNKNOWN: RType = RType(99);
@@ -27,7 +27,7 @@ const UNKNOWN: RType = RType(99);
 const CHAOS: Class = Class(3);
 
 /// A name below `example.test.`; a whole one where the text ends in a dot.
-fn name(text: &str) -> Result<Name, Fail> {
+pub(crate) fn name(text: &str) -> Result<Name, Fail> {
     let origin = Name::from_text(b"example.test.", &Name::root())?;
     Ok(Name::from_text(text.as_bytes(), &origin)?)
 }
@@ -40,9 +40,14 @@ fn set_of(alloc: Global, owner: &str, rtype: RType, octets: &[u8]) -> Result<RRs
 
 /// An SOA and an NS at the apex, an address at `a.b`, and two at `web`.
 fn small_zone(alloc: Global) -> Result<Zone, Fail> {
+    zone_of_soa(alloc, SOA)
+}
+
+/// The small zone with another SOA's data.
+pub(crate) fn zone_of_soa(alloc: Global, soa: &[u8]) -> Result<Zone, Fail> {
     let mut sets = Vec::new(alloc);
     sets.push(set_of(alloc, "@", RType::NS, NS)?)?;
-    sets.push(set_of(alloc, "@", RType::SOA, SOA)?)?;
+    sets.push(set_of(alloc, "@", RType::SOA, soa)?)?;
     sets.push(set_of(alloc, "a.b", RType::A, FIRST)?)?;
     let mut web = set_of(alloc, "web", RType::A, FIRST)?;
     let second = RData::from_wire(alloc, RType::A, SECOND)?;
@@ -69,7 +74,11 @@ fn raws(alloc: Global, rows: &[Row]) -> Result<RawRecords, Fail> {
 }
 
 /// An update of the zone.
-fn update(alloc: Global, prerequisites: &[Row], updates: &[Row]) -> Result<Update, Fail> {
+pub(crate) fn update(
+    alloc: Global,
+    prerequisites: &[Row],
+    updates: &[Row],
+) -> Result<Update, Fail> {
     Ok(Update {
         head: Head {
             id: 1,

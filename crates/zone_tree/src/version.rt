@@ -36,7 +36,7 @@ impl Version {
     {
         Version {
             number: 0,
-            serial: serial_of(&zone),
+            serial: zone.serial(),
             zone,
         }
     }
@@ -48,7 +48,7 @@ impl Version {
     {
         Version {
             number: self.number + 1,
-            serial: serial_of(&zone),
+            serial: zone.serial(),
             zone,
         }
     }
@@ -75,11 +75,13 @@ impl Version {
     }
 }
 
-/// A zone's serial: that of its SOA (RFC 1035, 3.3.13).
-fn serial_of(zone: &Zone) -> Serial
-    ensures { result.0 ≡ zone_serial zone.now }
-{
-    serial_in(zone.soa())
+impl Zone {
+    /// The zone's serial: that of its SOA (RFC 1035, 3.3.13).
+    pub fn serial(&self) -> Serial
+        ensures { result.0 ≡ zone_serial self.now }
+    {
+        serial_in(self.soa())
+    }
 }
 
 /// The serial of an SOA's set.

@@ -1,0 +1,30 @@
+use Rattle.std.proofs.Common.{◌≡◌, [], length, sym, ap, ◌∙◌, arith}
+use Rattle.dns_rdata.specs.Record.{without_data}
+use Rattle.zone_tree.specs.Zone.{rrset_of}
+use Rattle.dns_rdata.specs.Raw.{RawRecord}
+use Rattle.update_core.specs.Act.{is_last_apex_record}
+use Rattle.update_core.proofs.RowEffects.{if_ok, record_of, record_kept, last_of}
+use Rattle.update_core.proofs.deletions.changes_of_record.Goals as goal
+
+pub returns-then-is_last_apex_record : goal.returns-then-is_last_apex_record
+returns-then-is_last_apex_record c =
+    let zone = c.args.zone.now in
+    let view = ap (λ (r : RawRecord). is_last_apex_record zone r.owner r.rtype) c.raw.view_is in
+    record_kept zone c.args.raw.now c.requires.lawful c.requires.class (sym view ∙ sym c.is_last_apex_record.ensures ∙ c.if-is_last_apex_record.true) c.new.result.items c.new.ensures.items
+
+pub returns-in-Some : goal.returns-in-Some
+returns-in-Some c =
+    let zone = c.args.zone.now in
+    let view = ap (λ (r : RawRecord). is_last_apex_record zone r.owner r.rtype) c.raw.view_is in
+    let left = rw c.in-Some.is at c.in_ok-left.ensures in
+    if_ok c.one_change.result
+    (λ changes is. record_of zone c.args.raw.now c.requires.lawful c.requires.class (sym view ∙ sym c.is_last_apex_record.ensures ∙ c.if-is_last_apex_record.false) c.in-Some.left left.0 left.1 changes.items is) c.one_change.ensures
+
+pub returns-in-None : goal.returns-in-None
+returns-in-None c =
+    let zone = c.args.zone.now in
+    let view = ap (λ (r : RawRecord). is_last_apex_record zone r.owner r.rtype) c.raw.view_is in
+    let none = rw c.in-None.is at c.in_ok-left.ensures in
+    if_ok c.one_change-in-None.result
+    (λ changes is. last_of zone c.args.raw.now c.requires.lawful c.requires.class (sym view ∙ sym c.is_last_apex_record.ensures ∙ c.if-is_last_apex_record.false) none
+    c.copy.result c.raw.inside.rtype changes.items (c.copy.ensures ∙ ap (λ (r : RawRecord). r.owner) c.raw.view_is) (ap (λ (r : RawRecord). r.rtype) c.raw.view_is) is) c.one_change-in-None.ensures

@@ -1,0 +1,159 @@
+//! What a record that an update adds changes (RFC 2136, 3.4.2.2).
+ghost use Rattle.std.specs.Prelude.{◌≡◌, ◌<◌, ◌≤◌, ◌^◌, ◌&&◌, ◌||◌, not, ◌==◌, true, None, length, All, IfOk, OnOk};
+ghost use Rattle.std.specs.Option.{is_some};
+ghost use Rattle.std.specs.Result.{IsErrOf};
+ghost use Rattle.dns_name.specs.Name.{is_same};
+ghost use Rattle.dns_rdata.specs.Numbers.{class_IN, type_CNAME, type_SOA};
+ghost use Rattle.dns_rdata.specs.Data.{serial_of};
+ghost use Rattle.dns_rdata.specs.Record.{rtype_of};
+ghost use Rattle.dns_rdata.specs.SerialOrder.{serial_less};
+ghost use Rattle.zone_tree.specs.Zone.{IsZone, apex_of};
+ghost use Rattle.zone_tree.specs.Version.{zone_serial};
+ghost use Rattle.update_core.specs.Verdict.{prescan_of, has_form, has_rrset};
+ghost use Rattle.update_core.specs.Act.{effect, entered, ttl_in_zone, has_other_than_alias, has_lesser_soa, IsSent};
+ghost use Rattle.update_core.specs.Applied.{AreOf, is_beside_alias, joined, set_behind};
+
+use crate::prerequisites::is_in_use;
+use crate::rows::{ActFault, one_change};
+use dns_name::Name;
+use dns_rdata::{DataFault, RData, RRset, RType, RawRecord, SetFault, Ttl};
+use std::alloc::Global;
+use zone_tree::{Change, Zone, ZoneRead};
+
+/// The changes that a record of class IN makes; none where it has no effect. The table of effects comes before the limits.
+pub(crate) fn changes_of_addition(
+    alloc: Global,
+    zone: &Zone,
+    raw: &RawRecord,
+) -> Result<Vec<Change>, ActFault>
+    requires lawful { IsZone zone.now }
+    requires class { (raw.now.class == class_IN) ≡ true }
+    requires passed { prescan_of zone.now raw.now ≡ None }
+    ensures of { IfOk result (λ changes. AreOf zone.now raw.now changes.items) }
+    ensures limit { IsErrOf result ActFault.Limit → effect zone.now raw.now ≡ None }
+{
+    if is_beside_alias(zone, raw) {
+        return Ok(Vec::new(alloc));
+    }
+    let rdata = data_in_zone(alloc, raw)?;
+    if is_lesser_soa(zone, raw, &rdata) {
+        return Ok(Vec::new(alloc));
+    }
+    let set = set_with(alloc, zone, raw, rdata)?;
+    let _records = set.data();
+    let changes = one_change(alloc, Change::Put(set))?;
+    Ok(changes)
+}
+
+/// Whether a record would put an alias beside other data, or other data beside an alias (RFC 2136, 3.4.2.2).
+fn is_beside_alias(zone: &Zone, raw: &RawRecord) -> bool
+    requires { IsZone zone.now }
+    ensures { result ≡ is_beside_alias zone.now raw.now }
+{
+    if raw.rtype == RType::CNAME {
+        return has_other_than_alias(zone, &raw.owner);
+    }
+    has_alias(zone, &raw.owner)
+}
+
+/// Whether an alias stands at a name.
+fn has_alias(zone: &Zone, owner: &Name) -> bool
+    ensures { result ≡ has_rrset zone.now owner.now type_CNAME }
+{
+    zone.rrset(owner, RType::CNAME).is_some()
+}
+
+/// Whether a record of another type than CNAME stands at a name. An alias stands alone at its owner.
+fn has_other_than_alias(zone: &Zone, owner: &Name) -> bool
+    requires { IsZone zone.now }
+    ensures { result ≡ has_other_than_alias zone.now owner.now }
+{
+    is_in_use(zone, owner) && !has_alias(zone, owner)
+}
+
+/// Whether a record is an SOA whose serial isn't greater than that of one that stands at its owner, or where none stands
+/// there (RFC 2136, 3.4.2.2). Its data are those that enter the zone.
+fn is_lesser_soa(zone: &Zone, raw: &RawRecord, rdata: &RData) -> bool
+    requires lawful { IsZone zone.now }
+    requires rtype { rdata.now.rtype ≡ raw.now.rtype }
+    requires data { rdata.now.octets ≡ (entered raw.now).rdata }
+    ensures { result ≡ (raw.now.rtype == type_SOA && not (has_lesser_soa zone.now raw.now)) }
+{
+    raw.rtype == RType::SOA && !is_greater_soa(zone, &raw.owner, rdata)
+}
+
+/// Whether an SOA stands at a name whose serial is less than that of an SOA's data (RFC 1982, 3.2).
+fn is_greater_soa(zone: &Zone, owner: &Name, rdata: &RData) -> bool
+    ensures { rdata.now.rtype ≡ type_SOA → result ≡ (is_same owner.now (apex_of zone.now) && serial_less (zone_serial zone.now) (serial_of rdata.now.octets)) }
+{
+    match rdata.soa() {
+        Some(soa) => *owner == *zone.apex() && zone.serial().less(soa.serial),
+        None => false,
+    }
+}
+
+/// A record's data as they enter a zone; `Limit` over 4,096 octets.
+fn data_in_zone(alloc: Global, raw: &RawRecord) -> Result<RData, ActFault>
+    requires { has_form raw.now ≡ true }
+    ensures data { IfOk result (λ d. (d.rtype ≡ raw.now.rtype) × (d.octets ≡ (entered raw.now).rdata)) }
+    ensures short { OnOk result (length raw.now.octets ≤ 4096) }
+    ensures sent { IsSent raw.now }
+    ensures limit { IsErrOf result ActFault.Limit → 4096 < length raw.now.octets }
+{
+    let _owner = raw.owner.wire();
+    are_octets(&raw.octets);
+    match RData::from_wire(alloc, raw.rtype, &raw.octets) {
+        Ok(rdata) => Ok(rdata),
+        Err(DataFault::TooLong) => Err(ActFault::Limit),
+        Err(DataFault::NoMemory) => Err(ActFault::NoMemory),
+        Err(DataFault::BadLength) => unreachable!(),
+    }
+}
+
+/// That octets are below 256.
+fn are_octets(octets: &[u8])
+    ensures { All (λ octet. octet < 256) octets.now }
+{
+    let _len = octets.len();
+}
+
+/// A TTL as it enters a zone, in seconds: one with its top bit set counts as 0 (RFC 2181, 8; own).
+fn ttl_in_zone(ttl: u32) -> Ttl
+    ensures { result.0 ≡ ttl_in_zone ttl }
+{
+    if ttl <= Ttl::MAX.0 { Ttl(ttl) } else { Ttl(0) }
+}
+
+/// The set that stands where a record is added: an alias and an SOA replace what stood there, any other record joins it.
+fn set_with(alloc: Global, zone: &Zone, raw: &RawRecord, rdata: RData) -> Result<RRset, ActFault>
+    requires lawful { IsZone zone.now }
+    requires rtype { rdata.rtype ≡ raw.now.rtype }
+    requires data { rdata.octets ≡ (entered raw.now).rdata }
+    ensures set { IfOk result (λ set. set ≡ set_behind zone.now raw.now) }
+    ensures limit { IsErrOf result ActFault.Limit → 256 < length (set_behind zone.now raw.now) }
+{
+    let ttl = ttl_in_zone(raw.ttl);
+    if raw.rtype != RType::CNAME && raw.rtype != RType::SOA {
+        if let Some(own) = zone.rrset(&raw.owner, raw.rtype) {
+            return joined(alloc, own, ttl, rdata);
+        }
+    }
+    let set = RRset::new(alloc, &raw.owner, ttl, rdata)?;
+    Ok(set)
+}
+
+/// A set with one more record, each with its TTL (RFC 2136, 3.4.2.2; RFC 2181, 5.2).
+fn joined(alloc: Global, own: &RRset, ttl: Ttl, rdata: RData) -> Result<RRset, ActFault>
+    requires lasts { ttl.0 < 2 ^ 31 }
+    requires rtype { rdata.rtype ≡ rtype_of own.now }
+    ensures set { IfOk result (λ set. set ≡ joined own.now ttl.0 rdata.octets) }
+    ensures limit { IsErrOf result ActFault.Limit → 256 < length (joined own.now ttl.0 rdata.octets) }
+{
+    let mut set = own.copy(alloc)?;
+    set.set_ttl(ttl);
+    match set.insert(rdata) {
+        Ok(_) => Ok(set),
+        Err(SetFault::Limit) => Err(ActFault::Limit),
+        Err(SetFault::NoMemory) => Err(ActFault::NoMemory),
+    }
+}

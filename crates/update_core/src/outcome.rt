@@ -1,0 +1,103 @@
+//! What an update makes of a zone (RFC 2136, 3.4 and 3.6).
+ghost use Rattle.std.specs.Prelude.{◌≡◌, ◌≢◌, ◌+◌, ◌<◌, ◌^◌, if◌then◌else◌, unwrap_or, None, Some, IfOk, MatchOption};
+ghost use Rattle.std.specs.Result.{IsErrOf};
+ghost use Rattle.dns_rdata.specs.declared.numbers.Rcode.{Rcode as Code};
+ghost use Rattle.dns_rdata.specs.SerialOrder.{serial_less, serial_next};
+ghost use Rattle.zone_tree.specs.Zone.{IsZone, soa_of};
+ghost use Rattle.zone_tree.specs.Version.{zone_serial};
+ghost use Rattle.update_core.specs.Verdict.{prescan, verdict};
+ghost use Rattle.update_core.specs.Act.{effects, act, at_serial};
+ghost use Rattle.update_core.specs.Applied.{IsTold};
+
+use crate::effects::{after_all, is_changed};
+use crate::judgement::verdict;
+use crate::rows::{ActFault, one_change};
+use dns_message::Update;
+use dns_rdata::{RRset, Rcode, Serial};
+use std::alloc::{AllocError, Global};
+use zone_tree::{Change, Version, Zone, ZoneFault, ZoneRead, edit};
+
+/// What becomes of an update.
+#[derive(Drop)]
+pub enum Outcome {
+    /// It breaks a rule, or it passes a limit and is told SERVFAIL (RFC 2136, 3; own). Nothing has changed.
+    Refused(Rcode),
+    /// It is taken and changes nothing.
+    Unchanged,
+    /// It makes this version.
+    Next(Version),
+    /// A growth was refused. Nothing has changed.
+    NoMemory,
+}
+
+/// What an update makes of a version's zone, sent by a peer that may update, or may not (RFC 2136, 3). The version stays as
+/// it is; the one behind it has the next number, and a greater serial (RFC 2136, 3.6; RFC 1982, 3.2).
+///
+/// An update costs a path of the zone's tree for each of its records: no call goes over the whole zone.
+pub fn apply(alloc: Global, version: &Version, update: &Update, may: bool) -> Outcome
+    requires { version.now.number + 1 < 2 ^ 64 }
+    ensures told { IsTold version.now update.now may result }
+    // A rule that is broken is told before any memory is asked for.
+    ensures refused { (code : Code) → verdict version.now.zone update.now may ≡ Some code → result ≡ Outcome.Refused code }
+{
+    let zone = version.zone();
+    if let Err(code) = verdict(zone, update, may) {
+        return Outcome::Refused(code);
+    }
+    match zone_behind(alloc, zone, update) {
+        Ok(Some(next)) => Outcome::Next(version.next(next)),
+        Ok(None) => Outcome::Unchanged,
+        Err(ActFault::Limit) => Outcome::Refused(Rcode::ServFail),
+        Err(ActFault::NoMemory) => Outcome::NoMemory,
+    }
+}
+
+/// The zone behind an update that each rule let through; None where it changes nothing (RFC 2136, 3.4.2 and 3.6).
+fn zone_behind(alloc: Global, zone: &Zone, update: &Update) -> Result<Option<Zone>, ActFault>
+    requires passed { prescan zone.now update.now.updates ≡ None }
+    ensures next { IfOk result (λ next. MatchOption next (act zone.now update.now ≡ Some zone.now) (λ made. (act zone.now update.now ≡ Some made) × (made ≢ zone.now))) }
+    ensures limit { IsErrOf result ActFault.Limit → act zone.now update.now ≡ None }
+{
+    let raws = update.updates.as_slice();
+    let Some(after) = after_all(alloc, zone, raws)? else {
+        return Ok(None);
+    };
+    if !is_changed(zone, &after, raws) {
+        return Ok(None);
+    }
+    let next = completed(alloc, zone, after)?;
+    Ok(Some(next))
+}
+
+/// A changed zone with a serial that is greater than the old zone's: the update's own, or the one behind the old one's
+/// (RFC 2136, 3.6; RFC 1982, 3).
+fn completed(alloc: Global, zone: &Zone, after: Zone) -> Result<Zone, AllocError>
+    ensures { IfOk result (λ next. next ≡ (if serial_less (zone_serial zone.now) (zone_serial after) then after else at_serial (serial_next (zone_serial zone.now)) after)) }
+{
+    if zone.serial().less(after.serial()) {
+        return Ok(after);
+    }
+    with_serial(alloc, &after, zone.serial().next())
+}
+
+/// A zone with another serial.
+fn with_serial(alloc: Global, zone: &Zone, serial: Serial) -> Result<Zone, AllocError>
+    ensures { IfOk result (λ next. next ≡ at_serial serial.0 zone.now) }
+{
+    let changes = one_change(alloc, Change::Put(soa_at(alloc, zone, serial)?))?;
+    match edit(alloc, zone, &changes) {
+        Ok(next) => Ok(next),
+        Err(ZoneFault::NoMemory) => Err(AllocError),
+        Err(ZoneFault::Limit) => unreachable!(),
+    }
+}
+
+/// The set of a zone's SOA with another serial.
+fn soa_at(alloc: Global, zone: &Zone, serial: Serial) -> Result<RRset, AllocError>
+    ensures set { IfOk result (λ set. set ≡ at_serial serial.0 (soa_of zone.now)) }
+    ensures lawful { IsZone zone.now }
+{
+    let soa = zone.soa();
+    let rdata = soa.data()[0].with_serial(alloc, serial)?;
+    RRset::new(alloc, &soa.owner(), soa.ttl(), rdata)
+}

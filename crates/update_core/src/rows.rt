@@ -1,0 +1,63 @@
+//! What one record of an update changes (RFC 2136, 3.4.2.2 to 3.4.2.4).
+ghost use Rattle.std.specs.Prelude.{◌≡◌, [], ◌∷◌, None, IfOk};
+ghost use Rattle.std.specs.Result.{IsErrOf};
+ghost use Rattle.dns_rdata.specs.Numbers.{class_IN, class_ANY, class_NONE, type_ANY};
+ghost use Rattle.zone_tree.specs.Zone.{IsZone};
+ghost use Rattle.update_core.specs.Verdict.{prescan_of};
+ghost use Rattle.update_core.specs.Act.{effect};
+ghost use Rattle.update_core.specs.Applied.{AreOf};
+ghost use Rattle.update_core.specs.declared.rows.ActFault.TheVariants.{NoMemory as no_memory};
+
+use crate::additions::changes_of_addition;
+use crate::deletions::{changes_of_name, changes_of_record, changes_of_set};
+use dns_rdata::{Class, RType, RawRecord};
+use std::alloc::{AllocError, Global};
+use zone_tree::{Change, Zone};
+
+/// Why a record of an update doesn't take effect.
+#[derive(Clone, Copy, Debug, PartialEq, Eq)]
+pub(crate) enum ActFault {
+    /// It passes a limit: more than 4,096 octets of data, 256 records of a set, or 1,000,000 records (own).
+    Limit,
+    /// A growth was refused.
+    NoMemory,
+}
+
+impl From<AllocError> for ActFault {
+    ghost from_gives = { λ refused given. given ≡ no_memory };
+
+    fn from(_refused: AllocError) -> ActFault {
+        ActFault::NoMemory
+    }
+}
+
+/// The changes that a record makes of a zone; none where it has no effect.
+pub(crate) fn changes_of(
+    alloc: Global,
+    zone: &Zone,
+    raw: &RawRecord,
+) -> Result<Vec<Change>, ActFault>
+    requires lawful { IsZone zone.now }
+    requires passed { prescan_of zone.now raw.now ≡ None }
+    ensures of { IfOk result (λ changes. AreOf zone.now raw.now changes.items) }
+    ensures limit { IsErrOf result ActFault.Limit → effect zone.now raw.now ≡ None }
+{
+    match raw.class {
+        Class::IN => changes_of_addition(alloc, zone, raw),
+        Class::ANY if raw.rtype == RType::ANY => changes_of_name(alloc, zone, raw).map_err(
+            |_| ActFault::NoMemory,
+        ),
+        Class::ANY => changes_of_set(alloc, zone, raw).map_err(|_| ActFault::NoMemory),
+        Class::NONE => changes_of_record(alloc, zone, raw).map_err(|_| ActFault::NoMemory),
+        _ => Ok(Vec::new(alloc)),
+    }
+}
+
+/// One change alone.
+pub(crate) fn one_change(alloc: Global, change: Change) -> Result<Vec<Change>, AllocError>
+    ensures { IfOk result (λ changes. changes.items ≡ change ∷ []) }
+{
+    let mut changes = Vec::with_capacity(alloc, 1)?;
+    changes.push(change)?;
+    Ok(changes)
+}
