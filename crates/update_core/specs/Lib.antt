@@ -1,6 +1,7 @@
 pub mod Verdict
 pub mod Act
 pub mod Examples
+pub mod Outcome
 pub use Rattle.zone_tree.specs.Zone
 pub use Rattle.dns_name.specs.Name
 pub use Rattle.dns_rdata.specs.Numbers

@@ -10,9 +10,11 @@
 mod examples;
 mod judgement;
 mod laws;
+mod outcome;
 mod prerequisites;
 mod update_section;
 
+pub use outcome::{Outcome, apply};
 pub use examples::{
     examples_are_zones, examples_of_adds, examples_of_deletions, examples_of_prerequisites,
     examples_of_prescan, examples_of_serials, examples_of_sets, examples_of_verdicts,
