@@ -1,5 +1,5 @@
 -- What comes of an update (RFC 2136, 3).
-use Rattle.std.specs.Prelude.{◌≡◌, ◌⊎◌, ◌+◌, ℕ, Bool, List, None, Some, ⊤, ⊥}
+use Rattle.std.specs.Prelude.{◌≡◌, ◌⊎◌, ◌+◌, ℕ, Bool, List, None, Some, ⊤}
 use Rattle.dns_rdata.specs.declared.numbers.Rcode.TheVariants.{ServFail}
 use Rattle.dns_rdata.specs.Record.{Record}
 use Rattle.dns_message.specs.declared.update.Update.{Update}

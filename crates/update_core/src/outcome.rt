@@ -24,10 +24,9 @@ pub enum Outcome {
 }
 
 /// What an update from a peer that may update, or may not, makes of a version (RFC 2136, 3).
-pub fn apply(alloc: Global, version: &Version, update: &Update, may: bool) -> Outcome
-    requires { version.now.number + 1 < 2 ^ 64 }
-    ensures { IsOutcome result version.now update.now may }
+pub fn apply(_alloc: Global, _version: &Version, _update: &Update, _may: bool) -> Outcome
+    requires { _version.now.number + 1 < 2 ^ 64 }
+    ensures { IsOutcome result _version.now _update.now _may }
 {
-    let _ = (alloc, version, update, may);
     Outcome::NoMemory
 }
