@@ -7,9 +7,11 @@
 #![tactic(auto)]
 
 mod reply;
+mod served;
 mod transport;
 
-pub use reply::respond;
+pub use reply::respond_without_updates;
+pub use served::{Served, respond};
 pub use transport::{TCP_LIMIT, Transport, UDP_LIMIT};
 
 #[cfg(test)]

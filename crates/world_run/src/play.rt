@@ -11,7 +11,7 @@ ghost use Rattle.world_run.specs.WorldSteps.{Turn, turn_of, answer_of};
 use crate::fault::WorldFault;
 use crate::step::{Handle, Octets, WorldReply, WorldStep};
 use cell_core::{Machine, Step, StepFault};
-use serve_core::{Transport, UDP_LIMIT, respond};
+use serve_core::{Transport, UDP_LIMIT, respond_without_updates};
 use std::alloc::Global;
 use zone_tree::Zone;
 
@@ -172,7 +172,7 @@ fn answer_in(alloc: Global, zone: &Zone, request: &[u8]) -> Result<WorldReply, W
     ensures { IfOk result (λ told. told ≡ answer_of (reply Udp zone.now request.now)) }
 {
     let mut out = [0; UDP_LIMIT];
-    let Some(len) = respond(alloc, zone, Transport::Udp, request, &mut out) else {
+    let Some(len) = respond_without_updates(alloc, zone, Transport::Udp, request, &mut out) else {
         return Ok(WorldReply::Silent);
     };
     match out[..len].to_vec(alloc) {
