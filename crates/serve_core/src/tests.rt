@@ -36,8 +36,8 @@ fn name(text: &str) -> Result<Name, Fail> {
     Ok(Name::from_text(text.as_bytes(), &origin)?)
 }
 
-/// The first version of a zone of records in canonical order, each set of one record.
-fn version_of(alloc: Global, rows: &[Row]) -> Result<Version, Fail> {
+/// The zone of records in canonical order, each set of one record.
+fn zone_of(alloc: Global, rows: &[Row]) -> Result<Zone, Fail> {
     let mut sets: Vec<RRset> = Vec::new(alloc);
     for (owner, rtype, octets, host) in rows {
         let owner = name(owner)?;
@@ -48,12 +48,12 @@ fn version_of(alloc: Global, rows: &[Row]) -> Result<Version, Fail> {
         let data = RData::from_wire(alloc, *rtype, &data)?;
         sets.push(RRset::new(alloc, &owner, Ttl(3600), data)?)?;
     }
-    Ok(Version::first(Zone::new(alloc, sets)?))
+    Ok(Zone::new(alloc, sets)?)
 }
 
 #[test]
 fn replies(rt: HostRuntime) -> Result<(), Fail> {
-    let version = version_of(rt.alloc(), &ROWS)?;
+    let version = Version::first(zone_of(rt.alloc(), &ROWS)?);
     let cases: [(&str, &[u8], Option<&[u8]>); 10] = [
         ("an alias and its target's address", WWW, Some(WWW_REPLY)),
         ("eleven octets", &WWW[..11], None),
@@ -127,7 +127,7 @@ fn limits(rt: HostRuntime) -> Result<(), Fail> {
         data.push(u8::try_from(len)?)?;
         data.extend_from_slice(last.as_bytes())?;
         let rows: [Row; 4] = [ROWS[0], ROWS[1], ("big", RType::TXT, &data, ""), ROWS[2]];
-        let version = version_of(alloc, &rows)?;
+        let version = Version::first(zone_of(alloc, &rows)?);
         let mut out = [0; TCP_LIMIT];
         let whole = 34 + 12 + 256 + 1 + len;
         assert_eq!(rt; whole <= UDP_LIMIT, fits);
@@ -153,8 +153,7 @@ fn limits(rt: HostRuntime) -> Result<(), Fail> {
 #[test]
 fn replies_without_updates(rt: HostRuntime) -> Result<(), Fail> {
     let alloc = rt.alloc();
-    let version = version_of(alloc, &ROWS)?;
-    let zone = version.zone();
+    let zone = zone_of(alloc, &ROWS)?;
     let cases: [(&[u8], &[u8]); 3] = [
         (
             b"\x12\x34\x29\x00\x00\x01\x00\x00\x00\x00\x00\x00\x07example\x04test\0\0\x06\0\x01",
@@ -168,7 +167,7 @@ fn replies_without_updates(rt: HostRuntime) -> Result<(), Fail> {
     ];
     for (request, reply) in cases {
         let mut out = [0; UDP_LIMIT];
-        let len = respond_without_updates(alloc, zone, Transport::Udp, request, &mut out);
+        let len = respond_without_updates(alloc, &zone, Transport::Udp, request, &mut out);
         assert_eq!(rt; len, Some(reply.len()));
         assert!(rt; out.starts_with(reply));
     }
