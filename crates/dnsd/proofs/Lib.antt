@@ -1,3 +1,4 @@
 pub mod InputLemmas
 pub mod LinesLemmas
+pub mod RunLemmas
 pub mod ScriptLemmas

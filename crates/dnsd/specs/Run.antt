@@ -1,5 +1,5 @@
 -- What a run of the program comes to (own).
-use Rattle.std.specs.Prelude.{◌≡◌, ℕ, ◌⊎◌, List, Option, IfSome, Result, Ok, Err, IsOk}
+use Rattle.std.specs.Prelude.{◌≡◌, ℕ, ◌⊎◌, Bool, List, Option, IfSome, Result, Ok, Err, IsOk}
 use Rattle.std.specs.Io.KnownBytes.{Appends}
 use Rattle.dns_rdata.specs.Record.{Record}
 use Rattle.master_file.specs.declared.fault.FileFault.{FileFault}
@@ -80,11 +80,19 @@ origin_of (Answer zone origin transport) = origin
 origin_of (Check zone origin) = origin
 origin_of (Steps zone origin) = origin
 
--- what a command writes for an input in a zone
-abbrev pub output_for : Command → List Record → List ℕ → List ℕ
-output_for (Answer zone origin transport) records input = output_of transport records input
-output_for (Check zone origin) records input = zone_text records
-output_for (Steps zone origin) records input = script_output records input
+-- what a command writes for an input in a zone; a flag for each request says where memory is wanted for an update
+abbrev pub output_for : Command → List Bool → List Record → List ℕ → List ℕ
+output_for (Answer zone origin transport) starved records input = output_of transport starved records input
+output_for (Check zone origin) starved records input = zone_text records
+output_for (Steps zone origin) starved records input = script_output records input
+
+-- what a command writes for an input in a zone was written, wherever memory was wanted for an update
+abbrev pub DoesIn : Command → List Record → List ℕ → Option (List ℕ) → Option (List ℕ) → Type 0
+DoesIn command records input before after = (starved : List Bool) × Appends before after (output_for command starved records input)
+
+-- a beginning of it was written
+abbrev pub BeginsToDoIn : Command → List Record → List ℕ → Option (List ℕ) → Option (List ℕ) → Type 0
+BeginsToDoIn command records input before after = (starved : List Bool) × Begins before after (output_for command starved records input)
 
 -- the zone of a command's text, or the fault that is told of it (RFC 1035, 5)
 abbrev pub zone_for : Command → List ℕ → Result (List Record) FileFault
@@ -117,10 +125,10 @@ pub record IsRefused (command : Command) (read before after : Option (List ℕ))
 pub record Does (command : Command) (text input : List ℕ) (before after : Option (List ℕ)) : Type 0 where
   pub zone : List Record
   pub is_zone : zone_for command text ≡ Ok zone
-  pub written : Appends before after (output_for command zone input)
+  pub written : DoesIn command zone input before after
 
 -- a text is a zone, and a beginning of what a command writes for an input in that zone was written
 pub record BeginsToDo (command : Command) (text input : List ℕ) (before after : Option (List ℕ)) : Type 0 where
   pub zone : List Record
   pub is_zone : zone_for command text ≡ Ok zone
-  pub written : Begins before after (output_for command zone input)
+  pub written : BeginsToDoIn command zone input before after

@@ -1,19 +1,18 @@
 //! Requests in hexadecimal, a line each, and their replies.
-ghost use Rattle.std.specs.Prelude.{◌≡◌, ℕ, ◌<◌, ◌≤◌, ◌*◌, ◌/◌, ◌↔◌, List, [], ◌∷◌, ◌++◌, length, take, Some, None, Ok, IfOk, OnOk, OnErr, IfSome, MatchBool, MatchOption, codes};
+ghost use Rattle.std.specs.Prelude.{◌≡◌, ℕ, ◌<◌, ◌≤◌, ◌+◌, ◌*◌, ◌/◌, ◌^◌, ◌↔◌, List, [], ◌∷◌, ◌++◌, length, take, Some, None, unwrap_or, Ok, IfOk, OnOk, OnErr, IfSome, MatchBool, MatchOption, codes};
 ghost use Rattle.std.specs.Io.BufRead.{strip_last};
 ghost use Rattle.std.specs.Io.KnownBytes.{Appends};
 ghost use Rattle.hex.specs.Hex.{decode_of, encode_lower};
 ghost use Rattle.dnsd.specs.declared.answer.TheConstants.{MAX_REQUEST, MAX_DIGITS};
 ghost use Rattle.serve_core.specs.declared.transport.TheConstants.{TCP_LIMIT};
-ghost use Rattle.serve_core.specs.Reply.{reply as reply_in};
-ghost use Rattle.dnsd.specs.Lines.{written, line_for, output_of, Begins, TakesLine, Writes};
+ghost use Rattle.dnsd.specs.Lines.{request_on, Answers, BeginsToAnswer, TakesLine, Writes, WritesFor};
 ghost use Rattle.serve_core.specs.Transport.{limit_of};
 
 use crate::input::{MAX_READS, endless};
-use serve_core::{TCP_LIMIT, Transport, respond};
+use serve_core::{Served, TCP_LIMIT, Transport, respond};
 use std::alloc::Global;
 use std::io::{self, BufRead, Write};
-use zone_tree::ZoneRead;
+use zone_tree::{Version, Zone};
 
 /// The most octets of a request (RFC 1035, 4.2.2).
 pub const MAX_REQUEST: usize = 65_535;
@@ -50,26 +49,47 @@ impl Buffers {
 }
 
 /// Answers each line of the input, a request in hexadecimal, by a line: the reply over the transport in lower case, `-` where
-/// there is no reply, `!` where the line isn't hexadecimal of at most 65,535 octets.
+/// there is no reply, `!` where the line isn't hexadecimal of at most 65,535 octets. The peers may update the zone, and what an
+/// update makes of it is what the lines behind it see (RFC 2136, 3).
 ///
 /// An `Err` is a device's, want of memory, or an input that hasn't ended after 2^32 reads; what was written up to then is a
-/// beginning of the output.
-pub fn run_answer<Z: ZoneRead, R: BufRead, W: Write>(
+/// beginning of the output. An update for which memory is wanted gets SERVFAIL, and changes nothing.
+pub fn run_answer<R: BufRead, W: Write>(
     alloc: Global,
-    zone: &Z,
+    zone: Zone,
     transport: Transport,
     reader: &mut R,
     writer: &mut W,
 ) -> io::Result<()>
     // Where the reader tells its octets and the writer those that it holds.
     ensures ok { OnOk result (IfSome (R.remaining reader.old) (λ input.
-        Appends (W.contents writer.old) (W.contents writer.new) (output_of transport (Z.records zone.now) input))) }
+        Answers transport zone input (W.contents writer.old) (W.contents writer.new))) }
     ensures err { OnErr result (IfSome (R.remaining reader.old) (λ input.
-        Begins (W.contents writer.old) (W.contents writer.new) (output_of transport (Z.records zone.now) input))) }
+        BeginsToAnswer transport zone input (W.contents writer.old) (W.contents writer.new))) }
 {
     let mut buffers = Buffers::new(alloc)?;
-    for _ in 0..MAX_READS {
-        if !answer_next(alloc, zone, transport, reader, writer, &mut buffers)? {
+    let mut version = Version::first(zone);
+    answer_lines(alloc, &mut version, transport, reader, writer, &mut buffers)
+}
+
+/// Answers each line of the input, the first one in this version.
+fn answer_lines<R: BufRead, W: Write>(
+    alloc: Global,
+    version: &mut Version,
+    transport: Transport,
+    reader: &mut R,
+    writer: &mut W,
+    buffers: &mut Buffers,
+) -> io::Result<()>
+    requires { version.old.number ≡ 0 }
+    ensures ok { OnOk result (IfSome (R.remaining reader.old) (λ input.
+        Answers transport version.old.zone input (W.contents writer.old) (W.contents writer.new))) }
+    ensures err { OnErr result (IfSome (R.remaining reader.old) (λ input.
+        BeginsToAnswer transport version.old.zone input (W.contents writer.old) (W.contents writer.new))) }
+{
+    // No line makes more than one version, so that their numbers keep below the count of lines.
+    for _line in 0..MAX_READS {
+        if !answer_next(alloc, version, transport, reader, writer, buffers)? {
             return Ok(());
         }
     }
@@ -77,38 +97,42 @@ pub fn run_answer<Z: ZoneRead, R: BufRead, W: Write>(
 }
 
 /// Answers the next line; false where there is none.
-fn answer_next<Z: ZoneRead, R: BufRead, W: Write>(
+fn answer_next<R: BufRead, W: Write>(
     alloc: Global,
-    zone: &Z,
+    version: &mut Version,
     transport: Transport,
     reader: &mut R,
     writer: &mut W,
     buffers: &mut Buffers,
 ) -> io::Result<bool>
+    requires { version.old.number + 1 < 2 ^ 64 }
+    ensures counted { version.new.number ≤ version.old.number + 1 }
     ensures ok { IfOk result (λ more. IfSome (R.remaining reader.old) (λ rest. MatchBool more
-        (TakesLine transport (Z.records zone.now) rest (R.remaining reader.new) (W.contents writer.old) (W.contents writer.new))
+        (TakesLine transport version.old.zone version.new.zone rest (R.remaining reader.new) (W.contents writer.old) (W.contents writer.new))
         ((rest ≡ []) × (W.contents writer.new ≡ W.contents writer.old)))) }
     ensures err { OnErr result (IfSome (R.remaining reader.old) (λ rest.
-        Begins (W.contents writer.old) (W.contents writer.new) (output_of transport (Z.records zone.now) rest))) }
+        BeginsToAnswer transport version.old.zone rest (W.contents writer.old) (W.contents writer.new))) }
 {
     buffers.line.clear();
     if reader.read_until(b'\n', &mut buffers.line)? == 0 {
         return Ok(false);
     }
-    write_line(alloc, zone, transport, writer, buffers)?;
+    write_line(alloc, version, transport, writer, buffers)?;
     Ok(true)
 }
 
-/// Writes the line for the line that was read.
-fn write_line<Z: ZoneRead, W: Write>(
+/// Writes the line for the line that was read, and goes on to the version behind it.
+fn write_line<W: Write>(
     alloc: Global,
-    zone: &Z,
+    version: &mut Version,
     transport: Transport,
     writer: &mut W,
     buffers: &mut Buffers,
 ) -> io::Result<()>
-    ensures { Writes result (W.contents writer.old) (W.contents writer.new)
-        (line_for transport (Z.records zone.now) (strip_last 10 buffers.old.line.items) ++ 10 ∷ []) }
+    requires { version.old.number + 1 < 2 ^ 64 }
+    ensures counted { version.new.number ≤ version.old.number + 1 }
+    ensures line { WritesFor result transport (request_on (strip_last 10 buffers.old.line.items)) version.old.zone version.new.zone
+        (W.contents writer.old) (W.contents writer.new) }
 {
     match request_of(without_lf(buffers.line.as_slice()), &mut buffers.request) {
         None => write_whole(writer, b"!\n"),
@@ -116,7 +140,7 @@ fn write_line<Z: ZoneRead, W: Write>(
             let request = &buffers.request[..len];
             write_reply(
                 alloc,
-                zone,
+                version,
                 transport,
                 request,
                 &mut buffers.reply,
@@ -127,24 +151,37 @@ fn write_line<Z: ZoneRead, W: Write>(
     }
 }
 
-/// Writes the line for a request.
-fn write_reply<Z: ZoneRead, W: Write>(
+/// Writes the line for a request, and goes on to the version behind it.
+fn write_reply<W: Write>(
     alloc: Global,
-    zone: &Z,
+    version: &mut Version,
     transport: Transport,
     request: &[u8],
     reply: &mut [u8],
     digits: &mut [u8],
     writer: &mut W,
 ) -> io::Result<()>
+    requires number { version.old.number + 1 < 2 ^ 64 }
     requires reply_room { limit_of transport ≤ length reply.old }
     requires digits_room { 2 * limit_of transport < length digits.old }
-    ensures { Writes result (W.contents writer.old) (W.contents writer.new)
-        (written (reply_in transport (Z.records zone.now) request.now) ++ 10 ∷ []) }
+    ensures counted { version.new.number ≤ version.old.number + 1 }
+    ensures line { WritesFor result transport (Some request.now) version.old.zone version.new.zone
+        (W.contents writer.old) (W.contents writer.new) }
 {
-    match respond(alloc, zone, transport, request, reply) {
+    let Served { len, next } = respond(alloc, version, transport, true, request, reply);
+    go_on(version, next);
+    match len {
         None => write_whole(writer, b"-\n"),
         Some(len) => write_octets(&reply[..len], digits, writer),
+    }
+}
+
+/// Goes on to the next version, where there is one.
+fn go_on(version: &mut Version, next: Option<Version>)
+    ensures { version.new ≡ unwrap_or next version.old }
+{
+    if let Some(next) = next {
+        *version = next;
     }
 }
 

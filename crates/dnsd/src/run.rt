@@ -1,10 +1,8 @@
 //! Doing a command.
 ghost use Rattle.std.specs.Prelude.{◌≡◌, ◌⊎◌, [], Ok, Err, OnOk, OnErr, IfOk, IfErr, IfSome};
 ghost use Rattle.std.specs.Io.Buffered.{writer_buffer, writer_contents};
-ghost use Rattle.std.specs.Io.KnownBytes.{Appends};
 ghost use Rattle.dnsd.specs.Input.{zone_text_of, behind_zone_text};
-ghost use Rattle.dnsd.specs.Lines.{Begins};
-ghost use Rattle.dnsd.specs.Run.{status_of, AtRefusedZone, AtDevice, IsOfInput, IsOfRun, IsOfZone, IsRefused, zone_for, output_for, Does, BeginsToDo};
+ghost use Rattle.dnsd.specs.Run.{status_of, AtRefusedZone, AtDevice, IsOfInput, IsOfRun, IsOfZone, IsRefused, zone_for, Does, DoesIn, BeginsToDo, BeginsToDoIn};
 
 use crate::answer::run_answer;
 use crate::check::run_check;
@@ -88,36 +86,36 @@ fn run_read<R: BufRead, W: Write + Drop>(
     ensures unread { OnErr read (R.remaining reader.new ≡ R.remaining reader.old) }
     ensures zone { OnOk read (IfErr result (λ fault. AtRefusedZone fault ⊥)) }
     ensures ok { IfOk read (λ zone. OnOk result (IfSome (R.remaining reader.old) (λ input.
-        Appends (writer_contents W.contents writer.old) (writer_contents W.contents writer.new) (output_for command.now zone input)))) }
+        DoesIn command.now zone input (writer_contents W.contents writer.old) (writer_contents W.contents writer.new)))) }
     ensures flushed { OnOk result (writer_buffer writer.new ≡ []) }
     ensures fault { IfErr result (λ fault. IfSome (R.remaining reader.old) (λ input. IsOfRun command.now input fault)) }
     ensures unwritten { IfErr result (λ fault. status_of fault ≡ 1
         → writer_contents W.contents writer.new ≡ writer_contents W.contents writer.old) }
     ensures failed { IfOk read (λ zone. IfErr result (λ fault. AtDevice fault (IfSome (R.remaining reader.old) (λ input.
-        Begins (writer_contents W.contents writer.old) (writer_contents W.contents writer.new) (output_for command.now zone input))))) }
+        BeginsToDoIn command.now zone input (writer_contents W.contents writer.old) (writer_contents W.contents writer.new))))) }
 {
     let zone = read?;
-    run_over(alloc, command, &zone, reader, writer)
+    run_over(alloc, command, zone, reader, writer)
 }
 
 /// Does one parsed command over a zone, and flushes the writer.
 fn run_over<R: BufRead, W: Write + Drop>(
     alloc: Global,
     command: &Command<'_>,
-    zone: &Zone,
+    zone: Zone,
     reader: &mut R,
     writer: &mut BufWriter<W>,
 ) -> Result<(), Fault>
     // Where the reader tells its octets and the writer those that it holds.
     ensures ok { OnOk result (IfSome (R.remaining reader.old) (λ input.
-        Appends (writer_contents W.contents writer.old) (writer_contents W.contents writer.new) (output_for command.now zone.now input))) }
+        DoesIn command.now zone input (writer_contents W.contents writer.old) (writer_contents W.contents writer.new))) }
     ensures flushed { OnOk result (writer_buffer writer.new ≡ []) }
     ensures fault { IfErr result (λ fault. IfSome (R.remaining reader.old) (λ input. IsOfInput command.now input fault)) }
     ensures zone { IfErr result (λ fault. AtRefusedZone fault ⊥) }
     ensures unwritten { IfErr result (λ fault. status_of fault ≡ 1
         → writer_contents W.contents writer.new ≡ writer_contents W.contents writer.old) }
     ensures failed { IfErr result (λ fault. AtDevice fault (IfSome (R.remaining reader.old) (λ input.
-        Begins (writer_contents W.contents writer.old) (writer_contents W.contents writer.new) (output_for command.now zone.now input)))) }
+        BeginsToDoIn command.now zone input (writer_contents W.contents writer.old) (writer_contents W.contents writer.new)))) }
 {
     do_command(alloc, command, zone, reader, writer)?;
     writer.flush()?;
@@ -128,24 +126,24 @@ fn run_over<R: BufRead, W: Write + Drop>(
 fn do_command<R: BufRead, W: Write>(
     alloc: Global,
     command: &Command<'_>,
-    zone: &Zone,
+    zone: Zone,
     reader: &mut R,
     writer: &mut W,
 ) -> Result<(), Fault>
     // Where the reader tells its octets and the writer those that it holds.
     ensures ok { OnOk result (IfSome (R.remaining reader.old) (λ input.
-        Appends (W.contents writer.old) (W.contents writer.new) (output_for command.now zone.now input))) }
+        DoesIn command.now zone input (W.contents writer.old) (W.contents writer.new))) }
     ensures fault { IfErr result (λ fault. IfSome (R.remaining reader.old) (λ input. IsOfInput command.now input fault)) }
     ensures zone { IfErr result (λ fault. AtRefusedZone fault ⊥) }
     ensures unwritten { IfErr result (λ fault. status_of fault ≡ 1 → W.contents writer.new ≡ W.contents writer.old) }
     ensures failed { IfErr result (λ fault. AtDevice fault (IfSome (R.remaining reader.old) (λ input.
-        Begins (W.contents writer.old) (W.contents writer.new) (output_for command.now zone.now input)))) }
+        BeginsToDoIn command.now zone input (W.contents writer.old) (W.contents writer.new)))) }
 {
     match command {
         Command::Answer { transport, .. } => {
             Ok(run_answer(alloc, zone, *transport, reader, writer)?)
         }
-        Command::Check { .. } => Ok(run_check(alloc, zone, writer)?),
-        Command::Steps { .. } => run_steps(alloc, zone, reader, writer),
+        Command::Check { .. } => Ok(run_check(alloc, &zone, writer)?),
+        Command::Steps { .. } => run_steps(alloc, &zone, reader, writer),
     }
 }

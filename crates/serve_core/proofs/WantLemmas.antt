@@ -25,7 +25,7 @@ judged_update head body update e =
     rw (no_query, is_update) refl
 
 -- a request for which there is no memory is read as an update
-reads-want : (msg : List ℕ) (told : Parsed) → IsWant msg told → reads msg ≡ update_of (header_of msg) (update_in (header_of msg) msg)
+pub reads-want : (msg : List ℕ) (told : Parsed) → IsWant msg told → reads msg ≡ update_of (header_of msg) (update_in (header_of msg) msg)
 reads-want msg told want =
     let least = want.whole in
     let whole : nat_lt (length msg) 12 ≡ false = grind (arith, nat_tests) in

@@ -47,7 +47,8 @@ reply_to zone query =
 abbrev pub code_told : Head → Rcode → Rcode
 code_told head rcode = if head.opcode == opcode_UPDATE then NotImp else rcode
 
--- the octets for what a request says, over a transport; none where there is no reply (RFC 1035, 4.2.1 and 4.2.2)
+-- the octets for what a request says in a zone that takes no updates, over a transport; none where there is no reply (RFC 1035,
+-- 4.2.1 and 4.2.2)
 abbrev pub reply_for : Transport → List Record → Parsed → Option (List ℕ)
 reply_for transport zone Silent = None
 reply_for transport zone (Fault head rcode) = Some (fit (bare head (code_told head rcode)) (limit_of transport))
@@ -55,6 +56,7 @@ reply_for transport zone (Update update) = Some (fit (bare update.head NotImp) (
 reply_for transport zone (NoMemory head) = Some (fit (bare head NotImp) (limit_of transport))
 reply_for transport zone (Query query) = Some (fit (reply_to zone query) (limit_of transport))
 
--- the octets that answer a request in a zone, over a transport; none where there is no reply (RFC 1035, 4.2.1 and 4.2.2)
+-- the octets that answer a request in a zone that takes no updates, over a transport; none where there is no reply (RFC 1035,
+-- 4.2.1 and 4.2.2)
 unfoldable pub reply : Transport → List Record → List ℕ → Option (List ℕ)
 reply transport zone request = reply_for transport zone (reads request)

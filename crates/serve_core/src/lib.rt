@@ -2,14 +2,16 @@
 //!
 //! Contracts see a zone as the list of its records, a request and its reply as octets, and the reply as one function of
 //! them (`reply`): what the request says, the first refusal that holds, the sections of the zone's answer, and what fits
-//! into the limit of the [`Transport`]. No call takes memory. Frames on a connection, zone transfers and updates aren't
-//! here: AXFR, IXFR and each OPCODE but 0 get NOTIMP.
+//! into the limit of the [`Transport`]. An update gets a code and makes the zone behind it (`got`). Only an update takes
+//! memory. Frames on a connection and zone transfers aren't here: AXFR, IXFR and each OPCODE but 0 and 5 get NOTIMP.
 #![tactic(auto)]
 
 mod reply;
+mod served;
 mod transport;
 
-pub use reply::respond;
+pub use reply::respond_without_updates;
+pub use served::{Served, respond};
 pub use transport::{TCP_LIMIT, Transport, UDP_LIMIT};
 
 #[cfg(test)]

@@ -12,11 +12,11 @@ use lookup_core::answer;
 use std::alloc::Global;
 use zone_tree::ZoneRead;
 
-/// Writes the reply to a request over a transport to the front of `out`, and gives how many octets it has; None where there
-/// is no reply. Only an update takes memory, and the reply is the same where it has none (RFC 1034, 4.3.2; RFC 1035, 4.1 and
-/// 4.2).
+/// Writes the reply to a request in a zone that takes no updates, over a transport, to the front of `out`, and gives how many
+/// octets it has; None where there is no reply. Only an update takes memory, and the reply is the same where it has none
+/// (RFC 1034, 4.3.2; RFC 1035, 4.1 and 4.2).
 #[tactic(auto, unfolding(crate::specs::Reply::reply))]
-pub fn respond<Z: ZoneRead>(
+pub fn respond_without_updates<Z: ZoneRead>(
     alloc: Global,
     zone: &Z,
     transport: Transport,
@@ -41,7 +41,7 @@ pub fn respond<Z: ZoneRead>(
 /// The OPCODE of a dynamic update (RFC 2136, 1.3).
 const UPDATE: u8 = 5;
 
-/// The code that a request is answered with: NOTIMP of every update (RFC 1035, 4.1.1; own).
+/// The code that a request is answered with where no update is taken: NOTIMP of every update (RFC 1035, 4.1.1; own).
 fn code_told(head: Head, rcode: Rcode) -> Rcode
     ensures { result ≡ code_told head rcode }
 {
@@ -52,7 +52,7 @@ fn code_told(head: Head, rcode: Rcode) -> Rcode
 }
 
 /// Writes the reply to a query: the first refusal that holds, else the zone's answer (RFC 1034, 4.3.2; own).
-fn respond_to_query<Z: ZoneRead>(
+pub(crate) fn respond_to_query<Z: ZoneRead>(
     zone: &Z,
     query: &Query,
     transport: Transport,
@@ -115,7 +115,7 @@ fn write_refused(head: Head, question: &Question, transport: Transport, out: &mu
 }
 
 /// Writes a header alone, with a code.
-fn write_bare(head: Head, rcode: Rcode, transport: Transport, out: &mut [u8]) -> usize
+pub(crate) fn write_bare(head: Head, rcode: Rcode, transport: Transport, out: &mut [u8]) -> usize
     requires { limit_of transport ≤ length out.old }
     ensures octets { take result out.new ≡ fit (bare_message head rcode) (limit_of transport) }
     ensures len { result ≤ limit_of transport }

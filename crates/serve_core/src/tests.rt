@@ -1,11 +1,11 @@
 //! Replies in a whole zone, by the octets that RFC 1035, 4.1 gives for them, put together by hand.
-use crate::{TCP_LIMIT, Transport, UDP_LIMIT, respond};
+use crate::{TCP_LIMIT, Transport, UDP_LIMIT, respond, respond_without_updates};
 use dns_name::Name;
 use dns_rdata::{RData, RRset, RType, Ttl};
 use std::alloc::Global;
 use std::process::Abort;
 use std::test::Fail;
-use zone_tree::Zone;
+use zone_tree::{Version, Zone};
 
 /// A record: its owner, its type, the octets of its data, and a name behind them where the text isn't empty.
 type Row<'a> = (&'a str, RType, &'a [u8], &'a str);
@@ -53,8 +53,8 @@ fn zone_of(alloc: Global, rows: &[Row]) -> Result<Zone, Fail> {
 
 #[test]
 fn replies(rt: HostRuntime) -> Result<(), Fail> {
-    let zone = zone_of(rt.alloc(), &ROWS)?;
-    let cases: [(&str, &[u8], Option<&[u8]>); 9] = [
+    let version = Version::first(zone_of(rt.alloc(), &ROWS)?);
+    let cases: [(&str, &[u8], Option<&[u8]>); 10] = [
         ("an alias and its target's address", WWW, Some(WWW_REPLY)),
         ("eleven octets", &WWW[..11], None),
         (
@@ -90,6 +90,11 @@ fn replies(rt: HostRuntime) -> Result<(), Fail> {
             ),
         ),
         (
+            "OPCODE 5 with a question of type A",
+            b"\x12\x34\x29\x00\x00\x01\x00\x00\x00\x00\x00\x00\x07example\x04test\0\0\x01\0\x01",
+            Some(b"\x12\x34\xa8\x01\x00\x00\x00\x00\x00\x00\x00\x00"),
+        ),
+        (
             "a name outside",
             b"\x12\x34\x00\x00\x00\x01\x00\x00\x00\x00\x00\x00\x03net\0\0\x01\0\x01",
             Some(b"\x12\x34\x80\x05\x00\x01\x00\x00\x00\x00\x00\x00\x03net\0\0\x01\0\x01"),
@@ -98,8 +103,9 @@ fn replies(rt: HostRuntime) -> Result<(), Fail> {
     for (what, request, reply) in cases {
         for transport in [Transport::Udp, Transport::Tcp] {
             let mut out = [0; TCP_LIMIT];
-            let len = respond(rt.alloc(), &zone, transport, request, &mut out);
-            assert_eq!(rt; len, reply.map(|octets| octets.len()), "{what}");
+            let served = respond(rt.alloc(), &version, transport, true, request, &mut out);
+            assert_eq!(rt; served.len, reply.map(|octets| octets.len()), "{what}");
+            assert!(rt; served.next.is_none(), "{what}");
             let octets = reply.unwrap_or(b"");
             assert!(rt; out.starts_with(octets), "{what}");
         }
@@ -121,16 +127,16 @@ fn limits(rt: HostRuntime) -> Result<(), Fail> {
         data.push(u8::try_from(len)?)?;
         data.extend_from_slice(last.as_bytes())?;
         let rows: [Row; 4] = [ROWS[0], ROWS[1], ("big", RType::TXT, &data, ""), ROWS[2]];
-        let zone = zone_of(alloc, &rows)?;
+        let version = Version::first(zone_of(alloc, &rows)?);
         let mut out = [0; TCP_LIMIT];
         let whole = 34 + 12 + 256 + 1 + len;
         assert_eq!(rt; whole <= UDP_LIMIT, fits);
         assert_eq!(rt;
-            respond(rt.alloc(), &zone, Transport::Tcp, request, &mut out),
+            respond(alloc, &version, Transport::Tcp, false, request, &mut out).len,
             Some(whole)
         );
         assert!(rt; out.starts_with(b"\x12\x34\x85\x00\x00\x01\x00\x01\x00\x00\x00\x00\x03big"));
-        let over_udp = respond(rt.alloc(), &zone, Transport::Udp, request, &mut out);
+        let over_udp = respond(alloc, &version, Transport::Udp, false, request, &mut out).len;
         if fits {
             assert_eq!(rt; over_udp, Some(whole));
         } else {
@@ -139,6 +145,31 @@ fn limits(rt: HostRuntime) -> Result<(), Fail> {
                 out.starts_with(b"\x12\x34\x87\x00\x00\x01\x00\x00\x00\x00\x00\x00\x03big")
             );
         }
+    }
+    Ok(())
+}
+
+// RFC 1035, 4.1.1: NOTIMP of what isn't supported, as an update where no update is taken, whether it can be read or not.
+#[test]
+fn replies_without_updates(rt: HostRuntime) -> Result<(), Fail> {
+    let alloc = rt.alloc();
+    let zone = zone_of(alloc, &ROWS)?;
+    let cases: [(&[u8], &[u8]); 3] = [
+        (
+            b"\x12\x34\x29\x00\x00\x01\x00\x00\x00\x00\x00\x00\x07example\x04test\0\0\x06\0\x01",
+            b"\x12\x34\xa8\x04\x00\x00\x00\x00\x00\x00\x00\x00",
+        ),
+        (
+            b"\x12\x34\x28\x00\x00\x00\x00\x00\x00\x00\x00\x00",
+            b"\x12\x34\xa8\x04\x00\x00\x00\x00\x00\x00\x00\x00",
+        ),
+        (WWW, WWW_REPLY),
+    ];
+    for (request, reply) in cases {
+        let mut out = [0; UDP_LIMIT];
+        let len = respond_without_updates(alloc, &zone, Transport::Udp, request, &mut out);
+        assert_eq!(rt; len, Some(reply.len()));
+        assert!(rt; out.starts_with(reply));
     }
     Ok(())
 }

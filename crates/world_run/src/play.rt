@@ -15,7 +15,7 @@ use crate::phase::{End, Phase, Progress, Purpose};
 use crate::start::Start;
 use crate::step::{Answer, Call, Octets, WorldReply, WorldStep};
 use cell_core::{StepFault, WordMachine};
-use serve_core::{Transport, UDP_LIMIT, respond};
+use serve_core::{Transport, UDP_LIMIT, respond_without_updates};
 use std::alloc::Global;
 use std::marker::Model;
 use zone_tree::Zone;
@@ -384,7 +384,7 @@ fn answer_in(alloc: Global, zone: &Zone, request: &Request<'_>) -> Result<Answer
 {
     let mut out = [0; UDP_LIMIT];
     let request = request.as_slice();
-    let Some(len) = respond(alloc, zone, Transport::Udp, request, &mut out) else {
+    let Some(len) = respond_without_updates(alloc, zone, Transport::Udp, request, &mut out) else {
         return Ok(Answer::Silent);
     };
     match out[..len].to_vec(alloc) {

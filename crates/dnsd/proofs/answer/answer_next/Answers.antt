@@ -5,4 +5,4 @@ use Rattle.dnsd.proofs.answer.answer_next.Goals as goal
 pub returns-in_err-write_line-clause-err : goal.returns-in_err-write_line-clause-err
 returns-in_err-write_line-clause-err g c =
     let some : 0 < length c.read_until.new.buf.items = omega (arith, c.in_ok-read_until.ensures.ok, c.clear.ensures.len) in
-    OnErr-each _ _ (Begins-read _ _ _ c.clear.new.self.items c.read_until.new.buf.items _ _ c.clear.ensures.items c.in_ok-read_until.ensures.bytes some c.in_err-write_line.ensures)
+    OnErr-each _ _ (Begins-read _ c.in_err-write_line.ensures.line.starved _ _ c.clear.new.self.items c.read_until.new.buf.items _ _ c.clear.ensures.items c.in_ok-read_until.ensures.bytes some c.in_err-write_line.ensures.line.line)

@@ -1,7 +1,7 @@
 use Rattle.std.proofs.Common.{Some, sym, ap, ◌∙◌}
 use Rattle.serve_core.specs.Reply.{reply}
 use Rattle.serve_core.proofs.WantLemmas.{wanted}
-use Rattle.serve_core.proofs.reply.respond.Goals as goal
+use Rattle.serve_core.proofs.reply.respond_without_updates.Goals as goal
 
 pub returns-in-NoMemory : goal.returns-in-NoMemory
 unfolding reply

@@ -1,0 +1,74 @@
+-- What a request gets, by what is told of its octets.
+use Rattle.std.proofs.Common.{◌≡◌, ◌≤◌, ℕ, ◌==◌, Bool, true, false, List, take, Option, Some, None, refl, sym, ap, ◌∙◌, ⊎_elim, subst}
+use Rattle.dns_rdata.specs.Record.{Record}
+use Rattle.dns_message.specs.Reads.{header_of}
+use Rattle.dns_message.specs.Request.{update_of, reads, IsWant, Tells}
+use Rattle.dns_message.specs.Updates.{update_in}
+use Rattle.dns_message.specs.declared.query.Head.{Head}
+use Rattle.dns_message.specs.declared.query.Parsed.{Parsed}
+use Rattle.dns_message.specs.declared.query.Parsed.TheVariants.{NoMemory}
+use Rattle.dns_message.specs.declared.update.Update.{Update}
+use Rattle.dns_message.proofs.UpdatesLemmas.{head_kept}
+use Rattle.zone_tree.specs.Version.{Version}
+use Rattle.serve_core.specs.Served.{Got, got, got_of, without_memory, StandsIn, IsBehind, ServesSaid, Serves}
+use Rattle.serve_core.specs.Transport.{limit_of}
+use Rattle.serve_core.specs.declared.served.Served.{Served}
+use Rattle.serve_core.specs.declared.transport.Transport.{Transport}
+use Rattle.serve_core.proofs.WantLemmas.{reads-want}
+
+-- an update for which there is no memory is told as such, whatever it says
+starved_update : (head : Head) (o : Option Update) → ((update : Update) → o ≡ Some update → update.head ≡ head) → head.opcode ≡ 5 → without_memory (update_of head o) ≡ NoMemory head
+starved_update head None kept e =
+    let is_update : (head.opcode == 5) ≡ true = ap (λ (n : ℕ). n == 5) e in
+    rw is_update refl
+starved_update head (Some update) kept e = ap (λ (h : Head). NoMemory h) (kept update refl)
+
+-- a request for which there is no memory is told as such, whatever it says
+starved_request : (msg : List ℕ) (told : Parsed) → IsWant msg told → without_memory (reads msg) ≡ told
+starved_request msg told want =
+    ap without_memory (reads-want msg told want)
+    ∙ starved_update (header_of msg) (update_in (header_of msg) msg) (head_kept (header_of msg) msg) want.update
+    ∙ sym want.is
+
+-- memory that is wanted makes no difference where it was told already
+told_already : (transport : Transport) (may starved : Bool) (zone : List Record) (head : Head) → got_of transport may starved zone (NoMemory head) ≡ got_of transport may false zone (NoMemory head)
+told_already transport may true zone head = refl
+told_already transport may false zone head = refl
+
+wanted_got : (transport : Transport) (may starved : Bool) (zone : List Record) (msg : List ℕ) (told : Parsed) → IsWant msg told → got_of transport may starved zone told ≡ got_of transport may true zone (reads msg)
+wanted_got transport may starved zone msg told want =
+    ap (got_of transport may starved zone) want.is
+    ∙ told_already transport may starved zone (header_of msg)
+    ∙ ap (got_of transport may false zone) (sym want.is)
+    ∙ ap (λ said. got_of transport may false zone said) (sym (starved_request msg told want))
+
+-- what is served of what is told of a request is what the request gets
+pub serves_told : (served : Served) (transport : Transport) (may : Bool) (version : Version) (request out : List ℕ) (told said : Parsed) → Tells request told → told ≡ said → ServesSaid served transport may version said out
+    → Serves served transport may version request out
+unfolding got
+serves_told served transport may version request out told said tells is serves =
+    ⊎_elim
+    (λ (e : told ≡ reads request).
+    let same : said ≡ reads request = sym is ∙ e in
+    record {
+      starved = serves.starved;
+      reply = subst (λ p. StandsIn served.len (limit_of transport) out (got_of transport may serves.starved version.zone p).reply) same serves.reply;
+      zone = subst (λ p. IsBehind served.next version (got_of transport may serves.starved version.zone p).zone) same serves.zone;
+    })
+    (λ (want : IsWant request told).
+    let same : got_of transport may serves.starved version.zone said ≡ got_of transport may true version.zone (reads request) = ap (got_of transport may serves.starved version.zone) (sym is) ∙ wanted_got transport may serves.starved version.zone request told want in
+    record {
+      starved = true;
+      reply = subst (λ (g : Got). StandsIn served.len (limit_of transport) out g.reply) same serves.reply;
+      zone = subst (λ (g : Got). IsBehind served.next version g.zone) same serves.zone;
+    })
+    tells
+
+-- a reply behind which the zone stays
+pub serves_reply : (served : Served) (transport : Transport) (may : Bool) (version : Version) (said : Parsed) (octets out : List ℕ) (len : ℕ) → served.len ≡ Some len → served.next ≡ None → len ≤ limit_of transport
+    → take len out ≡ octets → got_of transport may false version.zone said ≡ record { reply = Some octets; zone = version.zone } → ServesSaid served transport may version said out
+serves_reply served transport may version said octets out len is_len is_none short written gets = record {
+  starved = false;
+  reply = rw (is_len, gets) (short, ap Some (sym written));
+  zone = rw (is_none, gets) refl;
+}

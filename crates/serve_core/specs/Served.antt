@@ -1,0 +1,86 @@
+-- What a request comes to in a zone: its reply, and the zone behind it (RFC 1034, 4.3.2; RFC 2136, 3).
+use Rattle.std.specs.Prelude.{◌≡◌, ℕ, ◌+◌, ◌≤◌, Bool, ◌==◌, List, take, Option, Some, None, if◌then◌else◌}
+use Rattle.dns_rdata.specs.declared.numbers.Rcode.{Rcode}
+use Rattle.dns_rdata.specs.declared.numbers.Rcode.TheVariants.{NoError, ServFail}
+use Rattle.dns_rdata.specs.Record.{Record}
+use Rattle.dns_message.specs.declared.query.Head.{Head}
+use Rattle.dns_message.specs.declared.query.Parsed.{Parsed}
+use Rattle.dns_message.specs.declared.query.Parsed.TheVariants.{Silent, Fault, Query, Update, NoMemory}
+use Rattle.dns_message.specs.Message.{opcode_UPDATE}
+use Rattle.dns_message.specs.Request.{reads}
+use Rattle.dns_message.specs.Octets.{fit}
+use Rattle.zone_tree.specs.Version.{Version}
+use Rattle.update_core.specs.Verdict.{verdict}
+use Rattle.update_core.specs.Act.{act}
+use Rattle.serve_core.specs.declared.served.Served.{Served}
+use Rattle.serve_core.specs.declared.transport.Transport.{Transport}
+use Rattle.serve_core.specs.Reply.{bare, reply_to}
+use Rattle.serve_core.specs.Transport.{limit_of}
+
+-- what a request gets: the reply's octets, none where there is no reply, and the zone behind it
+pub record Got : Type 0 where
+  pub reply : Option (List ℕ)
+  pub zone : List Record
+
+-- a header alone with a code, and a zone behind it
+abbrev pub told : Transport → Head → Rcode → List Record → Got
+told transport head code zone = record { reply = Some (fit (bare head code) (limit_of transport)); zone = zone }
+
+-- an update that each rule lets through: NOERROR and the zone that it makes; SERVFAIL, and the zone as it is, where it passes a
+-- limit (RFC 2136, 3.4.2; own)
+abbrev pub taken : Transport → Head → List Record → Option (List Record) → Got
+taken transport head zone None = told transport head ServFail zone
+taken transport head zone (Some next) = told transport head NoError next
+
+-- an update by the first rule that it breaks: that rule's code, and the zone as it is; else the update is taken (RFC 2136, 3)
+abbrev pub judged : Transport → Head → List Record → Option (List Record) → Option Rcode → Got
+judged transport head zone next (Some code) = told transport head code zone
+judged transport head zone next None = taken transport head zone next
+
+-- what comes of what a request says: an update from a peer that may update, or may not, is judged and taken; nothing else changes
+-- the zone (RFC 1034, 4.3.2; RFC 2136, 3)
+abbrev pub got_for : Transport → Bool → List Record → Parsed → Got
+got_for transport may zone Silent = record { reply = None; zone = zone }
+got_for transport may zone (Fault head code) = told transport head code zone
+got_for transport may zone (Query query) = record { reply = Some (fit (reply_to zone query) (limit_of transport)); zone = zone }
+got_for transport may zone (Update update) = judged transport update.head zone (act zone update) (verdict zone update may)
+got_for transport may zone (NoMemory head) = told transport head ServFail zone
+
+-- what a request says where memory is wanted: what asks for an update is SERVFAIL, and all else needs no memory (own)
+abbrev pub without_memory : Parsed → Parsed
+without_memory Silent = Silent
+without_memory (Fault head code) = if head.opcode == opcode_UPDATE then NoMemory head else Fault head code
+without_memory (Query query) = Query query
+without_memory (Update update) = NoMemory update.head
+without_memory (NoMemory head) = NoMemory head
+
+-- what comes of what a request says, where memory is wanted and where it isn't
+abbrev pub got_of : Transport → Bool → Bool → List Record → Parsed → Got
+got_of transport may starved zone said = got_for transport may zone (if starved then without_memory said else said)
+
+-- what a request gets in a zone, over a transport, from a server that memory is wanted of, or isn't: the reply's octets, and the
+-- zone behind it (RFC 1035, 4.2.1 and 4.2.2; RFC 2136, 3)
+unfoldable pub got : Transport → Bool → Bool → List Record → List ℕ → Got
+got transport may starved zone request = got_of transport may starved zone (reads request)
+
+-- a reply stands at the front of a buffer, and keeps a limit; or there is none
+abbrev pub StandsIn : Option ℕ → ℕ → List ℕ → Option (List ℕ) → Type 0
+StandsIn None limit out reply = reply ≡ None
+StandsIn (Some len) limit out reply = (len ≤ limit) × (reply ≡ Some (take len out))
+
+-- a version behind another one has this zone: one of the next number where the zone is another, and else none
+abbrev pub IsBehind : Option Version → Version → List Record → Type 0
+IsBehind None version zone = zone ≡ version.zone
+IsBehind (Some next) version zone = (next.zone ≡ zone) × (next.zone ≡ version.zone → ⊥) × (next.number ≡ version.number + 1)
+
+-- what was served is what is got of what a request says: the reply stands in a buffer, and the next version has the zone behind it
+pub record ServesSaid (served : Served) (transport : Transport) (may : Bool) (version : Version) (said : Parsed) (out : List ℕ) : Type 0 where
+  pub starved : Bool
+  pub reply : StandsIn served.len (limit_of transport) out (got_of transport may starved version.zone said).reply
+  pub zone : IsBehind served.next version (got_of transport may starved version.zone said).zone
+
+-- what was served is what a request gets in a version's zone, whether memory was wanted or not
+pub record Serves (served : Served) (transport : Transport) (may : Bool) (version : Version) (request out : List ℕ) : Type 0 where
+  pub starved : Bool
+  pub reply : StandsIn served.len (limit_of transport) out (got transport may starved version.zone request).reply
+  pub zone : IsBehind served.next version (got transport may starved version.zone request).zone
