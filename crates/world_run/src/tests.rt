@@ -84,14 +84,14 @@ fn versions(rt: HostRuntime) -> Result<(), Fail> {
         whole(give_up(b"b")),
     ];
     let replies = run(alloc, &first, &lines)?;
-    let WorldReply::Answered(Answer::Reply(in_first)) = &replies[3] else {
+    let Some(WorldReply::Answered(Answer::Reply(in_first))) = replies.get(3) else {
         return Err(Fail::from("no answer"));
     };
-    let WorldReply::Answered(Answer::Reply(in_second)) = &replies[4] else {
+    let Some(WorldReply::Answered(Answer::Reply(in_second))) = replies.get(4) else {
         return Err(Fail::from("no answer"));
     };
-    assert!(rt; is_owner(&replies[0], b"a", 0));
-    assert!(rt; is_owner(&replies[2], b"b", 1));
+    assert!(rt; is_owner(replies.get(0), b"a", 0));
+    assert!(rt; is_owner(replies.get(2), b"b", 1));
     assert!(rt;
         in_first
             .as_slice()
@@ -103,15 +103,15 @@ fn versions(rt: HostRuntime) -> Result<(), Fail> {
             .starts_with(b"\x12\x34\x85\x00\x00\x01\x00\x01")
     );
     assert!(rt; in_second.as_slice().ends_with(b"\x00\x04\xc0\x00\x02\x4d"));
-    assert!(rt; is_buried(&replies[5], 0));
-    assert!(rt; matches!(&replies[6], WorldReply::Answered(Answer::Left)));
+    assert!(rt; is_buried(replies.get(5), 0));
+    assert!(rt; matches!(replies.get(6), Some(WorldReply::Answered(Answer::Left))));
     Ok(())
 }
 
 /// Whether a line gave a strong owner of this name and number.
-fn is_owner(reply: &WorldReply, name: &[u8], number: u64) -> bool {
+fn is_owner(reply: Option<&WorldReply>, name: &[u8], number: u64) -> bool {
     match reply {
-        WorldReply::Answered(Answer::Owner(octets, given)) => {
+        Some(WorldReply::Answered(Answer::Owner(octets, given))) => {
             octets.as_slice() == name && *given == number
         }
         _ => false,
@@ -119,17 +119,17 @@ fn is_owner(reply: &WorldReply, name: &[u8], number: u64) -> bool {
 }
 
 /// Whether a line buried the version of this number.
-fn is_buried(reply: &WorldReply, number: u64) -> bool {
+fn is_buried(reply: Option<&WorldReply>, number: u64) -> bool {
     match reply {
-        WorldReply::Answered(Answer::Buried(given)) => *given == number,
+        Some(WorldReply::Answered(Answer::Buried(given))) => *given == number,
         _ => false,
     }
 }
 
 /// Whether a line took this step, and its call goes on.
-fn took(reply: &WorldReply, name: StepName) -> bool {
+fn took(reply: Option<&WorldReply>, name: StepName) -> bool {
     match reply {
-        WorldReply::Step(given) => *given == name,
+        Some(WorldReply::Step(given)) => *given == name,
         _ => false,
     }
 }
@@ -149,17 +149,22 @@ fn steps_of_a_drop(rt: HostRuntime) -> Result<(), Fail> {
         next(b"x"),
     ];
     let replies = run(alloc, &zone, &lines)?;
-    assert!(rt; matches!(&replies[1], WorldReply::Answered(Answer::Published)));
-    assert!(rt; matches!(&replies[2], WorldReply::Begun));
-    assert!(rt; took(&replies[3], StepName::Release));
-    assert!(rt; took(&replies[4], StepName::Bury));
     assert!(rt;
         matches!(
-            &replies[5],
-            WorldReply::Last(StepName::Free, Answer::Buried(0))
+            replies.get(1),
+            Some(WorldReply::Answered(Answer::Published))
         )
     );
-    assert!(rt; matches!(&replies[6], WorldReply::NotEnabled));
+    assert!(rt; matches!(replies.get(2), Some(WorldReply::Begun)));
+    assert!(rt; took(replies.get(3), StepName::Release));
+    assert!(rt; took(replies.get(4), StepName::Bury));
+    assert!(rt;
+        matches!(
+            replies.get(5),
+            Some(WorldReply::Last(StepName::Free, Answer::Buried(0)))
+        )
+    );
+    assert!(rt; matches!(replies.get(6), Some(WorldReply::NotEnabled)));
     Ok(())
 }
 
@@ -193,20 +198,25 @@ fn steps_of_a_publication(rt: HostRuntime) -> Result<(), Fail> {
         (8, StepName::Settle),
     ];
     for (at, step) in steps {
-        assert!(rt; took(&replies[at], step), "{at}");
+        assert!(rt; took(replies.get(at), step), "{at}");
     }
-    assert!(rt; matches!(&replies[3], WorldReply::NotEnabled));
-    assert!(rt; is_owner(&replies[5], b"a", 0));
-    assert!(rt; is_owner(&replies[7], b"b", 1));
+    assert!(rt; matches!(replies.get(3), Some(WorldReply::NotEnabled)));
+    assert!(rt; is_owner(replies.get(5), b"a", 0));
+    assert!(rt; is_owner(replies.get(7), b"b", 1));
     assert!(rt;
         matches!(
-            &replies[9],
-            WorldReply::Last(StepName::Release, Answer::Published)
+            replies.get(9),
+            Some(WorldReply::Last(StepName::Release, Answer::Published))
         )
     );
-    assert!(rt; is_buried(&replies[10], 0));
-    assert!(rt; matches!(&replies[11], WorldReply::NotEnabled));
-    assert!(rt; matches!(&replies[12], WorldReply::Answered(Answer::Published)));
+    assert!(rt; is_buried(replies.get(10), 0));
+    assert!(rt; matches!(replies.get(11), Some(WorldReply::NotEnabled)));
+    assert!(rt;
+        matches!(
+            replies.get(12),
+            Some(WorldReply::Answered(Answer::Published))
+        )
+    );
     Ok(())
 }
 
@@ -257,9 +267,9 @@ fn limit(rt: HostRuntime) -> Result<(), Fail> {
     lines.push(whole(give_up(b"z")))?;
     lines.push(next(b"z"))?;
     let replies = run(alloc, &zone, &lines)?;
-    assert!(rt; matches!(&replies[63], WorldReply::Begun));
-    assert!(rt; matches!(&replies[64], WorldReply::NotEnabled));
-    assert!(rt; matches!(&replies[65], WorldReply::NotEnabled));
+    assert!(rt; matches!(replies.get(63), Some(WorldReply::Begun)));
+    assert!(rt; matches!(replies.get(64), Some(WorldReply::NotEnabled)));
+    assert!(rt; matches!(replies.get(65), Some(WorldReply::NotEnabled)));
     lines.push(whole(load(b"z")))?;
     assert!(rt; matches!(run(alloc, &zone, &lines), Err(WorldFault::Limit)));
     Ok(())
@@ -276,14 +286,25 @@ fn no_slot(rt: HostRuntime) -> Result<(), Fail> {
         lines.push(whole(load(name.as_slice())))?;
         lines.push(whole(publish(&zone)))?;
     }
-    lines.push(whole(give_up(names[60].as_slice())))?;
+    let owned = names.get(60).expect(&rt, "a name");
+    lines.push(whole(give_up(owned.as_slice())))?;
     lines.push(whole(publish(&zone)))?;
     let replies = run(alloc, &zone, &lines)?;
-    assert!(rt; is_owner(&replies[126], names[63].as_slice(), 63));
-    assert!(rt; matches!(&replies[125], WorldReply::Answered(Answer::Published)));
-    assert!(rt; matches!(&replies[127], WorldReply::Answered(Answer::NoSlot)));
-    assert!(rt; is_buried(&replies[128], 60));
-    assert!(rt; matches!(&replies[129], WorldReply::Answered(Answer::Published)));
+    assert!(rt; is_owner(replies.get(126), b"hh", 63));
+    assert!(rt;
+        matches!(
+            replies.get(125),
+            Some(WorldReply::Answered(Answer::Published))
+        )
+    );
+    assert!(rt; matches!(replies.get(127), Some(WorldReply::Answered(Answer::NoSlot))));
+    assert!(rt; is_buried(replies.get(128), 60));
+    assert!(rt;
+        matches!(
+            replies.get(129),
+            Some(WorldReply::Answered(Answer::Published))
+        )
+    );
     Ok(())
 }
 
@@ -306,13 +327,18 @@ fn made_or_had_no_memory(rt: &(impl AllocGlobal + Abort)) -> bool {
         Ok(replies) => {
             assert!(rt;
                 matches!(
-                    &replies[1],
-                    WorldReply::Last(StepName::Load, Answer::Owner(_, 0))
+                    replies.get(1),
+                    Some(WorldReply::Last(StepName::Load, Answer::Owner(_, 0)))
                 )
             );
-            assert!(rt; matches!(&replies[2], WorldReply::Answered(Answer::Published)));
-            assert!(rt; matches!(&replies[3], WorldReply::Answered(Answer::Reply(_))));
-            assert!(rt; is_buried(&replies[4], 0));
+            assert!(rt;
+                matches!(
+                    replies.get(2),
+                    Some(WorldReply::Answered(Answer::Published))
+                )
+            );
+            assert!(rt; matches!(replies.get(3), Some(WorldReply::Answered(Answer::Reply(_)))));
+            assert!(rt; is_buried(replies.get(4), 0));
             true
         }
         Err(fault) => {
