@@ -1,5 +1,5 @@
 -- What a request comes to in a zone: its reply, and the zone behind it (RFC 1034, 4.3.2; RFC 2136, 3).
-use Rattle.std.specs.Prelude.{◌≡◌, ℕ, ◌+◌, ◌≤◌, Bool, ◌==◌, List, take, Option, Some, None, if◌then◌else◌}
+use Rattle.std.specs.Prelude.{◌≡◌, ℕ, ◌+◌, ◌≤◌, Bool, ◌==◌, List, take, Option, Some, None, unwrap_or, if◌then◌else◌}
 use Rattle.dns_rdata.specs.declared.numbers.Rcode.{Rcode}
 use Rattle.dns_rdata.specs.declared.numbers.Rcode.TheVariants.{NoError, ServFail}
 use Rattle.dns_rdata.specs.Record.{Record}
@@ -10,8 +10,8 @@ use Rattle.dns_message.specs.Message.{opcode_UPDATE}
 use Rattle.dns_message.specs.Request.{reads}
 use Rattle.dns_message.specs.Octets.{fit}
 use Rattle.zone_tree.specs.Version.{Version}
-use Rattle.update_core.specs.Verdict.{verdict}
 use Rattle.update_core.specs.Act.{act}
+use Rattle.update_core.specs.Applied.{code_of}
 use Rattle.serve_core.specs.declared.served.Served.{Served}
 use Rattle.serve_core.specs.declared.transport.Transport.{Transport}
 use Rattle.serve_core.specs.Reply.{bare, reply_to}
@@ -26,16 +26,10 @@ pub record Got : Type 0 where
 abbrev pub told : Transport → Head → Rcode → List Record → Got
 told transport head code zone = record { reply = Some (fit (bare head code) (limit_of transport)); zone = zone }
 
--- an update that each rule lets through: NOERROR and the zone that it makes; SERVFAIL, and the zone as it is, where it passes a
--- limit (RFC 2136, 3.4.2; own)
-abbrev pub taken : Transport → Head → List Record → Option (List Record) → Got
-taken transport head zone None = told transport head ServFail zone
-taken transport head zone (Some next) = told transport head NoError next
-
--- an update by the first rule that it breaks: that rule's code, and the zone as it is; else the update is taken (RFC 2136, 3)
-abbrev pub judged : Transport → Head → List Record → Option (List Record) → Option Rcode → Got
-judged transport head zone next (Some code) = told transport head code zone
-judged transport head zone next None = taken transport head zone next
+-- an update by its code, with which the zone stays; else NOERROR and the zone that it makes (RFC 2136, 3)
+abbrev pub answered : Transport → Head → List Record → Option (List Record) → Option Rcode → Got
+answered transport head zone next (Some code) = told transport head code zone
+answered transport head zone next None = told transport head NoError (unwrap_or next zone)
 
 -- what comes of what a request says: an update from a peer that may update, or may not, is judged and taken; nothing else changes
 -- the zone (RFC 1034, 4.3.2; RFC 2136, 3)
@@ -43,7 +37,7 @@ abbrev pub got_for : Transport → Bool → List Record → Parsed → Got
 got_for transport may zone Silent = record { reply = None; zone = zone }
 got_for transport may zone (Fault head code) = told transport head code zone
 got_for transport may zone (Query query) = record { reply = Some (fit (reply_to zone query) (limit_of transport)); zone = zone }
-got_for transport may zone (Update update) = judged transport update.head zone (act zone update) (verdict zone update may)
+got_for transport may zone (Update update) = answered transport update.head zone (act zone update) (code_of zone update may)
 got_for transport may zone (NoMemory head) = told transport head ServFail zone
 
 -- what a request says where memory is wanted: what asks for an update is SERVFAIL, and all else needs no memory (own)

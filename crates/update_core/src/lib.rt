@@ -19,7 +19,6 @@ mod prerequisites;
 mod rows;
 mod update_section;
 
-pub use outcome::{Outcome, apply};
 pub use examples::{
     examples_are_zones, examples_of_adds, examples_of_deletions, examples_of_prerequisites,
     examples_of_prescan, examples_of_serials, examples_of_sets, examples_of_taken_updates,
