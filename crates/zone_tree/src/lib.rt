@@ -7,10 +7,12 @@
 
 mod change;
 mod check;
+mod delta;
 mod draft;
 mod fault;
 mod key;
 mod laws;
+mod left_out;
 mod look;
 mod own;
 mod owners;
@@ -22,8 +24,11 @@ mod walk;
 mod zone;
 
 pub use change::Change;
+pub use delta::Delta;
 pub use fault::{BrokenRule, NewFault, ZoneFault};
-pub use laws::{example_is_a_zone, examples, names_that_exist, same_records, soa_at_apex};
+pub use laws::{
+    example_is_a_zone, examples, names_that_exist, nothing_left_out, same_records, soa_at_apex,
+};
 pub use read::ZoneRead;
 pub use version::Version;
 pub use walk::Walk;
