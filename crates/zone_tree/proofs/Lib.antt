@@ -15,3 +15,5 @@ pub mod FaultLemmas
 pub mod LawLemmas
 pub mod ZoneTest
 pub mod VersionLemmas
+pub mod LackingLemmas
+pub mod DeltaLemmas

@@ -158,12 +158,12 @@ rest_next zone last [] l h = absurd (omega arith)
 rest_next zone last (set ∷ rest) l h = own_next last zone set rest h
 
 -- a name that isn't after one that another is before
-behind_by : (name : List (List ℕ)) (x y : Record) (o : Ordering) → canonical_cmp x.owner y.owner ≡ o → is_gt o ≡ false → canonical_cmp name x.owner ≡ Less → canonical_cmp name y.owner ≡ Less
+pub behind_by : (name : List (List ℕ)) (x y : Record) (o : Ordering) → canonical_cmp x.owner y.owner ≡ o → is_gt o ≡ false → canonical_cmp name x.owner ≡ Less → canonical_cmp name y.owner ≡ Less
 behind_by name x y Less e h f = canonical_total.trans name x.owner y.owner f e
 behind_by name x y Equal e h f = sym (alike_right canonical_total x.owner y.owner name e) ∙ f
 behind_by name x y Greater e h f = absurd (true≢false h)
 
-owners_rise : (x y : Record) → IsBefore x y → is_gt (canonical_cmp x.owner y.owner) ≡ false
+pub owners_rise : (x y : Record) → IsBefore x y → is_gt (canonical_cmp x.owner y.owner) ≡ false
 owners_rise x y h = owner_by (canonical_cmp x.owner y.owner) (ordering_then (nat_cmp x.rtype y.rtype) (slice_cmp nat_cmp x.rdata y.rdata)) h
 
 -- records in order, none before a name, are those at it and then those behind it

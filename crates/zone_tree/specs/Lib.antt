@@ -1,4 +1,5 @@
 pub mod Change
+pub mod Delta
 pub mod Edit
 pub mod Example
 pub mod Fault

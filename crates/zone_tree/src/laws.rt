@@ -3,6 +3,7 @@ ghost use Rattle.std.specs.Prelude.{◌≡◌, ◌↔◌, ℕ, List, [], ◌∷�
 ghost use Rattle.dns_name.specs.Name.{Name, is_under};
 ghost use Rattle.dns_rdata.specs.Numbers.{type_A, type_AAAA, type_SOA};
 ghost use Rattle.dns_rdata.specs.Record.{Record};
+ghost use Rattle.zone_tree.specs.Change.{left_out};
 ghost use Rattle.zone_tree.specs.Zone.{IsZone, rrset_of, rrsets_of, exists, soa_of, apex_of, is_wild};
 ghost use Rattle.zone_tree.specs.Example.{example, in_example, hour_record, small_zone};
 
@@ -22,6 +23,11 @@ pub fn names_that_exist()
 /// The one SOA of a zone stands at its apex (RFC 1034, 4.2.1).
 pub fn soa_at_apex()
     ensures { (zone : List Record) → IsZone zone → rrset_of zone (apex_of zone) type_SOA ≡ soa_of zone }
+{}
+
+/// No zone has records that it hasn't (RFC 1995, 4).
+pub fn nothing_left_out()
+    ensures { (zone : List Record) → left_out zone zone ≡ [] }
 {}
 
 /// The records of the worked examples are a zone.

@@ -7,10 +7,12 @@
 
 mod change;
 mod check;
+mod delta;
 mod draft;
 mod fault;
 mod key;
 mod laws;
+mod left_out;
 mod look;
 mod own;
 mod owners;
@@ -23,8 +25,11 @@ mod walk;
 mod zone;
 
 pub use change::Change;
+pub use delta::Delta;
 pub use fault::{BrokenRule, NewFault, ZoneFault};
-pub use laws::{example_is_a_zone, examples, names_that_exist, same_records, soa_at_apex};
+pub use laws::{
+    example_is_a_zone, examples, names_that_exist, nothing_left_out, same_records, soa_at_apex,
+};
 pub use parts::{Apex, find_apex, has_conflict};
 pub use read::ZoneRead;
 pub use rules::has_asterisk;

@@ -1,0 +1,153 @@
+//! What a zone has that another hasn't, found at the owners where they differ (RFC 1995, 4).
+ghost use Rattle.std.specs.Prelude.{◌≡◌, ◌++◌, true, not, filter, bytes_eq, All, IfOk, OnOk};
+ghost use Rattle.std.specs.List.{list_any, AllByRecursion};
+ghost use Rattle.std.specs.List.Sorted.{IsStrictlySortedBy};
+ghost use Rattle.std.specs.Option.{option_to_list};
+ghost use Rattle.dns_name.specs.Name.{Name, canonical_cmp, is_same};
+ghost use Rattle.dns_rdata.specs.Record.{owner_of, rtype_of};
+ghost use Rattle.zone_tree.specs.Zone.{IsZone, rrsets_of};
+ghost use Rattle.zone_tree.specs.Sets.{records_in, sets_in, IsRRset, AreAscending};
+ghost use Rattle.zone_tree.specs.Change.{left_out};
+ghost use Rattle.zone_tree.specs.Delta.{DifferOnlyAt, lacking, some_set, sets_left_out, sets_of, AreWholeAt};
+
+use crate::read::ZoneRead;
+use crate::zone::Zone;
+use dns_name::Name;
+use dns_rdata::{RData, RRset, RType};
+use std::alloc::{AllocError, Global};
+
+/// Names in canonical order, those that are the same once.
+pub(crate) fn in_order(mut names: Vec<Name>) -> Vec<Name>
+    ensures ascending { IsStrictlySortedBy canonical_cmp result.items }
+    ensures same { (name : Name) → list_any (is_same name) result.items ≡ list_any (is_same name) names.items }
+{
+    names.sort_unstable();
+    names.dedup();
+    names
+}
+
+// A set without the records of these data; None where no other is left.
+fn without_all(set: RRset, absent: &[RData]) -> Option<RRset>
+    requires { IsRRset set }
+    ensures { option_to_list result ≡ some_set (filter (λ r. not (list_any (λ d. bytes_eq d.octets r.rdata) absent.now)) set) }
+{
+    let mut left = set;
+    for rdata in absent {
+        left = left.without(rdata.octets())?;
+    }
+    Some(left)
+}
+
+// The records of a set that another of its owner and type hasn't: all where the TTLs differ. None where it has them all.
+fn set_lacking(alloc: Global, set: &RRset, other: &RRset) -> Result<Option<RRset>, AllocError>
+    requires lawful { IsRRset set.now }
+    requires owner { is_same (owner_of set.now) (owner_of other.now) ≡ true }
+    requires rtype { rtype_of set.now ≡ rtype_of other.now }
+    ensures { IfOk result (λ left. option_to_list left ≡ some_set (lacking set.now other.now)) }
+{
+    let copy = set.copy(alloc)?;
+    if set.ttl() != other.ttl() {
+        return Ok(Some(copy));
+    }
+    Ok(without_all(copy, other.data()))
+}
+
+// The records of a set that a zone hasn't; None where it has them all, and of the SOA.
+fn set_left_out(alloc: Global, set: &RRset, other: &Zone) -> Result<Option<RRset>, AllocError>
+    requires { IsRRset set.now }
+    ensures { IfOk result (λ left. option_to_list left ≡ some_set (left_out set.now other.now)) }
+{
+    if set.rtype() == RType::SOA {
+        return Ok(None);
+    }
+    match other.rrset(&set.owner(), set.rtype()) {
+        Some(there) => set_lacking(alloc, set, there),
+        None => Ok(Some(set.copy(alloc)?)),
+    }
+}
+
+// A set, where there is one, behind others.
+fn put_some(to: &mut Vec<RRset>, set: Option<RRset>) -> Result<(), AllocError>
+    ensures { OnOk result (to.new.items ≡ to.old.items ++ option_to_list set) }
+{
+    if let Some(set) = set {
+        to.push(set)?;
+    }
+    Ok(())
+}
+
+// What sets have that a zone hasn't, set by set, behind others.
+fn put_left_out(
+    alloc: Global,
+    to: &mut Vec<RRset>,
+    sets: &[RRset],
+    other: &Zone,
+) -> Result<(), AllocError>
+    requires { All IsRRset sets.now }
+    ensures { OnOk result (to.new.items ≡ to.old.items ++ sets_left_out sets.now other.now) }
+{
+    for set in sets {
+        let left = set_left_out(alloc, set, other)?;
+        put_some(to, left)?;
+    }
+    Ok(())
+}
+
+// What a zone's sets at an owner have that another zone hasn't, behind others.
+fn put_left_out_at(
+    alloc: Global,
+    to: &mut Vec<RRset>,
+    zone: &Zone,
+    other: &Zone,
+    owner: &Name,
+) -> Result<(), AllocError>
+    requires { IsZone zone.now }
+    ensures sets { OnOk result (to.new.items ≡ to.old.items ++ sets_left_out (sets_in (rrsets_of zone.now owner.now)) other.now) }
+    ensures whole { AreWholeAt zone.now owner.now }
+{
+    let sets = zone.rrsets_at(owner);
+    put_left_out(alloc, to, sets, other)
+}
+
+// What a zone's sets at owners have that another zone hasn't, in the order of the owners.
+fn left_out_at(
+    alloc: Global,
+    zone: &Zone,
+    other: &Zone,
+    owners: &[Name],
+) -> Result<Vec<RRset>, AllocError>
+    requires { IsZone zone.now }
+    ensures sets { IfOk result (λ sets. sets.items ≡ sets_left_out (sets_of zone.now owners.now) other.now) }
+    ensures whole { OnOk result (AllByRecursion (AreWholeAt zone.now) owners.now) }
+{
+    let mut sets = Vec::new(alloc);
+    for owner in owners {
+        put_left_out_at(alloc, &mut sets, zone, other, owner)?;
+    }
+    Ok(sets)
+}
+
+// The records of a zone are one.
+fn is_zone(zone: &Zone)
+    ensures { IsZone zone.now }
+{
+    let _ = zone.soa();
+}
+
+/// What a zone has that another hasn't, SOA apart, in canonical order, where they differ only at these owners, which are
+/// in canonical order. `AllocError` where a growth was refused.
+pub(crate) fn left_out_sets(
+    alloc: Global,
+    zone: &Zone,
+    other: &Zone,
+    owners: &[Name],
+) -> Result<Vec<RRset>, AllocError>
+    requires ascending { IsStrictlySortedBy canonical_cmp owners.now }
+    requires apart { DifferOnlyAt owners.now zone.now other.now }
+    ensures ascending { IfOk result (λ sets. AreAscending sets.items) }
+    ensures records { IfOk result (λ sets. records_in sets.items ≡ left_out zone.now other.now) }
+{
+    is_zone(zone);
+    let sets = left_out_at(alloc, zone, other, owners)?;
+    Ok(sets)
+}
