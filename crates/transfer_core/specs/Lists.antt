@@ -1,10 +1,11 @@
 -- The lists of records by which a zone is sent: in whole (RFC 5936, 2.2), or as what changed since an older one (RFC 1995, 4).
-use Rattle.std.specs.Prelude.{not, ◌==◌, List, [], ◌∷◌, ◌++◌, filter}
+use Rattle.std.specs.Prelude.{◌≡◌, ◌≢◌, not, ◌==◌, List, [], ◌∷◌, ◌++◌, filter, All, AllPairs}
 use Rattle.dns_rdata.specs.Numbers.{type_SOA, class_IN}
 use Rattle.dns_rdata.specs.Record.{Record}
 use Rattle.dns_rdata.specs.Raw.{RawRecord}
-use Rattle.zone_tree.specs.Zone.{soa_of}
+use Rattle.zone_tree.specs.Zone.{IsZone, soa_of, apex_of}
 use Rattle.zone_tree.specs.Change.{left_out}
+use Rattle.zone_tree.specs.Version.{zone_serial}
 
 -- records other than SOAs
 abbrev pub beside_soa : List Record → List Record
@@ -27,6 +28,12 @@ newest zone (next ∷ zones) = newest next zones
 -- what changed from a zone through those behind it: the newest SOA, the steps, the newest SOA (RFC 1995, 4)
 abbrev pub incremental : List Record → List (List Record) → List Record
 incremental zone zones = soa_of (newest zone zones) ++ steps zone zones ++ soa_of (newest zone zones)
+
+-- zones of one apex, whose serials all differ
+pub record AreVersions (zone : List Record) (zones : List (List Record)) : Type 0 where
+  pub each : All IsZone (zone ∷ zones)
+  pub apex : All (λ other. apex_of other ≡ apex_of zone) zones
+  pub serials : AllPairs (λ older newer. zone_serial older ≢ zone_serial newer) (zone ∷ zones)
 
 -- a record as it is sent (RFC 1035, 4.1.3)
 abbrev pub as_sent : Record → RawRecord

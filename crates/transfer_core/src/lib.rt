@@ -7,9 +7,11 @@
 
 mod examples;
 mod fault;
+mod laws;
 
 pub use examples::{
     examples_are_zones, examples_of_broken_lists, examples_of_first_faults, examples_of_lists,
     examples_of_no_zones, examples_of_taken_lists, examples_of_wrong_bases,
 };
 pub use fault::TransferFault;
+pub use laws::{full_lists_are_taken, incremental_lists_are_taken};
