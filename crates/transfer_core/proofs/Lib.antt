@@ -6,3 +6,4 @@ pub mod ReadLemmas
 pub mod FullLemmas
 pub mod StepLemmas
 pub mod ChainLemmas
+pub mod FaultLemmas

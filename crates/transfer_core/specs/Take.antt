@@ -1,6 +1,6 @@
 -- What a holder of a zone holds behind a list of records that a transfer sent: a zone, or the fault of the first record that has one
 -- (RFC 1995, 4; RFC 5936, 2.2).
-use Rattle.std.specs.Prelude.{ℕ, ◌^◌, Bool, ◌&&◌, not, ◌==◌, nat_lt, nat_le, List, [], ◌∷◌, length, filter, if◌then◌else◌, Option, Some, None, Result, Ok, Err}
+use Rattle.std.specs.Prelude.{◌≡◌, ◌++◌, ℕ, ◌^◌, Bool, ◌&&◌, not, ◌==◌, nat_lt, nat_le, List, [], ◌∷◌, length, filter, if◌then◌else◌, Option, Some, None, Result, Ok, Err}
 use Rattle.std.specs.Option.{option_map}
 use Rattle.std.specs.List.{list_any, list_all}
 use Rattle.std.specs.Ordering.{is_lt}
@@ -116,6 +116,24 @@ steps_through apex first reading (sent ∷ list) =
         | Ok next ↦ steps_through apex first next list
       ]
     ]
+
+-- the fault of a sent record, where it has one
+abbrev pub fault_of : Name → Record → Reading → RawRecord → Option TransferFault
+fault_of apex first reading sent =
+    elim (entered sent) [
+      | None ↦ Some Broken
+      | Some r ↦ elim (step apex first reading.stage reading.records r) [ Err fault ↦ Some fault | Ok next ↦ None ]
+    ]
+
+-- a list has a first record with a fault, and this is it: those in front are read, and it isn't
+pub record HasFirstFault (apex : Name) (first : Record) (reading : Reading) (list : List RawRecord) (fault : TransferFault) : Type 0 where
+  pub front : List RawRecord
+  pub sent : RawRecord
+  pub back : List RawRecord
+  pub behind_front : Reading
+  pub parts : list ≡ front ++ sent ∷ back
+  pub reads : steps_through apex first reading front ≡ Ok behind_front
+  pub refuses : fault_of apex first behind_front sent ≡ Some fault
 
 -- whether records, each of which was held, are a zone of this apex: one TTL in a set; one SOA, and that at the apex; an NS at the apex; an
 -- alias alone at its owner; no NS at an owner whose first label is `*` (RFC 1034, 3.6.2 and 4.2.1; RFC 2181, 5.2 and 10.1; RFC 4592, 4.2)

@@ -14,4 +14,4 @@ pub use examples::{
     examples_of_no_zones, examples_of_taken_lists, examples_of_wrong_bases,
 };
 pub use fault::TransferFault;
-pub use laws::{full_lists_are_taken, incremental_lists_are_taken};
+pub use laws::{first_faults_are_told, full_lists_are_taken, incremental_lists_are_taken};
