@@ -8,6 +8,7 @@
 mod examples;
 mod fault;
 mod laws;
+mod list;
 
 pub use examples::{
     examples_are_zones, examples_of_broken_lists, examples_of_first_faults, examples_of_lists,
@@ -15,3 +16,4 @@ pub use examples::{
 };
 pub use fault::TransferFault;
 pub use laws::{first_faults_are_told, full_lists_are_taken, incremental_lists_are_taken};
+pub use list::{LentRecord, SetRecords};
