@@ -7,3 +7,4 @@ pub mod FullLemmas
 pub mod StepLemmas
 pub mod ChainLemmas
 pub mod FaultLemmas
+pub mod WalkLemmas

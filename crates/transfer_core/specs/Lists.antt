@@ -1,9 +1,10 @@
 -- The lists of records by which a zone is sent: in whole (RFC 5936, 2.2), or as what changed since an older one (RFC 1995, 4).
-use Rattle.std.specs.Prelude.{◌≡◌, ◌≢◌, not, ◌==◌, List, [], ◌∷◌, ◌++◌, filter, All, AllPairs}
+use Rattle.std.specs.Prelude.{◌≡◌, ◌≢◌, not, ◌==◌, List, [], ◌∷◌, ◌++◌, filter, All, AllPairs, Option, unwrap_or}
 use Rattle.dns_rdata.specs.Numbers.{type_SOA, class_IN}
 use Rattle.dns_rdata.specs.Record.{Record}
 use Rattle.dns_rdata.specs.Raw.{RawRecord}
 use Rattle.zone_tree.specs.Zone.{IsZone, soa_of, apex_of}
+use Rattle.zone_tree.specs.Sets.{records_in}
 use Rattle.zone_tree.specs.Change.{left_out}
 use Rattle.zone_tree.specs.Version.{zone_serial}
 
@@ -14,6 +15,10 @@ beside_soa records = filter (λ r. not (r.rtype == type_SOA)) records
 -- a zone in whole: its SOA, all its other records in canonical order, its SOA again (RFC 5936, 2.2)
 abbrev pub full : List Record → List Record
 full zone = soa_of zone ++ beside_soa zone ++ soa_of zone
+
+-- the records of such a list that are left, by the sets to come and the one that closes it
+abbrev pub records_left : List (List Record) → Option (List Record) → List Record
+records_left sets closing = beside_soa (records_in sets) ++ unwrap_or closing []
 
 -- the steps from a zone to each of those behind it: the old SOA, the deletions, the next SOA, the additions (RFC 1995, 4)
 abbrev pub steps : List Record → List (List Record) → List Record

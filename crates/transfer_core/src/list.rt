@@ -1,11 +1,9 @@
 //! The list of a zone in whole (RFC 5936, 2.2).
 ghost use Rattle.std.specs.Iterator.{YieldsFirst, item_count};
-ghost use Rattle.std.specs.Prelude.{◌≡◌, ◌≤◌, ◌++◌, ◌∷◌, [], length, MatchOption};
-ghost use Rattle.std.specs.List.{flat_map};
+ghost use Rattle.std.specs.Prelude.{◌≡◌, ◌≢◌, ◌++◌, [], MatchOption};
 ghost use Rattle.std.specs.Option.{option_copied};
-ghost use Rattle.dns_rdata.specs.Record.{owner_of, rtype_of, ttl_of, records_with};
-ghost use Rattle.zone_tree.specs.Zone.{soa_of};
-ghost use Rattle.transfer_core.specs.Lists.{full, beside_soa};
+ghost use Rattle.zone_tree.specs.Sets.{records_in};
+ghost use Rattle.transfer_core.specs.Lists.{full, beside_soa, records_left};
 
 use dns_name::StoredName;
 use dns_rdata::{RData, RRset, RType, Ttl};
@@ -75,7 +73,8 @@ impl<'a> Model for SetRecords<'a> {
 impl<'a> SetRecords<'a> {
     /// All records of a set.
     pub fn new(set: &'a RRset) -> SetRecords<'a>
-        ensures { result ≡ set.now }
+        ensures all { result ≡ set.now }
+        ensures some { result ≢ [] }
     {
         SetRecords {
             set,
@@ -98,5 +97,91 @@ impl<'a> Iterator for SetRecords<'a> {
             set: self.set,
             rdata,
         })
+    }
+}
+
+/// The next set of a walk that isn't the SOA's.
+fn next_other<'a, Z: ZoneRead>(walk: &mut Walk<'a, Z>) -> Option<&'a RRset>
+    ensures { MatchOption (option_copied result) ((beside_soa (records_in walk.old) ≡ []) × (beside_soa (records_in walk.new) ≡ [])) (λ set. beside_soa (records_in walk.old) ≡ set ++ beside_soa (records_in walk.new)) }
+{
+    loop {
+        let set = walk.next()?;
+        if set.rtype() != RType::SOA {
+            return Some(set);
+        }
+    }
+}
+
+/// The next set of a list: one of the walk, and where none is left the one that closes the list.
+fn next_set<'a, Z: ZoneRead>(
+    walk: &mut Walk<'a, Z>,
+    closing: &mut Option<&'a RRset>,
+) -> Option<&'a RRset>
+    ensures { MatchOption (option_copied result)
+        ((records_left walk.old (option_copied closing.old) ≡ []) × (records_left walk.new (option_copied closing.new) ≡ []))
+        (λ set. records_left walk.old (option_copied closing.old) ≡ set ++ records_left walk.new (option_copied closing.new)) }
+{
+    match next_other(walk) {
+        Some(set) => Some(set),
+        None => closing.take(),
+    }
+}
+
+/// The list of a zone in whole, as far as it is left: the SOA, all other records in canonical order, the SOA again
+/// (RFC 5936, 2.2). It takes no memory. Contracts see the records that are left.
+pub struct FullList<'a, Z: ZoneRead> {
+    rest: SetRecords<'a>,
+    walk: Walk<'a, Z>,
+    closing: Option<&'a RRset>,
+}
+
+impl<'a, Z: ZoneRead> Model for FullList<'a, Z> {
+    ghost use Rattle.std.specs.Prelude.{List, ◌++◌};
+    ghost use Rattle.std.specs.Option.{option_copied};
+    ghost use Rattle.dns_rdata.specs.Record.{Record};
+    ghost use Rattle.transfer_core.specs.Lists.{records_left};
+
+    ghost Value = { List Record };
+
+    ghost view = { λ list. list.rest ++ records_left list.walk (option_copied list.closing) };
+}
+
+impl<'a, Z: ZoneRead> Drop for FullList<'a, Z> {
+    fn drop(self) {
+        let FullList {
+            rest: _,
+            walk: _,
+            closing: _,
+        } = self;
+    }
+}
+
+/// The list of a zone in whole: its SOA, all its other records in canonical order, its SOA again (RFC 5936, 2.2). It takes
+/// no memory.
+pub fn full<Z: ZoneRead>(zone: &Z) -> FullList<'_, Z>
+    ensures { result ≡ full (Z.records zone.now) }
+{
+    let soa = zone.soa();
+    FullList {
+        rest: SetRecords::new(soa),
+        walk: zone.walk(),
+        closing: Some(soa),
+    }
+}
+
+impl<'a, Z: ZoneRead> Iterator for FullList<'a, Z> {
+    type Item = LentRecord<'a>;
+
+    ghost next_gives = { YieldsFirst (λ list. list) };
+
+    ghost remaining = { item_count (λ list. list) };
+
+    fn next(&mut self) -> Option<LentRecord<'a>> {
+        if let Some(record) = self.rest.next() {
+            return Some(record);
+        }
+        let set = next_set(&mut self.walk, &mut self.closing)?;
+        self.rest = SetRecords::new(set);
+        self.rest.next()
     }
 }
