@@ -16,7 +16,7 @@ beside_soa records = filter (λ r. not (r.rtype == type_SOA)) records
 abbrev pub full : List Record → List Record
 full zone = soa_of zone ++ beside_soa zone ++ soa_of zone
 
--- the records of such a list that are left, by the sets to come and the one that closes it
+-- the records of a full list that are left, by the sets to come and the one that closes the list
 abbrev pub records_left : List (List Record) → Option (List Record) → List Record
 records_left sets closing = beside_soa (records_in sets) ++ unwrap_or closing []
 

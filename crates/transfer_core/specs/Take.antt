@@ -40,7 +40,7 @@ abbrev pub inserted : Record → List Record → List Record
 inserted r [] = r ∷ []
 inserted r (s ∷ ss) = if is_lt (record_cmp r s) then r ∷ s ∷ ss else s ∷ inserted r ss
 
--- and where records that are equal are one
+-- records in canonical order with one more, where equal records are one
 abbrev pub joined : Record → List Record → List Record
 joined r records = if is_among records r then records else inserted r records
 

@@ -17,3 +17,6 @@ pub use examples::{
 pub use fault::TransferFault;
 pub use laws::{first_faults_are_told, full_lists_are_taken, incremental_lists_are_taken};
 pub use list::{FullList, LentRecord, SetRecords, full};
+
+#[cfg(test)]
+mod tests;

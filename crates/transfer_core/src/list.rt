@@ -11,6 +11,7 @@ use std::marker::Model;
 use zone_tree::{Walk, ZoneRead};
 
 /// A record of a set, lent.
+#[derive(Drop)]
 pub struct LentRecord<'a> {
     set: &'a RRset,
     rdata: &'a RData,
