@@ -1,0 +1,22 @@
+//! Transfers of a zone: the lists of records by which it is sent, in whole (RFC 5936) or as what changed since an older
+//! version (RFC 1995), and what a holder of a zone holds behind such a list.
+//!
+//! Contracts see a zone as the list of its records. `full` and `incremental` are the lists, `take` is what they make of
+//! what is held, or the fault of the first record that has one. Laws and worked examples tell of them.
+#![tactic(auto)]
+
+mod examples;
+mod fault;
+mod laws;
+mod list;
+
+pub use examples::{
+    examples_are_zones, examples_of_broken_lists, examples_of_first_faults, examples_of_lists,
+    examples_of_no_zones, examples_of_taken_lists, examples_of_wrong_bases,
+};
+pub use fault::TransferFault;
+pub use laws::{first_faults_are_told, full_lists_are_taken, incremental_lists_are_taken};
+pub use list::{FullList, LentRecord, SetRecords, full};
+
+#[cfg(test)]
+mod tests;

@@ -1,0 +1,188 @@
+//! The list of a zone in whole (RFC 5936, 2.2).
+ghost use Rattle.std.specs.Iterator.{YieldsFirst, item_count};
+ghost use Rattle.std.specs.Prelude.{◌≡◌, ◌≢◌, ◌++◌, [], MatchOption};
+ghost use Rattle.std.specs.Option.{option_copied};
+ghost use Rattle.zone_tree.specs.Sets.{records_in};
+ghost use Rattle.transfer_core.specs.Lists.{full, beside_soa, records_left};
+
+use dns_name::StoredName;
+use dns_rdata::{RData, RRset, RType, Ttl};
+use std::marker::Model;
+use zone_tree::{Walk, ZoneRead};
+
+/// A record of a set, lent.
+#[derive(Drop)]
+pub struct LentRecord<'a> {
+    set: &'a RRset,
+    rdata: &'a RData,
+}
+
+impl<'a> Model for LentRecord<'a> {
+    ghost use Rattle.dns_rdata.specs.Record.{Record, owner_of, rtype_of, ttl_of};
+
+    ghost Value = { Record };
+
+    ghost view = { λ a. record { owner = owner_of a.set.now; rtype = rtype_of a.set.now; ttl = ttl_of a.set.now; rdata = a.rdata.now.octets } };
+}
+
+impl<'a> LentRecord<'a> {
+    /// The owner, in lower case.
+    pub fn owner(&self) -> &'a StoredName
+        ensures { result.now ≡ self.now.owner }
+    {
+        self.set.stored_owner()
+    }
+
+    /// The type.
+    pub fn rtype(&self) -> RType
+        ensures { result.0 ≡ self.now.rtype }
+    {
+        self.set.rtype()
+    }
+
+    /// The TTL, in seconds.
+    pub fn ttl(&self) -> Ttl
+        ensures { result.0 ≡ self.now.ttl }
+    {
+        self.set.ttl()
+    }
+
+    /// The data.
+    pub fn rdata(&self) -> &'a RData
+        ensures { result.now.octets ≡ self.now.rdata }
+    {
+        self.rdata
+    }
+}
+
+/// The records of a set that are left.
+#[derive(Drop)]
+pub struct SetRecords<'a> {
+    set: &'a RRset,
+    rest: &'a [RData],
+}
+
+impl<'a> Model for SetRecords<'a> {
+    ghost use Rattle.std.specs.Prelude.{List};
+    ghost use Rattle.dns_rdata.specs.Record.{Record, owner_of, rtype_of, ttl_of, records_with};
+
+    ghost Value = { List Record };
+
+    ghost view = { λ a. records_with (owner_of a.set.now) (rtype_of a.set.now) (ttl_of a.set.now) a.rest.now };
+}
+
+impl<'a> SetRecords<'a> {
+    /// All records of a set.
+    pub fn new(set: &'a RRset) -> SetRecords<'a>
+        ensures all { result ≡ set.now }
+        ensures some { result ≢ [] }
+    {
+        SetRecords {
+            set,
+            rest: set.data(),
+        }
+    }
+}
+
+impl<'a> Iterator for SetRecords<'a> {
+    type Item = LentRecord<'a>;
+
+    ghost next_gives = { YieldsFirst (λ records. records) };
+
+    ghost remaining = { item_count (λ records. records) };
+
+    fn next(&mut self) -> Option<LentRecord<'a>> {
+        let (rdata, rest) = self.rest.split_first()?;
+        self.rest = rest;
+        Some(LentRecord {
+            set: self.set,
+            rdata,
+        })
+    }
+}
+
+/// The next set of a walk that isn't the SOA's.
+fn next_other<'a, Z: ZoneRead>(walk: &mut Walk<'a, Z>) -> Option<&'a RRset>
+    ensures { MatchOption (option_copied result) ((beside_soa (records_in walk.old) ≡ []) × (beside_soa (records_in walk.new) ≡ [])) (λ set. beside_soa (records_in walk.old) ≡ set ++ beside_soa (records_in walk.new)) }
+{
+    loop {
+        let set = walk.next()?;
+        if set.rtype() != RType::SOA {
+            return Some(set);
+        }
+    }
+}
+
+/// The next set of a list: one of the walk, and where none is left the one that closes the list.
+fn next_set<'a, Z: ZoneRead>(
+    walk: &mut Walk<'a, Z>,
+    closing: &mut Option<&'a RRset>,
+) -> Option<&'a RRset>
+    ensures { MatchOption (option_copied result)
+        ((records_left walk.old (option_copied closing.old) ≡ []) × (records_left walk.new (option_copied closing.new) ≡ []))
+        (λ set. records_left walk.old (option_copied closing.old) ≡ set ++ records_left walk.new (option_copied closing.new)) }
+{
+    match next_other(walk) {
+        Some(set) => Some(set),
+        None => closing.take(),
+    }
+}
+
+/// The list of a zone in whole, as far as it is left: the SOA, all other records in canonical order, the SOA again
+/// (RFC 5936, 2.2). It takes no memory. Contracts see the records that are left.
+pub struct FullList<'a, Z: ZoneRead> {
+    rest: SetRecords<'a>,
+    walk: Walk<'a, Z>,
+    closing: Option<&'a RRset>,
+}
+
+impl<'a, Z: ZoneRead> Model for FullList<'a, Z> {
+    ghost use Rattle.std.specs.Prelude.{List, ◌++◌};
+    ghost use Rattle.std.specs.Option.{option_copied};
+    ghost use Rattle.dns_rdata.specs.Record.{Record};
+    ghost use Rattle.transfer_core.specs.Lists.{records_left};
+
+    ghost Value = { List Record };
+
+    ghost view = { λ list. list.rest ++ records_left list.walk (option_copied list.closing) };
+}
+
+impl<'a, Z: ZoneRead> Drop for FullList<'a, Z> {
+    fn drop(self) {
+        let FullList {
+            rest: _,
+            walk: _,
+            closing: _,
+        } = self;
+    }
+}
+
+/// The list of a zone in whole: its SOA, all its other records in canonical order, its SOA again (RFC 5936, 2.2). It takes
+/// no memory.
+pub fn full<Z: ZoneRead>(zone: &Z) -> FullList<'_, Z>
+    ensures { result ≡ full (Z.records zone.now) }
+{
+    let soa = zone.soa();
+    FullList {
+        rest: SetRecords::new(soa),
+        walk: zone.walk(),
+        closing: Some(soa),
+    }
+}
+
+impl<'a, Z: ZoneRead> Iterator for FullList<'a, Z> {
+    type Item = LentRecord<'a>;
+
+    ghost next_gives = { YieldsFirst (λ list. list) };
+
+    ghost remaining = { item_count (λ list. list) };
+
+    fn next(&mut self) -> Option<LentRecord<'a>> {
+        if let Some(record) = self.rest.next() {
+            return Some(record);
+        }
+        let set = next_set(&mut self.walk, &mut self.closing)?;
+        self.rest = SetRecords::new(set);
+        self.rest.next()
+    }
+}
