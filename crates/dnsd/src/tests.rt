@@ -4,6 +4,7 @@
 mod answers;
 mod faults;
 mod negative;
+mod updates;
 mod zones;
 
 use crate::command::{Command, Source, parse_words};
