@@ -1,307 +1,283 @@
-//! What updates make of a small zone: the forms of RFC 2136, 2.5, each row of the table of effects, and the serial.
-use crate::tests::{FIRST, NS, Row, SECOND, SOA, name, update, zone_of_soa};
+//! What updates make of a small zone: the forms of RFC 2136, 2.5, each row of the table of effects, and the serial. Tables are
+//! texts, a row a line; a record is its owner, type, class and TTL, and its data in hexadecimal.
+use crate::tests::{FIRST, NS, Row, SOA, name, update, zone_of_soa};
 use crate::{Outcome, apply};
 use dns_message::{Head, RawRecords, Update, ZoneEntry};
 use dns_name::Name;
 use dns_rdata::{Class, RData, RRset, RType, RawRecord, Rcode, Serial, Ttl};
 use std::alloc::Global;
+use std::process::Abort;
 use std::test::Fail;
 use zone_tree::{Version, Zone, ZoneRead};
 
-/// The TTL of a set and its data; None where there is no such set.
-type Want<'a> = Option<(u32, &'a [&'a [u8]])>;
+/// The types and their words.
+const TYPES: [(&str, RType); 6] = [
+    ("A", RType::A),
+    ("NS", RType::NS),
+    ("CNAME", RType::CNAME),
+    ("SOA", RType::SOA),
+    ("TXT", RType::TXT),
+    ("ANY", RType::ANY),
+];
 
-/// A third address, and the name that the alias stands for.
-const THIRD: &[u8] = &[192, 0, 2, 3];
+/// The type of a word.
+fn rtype_of(word: &str) -> Result<RType, Fail> {
+    for (known, rtype) in TYPES {
+        if known == word {
+            return Ok(rtype);
+        }
+    }
+    Err(Fail::from("no type"))
+}
 
-const WEB: &[u8] = b"\x03web\x07example\x04test\0";
-
-/// An SOA's data like the zone's, with other serials: 2, 0, and half the ring from 1.
-const SERIAL_2: &[u8] = b"\0\0\0\0\0\x02\0\0\x1c\x20\0\0\x03\x84\0\x12\x75\0\0\0\x01\x2c";
-
-const SERIAL_0: &[u8] = b"\0\0\0\0\0\0\0\0\x1c\x20\0\0\x03\x84\0\x12\x75\0\0\0\x01\x2c";
-
-const HALF: &[u8] = b"\0\0\x80\0\0\x01\0\0\x1c\x20\0\0\x03\x84\0\x12\x75\0\0\0\x01\x2c";
-
-const LAST_SERIAL: &[u8] = b"\0\0\xff\xff\xff\xff\0\0\x1c\x20\0\0\x03\x84\0\x12\x75\0\0\0\x01\x2c";
-
-/// The first version: the small zone, with a text at the apex and an alias at `www`.
-fn first_version(alloc: Global) -> Result<Version, Fail> {
-    let start = Version::first(zone_of_soa(alloc, SOA)?);
-    let added: [Row; 2] = [
-        ("@", RType::TXT, Class::IN, 3600, b"\x01x"),
-        ("www", RType::CNAME, Class::IN, 3600, WEB),
-    ];
-    match applied(alloc, &start, &added)? {
-        Outcome::Next(next) => Ok(next),
-        _ => Err("no version".into()),
+/// The class of a word.
+fn class_of(word: &str) -> Result<Class, Fail> {
+    match word {
+        "IN" => Ok(Class::IN),
+        "ANY" => Ok(Class::ANY),
+        "NONE" => Ok(Class::NONE),
+        _ => Err(Fail::from("no class")),
     }
 }
 
+/// The octets that hexadecimal stands for.
+fn octets_of(alloc: Global, text: &str) -> Result<Vec<u8>, Fail> {
+    let mut octets = Vec::new(alloc);
+    for pair in text.as_bytes().chunks(2) {
+        let digits = std::str::from_utf8(pair)?;
+        octets.push(u8::from_str_radix(digits, 16)?)?;
+    }
+    Ok(octets)
+}
+
+/// A record as it is sent.
+fn raw(alloc: Global, text: &str) -> Result<RawRecord, Fail> {
+    let mut words = text.split(' ');
+    Ok(RawRecord {
+        owner: name(words.next().unwrap_or(""))?,
+        rtype: rtype_of(words.next().unwrap_or(""))?,
+        class: class_of(words.next().unwrap_or(""))?,
+        ttl: words.next().unwrap_or("").parse()?,
+        octets: octets_of(alloc, words.next().unwrap_or(""))?,
+    })
+}
+
+/// An update of the records of a text.
+fn update_of(alloc: Global, text: &str) -> Result<Update, Fail> {
+    let mut records = Vec::new(alloc);
+    for record in text.split("; ") {
+        records.push(raw(alloc, record)?)?;
+    }
+    let mut asked = update(alloc, &[], &[])?;
+    asked.updates = RawRecords::new(records);
+    Ok(asked)
+}
+
 /// What becomes of an update of these records.
-fn applied(alloc: Global, version: &Version, rows: &[Row]) -> Result<Outcome, Fail> {
-    let asked = update(alloc, &[], rows)?;
+fn applied(alloc: Global, version: &Version, text: &str) -> Result<Outcome, Fail> {
+    let asked = update_of(alloc, text)?;
     if version.number() > 9 {
         return Err("too many versions".into());
     }
     Ok(apply(alloc, version, &asked, true))
 }
 
-/// Whether a set is as it is wanted.
-fn has(zone: &Zone, owner: &str, rtype: RType, want: Want) -> Result<bool, Fail> {
-    let Some(set) = zone.rrset(&name(owner)?, rtype) else {
-        return Ok(want.is_none());
-    };
-    let Some((ttl, data)) = want else {
-        return Ok(false);
-    };
-    for (own, octets) in set.data().iter().zip(data) {
-        if own.octets() != *octets {
-            return Ok(false);
-        }
+/// The first version: the small zone, with a text at the apex and an alias at `www`.
+fn first_version(alloc: Global) -> Result<Version, Fail> {
+    let start = Version::first(zone_of_soa(alloc, SOA)?);
+    match applied(
+        alloc,
+        &start,
+        "@ TXT IN 3600 0178; www CNAME IN 3600 03776562076578616d706c65047465737400",
+    )? {
+        Outcome::Next(next) => Ok(next),
+        _ => Err("no version".into()),
     }
-    Ok(set.ttl().0 == ttl && set.data().len() == data.len())
 }
 
-// RFC 2136, 2.5.1 to 2.5.4 and 3.4.2.2 to 3.4.2.4: what changes, and which set then stands.
+/// A set in a version: its TTL, and its data in hexadecimal; `-` where there is none.
+fn set_in(alloc: Global, version: &Version, asked: &str) -> Result<String, Fail> {
+    let mut words = asked.split(' ');
+    let owner = name(words.next().unwrap_or(""))?;
+    let rtype = rtype_of(words.next().unwrap_or(""))?;
+    let Some(set) = version.zone().rrset(&owner, rtype) else {
+        return Ok(format!(in alloc; "-")?);
+    };
+    let ttl = set.ttl().0;
+    let mut text = format!(in alloc; "{ttl}")?;
+    for data in set.data() {
+        text.push_str(" ")?;
+        for octet in data.octets() {
+            let digits = format!(in alloc; "{octet:02x}")?;
+            text.push_str(digits.as_str())?;
+        }
+    }
+    Ok(text)
+}
+
+/// What is told of an update: of the next version its number, its serial and a set.
+fn told(alloc: Global, outcome: &Outcome, asked: &str) -> Result<String, Fail> {
+    match outcome {
+        Outcome::Refused(code) => Ok(format!(in alloc; "{code:?}")?),
+        Outcome::Unchanged => Ok(format!(in alloc; "unchanged")?),
+        Outcome::NoMemory => Ok(format!(in alloc; "no memory")?),
+        Outcome::Next(next) => {
+            let (number, serial) = (next.number(), next.serial().0);
+            let set = set_in(alloc, next, asked)?;
+            Ok(format!(in alloc; "{number} {serial} {set}")?)
+        }
+    }
+}
+
+/// Tries each row: what it shows, the records, the set that is asked for then, and what is told.
+fn check(rt: &impl Abort, alloc: Global, version: &Version, rows: &str) -> Result<(), Fail> {
+    for row in rows.lines() {
+        let mut fields = row.split('|');
+        let what = fields.next().unwrap_or("");
+        let outcome = applied(alloc, version, fields.next().unwrap_or(""))?;
+        let said = told(alloc, &outcome, fields.next().unwrap_or(""))?;
+        assert_eq!(rt; said.as_str(), fields.next().unwrap_or(""), "{what}");
+    }
+    Ok(())
+}
+
+/// What changes, and which set then stands.
+const EFFECTS: &str = "\
+2.5.1: a new name|New A IN 60 c0000201|new A|2 3 60 c0000201\n\
+2.5.1: joins a set|web A IN 60 c0000203|web A|2 3 60 c0000201 c0000202 c0000203\n\
+an equal record's TTL|web A IN 60 c0000202|web A|2 3 60 c0000201 c0000202\n\
+a TTL's top bit|new A IN 2147483649 c0000201|new A|2 3 0 c0000201\n\
+another type|web TXT IN 60 0179|web A|2 3 3600 c0000201 c0000202\n\
+an alias is replaced|www CNAME IN 60 036e7331076578616d706c65047465737400|www CNAME|2 3 60 036e7331076578616d706c65047465737400\n\
+2.5.2: a set goes|WEB A ANY 0 |web A|2 3 -\n\
+2.5.2: a set at the apex|@ TXT ANY 0 |@ TXT|2 3 -\n\
+2.5.3: a name goes|web ANY ANY 0 |web A|2 3 -\n\
+2.5.3: the apex loses its text|@ ANY ANY 0 |@ TXT|2 3 -\n\
+2.5.3: the apex keeps its NS|@ ANY ANY 0 |@ NS|2 3 3600 036e7331076578616d706c65047465737400\n\
+2.5.4: a record goes|web A NONE 0 c0000201|web A|2 3 3600 c0000202\n\
+2.5.4: the only record|a.b A NONE 0 c0000201|a.b A|2 3 -\n\
+2.5.4: an alias|www CNAME NONE 0 03776562076578616d706c65047465737400|www CNAME|2 3 -\n";
+
+// RFC 2136, 2.5.1 to 2.5.4 and 3.4.2.2 to 3.4.2.4.
 #[test]
 fn effects(rt: HostRuntime) -> Result<(), Fail> {
     let version = first_version(rt.alloc())?;
-    let (any, none, class_in) = (Class::ANY, Class::NONE, Class::IN);
-    let cases: [(&str, Row, (&str, RType, Want)); 14] = [
-        (
-            "2.5.1: a new name",
-            ("New", RType::A, class_in, 60, FIRST),
-            ("new", RType::A, Some((60, &[FIRST]))),
-        ),
-        (
-            "2.5.1: joins a set",
-            ("web", RType::A, class_in, 60, THIRD),
-            ("web", RType::A, Some((60, &[FIRST, SECOND, THIRD]))),
-        ),
-        (
-            "an equal record's TTL",
-            ("web", RType::A, class_in, 60, SECOND),
-            ("web", RType::A, Some((60, &[FIRST, SECOND]))),
-        ),
-        (
-            "a TTL's top bit",
-            ("new", RType::A, class_in, 0x8000_0001, FIRST),
-            ("new", RType::A, Some((0, &[FIRST]))),
-        ),
-        (
-            "another type",
-            ("web", RType::TXT, class_in, 60, b"\x01y"),
-            ("web", RType::A, Some((3600, &[FIRST, SECOND]))),
-        ),
-        (
-            "an alias is replaced",
-            ("www", RType::CNAME, class_in, 60, NS),
-            ("www", RType::CNAME, Some((60, &[NS]))),
-        ),
-        (
-            "2.5.2: a set goes",
-            ("WEB", RType::A, any, 0, b""),
-            ("web", RType::A, None),
-        ),
-        (
-            "2.5.2: a set at the apex",
-            ("@", RType::TXT, any, 0, b""),
-            ("@", RType::TXT, None),
-        ),
-        (
-            "2.5.3: a name goes",
-            ("web", RType::ANY, any, 0, b""),
-            ("web", RType::A, None),
-        ),
-        (
-            "2.5.3: the apex loses its text",
-            ("@", RType::ANY, any, 0, b""),
-            ("@", RType::TXT, None),
-        ),
-        (
-            "2.5.3: the apex keeps its NS",
-            ("@", RType::ANY, any, 0, b""),
-            ("@", RType::NS, Some((3600, &[NS]))),
-        ),
-        (
-            "2.5.4: a record goes",
-            ("web", RType::A, none, 0, FIRST),
-            ("web", RType::A, Some((3600, &[SECOND]))),
-        ),
-        (
-            "2.5.4: the only record",
-            ("a.b", RType::A, none, 0, FIRST),
-            ("a.b", RType::A, None),
-        ),
-        (
-            "2.5.4: an alias",
-            ("www", RType::CNAME, none, 0, WEB),
-            ("www", RType::CNAME, None),
-        ),
-    ];
-    for (what, row, (owner, rtype, want)) in cases {
-        match applied(rt.alloc(), &version, &[row])? {
-            Outcome::Next(next) => {
-                assert!(rt; has(next.zone(), owner, rtype, want)?, "{what}");
-                assert_eq!(rt; (next.number(), next.serial()), (2, Serial(3)), "{what}");
-            }
-            _ => assert!(rt; false, "{what}"),
-        }
-        assert_eq!(rt;
-            (version.number(), version.serial()),
-            (1, Serial(2)),
-            "{what}"
-        );
-        assert!(rt;
-            has(
-                version.zone(),
-                "web",
-                RType::A,
-                Some((3600, &[FIRST, SECOND]))
-            )?,
-            "{what}"
-        );
-    }
+    check(&rt, rt.alloc(), &version, EFFECTS)?;
+    // The old version stays as it was.
+    assert_eq!(rt; version.number(), 1);
+    assert_eq!(rt; version.serial().0, 2);
+    let set = set_in(rt.alloc(), &version, "web A")?;
+    assert_eq!(rt; set.as_str(), "3600 c0000201 c0000202");
     Ok(())
 }
 
-// RFC 2136, 3.4.2.2 to 3.4.2.4 and 3.6: what has no effect, and what is taken back, makes no version.
+/// What has no effect, and what is taken back, makes no version.
+const NO_EFFECT: &str = "\
+an alias beside data|web CNAME IN 60 036e7331076578616d706c65047465737400|web A|unchanged\n\
+data beside an alias|www A IN 60 c0000201|web A|unchanged\n\
+an SOA elsewhere|web SOA IN 60 00000000000200001c2000000384001275000000012c|web A|unchanged\n\
+an equal serial|@ SOA IN 60 00000000000200001c2000000384001275000000012c|web A|unchanged\n\
+a lesser serial|@ SOA IN 60 00000000000000001c2000000384001275000000012c|web A|unchanged\n\
+a record that is there|web A IN 3600 c0000201|web A|unchanged\n\
+the NS of the apex|@ NS ANY 0 |web A|unchanged\n\
+the SOA|@ SOA ANY 0 |web A|unchanged\n\
+the SOA by its data|@ SOA NONE 0 00000000000200001c2000000384001275000000012c|web A|unchanged\n\
+the last NS|@ NS NONE 0 036e7331076578616d706c65047465737400|web A|unchanged\n\
+a set that isn't there|web TXT ANY 0 |web A|unchanged\n\
+a record that isn't there|web A NONE 0 c0000203|web A|unchanged\n\
+taken back|new A IN 60 c0000201; new ANY ANY 0 |web A|unchanged\n\
+put back|web A NONE 0 c0000201; web A IN 3600 c0000201|web A|unchanged\n";
+
+// RFC 2136, 3.4.2.2 to 3.4.2.4 and 3.6.
 #[test]
 fn no_effect(rt: HostRuntime) -> Result<(), Fail> {
     let version = first_version(rt.alloc())?;
-    let (any, none, class_in) = (Class::ANY, Class::NONE, Class::IN);
-    let cases: [(&str, &[Row]); 15] = [
-        ("nothing", &[]),
-        (
-            "an alias beside data",
-            &[("web", RType::CNAME, class_in, 60, NS)],
-        ),
-        (
-            "data beside an alias",
-            &[("www", RType::A, class_in, 60, FIRST)],
-        ),
-        (
-            "an SOA elsewhere",
-            &[("web", RType::SOA, class_in, 60, SERIAL_2)],
-        ),
-        (
-            "an equal serial",
-            &[("@", RType::SOA, class_in, 60, SERIAL_2)],
-        ),
-        (
-            "a lesser serial",
-            &[("@", RType::SOA, class_in, 60, SERIAL_0)],
-        ),
-        (
-            "a record that is there",
-            &[("web", RType::A, class_in, 3600, FIRST)],
-        ),
-        ("the NS of the apex", &[("@", RType::NS, any, 0, b"")]),
-        ("the SOA", &[("@", RType::SOA, any, 0, b"")]),
-        (
-            "the SOA by its data",
-            &[("@", RType::SOA, none, 0, SERIAL_2)],
-        ),
-        ("the last NS", &[("@", RType::NS, none, 0, NS)]),
-        (
-            "a set that isn't there",
-            &[("web", RType::TXT, any, 0, b"")],
-        ),
-        (
-            "a record that isn't there",
-            &[("web", RType::A, none, 0, THIRD)],
-        ),
-        (
-            "taken back",
-            &[
-                ("new", RType::A, class_in, 60, FIRST),
-                ("new", RType::ANY, any, 0, b""),
-            ],
-        ),
-        (
-            "put back",
-            &[
-                ("web", RType::A, none, 0, FIRST),
-                ("web", RType::A, class_in, 3600, FIRST),
-            ],
-        ),
-    ];
-    for (what, rows) in cases {
-        let told = applied(rt.alloc(), &version, rows)?;
-        assert!(rt; matches!(told, Outcome::Unchanged), "{what}");
-    }
+    check(&rt, rt.alloc(), &version, NO_EFFECT)?;
+    let asked = update(rt.alloc(), &[], &[])?;
+    assert!(rt; version.number() < 9);
+    assert!(rt;
+        matches!(
+            apply(rt.alloc(), &version, &asked, true),
+            Outcome::Unchanged
+        )
+    );
     Ok(())
 }
 
-// RFC 1982, 3.2, and RFC 2136, 3.6: which SOA replaces, and the serial of the next version.
+/// Which SOA replaces, and the serial of the next version: what a row shows, the old SOA's data, and then as above.
+const SERIALS: &str = "\
+a greater one|00000000000100001c2000000384001275000000012c|new TXT IN 60 0178; @ SOA IN 3600 00000000000200001c2000000384001275000000012c|1 2 60 0178\n\
+half the ring away|00000000000100001c2000000384001275000000012c|new TXT IN 60 0178; @ SOA IN 3600 00008000000100001c2000000384001275000000012c|1 2 60 0178\n\
+a lesser one|00000000000200001c2000000384001275000000012c|new TXT IN 60 0178; @ SOA IN 3600 00000000000100001c2000000384001275000000012c|1 3 60 0178\n\
+round the ring|0000ffffffff00001c2000000384001275000000012c|new TXT IN 60 0178; @ SOA IN 3600 0000ffffffff00001c2000000384001275000000012c|1 0 60 0178\n\
+round the ring by itself|0000ffffffff00001c2000000384001275000000012c|new TXT IN 60 0178; @ SOA IN 3600 00000000000100001c2000000384001275000000012c|1 1 60 0178\n";
+
+// RFC 1982, 3.2; RFC 2136, 3.6.
 #[test]
 fn serials(rt: HostRuntime) -> Result<(), Fail> {
-    let text: Row = ("new", RType::TXT, Class::IN, 60, b"\x01x");
-    let cases: [(&str, &[u8], &[u8], Serial); 5] = [
-        ("a greater one", SOA, SERIAL_2, Serial(2)),
-        ("half the ring away", SOA, HALF, Serial(2)),
-        ("a lesser one", SERIAL_2, SOA, Serial(3)),
-        ("round the ring", LAST_SERIAL, LAST_SERIAL, Serial(0)),
-        ("round the ring by itself", LAST_SERIAL, SOA, Serial(1)),
-    ];
-    for (what, old, new, want) in cases {
-        let start = Version::first(zone_of_soa(rt.alloc(), old)?);
-        let soa: Row = ("@", RType::SOA, Class::IN, 3600, new);
-        match applied(rt.alloc(), &start, &[text, soa])? {
-            Outcome::Next(next) => assert_eq!(rt; next.serial(), want, "{what}"),
-            _ => assert!(rt; false, "{what}"),
-        }
+    for row in SERIALS.lines() {
+        let mut fields = row.split('|');
+        let what = fields.next().unwrap_or("");
+        let soa = octets_of(rt.alloc(), fields.next().unwrap_or(""))?;
+        let start = Version::first(zone_of_soa(rt.alloc(), &soa)?);
+        let outcome = applied(rt.alloc(), &start, fields.next().unwrap_or(""))?;
+        let said = told(rt.alloc(), &outcome, "new TXT")?;
+        assert_eq!(rt; said.as_str(), fields.next().unwrap_or(""), "{what}");
     }
     Ok(())
 }
 
-/// An address of a set of many.
-fn many(alloc: Global, octets: [u8; 4]) -> Result<RawRecord, Fail> {
-    Ok(RawRecord {
-        owner: name("many")?,
-        rtype: RType::A,
-        class: Class::IN,
-        ttl: 60,
-        octets: octets.to_vec(alloc)?,
-    })
+/// An update of addresses at `many`, and then a text of so many strings of 255 octets at `new`.
+fn update_of_many(alloc: Global, addresses: u16, strings: u8) -> Result<Update, Fail> {
+    let mut records = Vec::new(alloc);
+    for number in 0..addresses {
+        let mut record = raw(alloc, "many A IN 60 0a00")?;
+        record.octets.extend_from_slice(&number.to_be_bytes())?;
+        records.push(record)?;
+    }
+    let mut text = raw(alloc, "new TXT IN 60 ")?;
+    for _ in 0..strings {
+        text.octets.push(255u8)?;
+        text.octets.extend_from_slice(&[b'a'; 255])?;
+    }
+    if strings == 0 {
+        text.octets.push(0)?;
+    }
+    records.push(text)?;
+    let mut asked = update(alloc, &[], &[])?;
+    asked.updates = RawRecords::new(records);
+    Ok(asked)
 }
 
-// 256 records of a set are taken; 257, and data of 4,097 octets, are SERVFAIL, and what came before has no effect (RFC 2136,
-// 3.4.2.7; own).
+// 256 records of a set and 4,096 octets of data are taken; more of either is SERVFAIL, and what came before has no effect
+// (RFC 2136, 3.4.2.7; own).
 #[test]
 fn limits(rt: HostRuntime) -> Result<(), Fail> {
     let version = first_version(rt.alloc())?;
-    let mut records = Vec::new(rt.alloc());
-    for low in 0..=255u8 {
-        records.push(many(rt.alloc(), [10, 0, 0, low])?)?;
-    }
-    let mut asked = update(rt.alloc(), &[], &[])?;
-    asked.updates = RawRecords::new(records);
     assert!(rt; version.number() < 9);
-    let full = match apply(rt.alloc(), &version, &asked, true) {
-        Outcome::Next(next) => next,
-        _ => return Err("256 records are taken".into()),
-    };
-    let more: Row = ("many", RType::A, Class::IN, 60, &[10, 0, 1, 0]);
-    let gone: Row = ("web", RType::ANY, Class::ANY, 0, b"");
-    let told = applied(rt.alloc(), &full, &[gone, more])?;
-    assert!(rt; matches!(told, Outcome::Refused(Rcode::ServFail)));
-    assert!(rt; has(full.zone(), "web", RType::A, Some((3600, &[FIRST, SECOND])))?);
-    let mut text = Vec::new(rt.alloc());
-    for _ in 0..16 {
-        text.push(255u8)?;
-        text.extend_from_slice(&[b'a'; 255])?;
-    }
-    let longest: Row = ("new", RType::TXT, Class::IN, 60, &text);
-    assert!(rt; matches!(applied(rt.alloc(), &version, &[longest])?, Outcome::Next(_)));
-    text.push(0)?;
-    let longer: Row = ("new", RType::TXT, Class::IN, 60, &text);
-    let told = applied(rt.alloc(), &version, &[gone, longer])?;
-    assert!(rt; matches!(told, Outcome::Refused(Rcode::ServFail)));
-    let beside: Row = ("www", RType::TXT, Class::IN, 60, &text);
-    let told = applied(rt.alloc(), &version, &[beside])?;
-    assert!(rt; matches!(told, Outcome::Unchanged));
+    let full = update_of_many(rt.alloc(), 256, 16)?;
+    let said = told(
+        rt.alloc(),
+        &apply(rt.alloc(), &version, &full, true),
+        "www A",
+    )?;
+    assert_eq!(rt; said.as_str(), "2 3 -");
+    let many = update_of_many(rt.alloc(), 257, 0)?;
+    let said = told(
+        rt.alloc(),
+        &apply(rt.alloc(), &version, &many, true),
+        "www A",
+    )?;
+    assert_eq!(rt; said.as_str(), "ServFail");
+    let long = update_of_many(rt.alloc(), 1, 17)?;
+    let said = told(
+        rt.alloc(),
+        &apply(rt.alloc(), &version, &long, true),
+        "www A",
+    )?;
+    assert_eq!(rt; said.as_str(), "ServFail");
+    let set = set_in(rt.alloc(), &version, "many A")?;
+    assert_eq!(rt; set.as_str(), "-");
     Ok(())
 }
 
@@ -309,15 +285,12 @@ fn limits(rt: HostRuntime) -> Result<(), Fail> {
 #[test]
 fn refusals(rt: HostRuntime) -> Result<(), Fail> {
     let version = first_version(rt.alloc())?;
-    let added: Row = ("new", RType::A, Class::IN, 60, FIRST);
-    let outside: Row = ("test.", RType::A, Class::IN, 60, FIRST);
-    let asked = update(rt.alloc(), &[], &[added, outside])?;
+    let asked = update_of(rt.alloc(), "new A IN 60 c0000201; test. A IN 60 c0000201")?;
     assert!(rt; version.number() < 9);
     let told = apply(rt.alloc(), &version, &asked, true);
     assert!(rt; matches!(told, Outcome::Refused(Rcode::NotZone)));
     let told = apply(rt.alloc(), &version, &asked, false);
     assert!(rt; matches!(told, Outcome::Refused(Rcode::Refused)));
-    assert!(rt; has(version.zone(), "new", RType::A, None)?);
     Ok(())
 }
 
@@ -375,37 +348,51 @@ fn twice<T: Drop, C: Fn() -> Option<T>>(call: C) -> Option<T>
     }
 }
 
+/// Whether a set has one record, with this TTL and these data.
+fn has(
+    version: &Version,
+    owner: &str,
+    rtype: RType,
+    ttl: u32,
+    octets: &[u8],
+) -> Result<bool, Fail> {
+    match version.zone().rrset(&name(owner)?, rtype) {
+        None => Ok(false),
+        Some(set) => Ok(
+            set.ttl().0 == ttl && set.data().len() == 1 && set.data()[0].octets() == octets,
+        ),
+    }
+}
+
+/// A third address.
+const THIRD: &[u8] = &[192, 0, 2, 3];
+
 // With any one growth refused, the version stays as it was, and the same update makes the next one once it is sent anew.
 #[test]
 fn refused_growth(rt: HostRuntime) -> Result<(), Fail> {
-    let sets: [(&str, RType, &[u8]); 4] = [
+    let sets: [(&str, RType, &[u8]); 3] = [
         ("@", RType::NS, NS),
         ("@", RType::SOA, SOA),
-        ("@", RType::TXT, b"\x01x"),
         ("web", RType::A, FIRST),
     ];
-    let rows: [Row; 4] = [
-        ("new", RType::A, Class::IN, 60, FIRST),
+    let rows: [Row; 2] = [
         ("web", RType::A, Class::IN, 60, THIRD),
         ("web", RType::A, Class::NONE, 0, FIRST),
-        ("@", RType::TXT, Class::ANY, 0, b""),
     ];
     let version = twice(|| made_version(rt.alloc(), &sets)).ok_or("a version")?;
     let asked = twice(|| made_update(rt.alloc(), &rows)).ok_or("an update")?;
     assert!(rt; version.number() < 9);
-    let mut told = apply(rt.alloc(), &version, &asked, true);
-    if matches!(told, Outcome::NoMemory) {
-        assert!(rt; has(version.zone(), "new", RType::A, None)?);
-        assert!(rt; has(version.zone(), "web", RType::A, Some((3600, &[FIRST])))?);
-        assert_eq!(rt; (version.number(), version.serial()), (0, Serial(1)));
-        told = apply(rt.alloc(), &version, &asked, true);
+    let mut outcome = apply(rt.alloc(), &version, &asked, true);
+    if matches!(outcome, Outcome::NoMemory) {
+        assert!(rt; has(&version, "web", RType::A, 3600, FIRST)?);
+        assert_eq!(rt; version.serial(), Serial(1));
+        outcome = apply(rt.alloc(), &version, &asked, true);
     }
-    match told {
+    match outcome {
         Outcome::Next(next) => {
-            assert!(rt; has(next.zone(), "new", RType::A, Some((60, &[FIRST])))?);
-            assert!(rt; has(next.zone(), "web", RType::A, Some((60, &[THIRD])))?);
-            assert!(rt; has(next.zone(), "@", RType::TXT, None)?);
-            assert_eq!(rt; (next.number(), next.serial()), (1, Serial(2)));
+            assert!(rt; has(&next, "web", RType::A, 60, THIRD)?);
+            assert_eq!(rt; next.number(), 1);
+            assert_eq!(rt; next.serial(), Serial(2));
         }
         _ => assert!(rt; false, "the next version"),
     }
