@@ -1,12 +1,13 @@
 -- The request that a reply answers is read.
-use Rattle.std.proofs.Common.{◌≡◌, ◌==◌, ℕ, ◌+◌, ◌*◌, ◌/◌, ◌%◌, ◌<◌, ◌^◌, Bool, true, false, not, ◌||◌, ◌&&◌, option_and_then, if◌then◌else◌, eq-eqb, List, [], ◌∷◌, ◌++◌, length, drop, Option, Some, nat_lt, nat_le, refl, ap, subst, ◌∙◌, arith, lit<}
+use Rattle.std.proofs.Common.{◌≡◌, ◌==◌, ℕ, ◌+◌, ◌*◌, ◌/◌, ◌%◌, ◌<◌, ◌^◌, Bool, true, false, not, ◌||◌, ◌&&◌, option_and_then, if◌then◌else◌, eq-eqb, List, [], ◌∷◌, ◌++◌, length, drop, Option, Some, None, nat_lt, nat_le, refl, ap, subst, ◌∙◌, arith, lit<}
 use Rattle.std.proofs.Math.Bridge.{le_prop}
 use Rattle.std.proofs.Math.Nat.{mod-lt}
 use Rattle.std.proofs.lemmas.Bool.Decides.{nat_tests}
 use Rattle.std.proofs.lemmas.Nat.{from_be_bytes-to_be_bytes_2}
 use Rattle.dns_rdata.specs.declared.numbers.Rcode.TheVariants.{NotImp}
+use Rattle.dns_rdata.specs.declared.numbers.Serial.{Serial}
 use Rattle.dns_message.specs.Asked.{request_header, request_of, IsAnswerTo}
-use Rattle.dns_message.specs.Message.{Body, Message}
+use Rattle.dns_message.specs.Message.{Message}
 use Rattle.dns_message.specs.Reads.{header_of, is_reply, body_in, seen}
 use Rattle.dns_message.specs.Request.{query_of, update_of, reads}
 use Rattle.dns_message.specs.Updates.{update_in}
@@ -17,6 +18,7 @@ use Rattle.dns_message.specs.declared.query.Question.{Question}
 use Rattle.dns_message.specs.declared.query.Parsed.{Parsed}
 use Rattle.dns_message.specs.declared.query.Parsed.TheVariants.{Silent, Fault, Query}
 use Rattle.dns_message.proofs.AgainLemmas.{none_more}
+use Rattle.dns_message.proofs.ReadLemmas.{none_held}
 use Rattle.dns_message.proofs.TrueLemmas.{IsTrueOf-nothing}
 use Rattle.dns_message.proofs.KeepsLemmas.{Stands}
 use Rattle.dns_message.proofs.SectionLemmas.{asked_again, question_part, answer_part, authority_part, additional_part, sections_parts, body_parts}
@@ -57,26 +59,27 @@ asks opcode false h = grind (arith, nat_tests)
 
 -- what is said where these parts of the octets are known: whether they are silent, the header, what stands behind it in a
 -- query, and in an update
-abbrev pub judged : Bool → Head → Option Body → Option Update → Parsed
-judged silent head body update =
+abbrev pub judged : Bool → Head → Option (Question × Option Serial × Bool) → Option Update → Parsed
+judged silent head asked update =
     if silent then Silent
-    else if head.opcode == 0 then query_of head (option_and_then seen body)
+    else if head.opcode == 0 then query_of head asked
     else if head.opcode == 5 then update_of head update
     else Fault head NotImp
 
-judged_standard : (head : Head) (body : Option Body) (update : Option Update) → head.opcode ≡ 0 → judged false head body update ≡ query_of head (option_and_then seen body)
-judged_standard head body update z = let standard : (head.opcode == 0) ≡ true = eq-eqb _ _ z in rw standard
+judged_standard : (head : Head) (asked : Option (Question × Option Serial × Bool)) (update : Option Update) → head.opcode ≡ 0 → judged false head asked update ≡ query_of head asked
+judged_standard head asked update z = let standard : (head.opcode == 0) ≡ true = eq-eqb _ _ z in rw standard
 
 -- a request is read as what its header and what stands behind it say
-reads-request : (head : Head) (rest : List ℕ) → head.id < 2 ^ 16 → head.opcode ≡ 0 → reads (request_header head ++ rest) ≡ query_of head (option_and_then seen (body_in (request_header head ++ rest)))
+reads-request : (head : Head) (rest : List ℕ) → head.id < 2 ^ 16 → head.opcode ≡ 0 → reads (request_header head ++ rest) ≡ query_of head (option_and_then (seen (request_header head ++ rest)) (body_in (request_header head ++ rest)))
 reads-request head rest h z =
     let msg = request_header head ++ rest in
     let whole : nat_lt (length msg) 12 ≡ false = grind (arith, nat_tests) in
+    let asked = option_and_then (seen msg) (body_in msg) in
     let update = update_in (header_of msg) msg in
-    ap (λ b. judged (b || is_reply msg) (header_of msg) (body_in msg) update) whole
-    ∙ ap (λ b. judged b (header_of msg) (body_in msg) update) (asks head.opcode head.rd head.four_bits)
-    ∙ ap (λ a. judged false a (body_in msg) update) (header_again head rest h z)
-    ∙ judged_standard head (body_in msg) update z
+    ap (λ b. judged (b || is_reply msg) (header_of msg) asked update) whole
+    ∙ ap (λ b. judged b (header_of msg) asked update) (asks head.opcode head.rd head.four_bits)
+    ∙ ap (λ a. judged false a asked update) (header_again head rest h z)
+    ∙ judged_standard head asked update z
 
 -- behind a request's header stands the question that the reply repeats
 question_stands : (m : Message) → Stands (request_of m) (request_header m.head) (question_part m ++ (answer_part m ++ (authority_part m ++ additional_part m))) [] 12
@@ -90,8 +93,8 @@ body_in_of m q h =
     (none_more _ _) (none_more _ _) (none_more _ _)
 
 -- the question that a reply repeats is read as itself
-pub reads-request_of : (m : Message) (q : Question) → IsAnswerTo m q → reads (request_of m) ≡ Query (record { head = m.head; question = q })
+pub reads-request_of : (m : Message) (q : Question) → IsAnswerTo m q → reads (request_of m) ≡ Query (record { head = m.head; question = q; serial = None })
 reads-request_of m q h =
     reads-request m.head (drop 12 (reply_octets m)) h.id h.standard
-    ∙ ap (λ b. query_of m.head (option_and_then seen b)) (body_in_of m q h)
-    ∙ rw h.lookup
+    ∙ ap (λ b. query_of m.head (option_and_then (seen (request_of m)) b)) (body_in_of m q h)
+    ∙ ap (λ serial. Query (record { head = m.head; question = q; serial = serial })) (none_held (q.rtype.0 == 251))

@@ -23,7 +23,7 @@ length-name_if : (table : Table) (label : List ℕ) (name : List (List ℕ)) (fo
 length-name_if table label name None h = omega (arith, length-append label (name_octets table name), length-append label (wire_of name))
 length-name_if table label name (Some target) h = omega (arith, length-append label (wire_of name), wire_some name)
 
-length-name_octets : (table : Table) (name : List (List ℕ)) → length (name_octets table name) ≤ length (wire_of name)
+pub length-name_octets : (table : Table) (name : List (List ℕ)) → length (name_octets table name) ≤ length (wire_of name)
 length-name_octets table [] = omega arith
 length-name_octets table (label ∷ name) = length-name_if table label name (position_in table (label ∷ name)) (length-name_octets table name)
 
@@ -137,7 +137,7 @@ IsAmong-stop compress count all was first own i rest out at positions then after
     rw n stopped
 
 -- something behind its length has two octets more
-length-measured : (p : Encoding) (table : Table) (at : ℕ) → length (measured p table at).0 ≡ 2 + length (p table (at + 2)).0
+pub length-measured : (p : Encoding) (table : Table) (at : ℕ) → length (measured p table at).0 ≡ 2 + length (p table (at + 2)).0
 unfolding measured
 length-measured p table at = length-append (to_be_bytes w16 (length (p table (at + 2)).0)) (p table (at + 2)).0
 

@@ -1,4 +1,5 @@
 pub mod AgainLemmas
+pub mod AnswersLemmas
 pub mod AskedLemmas
 pub mod CountLemmas
 pub mod DataLemmas
@@ -7,8 +8,10 @@ pub mod ExpandedLemmas
 pub mod KeepsLemmas
 pub mod OctetsLemmas
 pub mod ReadLemmas
+pub mod ReceivedLemmas
 pub mod SectionLemmas
 pub mod SentLemmas
 pub mod SetLemmas
+pub mod SizeLemmas
 pub mod TrueLemmas
 pub mod UpdatesLemmas

@@ -13,7 +13,7 @@ use Rattle.dns_message.specs.Encoded.{IsStopped, WritesEncoding}
 use Rattle.dns_message.specs.Octets.{questions, question_octets, record_octets, sections_octets, counts_in, header_octets, reply_octets, truncated, fits, without_additional, fit}
 
 -- the octets of one thing and of another behind it
-length-before : (p q : Encoding) (table : Table) (at : ℕ) → length (before p q table at).0 ≡ length (p table at).0 + length (q (p table at).1 (at + length (p table at).0)).0
+pub length-before : (p q : Encoding) (table : Table) (at : ℕ) → length (before p q table at).0 ≡ length (p table at).0 + length (q (p table at).1 (at + length (p table at).0)).0
 unfolding before
 length-before p q table at = length-append (p table at).0 (q (p table at).1 (at + length (p table at).0)).0
 
@@ -22,12 +22,12 @@ unfolding measured
 length-measured p table at = let both = length-append (to_be_bytes w16 (length (p table (at + 2)).0)) (p table (at + 2)).0 in omega arith
 
 -- a record has an octet or more
-record_some : (r : Record) (table : Table) (at : ℕ) → 0 < length (record_octets r table at).0
+pub record_some : (r : Record) (table : Table) (at : ℕ) → 0 < length (record_octets r table at).0
 unfolding record_octets
 record_some r table at = omega (arith, length-before, length-measured)
 
 -- there are no more records than octets of records
-records_fill : (rs : List Record) (table : Table) (at : ℕ) → length rs ≤ length (each record_octets rs table at).0
+pub records_fill : (rs : List Record) (table : Table) (at : ℕ) → length rs ≤ length (each record_octets rs table at).0
 unfolding each
 records_fill [] table at = omega arith
 records_fill (r ∷ rs) table at =

@@ -1,9 +1,10 @@
 -- How a request is read.
-use Rattle.std.proofs.Common.{◌≡◌, ◌≢◌, ◌==◌, ℕ, zero, suc, ◌+◌, ◌-◌, ◌<◌, ◌≤◌, Bool, true, false, ◌||◌, List, [], ◌∷◌, length, Option, Some, None, refl, sym, ap, ◌∙◌, arith, option_map, option_and_then}
+use Rattle.std.proofs.Common.{◌≡◌, ◌≢◌, ◌==◌, ℕ, zero, suc, ◌+◌, ◌-◌, ◌<◌, ◌≤◌, Bool, true, false, not, ◌||◌, if◌then◌else◌, List, [], ◌∷◌, length, Option, Some, None, refl, sym, ap, ◌∙◌, arith, option_map, option_and_then}
 use Rattle.dns_rdata.specs.declared.numbers.RType.{RType}
-use Rattle.dns_rdata.specs.Numbers.{type_OPT}
+use Rattle.dns_rdata.specs.declared.numbers.Serial.{Serial}
+use Rattle.dns_rdata.specs.Numbers.{type_OPT, type_IXFR}
 use Rattle.dns_message.specs.Message.{Entry, Body, number_at}
-use Rattle.dns_message.specs.Reads.{question_at, questions_at, record_at, records_at, body_in, has_opt, only_question, seen}
+use Rattle.dns_message.specs.Reads.{question_at, questions_at, record_at, records_at, body_in, has_opt, only_question, serial_in, serial_held, seen}
 use Rattle.dns_message.specs.declared.query.Question.{Question}
 
 -- what is seen of a record, and of many
@@ -81,22 +82,29 @@ IsPast-end count msg at done place opt past all =
     ∙ ap (λ n. option_map (sight_behind opt) (records_at n msg place)) (omega arith)
     ∙ none_left msg place opt
 
+-- what is seen of an authority section: the serial that the one who asks holds, and where the section ends
+abbrev pub holding : List ℕ → Question → List Entry × ℕ → Option Serial × ℕ
+holding msg q r = (serial_held msg q r.0, r.1)
+
+abbrev pub held_at : List ℕ → Question → ℕ → Option (Option Serial × ℕ)
+held_at msg q at = option_map (holding msg q) (records_at (number_at msg 8) msg at)
+
 -- what is seen of the records that a count at a position of the header tells
 abbrev pub sight_at : List ℕ → ℕ → ℕ → Option (Bool × ℕ)
 sight_at msg count at = option_map sight (records_at (number_at msg count) msg at)
 
-additional_seen : (q : Question) (answer authority : List Entry) (o : Option (List Entry × ℕ)) → option_and_then seen (option_map (λ additional. record { questions = q ∷ []; answer = answer; authority = authority; additional = additional.0 }) o) ≡ option_map (λ s. (q, s.0)) (option_map sight o)
-additional_seen q answer authority None = refl
-additional_seen q answer authority (Some r) = refl
+additional_seen : (msg : List ℕ) (q : Question) (answer authority : List Entry) (o : Option (List Entry × ℕ)) → option_and_then (seen msg) (option_map (λ additional. record { questions = q ∷ []; answer = answer; authority = authority; additional = additional.0 }) o) ≡ option_map (λ s. (q, serial_held msg q authority, s.0)) (option_map sight o)
+additional_seen msg q answer authority None = refl
+additional_seen msg q answer authority (Some r) = refl
 
 -- what is seen step by step
-abbrev pub behind_authority : List ℕ → Question → Option (Bool × ℕ) → Option (Question × Bool)
-behind_authority msg q o = option_and_then (λ n. option_map (λ s. (q, s.0)) (sight_at msg 10 n.1)) o
+abbrev pub behind_authority : List ℕ → Question → Option (Option Serial × ℕ) → Option (Question × Option Serial × Bool)
+behind_authority msg q o = option_and_then (λ n. option_map (λ s. (q, n.0, s.0)) (sight_at msg 10 n.1)) o
 
-abbrev pub behind_answer : List ℕ → Question → Option (Bool × ℕ) → Option (Question × Bool)
-behind_answer msg q o = option_and_then (λ a. behind_authority msg q (sight_at msg 8 a.1)) o
+abbrev pub behind_answer : List ℕ → Question → Option (Bool × ℕ) → Option (Question × Option Serial × Bool)
+behind_answer msg q o = option_and_then (λ a. behind_authority msg q (held_at msg q a.1)) o
 
-abbrev pub behind_question : List ℕ → Option (Question × ℕ) → Option (Question × Bool)
+abbrev pub behind_question : List ℕ → Option (Question × ℕ) → Option (Question × Option Serial × Bool)
 behind_question msg o = option_and_then (λ q. behind_answer msg q.0 (sight_at msg 6 q.1)) o
 
 -- what stands behind questions, where they are read
@@ -109,11 +117,11 @@ behind_answers msg qs o = option_and_then (λ answer. behind_authorities msg qs 
 abbrev behind_questions : List ℕ → Option (List Question × ℕ) → Option Body
 behind_questions msg o = option_and_then (λ questions. behind_answers msg questions.0 (records_at (number_at msg 6) msg questions.1)) o
 
-authority_seen : (msg : List ℕ) (q : Question) (answer : List Entry) (o : Option (List Entry × ℕ)) → option_and_then seen (behind_authorities msg (q ∷ []) answer o) ≡ behind_authority msg q (option_map sight o)
+authority_seen : (msg : List ℕ) (q : Question) (answer : List Entry) (o : Option (List Entry × ℕ)) → option_and_then (seen msg) (behind_authorities msg (q ∷ []) answer o) ≡ behind_authority msg q (option_map (holding msg q) o)
 authority_seen msg q answer None = refl
-authority_seen msg q answer (Some r) = additional_seen q answer r.0 (records_at (number_at msg 10) msg r.1)
+authority_seen msg q answer (Some r) = additional_seen msg q answer r.0 (records_at (number_at msg 10) msg r.1)
 
-answer_seen : (msg : List ℕ) (q : Question) (o : Option (List Entry × ℕ)) → option_and_then seen (behind_answers msg (q ∷ []) o) ≡ behind_answer msg q (option_map sight o)
+answer_seen : (msg : List ℕ) (q : Question) (o : Option (List Entry × ℕ)) → option_and_then (seen msg) (behind_answers msg (q ∷ []) o) ≡ behind_answer msg q (option_map sight o)
 answer_seen msg q None = refl
 answer_seen msg q (Some r) = authority_seen msg q r.0 (records_at (number_at msg 8) msg r.1)
 
@@ -121,14 +129,14 @@ answer_seen msg q (Some r) = authority_seen msg q r.0 (records_at (number_at msg
 one_more : List ℕ → Option (Question × ℕ) → Option (List Question × ℕ)
 one_more msg o = option_and_then (λ q. option_map (λ rest. (q.0 ∷ rest.0, rest.1)) (questions_at 0 msg q.1)) o
 
-question_seen : (msg : List ℕ) (o : Option (Question × ℕ)) → option_and_then seen (behind_questions msg (one_more msg o)) ≡ behind_question msg o
+question_seen : (msg : List ℕ) (o : Option (Question × ℕ)) → option_and_then (seen msg) (behind_questions msg (one_more msg o)) ≡ behind_question msg o
 unfolding one_more questions_at
 question_seen msg None = refl
 question_seen msg (Some r) = answer_seen msg r.0 (records_at (number_at msg 6) msg r.1)
 
-seen_one : (msg : List ℕ) → number_at msg 4 ≡ 1 → option_and_then seen (body_in msg) ≡ behind_question msg (question_at msg 12)
+seen_one : (msg : List ℕ) → number_at msg 4 ≡ 1 → option_and_then (seen msg) (body_in msg) ≡ behind_question msg (question_at msg 12)
 unfolding body_in one_more questions_at
-seen_one msg one = ap (λ n. option_and_then seen (behind_questions msg (questions_at n msg 12))) one ∙ question_seen msg (question_at msg 12)
+seen_one msg one = ap (λ n. option_and_then (seen msg) (behind_questions msg (questions_at n msg 12))) one ∙ question_seen msg (question_at msg 12)
 
 -- as many questions are read as are counted
 counted_more : (count : ℕ) (msg : List ℕ) (q : Question) (at : ℕ) (o : Option (List Question × ℕ)) → questions_at count msg at ≡ o → (qs : List Question) (next : ℕ) → ((at : ℕ) (others : List Question) (end : ℕ) → questions_at count msg at ≡ Some (others, end) → length others ≡ count) → option_map {U = List Question × ℕ} (λ rest. (q ∷ rest.0, rest.1)) o ≡ Some (qs, next) → length qs ≡ suc count
@@ -154,40 +162,117 @@ only_none (q ∷ []) h = absurd (h refl)
 only_none (q ∷ r ∷ qs) h = refl
 
 -- of another number of questions nothing is seen
-additional_none : (qs : List Question) (answer authority : List Entry) (o : Option (List Entry × ℕ)) → only_question qs ≡ None → option_and_then seen (option_map (λ additional. record { questions = qs; answer = answer; authority = authority; additional = additional.0 }) o) ≡ None
-additional_none qs answer authority None e = refl
-additional_none qs answer authority (Some r) e = ap (option_map (λ question. (question, has_opt r.0))) e
+additional_none : (msg : List ℕ) (qs : List Question) (answer authority : List Entry) (o : Option (List Entry × ℕ)) → only_question qs ≡ None → option_and_then (seen msg) (option_map (λ additional. record { questions = qs; answer = answer; authority = authority; additional = additional.0 }) o) ≡ None
+additional_none msg qs answer authority None e = refl
+additional_none msg qs answer authority (Some r) e = ap (option_map (λ question. (question, serial_held msg question authority, has_opt r.0))) e
 
-authority_none : (msg : List ℕ) (qs : List Question) (answer : List Entry) (o : Option (List Entry × ℕ)) → only_question qs ≡ None → option_and_then seen (behind_authorities msg qs answer o) ≡ None
+authority_none : (msg : List ℕ) (qs : List Question) (answer : List Entry) (o : Option (List Entry × ℕ)) → only_question qs ≡ None → option_and_then (seen msg) (behind_authorities msg qs answer o) ≡ None
 authority_none msg qs answer None e = refl
-authority_none msg qs answer (Some r) e = additional_none qs answer r.0 (records_at (number_at msg 10) msg r.1) e
+authority_none msg qs answer (Some r) e = additional_none msg qs answer r.0 (records_at (number_at msg 10) msg r.1) e
 
-answer_none : (msg : List ℕ) (qs : List Question) (o : Option (List Entry × ℕ)) → only_question qs ≡ None → option_and_then seen (behind_answers msg qs o) ≡ None
+answer_none : (msg : List ℕ) (qs : List Question) (o : Option (List Entry × ℕ)) → only_question qs ≡ None → option_and_then (seen msg) (behind_answers msg qs o) ≡ None
 answer_none msg qs None e = refl
 answer_none msg qs (Some r) e = authority_none msg qs r.0 (records_at (number_at msg 8) msg r.1) e
 
-questions_none : (msg : List ℕ) (count : ℕ) (o : Option (List Question × ℕ)) → questions_at count msg 12 ≡ o → count ≢ 1 → option_and_then seen (behind_questions msg o) ≡ None
+questions_none : (msg : List ℕ) (count : ℕ) (o : Option (List Question × ℕ)) → questions_at count msg 12 ≡ o → count ≢ 1 → option_and_then (seen msg) (behind_questions msg o) ≡ None
 questions_none msg count None e h = refl
 questions_none msg count (Some r) e h = answer_none msg r.0 (records_at (number_at msg 6) msg r.1) (only_none r.0 (λ one. h (sym (counted count msg 12 r.0 r.1 e) ∙ one)))
 
-pub seen_none : (msg : List ℕ) (count : ℕ) → count ≡ number_at msg 4 → count ≢ 1 → option_and_then seen (body_in msg) ≡ None
+pub seen_none : (msg : List ℕ) (count : ℕ) → count ≡ number_at msg 4 → count ≢ 1 → option_and_then (seen msg) (body_in msg) ≡ None
 unfolding body_in
 seen_none msg count told ne = questions_none msg (number_at msg 4) (questions_at (number_at msg 4) msg 12) refl (λ e. ne (told ∙ e))
 
-pub seen_question : (msg : List ℕ) (count : ℕ) (o : Option (Question × ℕ)) → count ≡ number_at msg 4 → count ≡ 1 → o ≡ question_at msg 12 → option_and_then seen (body_in msg) ≡ behind_question msg o
+pub seen_question : (msg : List ℕ) (count : ℕ) (o : Option (Question × ℕ)) → count ≡ number_at msg 4 → count ≡ 1 → o ≡ question_at msg 12 → option_and_then (seen msg) (body_in msg) ≡ behind_question msg o
 seen_question msg count o told one e = seen_one msg (sym told ∙ one) ∙ ap (behind_question msg) (sym e)
 
 pub seen_section : (msg : List ℕ) (k count at : ℕ) (o : Option (Bool × ℕ)) → count ≡ number_at msg k → o ≡ option_map sight (records_at count msg at) → sight_at msg k at ≡ o
 seen_section msg k count at o told e = ap (λ n. option_map sight (records_at n msg at)) (sym told) ∙ sym e
 
-pub seen_answer : (msg : List ℕ) (one count : ℕ) (o : Option (Question × ℕ)) (q : Question) (at : ℕ) (r : Option (Bool × ℕ)) → one ≡ number_at msg 4 → one ≡ 1 → o ≡ question_at msg 12 → o ≡ Some (q, at) → count ≡ number_at msg 6 → r ≡ option_map sight (records_at count msg at) → option_and_then seen (body_in msg) ≡ behind_answer msg q r
+pub seen_answer : (msg : List ℕ) (one count : ℕ) (o : Option (Question × ℕ)) (q : Question) (at : ℕ) (r : Option (Bool × ℕ)) → one ≡ number_at msg 4 → one ≡ 1 → o ≡ question_at msg 12 → o ≡ Some (q, at) → count ≡ number_at msg 6 → r ≡ option_map sight (records_at count msg at) → option_and_then (seen msg) (body_in msg) ≡ behind_answer msg q r
 seen_answer msg one count o q at r told is e was counted f =
     seen_question msg one o told is e ∙ ap (behind_question msg) was ∙ ap (behind_answer msg q) (seen_section msg 6 count at r counted f)
 
-pub seen_authority : (msg : List ℕ) (count : ℕ) (q : Question) (before r : Option (Bool × ℕ)) (opt : Bool) (at : ℕ) → option_and_then seen (body_in msg) ≡ behind_answer msg q before → before ≡ Some (opt, at) → count ≡ number_at msg 8 → r ≡ option_map sight (records_at count msg at) → option_and_then seen (body_in msg) ≡ behind_authority msg q r
+pub seen_authority : (msg : List ℕ) (count : ℕ) (q : Question) (before : Option (Bool × ℕ)) (r : Option (Option Serial × ℕ)) (opt : Bool) (at : ℕ) → option_and_then (seen msg) (body_in msg) ≡ behind_answer msg q before → before ≡ Some (opt, at) → count ≡ number_at msg 8 → r ≡ option_map (holding msg q) (records_at count msg at) → option_and_then (seen msg) (body_in msg) ≡ behind_authority msg q r
 seen_authority msg count q before r opt at front was counted f =
-    front ∙ ap (behind_answer msg q) was ∙ ap (behind_authority msg q) (seen_section msg 8 count at r counted f)
+    front
+    ∙ ap (behind_answer msg q) was
+    ∙ ap (λ n. behind_authority msg q (option_map (holding msg q) (records_at n msg at))) (sym counted)
+    ∙ ap (behind_authority msg q) (sym f)
 
-pub seen_additional : (msg : List ℕ) (count : ℕ) (q : Question) (before r : Option (Bool × ℕ)) (opt : Bool) (at : ℕ) → option_and_then seen (body_in msg) ≡ behind_authority msg q before → before ≡ Some (opt, at) → count ≡ number_at msg 10 → r ≡ option_map sight (records_at count msg at) → option_and_then seen (body_in msg) ≡ option_map (λ s. (q, s.0)) r
-seen_additional msg count q before r opt at front was counted f =
-    front ∙ ap (behind_authority msg q) was ∙ ap (option_map (λ s. (q, s.0))) (seen_section msg 10 count at r counted f)
+pub seen_additional : (msg : List ℕ) (count : ℕ) (q : Question) (before : Option (Option Serial × ℕ)) (r : Option (Bool × ℕ)) (serial : Option Serial) (at : ℕ) → option_and_then (seen msg) (body_in msg) ≡ behind_authority msg q before → before ≡ Some (serial, at) → count ≡ number_at msg 10 → r ≡ option_map sight (records_at count msg at) → option_and_then (seen msg) (body_in msg) ≡ option_map (λ s. (q, serial, s.0)) r
+seen_additional msg count q before r serial at front was counted f =
+    front ∙ ap (behind_authority msg q) was ∙ ap (option_map (λ s. (q, serial, s.0))) (seen_section msg 10 count at r counted f)
+
+not_true : (b : Bool) → not b ≡ true → b ≡ false
+not_true true e = cc
+not_true false e = refl
+
+not_false : (b : Bool) → not b ≡ false → b ≡ true
+not_false true e = refl
+not_false false e = cc
+
+-- no serial, and that none is held whether it is asked for or not
+abbrev no_serial : Option Serial
+no_serial = None
+
+pub none_held : (asks : Bool) → (if asks then no_serial else no_serial) ≡ no_serial
+none_held true = refl
+none_held false = refl
+
+-- where no IXFR is asked for, no serial is held
+pub held_unasked : (msg : List ℕ) (q : Question) (o : Option (List Entry × ℕ)) (opt : Bool) (next : ℕ) → not (q.rtype.0 == type_IXFR) ≡ true → option_map sight o ≡ Some (opt, next) → option_map (holding msg q) o ≡ Some (None, next)
+held_unasked msg q None opt next asks e = cc
+held_unasked msg q (Some r) opt next asks e =
+    let unasked : (q.rtype.0 == type_IXFR) ≡ false = not_true (q.rtype.0 == type_IXFR) asks in
+    let both : (has_opt r.0, r.1) ≡ (opt, next) = cc in
+    ap (λ b. Some (if b then serial_in msg q.name r.0 else None, r.1)) unasked
+    ∙ ap (λ (p : Bool × ℕ). Some (no_serial, p.1)) both
+
+-- nor where there are other than one record
+ends_same : (msg : List ℕ) (q : Question) (o : Option (List Entry × ℕ)) (opt : Bool) (next : ℕ) → option_map sight o ≡ Some (opt, next) → option_map {U = Option Serial × ℕ} (λ r. (None, r.1)) o ≡ Some (None, next)
+ends_same msg q None opt next e = cc
+ends_same msg q (Some r) opt next e =
+    let both : (has_opt r.0, r.1) ≡ (opt, next) = cc in
+    ap (λ (p : Bool × ℕ). Some (no_serial, p.1)) both
+
+abbrev in_front : Entry → Option (List Entry × ℕ) → Option (List Entry × ℕ)
+in_front a o = option_map (λ rest. (a ∷ rest.0, rest.1)) o
+
+third_held : (msg : List ℕ) (q : Question) (a b : Entry) (o : Option (List Entry × ℕ)) → option_map (holding msg q) (in_front a (in_front b o)) ≡ option_map {U = Option Serial × ℕ} (λ r. (None, r.1)) (in_front a (in_front b o))
+third_held msg q a b None = refl
+third_held msg q a b (Some r) = ap (λ (s : Option Serial). Some (s, r.1)) (none_held (q.rtype.0 == type_IXFR))
+
+second_held : (msg : List ℕ) (q : Question) (count : ℕ) (a : Entry) (o : Option (Entry × ℕ)) → option_map (holding msg q) (in_front a (behind_one count msg o)) ≡ option_map {U = Option Serial × ℕ} (λ r. (None, r.1)) (in_front a (behind_one count msg o))
+second_held msg q count a None = refl
+second_held msg q count a (Some b) = third_held msg q a b.0 (records_at count msg b.1)
+
+first_held : (msg : List ℕ) (q : Question) (count : ℕ) (o : Option (Entry × ℕ)) → option_map (holding msg q) (behind_one (suc count) msg o) ≡ option_map {U = Option Serial × ℕ} (λ r. (None, r.1)) (behind_one (suc count) msg o)
+unfolding records_at
+first_held msg q count None = refl
+first_held msg q count (Some a) = second_held msg q count a.0 (record_at msg a.1)
+
+many_held : (msg : List ℕ) (q : Question) (count at : ℕ) → count ≢ 1 → option_map (holding msg q) (records_at count msg at) ≡ option_map {U = Option Serial × ℕ} (λ r. (None, r.1)) (records_at count msg at)
+unfolding records_at
+many_held msg q zero at h = ap (λ (s : Option Serial). Some (s, at)) (none_held (q.rtype.0 == type_IXFR))
+many_held msg q (suc zero) at h = absurd (h refl)
+many_held msg q (suc (suc count)) at h = first_held msg q count (record_at msg at)
+
+pub held_of_many : (msg : List ℕ) (q : Question) (count at : ℕ) (opt : Bool) (next : ℕ) → count ≢ 1 → option_map sight (records_at count msg at) ≡ Some (opt, next) → option_map (holding msg q) (records_at count msg at) ≡ Some (None, next)
+held_of_many msg q count at opt next h e = many_held msg q count at h ∙ ends_same msg q (records_at count msg at) opt next e
+
+-- of one record the serial is that of an SOA at the name
+one_held : (msg : List ℕ) (q : Question) (o : Option (Entry × ℕ)) (opt : Bool) (next : ℕ) (serial : Option Serial) → not (q.rtype.0 == type_IXFR) ≡ false → option_map sight (behind_one 0 msg o) ≡ Some (opt, next) → serial ≡ option_and_then (λ r. serial_in msg q.name (r.0 ∷ [])) o → option_map (holding msg q) (behind_one 0 msg o) ≡ Some (serial, next)
+unfolding records_at
+one_held msg q None opt next serial asks e is = cc
+one_held msg q (Some r) opt next serial asks e is =
+    let asked : (q.rtype.0 == type_IXFR) ≡ true = not_false (q.rtype.0 == type_IXFR) asks in
+    let both : (has_opt (r.0 ∷ []), r.1) ≡ (opt, next) = cc in
+    ap (λ b. Some (if b then serial_in msg q.name (r.0 ∷ []) else None, r.1)) asked
+    ∙ ap (λ (s : Option Serial). Some (s, r.1)) (sym is)
+    ∙ ap (λ (p : Bool × ℕ). Some (serial, p.1)) both
+
+pub held_of_one : (msg : List ℕ) (q : Question) (count at : ℕ) (opt : Bool) (next : ℕ) (serial : Option Serial) → not (q.rtype.0 == type_IXFR) ≡ false → count ≡ 1 → option_map sight (records_at count msg at) ≡ Some (opt, next) → serial ≡ option_and_then (λ r. serial_in msg q.name (r.0 ∷ [])) (record_at msg at) → option_map (holding msg q) (records_at count msg at) ≡ Some (serial, next)
+unfolding records_at
+held_of_one msg q count at opt next serial asks one e is =
+    ap (λ n. option_map (holding msg q) (records_at n msg at)) one
+    ∙ one_held msg q (record_at msg at) opt next serial asks (ap (λ n. option_map sight (records_at n msg at)) (sym one) ∙ e) is

@@ -1,5 +1,5 @@
 -- How the data and the records of an update are read, one after another.
-use Rattle.std.proofs.Common.{subst, eq-eqb, ⊎_elim, lit<, ◌≡◌, ℕ, zero, suc, ◌+◌, ◌-◌, ◌<◌, ◌≤◌, Bool, true, false, cond, ◌==◌, List, [], ◌∷◌, ◌++◌, append_assoc, Option, Some, None, Ok, Err, Result, refl, sym, ap, ◌∙◌, arith, option_map, option_and_then}
+use Rattle.std.proofs.Common.{subst, eq-eqb, ⊎_elim, lit<, ◌≡◌, ℕ, suc, ◌+◌, ◌-◌, ◌<◌, ◌≤◌, Bool, true, false, cond, ◌==◌, List, [], ◌∷◌, ◌++◌, append_assoc, Option, Some, None, Ok, Err, refl, sym, ap, ◌∙◌, arith, option_map, option_and_then}
 use Rattle.std.specs.List.{flat_map}
 use Rattle.std.proofs.lemmas.Bool.{cases_Bool}
 use Rattle.std.proofs.lemmas.Bool.Decides.{Decides-eqb}

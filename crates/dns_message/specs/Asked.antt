@@ -1,10 +1,9 @@
 -- The request that a reply answers (RFC 1035, 4.1).
-use Rattle.std.specs.Prelude.{◌≡◌, ℕ, ◌+◌, ◌*◌, ◌^◌, ◌<◌, false, List, [], ◌∷◌, ◌++◌, drop, Some}
+use Rattle.std.specs.Prelude.{◌≡◌, ℕ, ◌+◌, ◌*◌, ◌^◌, ◌<◌, List, [], ◌∷◌, ◌++◌, drop, Some}
 use Rattle.std.specs.Int.{to_be_bytes, w16}
 use Rattle.std.specs.List.{flat_map}
 use Rattle.dns_name.specs.Name.{wire_of, IsName}
 use Rattle.dns_message.specs.Message.{opcode_QUERY, Message}
-use Rattle.dns_message.specs.Reads.{asks_transfer}
 use Rattle.dns_message.specs.Octets.{bit, reply_octets}
 use Rattle.dns_message.specs.declared.query.Head.{Head}
 use Rattle.dns_message.specs.declared.query.Question.{Question}
@@ -24,11 +23,10 @@ pub record IsQuestion (question : Question) : Type 0 where
   pub rtype : question.rtype.0 < 2 ^ 16
   pub class : question.class.0 < 2 ^ 16
 
--- a reply repeats this question of a standard query that is looked up
+-- a reply repeats this question of a standard query
 pub record IsAnswerTo (m : Message) (question : Question) : Type 0 where
   pub asked : m.question ≡ Some question
   pub lawful : IsQuestion question
-  pub lookup : asks_transfer question ≡ false
   pub id : m.head.id < 2 ^ 16
   pub standard : m.head.opcode ≡ opcode_QUERY
 

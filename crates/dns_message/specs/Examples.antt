@@ -27,6 +27,21 @@ asked = record { name = www; rtype = record { 0 = 1 }; class = record { 0 = 1 } 
 abbrev pub asker : Head
 asker = record { id = 4660; opcode = 0; rd = true; four_bits = lit< tt }
 
+-- what is in front of the question of an IXFR: one question, and one record in the authority section
+abbrev pub changes_front : List ℕ
+changes_front = 18 ∷ 52 ∷ 1 ∷ 0 ∷ 0 ∷ 1 ∷ 0 ∷ 0 ∷ 0 ∷ 1 ∷ 0 ∷ 0 ∷ []
+
+-- the question test. IXFR, class IN, and the SOA of that name with the serial 258, by which the asker tells what it holds: its
+-- owner and the two names in its data are pointers to the question's name
+abbrev pub changes_octets : List ℕ
+changes_octets =
+    (4 ∷ 116 ∷ 101 ∷ 115 ∷ 116 ∷ 0 ∷ 0 ∷ 251 ∷ 0 ∷ 1 ∷ [])
+    ++ (192 ∷ 12 ∷ 0 ∷ 6 ∷ 0 ∷ 1 ∷ 0 ∷ 0 ∷ 0 ∷ 0 ∷ 0 ∷ 24 ∷ 192 ∷ 12 ∷ 192 ∷ 12 ∷ 0 ∷ 0 ∷ 1 ∷ 2 ∷ [])
+    ++ (0 ∷ 0 ∷ 0 ∷ 0 ∷ 0 ∷ 0 ∷ 0 ∷ 0 ∷ 0 ∷ 0 ∷ 0 ∷ 0 ∷ 0 ∷ 0 ∷ 0 ∷ 0 ∷ [])
+
+abbrev pub changes : Question
+changes = record { name = codes "test" ∷ []; rtype = record { 0 = 251 }; class = record { 0 = 1 } }
+
 abbrev pub web : Name
 web = codes "web" ∷ codes "example" ∷ codes "test" ∷ []
 

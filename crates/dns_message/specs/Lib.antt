@@ -1,4 +1,5 @@
 pub mod Again
+pub mod Answers
 pub mod Asked
 pub mod Encoded
 pub mod Encoding
@@ -7,6 +8,7 @@ pub mod Expanded
 pub mod Frame
 pub mod Message
 pub mod Reads
+pub mod Received
 pub mod Request
 pub mod Updates
 pub mod Octets

@@ -1,13 +1,15 @@
 -- How a request is read: its header, and what stands behind it (RFC 1035, 4.1).
-use Rattle.std.specs.Prelude.{ℕ, zero, suc, Bool, ◌+◌, ◌/◌, ◌%◌, ◌&&◌, ◌||◌, not, ◌==◌, List, [], ◌∷◌, length, take, drop, nat_le, Option, Some, None, option_map, option_and_then, Result, Ok, Err, slice_index, if◌then◌else◌}
+use Rattle.std.specs.Prelude.{ℕ, zero, suc, Bool, ◌+◌, ◌/◌, ◌%◌, ◌&&◌, not, ◌==◌, List, [], ◌∷◌, length, take, drop, nat_le, Option, Some, None, option_map, option_and_then, Result, Ok, Err, slice_index, if◌then◌else◌}
 use Rattle.std.specs.Int.{from_be_bytes, w32}
 use Rattle.std.specs.List.{list_any}
 use Rattle.std.proofs.Common.{lit<}
 use Rattle.std.proofs.Math.Nat.{mod-lt}
-use Rattle.dns_name.specs.Name.{Name}
-use Rattle.dns_rdata.specs.Numbers.{type_OPT, type_IXFR, type_AXFR}
+use Rattle.dns_name.specs.Name.{Name, is_same}
+use Rattle.dns_rdata.specs.declared.numbers.Serial.{Serial}
+use Rattle.dns_rdata.specs.Numbers.{class_IN, type_SOA, type_OPT, type_IXFR}
 use Rattle.wire_names.specs.NameAt.{name_at}
 use Rattle.wire_names.specs.declared.part.NameReadFault.{NameReadFault}
+use Rattle.dns_message.specs.Expanded.{names_at}
 use Rattle.dns_message.specs.Message.{Entry, Body, opcode_UPDATE, number_at}
 use Rattle.dns_message.specs.declared.query.Head.{Head}
 use Rattle.dns_message.specs.declared.query.Question.{Question}
@@ -92,9 +94,27 @@ body_in msg =
 abbrev pub has_opt : List Entry → Bool
 has_opt records = list_any (λ r. r.rtype == type_OPT) records
 
--- whether a question asks for a transfer: IXFR or AXFR (RFC 1995, 4; RFC 5936, 2)
-abbrev pub asks_transfer : Question → Bool
-asks_transfer q = q.rtype.0 == type_IXFR || q.rtype.0 == type_AXFR
+-- the serial in the data of an SOA as it stands in a message: behind two names, through pointers, are five numbers of 32
+-- bits, of which it is the first; none where a name has a fault or the data don't end behind these (RFC 1035, 3.3.13)
+abbrev pub serial_at : List ℕ → Entry → Option Serial
+serial_at msg entry =
+    option_and_then
+    (λ names. if names.1 + 20 == entry.at + entry.size then Some (record { 0 = long_number_at msg names.1 }) else None)
+    (names_at 2 msg entry.at)
+
+-- whether a record is an SOA of class IN at a name (RFC 1995, 3)
+abbrev pub is_soa_at : Name → Entry → Bool
+is_soa_at name entry = entry.rtype == type_SOA && entry.class == class_IN && is_same entry.owner name
+
+-- the serial of the one SOA at a name, of class IN, that an authority section is; none of any other section (RFC 1995, 3)
+abbrev pub serial_in : List ℕ → Name → List Entry → Option Serial
+serial_in msg name [] = None
+serial_in msg name (entry ∷ []) = if is_soa_at name entry then serial_at msg entry else None
+serial_in msg name (entry ∷ other ∷ more) = None
+
+-- the serial of the zone that one who asks for an IXFR holds; of any other question none is looked for (RFC 1995, 3)
+abbrev pub serial_held : List ℕ → Question → List Entry → Option Serial
+serial_held msg question authority = if question.rtype.0 == type_IXFR then serial_in msg question.name authority else None
 
 -- the question of a list that has one question and no other (own)
 abbrev pub only_question : List Question → Option Question
@@ -102,7 +122,8 @@ only_question [] = None
 only_question (question ∷ []) = Some question
 only_question (question ∷ other ∷ more) = None
 
--- what is seen of what stands behind a header: its one question, and whether there is an OPT in its additional section;
--- none of another number of questions
-abbrev pub seen : Body → Option (Question × Bool)
-seen body = option_map (λ question. (question, has_opt body.additional)) (only_question body.questions)
+-- what is seen of what stands behind a header: its one question, the serial of the zone that one who asks for an IXFR
+-- holds, and whether there is an OPT in its additional section; none of another number of questions
+abbrev pub seen : List ℕ → Body → Option (Question × Option Serial × Bool)
+seen msg body =
+    option_map (λ question. (question, serial_held msg question body.authority, has_opt body.additional)) (only_question body.questions)

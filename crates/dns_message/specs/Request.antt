@@ -1,8 +1,9 @@
 -- What a request says (RFC 1035, 4.1 and 4.2; RFC 2136, 2; the order of the refusals is our own choice).
 use Rattle.std.specs.Prelude.{◌≡◌, ℕ, ◌≤◌, ◌⊎◌, Bool, false, ◌||◌, ◌==◌, List, length, nat_lt, Option, Some, None, option_and_then, if◌then◌else◌}
 use Rattle.dns_rdata.specs.declared.numbers.Rcode.TheVariants.{FormErr, NotImp}
+use Rattle.dns_rdata.specs.declared.numbers.Serial.{Serial}
 use Rattle.dns_message.specs.Message.{opcode_QUERY, opcode_UPDATE}
-use Rattle.dns_message.specs.Reads.{opcode_of, header_of, is_reply, body_in, asks_transfer, seen}
+use Rattle.dns_message.specs.Reads.{opcode_of, header_of, is_reply, body_in, seen}
 use Rattle.dns_message.specs.Updates.{update_in}
 use Rattle.dns_message.specs.declared.query.Head.{Head}
 use Rattle.dns_message.specs.declared.query.Question.{Question}
@@ -11,13 +12,10 @@ use Rattle.dns_message.specs.declared.query.Parsed.TheVariants.{Silent, Fault, Q
 use Rattle.dns_message.specs.declared.update.Update.{Update as DynamicUpdate}
 
 -- what a header and what is seen behind it say: FORMERR where that can't be read, hasn't one question, or has an OPT in its
--- additional section, as of a server without EDNS (RFC 6891, 7); NOTIMP of a transfer; else a query (RFC 1035, 4.1; own)
-abbrev pub query_of : Head → Option (Question × Bool) → Parsed
+-- additional section, as of a server without EDNS (RFC 6891, 7); else a query (RFC 1035, 4.1; own)
+abbrev pub query_of : Head → Option (Question × Option Serial × Bool) → Parsed
 query_of head None = Fault head FormErr
-query_of head (Some r) =
-    if r.1 then Fault head FormErr
-    else if asks_transfer r.0 then Fault head NotImp
-    else Query (record { head = head; question = r.0 })
+query_of head (Some r) = if r.2 then Fault head FormErr else Query (record { head = head; question = r.0; serial = r.1 })
 
 -- what the header of an update and what is read behind it say: FORMERR where no update can be read (RFC 2136, 2; own)
 abbrev pub update_of : Head → Option DynamicUpdate → Parsed
@@ -29,7 +27,7 @@ update_of head (Some update) = Update update
 abbrev pub reads : List ℕ → Parsed
 reads msg =
     if nat_lt (length msg) 12 || is_reply msg then Silent
-    else if opcode_of msg == opcode_QUERY then query_of (header_of msg) (option_and_then seen (body_in msg))
+    else if opcode_of msg == opcode_QUERY then query_of (header_of msg) (option_and_then (seen msg) (body_in msg))
     else if opcode_of msg == opcode_UPDATE then update_of (header_of msg) (update_in (header_of msg) msg)
     else Fault (header_of msg) NotImp
 

@@ -78,7 +78,7 @@ pub(crate) fn number_at(bytes: &[u8], at: usize) -> Option<u16>
 }
 
 /// The number of 32 bits at a position; None where the octets end before its end (RFC 1035, 2.3.2).
-fn long_number_at(bytes: &[u8], at: usize) -> Option<u32>
+pub(crate) fn long_number_at(bytes: &[u8], at: usize) -> Option<u32>
     ensures { result ≡ (if nat_le (at + 4) (length bytes.now) then Some (long_number_at bytes.now at) else None) }
 {
     let four = bytes.get(at..)?.first_chunk::<4>()?;

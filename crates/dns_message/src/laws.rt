@@ -1,13 +1,15 @@
 //! Laws of how requests are read and replies are written.
-ghost use Rattle.std.specs.Prelude.{◌≡◌, ◌↔◌, ◌⊎◌, ℕ, ◌+◌, ◌^◌, ◌<◌, ◌≤◌, List, ◌++◌, length, slice_index, Some};
+ghost use Rattle.std.specs.Prelude.{◌≡◌, ◌≢◌, ◌↔◌, ◌⊎◌, ℕ, ◌+◌, ◌^◌, ◌<◌, ◌≤◌, List, [], ◌∷◌, ◌++◌, length, slice_index, true, Option, Some, None};
+ghost use Rattle.dns_name.specs.Name.{IsName};
 ghost use Rattle.dns_rdata.specs.Record.{Record};
 ghost use Rattle.wire_names.specs.Table.{Table};
 ghost use Rattle.dns_message.specs.Again.{IsRecord, IsReply, IsReadAgain, behind, octets_at, data_at, entry_at, body_written};
 ghost use Rattle.dns_message.specs.Encoded.{IsTrueOf};
 ghost use Rattle.dns_message.specs.Expanded.{expanded_data};
+ghost use Rattle.dns_message.specs.Answers.{answers, filled, StopsTaking};
 ghost use Rattle.dns_message.specs.Asked.{request_of, question_in_full, IsQuestion, IsAnswerTo};
 ghost use Rattle.dns_message.specs.Message.{Message};
-ghost use Rattle.dns_message.specs.Octets.{record_octets, reply_octets};
+ghost use Rattle.dns_message.specs.Octets.{record_octets, reply_octets, fits};
 ghost use Rattle.dns_message.specs.declared.query.Question.{Question};
 ghost use Rattle.dns_message.specs.Frame.{frame_of, frame_in};
 ghost use Rattle.dns_message.specs.Reads.{question_at, record_at, body_in};
@@ -43,10 +45,10 @@ pub fn question_in_full_is_read()
 {}
 
 /// The question that a reply repeats is read, behind a request's header, as the question that it is, whatever records
-/// follow it (RFC 1035, 4.1).
+/// follow it; that of an IXFR has no serial then (RFC 1035, 4.1; RFC 1995, 3).
 pub fn question_is_read_again()
     ensures { (m : Message) (question : Question) → IsAnswerTo m question
-        → reads (request_of m) ≡ Parsed.Query (record { head = m.head; question = question }) }
+        → reads (request_of m) ≡ Parsed.Query (record { head = m.head; question = question; serial = None }) }
 {}
 
 /// A record that is written behind a message is read as itself, its data as they were written, whatever follows it; and
@@ -75,4 +77,18 @@ pub fn sections_are_read_again()
 /// An update has the header that it was read with, so its reply has what that header says (RFC 2136, 2.2 and 3.8).
 pub fn update_keeps_its_header()
     ensures { (head : Head) (msg : List ℕ) (update : Update) → update_in head msg ≡ Some update → update.head ≡ head }
+{}
+
+/// A record whose owner is a name and whose data has at most 4,096 octets fits into a message of answers of 16,384 octets by
+/// itself (RFC 1035, 2.3.4 and 4.1.3; own).
+pub fn one_record_fits()
+    ensures { (head : Head) (r : Record) → IsName r.owner → length r.rdata ≤ 4096 → fits (answers head None (r ∷ [])) 16384 ≡ true }
+{}
+
+/// Of the records of a list a message takes those from the front that fit together with it, in order, and the others are left
+/// (RFC 5936, 2.2).
+pub fn records_are_taken_from_the_front()
+    ensures all { (head : Head) (question : Option Question) (limit : ℕ) (list : List Record) → (filled head question limit [] list).0 ++ (filled head question limit [] list).1 ≡ list }
+    ensures fit { (head : Head) (question : Option Question) (limit : ℕ) (list : List Record) → (filled head question limit [] list).0 ≢ [] → fits (answers head question (filled head question limit [] list).0) limit ≡ true }
+    ensures greedy { (head : Head) (question : Option Question) (limit : ℕ) (list : List Record) → StopsTaking head question limit (filled head question limit [] list).0 (filled head question limit [] list).1 }
 {}

@@ -5,6 +5,7 @@
 //! No call takes memory but that which reads an update.
 #![tactic(auto)]
 
+mod answers;
 mod count;
 mod data;
 mod entry;
@@ -13,6 +14,7 @@ mod laws;
 mod octets;
 mod query;
 mod read;
+mod received;
 mod records;
 mod reply;
 mod sent;
@@ -20,14 +22,17 @@ mod update;
 mod worked;
 mod write;
 
+pub use answers::{RecordList, SentRecord, write_answers};
 pub use frame::{put_frame, take_frame};
 pub use laws::{
-    data_is_read_again, frame_is_taken_again, limits_of_replies, question_in_full_is_read,
-    question_is_read_again, record_is_read_again, sections_are_read_again,
-    silent_is_short_or_reply, update_keeps_its_header,
+    data_is_read_again, frame_is_taken_again, limits_of_replies, one_record_fits,
+    question_in_full_is_read, question_is_read_again, record_is_read_again,
+    records_are_taken_from_the_front, sections_are_read_again, silent_is_short_or_reply,
+    update_keeps_its_header,
 };
 pub use query::{Head, Parsed, Query, Question};
 pub use read::{HEADER, parse};
+pub use received::received_records;
 pub use reply::Reply;
 pub use update::{RawRecords, Update, ZoneEntry};
 pub use worked::{examples, read_examples, update_examples};

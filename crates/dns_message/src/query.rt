@@ -3,7 +3,7 @@ ghost use Rattle.std.specs.Prelude.{◌<◌};
 
 use crate::update::Update;
 use dns_name::Name;
-use dns_rdata::{Class, RType, Rcode};
+use dns_rdata::{Class, RType, Rcode, Serial};
 
 /// What a reply copies from a request's header (RFC 1035, 4.1.1).
 #[derive(Clone, Copy, Debug, PartialEq, Eq)]
@@ -35,12 +35,15 @@ pub struct Query {
     pub head: Head,
     /// What it asks.
     pub question: Question,
+    /// Of an IXFR, the serial of the zone that the one who asks holds; None where the authority section isn't one SOA of
+    /// class IN at the name asked, whose data has its form, and of any other type (RFC 1995, 3).
+    pub serial: Option<Serial>,
 }
 
 /// What the octets of a datagram or of a frame say (RFC 1035, 4.1 and 4.2).
 #[derive(Drop)]
 pub enum Parsed {
-    /// A query, which is looked up.
+    /// A query.
     Query(Query),
     /// A dynamic update (RFC 2136, 2).
     Update(Update),

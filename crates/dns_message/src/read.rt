@@ -1,14 +1,15 @@
 //! How a request is read (RFC 1035, 4.1 and 4.2).
-ghost use Rattle.std.specs.Prelude.{◌≡◌, ◌⊎◌, ◌+◌, ◌≤◌, length, option_map, option_and_then};
+ghost use Rattle.std.specs.Prelude.{◌≡◌, ◌⊎◌, ◌+◌, ◌≤◌, ◌∷◌, [], length, option_map, option_and_then};
 ghost use Rattle.dns_message.specs.Message.{number_at};
-ghost use Rattle.dns_message.specs.Reads.{header_of, is_reply, question_at, record_at, records_at, body_in, has_opt, seen, asks_transfer};
+ghost use Rattle.dns_message.specs.Reads.{header_of, is_reply, question_at, record_at, records_at, body_in, has_opt, seen, serial_held, serial_in, serial_at};
 ghost use Rattle.dns_message.specs.Request.{query_of, update_of, Tells};
 ghost use Rattle.dns_message.specs.Updates.{update_in};
 
-use crate::entry::{entry_at, number_at};
+use crate::entry::{Entry, entry_at, long_number_at, number_at};
 use crate::query::{Head, Parsed, Query, Question};
 use crate::update::read_update;
-use dns_rdata::{Class, RType, Rcode};
+use dns_name::Name;
+use dns_rdata::{Class, RType, Rcode, Serial};
 use std::alloc::Global;
 use wire_names::read_name;
 
@@ -16,16 +17,16 @@ use wire_names::read_name;
 pub const HEADER: usize = 12;
 
 /// Where a header counts its questions (RFC 1035, 4.1.1).
-const QDCOUNT: usize = 4;
+pub(crate) const QDCOUNT: usize = 4;
 
 /// Where a header counts the records of the answer section (RFC 1035, 4.1.1).
-const ANCOUNT: usize = 6;
+pub(crate) const ANCOUNT: usize = 6;
 
 /// Where a header counts the records of the authority section (RFC 1035, 4.1.1).
-const NSCOUNT: usize = 8;
+pub(crate) const NSCOUNT: usize = 8;
 
 /// Where a header counts the records of the additional section (RFC 1035, 4.1.1).
-const ARCOUNT: usize = 10;
+pub(crate) const ARCOUNT: usize = 10;
 
 /// Where an update counts the entries of its zone section (RFC 2136, 2.2).
 pub(crate) const ZOCOUNT: usize = QDCOUNT;
@@ -48,6 +49,9 @@ pub(crate) const OPCODE: u8 = 8;
 /// How many OPCODEs four bits tell (RFC 1035, 4.1.1).
 const OPCODES: u8 = 16;
 
+/// The octets of the five numbers that end an SOA's data (RFC 1035, 3.3.13).
+const SOA_NUMBERS: usize = 20;
+
 /// The OPCODE of a standard query (RFC 1035, 4.1.1).
 const QUERY: u8 = 0;
 
@@ -58,10 +62,10 @@ const UPDATE: u8 = 5;
 /// that gets a code alone (RFC 1035, 4.1; RFC 2136, 2).
 ///
 /// The code is NOTIMP of an OPCODE other than QUERY and UPDATE; FORMERR of other than one question, where the question or a
-/// record can't be read, and of an OPT in the additional section (RFC 6891, 7); and NOTIMP of a transfer; the first of these
-/// that holds is told (own). Of an update it is FORMERR as well of a zone section of another type than SOA, and where the data
+/// record can't be read, and of an OPT in the additional section (RFC 6891, 7); the first of these that holds is told
+/// (own). Of an update it is FORMERR as well of a zone section of another type than SOA, and where the data
 /// of a prerequisite or of an update haven't their type's form (RFC 2136, 2.3 to 2.5; own). Names are read through pointers,
-/// the data of a query's records isn't looked at, and octets behind the last record are ignored.
+/// of a query's records only an IXFR's SOA has its data looked at, and octets behind the last record are ignored.
 ///
 /// Only an update takes memory: `NoMemory` is told only of one, where a growth was refused.
 pub fn parse(alloc: Global, bytes: &[u8]) -> Parsed
@@ -83,13 +87,16 @@ pub fn parse(alloc: Global, bytes: &[u8]) -> Parsed
 /// What a header of a query and what stands behind it say (RFC 1035, 4.1; RFC 6891, 7; own).
 fn parse_query(bytes: &[u8], head: Head) -> Parsed
     requires { HEADER ≤ length bytes.now }
-    ensures { result ≡ query_of head (option_and_then seen (body_in bytes.now)) }
+    ensures { result ≡ query_of head (option_and_then (seen bytes.now) (body_in bytes.now)) }
 {
     match one_question(bytes) {
         None => Parsed::Fault(head, Rcode::FormErr),
-        Some((_, true)) => Parsed::Fault(head, Rcode::FormErr),
-        Some((question, false)) if asks_transfer(&question) => Parsed::Fault(head, Rcode::NotImp),
-        Some((question, false)) => Parsed::Query(Query { head, question }),
+        Some((_, _, true)) => Parsed::Fault(head, Rcode::FormErr),
+        Some((question, serial, false)) => Parsed::Query(Query {
+            head,
+            question,
+            serial,
+        }),
     }
 }
 
@@ -106,7 +113,7 @@ fn parse_update(alloc: Global, bytes: &[u8], head: Head) -> Parsed
 }
 
 /// Whether a header is of a reply (RFC 1035, 4.1.1).
-fn is_reply(bytes: &[u8]) -> bool
+pub(crate) fn is_reply(bytes: &[u8]) -> bool
     requires { HEADER ≤ length bytes.now }
     ensures { result ≡ is_reply bytes.now }
 {
@@ -135,20 +142,72 @@ pub(crate) fn count_at(bytes: &[u8], at: usize) -> u16
     u16::from_be_bytes([bytes[at], bytes[at + 1]])
 }
 
-/// The question behind a header, and whether there is an OPT among the additional records; None of another QDCOUNT than
-/// one, and where the question or a record can't be read (RFC 1035, 4.1; RFC 6891, 6.1.1; own).
-fn one_question(bytes: &[u8]) -> Option<(Question, bool)>
+/// The question behind a header, the serial of the zone that one who asks for an IXFR holds, and whether there is an OPT
+/// among the additional records; None of another QDCOUNT than one, and where the question or a record can't be read
+/// (RFC 1035, 4.1; RFC 1995, 3; RFC 6891, 6.1.1; own).
+fn one_question(bytes: &[u8]) -> Option<(Question, Option<Serial>, bool)>
     requires { HEADER ≤ length bytes.now }
-    ensures { result ≡ option_and_then seen (body_in bytes.now) }
+    ensures { result ≡ option_and_then (seen bytes.now) (body_in bytes.now) }
 {
     if count_at(bytes, QDCOUNT) != 1 {
         return None;
     }
     let (question, at) = question_at(bytes, HEADER)?;
     let (_, at) = records_at(bytes, at, count_at(bytes, ANCOUNT))?;
-    let (_, at) = records_at(bytes, at, count_at(bytes, NSCOUNT))?;
+    let (serial, at) = authority_at(bytes, &question, at, count_at(bytes, NSCOUNT))?;
     let (opt, _) = records_at(bytes, at, count_at(bytes, ARCOUNT))?;
-    Some((question, opt))
+    Some((question, serial, opt))
+}
+
+/// The serial of the zone that one who asks for an IXFR holds, by the so many records of the authority section at a
+/// position, and the position behind the last; None where one of them can't be read (RFC 1995, 3).
+fn authority_at(
+    bytes: &[u8],
+    question: &Question,
+    at: usize,
+    count: u16,
+) -> Option<(Option<Serial>, usize)>
+    ensures { result ≡ option_map (λ r. (serial_held bytes.now question.now r.0, r.1)) (records_at count bytes.now at) }
+{
+    let (_, next) = records_at(bytes, at, count)?;
+    if question.rtype != RType::IXFR {
+        return Some((None, next));
+    }
+    if count != 1 {
+        return Some((None, next));
+    }
+    Some((serial_of_first(bytes, &question.name, at), next))
+}
+
+/// The serial of the record at a position, where it is an SOA at a name; None of any other, and where its data haven't
+/// the form of an SOA's (RFC 1995, 3).
+fn serial_of_first(bytes: &[u8], name: &Name, at: usize) -> Option<Serial>
+    ensures { result ≡ option_and_then (λ r. serial_in bytes.now name.now (r.0 ∷ [])) (record_at bytes.now at) }
+{
+    let (entry, _) = entry_at(bytes, at)?;
+    if entry.rtype != RType::SOA || entry.class != Class::IN || entry.owner != *name {
+        return None;
+    }
+    serial_at(bytes, &entry)
+}
+
+/// The serial in the data of an SOA; None where these haven't its form (RFC 1035, 3.3.13).
+#[tactic(auto, unfolding(crate::specs::Expanded::names_at))]
+fn serial_at(bytes: &[u8], entry: &Entry) -> Option<Serial>
+    requires { entry.now.at + entry.now.size ≤ length bytes.now }
+    ensures { result ≡ serial_at bytes.now entry.now }
+{
+    let Ok((_, at)) = read_name(bytes, entry.at) else {
+        return None;
+    };
+    let Ok((_, at)) = read_name(bytes, at) else {
+        return None;
+    };
+    let end = entry.at + entry.size;
+    if at > end || end - at != SOA_NUMBERS {
+        return None;
+    }
+    Some(Serial(long_number_at(bytes, at)?))
 }
 
 /// The question at a position, and the position behind it; None where it can't be read (RFC 1035, 4.1.2).
@@ -186,11 +245,4 @@ fn record_at(bytes: &[u8], at: usize) -> Option<(RType, usize)>
 {
     let (entry, next) = entry_at(bytes, at)?;
     Some((entry.rtype, next))
-}
-
-/// Whether a question is for a transfer (RFC 1995, 4; RFC 5936, 2).
-fn asks_transfer(question: &Question) -> bool
-    ensures { result ≡ asks_transfer question.now }
-{
-    question.rtype == RType::IXFR || question.rtype == RType::AXFR
 }

@@ -122,7 +122,7 @@ fn put_set(
 }
 
 /// Writes a record of class IN at a position, as [`put_name`] does (RFC 1035, 4.1.3).
-fn put_record(
+pub(crate) fn put_record(
     out: &mut [u8],
     at: usize,
     names: &mut NameWriter,

@@ -97,7 +97,11 @@ fn is_looked_at(section: Section, entry: &Entry) -> bool
 
 /// A record's data with the names in it in full; None where a name has a fault, or the octets behind the names don't end with
 /// the data (RFC 1035, 4.1.4).
-fn expanded(alloc: Global, bytes: &[u8], entry: &Entry) -> Result<Option<Vec<u8>>, AllocError>
+pub(crate) fn expanded(
+    alloc: Global,
+    bytes: &[u8],
+    entry: &Entry,
+) -> Result<Option<Vec<u8>>, AllocError>
     requires { entry.now.at + entry.now.size ≤ length bytes.now }
     ensures { IfOk result (λ found. option_map (λ own. own.items) found ≡ expanded_data bytes.now entry.now) }
 {

@@ -2,6 +2,8 @@
 use crate::frame::{put_frame, take_frame};
 use crate::query::Parsed;
 use crate::read::parse;
+use crate::received::received_records;
+use crate::update::{RawRecords, Update};
 use dns_rdata::{Class, RType, Rcode};
 use std::alloc::{AllocError, Global};
 use std::test::Fail;
@@ -136,8 +138,8 @@ fn one_octet_changed(rt: HostRuntime) {
         (12, 0xc0, "formerr"),
         (31, 41, "query"),
         (31, 250, "query"),
-        (31, 251, "notimp"),
-        (31, 252, "notimp"),
+        (31, 251, "query"),
+        (31, 252, "query"),
         (31, 255, "query"),
         (33, 3, "query"),
     ];
@@ -420,7 +422,77 @@ fn an_opt_before_a_transfer(rt: HostRuntime) -> Result<(), Fail> {
     let bytes = request(rt.alloc(), [1, 0, 0, 1], [transfer, OPT, b""])?;
     assert_eq!(rt; said(rt.alloc(), &bytes), "formerr");
     let bytes = request(rt.alloc(), [1, 1, 0, 0], [transfer, ADDRESS, b""])?;
-    assert_eq!(rt; said(rt.alloc(), &bytes), "notimp");
+    assert_eq!(rt; said(rt.alloc(), &bytes), "query");
+    Ok(())
+}
+
+/// The question `z. IN IXFR`.
+const CHANGES: &[u8; 7] = b"\x01z\x00\x00\xfb\x00\x01";
+
+/// The record `Z. 0 IN SOA . . 258 0 0 0 0`.
+const SOA: &[u8; 35] = b"\x01Z\x00\x00\x06\x00\x01\x00\x00\x00\x00\x00\x16\
+    \x00\x00\x00\x00\x01\x02\x00\x00\x00\x00\x00\x00\x00\x00\x00\x00\x00\x00\x00\x00\x00\x00";
+
+/// The serial that a query with a question and so many records in its authority section tells; None where it tells none.
+fn serial(
+    alloc: Global,
+    question: &[u8],
+    authorities: u8,
+    records: [&[u8]; 2],
+) -> Result<Option<u32>, AllocError> {
+    let [first, second] = records;
+    let bytes = request(alloc, [1, 0, authorities, 0], [question, first, second])?;
+    match parse(alloc, &bytes) {
+        Parsed::Query(query) => Ok(query.serial.map(|serial| serial.0)),
+        _ => Ok(Some(0)),
+    }
+}
+
+/// An SOA with one octet of it another.
+fn turned(at: usize, octet: u8) -> [u8; 35] {
+    let mut record = *SOA;
+    if at < 35 {
+        record[at] = octet;
+    }
+    record
+}
+
+// The serial of one SOA of class IN at the name asked, in any case; of no other type, class, name or form, of no more
+// records than one, and of no other question (RFC 1995, 3).
+#[test]
+fn serials_of_askers(rt: HostRuntime) -> Result<(), Fail> {
+    let alloc = rt.alloc();
+    assert_eq!(rt; serial(alloc, CHANGES, 1, [SOA, b""])?, Some(258));
+    assert_eq!(rt; serial(alloc, CHANGES, 0, [b"", b""])?, None);
+    assert_eq!(rt; serial(alloc, CHANGES, 2, [SOA, SOA])?, None);
+    assert_eq!(rt; serial(alloc, CHANGES, 1, [ADDRESS, b""])?, None);
+    assert_eq!(rt;
+        serial(alloc, b"\x01z\x00\x00\xfc\x00\x01", 1, [SOA, b""])?,
+        None
+    );
+    for (at, octet) in [(1, b'y'), (4, 2), (6, 3), (13, 1), (14, 1)] {
+        let record = turned(at, octet);
+        assert_eq!(rt;
+            serial(alloc, CHANGES, 1, [&record, b""])?,
+            None,
+            "octet {at}"
+        );
+    }
+    Ok(())
+}
+
+// The names in the SOA's data have pointers: the record ends with them and five numbers, and with nothing behind these.
+#[test]
+fn serial_behind_pointers(rt: HostRuntime) -> Result<(), Fail> {
+    let front = b"\xc0\x0c\x00\x06\x00\x01\x00\x00\x00\x00\x00\x18\xc0\x0c\xc0\x0c";
+    let soa: &[u8] = SOA;
+    let numbers = &soa[15..];
+    assert_eq!(rt;
+        serial(rt.alloc(), CHANGES, 1, [front, numbers])?,
+        Some(258)
+    );
+    let more = b"\xc0\x0c\x00\x06\x00\x01\x00\x00\x00\x00\x00\x19\xc0\x0c\xc0\x0c\x00";
+    assert_eq!(rt; serial(rt.alloc(), CHANGES, 1, [more, numbers])?, None);
     Ok(())
 }
 
@@ -526,4 +598,101 @@ fn frames_of_65535_octets(rt: HostRuntime) {
     assert_eq!(rt; put_frame(&message[1..], &mut out), Some(65_537));
     assert_eq!(rt; (out[0], out[1]), (0xff, 0xff));
     assert_eq!(rt; (out[65_536], out[65_537]), (7, 0));
+}
+
+/// An update of the zone `example.test.` (RFC 2136, 2): the address 192.0.2.10 of `www` is to be there, a mail exchange `mx` is
+/// added to it, and the apex's texts are to go.
+const UPDATE: &[u8; 81] =
+    b"\x12\x34\x28\x00\x00\x01\x00\x01\x00\x02\x00\x00\x07example\x04test\x00\x00\x06\x00\x01\
+      \x03www\xc0\x0c\x00\x01\x00\x01\x00\x00\x00\x00\x00\x04\xc0\x00\x02\x0a\
+      \xc0\x1e\x00\x0f\x00\x01\x00\x00\x0e\x10\x00\x07\x00\x0a\x02mx\xc0\x0c\
+      \xc0\x0c\x00\x10\x00\xff\x00\x00\x00\x00\x00\x00";
+
+/// The update that octets are read as, read once more where memory is refused.
+fn update_anew(alloc: Global, bytes: &[u8]) -> Option<Update> {
+    let parsed = match parse(alloc, bytes) {
+        Parsed::NoMemory(head) if head.id == 0x1234 => parse(alloc, bytes),
+        parsed => parsed,
+    };
+    match parsed {
+        Parsed::Update(update) => Some(update),
+        _ => None,
+    }
+}
+
+/// Whether a record of these has this owner and these data, with its type, class and TTL.
+fn has(
+    records: &RawRecords,
+    at: usize,
+    owner: &[u8],
+    fields: (u16, u16, u32),
+    octets: &[u8],
+) -> bool {
+    let Some(record) = records.as_slice().get(at) else {
+        return false;
+    };
+    let told = (record.rtype.0, record.class.0, record.ttl);
+    record.owner.wire() == owner && told == fields && record.octets.as_slice() == octets
+}
+
+// With any one growth refused, an update is told as that alone, and is read in whole from the same octets once more.
+#[test]
+fn refused_growth(rt: HostRuntime) -> Result<(), Fail> {
+    let update = update_anew(rt.alloc(), UPDATE).ok_or("no update")?;
+    let apex: &[u8] = b"\x07example\x04test\x00";
+    let www: &[u8] = b"\x03www\x07example\x04test\x00";
+    assert_eq!(rt; update.zone.name.wire(), apex);
+    assert_eq!(rt; update.prerequisites.as_slice().len(), 1);
+    assert_eq!(rt; update.updates.as_slice().len(), 2);
+    assert!(rt;
+        has(
+            &update.prerequisites,
+            0,
+            www,
+            (1, 1, 0),
+            b"\xc0\x00\x02\x0a"
+        )
+    );
+    let exchange = b"\x00\x0a\x02mx\x07example\x04test\x00";
+    assert!(rt; has(&update.updates, 0, www, (15, 1, 3600), exchange));
+    assert!(rt; has(&update.updates, 1, apex, (16, 255, 0), b""));
+    Ok(())
+}
+
+/// What stands behind the first four octets of a message of a transfer (RFC 5936, 2.2): counts of one question and one answer, the
+/// question `Example.test. IN AXFR`, and a mail exchange `mx` below it.
+const TRANSFER: &[u8; 45] =
+    b"\x00\x01\x00\x01\x00\x00\x00\x00\x07Example\x04test\x00\x00\xfc\x00\x01\
+      \xc0\x0c\x00\x0f\x00\x01\x00\x00\x0e\x10\x00\x07\x00\x0a\x02mx\xc0\x0c";
+
+/// The records of such a message, with these flags (RFC 1035, 4.1.1), of which so many octets came.
+fn received(alloc: Global, flags: u16, came: usize) -> Result<Option<RawRecords>, AllocError> {
+    let mut bytes = Vec::new(alloc);
+    bytes.extend_from_slice(&[0x12, 0x34])?;
+    bytes.extend_from_slice(&flags.to_be_bytes())?;
+    bytes.extend_from_slice(TRANSFER)?;
+    bytes.truncate(came);
+    received_records(alloc, &bytes)
+}
+
+// A reply of RCODE NOERROR, whose owner is told in lower case and its data with names in full, as they are spelt; a request,
+// a refusal, and octets that end inside the record or the header.
+#[test]
+fn records_of_a_transfer(rt: HostRuntime) -> Result<(), Fail> {
+    let records = received(rt.alloc(), 0x8400, 49)?.ok_or("no records")?;
+    assert_eq!(rt; records.as_slice().len(), 1);
+    let apex: &[u8] = b"\x07example\x04test\x00";
+    let exchange = b"\x00\x0a\x02mx\x07Example\x04test\x00";
+    assert!(rt; has(&records, 0, apex, (15, 1, 3600), exchange));
+    for (flags, came) in [
+        (0x0400u16, 49usize),
+        (0x8405, 49),
+        (0x8400, 48),
+        (0x8400, 11),
+        (0x8400, 0),
+    ] {
+        let none = received(rt.alloc(), flags, came)?;
+        assert!(rt; none.is_none(), "{flags} {came}");
+    }
+    Ok(())
 }

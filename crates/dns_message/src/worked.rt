@@ -6,20 +6,22 @@ ghost use Rattle.dns_message.specs.Reads.{header_of};
 ghost use Rattle.dns_message.specs.Request.{reads};
 ghost use Rattle.dns_message.specs.Updates.{update_in};
 ghost use Rattle.dns_message.specs.Octets.{reply_octets, fit};
-ghost use Rattle.dns_message.specs.Examples.{request_front, asked_octets, asked, answer, answer_octets, cut_octets, service_answer, service_octets, shorter_octets, shortest_octets, update_front, zone_octets, zone, exchange_octets, exchange, absent_octets, absent, any_octets, any_record, updater};
+ghost use Rattle.dns_message.specs.Examples.{request_front, asked_octets, asked, changes_front, changes_octets, changes, answer, answer_octets, cut_octets, service_answer, service_octets, shorter_octets, shortest_octets, update_front, zone_octets, zone, exchange_octets, exchange, absent_octets, absent, any_octets, any_record, updater};
 
 /// A request, and what stands for other octets: fewer than twelve, no question, a question whose name points to itself,
-/// one whose name points to a zero octet of the header, and an OPT (RFC 1035, 4.1 and 4.1.4; RFC 6891, 6.1.2 and 7).
-#[tactic(auto, unfolding(crate::specs::Reads::records_at, crate::specs::Reads::questions_at, crate::specs::Reads::body_in, wire_names::specs::NameAt::name_at, wire_names::specs::NameAt::name_from))]
+/// one whose name points to a zero octet of the header, an IXFR, and an OPT (RFC 1035, 4.1 and 4.1.4; RFC 1995, 3;
+/// RFC 6891, 6.1.2 and 7).
+#[tactic(auto, unfolding(crate::specs::Expanded::names_at, crate::specs::Reads::records_at, crate::specs::Reads::questions_at, crate::specs::Reads::body_in, wire_names::specs::NameAt::name_at, wire_names::specs::NameAt::name_from))]
 pub fn read_examples()
     ensures id { (header_of request_front).id ≡ 4660 }
     ensures opcode { (header_of request_front).opcode ≡ 0 }
     ensures rd { (header_of request_front).rd ≡ true }
-    ensures query { reads (request_front ++ asked_octets) ≡ Query (record { head = header_of request_front; question = asked }) }
+    ensures query { reads (request_front ++ asked_octets) ≡ Query (record { head = header_of request_front; question = asked; serial = None }) }
     ensures short { reads (take 11 request_front) ≡ Silent }
     ensures no_question { reads request_front ≡ Fault (header_of request_front) FormErr }
     ensures pointer { reads (request_front ++ 192 ∷ 12 ∷ 0 ∷ 1 ∷ 0 ∷ 1 ∷ []) ≡ Fault (header_of request_front) FormErr }
-    ensures down { reads (request_front ++ 192 ∷ 3 ∷ 0 ∷ 1 ∷ 0 ∷ 1 ∷ []) ≡ Query (record { head = header_of request_front; question = record { name = []; rtype = record { 0 = 1 }; class = record { 0 = 1 } } }) }
+    ensures down { reads (request_front ++ 192 ∷ 3 ∷ 0 ∷ 1 ∷ 0 ∷ 1 ∷ []) ≡ Query (record { head = header_of request_front; question = record { name = []; rtype = record { 0 = 1 }; class = record { 0 = 1 } }; serial = None }) }
+    ensures ixfr { reads (changes_front ++ changes_octets) ≡ Query (record { head = header_of changes_front; question = changes; serial = Some (record { 0 = 258 }) }) }
     ensures opt { reads ((take 11 request_front ++ 1 ∷ []) ++ asked_octets ++ 0 ∷ 0 ∷ 41 ∷ 16 ∷ 0 ∷ 0 ∷ 0 ∷ 0 ∷ 0 ∷ 0 ∷ 0 ∷ []) ≡ Fault (header_of request_front) FormErr }
 {}
 

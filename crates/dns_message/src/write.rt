@@ -114,7 +114,12 @@ fn counts_of(reply: &Reply<'_>) -> Option<[u16; 4]>
 }
 
 /// Writes a reply's header, with this TC and these counts, to the front of a buffer, as `put` does (RFC 1035, 4.1.1).
-fn put_header(out: &mut [u8], reply: &Reply<'_>, tc: bool, counts: [u16; 4]) -> Option<usize>
+pub(crate) fn put_header(
+    out: &mut [u8],
+    reply: &Reply<'_>,
+    tc: bool,
+    counts: [u16; 4],
+) -> Option<usize>
     ensures { WritesParts out.old out.new 0 (header_octets (record (message_of reply.now) { tc = tc }) counts) result }
 {
     let [questions, answers, authorities, additionals] = counts;

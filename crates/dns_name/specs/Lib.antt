@@ -1,4 +1,5 @@
 pub mod Gather
+pub mod Kept
 pub mod Labels
 pub mod Name
 pub mod Order

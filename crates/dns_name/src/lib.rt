@@ -7,6 +7,7 @@
 #![tactic(auto)]
 
 mod compare;
+mod kept;
 mod labels;
 mod laws;
 mod name;
@@ -17,6 +18,7 @@ mod stored;
 mod stored_order;
 mod text;
 
+pub use kept::KeptOctets;
 pub use labels::Labels;
 pub use laws::{
     canonical_order, examples, limits, one_reading, same_but_for_case, stored_names,

@@ -1,4 +1,4 @@
-//! Names as a zone keeps them: on the heap, in as many octets as they take.
+//! Names as a zone keeps them: in as many octets as they take.
 ghost use Rattle.std.specs.Prelude.{◌≡◌, ◌==◌, ◌+◌, ◌*◌, ◌<◌, ◌≤◌, [], ◌∷◌, ◌++◌, length, map, reverse, flat_map, position, All, IfOk, IfSome, MatchOption, Some};
 ghost use Rattle.dns_name.specs.Gather.{front_of};
 ghost use Rattle.dns_name.specs.Labels.{labels_in, IsWhole};
@@ -6,6 +6,7 @@ ghost use Rattle.dns_name.specs.Name.{Name, IsName, fold_name, is_under, canonic
 ghost use Rattle.dns_name.specs.Stored.{stored_octet, stored_label, octets_stored, labels_stored, name_stored, IsStored, IsClosed, IsFirstPiece};
 ghost use Rattle.dns_name.specs.Text.{text_of};
 
+use crate::kept::KeptOctets;
 use crate::name::{MAX_LABEL, MAX_NAME, Name};
 use crate::octets::{append_label, first_label};
 use arrayvec::ArrayVec;
@@ -174,11 +175,10 @@ impl SoughtName {
     }
 }
 
-/// A name in lower case, on the heap, in as many octets as it takes: as a zone keeps it. Contracts see the list of its
-/// labels.
+/// A name in lower case, in as many octets as it takes: as a zone keeps it. Contracts see the list of its labels.
 #[derive(Drop)]
 pub struct StoredName {
-    octets: Vec<u8>,
+    octets: KeptOctets,
 }
 
 impl Model for StoredName {
@@ -187,9 +187,9 @@ impl Model for StoredName {
 
     ghost Value = { List (List ℕ) };
 
-    ghost view = { λ a. name_stored a.octets.items };
+    ghost view = { λ a. name_stored a.octets };
 
-    ghost invariant = { λ a. IsStored a.octets.items };
+    ghost invariant = { λ a. IsStored a.octets };
 }
 
 impl StoredName {
@@ -200,7 +200,15 @@ impl StoredName {
         ensures bytes { IfOk result (λ stored. All (All (λ octet. octet < 256)) stored) }
     {
         let sought = SoughtName::new(name);
-        let octets = Vec::from_slice(alloc, sought.octets())?;
+        let octets = KeptOctets::new(alloc, sought.octets())?;
+        Ok(StoredName { octets })
+    }
+
+    /// The same name once more. `AllocError` where a growth was refused.
+    pub fn copy(&self, alloc: Global) -> Result<StoredName, AllocError>
+        ensures { IfOk result (λ stored. stored ≡ self.now) }
+    {
+        let octets = self.octets.copy(alloc)?;
         Ok(StoredName { octets })
     }
 
@@ -209,7 +217,7 @@ impl StoredName {
         ensures stored { IsStored result.now }
         ensures name { name_stored result.now ≡ self.now }
     {
-        &self.octets
+        KeptOctets::as_slice(&self.octets)
     }
 
     /// The name itself, in lower case. It takes no memory.

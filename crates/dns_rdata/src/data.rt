@@ -8,7 +8,7 @@ ghost use Rattle.dns_rdata.specs.Numbers.{type_CNAME, type_SOA};
 use crate::form::{has_form, lowered};
 use crate::layout::SOA_NUMBERS;
 use crate::numbers::{RType, Serial, Ttl};
-use dns_name::Name;
+use dns_name::{KeptOctets, Name};
 use std::alloc::{AllocError, Global};
 use std::marker::Model;
 use thiserror::Error;
@@ -34,7 +34,7 @@ pub enum DataFault {
 #[derive(Drop)]
 pub struct RData {
     rtype: RType,
-    octets: Vec<u8>,
+    octets: KeptOctets,
 }
 
 impl Model for RData {
@@ -42,9 +42,9 @@ impl Model for RData {
 
     ghost Value = { Data };
 
-    ghost view = { λ a. record { rtype = a.rtype.0; octets = a.octets.items } };
+    ghost view = { λ a. record { rtype = a.rtype.0; octets = a.octets } };
 
-    ghost invariant = { λ a. IsData (record { rtype = a.rtype.0; octets = a.octets.items }) };
+    ghost invariant = { λ a. IsData (record { rtype = a.rtype.0; octets = a.octets }) };
 }
 
 /// The numbers behind the names of an SOA's data (RFC 1035, 3.3.13).
@@ -105,14 +105,14 @@ impl RData {
         ensures octets { result.now ≡ self.now.octets }
         ensures lawful { IsData self.now }
     {
-        &self.octets
+        self.octets.as_slice()
     }
 
     /// The same data once more. `AllocError` where a growth was refused.
     pub fn copy(&self, alloc: Global) -> Result<RData, AllocError>
         ensures { IfOk result (λ d. d ≡ self.now) }
     {
-        let octets = Vec::from_slice(alloc, self.octets.as_slice())?;
+        let octets = self.octets.copy(alloc)?;
         Ok(RData {
             rtype: self.rtype,
             octets,
@@ -163,16 +163,28 @@ impl RData {
 }
 
 /// An SOA's data octets with another serial: it is the first of the numbers that end them.
-fn octets_with_serial(alloc: Global, octets: &[u8], serial: Serial) -> Result<Vec<u8>, AllocError>
+fn octets_with_serial(
+    alloc: Global,
+    octets: &[u8],
+    serial: Serial,
+) -> Result<KeptOctets, AllocError>
     requires { SOA_NUMBERS ≤ length octets.now }
-    ensures { IfOk result (λ own. own.items ≡ with_serial serial.0 octets.now) }
+    ensures { IfOk result (λ own. own ≡ with_serial serial.0 octets.now) }
 {
     let (names, numbers) = octets.split_at(octets.len() - SOA_NUMBERS);
     let mut own = Vec::with_capacity(alloc, octets.len())?;
     own.extend_from_slice(names)?;
     own.extend_from_slice(&serial.0.to_be_bytes())?;
     own.extend_from_slice(&numbers[4..])?;
-    Ok(own)
+    KeptOctets::new(alloc, own.as_slice())
+}
+
+/// The serial in an SOA's data octets, names in lower case (RFC 1035, 3.3.13).
+pub fn soa_serial(octets: &[u8]) -> Serial
+    requires { data_of type_SOA octets.now ≡ Some octets.now }
+    ensures { result.0 ≡ serial_of octets.now }
+{
+    soa_numbers(octets).serial
 }
 
 /// The numbers behind the two names of an SOA's data: they end it.

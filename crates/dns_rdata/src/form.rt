@@ -6,7 +6,7 @@ ghost use Rattle.dns_rdata.specs.Data.{data_of, parts, are_strings};
 
 use crate::layout::Layout;
 use crate::numbers::RType;
-use dns_name::Name;
+use dns_name::{KeptOctets, Name};
 use std::alloc::{AllocError, Global};
 
 /// Whether octets have a type's form; those of a type that isn't served have none (RFC 1035, 3.3 and 3.4.1; RFC 2782;
@@ -64,38 +64,17 @@ fn holds_strings(octets: &[u8]) -> bool
 /// Octets of a type's form, with the names in them in lower case: a length octet is below the letters, so that all
 /// between the front and the back can be folded (RFC 4034, 6.2).
 #[tactic(auto, unfolding(crate::specs::Data::data_of))]
-pub(crate) fn lowered(alloc: Global, rtype: RType, octets: &[u8]) -> Result<Vec<u8>, AllocError>
+pub(crate) fn lowered(alloc: Global, rtype: RType, octets: &[u8]) -> Result<KeptOctets, AllocError>
     requires { IsSome (data_of rtype.0 octets.now) }
-    ensures { IfOk result (λ own. data_of rtype.0 octets.now ≡ Some own.items) }
+    ensures { IfOk result (λ own. data_of rtype.0 octets.now ≡ Some own) }
 {
     match rtype.layout() {
-        Some(Layout::Fields { front, back, .. }) => lower_between(
+        Some(Layout::Fields { front, back, .. }) => KeptOctets::lowered(
             alloc,
             octets,
             front,
             octets.len() - back,
         ),
-        _ => octets.to_vec(alloc),
+        _ => KeptOctets::new(alloc, octets),
     }
-}
-
-/// The octets, in lower case from one place to another.
-fn lower_between(
-    alloc: Global,
-    octets: &[u8],
-    from: usize,
-    to: usize,
-) -> Result<Vec<u8>, AllocError>
-    requires order { from ≤ to }
-    requires within { to ≤ length octets.now }
-    ensures { IfOk result (λ own. own.items
-        ≡ take from octets.now ++ map to_ascii_lowercase (take (to - from) (drop from octets.now)) ++ drop to octets.now) }
-{
-    let mut own = Vec::with_capacity(alloc, octets.len())?;
-    own.extend_from_slice(&octets[..from])?;
-    for octet in &octets[from..to] {
-        own.push(octet.to_ascii_lowercase())?;
-    }
-    own.extend_from_slice(&octets[to..])?;
-    Ok(own)
 }

@@ -15,7 +15,7 @@ mod rrset;
 mod serial;
 mod shown;
 
-pub use data::{DataFault, MAX_DATA, RData, Soa};
+pub use data::{DataFault, MAX_DATA, RData, Soa, soa_serial};
 pub use laws::{
     names_of_data, one_more, read_again, records_in_order, served_types, strings_in_a_row,
 };

@@ -58,6 +58,6 @@ impl RType {
             return Ok(None);
         }
         let own = lowered(alloc, self, octets)?;
-        Ok(Some(own))
+        Ok(Some(own.as_slice().to_vec(alloc)?))
     }
 }

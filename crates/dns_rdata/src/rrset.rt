@@ -133,7 +133,7 @@ impl RRset {
     pub fn copy(&self, alloc: Global) -> Result<RRset, AllocError>
         ensures { IfOk result (λ set. set ≡ self.now) }
     {
-        let owner = StoredName::new(alloc, &self.owner())?;
+        let owner = self.owner.copy(alloc)?;
         let rdata = copies(alloc, &self.rdata)?;
         Ok(RRset {
             owner,
@@ -165,6 +165,8 @@ impl RRset {
         if self.rdata.len() == MAX_SET {
             return Err(SetFault::Limit);
         }
+        // Most sets have few records, so room is made for one; where it is refused, `insert` tells it.
+        let _ = self.rdata.reserve_exact(1);
         self.rdata
             .insert(place, rdata)
             .map_err(|_| SetFault::NoMemory)?;

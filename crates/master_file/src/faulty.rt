@@ -56,6 +56,30 @@ pub(crate) fn read_all(
     }
 }
 
+/// The first records of a text, so many, or all where it has no more. It reads no further.
+fn read_first(
+    alloc: Global,
+    text: &[u8],
+    origin: &Name,
+    count: usize,
+) -> Result<Vec<KeptRecord>, AllocError>
+    ensures { IfOk result (λ first. first.items ≡ take count (records_of origin.now text.now).rrs) }
+{
+    let mut records = Records::new(alloc, text, origin);
+    let mut first = Vec::new(alloc);
+    while first.len() < count {
+        match records.next(alloc) {
+            Ok(Some(rr)) => first.push(KeptRecord::new(alloc, rr)?)?,
+            Ok(None) => return Ok(first),
+            Err(fault) => match fault.cause {
+                Cause::NoMemory => return Err(AllocError),
+                _ => return Ok(first),
+            },
+        }
+    }
+    Ok(first)
+}
+
 /// The sets of records; None where there are too many, of one set or in all.
 fn within_limits(alloc: Global, records: Vec<KeptRecord>) -> Result<Option<Vec<RRset>>, AllocError>
     ensures sets { IfOk result (λ found. IfSome found (λ sets. records_in sets.items ≡ zone_records records.items)) }
@@ -96,7 +120,7 @@ fn is_crowded(sets: &[RRset]) -> bool
     has_conflict(sets).unwrap_or(false)
 }
 
-/// Whether one of the first records of a text shows what is sought. It reads the text once more.
+/// Whether one of the first records of a text shows what is sought. It reads the text once more, up to the last of these.
 fn is_shown(
     alloc: Global,
     text: &[u8],
@@ -108,8 +132,7 @@ fn is_shown(
     ensures shown { IfOk result (λ shown. OnTrue shown (first_line (shows sought) [] (take count (records_of origin.now text.now).rrs) ≡ None → ⊥)) }
     ensures none { IfOk result (λ shown. OnFalse shown (first_line (shows sought) [] (take count (records_of origin.now text.now).rrs) ≡ None)) }
 {
-    let (mut records, _) = read_all(alloc, text, origin)?;
-    records.truncate(count);
+    let records = read_first(alloc, text, origin, count)?;
     let Some(sets) = within_limits(alloc, records)? else {
         return Ok(true);
     };

@@ -31,7 +31,7 @@ pub use zone_laws::{
     no_text_wants_memory, text_without_a_fault_is_a_zone, written_zone_has_an_entry_a_record,
     written_zone_is_read_back, written_zone_is_the_zone,
 };
-pub use zone_text::write_zone;
+pub use zone_text::{write_set, write_zone};
 
 #[cfg(test)]
 mod checked;

@@ -35,8 +35,10 @@ fn write_others<Z: ZoneRead>(text: &mut String, zone: &Z) -> Result<(), AllocErr
     Ok(())
 }
 
-/// Writes the lines of a set's records.
-fn write_set(text: &mut String, set: &RRset) -> Result<(), AllocError>
+/// Writes the lines of a set's records behind a text, as [`write_zone`] writes them.
+///
+/// The fault is a growth that was refused.
+pub fn write_set(text: &mut String, set: &RRset) -> Result<(), AllocError>
     ensures { OnOk result (string_bytes text.new ≡ string_bytes text.old ++ flat_map record_line set.now) }
 {
     let owner = set.owner();

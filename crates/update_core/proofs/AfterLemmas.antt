@@ -1,5 +1,5 @@
 -- An update's records one after another, and whether they change a zone.
-use Rattle.std.proofs.Common.{◌≡◌, ◌≢◌, ◌↔◌, ℕ, zero, suc, ◌+◌, ◌<◌, ◌≤◌, Bool, true, false, not, ◌&&◌, ◌||◌, ◌==◌, cond, if◌then◌else◌, MatchBool, MatchOption, List, [], ◌∷◌, length, take, drop, get_or, filter, All, Option, None, Some, refl, sym, ap, subst, ◌∙◌, arith, eq-eqb, true≢false}
+use Rattle.std.proofs.Common.{◌≡◌, ◌≢◌, ℕ, zero, suc, ◌+◌, ◌<◌, ◌≤◌, Bool, true, false, not, ◌&&◌, ◌==◌, cond, if◌then◌else◌, List, [], ◌∷◌, length, drop, get_or, filter, All, Option, None, Some, refl, sym, ap, subst, ◌∙◌, arith, eq-eqb, true≢false}
 use Rattle.std.specs.Prelude.{Contains}
 use Rattle.std.specs.List.{list_any}
 use Rattle.std.specs.Option.{IfSome, option_map, option_or, option_and_then}
@@ -7,11 +7,10 @@ use Rattle.std.specs.Ordering.{is_eq}
 use Rattle.std.specs.declared.cmp.Ordering.{Ordering}
 use Rattle.std.specs.declared.cmp.Ordering.TheVariants.{Less, Equal, Greater}
 use Rattle.std.specs.Cmp.Lexicographic.{pointwise}
-use Rattle.std.proofs.Math.Nat.{mod-lt}
 use Rattle.std.proofs.lemmas.Bool.{eqb-true}
 use Rattle.std.proofs.lemmas.Cmp.{tied_itself}
 use Rattle.std.proofs.lemmas.List.Elements.{All-head, All-tail}
-use Rattle.dns_name.specs.Name.{Name, is_same, fold_name}
+use Rattle.dns_name.specs.Name.{is_same}
 use Rattle.dns_name.specs.Order.{is_same_equiv, is_same_Decides}
 use Rattle.dns_rdata.specs.declared.numbers.Rcode.{Rcode}
 use Rattle.dns_rdata.specs.Record.{Record, IsLawful, record_cmp}
@@ -123,7 +122,7 @@ module _ (zone after : List Record) (rs : List RawRecord) where
           found [] k = cc
           found (q ∷ qs) k = let place = place_from_any (λ r. is_same r.owner s.owner) (q ∷ qs) q (so (list_any (λ r. is_same r.owner s.owner) (q ∷ qs)) k) in (place.0, q, place.1, place.2)
 
-beside_of : (zone after : List Record) (rs : List RawRecord) → effects zone rs ≡ Some after → kept (is_beside rs) after ≡ kept (is_beside rs) zone
+pub beside_of : (zone after : List Record) (rs : List RawRecord) → effects zone rs ≡ Some after → kept (is_beside rs) after ≡ kept (is_beside rs) zone
 beside_of zone after rs does = subst (λ o. IfSome o (λ next. kept (is_beside rs) next ≡ kept (is_beside rs) zone)) does (effects_beside zone rs)
 
 pub unchanged : (zone after : List Record) (rs : List RawRecord) → IsZone zone → IsZone after → effects zone rs ≡ Some after → All (λ r. rrsets_of zone r.owner ≡ rrsets_of after r.owner) rs → zone ≡ after

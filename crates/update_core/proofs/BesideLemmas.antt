@@ -1,5 +1,5 @@
 -- A record of an update changes nothing beside its owner.
-use Rattle.std.proofs.Common.{◌≡◌, ℕ, ◌^◌, Bool, true, false, not, ◌&&◌, ◌||◌, ◌==◌, cond, if◌then◌else◌, nat_lt, List, [], ◌∷◌, length, filter, map, Option, None, Some, bytes_eq, refl, sym, ap, ◌∙◌}
+use Rattle.std.proofs.Common.{◌≡◌, ℕ, Bool, true, false, not, ◌&&◌, ◌||◌, ◌==◌, cond, if◌then◌else◌, nat_lt, List, [], ◌∷◌, length, filter, Option, None, Some, bytes_eq, refl, sym, ap, ◌∙◌}
 use Rattle.std.specs.List.{list_any}
 use Rattle.std.specs.Option.{IfSome, option_and_then}
 use Rattle.std.specs.Ordering.{is_lt, is_eq}
@@ -12,7 +12,7 @@ use Rattle.dns_rdata.specs.Raw.{RawRecord}
 use Rattle.zone_tree.specs.Zone.{is_of, stands_at, rrset_of}
 use Rattle.zone_tree.specs.Change.{without_rrset}
 use Rattle.update_core.specs.Verdict.{has_rrset}
-use Rattle.update_core.specs.Act.{entered, with_one, record_with_ttl, with_ttl, ttl_in_zone, has_other_than_alias, has_lesser_soa, within_limits, is_apex_set, is_last_apex_record, effect, effects}
+use Rattle.update_core.specs.Act.{entered, with_one, with_ttl, ttl_in_zone, has_other_than_alias, has_lesser_soa, within_limits, is_apex_set, is_last_apex_record, effect, effects}
 use Rattle.update_core.proofs.ListLemmas.{by_test, and_left}
 
 -- the records whose owners pass a test
@@ -29,7 +29,7 @@ module _ (q p : Record → Bool) (inside : (s : Record) → p s ≡ false → q 
   kept_first z zs true e more = ap (λ ys. cond (q z) (z ∷ ys) ys) more
   kept_first z zs false e more = more ∙ ap (λ b. cond b (z ∷ filter q zs) (filter q zs)) (sym (inside z e))
 
-  kept_inside : (zs : List Record) → filter q (filter p zs) ≡ filter q zs
+  pub kept_inside : (zs : List Record) → filter q (filter p zs) ≡ filter q zs
   kept_inside [] = refl
   kept_inside (z ∷ zs) = kept_first z zs (p z) refl (kept_inside zs)
 

@@ -20,3 +20,4 @@ pub mod ActKeeps
 pub mod RowLemmas
 pub mod RowEffects
 pub mod AfterLemmas
+pub mod ChangedOwners

@@ -1,5 +1,5 @@
 -- What the rows of an update do to a zone, by the changes that they make (RFC 2136, 3.4.2).
-use Rattle.std.proofs.Common.{◌≡◌, ◌≢◌, ◌⊎◌, inl, inr, ℕ, ◌<◌, ◌≤◌, Bool, true, false, not, ◌&&◌, ◌||◌, ◌==◌, cond, if◌then◌else◌, nat_lt, nat_le, drop, length-append, IfOk, Result, Ok, Err, List, [], ◌∷◌, ◌++◌, map, length, filter, bytes_eq, All, Option, None, Some, refl, sym, ap, ◌∙◌, arith}
+use Rattle.std.proofs.Common.{◌≡◌, ◌≢◌, ◌⊎◌, inl, inr, ℕ, ◌<◌, ◌≤◌, Bool, true, false, not, ◌&&◌, ◌||◌, ◌==◌, cond, if◌then◌else◌, nat_lt, nat_le, drop, length-append, IfOk, Result, Ok, Err, List, [], ◌∷◌, ◌++◌, map, length, filter, All, Option, None, Some, refl, sym, ap, ◌∙◌, arith}
 use Rattle.std.specs.List.{list_any, flat_map, AllByRecursion}
 use Rattle.std.specs.Option.{is_some}
 use Rattle.std.specs.Ordering.{nat_cmp, is_lt, is_gt, is_eq, ordering_then}
@@ -26,7 +26,7 @@ use Rattle.zone_tree.specs.Change.{with_rrset, without_rrset, edited}
 use Rattle.zone_tree.specs.Version.{zone_serial, first_data}
 use Rattle.zone_tree.specs.declared.change.Change.{Change}
 use Rattle.zone_tree.specs.declared.change.Change.TheVariants.{Put, Remove}
-use Rattle.zone_tree.proofs.Rising.{Rises, filter_alike, each_weaker, each_map}
+use Rattle.zone_tree.proofs.Rising.{filter_alike, each_weaker, each_map}
 use Rattle.zone_tree.proofs.LawLemmas.{soa_is_at_apex}
 use Rattle.update_core.specs.Verdict.{has_rrset, prescan_of}
 use Rattle.update_core.specs.Act.{entered, ttl_in_zone, has_other_than_alias, has_lesser_soa, within_limits, is_apex_set, is_last_apex_record, effect, at_serial, IsSent}
@@ -34,14 +34,14 @@ use Rattle.update_core.specs.Applied.{held, AreOf, is_beside_alias, joined, set_
 use Rattle.update_core.proofs.ListLemmas.{by_test, and_left, and_right}
 use Rattle.update_core.proofs.VerdictLemmas.{rrset_of-same}
 use Rattle.update_core.proofs.SentLemmas.{same_lower, passed}
-use Rattle.update_core.proofs.Candidates.{put_in, added_to, without_all, without_set, without_record, Keeps, IsPut, IsAdded}
+use Rattle.update_core.proofs.Candidates.{put_in, added_to, without_all, without_set, without_record, Keeps}
 use Rattle.update_core.proofs.RowsKeep.{soa_places_of, all_keeps_rules, set_keeps_rules, record_keeps_rules}
 use Rattle.update_core.proofs.AddsKeep.{put_keeps_rules, add_keeps_rules}
 use Rattle.update_core.proofs.LimitsKept.{not_longer}
 use Rattle.update_core.proofs.EditLemmas.{put_edits, add_edits}
 use Rattle.update_core.proofs.DeletionEdits.{entered_owner, set_stays, set_edits, record_stays, record_edits, record_empties, all_edits_by_sets}
 use Rattle.update_core.proofs.ZoneParts.{of_place, set_parts, before_part, behind_part, each_passes}
-use Rattle.update_core.proofs.SerialPut.{serial_keeps, serial_edits}
+use Rattle.update_core.proofs.SerialPut.{serial_edits}
 use Rattle.update_core.proofs.RowLemmas.{any_among}
 
 -- what holds of each result

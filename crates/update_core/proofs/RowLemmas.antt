@@ -1,25 +1,23 @@
 -- The parts of an update's rows, as the code asks for them.
-use Rattle.std.proofs.Common.{◌≡◌, ◌≢◌, ℕ, zero, suc, ◌+◌, ◌<◌, ◌≤◌, Bool, true, false, not, ◌&&◌, ◌||◌, ◌==◌, cond, MatchBool, IfOk, Result, Ok, Err, List, [], ◌∷◌, map, length, get_or, filter, bytes_eq, All, refl, sym, ap, ◌∙◌, arith}
+use Rattle.std.proofs.Common.{◌≡◌, ◌≢◌, ℕ, zero, suc, ◌+◌, ◌<◌, Bool, true, false, not, ◌&&◌, ◌||◌, ◌==◌, cond, MatchBool, IfOk, Result, Ok, Err, List, [], ◌∷◌, map, length, get_or, filter, bytes_eq, All, refl, sym, ap, ◌∙◌, arith}
 use Rattle.std.specs.List.{list_any, flat_map}
-use Rattle.std.specs.Ordering.{nat_cmp, is_lt, is_eq}
+use Rattle.std.specs.Ordering.{nat_cmp, is_eq}
 use Rattle.std.specs.declared.cmp.Ordering.{Ordering}
 use Rattle.std.specs.declared.cmp.Ordering.TheVariants.{Less, Equal, Greater}
 use Rattle.std.specs.Cmp.Lexicographic.{slice_cmp}
-use Rattle.std.proofs.lemmas.Bool.{eqb-true}
 use Rattle.std.proofs.lemmas.Bool.Decides.{nat_tests, Decides-eqb}
-use Rattle.std.proofs.lemmas.List.{length-map}
 use Rattle.std.proofs.lemmas.List.Elements.{All-head, All-tail}
 use Rattle.std.proofs.lemmas.Map.Text.{is_eq-slice_cmp}
-use Rattle.dns_name.specs.Name.{Name, fold_name, is_same}
+use Rattle.dns_name.specs.Name.{Name, is_same}
 use Rattle.dns_name.specs.Order.{is_same_equiv}
 use Rattle.dns_rdata.specs.Numbers.{type_CNAME, type_SOA}
 use Rattle.dns_rdata.specs.Data.{Data, with_serial}
-use Rattle.dns_rdata.specs.Record.{Record, records_with, with_record, has_data, owner_of, rtype_of, ttl_of}
-use Rattle.zone_tree.specs.Zone.{KeepsRules, is_alone, stands_at, is_of, rrset_of, rrsets_of}
+use Rattle.dns_rdata.specs.Record.{Record, records_with, with_record, has_data, owner_of, rtype_of}
+use Rattle.zone_tree.specs.Zone.{KeepsRules, is_alone, stands_at, is_of, rrsets_of}
 use Rattle.zone_tree.specs.Sets.{AreWhole, sets_in}
 use Rattle.zone_tree.proofs.WalkLemmas.{sets_from_whole}
 use Rattle.update_core.specs.Verdict.{is_in_use, has_rrset}
-use Rattle.update_core.specs.Act.{has_other_than_alias, record_at_serial, at_serial}
+use Rattle.update_core.specs.Act.{has_other_than_alias, at_serial}
 use Rattle.update_core.specs.Applied.{joined}
 use Rattle.update_core.proofs.ListLemmas.{by_test}
 

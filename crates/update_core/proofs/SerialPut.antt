@@ -1,5 +1,5 @@
 -- A zone with another serial: it keeps the rules, and its SOA's set alone is another.
-use Rattle.std.proofs.Common.{◌≡◌, ℕ, ◌<◌, ◌≤◌, Bool, true, false, not, ◌&&◌, ◌||◌, ◌==◌, cond, List, [], ◌∷◌, ◌++◌, map, length, filter, All, Some, refl, sym, ap, subst, ◌∙◌, arith}
+use Rattle.std.proofs.Common.{◌≡◌, ℕ, ◌<◌, ◌≤◌, Bool, true, false, not, ◌&&◌, ◌||◌, ◌==◌, cond, List, [], ◌∷◌, ◌++◌, length, filter, All, Some, refl, sym, ap, subst, ◌∙◌, arith}
 use Rattle.std.specs.List.{AllByRecursion}
 use Rattle.std.specs.Ordering.{is_lt, is_gt, is_eq, nat_cmp, ordering_then}
 use Rattle.std.specs.declared.cmp.Ordering.{Ordering}
@@ -17,10 +17,10 @@ use Rattle.dns_rdata.specs.Record.{Record, IsLawful, record_cmp, owner_of, rtype
 use Rattle.dns_rdata.proofs.SoaSerial.{form-with_serial, octets-with_serial}
 use Rattle.zone_tree.specs.Zone.{KeepsRules, IsBefore, is_of, soa_of, apex_of, share_ttl}
 use Rattle.zone_tree.specs.Change.{with_rrset}
-use Rattle.zone_tree.proofs.Rising.{Rises, pairs_from_rises, rises_from_pairs, each_weaker, each_both}
+use Rattle.zone_tree.proofs.Rising.{Rises, pairs_from_rises, rises_from_pairs}
 use Rattle.update_core.specs.Act.{record_at_serial, at_serial}
 use Rattle.update_core.proofs.SoaKept.{is_soa}
-use Rattle.update_core.proofs.RulesBeside.{KeepsBeside, beside_from, rules_from}
+use Rattle.update_core.proofs.RulesBeside.{beside_from, rules_from}
 use Rattle.update_core.proofs.RulesChanged.{filter-map, map_beside}
 use Rattle.update_core.proofs.Candidates.{Keeps}
 use Rattle.update_core.proofs.RowsKeep.{soa_places_of}

@@ -11,7 +11,7 @@ use Rattle.dns_rdata.specs.Raw.{RawRecord}
 use Rattle.dns_message.specs.declared.update.Update.{Update}
 use Rattle.zone_tree.specs.Zone.{KeepsRules, apex_of, rrset_of}
 use Rattle.zone_tree.specs.Change.{edited}
-use Rattle.zone_tree.specs.Version.{Version}
+use Rattle.zone_tree.specs.Version.{Version, KnowsChanges}
 use Rattle.zone_tree.specs.declared.change.Change.{Change}
 use Rattle.zone_tree.specs.declared.change.Change.TheVariants.{Remove}
 use Rattle.update_core.specs.declared.outcome.Outcome.{Outcome}
@@ -57,11 +57,11 @@ removals owner sets = map (λ set. Remove owner (record { 0 = rtype_of set })) s
 abbrev pub code_of : List Record → Update → Bool → Option Rcode
 code_of zone update may = option_or (verdict zone update may) (if is_some (act zone update) then None else Some ServFail)
 
--- what is told of an update is so: its code, that it changes nothing, or the version behind the one it was sent to; where a growth
--- was refused, that it breaks no rule (RFC 2136, 3)
+-- what is told of an update is so: its code, that it changes nothing, or the version behind the one it was sent to, which knows what
+-- it changed; where a growth was refused, that it breaks no rule (RFC 2136, 3; RFC 1995, 4)
 abbrev pub IsTold : Version → Update → Bool → Outcome → Type 0
 IsTold version update may (Refused code) = code_of version.zone update may ≡ Some code
 IsTold version update may Unchanged = (verdict version.zone update may ≡ None) × (act version.zone update ≡ Some version.zone)
 IsTold version update may (Next next) =
-    (verdict version.zone update may ≡ None) × (act version.zone update ≡ Some next.zone) × (next.zone ≢ version.zone) × (next.number ≡ version.number + 1)
+    (verdict version.zone update may ≡ None) × (act version.zone update ≡ Some next.zone) × (next.zone ≢ version.zone) × (next.number ≡ version.number + 1) × KnowsChanges version.zone next
 IsTold version update may NoMemory = verdict version.zone update may ≡ None

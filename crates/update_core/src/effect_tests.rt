@@ -4,7 +4,7 @@ use crate::tests::{FIRST, NS, Row, SOA, name, update, zone_of_soa};
 use crate::{Outcome, apply};
 use dns_message::{Head, RawRecords, Update, ZoneEntry};
 use dns_name::Name;
-use dns_rdata::{Class, RData, RRset, RType, RawRecord, Rcode, Serial, Ttl};
+use dns_rdata::{Class, RData, RRset, RType, RawRecord, Rcode, Ttl};
 use std::alloc::Global;
 use std::process::Abort;
 use std::test::Fail;
@@ -74,7 +74,7 @@ fn update_of(alloc: Global, text: &str) -> Result<Update, Fail> {
 }
 
 /// What becomes of an update of these records.
-fn applied(alloc: Global, version: &Version, text: &str) -> Result<Outcome, Fail> {
+pub(crate) fn applied(alloc: Global, version: &Version, text: &str) -> Result<Outcome, Fail> {
     let asked = update_of(alloc, text)?;
     if version.number() > 9 {
         return Err("too many versions".into());
@@ -83,7 +83,7 @@ fn applied(alloc: Global, version: &Version, text: &str) -> Result<Outcome, Fail
 }
 
 /// The first version: the small zone, with a text at the apex and an alias at `www`.
-fn first_version(alloc: Global) -> Result<Version, Fail> {
+pub(crate) fn first_version(alloc: Global) -> Result<Version, Fail> {
     let start = Version::first(zone_of_soa(alloc, SOA)?);
     match applied(
         alloc,
@@ -295,7 +295,7 @@ fn refusals(rt: HostRuntime) -> Result<(), Fail> {
 }
 
 /// The first version of a zone of sets of one record each; None where memory is refused.
-fn made_version(alloc: Global, rows: &[(&str, RType, &[u8])]) -> Option<Version> {
+pub(crate) fn made_version(alloc: Global, rows: &[SetRow]) -> Option<Version> {
     let origin = Name::from_text(b"example.test.", &Name::root()).ok()?;
     let mut sets = Vec::new(alloc);
     for (owner, rtype, octets) in rows {
@@ -364,13 +364,68 @@ fn has(
     }
 }
 
+/// A set of one record: its owner, its type and its data.
+type SetRow<'a> = (&'a str, RType, &'a [u8]);
+
+/// Whether a walk of a zone gives these sets, each with a TTL of an hour, and no other.
+fn walks(version: &Version, rows: &[SetRow]) -> Result<bool, Fail> {
+    let mut at = 0usize;
+    for set in version.zone().walk() {
+        let Some((owner, rtype, octets)) = rows.get(at) else {
+            return Ok(false);
+        };
+        if set.owner() != name(owner)? || set.rtype() != *rtype || set.ttl() != Ttl(3600) {
+            return Ok(false);
+        }
+        if set.data().len() != 1 || set.data()[0].octets() != *octets {
+            return Ok(false);
+        }
+        at = at.saturating_add(1);
+    }
+    Ok(at == rows.len())
+}
+
 /// A third address.
 const THIRD: &[u8] = &[192, 0, 2, 3];
 
-// With any one growth refused, the version stays as it was, and the same update makes the next one once it is sent anew.
+/// What becomes of an update, sent anew where memory is refused; the version stays as it was.
+fn sent_anew(
+    rt: &impl Abort,
+    alloc: Global,
+    version: &Version,
+    asked: &Update,
+    sets: &[SetRow],
+) -> Result<Outcome, Fail> {
+    if version.number() > 9 {
+        return Err("too many versions".into());
+    }
+    let outcome = apply(alloc, version, asked, true);
+    assert!(rt; walks(version, sets)?);
+    match outcome {
+        Outcome::NoMemory => Ok(apply(alloc, version, asked, true)),
+        told => Ok(told),
+    }
+}
+
+/// What an update made: the number, the serial, and how many sets went and came.
+fn counts(outcome: &Outcome) -> Option<(u64, u32, usize, usize)> {
+    let Outcome::Next(next) = outcome else {
+        return None;
+    };
+    let delta = next.delta()?;
+    Some((
+        next.number(),
+        next.serial().0,
+        delta.deletions().len(),
+        delta.additions().len(),
+    ))
+}
+
+// With any one growth refused, the version stays as it was, and the same update makes the next one once it is sent anew, which tells
+// what it changed.
 #[test]
 fn refused_growth(rt: HostRuntime) -> Result<(), Fail> {
-    let sets: [(&str, RType, &[u8]); 3] = [
+    let sets: [SetRow; 3] = [
         ("@", RType::NS, NS),
         ("@", RType::SOA, SOA),
         ("web", RType::A, FIRST),
@@ -381,20 +436,12 @@ fn refused_growth(rt: HostRuntime) -> Result<(), Fail> {
     ];
     let version = twice(|| made_version(rt.alloc(), &sets)).ok_or("a version")?;
     let asked = twice(|| made_update(rt.alloc(), &rows)).ok_or("an update")?;
-    assert!(rt; version.number() < 9);
-    let mut outcome = apply(rt.alloc(), &version, &asked, true);
-    if matches!(outcome, Outcome::NoMemory) {
-        assert!(rt; has(&version, "web", RType::A, 3600, FIRST)?);
-        assert_eq!(rt; version.serial(), Serial(1));
-        outcome = apply(rt.alloc(), &version, &asked, true);
-    }
-    match outcome {
-        Outcome::Next(next) => {
-            assert!(rt; has(&next, "web", RType::A, 60, THIRD)?);
-            assert_eq!(rt; next.number(), 1);
-            assert_eq!(rt; next.serial(), Serial(2));
-        }
-        _ => assert!(rt; false, "the next version"),
-    }
+    let told = sent_anew(&rt, rt.alloc(), &version, &asked, &sets)?;
+    assert!(rt; counts(&told) == Some((1, 2, 1, 1)));
+    let Outcome::Next(next) = told else {
+        return Err("no version".into());
+    };
+    assert!(rt; has(&next, "web", RType::A, 60, THIRD)?);
+    assert!(rt; walks(&version, &sets)?);
     Ok(())
 }

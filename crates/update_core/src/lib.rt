@@ -4,8 +4,8 @@
 //! code that it gets as that of the first rule that gives one (`Verdict`), in the order of zone section, prerequisites,
 //! permission and prescan: [`check`], [`prescan`] and [`verdict`] equal it, read the zone alone and take no memory. What
 //! an update that is taken makes of the zone is `Act`: its records one after another, and the serial. [`apply`] tells
-//! which version it makes of another (`Applied`), which stays as it is. Laws and worked examples tell of `Act`. What a
-//! version changed of the one before it is not here.
+//! which version it makes of another (`Applied`), which stays as it is; the version knows what it changed (RFC 1995, 4).
+//! Laws and worked examples tell of `Act`.
 #![tactic(auto)]
 
 mod additions;
@@ -30,6 +30,8 @@ pub use outcome::{Outcome, apply};
 pub use prerequisites::check;
 pub use update_section::prescan;
 
+#[cfg(test)]
+mod delta_tests;
 #[cfg(test)]
 mod effect_tests;
 #[cfg(test)]

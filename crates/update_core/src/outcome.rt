@@ -1,10 +1,10 @@
 //! What an update makes of a zone (RFC 2136, 3.4 and 3.6).
-ghost use Rattle.std.specs.Prelude.{◌≡◌, ◌≢◌, ◌+◌, ◌<◌, ◌^◌, if◌then◌else◌, unwrap_or, None, Some, IfOk, MatchOption};
+ghost use Rattle.std.specs.Prelude.{◌≡◌, ◌≢◌, ◌+◌, ◌<◌, ◌^◌, if◌then◌else◌, unwrap_or, map, None, Some, IfOk, MatchOption};
 ghost use Rattle.std.specs.Result.{IsErrOf};
 ghost use Rattle.dns_rdata.specs.declared.numbers.Rcode.{Rcode as Code};
 ghost use Rattle.dns_rdata.specs.SerialOrder.{serial_less, serial_next};
 ghost use Rattle.zone_tree.specs.Zone.{IsZone, soa_of};
-ghost use Rattle.zone_tree.specs.Version.{zone_serial};
+ghost use Rattle.zone_tree.specs.Version.{zone_serial, AreChanges};
 ghost use Rattle.update_core.specs.Verdict.{prescan, verdict};
 ghost use Rattle.update_core.specs.Act.{effects, act, at_serial};
 ghost use Rattle.update_core.specs.Applied.{IsTold};
@@ -13,9 +13,10 @@ use crate::effects::{after_all, is_changed};
 use crate::judgement::verdict;
 use crate::rows::{ActFault, one_change};
 use dns_message::Update;
-use dns_rdata::{RRset, Rcode, Serial};
+use dns_name::Name;
+use dns_rdata::{RRset, RawRecord, Rcode, Serial};
 use std::alloc::{AllocError, Global};
-use zone_tree::{Change, Version, Zone, ZoneFault, ZoneRead, edit};
+use zone_tree::{Change, Delta, Version, Zone, ZoneFault, ZoneRead, edit};
 
 /// What becomes of an update.
 #[derive(Drop)]
@@ -30,8 +31,16 @@ pub enum Outcome {
     NoMemory,
 }
 
+/// A zone that an update makes of another, and what it changed of that (RFC 1995, 4).
+#[derive(Drop)]
+struct Made {
+    zone: Zone,
+    delta: Delta,
+}
+
 /// What an update makes of a version's zone, sent by a peer that may update, or may not (RFC 2136, 3). The version stays as
-/// it is; the one behind it has the next number, and a greater serial (RFC 2136, 3.6; RFC 1982, 3.2).
+/// it is; the one behind it has the next number, a greater serial, and what it changed (RFC 2136, 3.6; RFC 1982, 3.2; RFC
+/// 1995, 4).
 ///
 /// An update costs a path of the zone's tree for each of its records: no call goes over the whole zone.
 pub fn apply(alloc: Global, version: &Version, update: &Update, may: bool) -> Outcome
@@ -44,18 +53,18 @@ pub fn apply(alloc: Global, version: &Version, update: &Update, may: bool) -> Ou
     if let Err(code) = verdict(zone, update, may) {
         return Outcome::Refused(code);
     }
-    match zone_behind(alloc, zone, update) {
-        Ok(Some(next)) => Outcome::Next(version.next(next)),
+    match made_by(alloc, zone, update) {
+        Ok(Some(made)) => Outcome::Next(version.next(made.zone, made.delta)),
         Ok(None) => Outcome::Unchanged,
         Err(ActFault::Limit) => Outcome::Refused(Rcode::ServFail),
         Err(ActFault::NoMemory) => Outcome::NoMemory,
     }
 }
 
-/// The zone behind an update that each rule let through; None where it changes nothing (RFC 2136, 3.4.2 and 3.6).
-fn zone_behind(alloc: Global, zone: &Zone, update: &Update) -> Result<Option<Zone>, ActFault>
+/// What an update makes that each rule let through; None where it changes nothing (RFC 2136, 3.4.2 and 3.6).
+fn made_by(alloc: Global, zone: &Zone, update: &Update) -> Result<Option<Made>, ActFault>
     requires passed { prescan zone.now update.now.updates ≡ None }
-    ensures next { IfOk result (λ next. MatchOption next (act zone.now update.now ≡ Some zone.now) (λ made. (act zone.now update.now ≡ Some made) × (made ≢ zone.now))) }
+    ensures next { IfOk result (λ next. MatchOption next (act zone.now update.now ≡ Some zone.now) (λ made. (act zone.now update.now ≡ Some made.zone) × (made.zone ≢ zone.now) × AreChanges made.delta zone.now made.zone)) }
     ensures limit { IsErrOf result ActFault.Limit → act zone.now update.now ≡ None }
 {
     let raws = update.updates.as_slice();
@@ -65,8 +74,31 @@ fn zone_behind(alloc: Global, zone: &Zone, update: &Update) -> Result<Option<Zon
     if !is_changed(zone, &after, raws) {
         return Ok(None);
     }
+    let made = with_delta(alloc, zone, after, raws)?;
+    Ok(Some(made))
+}
+
+/// What an update makes whose records changed a zone, with what it changed.
+fn with_delta(
+    alloc: Global,
+    zone: &Zone,
+    after: Zone,
+    raws: &[RawRecord],
+) -> Result<Made, AllocError>
+    requires { effects zone.now raws.now ≡ Some after }
+    ensures zone { IfOk result (λ made. made.zone ≡ (if serial_less (zone_serial zone.now) (zone_serial after) then after else at_serial (serial_next (zone_serial zone.now)) after)) }
+    ensures changes { IfOk result (λ made. AreChanges made.delta zone.now made.zone) }
+{
     let next = completed(alloc, zone, after)?;
-    Ok(Some(next))
+    let delta = Delta::between(alloc, zone, &next, owners_of(alloc, raws)?)?;
+    Ok(Made { zone: next, delta })
+}
+
+/// The owners of records.
+fn owners_of(alloc: Global, raws: &[RawRecord]) -> Result<Vec<Name>, AllocError>
+    ensures { IfOk result (λ owners. owners.items ≡ map (λ r. r.owner) raws.now) }
+{
+    raws.iter().map(|raw| raw.owner.copy()).collect(alloc)
 }
 
 /// A changed zone with a serial that is greater than the old zone's: the update's own, or the one behind the old one's

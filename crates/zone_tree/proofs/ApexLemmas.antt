@@ -1,19 +1,20 @@
 -- A zone's apex is its first owner, and owners with their sets are a zone where their records keep its rules.
-use Rattle.std.proofs.Common.{◌≡◌, refl, sym, ap, ◌∙◌, ℕ, ◌<◌, ◌≤◌, Bool, true, false, cond, List, [], ◌∷◌, length, arith, true≢false, Some, None}
+use Rattle.std.proofs.Common.{◌≡◌, refl, sym, ap, ◌∙◌, ℕ, ◌<◌, ◌≤◌, Bool, true, false, cond, List, [], ◌∷◌, length, arith, true≢false, Some, None, subst}
 use Rattle.std.specs.Prelude.{◌==◌}
 use Rattle.std.specs.declared.cmp.Ordering.{Ordering}
 use Rattle.std.specs.declared.cmp.Ordering.TheVariants.{Less, Equal, Greater}
-use Rattle.std.specs.List.{filter, AllByRecursion}
-use Rattle.std.specs.Ordering.{nat_cmp, is_gt, ordering_then, ordering_reverse}
+use Rattle.std.specs.List.{filter, find, AllByRecursion}
+use Rattle.std.specs.Option.{option_map}
+use Rattle.std.specs.Ordering.{nat_cmp, is_gt, is_eq, ordering_then, ordering_reverse}
 use Rattle.std.specs.Cmp.Lexicographic.{slice_cmp}
 use Rattle.std.proofs.lemmas.Cmp.{tied_itself}
 use Rattle.std.proofs.lemmas.List.Elements.{recursion_from_All}
 use Rattle.dns_name.specs.Name.{canonical_cmp, fold_name}
 use Rattle.dns_rdata.specs.Numbers.{type_SOA}
 use Rattle.dns_rdata.specs.Record.{Record, IsLawful, owner_of}
-use Rattle.shared_tree.specs.Pairs.{first_pair}
+use Rattle.shared_tree.specs.Pairs.{first_pair, value_at}
 use Rattle.zone_tree.specs.Zone.{KeepsRules, IsBefore, apex_of}
-use Rattle.zone_tree.specs.Filed.{Filed, sets_under, records_under, AreFiled, AreKept}
+use Rattle.zone_tree.specs.Filed.{Filed, sets_under, records_under, items_of, AreFiled, AreKept}
 use Rattle.zone_tree.proofs.NameOrder.{canonical_total, folds_from_same, same_from_tie, under_not_before}
 use Rattle.zone_tree.proofs.Rising.{each_weaker, each_both, rises_from_pairs}
 use Rattle.zone_tree.proofs.SetLemmas.{some_each}
@@ -91,3 +92,11 @@ module _ (pairs : List Filed) (filed : AreFiled pairs) (rules : KeepsRules (reco
       };
     };
   }
+
+-- the sets of the first owner are the apex's
+pub apex_sets : (at : List (List ℕ)) (count : ℕ) (pairs : List Filed) → AreKept at count pairs → items_of (option_map (λ pair. pair.1) (first_pair pairs)) ≡ items_of (value_at canonical_cmp at pairs)
+apex_sets at count [] k = refl
+apex_sets at count (p ∷ ps) k =
+    let own : p.0 ≡ at = first_is (p ∷ ps) k.filed k.lawful.rules p refl ∙ sym (apex_first (records_under (p ∷ ps)) k.lawful.rules) ∙ sym k.apex in
+    let tie : canonical_cmp at p.0 ≡ Equal = subst (λ name. canonical_cmp name p.0 ≡ Equal) own (tied_itself canonical_total p.0) in
+    sym (ap (λ o. items_of (option_map (λ (q : Filed). q.1) (cond (is_eq o) (Some p) (find (λ (q : Filed). is_eq (canonical_cmp at q.0)) ps)))) tie)

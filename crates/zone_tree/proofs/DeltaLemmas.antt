@@ -1,5 +1,5 @@
 -- What a zone has that another hasn't, from the owners where they differ.
-use Rattle.std.proofs.Common.{◌≡◌, refl, sym, ap, ◌∙◌, subst, ℕ, ◌<◌, ◌≤◌, Bool, true, false, ◌&&◌, ◌||◌, cond, List, [], ◌∷◌, ◌++◌, length, arith, true≢false, eqb-true, eq-eqb, append-nil}
+use Rattle.std.proofs.Common.{◌≡◌, refl, sym, ap, ◌∙◌, subst, ℕ, ◌+◌, ◌<◌, ◌≤◌, Bool, true, false, ◌&&◌, ◌||◌, cond, List, [], ◌∷◌, ◌++◌, length, take, get_or, arith, true≢false, eqb-true, eq-eqb, append-nil}
 use Rattle.std.specs.Prelude.{◌==◌, not}
 use Rattle.std.specs.declared.cmp.Ordering.TheVariants.{Less, Equal}
 use Rattle.std.specs.List.{filter, list_any, All, AllPairs, AllByRecursion}
@@ -8,6 +8,7 @@ use Rattle.std.specs.Ordering.{nat_cmp, is_lt, is_eq, ordering_then}
 use Rattle.std.specs.Cmp.{first_so, second_so}
 use Rattle.std.proofs.lemmas.Cmp.{tied_itself, alike_right}
 use Rattle.std.proofs.lemmas.Grind.{flat_map-append}
+use Rattle.std.proofs.lemmas.List.{take_more}
 use Rattle.std.proofs.lemmas.Map.Views.{any-filter_same}
 use Rattle.std.proofs.lemmas.List.Elements.{All-from_recursion, recursion_from_All, filter-append}
 use Rattle.dns_name.specs.Name.{is_same, canonical_cmp}
@@ -18,11 +19,11 @@ use Rattle.shared_tree.proofs.PairLemmas.{each_passes, filter_none}
 use Rattle.zone_tree.specs.Zone.{IsZone, IsBefore, is_of, stands_at, share_ttl, rrset_of, rrsets_of}
 use Rattle.zone_tree.specs.Sets.{records_in, IsSetBefore, IsOf, IsRRset, AreAscending, AreWhole, sets_in}
 use Rattle.zone_tree.specs.Change.{is_same_record, left_out}
-use Rattle.zone_tree.specs.Delta.{DifferOnlyAt, some_set, sets_left_out, sets_of, AreWholeAt}
+use Rattle.zone_tree.specs.Delta.{DifferOnlyAt, other_than_soa, some_set, sets_left_out, sets_of, AreWholeAt}
 use Rattle.zone_tree.proofs.NameOrder.{canonical_total, folds_from_same, tie_from_same}
 use Rattle.zone_tree.proofs.Rising.{each_weaker, each_append, each_both, each_filter, each_always, Rises, Rises-append, Rises-filter, pairs_from_rises, rises_from_pairs}
 use Rattle.zone_tree.proofs.SetLemmas.{record_total}
-use Rattle.zone_tree.proofs.WalkLemmas.{records_of_sets, behind_by, owners_rise}
+use Rattle.zone_tree.proofs.WalkLemmas.{records_of_sets, sets_from_whole, behind_by, owners_rise}
 use Rattle.zone_tree.proofs.LackingLemmas.{is_of_same}
 
 -- a record of a set's owner and type, beside the first of the set
@@ -237,7 +238,7 @@ records_at zone k (o ∷ owners) h =
     ∙ sym (filter_or o owners h.0 zone k)
 
 -- each record of a list is there
-same_itself : (r : Record) → is_same_record r r ≡ true
+pub same_itself : (r : Record) → is_same_record r r ≡ true
 same_itself r = rw (tied_itself record_total r, eq-eqb r.ttl r.ttl refl) refl
 
 or_true : (b : Bool) → b || true ≡ true
@@ -264,8 +265,25 @@ left_out_itself zone =
 differs_at : (owners : List (List (List ℕ))) (zone other : List Record) → DifferOnlyAt owners zone other → (r : Record) → list_any (is_same_record r) zone ≡ true → kept other r ≡ true → is_among owners r ≡ true
 differs_at owners zone other apart r there k = by (is_among owners r) refl
   where
-    found : (xs : List Record) → list_any (is_same_record r) (rrsets_of xs r.owner) ≡ list_any (is_same_record r) xs
-    found xs = any-filter_same (is_same_record r) (stands_at r.owner) true (λ s e. first_so (is_same s.owner r.owner) (s.rtype == r.rtype) (is_of_same r s r.owner r.rtype refl refl e)) xs
+    plain : (r.rtype == type_SOA) ≡ false
+    plain = so (r.rtype == type_SOA) (first_so (not (r.rtype == type_SOA)) (not (list_any (is_same_record r) other)) k)
+      where
+        so : (b : Bool) → not b ≡ true → b ≡ false
+        so true e = absurd (true≢false (sym e))
+        so false e = refl
+
+    same : (s : Record) → is_same_record r s ≡ true → is_of r.owner r.rtype s ≡ true
+    same s e = is_of_same r s r.owner r.rtype refl refl e
+
+    there_alike : (s : Record) → is_same_record r s ≡ true → not (s.rtype == type_SOA) ≡ true
+    there_alike s e =
+        let number : s.rtype ≡ r.rtype = eqb-true s.rtype r.rtype (second_so (is_same s.owner r.owner) (s.rtype == r.rtype) (same s e)) in
+        ap (λ n. not (n == type_SOA)) number ∙ ap not plain
+
+    found : (xs : List Record) → list_any (is_same_record r) (other_than_soa (rrsets_of xs r.owner)) ≡ list_any (is_same_record r) xs
+    found xs =
+        any-filter_same (is_same_record r) (λ s. not (s.rtype == type_SOA)) true there_alike (rrsets_of xs r.owner)
+        ∙ any-filter_same (is_same_record r) (stands_at r.owner) true (λ s e. first_so (is_same s.owner r.owner) (s.rtype == r.rtype) (same s e)) xs
 
     by : (b : Bool) → is_among owners r ≡ b → is_among owners r ≡ true
     by true e = e
@@ -299,3 +317,24 @@ module _ (zone other : List Record) (h : IsZone zone) (owners : List (List (List
       ∙ ap (filter (kept other)) (records_at zone (rises_from_pairs IsBefore zone h.rules.ascending) owners sorted)
       ∙ filter_within (kept other) (is_among owners) zone
       (each_weaker (λ r. list_any (is_same_record r) zone ≡ true) (λ r. kept other r ≡ true → is_among owners r ≡ true) (λ r e k. differs_at owners zone other apart r e k) zone (all_there zone))
+
+-- one owner more
+module _ (zone other : List Record) (owners : List (List (List ℕ))) (i : ℕ) (o : List (List ℕ)) (within : i < length owners) (is : o ≡ get_or owners i o) where
+  taken_more : take (i + 1) owners ≡ take i owners ++ o ∷ []
+  taken_more = take_more owners i o within ∙ ap (λ x. take i owners ++ x ∷ []) (sym is)
+
+  module _ (sets : List (List Record)) (records : records_in sets ≡ rrsets_of zone o) (whole : AreWhole zone sets) where
+    own : sets ≡ sets_in (rrsets_of zone o)
+    own = sym (sets_from_whole zone sets whole) ∙ ap sets_in records
+
+    pub out_more : sets_left_out (sets_of zone (take i owners)) other ++ sets_left_out sets other ≡ sets_left_out (sets_of zone (take (i + 1) owners)) other
+    out_more =
+        let at = λ (ns : List (List (List ℕ))). sets_of zone ns in
+        let one : at (o ∷ []) ≡ sets = append-nil (sets_in (rrsets_of zone o)) ∙ sym own in
+        ap (λ l. sets_left_out (at (take i owners)) other ++ sets_left_out l other) (sym one)
+        ∙ sym (flat_map-append (λ set. some_set (left_out set other)) (at (take i owners)) (at (o ∷ [])))
+        ∙ ap (λ l. sets_left_out l other) (sym (flat_map-append (λ owner. sets_in (rrsets_of zone owner)) (take i owners) (o ∷ [])))
+        ∙ ap (λ l. sets_left_out (at l) other) (sym taken_more)
+
+    pub whole_more : AllByRecursion (AreWholeAt zone) (take i owners) → AllByRecursion (AreWholeAt zone) (take (i + 1) owners)
+    whole_more h = subst (AllByRecursion (AreWholeAt zone)) (sym taken_more) (each_append (AreWholeAt zone) (take i owners) (o ∷ []) h (subst (AreWhole zone) own whole, tt))

@@ -98,7 +98,7 @@ flip : (xs ys : List ℕ) → bytes_eq xs ys ≡ bytes_eq ys xs
 flip xs ys =
     flip_by (bytes_eq xs ys) (bytes_eq ys xs) (λ e. (bytes_eq-Decides ys xs).1 (sym ((bytes_eq-Decides xs ys).0 e))) (λ e. (bytes_eq-Decides xs ys).1 (sym ((bytes_eq-Decides ys xs).0 e)))
 
-and_true : (b : Bool) → b && true ≡ b
+pub and_true : (b : Bool) → b && true ≡ b
 and_true true = refl
 and_true false = refl
 
@@ -137,7 +137,7 @@ lacking_all set other ttl h e apart =
     set (recursion_from_All (IsOf set) set h.shared))
 
 -- equal records are of one owner and type
-tied_parts : (o p q : Ordering) → is_eq (ordering_then o (ordering_then p q)) ≡ true → (o ≡ Equal) × (p ≡ Equal) × (q ≡ Equal)
+pub tied_parts : (o p q : Ordering) → is_eq (ordering_then o (ordering_then p q)) ≡ true → (o ≡ Equal) × (p ≡ Equal) × (q ≡ Equal)
 tied_parts Less p q e = absurd (true≢false (sym e))
 tied_parts Greater p q e = absurd (true≢false (sym e))
 tied_parts Equal Less q e = absurd (true≢false (sym e))

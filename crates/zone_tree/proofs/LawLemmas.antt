@@ -23,7 +23,7 @@ is_first x xs = (0, omega arith, refl)
 is_behind : {X : Type 0} (x : X) (xs : List X) (y : X) → Contains xs y → Contains (x ∷ xs) y
 is_behind x xs y h = (suc h.0, omega (arith, h.1), h.2)
 
-each_contained : {X : Type 0} (P : X → Type 0) (xs : List X) (y : X) → AllByRecursion P xs → Contains xs y → P y
+pub each_contained : {X : Type 0} (P : X → Type 0) (xs : List X) (y : X) → AllByRecursion P xs → Contains xs y → P y
 each_contained P [] y h k = absurd (omega (arith, k.1))
 each_contained P (x ∷ xs) y h k = ⊎_elim (λ e. subst P e h.0) (λ m. each_contained P xs y h.1 m) (first_or_behind x xs y k)
 
@@ -79,7 +79,7 @@ pub ancestors_exist : (zone : List Record) (name ancestor : List (List ℕ)) →
 ancestors_exist zone name ancestor h k = any_weaker (λ r. is_under r.owner name) (λ r. is_under r.owner ancestor) (λ r m. under_chains r.owner name ancestor m k) zone h
 
 -- what two tests keep, in either order
-filter_twice : {X : Type 0} (p q : X → Bool) (xs : List X) → filter (λ x. p x && q x) xs ≡ filter p (filter q xs)
+pub filter_twice : {X : Type 0} (p q : X → Bool) (xs : List X) → filter (λ x. p x && q x) xs ≡ filter p (filter q xs)
 filter_twice p q [] = refl
 filter_twice {X} p q (x ∷ xs) = by (q x) (filter_twice p q xs)
   where

@@ -17,3 +17,4 @@ pub mod ZoneTest
 pub mod VersionLemmas
 pub mod LackingLemmas
 pub mod DeltaLemmas
+pub mod PatchLemmas

@@ -1,5 +1,5 @@
 -- What one zone has that another hasn't, found at the owners where they differ (RFC 1995, 4; own).
-use Rattle.std.specs.Prelude.{◌≡◌, false, not, List, [], ◌∷◌, length, filter}
+use Rattle.std.specs.Prelude.{◌≡◌, ◌==◌, false, not, List, [], ◌∷◌, length, filter}
 use Rattle.std.specs.List.{list_any, flat_map}
 use Rattle.dns_name.specs.Name.{Name, is_same}
 use Rattle.dns_rdata.specs.Numbers.{type_SOA}
@@ -8,9 +8,13 @@ use Rattle.zone_tree.specs.Zone.{rrsets_of}
 use Rattle.zone_tree.specs.Sets.{sets_in, AreAscending, AreWhole}
 use Rattle.zone_tree.specs.Change.{is_same_record, left_out}
 
--- two zones differ only at owners: at each other name they have the same records
+-- records other than SOAs
+abbrev pub other_than_soa : List Record → List Record
+other_than_soa records = filter (λ r. not (r.rtype == type_SOA)) records
+
+-- two zones differ only at owners: at each other name they have the same records, SOA apart
 abbrev pub DifferOnlyAt : List Name → List Record → List Record → Type 0
-DifferOnlyAt owners zone other = (name : Name) → list_any (is_same name) owners ≡ false → rrsets_of zone name ≡ rrsets_of other name
+DifferOnlyAt owners zone other = (name : Name) → list_any (is_same name) owners ≡ false → other_than_soa (rrsets_of zone name) ≡ other_than_soa (rrsets_of other name)
 
 -- the records of a set that another set hasn't
 abbrev pub lacking : List Record → List Record → List Record

@@ -1,5 +1,5 @@
 //! What one zone changed of the one before it (RFC 1995, 4).
-ghost use Rattle.std.specs.Prelude.{◌≡◌, ◌↔◌, [], length, IfOk, IsTrue};
+ghost use Rattle.std.specs.Prelude.{◌≡◌, length, IfOk};
 ghost use Rattle.dns_rdata.specs.Numbers.{type_SOA};
 ghost use Rattle.dns_rdata.specs.Record.{rtype_of};
 ghost use Rattle.zone_tree.specs.Delta.{DifferOnlyAt};
@@ -36,8 +36,8 @@ impl Model for Delta {
 }
 
 impl Delta {
-    /// What changed from one zone to another, which differ only at these owners; they may come in any order, and more
-    /// than once. `AllocError` where a growth was refused.
+    /// What changed from one zone to another, which differ only at these owners, SOA apart; they may come in any order, and
+    /// more than once. `AllocError` where a growth was refused.
     pub fn between(
         alloc: Global,
         before: &Zone,
@@ -78,12 +78,5 @@ impl Delta {
         ensures ascending { AreAscending result.now }
     {
         &self.additions
-    }
-
-    /// Whether no record was taken out and none put in.
-    pub fn is_empty(&self) -> bool
-        ensures { IsTrue result ↔ ((self.now.deletions ≡ []) × (self.now.additions ≡ [])) }
-    {
-        self.deletions.is_empty() && self.additions.is_empty()
     }
 }

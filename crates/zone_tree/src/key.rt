@@ -35,6 +35,14 @@ impl OwnerKey {
         Ok(OwnerKey { name })
     }
 
+    /// The key of an owner as a set keeps it. `AllocError` where a growth was refused.
+    pub(crate) fn copied(alloc: Global, owner: &StoredName) -> Result<OwnerKey, AllocError>
+        ensures { IfOk result (λ key. key ≡ owner.now) }
+    {
+        let name = owner.copy(alloc)?;
+        Ok(OwnerKey { name })
+    }
+
     /// The owner.
     pub(crate) fn owner(&self) -> Name
         ensures { result ≡ self.now }

@@ -4,6 +4,8 @@ ghost use Rattle.dns_name.specs.Name.{Name, is_under};
 ghost use Rattle.dns_rdata.specs.Numbers.{type_A, type_AAAA, type_SOA};
 ghost use Rattle.dns_rdata.specs.Record.{Record};
 ghost use Rattle.zone_tree.specs.Change.{left_out};
+ghost use Rattle.zone_tree.specs.Patch.{put};
+ghost use Rattle.zone_tree.specs.Version.{Changes, AreChanges};
 ghost use Rattle.zone_tree.specs.Zone.{IsZone, rrset_of, rrsets_of, exists, soa_of, apex_of, is_wild};
 ghost use Rattle.zone_tree.specs.Example.{example, in_example, hour_record, small_zone};
 
@@ -25,9 +27,11 @@ pub fn soa_at_apex()
     ensures { (zone : List Record) → IsZone zone → rrset_of zone (apex_of zone) type_SOA ≡ soa_of zone }
 {}
 
-/// No zone has records that it hasn't (RFC 1995, 4).
-pub fn nothing_left_out()
-    ensures { (zone : List Record) → left_out zone zone ≡ [] }
+/// What changed from one zone to another, put on the first with the other's SOA, gives the other; from a zone to itself nothing
+/// changes (RFC 1995, 4).
+pub fn changes_give_the_next()
+    ensures none { (zone : List Record) → left_out zone zone ≡ [] }
+    ensures next { (zone next : List Record) (changes : Changes) → IsZone zone → IsZone next → AreChanges changes zone next → put zone changes (soa_of next) ≡ next }
 {}
 
 /// The records of the worked examples are a zone.

@@ -1,14 +1,13 @@
 //! What a zone has that another hasn't, found at the owners where they differ (RFC 1995, 4).
 ghost use Rattle.std.specs.Prelude.{◌≡◌, ◌++◌, true, not, filter, bytes_eq, All, IfOk, OnOk};
-ghost use Rattle.std.specs.List.{list_any, AllByRecursion};
+ghost use Rattle.std.specs.List.{list_any};
 ghost use Rattle.std.specs.List.Sorted.{IsStrictlySortedBy};
 ghost use Rattle.std.specs.Option.{option_to_list};
 ghost use Rattle.dns_name.specs.Name.{Name, canonical_cmp, is_same};
 ghost use Rattle.dns_rdata.specs.Record.{owner_of, rtype_of};
-ghost use Rattle.zone_tree.specs.Zone.{IsZone, rrsets_of};
-ghost use Rattle.zone_tree.specs.Sets.{records_in, sets_in, IsRRset, AreAscending};
+ghost use Rattle.zone_tree.specs.Sets.{records_in, IsRRset, AreAscending};
 ghost use Rattle.zone_tree.specs.Change.{left_out};
-ghost use Rattle.zone_tree.specs.Delta.{DifferOnlyAt, lacking, some_set, sets_left_out, sets_of, AreWholeAt};
+ghost use Rattle.zone_tree.specs.Delta.{DifferOnlyAt, lacking, some_set, sets_left_out};
 
 use crate::read::ZoneRead;
 use crate::zone::Zone;
@@ -66,16 +65,6 @@ fn set_left_out(alloc: Global, set: &RRset, other: &Zone) -> Result<Option<RRset
     }
 }
 
-// A set, where there is one, behind others.
-fn put_some(to: &mut Vec<RRset>, set: Option<RRset>) -> Result<(), AllocError>
-    ensures { OnOk result (to.new.items ≡ to.old.items ++ option_to_list set) }
-{
-    if let Some(set) = set {
-        to.push(set)?;
-    }
-    Ok(())
-}
-
 // What sets have that a zone hasn't, set by set, behind others.
 fn put_left_out(
     alloc: Global,
@@ -87,51 +76,11 @@ fn put_left_out(
     ensures { OnOk result (to.new.items ≡ to.old.items ++ sets_left_out sets.now other.now) }
 {
     for set in sets {
-        let left = set_left_out(alloc, set, other)?;
-        put_some(to, left)?;
+        if let Some(left) = set_left_out(alloc, set, other)? {
+            to.push(left)?;
+        }
     }
     Ok(())
-}
-
-// What a zone's sets at an owner have that another zone hasn't, behind others.
-fn put_left_out_at(
-    alloc: Global,
-    to: &mut Vec<RRset>,
-    zone: &Zone,
-    other: &Zone,
-    owner: &Name,
-) -> Result<(), AllocError>
-    requires { IsZone zone.now }
-    ensures sets { OnOk result (to.new.items ≡ to.old.items ++ sets_left_out (sets_in (rrsets_of zone.now owner.now)) other.now) }
-    ensures whole { AreWholeAt zone.now owner.now }
-{
-    let sets = zone.rrsets_at(owner);
-    put_left_out(alloc, to, sets, other)
-}
-
-// What a zone's sets at owners have that another zone hasn't, in the order of the owners.
-fn left_out_at(
-    alloc: Global,
-    zone: &Zone,
-    other: &Zone,
-    owners: &[Name],
-) -> Result<Vec<RRset>, AllocError>
-    requires { IsZone zone.now }
-    ensures sets { IfOk result (λ sets. sets.items ≡ sets_left_out (sets_of zone.now owners.now) other.now) }
-    ensures whole { OnOk result (AllByRecursion (AreWholeAt zone.now) owners.now) }
-{
-    let mut sets = Vec::new(alloc);
-    for owner in owners {
-        put_left_out_at(alloc, &mut sets, zone, other, owner)?;
-    }
-    Ok(sets)
-}
-
-// The records of a zone are one.
-fn is_zone(zone: &Zone)
-    ensures { IsZone zone.now }
-{
-    let _ = zone.soa();
 }
 
 /// What a zone has that another hasn't, SOA apart, in canonical order, where they differ only at these owners, which are
@@ -147,7 +96,11 @@ pub(crate) fn left_out_sets(
     ensures ascending { IfOk result (λ sets. AreAscending sets.items) }
     ensures records { IfOk result (λ sets. records_in sets.items ≡ left_out zone.now other.now) }
 {
-    is_zone(zone);
-    let sets = left_out_at(alloc, zone, other, owners)?;
+    // Its records are a zone.
+    let _soa = zone.soa();
+    let mut sets = Vec::new(alloc);
+    for owner in owners {
+        put_left_out(alloc, &mut sets, zone.rrsets_at(owner), other)?;
+    }
     Ok(sets)
 }

@@ -28,7 +28,7 @@ pub use change::Change;
 pub use delta::Delta;
 pub use fault::{BrokenRule, NewFault, ZoneFault};
 pub use laws::{
-    example_is_a_zone, examples, names_that_exist, nothing_left_out, same_records, soa_at_apex,
+    changes_give_the_next, example_is_a_zone, examples, names_that_exist, same_records, soa_at_apex,
 };
 pub use parts::{Apex, find_apex, has_conflict};
 pub use read::ZoneRead;

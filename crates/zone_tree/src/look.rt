@@ -8,11 +8,11 @@ ghost use Rattle.dns_name.specs.Name.{canonical_cmp, is_same};
 ghost use Rattle.dns_rdata.specs.Record.{owner_of, rtype_of};
 ghost use Rattle.zone_tree.specs.Sets.{AreAscending};
 
-use dns_name::Name;
+use dns_name::StoredName;
 use dns_rdata::{RRset, RType};
 
 // How many sets have an owner before the name.
-fn count_before(sets: &[RRset], name: &Name) -> usize
+fn count_before(sets: &[RRset], name: &StoredName) -> usize
     requires { AreAscending sets.now }
     ensures bound { result ≤ length sets.now }
     ensures place { IsPartitionPoint (λ set. is_lt (canonical_cmp (owner_of set) name.now) ≡ true) (λ set. is_lt (canonical_cmp (owner_of set) name.now) ≡ false) sets.now result }
@@ -20,12 +20,12 @@ fn count_before(sets: &[RRset], name: &Name) -> usize
     sets.partition_point(
         |set: &RRset| -> bool
             ensures { result ≡ is_lt (canonical_cmp (owner_of set.now) name.entry.now) }
-        { set.stored_owner().order(name).is_lt() },
+        { set.stored_owner().cmp(name).is_lt() },
     )
 }
 
 // How many sets have an owner that isn't after the name.
-fn count_upto(sets: &[RRset], name: &Name) -> usize
+fn count_upto(sets: &[RRset], name: &StoredName) -> usize
     requires { AreAscending sets.now }
     ensures bound { result ≤ length sets.now }
     ensures place { IsPartitionPoint (λ set. is_le (canonical_cmp (owner_of set) name.now) ≡ true) (λ set. is_le (canonical_cmp (owner_of set) name.now) ≡ false) sets.now result }
@@ -33,12 +33,12 @@ fn count_upto(sets: &[RRset], name: &Name) -> usize
     sets.partition_point(
         |set: &RRset| -> bool
             ensures { result ≡ is_le (canonical_cmp (owner_of set.now) name.entry.now) }
-        { set.stored_owner().order(name).is_le() },
+        { set.stored_owner().cmp(name).is_le() },
     )
 }
 
 /// The sets of an owner.
-pub(crate) fn sets_at<'a>(sets: &'a [RRset], name: &Name) -> &'a [RRset]
+pub(crate) fn sets_at<'a>(sets: &'a [RRset], name: &StoredName) -> &'a [RRset]
     requires { AreAscending sets.now }
     ensures { result.now ≡ filter (λ set. is_same (owner_of set) name.now) sets.now }
 {

@@ -36,6 +36,8 @@ fn put_behind(alloc: Global, pairs: &mut Vec<Owned>, set: RRset) -> Result<(), A
         None => put_new(alloc, pairs, set),
         Some((key, mut own)) => {
             if key.is_of(set.stored_owner()) {
+                // Most owners have few sets, so room is made for one; where it is refused, `push` tells it.
+                let _ = own.reserve_exact(1);
                 own.push(set)?;
                 pairs.push((key, own))?;
                 return Ok(());
@@ -50,7 +52,7 @@ fn put_behind(alloc: Global, pairs: &mut Vec<Owned>, set: RRset) -> Result<(), A
 fn put_new(alloc: Global, pairs: &mut Vec<Owned>, set: RRset) -> Result<(), AllocError>
     ensures { OnOk result ((sets : List (List Record)) → AreGathered pairs.old.items sets → AreBefore (owner_of set) pairs.old.items → AreGathered pairs.new.items (sets ++ set ∷ [])) }
 {
-    let key = OwnerKey::new(alloc, &set.owner())?;
+    let key = OwnerKey::copied(alloc, set.stored_owner())?;
     let mut own = Vec::with_capacity(alloc, 1)?;
     own.push(set)?;
     pairs.push((key, own))?;

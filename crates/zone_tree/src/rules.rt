@@ -11,7 +11,7 @@ ghost use Rattle.zone_tree.specs.Fault.{IsFirstFault, NoneBefore};
 use crate::check::len_of;
 use crate::fault::BrokenRule;
 use crate::look::sets_at;
-use dns_name::Name;
+use dns_name::{Name, SoughtName, StoredName};
 use dns_rdata::{RRset, RType};
 
 /// That every owner is at or below the apex, the apex has an NS, each alias stands alone, and no NS stands at an owner
@@ -42,7 +42,8 @@ pub(crate) fn check_rules(sets: &[RRset], apex: &Name) -> Result<(), BrokenRule>
 fn has_outside(sets: &[RRset], apex: &Name) -> bool
     ensures { result ≡ list_any (λ set. not (is_under (owner_of set) apex.now)) sets.now }
 {
-    sets.iter().any(|set| !set.stored_owner().is_under(apex))
+    let sought = SoughtName::new(apex);
+    sets.iter().any(|set| !sought.is_above(set.stored_owner()))
 }
 
 /// Whether an NS stands at the apex.
@@ -50,11 +51,11 @@ pub(crate) fn has_name_server(sets: &[RRset], apex: &Name) -> bool
     ensures { result ≡ list_any (λ set. is_same (owner_of set) apex.now && rtype_of set == type_NS) sets.now }
 {
     sets.iter()
-        .any(|set| set.owner() == *apex && set.rtype() == RType::NS)
+        .any(|set| set.rtype() == RType::NS && set.owner() == *apex)
 }
 
 // Whether an owner has one record.
-fn has_one_record(sets: &[RRset], owner: &Name) -> bool
+fn has_one_record(sets: &[RRset], owner: &StoredName) -> bool
     requires { AreAscending sets.now }
     ensures { result ≡ (length (rrsets_of (records_in sets.now) owner.now) == 1) }
 {
@@ -69,7 +70,7 @@ pub(crate) fn has_crowded_alias(sets: &[RRset]) -> bool
     requires { AreAscending sets.now }
     ensures { result ≡ list_any (λ set. rtype_of set == type_CNAME && not (length (rrsets_of (records_in sets.now) (owner_of set)) == 1)) sets.now }
 {
-    sets.iter().any(|set| set.rtype() == RType::CNAME && !has_one_record(sets, &set.owner()))
+    sets.iter().any(|set| set.rtype() == RType::CNAME && !has_one_record(sets, set.stored_owner()))
 }
 
 /// Whether the first label is `*`: its length, and then its octet (RFC 4592, 2.1.1).
@@ -83,5 +84,5 @@ pub fn has_asterisk(name: &Name) -> bool
 pub(crate) fn has_wild_cut(sets: &[RRset]) -> bool
     ensures { result ≡ list_any (λ set. is_wild (owner_of set) && rtype_of set == type_NS) sets.now }
 {
-    sets.iter().any(|set| has_asterisk(&set.owner()) && set.rtype() == RType::NS)
+    sets.iter().any(|set| set.rtype() == RType::NS && has_asterisk(&set.owner()))
 }

@@ -1,8 +1,9 @@
 //! A small zone through each call, and lists that are no zone.
+use crate::delta::Delta;
 use crate::fault::{BrokenRule, NewFault};
 use crate::read::ZoneRead;
 use crate::version::Version;
-use crate::zone::Zone;
+use crate::zone::{Zone, edit};
 use dns_name::Name;
 use dns_rdata::{RData, RRset, RType, Serial, Ttl};
 use std::alloc::Global;
@@ -175,18 +176,34 @@ fn refuses(rt: HostRuntime) -> Result<(), Fail> {
     Ok(())
 }
 
-// The first version has number 0, the one behind it number 1, each the serial of its own zone.
+/// The version behind another, whose zone is the same; None where memory is refused.
+fn version_behind(alloc: Global, version: &Version) -> Option<Version> {
+    if version.number() > 9 {
+        return None;
+    }
+    let _soa = version.zone().soa();
+    let zone = edit(alloc, version.zone(), &[]).ok()?;
+    let delta = Delta::between(alloc, version.zone(), &zone, Vec::new(alloc)).ok()?;
+    Some(version.next(zone, delta))
+}
+
+/// How many sets a version took out and put in, and whether it has the old SOA of another; None of the first version.
+fn changed(version: &Version, before: &Version) -> Option<(usize, usize, bool)> {
+    let delta = version.delta()?;
+    let is_old = delta.old_soa().is_same(before.zone().soa());
+    Some((delta.deletions().len(), delta.additions().len(), is_old))
+}
+
+// The first version has number 0 and tells of no change, and the one behind it has number 1 and tells what it changed.
 #[test]
 fn versions(rt: HostRuntime) -> Result<(), Fail> {
-    let later = b"\0\0\0\0\0\x09\0\0\0\x02\0\0\0\x03\0\0\0\x04\0\0\0\x05";
     let ns: Row = (EXAMPLE, RType::NS, NS);
     let first = Version::first(zone_of(rt.alloc(), &[ns, (EXAMPLE, RType::SOA, SOA)])??);
     assert_eq!(rt; (first.number(), first.serial()), (0, Serial(1)));
-    assert!(rt; first.number() < 9);
-    let second = first.next(zone_of(rt.alloc(), &[ns, (EXAMPLE, RType::SOA, later)])??);
-    assert_eq!(rt; (second.number(), second.serial()), (1, Serial(9)));
-    assert!(rt; *second.zone().apex() == name(EXAMPLE)?);
-    assert_eq!(rt; (first.number(), first.serial()), (0, Serial(1)));
+    assert!(rt; changed(&first, &first).is_none());
+    let second = version_behind(rt.alloc(), &first).ok_or("no memory")?;
+    assert_eq!(rt; (second.number(), second.serial()), (1, Serial(1)));
+    assert!(rt; changed(&second, &first) == Some((0, 0, true)));
     Ok(())
 }
 

@@ -1,21 +1,25 @@
 //! Versions of a zone: the zones that it becomes, one behind the other.
-ghost use Rattle.std.specs.Prelude.{◌≡◌, ◌+◌, ◌<◌, ◌^◌, length};
+ghost use Rattle.std.specs.Prelude.{◌≡◌, ◌+◌, ◌<◌, ◌^◌, length, Some, None};
+ghost use Rattle.std.specs.Option.{option_copied};
 ghost use Rattle.dns_rdata.specs.Numbers.{type_SOA};
 ghost use Rattle.dns_rdata.specs.Data.{serial_of};
 ghost use Rattle.dns_rdata.specs.Record.{rtype_of};
-ghost use Rattle.zone_tree.specs.Version.{zone_serial, first_data};
+ghost use Rattle.zone_tree.specs.Version.{zone_serial, first_data, AreChanges};
 
+use crate::delta::Delta;
 use crate::read::ZoneRead;
 use crate::zone::Zone;
 use dns_rdata::{RRset, Serial};
 use std::marker::Model;
 
-/// A version of a zone: its number among the zone's versions, counted from 0, and the zone with its serial.
+/// A version of a zone: its number among the zone's versions, counted from 0, the zone with its serial, and what it changed
+/// of the version before it (RFC 1995, 4).
 #[derive(Drop)]
 pub struct Version {
     number: u64,
     zone: Zone,
     serial: Serial,
+    delta: Option<Delta>,
 }
 
 impl Model for Version {
@@ -24,7 +28,7 @@ impl Model for Version {
 
     ghost Value = { Numbered };
 
-    ghost view = { λ a. record { number = a.number; zone = a.zone } };
+    ghost view = { λ a. record { number = a.number; zone = a.zone; changes = a.delta } };
 
     ghost invariant = { λ a. a.serial.0 ≡ zone_serial a.zone };
 }
@@ -32,24 +36,27 @@ impl Model for Version {
 impl Version {
     /// The first version, of number 0.
     pub fn first(zone: Zone) -> Version
-        ensures { result ≡ record { number = 0; zone = zone } }
+        ensures { result ≡ record { number = 0; zone = zone; changes = None } }
     {
         Version {
             number: 0,
             serial: zone.serial(),
             zone,
+            delta: None,
         }
     }
 
-    /// The version behind this one.
-    pub fn next(&self, zone: Zone) -> Version
-        requires { self.now.number + 1 < 2 ^ 64 }
-        ensures { result ≡ record { number = self.now.number + 1; zone = zone } }
+    /// The version behind this one, with what it changed of this one's zone.
+    pub fn next(&self, zone: Zone, delta: Delta) -> Version
+        requires number { self.now.number + 1 < 2 ^ 64 }
+        requires changes { AreChanges delta self.now.zone zone }
+        ensures { result ≡ record { number = self.now.number + 1; zone = zone; changes = Some delta } }
     {
         Version {
             number: self.number + 1,
             serial: zone.serial(),
             zone,
+            delta: Some(delta),
         }
     }
 
@@ -72,6 +79,13 @@ impl Version {
         ensures { result.0 ≡ zone_serial self.now.zone }
     {
         self.serial
+    }
+
+    /// What it changed of the version before it; None of the first version (RFC 1995, 4).
+    pub fn delta(&self) -> Option<&Delta>
+        ensures { option_copied result ≡ self.now.changes }
+    {
+        self.delta.as_ref()
     }
 }
 

@@ -1,7 +1,7 @@
 //! A zone as a shared tree of its owners.
 ghost use Rattle.std.specs.Prelude.{◌≡◌, ◌<◌, ◌≤◌, List, length, Err, IfOk, OnOk, OnErr};
 ghost use Rattle.std.specs.Result.{IsErrOf};
-ghost use Rattle.std.specs.Option.{option_copied};
+ghost use Rattle.std.specs.Option.{option_copied, option_map};
 ghost use Rattle.dns_name.specs.Name.{canonical_cmp};
 ghost use Rattle.dns_rdata.specs.Record.{Record};
 ghost use Rattle.shared_tree.specs.Pairs.{first_pair, pair_after, pairs_behind, value_at};
@@ -99,7 +99,8 @@ impl ZoneRead for Zone {
     }
 
     fn soa(&self) -> &RRset {
-        match set_of_type(sets_at(&self.owners, &self.apex), RType::SOA) {
+        // The apex is the first owner: all others are below it (RFC 4034, 6.1).
+        match set_of_type(first_sets(&self.owners), RType::SOA) {
             Some(set) => set,
             None => unreachable!(),
         }
@@ -137,6 +138,16 @@ fn sets_of<'a>(owners: &'a Owners, owner: &SoughtName) -> &'a [RRset]
 {
     match owners.get(owner) {
         Some(sets) => sets.as_slice(),
+        None => &[],
+    }
+}
+
+/// The sets of the first owner.
+fn first_sets(owners: &Owners) -> &[RRset]
+    ensures { result.now ≡ items_of (option_map (λ pair. pair.1) (first_pair owners.now.pairs)) }
+{
+    match owners.first() {
+        Some(pair) => pair.1.as_slice(),
         None => &[],
     }
 }

@@ -3,6 +3,7 @@ use super::read_zone;
 use crate::fault::FileFault;
 use crate::zone_text::write_zone;
 use dns_name::Name;
+use dns_rdata::RType;
 use record_text::Cause;
 use std::alloc::{AllocError, Global};
 use std::process::Abort;
@@ -128,4 +129,70 @@ fn refuses_an_owner_where_memory_is_refused(rt: HostRuntime) {
 fn refuses_a_conflict_where_memory_is_refused(rt: HostRuntime) {
     let text = b"t. 6 SOA a.t. b.t. 1 2 3 4 5\nt. 6 NS a.t.\n*.t. 6 NS a.t.\n";
     is_refused_anew(&rt, text, 3, Cause::Conflict);
+}
+
+/// So many addresses of the owner `t.`, a line each.
+fn addresses(alloc: Global, count: u32) -> Result<String, AllocError> {
+    let mut text = String::new(alloc);
+    for number in 0..count {
+        let line = format!(in alloc; "t. 6 A 10.0.{}.{}\n", number / 256, number % 256)?;
+        text.push_str(line.as_str())?;
+    }
+    Ok(text)
+}
+
+/// The same, written once more where memory was refused.
+fn addresses_anew(alloc: Global, count: u32) -> Result<String, AllocError> {
+    match addresses(alloc, count) {
+        Ok(text) => Ok(text),
+        Err(AllocError) => addresses(alloc, count),
+    }
+}
+
+// A set of 257 records is told as too many at the line of its last, which is found by halves, and no growth that is refused.
+#[test]
+fn refuses_a_record_too_many_where_memory_is_refused(rt: HostRuntime) -> Result<(), Fail> {
+    let text = addresses_anew(rt.alloc(), 257)?;
+    is_refused_anew(&rt, text.as_bytes(), 257, Cause::Limit);
+    Ok(())
+}
+
+/// The zone of a text under the root, read a third time where memory was refused twice.
+fn read_thrice(alloc: Global, text: &[u8]) -> Result<Zone, FileFault> {
+    match read_zone(alloc, text, &Name::root()) {
+        Err(
+            FileFault {
+                line: 0,
+                cause: Cause::NoMemory,
+            },
+        ) => read_anew(alloc, text),
+        told => told,
+    }
+}
+
+/// A zone whose owner `t.` has so many addresses, in a text that is written a third time where memory was refused twice.
+fn zone_of_addresses(alloc: Global, count: u32) -> Result<String, AllocError> {
+    let mut text = Err(AllocError);
+    for _ in 0..3 {
+        text = text.or_else(|_: AllocError| addresses(alloc, count));
+    }
+    let mut text = text?;
+    let head = "t. 6 SOA a.t. b.t. 1 2 3 4 5\nt. 6 NS a.t.\n";
+    for _ in 0..2 {
+        if text.push_str(head).is_ok() {
+            return Ok(text);
+        }
+    }
+    text.push_str(head)?;
+    Ok(text)
+}
+
+// A growth of a set of 256 records isn't told as one record too many where it is refused and tried again, and refused again.
+#[test]
+fn fills_a_set_where_memory_is_refused_twice(rt: HostRuntime) -> Result<(), Fail> {
+    let text = zone_of_addresses(rt.alloc(), 256)?;
+    let zone = read_thrice(rt.alloc(), text.as_bytes())?;
+    let set = zone.rrset(zone.apex(), RType::A).ok_or("no addresses")?;
+    assert_eq!(rt; set.data().len(), 256);
+    Ok(())
 }

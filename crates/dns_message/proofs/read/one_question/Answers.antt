@@ -15,22 +15,22 @@ returns-in_err-at c =
     let answer = seen_answer _ _ _ _ _ _ _ c.count_at.ensures c.if-count_at-ne1.false c.question_at.ensures c.in_ok-question.was c.count_at-2.ensures c.records_at.ensures in
     c.from_residual-in_err-at.ensures ∙ sym (answer ∙ ap (behind_answer c.args.bytes.now c.in_ok-question.question) c.in_err-at.was)
 
-pub returns-in_err-at-2 : goal.returns-in_err-at-2
-returns-in_err-at-2 c =
+pub returns-in_err-serial : goal.returns-in_err-serial
+returns-in_err-serial c =
     let answer = seen_answer _ _ _ _ _ _ _ c.count_at.ensures c.if-count_at-ne1.false c.question_at.ensures c.in_ok-question.was c.count_at-2.ensures c.records_at.ensures in
-    let authority = seen_authority _ _ _ _ _ _ _ answer c.in_ok-at.was c.count_at-3.ensures c.records_at-2.ensures in
-    c.from_residual-in_err-at-2.ensures ∙ sym (authority ∙ ap (behind_authority c.args.bytes.now c.in_ok-question.question) c.in_err-at-2.was)
+    let authority = seen_authority _ _ _ _ _ _ _ answer c.in_ok-at.was c.count_at-3.ensures c.authority_at.ensures in
+    c.from_residual-in_err-serial.ensures ∙ sym (authority ∙ ap (behind_authority c.args.bytes.now c.in_ok-question.question) c.in_err-serial.was)
 
 pub returns-in_err-opt : goal.returns-in_err-opt
 returns-in_err-opt c =
     let answer = seen_answer _ _ _ _ _ _ _ c.count_at.ensures c.if-count_at-ne1.false c.question_at.ensures c.in_ok-question.was c.count_at-2.ensures c.records_at.ensures in
-    let authority = seen_authority _ _ _ _ _ _ _ answer c.in_ok-at.was c.count_at-3.ensures c.records_at-2.ensures in
-    let additional = seen_additional _ _ _ _ _ _ _ authority c.in_ok-at-2.was c.count_at-4.ensures c.records_at-3.ensures in
-    c.from_residual-in_err-opt.ensures ∙ sym (additional ∙ ap (option_map (λ s. (c.in_ok-question.question, s.0))) c.in_err-opt.was)
+    let authority = seen_authority _ _ _ _ _ _ _ answer c.in_ok-at.was c.count_at-3.ensures c.authority_at.ensures in
+    let additional = seen_additional _ _ _ _ _ _ _ authority c.in_ok-serial.was c.count_at-4.ensures c.records_at-2.ensures in
+    c.from_residual-in_err-opt.ensures ∙ sym (additional ∙ ap (option_map (λ s. (c.in_ok-question.question, c.in_ok-serial.serial, s.0))) c.in_err-opt.was)
 
 pub returns : goal.returns
 returns c =
     let answer = seen_answer _ _ _ _ _ _ _ c.count_at.ensures c.if-count_at-ne1.false c.question_at.ensures c.in_ok-question.was c.count_at-2.ensures c.records_at.ensures in
-    let authority = seen_authority _ _ _ _ _ _ _ answer c.in_ok-at.was c.count_at-3.ensures c.records_at-2.ensures in
-    let additional = seen_additional _ _ _ _ _ _ _ authority c.in_ok-at-2.was c.count_at-4.ensures c.records_at-3.ensures in
-    sym (additional ∙ ap (option_map (λ s. (c.in_ok-question.question, s.0))) c.in_ok-opt.was)
+    let authority = seen_authority _ _ _ _ _ _ _ answer c.in_ok-at.was c.count_at-3.ensures c.authority_at.ensures in
+    let additional = seen_additional _ _ _ _ _ _ _ authority c.in_ok-serial.was c.count_at-4.ensures c.records_at-2.ensures in
+    sym (additional ∙ ap (option_map (λ s. (c.in_ok-question.question, c.in_ok-serial.serial, s.0))) c.in_ok-opt.was)

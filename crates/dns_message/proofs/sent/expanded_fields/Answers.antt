@@ -1,4 +1,4 @@
-use Rattle.std.proofs.Common.{◌≡◌, ℕ, ◌+◌, ◌<◌, List, ◌++◌, Some, sym, ap, ◌∙◌, arith}
+use Rattle.std.proofs.Common.{◌≡◌, ℕ, ◌+◌, List, ◌++◌, Some, sym, ap, ◌∙◌, arith}
 use Rattle.dns_message.specs.Message.{Entry}
 use Rattle.dns_message.proofs.SentLemmas.{IsExpanding-one, IsExpanding-stop, IsExpanding-end, ends_right, ends_wrong}
 use Rattle.dns_message.proofs.sent.expanded_fields.Goals as goal

@@ -11,8 +11,8 @@ overflow_sub-octets c =
     let long = own.1.between.long in
     omega arith
 
-pub lower_between-requires-clause-order : goal.lower_between-requires-clause-order
-lower_between-requires-clause-order c =
+pub lowered-requires-clause-order : goal.lowered-requires-clause-order
+lowered-requires-clause-order c =
     let lies = rw c.in-Some-Fields.field-0-is at c.in-Some-Fields.ensures in
     let own = fields_of c.args.rtype.0 c.in-Some-Fields.front c.in-Some-Fields.field-0-1 c.in-Some-Fields.back c.in-Some-Fields.field-0-3 c.args.octets.now lies c.requires in
     let long = own.1.between.long in
@@ -24,4 +24,4 @@ returns-in-Some-Fields c =
     let own = fields_of c.args.rtype.0 c.in-Some-Fields.front c.in-Some-Fields.field-0-1 c.in-Some-Fields.back c.in-Some-Fields.field-0-3 c.args.octets.now lies c.requires in
     let is = own.1.is in
     let same = own.1.between.is in
-    IfOk-weaker c.lower_between.result (λ v. v.items ≡ _) (λ v. data_of c.args.rtype.0 c.args.octets.now ≡ Some v.items) (λ v e. is ∙ ap Some (same ∙ sym e)) c.lower_between.ensures
+    IfOk-weaker c.lowered.result (λ v. v ≡ _) (λ v. data_of c.args.rtype.0 c.args.octets.now ≡ Some v) (λ v e. is ∙ ap Some (same ∙ sym e)) c.lowered.ensures.octets

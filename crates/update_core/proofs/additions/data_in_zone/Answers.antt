@@ -1,5 +1,4 @@
-use Rattle.std.proofs.Common.{rules, ◌∙◌, sym, ap}
-use Rattle.update_core.specs.Act.{IsSent}
+use Rattle.std.proofs.Common.{sym}
 use Rattle.update_core.proofs.additions.data_in_zone.Goals as goal
 
 pub returns-in-Ok-clause-sent : goal.returns-in-Ok-clause-sent

@@ -1,9 +1,8 @@
-use Rattle.std.proofs.Common.{◌≡◌, ◌≢◌, ◌<◌, [], length, IfOk, Result, Ok, Err, sym, subst, ap, ◌∙◌, true≢false}
-use Rattle.std.specs.Result.{IsErrOf}
+use Rattle.std.proofs.Common.{◌≢◌, ◌<◌, [], length, sym, subst, ap, ◌∙◌, true≢false}
 use Rattle.dns_rdata.specs.Raw.{RawRecord}
 use Rattle.zone_tree.specs.Zone.{rrset_of}
-use Rattle.update_core.specs.Act.{entered, ttl_in_zone}
-use Rattle.update_core.specs.Applied.{joined, set_behind}
+use Rattle.update_core.specs.Act.{ttl_in_zone}
+use Rattle.update_core.specs.Applied.{set_behind}
 use Rattle.update_core.proofs.RowLemmas.{if_ok_is}
 use Rattle.update_core.proofs.RowEffects.{own_rtype, joined_is}
 use Rattle.update_core.proofs.additions.set_with.Goals as goal

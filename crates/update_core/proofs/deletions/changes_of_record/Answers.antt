@@ -1,6 +1,4 @@
-use Rattle.std.proofs.Common.{◌≡◌, [], length, sym, ap, ◌∙◌, arith}
-use Rattle.dns_rdata.specs.Record.{without_data}
-use Rattle.zone_tree.specs.Zone.{rrset_of}
+use Rattle.std.proofs.Common.{sym, ap, ◌∙◌}
 use Rattle.dns_rdata.specs.Raw.{RawRecord}
 use Rattle.update_core.specs.Act.{is_last_apex_record}
 use Rattle.update_core.proofs.RowEffects.{if_ok, record_of, record_kept, last_of}

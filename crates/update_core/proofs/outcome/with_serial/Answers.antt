@@ -1,4 +1,4 @@
-use Rattle.std.proofs.Common.{◌≡◌, [], ◌∷◌, length, Err, ap, ◌∙◌, arith}
+use Rattle.std.proofs.Common.{length, Err, ap, ◌∙◌, arith}
 use Rattle.std.proofs.lemmas.List.{length-map}
 use Rattle.update_core.specs.Act.{record_at_serial}
 use Rattle.update_core.proofs.RowEffects.{serial_change}

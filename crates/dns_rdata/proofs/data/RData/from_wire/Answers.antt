@@ -6,7 +6,7 @@ use Rattle.dns_rdata.proofs.data.RData.from_wire.Goals as goal
 
 pub invariant_of-result : goal.invariant_of-result
 invariant_of-result c =
-    let own = c.in_ok-own.own.items in
+    let own = c.in_ok-own.own in
     let octets = c.args.octets.now in
     let is : data_of c.args.rtype.0 octets ≡ Some own = search rules in
     let read = IsRead-data c.args.rtype.0 octets own is in
@@ -16,7 +16,7 @@ invariant_of-result c =
 
 pub returns-clause-data : goal.returns-clause-data
 returns-clause-data c =
-    let own = c.in_ok-own.own.items in
+    let own = c.in_ok-own.own in
     let octets = c.args.octets.now in
     let is : data_of c.args.rtype.0 octets ≡ Some own = search rules in
     let read = IsRead-data c.args.rtype.0 octets own is in

@@ -12,11 +12,11 @@ octets_with_serial-requires c =
 
 pub invariant_of-result : goal.invariant_of-result
 invariant_of-result c =
-    let own = c.self.inside.octets.items in
+    let own = c.self.inside.octets in
     let view : c.args.self.now.octets ≡ own = ap (λ (d : Data). d.octets) (sym c.self.view_is) in
     let typed : c.self.inside.rtype.0 ≡ 6 = ap (λ (d : Data). d.rtype) c.self.view_is ∙ c.requires in
     let form : data_of 6 own ≡ Some own = rw typed at c.self.invariant.form in
-    let is : c.in_ok-octets.octets.items ≡ with_serial c.args.serial.0 own = c.in_ok-octets.ensures ∙ ap (with_serial c.args.serial.0) (c.octets.ensures.octets ∙ view) in
+    let is : c.in_ok-octets.octets ≡ with_serial c.args.serial.0 own = c.in_ok-octets.ensures ∙ ap (with_serial c.args.serial.0) (c.octets.ensures.octets ∙ view) in
     rw (is, typed) (record {
       form = form-with_serial own c.args.serial.0 form;
       short = omega (arith, length-with_serial own c.args.serial.0 form, c.self.invariant.short);

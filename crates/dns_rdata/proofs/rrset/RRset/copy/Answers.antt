@@ -1,12 +1,10 @@
-use Rattle.std.proofs.Common.{◌≡◌, ◌∙◌, sym, ap}
-use Rattle.dns_rdata.specs.Record.{records_with, owner_of}
-use Rattle.dns_rdata.proofs.SetLemmas.{owner_of-records_with}
+use Rattle.std.proofs.Common.{◌≡◌, ◌∙◌}
+use Rattle.dns_rdata.specs.Record.{records_with}
 use Rattle.dns_rdata.proofs.rrset.RRset.copy.Goals as goal
 
 pub returns : goal.returns
 returns c =
     let set = c.self.inside in
-    let own = ap owner_of (sym c.self.view_is) ∙ owner_of-records_with set.owner set.rtype.0 set.ttl.0 set.rdata.items c.self.invariant.some in
-    let owner : c.in_ok-owner.owner ≡ set.owner = c.in_ok-owner.ensures.folded ∙ sym c.owner.ensures.folded ∙ c.owner.ensures.of ∙ own in
+    let owner : c.in_ok-owner.owner ≡ set.owner = c.in_ok-owner.ensures in
     let items : c.in_ok-rdata.rdata.items ≡ set.rdata.items = c.in_ok-rdata.ensures ∙ c.deref.ensures.value in
     (λ i. records_with (owner i) set.rtype.0 set.ttl.0 (items i)) ∙ c.self.view_is

@@ -54,7 +54,7 @@ invariant_of-self-2 c =
     let set = c.self.inside in
     let place = rw c.deref.ensures.value at c.in-Err.ensures.place in
     let ok : is_ok c.insert.result ≡ true = sym c.in_ok-map_err.ensures.variant in
-    let items = rw ok at c.insert.ensures.items in
+    let items = rw (ok, c.reserve_exact.ensures.items) at c.insert.ensures.items in
     let typed : c.args.rdata.rtype ≡ rtype_of (records_with set.owner set.rtype.0 set.ttl.0 set.rdata.items) = rw (← c.self.view_is) at c.requires in
     let own = rtype_of-records_with set.owner set.rtype.0 set.ttl.0 set.rdata.items c.self.invariant.some in
     let count : c.len.result ≡ length set.rdata.items = search rules in
@@ -67,7 +67,7 @@ returns-clause-ok c =
     let set = c.self.inside in
     let place = rw c.deref.ensures.value at c.in-Err.ensures.place in
     let ok : is_ok c.insert.result ≡ true = sym c.in_ok-map_err.ensures.variant in
-    let items = rw ok at c.insert.ensures.items in
+    let items = rw (ok, c.reserve_exact.ensures.items) at c.insert.ensures.items in
     let typed : c.args.rdata.rtype ≡ rtype_of (records_with set.owner set.rtype.0 set.ttl.0 set.rdata.items) = rw (← c.self.view_is) at c.requires in
     let more = records_with-with_data set.owner set.rtype.0 set.ttl.0 c.args.rdata set.rdata.items c.self.invariant.some typed in
     rw (items, ← c.self.view_is) (ap (records_with set.owner set.rtype.0 set.ttl.0) (sym place.1) ∙ more)

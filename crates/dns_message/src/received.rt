@@ -1,0 +1,102 @@
+//! The messages of a transfer as they are received (RFC 5936, 2.2; RFC 1995, 4).
+ghost use Rattle.std.specs.Prelude.{◌≡◌, ◌+◌, ◌≤◌, [], length, map, IfOk, MatchOption, None, unwrap_or};
+ghost use Rattle.std.specs.Option.{option_map};
+ghost use Rattle.dns_message.specs.Expanded.{expanded_data};
+ghost use Rattle.dns_message.specs.Reads.{is_reply, questions_at, records_at, body_in};
+ghost use Rattle.dns_message.specs.Received.{rcode_of, received, received_records, HasAnswerAt};
+
+use crate::entry::{Entry, entry_at};
+use crate::read::{
+    ANCOUNT, ARCOUNT, HEADER, NSCOUNT, QDCOUNT, count_at, is_reply, question_at, records_at,
+};
+use crate::sent::expanded;
+use crate::update::RawRecords;
+use dns_rdata::RawRecord;
+use std::alloc::{AllocError, Global};
+
+/// How many RCODEs four bits tell (RFC 1035, 4.1.1).
+const RCODES: u8 = 16;
+
+/// The records of the answer section of a message that was received, in their order, each with its owner in lower case and
+/// the names in its data in full; a record whose data can't be read has none, which is the form of no type that is served.
+/// None where the octets are no reply of RCODE NOERROR, or a question or a record of any section can't be read; octets behind
+/// the last record are ignored (RFC 1035, 4.1; RFC 5936, 2.2; own). An `Err` only where a growth was refused.
+pub fn received_records(alloc: Global, bytes: &[u8]) -> Result<Option<RawRecords>, AllocError>
+    ensures { IfOk result (λ found. found ≡ received_records bytes.now) }
+{
+    if bytes.len() < HEADER || !is_reply(bytes) || rcode_of(bytes) != 0 {
+        return Ok(None);
+    }
+    match answer_at(bytes) {
+        None => Ok(None),
+        Some(at) => all_received(alloc, bytes, at, count_at(bytes, ANCOUNT)),
+    }
+}
+
+/// The RCODE of a header (RFC 1035, 4.1.1).
+fn rcode_of(bytes: &[u8]) -> u8
+    requires { HEADER ≤ length bytes.now }
+    ensures { result ≡ rcode_of bytes.now }
+{
+    bytes[3] % RCODES
+}
+
+/// Where the answer section of a message begins; None where a question or a record of any section can't be read.
+fn answer_at(bytes: &[u8]) -> Option<usize>
+    requires { HEADER ≤ length bytes.now }
+    ensures { MatchOption result (body_in bytes.now ≡ None) (HasAnswerAt bytes.now) }
+{
+    let answer = behind_questions(bytes, HEADER, count_at(bytes, QDCOUNT))?;
+    let (_, authority) = records_at(bytes, answer, count_at(bytes, ANCOUNT))?;
+    let (_, additional) = records_at(bytes, authority, count_at(bytes, NSCOUNT))?;
+    let _ = records_at(bytes, additional, count_at(bytes, ARCOUNT))?;
+    Some(answer)
+}
+
+/// The position behind so many questions; None where one of them can't be read (RFC 1035, 4.1.2).
+fn behind_questions(bytes: &[u8], at: usize, count: u16) -> Option<usize>
+    ensures { result ≡ option_map (λ r. r.1) (questions_at count bytes.now at) }
+{
+    let mut place = at;
+    for _ in 0..count {
+        let (_, next) = question_at(bytes, place)?;
+        place = next;
+    }
+    Some(place)
+}
+
+/// So many records from a position on as they are received; None where one of them can't be read.
+fn all_received(
+    alloc: Global,
+    bytes: &[u8],
+    at: usize,
+    count: u16,
+) -> Result<Option<RawRecords>, AllocError>
+    ensures { IfOk result (λ found. found ≡ option_map (λ r. map (received bytes.now) r.0) (records_at count bytes.now at)) }
+{
+    let mut records = Vec::new(alloc);
+    let mut place = at;
+    for _ in 0..count {
+        let Some((entry, next)) = entry_at(bytes, place) else {
+            return Ok(None);
+        };
+        records.push(one_received(alloc, bytes, &entry)?)?;
+        place = next;
+    }
+    Ok(Some(RawRecords::new(records)))
+}
+
+/// A record as it is received.
+fn one_received(alloc: Global, bytes: &[u8], entry: &Entry) -> Result<RawRecord, AllocError>
+    requires { entry.now.at + entry.now.size ≤ length bytes.now }
+    ensures { IfOk result (λ own. own ≡ received bytes.now entry.now) }
+{
+    let octets = expanded(alloc, bytes, entry)?.unwrap_or(Vec::new(alloc));
+    Ok(RawRecord {
+        owner: entry.owner.fold(),
+        rtype: entry.rtype,
+        class: entry.class,
+        ttl: entry.ttl,
+        octets,
+    })
+}
