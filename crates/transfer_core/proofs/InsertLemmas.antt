@@ -6,7 +6,7 @@ use Rattle.zone_tree.specs.Zone.{IsBefore}
 use Rattle.zone_tree.specs.Change.{is_same_record}
 use Rattle.zone_tree.proofs.Rising.{Rises, each_weaker, each_filter}
 use Rattle.transfer_core.specs.Take.{is_among, inserted, joined, removed}
-use Rattle.transfer_core.proofs.RecordLemmas.{IsIn, each_in, same_itself, not_same_behind, not_same_before, not_before, among_from_in, kept_in}
+use Rattle.transfer_core.proofs.RecordLemmas.{IsIn, each_in, same_itself, not_same_behind, not_same_before, not_before, held_before, among_from_in, kept_in}
 
 -- filters whose tests agree along a list
 pub filter_same : (p q : Record → Bool) (zs : List Record) → AllByRecursion (λ z. p z ≡ q z) zs → filter p zs ≡ filter q zs
@@ -25,7 +25,7 @@ filter_twice p q (z ∷ zs) = by (q z) (filter_twice p q zs)
 -- in front of all others
 inserted_front : (r : Record) (zs : List Record) → AllByRecursion (IsBefore r) zs → inserted r zs ≡ r ∷ zs
 inserted_front r [] h = refl
-inserted_front r (z ∷ zs) h = rw h.0 refl
+inserted_front r (z ∷ zs) h = rw (held_before r z h.0) refl
 
 or_false : (b : Bool) → (b || false) ≡ b
 or_false true = refl

@@ -1,6 +1,7 @@
 pub mod RecordLemmas
 pub mod InsertLemmas
 pub mod ZoneLemmas
+pub mod SoaLemmas
 pub mod RunLemmas
 pub mod ReadLemmas
 pub mod FullLemmas
@@ -8,3 +9,8 @@ pub mod StepLemmas
 pub mod ChainLemmas
 pub mod FaultLemmas
 pub mod WalkLemmas
+pub mod PackedLemmas
+pub mod VersionLemmas
+pub mod WindowLemmas
+pub mod RunLongestLemmas
+pub mod RingLemmas

@@ -19,7 +19,7 @@ use Rattle.zone_tree.specs.Zone.{IsBefore}
 use Rattle.zone_tree.specs.Change.{is_same_record}
 use Rattle.zone_tree.proofs.NameOrder.{same_from_tie}
 use Rattle.zone_tree.proofs.SetLemmas.{record_total, less}
-use Rattle.transfer_core.specs.Take.{is_among}
+use Rattle.transfer_core.specs.Take.{held_cmp, is_among}
 
 -- a conjunction that holds, and one that doesn't
 pub both : (a b : Bool) → (a && b) ≡ true → (a ≡ true) × (b ≡ true)
@@ -54,8 +54,11 @@ not_same_behind r s h = rw (less (record_cmp r s) h) refl
 pub not_same_before : (r s : Record) → IsBefore r s → is_same_record s r ≡ false
 not_same_before r s h = rw (greater r s h) refl
 
-pub not_before : (r s : Record) → IsBefore r s → is_lt (record_cmp s r) ≡ false
-not_before r s h = ap is_lt (greater r s h)
+pub not_before : (r s : Record) → IsBefore r s → is_lt (held_cmp s r) ≡ false
+not_before r s h = ap (λ o. is_lt (ordering_then o (nat_cmp s.ttl r.ttl))) (greater r s h)
+
+pub held_before : (r s : Record) → IsBefore r s → is_lt (held_cmp r s) ≡ true
+held_before r s h = ap (λ o. is_lt (ordering_then o (nat_cmp r.ttl s.ttl))) (less (record_cmp r s) h)
 
 -- lawful records that a test finds equal are
 all_tied : (a b c : Ordering) → ordering_then a (ordering_then b c) ≡ Equal → (a ≡ Equal) × (b ≡ Equal) × (c ≡ Equal)

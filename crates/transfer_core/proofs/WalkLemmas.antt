@@ -1,5 +1,5 @@
 -- The sets of a zone that aren't the SOA's.
-use Rattle.std.proofs.Common.{◌≡◌, ap, ◌∙◌, ℕ, Bool, true, false, not, ◌==◌, cond, List, [], ◌∷◌, ◌++◌, All}
+use Rattle.std.proofs.Common.{◌≡◌, ap, ◌∙◌, ℕ, Bool, true, false, not, ◌==◌, cond, List, [], ◌∷◌, ◌++◌, All, subst, suc, arith}
 use Rattle.std.proofs.lemmas.List.Elements.{recursion_from_All, filter-append}
 use Rattle.dns_rdata.specs.Numbers.{type_SOA}
 use Rattle.dns_rdata.specs.Record.{Record}
@@ -21,3 +21,7 @@ kept_set set sets rtype h e = first_set set sets ∙ ap (λ l. l ++ beside_soa (
 
 pub passed_set : (set : List Record) (sets : List (List Record)) (rtype : ℕ) → All (λ r. r.rtype ≡ rtype) set → not (rtype == type_SOA) ≡ false → beside_soa (records_in (set ∷ sets)) ≡ beside_soa (records_in sets)
 passed_set set sets rtype h e = first_set set sets ∙ ap (λ l. l ++ beside_soa (records_in sets)) (by_type set rtype false h e)
+
+-- what holds of all holds of the rest
+pub rest_each : {X : Type 0} (P : X → Type 0) (x : X) (all xs : List X) → All P all → all ≡ x ∷ xs → All P xs
+rest_each P x all xs h e = λ k d l. (subst (All P) e h) (suc k) d (omega (arith, l))

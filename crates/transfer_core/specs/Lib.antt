@@ -1,6 +1,10 @@
 pub mod Lists
+pub mod Chain
+pub mod Window
+pub mod Packed
 pub mod Take
 pub mod Examples
+pub mod Told
 pub use Rattle.zone_tree.specs.Zone
 pub use Rattle.dns_name.specs.Name
 pub use Rattle.dns_rdata.specs.Numbers

@@ -3,7 +3,8 @@
 use Rattle.std.specs.Prelude.{◌≡◌, ◌++◌, ℕ, ◌^◌, Bool, ◌&&◌, not, ◌==◌, nat_lt, nat_le, List, [], ◌∷◌, length, filter, if◌then◌else◌, Option, Some, None, Result, Ok, Err}
 use Rattle.std.specs.Option.{option_map}
 use Rattle.std.specs.List.{list_any, list_all}
-use Rattle.std.specs.Ordering.{is_lt}
+use Rattle.std.specs.Ordering.{nat_cmp, ordering_then, is_lt}
+use Rattle.std.specs.declared.cmp.Ordering.{Ordering}
 use Rattle.dns_name.specs.Name.{Name, fold_name, is_under}
 use Rattle.dns_rdata.specs.Numbers.{type_NS, type_SOA, class_IN}
 use Rattle.dns_rdata.specs.Data.{data_of, serial_of}
@@ -35,10 +36,15 @@ is_soa r = r.rtype == type_SOA
 abbrev pub is_among : List Record → Record → Bool
 is_among records r = list_any (is_same_record r) records
 
--- records in canonical order with one more in its place (RFC 4034, 6.1 and 6.3)
+-- the order in which a holder keeps records: canonical order, and those that differ in their TTL alone by that (RFC 4034, 6.1 and 6.3;
+-- own)
+abbrev pub held_cmp : Record → Record → Ordering
+held_cmp r s = ordering_then (record_cmp r s) (nat_cmp r.ttl s.ttl)
+
+-- records in this order with one more in its place
 abbrev pub inserted : Record → List Record → List Record
 inserted r [] = r ∷ []
-inserted r (s ∷ ss) = if is_lt (record_cmp r s) then r ∷ s ∷ ss else s ∷ inserted r ss
+inserted r (s ∷ ss) = if is_lt (held_cmp r s) then r ∷ s ∷ ss else s ∷ inserted r ss
 
 -- records in canonical order with one more, where equal records are one
 abbrev pub joined : Record → List Record → List Record

@@ -5,18 +5,34 @@
 //! what is held, or the fault of the first record that has one. Laws and worked examples tell of them.
 #![tactic(auto)]
 
+mod chain;
+mod changes;
 mod examples;
 mod fault;
+mod kept;
 mod laws;
 mod list;
+mod packed;
+mod packer;
+mod windows;
 
+pub use chain::{ChainView, VersionList};
+pub use changes::{ChangesList, steps};
 pub use examples::{
     examples_are_zones, examples_of_broken_lists, examples_of_first_faults, examples_of_lists,
     examples_of_no_zones, examples_of_taken_lists, examples_of_wrong_bases,
 };
 pub use fault::TransferFault;
+pub use kept::{KeptChain, chain_since};
 pub use laws::{first_faults_are_told, full_lists_are_taken, incremental_lists_are_taken};
 pub use list::{FullList, LentRecord, SetRecords, full};
+pub use packed::messages_are_the_list;
+pub use packer::{MAX_MESSAGE, Packer, TransferRecords};
+pub use windows::{
+    examples_of_changes, examples_of_windows, serials_of_a_window_differ, windows_are_longest_runs,
+};
 
+#[cfg(test)]
+mod packer_tests;
 #[cfg(test)]
 mod tests;

@@ -1,8 +1,10 @@
 //! The list of a zone in whole (RFC 5936, 2.2).
 ghost use Rattle.std.specs.Iterator.{YieldsFirst, item_count};
-ghost use Rattle.std.specs.Prelude.{◌≡◌, ◌≢◌, ◌++◌, [], MatchOption};
+ghost use Rattle.std.specs.Prelude.{◌≡◌, ◌≢◌, ◌<◌, ◌^◌, ◌++◌, [], MatchOption};
 ghost use Rattle.std.specs.Option.{option_copied};
+ghost use Rattle.dns_name.specs.Name.{fold_name};
 ghost use Rattle.zone_tree.specs.Sets.{records_in};
+ghost use Rattle.zone_tree.specs.Zone.{IsZone};
 ghost use Rattle.transfer_core.specs.Lists.{full, beside_soa, records_left};
 
 use dns_name::StoredName;
@@ -18,17 +20,21 @@ pub struct LentRecord<'a> {
 }
 
 impl<'a> Model for LentRecord<'a> {
+    ghost use Rattle.std.specs.Prelude.{◌≡◌};
     ghost use Rattle.dns_rdata.specs.Record.{Record, owner_of, rtype_of, ttl_of};
 
     ghost Value = { Record };
 
     ghost view = { λ a. record { owner = owner_of a.set.now; rtype = rtype_of a.set.now; ttl = ttl_of a.set.now; rdata = a.rdata.now.octets } };
+
+    ghost invariant = { λ a. a.rdata.now.rtype ≡ rtype_of a.set.now };
 }
 
 impl<'a> LentRecord<'a> {
     /// The owner, in lower case.
     pub fn owner(&self) -> &'a StoredName
-        ensures { result.now ≡ self.now.owner }
+        ensures of { result.now ≡ self.now.owner }
+        ensures folded { result.now ≡ fold_name result.now }
     {
         self.set.stored_owner()
     }
@@ -42,14 +48,16 @@ impl<'a> LentRecord<'a> {
 
     /// The TTL, in seconds.
     pub fn ttl(&self) -> Ttl
-        ensures { result.0 ≡ self.now.ttl }
+        ensures of { result.0 ≡ self.now.ttl }
+        ensures lasts { result.0 < 2 ^ 31 }
     {
         self.set.ttl()
     }
 
     /// The data.
     pub fn rdata(&self) -> &'a RData
-        ensures { result.now.octets ≡ self.now.rdata }
+        ensures octets { result.now.octets ≡ self.now.rdata }
+        ensures typed { result.now.rtype ≡ self.now.rtype }
     {
         self.rdata
     }
@@ -63,12 +71,14 @@ pub struct SetRecords<'a> {
 }
 
 impl<'a> Model for SetRecords<'a> {
-    ghost use Rattle.std.specs.Prelude.{List};
+    ghost use Rattle.std.specs.Prelude.{◌≡◌, List, All};
     ghost use Rattle.dns_rdata.specs.Record.{Record, owner_of, rtype_of, ttl_of, records_with};
 
     ghost Value = { List Record };
 
     ghost view = { λ a. records_with (owner_of a.set.now) (rtype_of a.set.now) (ttl_of a.set.now) a.rest.now };
+
+    ghost invariant = { λ a. All (λ d. d.rtype ≡ rtype_of a.set.now) a.rest.now };
 }
 
 impl<'a> SetRecords<'a> {
@@ -160,7 +170,8 @@ impl<'a, Z: ZoneRead> Drop for FullList<'a, Z> {
 /// The list of a zone in whole: its SOA, all its other records in canonical order, its SOA again (RFC 5936, 2.2). It takes
 /// no memory.
 pub fn full<Z: ZoneRead>(zone: &Z) -> FullList<'_, Z>
-    ensures { result ≡ full (Z.records zone.now) }
+    ensures list { result ≡ full (Z.records zone.now) }
+    ensures lawful { IsZone (Z.records zone.now) }
 {
     let soa = zone.soa();
     FullList {

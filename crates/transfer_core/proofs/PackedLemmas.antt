@@ -1,0 +1,174 @@
+-- The messages of a transfer, one after another.
+use Rattle.std.proofs.Common.{◌≡◌, ◌≢◌, ℕ, ◌+◌, ◌-◌, ◌≤◌, Bool, true, false, MatchOption, IfSome, All, List, [], ◌∷◌, ◌++◌, length, drop, map, Option, Some, None, is_some, Bor, refl, sym, ap, ◌∙◌, arith, append_assoc}
+use Rattle.std.proofs.lemmas.List.{drop_at, drop-drop}
+use Rattle.std.proofs.lemmas.List.Elements.{All-nil, All-cons}
+use Rattle.std.specs.List.{flat_map}
+use Rattle.std.specs.Option.{option_map, option_copied, option_to_list}
+use Rattle.dns_name.specs.Name.{Name, IsName}
+use Rattle.dns_rdata.specs.Record.{Record}
+use Rattle.dns_message.specs.Answers.{sent, first_of, answers, filled}
+use Rattle.dns_message.specs.Message.{Message}
+use Rattle.dns_message.specs.Octets.{fits, reply_octets}
+use Rattle.dns_message.specs.declared.answers.SentRecord.{SentRecord}
+use Rattle.dns_message.specs.declared.query.Head.{Head}
+use Rattle.dns_message.specs.declared.query.Question.{Question}
+use Rattle.dns_message.proofs.SizeLemmas.{one_fits}
+use Rattle.transfer_core.specs.Packed.{max_message, spelt, packed_behind, packed_later, packed_from, octets_of, whole_or, datagram_of, messages_left}
+
+-- one record is taken from the front of a list, of which the first may have been taken before
+pub stepped : (next later : Option Record) (old new : List Record) → (next ≡ None → old ≡ []) → MatchOption later ((old ≡ []) × (new ≡ [])) (λ r. old ≡ r ∷ new) → option_to_list later ++ new ≡ drop 1 (option_to_list next ++ old)
+stepped (Some x) None old new ended h = h.1 ∙ sym h.0
+stepped (Some x) (Some r) old new ended h = sym h
+stepped None None old new ended h = h.1 ∙ sym (ap (drop 1) h.0)
+stepped None (Some r) old new ended h = let nothing = ended refl in cc
+
+pub drop-map : {A B : Type 0} (f : A → B) (xs : List A) → drop 1 (map f xs) ≡ map f (drop 1 xs)
+drop-map f [] = refl
+drop-map f (x ∷ xs) = refl
+
+pub none_first : (name : Name) (next : Option Record) (rest : List Record) → next ≡ None → rest ≡ [] → None ≡ first_of (map (spelt name) (option_to_list next ++ rest))
+none_first name next rest e f = rw (e, f) refl
+
+-- the first record of a list is a small one: its owner is a name, and its data has at most 4,096 octets
+abbrev pub BeginsSmall : List Record → Type 0
+BeginsSmall [] = Unit {0}
+BeginsSmall (r ∷ rs) = IsName r.owner × (length r.rdata ≤ 4096)
+
+pub begins_small : (o : Option SentRecord) (list : List Record) → option_map sent o ≡ first_of list → IfSome o (λ r. IsName r.owner) → IfSome o (λ r. length r.rdata.now ≤ 4096) → BeginsSmall list
+begins_small o [] e name short = tt
+begins_small None (r ∷ rs) e name short = cc
+begins_small (Some s) (r ∷ rs) e name short =
+    let same : sent s ≡ r = cc in
+    rw (← same) (name, short)
+
+-- by whether the next record fits
+behind_by : (head : Head) (question : Option Question) (front : List Record) (r : Record) (rs : List Record) (b : Bool) → fits (answers head question (front ++ r ∷ [])) max_message ≡ b → packed_behind head question (front ++ r ∷ []) rs ≡ answers head question (filled head question max_message (front ++ r ∷ []) rs).0 ∷ packed_later head (filled head question max_message (front ++ r ∷ []) rs).1 → packed_behind head question front (r ∷ rs) ≡ answers head question (filled head question max_message front (r ∷ rs)).0 ∷ packed_later head (filled head question max_message front (r ∷ rs)).1
+behind_by head question front r rs true e more = rw e more
+behind_by head question front r rs false e more = rw e refl
+
+-- the first of the messages takes as many records as fit
+behind_filled : (head : Head) (question : Option Question) (front rest : List Record) → packed_behind head question front rest ≡ answers head question (filled head question max_message front rest).0 ∷ packed_later head (filled head question max_message front rest).1
+behind_filled head question front [] = refl
+behind_filled head question front (r ∷ rs) =
+    behind_by head question front r rs (fits (answers head question (front ++ r ∷ [])) max_message) refl (behind_filled head question (front ++ r ∷ []) rs)
+
+-- and so it is behind the question where the first record fits by itself
+later_filled : (head : Head) (r : Record) (rs : List Record) → fits (answers head None (r ∷ [])) max_message ≡ true → packed_later head (r ∷ rs) ≡ answers head None (filled head None max_message [] (r ∷ rs)).0 ∷ packed_later head (filled head None max_message [] (r ∷ rs)).1
+later_filled head r rs e = rw e (behind_filled head None (r ∷ []) rs)
+
+-- there is a message still: a question is to be sent, or a record is left
+abbrev pub IsOpen : Option Question → List Record → Type 0
+IsOpen None list = list ≢ []
+IsOpen (Some question) list = Unit {0}
+
+first_message : (head : Head) (question : Option Question) (list : List Record) → IsOpen question list → BeginsSmall list → packed_from head question list ≡ answers head question (filled head question max_message [] list).0 ∷ packed_later head (filled head question max_message [] list).1
+first_message head (Some question) list more small = behind_filled head (Some question) [] list
+first_message head None [] more small = absurd (more refl)
+first_message head None (r ∷ rs) more small = later_filled head r rs (one_fits head r small.0 small.1)
+
+-- the octets of the messages are those of the first, and then those of the others
+pub next_octets : (head : Head) (question : Option Question) (list left : List Record) (octets : List ℕ) → IsOpen question list → BeginsSmall list → octets ≡ reply_octets (answers head question (filled head question max_message [] list).0) → left ≡ (filled head question max_message [] list).1 → octets_of (packed_from head question list) ≡ octets ∷ octets_of (packed_from head None left)
+next_octets head question list left octets more small written rest =
+    ap octets_of (first_message head question list more small)
+    ∙ ap (λ (o : List ℕ). o ∷ octets_of (packed_later head (filled head question max_message [] list).1)) (sym written)
+    ∙ ap (λ (records : List Record). octets ∷ octets_of (packed_later head records)) (sym rest)
+
+-- where the first record of a list is there, a message is
+pub open_listed : (o : Option SentRecord) (question : Option Question) (list : List Record) → option_map sent o ≡ first_of list → is_some o ≡ true → IsOpen question list
+open_listed o (Some q) list e some = tt
+open_listed (Some s) None [] e some = cc
+open_listed None None [] e some = cc
+open_listed o None (r ∷ rs) e some = λ nothing. cc
+
+-- where a question is to be sent, a message is
+pub open_asked : (question : Option Question) (list : List Record) → is_some question ≡ true → IsOpen question list
+open_asked None list some = cc
+open_asked (Some q) list some = tt
+
+pub copied_some : {T : Type 0} (o : Option (Bor T)) → is_some o ≡ true → is_some (option_copied o) ≡ true
+copied_some None some = cc
+copied_some (Some x) some = refl
+
+-- what was written with the question, and what is left without one
+pub packs : (head : Head) (question asked later : Option Question) (limit : ℕ) (list left : List Record) (octets : List ℕ) → limit ≡ max_message → asked ≡ question → later ≡ None → IsOpen question list → BeginsSmall list → octets ≡ reply_octets (answers head asked (filled head asked limit [] list).0) → left ≡ (filled head asked limit [] list).1 → octets_of (packed_from head question list) ≡ octets ∷ octets_of (packed_from head later left)
+packs head question asked later limit list left octets size same none more small written rest =
+    let told = written ∙ ap (λ (q : Option Question). reply_octets (answers head q (filled head q limit [] list).0)) same ∙ ap (λ (n : ℕ). reply_octets (answers head question (filled head question n [] list).0)) size in
+    let others = rest ∙ ap (λ (q : Option Question). (filled head q limit [] list).1) same ∙ ap (λ (n : ℕ). (filled head question n [] list).1) size in
+    next_octets head question list left octets more small told others
+    ∙ ap (λ (q : Option Question). octets ∷ octets_of (packed_from head q left)) (sym none)
+
+-- the one message over UDP was written, and none is left
+pub sends_one : (head : Head) (question later : Option Question) (soa : Option (List Record)) (list left : List Record) (q : Question) (one : List Record) (octets : List ℕ) → question ≡ Some q → soa ≡ Some one → later ≡ None → octets ≡ datagram_of head q list one → messages_left head question soa list ≡ octets ∷ messages_left head later soa left
+sends_one head question later soa list left q one octets asked is none written = rw (asked, is, none) (ap (λ (o : List ℕ). o ∷ []) (sym written))
+
+-- what is behind the front of a buffer stays where the front is another of the same length
+pub drop_behind : (k n : ℕ) (new out : List ℕ) → k ≤ n → length new ≡ k → drop n (new ++ drop k out) ≡ drop n out
+drop_behind k n new out h size =
+    let place : n ≡ k + (n - k) = omega arith in
+    ap (λ (m : ℕ). drop m (new ++ drop k out)) place
+    ∙ sym (drop-drop (n - k) k (new ++ drop k out))
+    ∙ ap (drop (n - k)) (drop_at new (drop k out) k size)
+    ∙ drop-drop (n - k) k out
+    ∙ ap (λ (m : ℕ). drop m out) (sym place)
+
+-- whether all records are taken tells what is sent
+pub all_taken : (whole other : List ℕ) (o : Option SentRecord) (left : List Record) → option_map sent o ≡ first_of left → is_some o ≡ false → whole ≡ whole_or whole other left
+all_taken whole other o [] e none = refl
+all_taken whole other None (r ∷ rs) e none = cc
+all_taken whole other (Some s) (r ∷ rs) e none = cc
+
+pub some_left : (whole other : List ℕ) (o : Option SentRecord) (left : List Record) → option_map sent o ≡ first_of left → is_some o ≡ true → other ≡ whole_or whole other left
+some_left whole other None [] e some = cc
+some_left whole other (Some s) [] e some = cc
+some_left whole other o (r ∷ rs) e some = refl
+
+-- what holds of the messages where the next record fits, and where it doesn't
+by_next : (P : List Message → Type 0) (head : Head) (question : Option Question) (front : List Record) (r : Record) (rs : List Record) (b : Bool) → fits (answers head question (front ++ r ∷ [])) max_message ≡ b → P (packed_behind head question (front ++ r ∷ []) rs) → P (answers head question front ∷ packed_behind head None (r ∷ []) rs) → P (packed_behind head question front (r ∷ rs))
+by_next P head question front r rs true e more apart = rw e more
+by_next P head question front r rs false e more apart = rw e apart
+
+-- the messages have all records
+behind_records : (head : Head) (question : Option Question) (front rest : List Record) → flat_map (λ (m : Message). m.answer) (packed_behind head question front rest) ≡ front ++ rest
+behind_records head question front [] = refl
+behind_records head question front (r ∷ rs) =
+    by_next (λ ms. flat_map (λ (m : Message). m.answer) ms ≡ front ++ r ∷ rs) head question front r rs (fits (answers head question (front ++ r ∷ [])) max_message) refl
+    (behind_records head question (front ++ r ∷ []) rs ∙ append_assoc front (r ∷ []) rs)
+    (ap (λ (t : List Record). front ++ t) (behind_records head None (r ∷ []) rs))
+
+pub all_records : (head : Head) (question : Option Question) (list : List Record) → flat_map (λ (m : Message). m.answer) (packed_from head question list) ≡ list
+all_records head None [] = refl
+all_records head None (r ∷ rs) = behind_records head None (r ∷ []) rs
+all_records head (Some question) list = behind_records head (Some question) [] list
+
+-- they have one header
+behind_head : (head : Head) (question : Option Question) (front rest : List Record) → All (λ (m : Message). m.head ≡ head) (packed_behind head question front rest)
+behind_head head question front [] = All-cons (λ (m : Message). m.head ≡ head) (answers head question front) [] refl (All-nil (λ (m : Message). m.head ≡ head))
+behind_head head question front (r ∷ rs) =
+    by_next (λ ms. All (λ (m : Message). m.head ≡ head) ms) head question front r rs (fits (answers head question (front ++ r ∷ [])) max_message) refl
+    (behind_head head question (front ++ r ∷ []) rs)
+    (All-cons (λ (m : Message). m.head ≡ head) (answers head question front) (packed_behind head None (r ∷ []) rs) refl (behind_head head None (r ∷ []) rs))
+
+pub same_head : (head : Head) (question : Option Question) (list : List Record) → All (λ (m : Message). m.head ≡ head) (packed_from head question list)
+same_head head None [] = All-nil (λ (m : Message). m.head ≡ head)
+same_head head None (r ∷ rs) = behind_head head None (r ∷ []) rs
+same_head head (Some question) list = behind_head head (Some question) [] list
+
+-- and those behind the first have no question
+later_unasked : (head : Head) (front rest : List Record) → All (λ (m : Message). m.question ≡ None) (packed_behind head None front rest)
+later_unasked head front [] = All-cons (λ (m : Message). m.question ≡ None) (answers head None front) [] refl (All-nil (λ (m : Message). m.question ≡ None))
+later_unasked head front (r ∷ rs) =
+    by_next (λ ms. All (λ (m : Message). m.question ≡ None) ms) head None front r rs (fits (answers head None (front ++ r ∷ [])) max_message) refl
+    (later_unasked head (front ++ r ∷ []) rs)
+    (All-cons (λ (m : Message). m.question ≡ None) (answers head None front) (packed_behind head None (r ∷ []) rs) refl (later_unasked head (r ∷ []) rs))
+
+behind_unasked : (head : Head) (question : Option Question) (front rest : List Record) → All (λ (m : Message). m.question ≡ None) (drop 1 (packed_behind head question front rest))
+behind_unasked head question front [] = All-nil (λ (m : Message). m.question ≡ None)
+behind_unasked head question front (r ∷ rs) =
+    by_next (λ ms. All (λ (m : Message). m.question ≡ None) (drop 1 ms)) head question front r rs (fits (answers head question (front ++ r ∷ [])) max_message) refl
+    (behind_unasked head question (front ++ r ∷ []) rs)
+    (later_unasked head (r ∷ []) rs)
+
+pub no_question : (head : Head) (question : Option Question) (list : List Record) → All (λ (m : Message). m.question ≡ None) (drop 1 (packed_from head question list))
+no_question head None [] = All-nil (λ (m : Message). m.question ≡ None)
+no_question head None (r ∷ rs) = behind_unasked head None (r ∷ []) rs
+no_question head (Some question) list = behind_unasked head (Some question) [] list

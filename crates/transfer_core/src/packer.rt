@@ -1,0 +1,258 @@
+//! The messages of a transfer: whole records, as many in each as fit (RFC 5936, 2.2).
+ghost use Rattle.std.specs.Prelude.{◌≡◌, ◌≤◌, List, [], ◌∷◌, ◌++◌, length, take, drop, map, MatchOption, IfSome, Some, None, if◌then◌else◌};
+ghost use Rattle.std.specs.Option.{option_map, option_to_list};
+ghost use Rattle.dns_name.specs.Name.{IsName, is_same};
+ghost use Rattle.dns_rdata.specs.Record.{Record};
+ghost use Rattle.dns_message.specs.Answers.{sent, first_of};
+ghost use Rattle.transfer_core.specs.Packed.{spelt, listed, packed, octets_of, datagram_of, datagram};
+
+use crate::chain::ChainView;
+use crate::changes::ChangesList;
+use crate::list::{FullList, LentRecord, SetRecords};
+use dns_message::{
+    Head, MIN_LIMIT, Question, RecordList, Reply, SentRecord, write_answers, write_reply,
+};
+use dns_name::Name;
+use dns_rdata::{RRset, Rcode, Shown};
+use std::marker::Model;
+use std::slice;
+use zone_tree::ZoneRead;
+
+/// The most octets of a message of a transfer (own).
+pub const MAX_MESSAGE: usize = 16384;
+
+/// The records of a transfer that are left.
+pub enum TransferRecords<'a, Z: ZoneRead, C: ChainView> {
+    /// Those of a set: of the SOA alone, where the one who asks holds what is served (RFC 1995, 2).
+    Set(SetRecords<'a>),
+    /// Those of a zone in whole (RFC 5936, 2.2).
+    Full(FullList<'a, Z>),
+    /// Those of what changed (RFC 1995, 4).
+    Changes(ChangesList<'a, C>),
+}
+
+impl<'a, Z: ZoneRead, C: ChainView> Drop for TransferRecords<'a, Z, C> {
+    fn drop(self) {
+        match self {
+            TransferRecords::Set(_) => {}
+            TransferRecords::Full(_) => {}
+            TransferRecords::Changes(_) => {}
+        }
+    }
+}
+
+impl<'a, Z: ZoneRead, C: ChainView> TransferRecords<'a, Z, C> {
+    /// The next record.
+    fn next_record(&mut self) -> Option<LentRecord<'a>>
+        ensures { MatchOption result
+            ((listed self.old ≡ []) × (listed self.new ≡ []))
+            (λ r. listed self.old ≡ r ∷ listed self.new) }
+    {
+        match self {
+            TransferRecords::Set(list) => list.next(),
+            TransferRecords::Full(list) => list.next(),
+            TransferRecords::Changes(list) => list.next(),
+        }
+    }
+}
+
+/// The records of a list as the one who asked for a name is shown them: that name keeps the spelling asked (own).
+pub(crate) struct SpeltList<'a, Z: ZoneRead, C: ChainView> {
+    name: &'a Name,
+    next: Option<LentRecord<'a>>,
+    rest: TransferRecords<'a, Z, C>,
+    ghost ended: { next ≡ None → listed rest ≡ [] },
+}
+
+impl<'a, Z: ZoneRead, C: ChainView> Drop for SpeltList<'a, Z, C> {
+    fn drop(self) {
+        let SpeltList {
+            name: _,
+            next: _,
+            rest: _,
+        } = self;
+    }
+}
+
+impl<'a, Z: ZoneRead, C: ChainView> SpeltList<'a, Z, C> {
+    fn new(name: &'a Name, mut list: TransferRecords<'a, Z, C>) -> SpeltList<'a, Z, C>
+        ensures { map (spelt result.name.now) (option_to_list result.next ++ listed result.rest) ≡ map (spelt name.now) (listed list.entry) }
+    {
+        let next = list.next_record();
+        SpeltList {
+            name,
+            next,
+            rest: list,
+        }
+    }
+}
+
+impl<'a, Z: ZoneRead, C: ChainView> RecordList for SpeltList<'a, Z, C> {
+    ghost left = { λ list. map (spelt list.name.now) (option_to_list list.next ++ listed list.rest) };
+
+    fn first(&self) -> Option<SentRecord<'_>>
+        ensures shown { option_map sent result ≡ first_of (map (spelt self.now.name.now) (option_to_list self.now.next ++ listed self.now.rest)) }
+        ensures lawful { IfSome result (λ r. IsName r.owner) }
+        ensures short { IfSome result (λ r. length r.rdata.now ≤ 4096) }
+    {
+        match &self.next {
+            None => None,
+            Some(record) => Some(sent_to(self.name, record)),
+        }
+    }
+
+    fn advance(&mut self) {
+        self.next = self.rest.next_record();
+    }
+}
+
+/// A record as the one who asked for a name is shown it.
+fn sent_to<'a>(name: &Name, lent: &LentRecord<'a>) -> SentRecord<'a>
+    ensures shown { sent result ≡ spelt name.now lent.now }
+    ensures lawful { IsName result.owner }
+    ensures short { length result.rdata.now ≤ 4096 }
+{
+    SentRecord {
+        owner: owner_to(name, lent.owner().to_name()),
+        rtype: lent.rtype(),
+        ttl: lent.ttl(),
+        rdata: lent.rdata().octets(),
+    }
+}
+
+/// An owner as the one who asked for a name is shown it.
+fn owner_to(name: &Name, owner: Name) -> Name
+    ensures spelt { result ≡ (if is_same owner name.now then name.now else owner) }
+    ensures lawful { IsName result }
+{
+    let shown = if owner == *name { name.copy() } else { owner };
+    // Its octets are those of a name.
+    let _ = shown.wire();
+    shown
+}
+
+/// Writes the one message of a list over UDP: the list where all of it fits a datagram; else the SOA alone, and where that
+/// doesn't fit either, the header and the question with TC 1 (RFC 1995, 2; own).
+fn write_datagram<Z: ZoneRead, C: ChainView>(
+    head: Head,
+    question: &Question,
+    records: &mut SpeltList<'_, Z, C>,
+    soa: &RRset,
+    out: &mut [u8],
+) -> usize
+    requires { length out.old ≡ MIN_LIMIT }
+    ensures octets { take result out.new ≡ datagram_of head question.now (map (spelt records.old.name.now) (option_to_list records.old.next ++ listed records.old.rest)) soa.now }
+    ensures len { result ≤ length out.old }
+{
+    let len = write_answers(head, Some(question), records, out);
+    let is_whole = records.first().is_none();
+    if is_whole {
+        return len;
+    }
+    let shown = Shown {
+        owner: question.name.copy(),
+        ttl: None,
+        sets: slice::from_ref(soa),
+    };
+    let reply = Reply {
+        head,
+        rcode: Rcode::NoError,
+        aa: true,
+        question: Some(question),
+        answer: slice::from_ref(&shown),
+        authority: &[],
+        additional: &[],
+        below_cut: false,
+    };
+    write_reply(&reply, MIN_LIMIT, out)
+}
+
+/// The messages of a transfer, one after another: whole records, as many in each as fit into [`MAX_MESSAGE`] octets. The first
+/// has the question, all have its header's ID, AA 1 and names with pointers into the same message (RFC 5936, 2.2). Over UDP
+/// there is one message (RFC 1995, 2). It takes no memory. Contracts see the octets of the messages that are left.
+pub struct Packer<'a, Z: ZoneRead, C: ChainView> {
+    head: Head,
+    question: Option<&'a Question>,
+    soa: Option<&'a RRset>,
+    records: SpeltList<'a, Z, C>,
+}
+
+impl<'a, Z: ZoneRead, C: ChainView> Model for Packer<'a, Z, C> {
+    ghost use Rattle.std.specs.Prelude.{List, ℕ, map, ◌++◌};
+    ghost use Rattle.std.specs.Option.{option_copied, option_to_list};
+    ghost use Rattle.transfer_core.specs.Packed.{messages_left, spelt, listed};
+
+    ghost Value = { List (List ℕ) };
+
+    ghost view = { λ p. messages_left p.head (option_copied p.question) (option_copied p.soa) (map (spelt p.records.name.now) (option_to_list p.records.next ++ listed p.records.rest)) };
+}
+
+impl<'a, Z: ZoneRead, C: ChainView> Drop for Packer<'a, Z, C> {
+    fn drop(self) {
+        let Packer {
+            head: _,
+            question: _,
+            soa: _,
+            records: _,
+        } = self;
+    }
+}
+
+impl<'a, Z: ZoneRead, C: ChainView> Packer<'a, Z, C> {
+    /// For a list that a question asks for over TCP (RFC 5936, 2.2; RFC 1995, 4).
+    pub fn new(
+        head: Head,
+        question: &'a Question,
+        list: TransferRecords<'a, Z, C>,
+    ) -> Packer<'a, Z, C>
+        ensures { result ≡ octets_of (packed head question.now (listed list.entry)) }
+    {
+        Packer {
+            head,
+            question: Some(question),
+            soa: None,
+            records: SpeltList::new(&question.name, list),
+        }
+    }
+
+    /// For a list that a question asks for over UDP, and the set of the SOA that is sent where it doesn't fit a datagram
+    /// (RFC 1995, 2; own).
+    pub fn datagram(
+        head: Head,
+        question: &'a Question,
+        list: TransferRecords<'a, Z, C>,
+        soa: &'a RRset,
+    ) -> Packer<'a, Z, C>
+        ensures { result ≡ datagram head question.now (listed list.entry) soa.now ∷ [] }
+    {
+        Packer {
+            head,
+            question: Some(question),
+            soa: Some(soa),
+            records: SpeltList::new(&question.name, list),
+        }
+    }
+
+    /// Writes the next message to the front of `out`, and gives how many octets it has; None at the end. What is behind the
+    /// first [`MAX_MESSAGE`] octets stays, and at the end all of it (RFC 5936, 2.2).
+    pub fn next_message(&mut self, out: &mut [u8]) -> Option<usize>
+        requires { MAX_MESSAGE ≤ length out.old }
+        ensures message { MatchOption result
+            ((self.old ≡ []) × (self.new ≡ []) × (out.new ≡ out.old))
+            (λ len. (self.old ≡ take len out.new ∷ self.new) × (len ≤ MAX_MESSAGE)) }
+        ensures behind { drop MAX_MESSAGE out.new ≡ drop MAX_MESSAGE out.old }
+    {
+        if let Some(soa) = self.soa {
+            let question = self.question.take()?;
+            let room = &mut out[..MIN_LIMIT];
+            return Some(write_datagram(self.head, question, &mut self.records, soa, room));
+        }
+        let ended = self.records.first().is_none();
+        if ended && self.question.is_none() {
+            return None;
+        }
+        let question = self.question.take();
+        let room = &mut out[..MAX_MESSAGE];
+        Some(write_answers(self.head, question, &mut self.records, room))
+    }
+}
