@@ -1,0 +1,10 @@
+pub mod HeldLemmas
+pub mod HoldingLemmas
+pub mod KeepLemmas
+pub mod SoaSize
+pub mod StepKeeps
+pub mod BeginLemmas
+pub mod TakingLemmas
+pub mod GroupLemmas
+pub mod EndLemmas
+pub mod MessageLemmas

@@ -1,0 +1,9 @@
+pub mod Grouped
+pub mod Held
+pub mod Standing
+pub mod Taking
+pub use Rattle.zone_tree.specs.Zone
+pub use Rattle.dns_name.specs.Name
+pub use Rattle.dns_rdata.specs.Record
+pub use Rattle.dns_rdata.specs.Raw
+pub use Rattle.transfer_core.specs.Take

@@ -1,0 +1,363 @@
+//! What one record makes of the records that are held (RFC 1995, 4; RFC 5936, 2.2).
+ghost use Rattle.std.specs.Prelude.{◌≡◌, ◌&&◌, [], ◌∷◌, true, false, length, nat_le, if◌then◌else◌, Ok, Err, IfOk};
+ghost use Rattle.dns_name.specs.Name.{fold_name};
+ghost use Rattle.zone_tree.specs.Zone.{IsZone, soa_of, apex_of};
+ghost use Rattle.transfer_core.specs.Lists.{beside_soa};
+ghost use Rattle.transfer_core.specs.Take.{Stage as Stands, opened, gathering, deleting, adding, held, old_soa, step, is_soa, is_among, inserted, removed, joined, ended};
+ghost use Rattle.transfer_in.specs.Standing.{Tells, AreHeld, reading_of, stage_of};
+
+use crate::ended::zone_of;
+use crate::held::HeldRecord;
+use crate::holding::Holding;
+use dns_name::Name;
+use dns_rdata::{MAX_SET, RType};
+use std::alloc::{AllocError, Global};
+use std::marker::Model;
+use transfer_core::{TransferFault, full};
+use zone_tree::{MAX_RECORDS, Zone, ZoneRead};
+
+/// Where a holder stands in a list.
+#[derive(Drop)]
+pub(crate) enum Stage {
+    /// Among the records of a full list.
+    Gathering,
+    /// Behind an old SOA: records go.
+    Deleting,
+    /// Behind a next SOA, which is this: records come.
+    Adding(HeldRecord),
+    /// Behind the SOA that closes the list.
+    Closed,
+}
+
+/// What is held within a list, behind its second record.
+#[derive(Drop)]
+pub(crate) struct Reading {
+    first: HeldRecord,
+    stage: Stage,
+    records: Holding,
+}
+
+impl Model for Reading {
+    ghost use Rattle.transfer_in.specs.Standing.{Within, HasSoa};
+
+    ghost Value = { Within };
+
+    ghost view = { λ a. record { first = a.first; stage = a.stage; records = a.records } };
+
+    ghost invariant = { λ a. HasSoa a.stage a.records };
+}
+
+/// That records are within the limits, where the record that was read is in the zone and no longer than a record may be, and
+/// its set then has so many.
+fn check_limits(fits: bool, records: Holding, size: usize) -> Result<Holding, TransferFault>
+    ensures same { IfOk result (λ next. next ≡ records) }
+    ensures told { Tells (if fits && nat_le size 256 && nat_le (length records) 1000000 then Ok records else Err TransferFault.NotInZone) (λ next. next) result }
+{
+    if fits && size <= MAX_SET && records.len() <= MAX_RECORDS {
+        return Ok(records);
+    }
+    Err(TransferFault::NotInZone)
+}
+
+/// That a record that was read is in the zone, and it and the records held then are within the limits.
+fn check_held(
+    alloc: Global,
+    apex: &Name,
+    one: &HeldRecord,
+    records: Holding,
+) -> Result<Holding, TransferFault>
+    ensures same { IfOk result (λ next. next ≡ records) }
+    ensures told { (stage : Stands) → Tells (held apex.now stage one.now records) (λ next. record { stage = stage; records = next }) result }
+{
+    let size = records.size_of(&one.key(alloc)?);
+    check_limits(one.fits(apex), records, size)
+}
+
+/// The records with one more.
+fn put(
+    alloc: Global,
+    apex: &Name,
+    records: Holding,
+    one: HeldRecord,
+) -> Result<Holding, TransferFault>
+    requires { is_among records one ≡ false }
+    ensures same { IfOk result (λ next. next ≡ inserted one records) }
+    ensures told { (stage : Stands) → Tells (held apex.now stage one (inserted one records)) (λ next. record { stage = stage; records = next }) result }
+{
+    let fits = one.fits(apex);
+    let (records, size) = records.with(alloc, one)?;
+    check_limits(fits, records, size)
+}
+
+/// The records with one more, where equal records are one.
+fn join(
+    alloc: Global,
+    apex: &Name,
+    records: Holding,
+    one: HeldRecord,
+) -> Result<Holding, TransferFault>
+    ensures { (stage : Stands) → Tells (held apex.now stage one (joined one records)) (λ next. record { stage = stage; records = next }) result }
+{
+    if !records.has(&one) {
+        return put(alloc, apex, records, one);
+    }
+    check_held(alloc, apex, &one, records)
+}
+
+/// The records without one of them.
+fn take_out(
+    alloc: Global,
+    apex: &Name,
+    records: Holding,
+    one: &HeldRecord,
+) -> Result<Holding, TransferFault>
+    requires { is_among records one.now ≡ true }
+    ensures same { IfOk result (λ next. next ≡ removed one.now records) }
+    ensures told { (stage : Stands) → Tells (held apex.now stage one.now (removed one.now records)) (λ next. record { stage = stage; records = next }) result }
+{
+    let (records, size) = records.without(alloc, one)?;
+    check_limits(one.fits(apex), records, size)
+}
+
+/// What a record makes of the records of a full list.
+fn gather(
+    alloc: Global,
+    apex: &Name,
+    first: HeldRecord,
+    records: Holding,
+    one: HeldRecord,
+) -> Result<Reading, TransferFault>
+    ensures told { Tells (step apex.now first gathering records one) reading_of result }
+    ensures first { IfOk result (λ next. next.first ≡ first) }
+{
+    if !one.is_soa() {
+        let records = join(alloc, apex, records, one)?;
+        let stage = Stage::Gathering;
+        return Ok(Reading {
+            first,
+            stage,
+            records,
+        });
+    }
+    if !first.is_same(&one) {
+        return Err(TransferFault::Broken);
+    }
+    let stage = Stage::Closed;
+    Ok(Reading {
+        first,
+        stage,
+        records,
+    })
+}
+
+/// What a record makes of records of which some go: an SOA ends the deletions.
+fn delete(
+    alloc: Global,
+    apex: &Name,
+    first: HeldRecord,
+    records: Holding,
+    one: HeldRecord,
+) -> Result<Reading, TransferFault>
+    requires { soa_of records ≡ [] }
+    ensures told { Tells (step apex.now first deleting records one) reading_of result }
+    ensures first { IfOk result (λ next. next.first ≡ first) }
+{
+    if one.is_soa() {
+        let soa = one.copy(alloc)?;
+        let records = put(alloc, apex, records, one)?;
+        let stage = Stage::Adding(soa);
+        return Ok(Reading {
+            first,
+            stage,
+            records,
+        });
+    }
+    if !records.has(&one) {
+        return Err(TransferFault::WrongBase);
+    }
+    let records = take_out(alloc, apex, records, &one)?;
+    let stage = Stage::Deleting;
+    Ok(Reading {
+        first,
+        stage,
+        records,
+    })
+}
+
+/// What a record makes of records to which some come, behind this SOA: the first SOA again closes the list, another one
+/// begins a step.
+fn add(
+    alloc: Global,
+    apex: &Name,
+    first: HeldRecord,
+    soa: HeldRecord,
+    records: Holding,
+    one: HeldRecord,
+) -> Result<Reading, TransferFault>
+    requires { soa_of records ≡ soa ∷ [] }
+    ensures told { Tells (step apex.now first adding records one) reading_of result }
+    ensures first { IfOk result (λ next. next.first ≡ first) }
+{
+    if !one.is_soa() {
+        if records.has(&one) {
+            return Err(TransferFault::WrongBase);
+        }
+        let records = put(alloc, apex, records, one)?;
+        let stage = Stage::Adding(soa);
+        return Ok(Reading {
+            first,
+            stage,
+            records,
+        });
+    }
+    if !first.is_same(&one) {
+        return begin_step(alloc, apex, first, soa, records, one);
+    }
+    if !records.has(&one) {
+        return Err(TransferFault::Broken);
+    }
+    let stage = Stage::Closed;
+    Ok(Reading {
+        first,
+        stage,
+        records,
+    })
+}
+
+/// What an old SOA makes of records with the SOA of the step before it, which it takes out (RFC 1995, 4).
+fn begin_step(
+    alloc: Global,
+    apex: &Name,
+    first: HeldRecord,
+    soa: HeldRecord,
+    records: Holding,
+    one: HeldRecord,
+) -> Result<Reading, TransferFault>
+    requires soa { soa_of records ≡ soa ∷ [] }
+    requires old { is_soa one ≡ true }
+    ensures told { Tells (old_soa apex.now records one) reading_of result }
+    ensures first { IfOk result (λ next. next.first ≡ first) }
+{
+    if one.serial() != soa.serial() {
+        return Err(TransferFault::WrongBase);
+    }
+    let left = without_soa(alloc, &soa, records)?;
+    let records = check_held(alloc, apex, &one, left)?;
+    let stage = Stage::Deleting;
+    Ok(Reading {
+        first,
+        stage,
+        records,
+    })
+}
+
+/// The records beside their one SOA, which is this.
+fn without_soa(alloc: Global, soa: &HeldRecord, records: Holding) -> Result<Holding, AllocError>
+    requires { soa_of records ≡ soa.now ∷ [] }
+    ensures { IfOk result (λ left. left ≡ beside_soa records) }
+{
+    let next = records.without(alloc, soa)?;
+    Ok(next.0)
+}
+
+/// The records of a zone beside its SOA.
+fn beside_soa(alloc: Global, zone: &Zone) -> Result<Holding, AllocError>
+    ensures { IfOk result (λ records. records ≡ beside_soa zone.now) }
+{
+    let mut records = Holding::new(alloc);
+    let mut list = full(zone);
+    while let Some(lent) = list.next() {
+        if lent.rtype() != RType::SOA {
+            let one = HeldRecord::lent(alloc, &lent)?;
+            let (next, _) = records.with(alloc, one)?;
+            records = next;
+        }
+    }
+    Ok(records)
+}
+
+/// One record alone.
+fn alone(alloc: Global, one: &HeldRecord) -> Result<Holding, AllocError>
+    ensures { IfOk result (λ records. records ≡ one.now ∷ []) }
+{
+    let (records, _) = Holding::new(alloc).with(alloc, one.copy(alloc)?)?;
+    Ok(records)
+}
+
+impl Reading {
+    /// What the second record of a list makes of a zone, behind the SOA that opens the list: an SOA makes it an incremental
+    /// list, another record a full one (RFC 1995, 4).
+    pub(crate) fn begin(
+        alloc: Global,
+        zone: &Zone,
+        first: HeldRecord,
+        one: HeldRecord,
+    ) -> Result<Reading, TransferFault>
+        ensures told { Tells (step (apex_of zone.now) first opened zone.now one) reading_of result }
+        ensures first { IfOk result (λ next. next.first ≡ first) }
+    {
+        let apex = zone.apex();
+        if !one.is_soa() {
+            let alone = alone(alloc, &first)?;
+            let records = join(alloc, apex, alone, one)?;
+            let stage = Stage::Gathering;
+            return Ok(Reading {
+                first,
+                stage,
+                records,
+            });
+        }
+        if first.is_same(&one) {
+            return Err(TransferFault::Broken);
+        }
+        if one.serial() != zone.serial() {
+            return Err(TransferFault::WrongBase);
+        }
+        let left = beside_soa(alloc, zone)?;
+        let records = check_held(alloc, apex, &one, left)?;
+        let stage = Stage::Deleting;
+        Ok(Reading {
+            first,
+            stage,
+            records,
+        })
+    }
+
+    /// What a further record makes of what is held, in a zone of this apex.
+    pub(crate) fn read(
+        self,
+        alloc: Global,
+        apex: &Name,
+        one: HeldRecord,
+    ) -> Result<Reading, TransferFault>
+        ensures told { Tells (step apex.now self.first (stage_of self.stage) self.records one) reading_of result }
+        ensures first { IfOk result (λ next. next.first ≡ self.first) }
+    {
+        let Reading {
+            first,
+            stage,
+            records,
+        } = self;
+        match stage {
+            Stage::Gathering => gather(alloc, apex, first, records, one),
+            Stage::Deleting => delete(alloc, apex, first, records, one),
+            Stage::Adding(soa) => add(alloc, apex, first, soa, records, one),
+            Stage::Closed => Err(TransferFault::Broken),
+        }
+    }
+
+    /// What is held where no record is left, as the zone of an apex, which is in lower case: `Broken` where the list isn't
+    /// closed.
+    pub(crate) fn end(self, alloc: Global, apex: &Name) -> Result<Zone, TransferFault>
+        requires held { AreHeld apex.now self.records }
+        requires folded { apex.now ≡ fold_name apex.now }
+        ensures told { Tells (ended apex.now (stage_of self.stage) self.records) (λ next. next) result }
+        ensures lawful { IfOk result IsZone }
+    {
+        let Reading { stage, records, .. } = self;
+        match stage {
+            Stage::Closed => zone_of(alloc, apex, records),
+            Stage::Gathering | Stage::Deleting | Stage::Adding(_) => Err(TransferFault::Broken),
+        }
+    }
+}
