@@ -47,7 +47,7 @@ run_grows before after ((step, given) ∷ more) r =
     }
 
 -- what stands at a place stays there behind more
-get_before_more : {T : Type 0} (values more : List T) (k : ℕ) → k < length values → slice_get (values ++ more) k ≡ slice_get values k
+pub get_before_more : {T : Type 0} (values more : List T) (k : ℕ) → k < length values → slice_get (values ++ more) k ≡ slice_get values k
 get_before_more [] more k h = absurd (omega arith)
 get_before_more (value ∷ values) more zero h = refl
 get_before_more (value ∷ values) more (suc k) h = get_before_more values more k (omega arith)

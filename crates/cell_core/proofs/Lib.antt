@@ -1,6 +1,5 @@
 pub mod CountLemmas
 pub mod LawLemmas
-pub mod MachineLemmas
 pub mod SeatLemmas
 pub mod FrameLemmas
 pub mod WordMachineLemmas
@@ -19,3 +18,6 @@ pub mod UserLemmas
 pub mod GoesOn
 pub mod MadeLemmas
 pub mod OwnerLemmas
+pub mod PublishedLemmas
+pub mod RunLawLemmas
+pub mod ProbeLemmas

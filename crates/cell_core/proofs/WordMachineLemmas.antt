@@ -11,8 +11,8 @@ use Rattle.cell_core.specs.declared.words.Publisher.TheVariants.{Settling}
 use Rattle.cell_core.specs.declared.words.WordEvent.{WordEvent}
 use Rattle.cell_core.specs.declared.words.WordStep.{WordStep}
 use Rattle.cell_core.specs.declared.words.WordStep.TheVariants.{Load, Settle}
-use Rattle.cell_core.specs.declared.step.StepFault.{StepFault}
-use Rattle.cell_core.specs.declared.step.StepFault.TheVariants.{NotEnabled, NoMemory}
+use Rattle.cell_core.specs.declared.fault.StepFault.{StepFault}
+use Rattle.cell_core.specs.declared.fault.StepFault.TheVariants.{NotEnabled, NoMemory}
 
 -- a step is refused exactly where there is none, if what is made is one, what is refused for want of a step isn't there, and
 -- what is refused for want of memory is

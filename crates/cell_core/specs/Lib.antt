@@ -1,10 +1,9 @@
 pub mod Cell
 pub mod Example
-pub mod Kept
 pub mod Loaded
 pub mod Made
+pub mod Published
 pub mod Shows
-pub mod Steps
 pub mod WordExample
 pub mod WordSteps
 pub mod Words

@@ -1,15 +1,20 @@
-//! The worked example on a machine, and refused growth.
+//! Worked examples on words, and refused growth.
+use crate::fault::StepFault;
 use crate::follows::Follows;
 use crate::laws::{
     buried_was_published, examples, follows_goes_on, last_is_not_buried, load_gives_the_last,
     only_grows, owned_is_not_buried, owned_was_published, owners_keep_their_value,
     up_gives_that_number,
 };
-use crate::machine::Machine;
-use crate::step::{Event, Step, StepFault};
+use crate::run_laws::{
+    burials_are_final, loads_give_the_last_published, no_slot_after_64_probes, no_word_overflows,
+    owners_find_what_was_published, rest_was_buried, run_examples, runs_only_add,
+    runs_tell_what_is_shown,
+};
 use crate::word_laws::{
-    buried_is_unowned, buried_once, calls_go_on, owner_finds_its_value, rest_is_buried_and_free,
-    word_examples, word_runs_show_runs, word_steps_show_the_cell,
+    buried_is_unowned, buried_once, calls_go_on, load_gives_what_was_in_w, owner_finds_its_value,
+    rest_is_buried_and_free, steps_are_a_function, word_examples, word_runs_show_runs,
+    word_steps_show_the_cell, words_only_grow,
 };
 use crate::word_machine::WordMachine;
 use crate::words::{WordEvent, WordStep};
@@ -26,100 +31,9 @@ impl Follows<u64> for Rising {
     ghost follows = { λ value next. value ≤ next };
 }
 
-// The first value is loaded, published over and buried when it has lost its two owners, the loader and the publisher.
-#[test]
-fn worked_example(rt: HostRuntime) -> Result<(), Fail> {
-    let mut machine = Machine::new(rt.alloc(), 10u64)?;
-    let cases = [
-        (Step::Load, Ok(Event::Loaded(0))),
-        (Step::Bury(0), Err(StepFault::NotEnabled)),
-        (Step::Publish(20), Ok(Event::Published(0))),
-        (Step::Load, Ok(Event::Loaded(1))),
-        (Step::Drop(0), Ok(Event::Dropped)),
-        (Step::Bury(0), Err(StepFault::NotEnabled)),
-        (Step::Drop(0), Ok(Event::Dropped)),
-        (Step::Drop(0), Err(StepFault::NotEnabled)),
-        (Step::Bury(0), Ok(Event::Buried)),
-        (Step::Bury(0), Err(StepFault::NotEnabled)),
-        (Step::Bury(1), Err(StepFault::NotEnabled)),
-        (Step::Bury(u64::MAX), Err(StepFault::NotEnabled)),
-        (Step::Drop(1), Ok(Event::Dropped)),
-    ];
-    for (step, want) in cases {
-        assert_eq!(rt; machine.step(step), want);
-    }
-    assert_eq!(rt; machine.last(), 1);
-    assert_eq!(rt; machine.value(0).copied(), Some(10));
-    assert_eq!(rt; machine.value(1).copied(), Some(20));
-    assert_eq!(rt; machine.value(2).copied(), None);
-    Ok(())
-}
-
-// Values that borrow.
-#[test]
-fn borrowed_values(rt: HostRuntime) -> Result<(), Fail> {
-    let mut machine = Machine::new(rt.alloc(), "one")?;
-    assert_eq!(rt; machine.step(Step::Publish("two")), Ok(Event::Published(0)));
-    assert_eq!(rt; machine.step(Step::Drop(0)), Ok(Event::Dropped));
-    assert_eq!(rt; machine.step(Step::Bury(0)), Ok(Event::Buried));
-    assert_eq!(rt; machine.value(0).copied(), Some("one"));
-    assert_eq!(rt; machine.value(1).copied(), Some("two"));
-    assert_eq!(rt; machine.last(), 1);
-    Ok(())
-}
-
-/// Makes a step, once more where a growth was refused: the machine was then as before.
-fn made<R: Abort>(rt: &R, machine: &mut Machine<u64>, step: Step<u64>, again: Step<u64>) -> Event {
-    let last = machine.last();
-    match machine.step(step) {
-        Ok(event) => event,
-        Err(fault) => {
-            assert_eq!(rt; fault, StepFault::NoMemory);
-            assert_eq!(rt; machine.last(), last);
-            machine.step(again).expect(rt, "memory")
-        }
-    }
-}
-
-/// The machine in which 0 is published, made once more where a growth was refused.
-fn started<R: Abort>(rt: &R, alloc: Global) -> Machine<u64> {
-    match Machine::new(alloc, 0) {
-        Ok(machine) => machine,
-        Err(fault) => {
-            assert_eq!(rt; fault, StepFault::NoMemory);
-            Machine::new(alloc, 0).expect(rt, "memory")
-        }
-    }
-}
-
-// With any one growth refused, the fault is NoMemory, the same step works once more, and in the end each number has its
-// two owners and no other: the refused steps gave none.
-#[test]
-fn refused_growth(rt: HostRuntime) {
-    let mut machine = started(&rt, rt.alloc());
-    for value in 1..40u64 {
-        let loaded = made(&rt, &mut machine, Step::Load, Step::Load);
-        assert_eq!(rt; loaded, Event::Loaded(value - 1));
-        let published = made(
-            &rt,
-            &mut machine,
-            Step::Publish(value),
-            Step::Publish(value),
-        );
-        assert_eq!(rt; published, Event::Published(value - 1));
-        assert_eq!(rt; machine.value(value).copied(), Some(value));
-    }
-    for number in 0..39u64 {
-        assert_eq!(rt; machine.step(Step::Drop(number)), Ok(Event::Dropped));
-        assert_eq!(rt; machine.step(Step::Drop(number)), Ok(Event::Dropped));
-        assert_eq!(rt; machine.step(Step::Bury(number)), Ok(Event::Buried));
-    }
-    assert_eq!(rt; machine.last(), 39);
-}
-
 // The words of the faults.
 #[test]
-fn words(rt: HostRuntime) -> Result<(), Fail> {
+fn faults(rt: HostRuntime) -> Result<(), Fail> {
     let cases = [
         (StepFault::NotEnabled, "C1 NotEnabled"),
         (StepFault::NoMemory, "C2 NoMemory"),
@@ -145,12 +59,24 @@ fn laws() {
     examples();
     word_steps_show_the_cell::<u64>();
     word_runs_show_runs::<u64>();
+    words_only_grow::<u64>();
     owner_finds_its_value::<u64>();
     buried_is_unowned::<u64>();
     buried_once::<u64>();
     calls_go_on::<u64>();
     word_examples();
     rest_is_buried_and_free::<u64>();
+    load_gives_what_was_in_w::<u64>();
+    steps_are_a_function::<u64>();
+    runs_tell_what_is_shown::<u64>();
+    owners_find_what_was_published::<u64>();
+    loads_give_the_last_published::<u64>();
+    burials_are_final::<u64>();
+    rest_was_buried::<u64>();
+    runs_only_add::<u64>();
+    no_word_overflows::<u64>();
+    no_slot_after_64_probes::<u64>();
+    run_examples();
 }
 
 /// A machine of words in which 0 is published, made once more where a growth was refused.
@@ -268,6 +194,31 @@ fn release_before_settle(rt: HostRuntime) -> Result<(), Fail> {
     for (step, want) in buried {
         assert_eq!(rt; machine.step(step), want);
     }
+    Ok(())
+}
+
+// Values that borrow.
+#[test]
+fn borrowed_values(rt: HostRuntime) -> Result<(), Fail> {
+    let mut machine = WordMachine::new(rt.alloc(), "one")?;
+    let cases = [
+        (
+            WordStep::Load,
+            Ok(WordEvent::Loaded {
+                owner: 0,
+                number: 0,
+            }),
+        ),
+        (WordStep::Probe, Ok(WordEvent::Passed)),
+        (WordStep::Probe, Ok(WordEvent::Taken)),
+        (WordStep::Prepare("two"), Ok(WordEvent::Prepared)),
+        (WordStep::Swap, Ok(WordEvent::Swapped(0))),
+    ];
+    for (step, want) in cases {
+        assert_eq!(rt; machine.step(step), want);
+    }
+    assert_eq!(rt; machine.value(0).copied(), Some("one"));
+    assert_eq!(rt; machine.last().copied(), Some("two"));
     Ok(())
 }
 

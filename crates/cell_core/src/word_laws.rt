@@ -1,5 +1,5 @@
 //! Laws of the steps on words, each the contract of a function that does nothing.
-ghost use Rattle.std.specs.Prelude.{◌≡◌, ◌≢◌, ℕ, ◌+◌, ◌-◌, ◌<◌, ◌≤◌, ◌==◌, ◌^◌, true, List, length, take, count_by, Option, Some, None};
+ghost use Rattle.std.specs.Prelude.{◌≡◌, ◌≢◌, ℕ, ◌+◌, ◌-◌, ◌<◌, ◌≤◌, ◌==◌, ◌^◌, true, List, ◌++◌, length, take, count_by, Option, Some, None};
 ghost use Rattle.std.specs.List.{slice_get};
 ghost use Rattle.cell_core.specs.Cell.{Cell, CellStep, IsLast, Runs};
 ghost use Rattle.cell_core.specs.Words.{State, found_by, found_last, grants, free_word, slot_of, number_in, version_in, word_of, given_of, fetch_add, fetch_sub, bulk, dead_word, begun, first_slot};
@@ -24,6 +24,13 @@ pub fn word_steps_show_the_cell<T>()
 pub fn word_runs_show_runs<T>()
     ensures { (before after : State T) (run : List (WordStep T × WordEvent)) (cell : Cell T) → Shows before cell → WordRuns before run after
         → (next : Cell T) × (steps : List (CellStep T × Option ℕ)) × (length steps ≤ length run) × Runs cell steps next × Shows after next }
+{}
+
+/// Whatever cell the words show, a run of steps on them publishes only behind what was published, and what was buried stays so.
+pub fn words_only_grow<T>()
+    ensures { (before after : State T) (run : List (WordStep T × WordEvent)) (cell : Cell T) → Shows before cell → WordRuns before run after
+        → (next : Cell T) × Shows after next × ((more : List T) × (next.published ≡ cell.published ++ more))
+        × ((k : ℕ) → cell.buried k ≡ true → next.buried k ≡ true) }
 {}
 
 /// An owner finds in its slot the value that was published with its number, through any reuse of the slot.

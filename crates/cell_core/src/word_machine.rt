@@ -1,14 +1,14 @@
 //! A cell of words on plain data, one atomic act at a time.
-ghost use Rattle.std.specs.Prelude.{◌≡◌, ◌<◌, ◌↔◌, Option, Some, None, IfOk, IfErr, OnErr, length, ◌∷◌, replicate};
+ghost use Rattle.std.specs.Prelude.{◌≡◌, ◌<◌, ◌↔◌, nat_lt, Option, Some, None, IfOk, IfErr, OnErr, length, ◌∷◌, replicate};
 ghost use Rattle.std.specs.List.{slice_get};
 ghost use Rattle.std.specs.Option.{option_copied, option_map};
 ghost use Rattle.std.specs.Result.{IsErrOf};
-ghost use Rattle.cell_core.specs.Words.{State, found_by, found_last, slot_of, given_of, number_in, dead_word, begun, first_slot, free_slot};
+ghost use Rattle.cell_core.specs.Words.{State, grants, found_by, found_last, slot_of, given_of, number_in, dead_word, begun, first_slot, free_slot};
 ghost use Rattle.cell_core.specs.Cell.{Cell, start};
 ghost use Rattle.cell_core.specs.Shows.{Shows, ShowsStep};
 ghost use Rattle.cell_core.specs.WordSteps.{Makes, HasWordStep, GrowsOwners, with_new_owner, with_owner, with_slot, with_shares, with_version};
 
-use crate::step::StepFault;
+use crate::fault::StepFault;
 use crate::words::{
     BULK, DEAD, FREE, GRANTS, Owner, Publisher, SLOTS, SPAN, Slot, Version, WordEvent, WordStep,
 };
@@ -81,6 +81,13 @@ impl<T: Drop> WordMachine<T> {
             WordStep::Bury(owner) => self.bury(owner),
             WordStep::Free(owner) => self.free(owner),
         }
+    }
+
+    /// Whether a share is left to give out of W: a load can be made.
+    pub fn has_shares(&self) -> bool
+        ensures { result ≡ nat_lt self.now.granted grants }
+    {
+        self.granted < GRANTS
     }
 
     /// The value that an owner finds in its slot; none where it owns nothing.

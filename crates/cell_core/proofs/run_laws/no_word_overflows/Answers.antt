@@ -1,0 +1,22 @@
+-- Words that show a cell are small.
+use Rattle.cell_core.proofs.RunLawLemmas.{from_first, latest_little, shares_little, load_adds, settle_has, release_has}
+use Rattle.cell_core.proofs.run_laws.no_word_overflows.Goals as goal
+
+pub returns-clause-latest : goal.returns-clause-latest
+returns-clause-latest g c first after run r = let told = from_first first after run r in latest_little after told.next told.shows
+
+pub returns-clause-shares : goal.returns-clause-shares
+returns-clause-shares g c first after run place there r = let told = from_first first after run r in shares_little after told.next told.shows place there
+
+pub returns-clause-load : goal.returns-clause-load
+returns-clause-load g c first after new run event r = let told = from_first first after run r in load_adds after new told.next event told.shows
+
+pub returns-clause-settle : goal.returns-clause-settle
+returns-clause-settle g c first after run number place given there r =
+    let told = from_first first after run r in
+    settle_has after told.next number place given there told.shows
+
+pub returns-clause-release : goal.returns-clause-release
+returns-clause-release g c first after run owner number place there r =
+    let told = from_first first after run r in
+    release_has after told.next owner number place there told.shows
