@@ -1,2 +1,4 @@
 pub mod ServedLemmas
 pub mod WantLemmas
+pub mod TransferLemmas
+pub mod RepliesLemmas

@@ -4,14 +4,18 @@ use Rattle.dns_rdata.specs.Record.{Record}
 use Rattle.dns_message.specs.Reads.{header_of}
 use Rattle.dns_message.specs.Request.{update_of, reads, IsWant, Tells}
 use Rattle.dns_message.specs.Updates.{update_in}
+use Rattle.dns_message.specs.Octets.{fit}
 use Rattle.dns_message.specs.declared.query.Head.{Head}
+use Rattle.dns_message.specs.declared.query.Query.{Query as QueryAsked}
 use Rattle.dns_message.specs.declared.query.Parsed.{Parsed}
 use Rattle.dns_message.specs.declared.query.Parsed.TheVariants.{NoMemory}
 use Rattle.dns_message.specs.declared.update.Update.{Update}
 use Rattle.dns_message.proofs.UpdatesLemmas.{head_kept}
 use Rattle.zone_tree.specs.Version.{Version}
 use Rattle.serve_core.specs.Served.{Got, got, got_of, without_memory, StandsIn, IsBehind, ServesSaid, Serves}
+use Rattle.serve_core.specs.Transfers.{peer_over, transport_of, reply_to_peer}
 use Rattle.serve_core.specs.Transport.{limit_of}
+use Rattle.serve_core.specs.declared.peer.Peer.{Peer}
 use Rattle.serve_core.specs.declared.served.Served.{Served}
 use Rattle.serve_core.specs.declared.transport.Transport.{Transport}
 use Rattle.serve_core.proofs.WantLemmas.{reads-want}
@@ -41,6 +45,12 @@ wanted_got transport may starved zone msg told want =
     ∙ told_already transport may starved zone (header_of msg)
     ∙ ap (got_of transport may false zone) (sym want.is)
     ∙ ap (λ said. got_of transport may false zone said) (sym (starved_request msg told want))
+
+-- what is got of what is told of a request is what the request gets, whether memory was wanted or not
+pub gets_told : (transport : Transport) (may starved : Bool) (zone : List Record) (request : List ℕ) (told : Parsed) → Tells request told → (wanted : Bool) × (got_of transport may starved zone told ≡ got transport may wanted zone request)
+unfolding got
+gets_told transport may starved zone request told tells =
+    ⊎_elim (λ (e : told ≡ reads request). (starved, ap (got_of transport may starved zone) e)) (λ (want : IsWant request told). (true, wanted_got transport may starved zone request told want)) tells
 
 -- what is served of what is told of a request is what the request gets
 pub serves_told : (served : Served) (transport : Transport) (may : Bool) (version : Version) (request out : List ℕ) (told said : Parsed) → Tells request told → told ≡ said → ServesSaid served transport may version said out
@@ -72,3 +82,13 @@ serves_reply served transport may version said octets out len is_len is_none sho
   reply = rw (is_len, gets) (short, ap Some (sym written));
   zone = rw (is_none, gets) refl;
 }
+
+-- what was written for a peer is what it gets over its transport
+pub answered_over : (transport : Transport) (may : Bool) (zone : List Record) (query : QueryAsked) (peer : Peer) (octets : List ℕ) → peer ≡ peer_over transport may → transport_of peer ≡ transport → octets ≡ fit (reply_to_peer zone peer query) (limit_of (transport_of peer)) → octets ≡ fit (reply_to_peer zone (peer_over transport may) query) (limit_of transport)
+answered_over transport may zone query peer octets same carried written =
+    written
+    ∙ ap (λ (t : Transport). fit (reply_to_peer zone peer query) (limit_of t)) carried
+    ∙ ap (λ (p : Peer). fit (reply_to_peer zone p query) (limit_of transport)) same
+
+pub short_over : (transport : Transport) (peer : Peer) (len : ℕ) → transport_of peer ≡ transport → len ≤ limit_of (transport_of peer) → len ≤ limit_of transport
+short_over transport peer len carried short = subst (λ (t : Transport). len ≤ limit_of t) carried short

@@ -1,3 +1,5 @@
+pub mod Replies
 pub mod Reply
 pub mod Served
+pub mod Transfers
 pub mod Transport

@@ -1,5 +1,5 @@
 -- What a request comes to in a zone: its reply, and the zone behind it (RFC 1034, 4.3.2; RFC 2136, 3).
-use Rattle.std.specs.Prelude.{◌≡◌, ℕ, ◌+◌, ◌≤◌, Bool, ◌==◌, List, take, Option, Some, None, unwrap_or, if◌then◌else◌}
+use Rattle.std.specs.Prelude.{◌≡◌, ℕ, ◌+◌, ◌≤◌, Bool, true, false, ◌==◌, List, take, Option, Some, None, unwrap_or, if◌then◌else◌}
 use Rattle.dns_rdata.specs.declared.numbers.Rcode.{Rcode}
 use Rattle.dns_rdata.specs.declared.numbers.Rcode.TheVariants.{NoError, ServFail}
 use Rattle.dns_rdata.specs.Record.{Record}
@@ -14,13 +14,22 @@ use Rattle.update_core.specs.Act.{act}
 use Rattle.update_core.specs.Applied.{code_of}
 use Rattle.serve_core.specs.declared.served.Served.{Served}
 use Rattle.serve_core.specs.declared.transport.Transport.{Transport}
-use Rattle.serve_core.specs.Reply.{bare, reply_to}
+use Rattle.serve_core.specs.Reply.{bare}
+use Rattle.serve_core.specs.Transfers.{peer_over, reply_to_peer}
 use Rattle.serve_core.specs.Transport.{limit_of}
 
 -- what a request gets: the reply's octets, none where there is no reply, and the zone behind it
 pub record Got : Type 0 where
   pub reply : Option (List ℕ)
   pub zone : List Record
+
+-- whether what a request says asks for an update, whether it can be read or not (RFC 2136, 1.3)
+abbrev pub asks_update : Parsed → Bool
+asks_update Silent = false
+asks_update (Fault head code) = head.opcode == opcode_UPDATE
+asks_update (Query query) = false
+asks_update (Update update) = true
+asks_update (NoMemory head) = true
 
 -- a header alone with a code, and a zone behind it
 abbrev pub told : Transport → Head → Rcode → List Record → Got
@@ -36,7 +45,7 @@ answered transport head zone next None = told transport head NoError (unwrap_or 
 abbrev pub got_for : Transport → Bool → List Record → Parsed → Got
 got_for transport may zone Silent = record { reply = None; zone = zone }
 got_for transport may zone (Fault head code) = told transport head code zone
-got_for transport may zone (Query query) = record { reply = Some (fit (reply_to zone query) (limit_of transport)); zone = zone }
+got_for transport may zone (Query query) = record { reply = Some (fit (reply_to_peer zone (peer_over transport may) query) (limit_of transport)); zone = zone }
 got_for transport may zone (Update update) = answered transport update.head zone (act zone update) (code_of zone update may)
 got_for transport may zone (NoMemory head) = told transport head ServFail zone
 

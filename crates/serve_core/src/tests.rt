@@ -1,5 +1,9 @@
-//! Replies in a whole zone, by the octets that RFC 1035, 4.1 gives for them, put together by hand.
-use crate::{TCP_LIMIT, Transport, UDP_LIMIT, respond, respond_without_updates};
+//! Replies in a whole zone, by the octets that RFC 1035, 4.1 gives for them, put together by hand. Zones and replies are
+//! tables as text, a row a line.
+ghost use Rattle.std.specs.Prelude.{◌≡◌, IfOk};
+
+use crate::{TCP_LIMIT, Transport, UDP_LIMIT, respond};
+use dns_message::parse;
 use dns_name::Name;
 use dns_rdata::{RData, RRset, RType, Ttl};
 use std::alloc::Global;
@@ -7,169 +11,130 @@ use std::process::Abort;
 use std::test::Fail;
 use zone_tree::{Version, Zone};
 
-/// A record: its owner, its type, the octets of its data, and a name behind them where the text isn't empty.
-type Row<'a> = (&'a str, RType, &'a [u8], &'a str);
+/// A zone with an alias. A row is an owner below `example.test.`, a type's number, and the data's octets in hexadecimal; the last of
+/// the SOA, MINIMUM, is 300.
+const ZONE: &str = "\
+example.test. 2 036e7331076578616d706c65047465737400\n\
+example.test. 6 00000000000100001c2000000384001275000000012c\n\
+ns1 1 c0000201\n\
+web 1 c000020a\n\
+www 5 03776562076578616d706c65047465737400\n";
 
-/// The data of an SOA: the root twice, and five numbers of which the last, MINIMUM, is 300.
-const SOA: &[u8] = b"\0\0\0\0\0\x01\0\0\x1c\x20\0\0\x03\x84\0\x12\x75\0\0\0\x01\x2c";
+/// What requests get over either transport. A row is a request and its reply in hexadecimal, `-` where there is none, and
+/// what is asked.
+const REPLIES: &str = "\
+12340100000100000000000003777777076578616d706c6504746573740000010001 12348500000100020000000003777777076578616d706c6504746573740000010001c00c0005000100000e10000603776562c010c02e0001000100000e100004c000020a an alias and its target's address\n\
+1234010000010000000000 - eleven octets\n\
+123481000000000000000000 - QR 1\n\
+123401000000000000000000 123481010000000000000000 no question\n\
+123410000000000000000000 123490040000000000000000 OPCODE 2\n\
+123400000001000000000000076578616d706c6504746573740000fd0001 123480040000000000000000 MAILB\n\
+123400000001000000000000076578616d706c6504746573740000010003 123480050001000000000000076578616d706c6504746573740000010003 class CH\n\
+123429000001000000000000076578616d706c6504746573740000010001 1234a8010000000000000000 OPCODE 5 with a question of type A\n\
+123400000001000000000000036e65740000010001 123480050001000000000000036e65740000010001 a name outside\n";
 
-/// A zone with an alias.
-const ROWS: [Row; 5] = [
-    ("example.test.", RType::NS, b"", "ns1"),
-    ("example.test.", RType::SOA, SOA, ""),
-    ("ns1", RType::A, &[192, 0, 2, 1], ""),
-    ("web", RType::A, &[192, 0, 2, 10], ""),
-    ("www", RType::CNAME, b"", "web"),
-];
-
-/// The query for `www.example.test.`, type A, with RD 1.
-const WWW: &[u8] =
-    b"\x12\x34\x01\x00\x00\x01\x00\x00\x00\x00\x00\x00\x03www\x07example\x04test\0\0\x01\0\x01";
-
-/// Its reply: the alias, and the address of its target.
-const WWW_REPLY: &[u8] =
-    b"\x12\x34\x85\x00\x00\x01\x00\x02\x00\x00\x00\x00\x03www\x07example\x04test\0\0\x01\0\x01\xc0\x0c\0\x05\0\x01\0\0\x0e\x10\0\x06\x03web\xc0\x10\xc0\x2e\0\x01\0\x01\0\0\x0e\x10\0\x04\xc0\0\x02\x0a";
-
-/// A name below `example.test.`; a whole one where the text ends in a dot.
-fn name(text: &str) -> Result<Name, Fail> {
-    let origin = Name::from_text(b"example.test.", &Name::root())?;
-    Ok(Name::from_text(text.as_bytes(), &origin)?)
-}
-
-/// The zone of records in canonical order, each set of one record.
-fn zone_of(alloc: Global, rows: &[Row]) -> Result<Zone, Fail> {
-    let mut sets: Vec<RRset> = Vec::new(alloc);
-    for (owner, rtype, octets, host) in rows {
-        let owner = name(owner)?;
-        let mut data = octets.to_vec(alloc)?;
-        if !host.is_empty() {
-            data.extend_from_slice(name(host)?.wire())?;
-        }
-        let data = RData::from_wire(alloc, *rtype, &data)?;
-        sets.push(RRset::new(alloc, &owner, Ttl(3600), data)?)?;
+/// The octets that hexadecimal stands for.
+pub(crate) fn octets_of(alloc: Global, text: &str) -> Result<Vec<u8>, Fail> {
+    let mut octets = Vec::new(alloc);
+    for pair in text.as_bytes().chunks(2) {
+        let digits = std::str::from_utf8(pair)?;
+        octets.push(u8::from_str_radix(digits, 16)?)?;
     }
-    Ok(Zone::new(alloc, sets)?)
+    Ok(octets)
 }
 
-#[test]
-fn replies(rt: HostRuntime) -> Result<(), Fail> {
-    let version = Version::first(zone_of(rt.alloc(), &ROWS)?);
-    let cases: [(&str, &[u8], Option<&[u8]>); 10] = [
-        ("an alias and its target's address", WWW, Some(WWW_REPLY)),
-        ("eleven octets", &WWW[..11], None),
-        (
-            "QR 1",
-            b"\x12\x34\x81\x00\x00\x00\x00\x00\x00\x00\x00\x00",
-            None,
-        ),
-        (
-            "no question",
-            b"\x12\x34\x01\x00\x00\x00\x00\x00\x00\x00\x00\x00",
-            Some(b"\x12\x34\x81\x01\x00\x00\x00\x00\x00\x00\x00\x00"),
-        ),
-        (
-            "OPCODE 2",
-            b"\x12\x34\x10\x00\x00\x00\x00\x00\x00\x00\x00\x00",
-            Some(b"\x12\x34\x90\x04\x00\x00\x00\x00\x00\x00\x00\x00"),
-        ),
-        (
-            "AXFR",
-            b"\x12\x34\x00\x00\x00\x01\x00\x00\x00\x00\x00\x00\x07example\x04test\0\0\xfc\0\x01",
-            Some(b"\x12\x34\x80\x04\x00\x00\x00\x00\x00\x00\x00\x00"),
-        ),
-        (
-            "MAILB",
-            b"\x12\x34\x00\x00\x00\x01\x00\x00\x00\x00\x00\x00\x07example\x04test\0\0\xfd\0\x01",
-            Some(b"\x12\x34\x80\x04\x00\x00\x00\x00\x00\x00\x00\x00"),
-        ),
-        (
-            "class CH",
-            b"\x12\x34\x00\x00\x00\x01\x00\x00\x00\x00\x00\x00\x07example\x04test\0\0\x01\0\x03",
-            Some(
-                b"\x12\x34\x80\x05\x00\x01\x00\x00\x00\x00\x00\x00\x07example\x04test\0\0\x01\0\x03",
-            ),
-        ),
-        (
-            "OPCODE 5 with a question of type A",
-            b"\x12\x34\x29\x00\x00\x01\x00\x00\x00\x00\x00\x00\x07example\x04test\0\0\x01\0\x01",
-            Some(b"\x12\x34\xa8\x01\x00\x00\x00\x00\x00\x00\x00\x00"),
-        ),
-        (
-            "a name outside",
-            b"\x12\x34\x00\x00\x00\x01\x00\x00\x00\x00\x00\x00\x03net\0\0\x01\0\x01",
-            Some(b"\x12\x34\x80\x05\x00\x01\x00\x00\x00\x00\x00\x00\x03net\0\0\x01\0\x01"),
-        ),
-    ];
-    for (what, request, reply) in cases {
-        for transport in [Transport::Udp, Transport::Tcp] {
-            let mut out = [0; TCP_LIMIT];
-            let served = respond(rt.alloc(), &version, transport, true, request, &mut out);
-            assert_eq!(rt; served.len, reply.map(|octets| octets.len()), "{what}");
-            assert!(rt; served.next.is_none(), "{what}");
-            let octets = reply.unwrap_or(b"");
-            assert!(rt; out.starts_with(octets), "{what}");
+/// The set of a row, of one record.
+fn set_of(alloc: Global, row: &str) -> Result<RRset, Fail> {
+    let mut words = row.split(' ');
+    let origin = Name::from_text(b"example.test.", &Name::root())?;
+    let owner = Name::from_text(words.next().unwrap_or("").as_bytes(), &origin)?;
+    let rtype = RType(words.next().unwrap_or("").parse()?);
+    let octets = octets_of(alloc, words.next().unwrap_or(""))?;
+    let data = RData::from_wire(alloc, rtype, &octets)?;
+    Ok(RRset::new(alloc, &owner, Ttl(3600), data)?)
+}
+
+/// The first version of the zone of rows in canonical order, each a set.
+pub(crate) fn version_of(alloc: Global, rows: &str) -> Result<Version, Fail>
+    ensures { IfOk result (λ version. version.number ≡ 0) }
+{
+    let mut sets: Vec<RRset> = Vec::new(alloc);
+    for row in rows.lines() {
+        sets.push(set_of(alloc, row)?)?;
+    }
+    Ok(Version::first(Zone::new(alloc, sets)?))
+}
+
+/// Sends each row's request over a transport, and wants the reply behind it.
+fn check(rt: &impl Abort, alloc: Global, transport: Transport) -> Result<(), Fail> {
+    let version = version_of(alloc, ZONE)?;
+    let mut out = [0; TCP_LIMIT];
+    for row in REPLIES.lines() {
+        let mut words = row.split(' ');
+        let request = octets_of(alloc, words.next().unwrap_or(""))?;
+        let want = words.next().unwrap_or("-");
+        let said = parse(alloc, &request);
+        let served = respond(alloc, &version, transport, true, &said, &mut out);
+        assert!(rt; served.next.is_none(), "{row}");
+        match served.len {
+            None => assert_eq!(rt; want, "-", "{row}"),
+            Some(len) => {
+                let reply = octets_of(alloc, want)?;
+                assert_eq!(rt; len, reply.len(), "{row}");
+                assert!(rt; out.starts_with(&reply), "{row}");
+            }
         }
     }
     Ok(())
 }
 
-// RFC 1035, 4.2.1: 512 octets. Header and question of `big.example.test.` have 34, the record in front of its data 12, and
-// its first two strings 256; 210 are left for the last.
+#[test]
+fn replies_over_udp(rt: HostRuntime) -> Result<(), Fail> {
+    check(&rt, rt.alloc(), Transport::Udp)
+}
+
+#[test]
+fn replies_over_tcp(rt: HostRuntime) -> Result<(), Fail> {
+    check(&rt, rt.alloc(), Transport::Tcp)
+}
+
+/// The sets at the apex of a zone.
+const APEX: &str = "\
+example.test. 2 036e7331076578616d706c65047465737400\n\
+example.test. 6 00000000000100001c2000000384001275000000012c\n";
+
+/// The query for `big.example.test.`, type TXT, with RD 1.
+const BIG: &str = "12340100000100000000000003626967076578616d706c6504746573740000100001";
+
+/// Asks for a text whose reply has so many octets; over UDP it is sent whole, or is cut to header and question.
+fn check_limit(rt: &impl Abort, alloc: Global, whole: usize, over_udp: usize) -> Result<(), Fail> {
+    // header and question have 34 octets, what stands in front of the data 12, and each of the first two strings 128
+    let last = whole.saturating_sub(34 + 12 + 2 * 128 + 1);
+    let digits = last.saturating_mul(2);
+    let rows = format!(in alloc;
+        "{APEX}big 16 7f{:7>254}7f{:7>254}{last:02x}{:7>digits$}\n",
+        "", "", ""
+    )?;
+    let version = version_of(alloc, &rows)?;
+    let said = parse(alloc, &octets_of(alloc, BIG)?);
+    let mut out = [0; TCP_LIMIT];
+    let served = respond(alloc, &version, Transport::Tcp, false, &said, &mut out);
+    assert_eq!(rt; served.len, Some(whole));
+    assert!(rt; out.starts_with(b"\x12\x34\x85\x00\x00\x01\x00\x01\x00\x00\x00\x00\x03big"));
+    let served = respond(alloc, &version, Transport::Udp, false, &said, &mut out);
+    assert_eq!(rt; served.len, Some(over_udp));
+    let code: &[u8] = if over_udp == whole {
+        b"\x12\x34\x85\x00"
+    } else {
+        b"\x12\x34\x87\x00"
+    };
+    assert!(rt; out.starts_with(code));
+    Ok(())
+}
+
+// RFC 1035, 4.2.1: 512 octets.
 #[test]
 fn limits(rt: HostRuntime) -> Result<(), Fail> {
-    let alloc = rt.alloc();
-    let request =
-        b"\x12\x34\x01\x00\x00\x01\x00\x00\x00\x00\x00\x00\x03big\x07example\x04test\0\0\x10\0\x01";
-    for (len, fits) in [(209, true), (210, false)] {
-        let text = format!(in alloc; "\u{7f}{:x>127}\u{7f}{:x>127}", "", "")?;
-        let mut data = text.as_bytes().to_vec(alloc)?;
-        let last = format!(in alloc; "{:x>len$}", "")?;
-        data.push(u8::try_from(len)?)?;
-        data.extend_from_slice(last.as_bytes())?;
-        let rows: [Row; 4] = [ROWS[0], ROWS[1], ("big", RType::TXT, &data, ""), ROWS[2]];
-        let version = Version::first(zone_of(alloc, &rows)?);
-        let mut out = [0; TCP_LIMIT];
-        let whole = 34 + 12 + 256 + 1 + len;
-        assert_eq!(rt; whole <= UDP_LIMIT, fits);
-        assert_eq!(rt;
-            respond(alloc, &version, Transport::Tcp, false, request, &mut out).len,
-            Some(whole)
-        );
-        assert!(rt; out.starts_with(b"\x12\x34\x85\x00\x00\x01\x00\x01\x00\x00\x00\x00\x03big"));
-        let over_udp = respond(alloc, &version, Transport::Udp, false, request, &mut out).len;
-        if fits {
-            assert_eq!(rt; over_udp, Some(whole));
-        } else {
-            assert_eq!(rt; over_udp, Some(34));
-            assert!(rt;
-                out.starts_with(b"\x12\x34\x87\x00\x00\x01\x00\x00\x00\x00\x00\x00\x03big")
-            );
-        }
-    }
-    Ok(())
-}
-
-// RFC 1035, 4.1.1: NOTIMP of what isn't supported, as an update where no update is taken, whether it can be read or not.
-#[test]
-fn replies_without_updates(rt: HostRuntime) -> Result<(), Fail> {
-    let alloc = rt.alloc();
-    let zone = zone_of(alloc, &ROWS)?;
-    let cases: [(&[u8], &[u8]); 3] = [
-        (
-            b"\x12\x34\x29\x00\x00\x01\x00\x00\x00\x00\x00\x00\x07example\x04test\0\0\x06\0\x01",
-            b"\x12\x34\xa8\x04\x00\x00\x00\x00\x00\x00\x00\x00",
-        ),
-        (
-            b"\x12\x34\x28\x00\x00\x00\x00\x00\x00\x00\x00\x00",
-            b"\x12\x34\xa8\x04\x00\x00\x00\x00\x00\x00\x00\x00",
-        ),
-        (WWW, WWW_REPLY),
-    ];
-    for (request, reply) in cases {
-        let mut out = [0; UDP_LIMIT];
-        let len = respond_without_updates(alloc, &zone, Transport::Udp, request, &mut out);
-        assert_eq!(rt; len, Some(reply.len()));
-        assert!(rt; out.starts_with(reply));
-    }
-    Ok(())
+    check_limit(&rt, rt.alloc(), UDP_LIMIT, UDP_LIMIT)?;
+    check_limit(&rt, rt.alloc(), UDP_LIMIT + 1, 34)
 }

@@ -1,0 +1,134 @@
+//! What a question for a transfer gets (RFC 1995, 2 and 4; RFC 5936, 2.2).
+ghost use Rattle.std.specs.Prelude.{◌≡◌, ◌≤◌, true, List, length, take, Some};
+ghost use Rattle.dns_message.specs.Octets.{fit};
+ghost use Rattle.dns_rdata.specs.Record.{Record};
+ghost use Rattle.zone_tree.specs.Zone.{soa_of};
+ghost use Rattle.transfer_core.specs.Chain.{zones_of, LeadTo, told_changes};
+ghost use Rattle.transfer_core.specs.Lists.{incremental};
+ghost use Rattle.transfer_core.specs.Packed.{listed};
+ghost use Rattle.serve_core.specs.Transfers.{peer_over, transport_of, is_unfit, is_permitted, reply_to_peer, is_current, list_for, messages_to};
+ghost use Rattle.serve_core.specs.Transport.{limit_of};
+
+use crate::peer::Peer;
+use crate::reply::{asks_transfer, respond_to_query, write_bare, write_refused};
+use crate::transport::Transport;
+use dns_message::Query;
+use dns_rdata::{Class, RType, Rcode, Serial};
+use transfer_core::{ChainView, Packer, SetRecords, TransferRecords, full, steps};
+use zone_tree::{Version, Zone, ZoneRead};
+
+/// The messages of a transfer of a version's zone that a query asks for: of an IXFR from a serial that isn't less than the
+/// version's the SOA alone, else what changed where the chain is whole; else the zone in whole; over UDP one message (RFC 1995, 2
+/// and 4; RFC 5936, 2.2). The chain is of the versions behind the one of the IXFR's serial up to this one. It takes no memory.
+pub fn transfer_reply<'a, C: ChainView>(
+    version: &'a Version,
+    chain: &'a C,
+    query: &'a Query,
+    peer: Peer,
+) -> Packer<'a, Zone, C>
+    requires permitted { is_permitted version.now.zone peer query.now ≡ true }
+    ensures messages { result ≡ messages_to version.now.zone (told_changes (C.whole chain.now) (soa_of version.now.zone) (C.versions chain.now)) peer query.now }
+    ensures changes { (zone : List Record) → C.whole chain.now ≡ true → LeadTo zone (C.versions chain.now) version.now.zone
+        → result ≡ messages_to version.now.zone (Some (incremental zone (zones_of (C.versions chain.now)))) peer query.now }
+{
+    let list = list_for(version, chain, query);
+    if peer.stream {
+        return Packer::new(query.head, &query.question, list);
+    }
+    Packer::datagram(query.head, &query.question, list, version.zone().soa())
+}
+
+/// Whether a query is for a transfer that is sent: it asks for one of the zone, and the peer may have it (RFC 5936, 2.2.1).
+pub fn is_permitted(version: &Version, query: &Query, peer: Peer) -> bool
+    ensures { result ≡ is_permitted version.now.zone peer query.now }
+{
+    let question = &query.question;
+    question.class == Class::IN
+        && asks_transfer(question)
+        && !is_unfit(peer, query)
+        && question.name == *version.zone().apex()
+        && peer.may_transfer
+}
+
+/// The list of a transfer (RFC 1995, 2 and 4; RFC 5936, 2.2).
+fn list_for<'a, C: ChainView>(
+    version: &'a Version,
+    chain: &'a C,
+    query: &Query,
+) -> TransferRecords<'a, Zone, C>
+    ensures { listed result ≡ list_for version.now.zone (told_changes (C.whole chain.now) (soa_of version.now.zone) (C.versions chain.now)) query.now }
+{
+    let zone = version.zone();
+    if query.question.rtype == RType::AXFR {
+        return TransferRecords::Full(full(zone));
+    }
+    if is_current(version, query.serial) {
+        return TransferRecords::Set(SetRecords::new(zone.soa()));
+    }
+    if chain.is_whole() {
+        return TransferRecords::Changes(steps(zone, chain));
+    }
+    TransferRecords::Full(full(zone))
+}
+
+/// Whether a serial that is held isn't less than a version's (RFC 1995, 2; RFC 1982, 3.2).
+fn is_current(version: &Version, held: Option<Serial>) -> bool
+    ensures { result ≡ is_current version.now.zone held }
+{
+    match held {
+        None => false,
+        Some(serial) => !serial.less(version.serial()),
+    }
+}
+
+/// Writes the reply to a query that isn't the messages of a transfer, over a transport, from a peer that may do all or nothing
+/// (RFC 1034, 4.3.2; RFC 1995, 2; RFC 5936, 2.2.1).
+pub fn respond_to<Z: ZoneRead>(
+    zone: &Z,
+    query: &Query,
+    transport: Transport,
+    may: bool,
+    out: &mut [u8],
+) -> usize
+    requires { limit_of transport ≤ length out.old }
+    ensures octets { take result out.new ≡ fit (reply_to_peer (Z.records zone.now) (peer_over transport may) query.now) (limit_of transport) }
+    ensures len { result ≤ limit_of transport }
+{
+    respond_to_peer(zone, query, Peer::over(transport, may), out)
+}
+
+/// Writes the reply to a query that isn't the messages of a transfer, in the order of the refusals (RFC 1034, 4.3.2;
+/// RFC 1995, 2; RFC 5936, 2.2.1; own).
+pub fn respond_to_peer<Z: ZoneRead>(zone: &Z, query: &Query, peer: Peer, out: &mut [u8]) -> usize
+    requires { limit_of (transport_of peer) ≤ length out.old }
+    ensures octets { take result out.new ≡ fit (reply_to_peer (Z.records zone.now) peer query.now) (limit_of (transport_of peer)) }
+    ensures len { result ≤ limit_of (transport_of peer) }
+{
+    let transport = peer.transport();
+    let question = &query.question;
+    if question.class != Class::IN {
+        return respond_to_query(zone, query, transport, out);
+    }
+    if !asks_transfer(question) {
+        return respond_to_query(zone, query, transport, out);
+    }
+    if is_unfit(peer, query) {
+        return write_bare(query.head, Rcode::FormErr, transport, out);
+    }
+    if question.name != *zone.apex() {
+        return write_refused(query.head, Rcode::NotAuth, question, transport, out);
+    }
+    if peer.may_transfer {
+        return write_bare(query.head, Rcode::NotImp, transport, out);
+    }
+    write_refused(query.head, Rcode::Refused, question, transport, out)
+}
+
+/// Whether a question for a transfer is none: an AXFR over UDP, or an IXFR that doesn't tell what is held
+/// (RFC 5936, 4.2; RFC 1995, 3).
+fn is_unfit(peer: Peer, query: &Query) -> bool
+    ensures { result ≡ is_unfit peer query.now }
+{
+    let rtype = query.question.rtype;
+    (rtype == RType::AXFR && !peer.stream) || (rtype == RType::IXFR && query.serial.is_none())
+}
