@@ -1,1 +1,1 @@
-mod HistoryLemmas
+pub mod HistoryLemmas

@@ -1,0 +1,4 @@
+pub mod ReplayLemmas
+pub mod OwnedLemmas
+pub mod ToldLemmas
+pub mod SendLemmas

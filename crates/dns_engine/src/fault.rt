@@ -1,0 +1,25 @@
+//! Why an engine isn't made.
+use crate::versions::{FirstZone, VersionPublisher, VersionReader};
+use thiserror::Error;
+
+/// Why an engine isn't made.
+#[derive(Clone, Copy, Debug, PartialEq, Eq, Error)]
+pub enum EngineFault {
+    /// More versions are to be kept than an engine keeps.
+    #[error("E1 TooGreat")]
+    TooGreat,
+    /// The reader can't load.
+    #[error("E2 Spent")]
+    Spent,
+}
+
+/// An engine that isn't made: why, and what it would have been made of.
+#[derive(Drop)]
+pub struct NoEngine<Z: FirstZone> {
+    /// Why it isn't made.
+    pub fault: EngineFault,
+    /// The one who publishes.
+    pub publisher: VersionPublisher<Z>,
+    /// The one who loads.
+    pub reader: VersionReader<Z>,
+}

@@ -1,0 +1,63 @@
+//! Owners of versions, in no memory of their own.
+ghost use Rattle.std.specs.Prelude.{◌≡◌, ◌-◌, ◌<◌, ◌≤◌, [], ◌∷◌, ◌++◌, length};
+ghost use Rattle.dns_engine.specs.Held.{newest};
+
+use crate::versions::{FirstZone, VersionOwner};
+use arrayvec::ArrayVec;
+use std::marker::Model;
+
+/// How many versions in front of the last an engine may keep (own).
+pub const KEPT: usize = 8;
+
+/// Owners of versions, the oldest first. Contracts see the versions.
+#[derive(Drop)]
+pub(crate) struct Owners<'a, Z: FirstZone> {
+    places: ArrayVec<Option<VersionOwner<'a, Z>>, KEPT>,
+}
+
+impl<'a, Z: FirstZone> Model for Owners<'a, Z> {
+    ghost use Rattle.std.specs.Prelude.{List};
+    ghost use Rattle.zone_tree.specs.Version.{Version};
+    ghost use Rattle.dns_engine.specs.Owned.{owned, IsFull};
+
+    ghost Value = { List Version };
+
+    ghost view = { λ a. owned a.places.items };
+
+    ghost invariant = { λ a. IsFull a.places.items };
+}
+
+impl<'a, Z: FirstZone> Owners<'a, Z> {
+    /// No owner.
+    pub(crate) fn new() -> Owners<'a, Z>
+        ensures { result ≡ [] }
+    {
+        Owners {
+            places: ArrayVec::new(),
+        }
+    }
+
+    /// Puts an owner behind the others, of which the newest stay, so many in all.
+    pub(crate) fn keep_newest(&mut self, keep: usize, owner: VersionOwner<'a, Z>)
+        requires most { keep ≤ KEPT }
+        requires kept { length self.old ≤ keep }
+        ensures { self.new ≡ newest keep (self.old ++ owner.entry.value ∷ []) }
+    {
+        if keep == 0 {
+            return;
+        }
+        self.make_room(keep);
+        self.places.push(Some(owner));
+    }
+
+    /// Lets the oldest owner go where there are so many.
+    fn make_room(&mut self, keep: usize)
+        requires some { 0 < keep }
+        requires kept { length self.old ≤ keep }
+        ensures { self.new ≡ newest (keep - 1) self.old }
+    {
+        if self.places.len() == keep {
+            self.places.remove(0);
+        }
+    }
+}

@@ -1,0 +1,4 @@
+pub mod StreamLemmas
+pub mod TurnLemmas
+pub mod ReplyLemmas
+pub mod SendLemmas

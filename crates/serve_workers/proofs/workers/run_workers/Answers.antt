@@ -1,0 +1,13 @@
+-- A worker may be sent to its thread.
+use denote.Exit.{no}
+use denote.Param.{param}
+use denote.Param.Send.{param_send, arg_send, sendable}
+use Rattle.serve_workers.proofs.SendLemmas.{worker_send}
+use Rattle.serve_workers.proofs.workers.run_workers.Goals as goal
+
+pub do_all-started-requires-send-W : goal.do_all-started-requires-send-W
+do_all-started-requires-send-W g c κs within =
+    param_send _ _
+    (arg_send _ no _
+    (worker_send _ _ (param 1 g.row.Z) (param 2 g.row.J) (param 3 g.row.G) g.Z.FirstZone
+    (search (c.type_bounds.send-J, sendable)) (search (c.type_bounds.sync-G, sendable))))

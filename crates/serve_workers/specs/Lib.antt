@@ -1,0 +1,5 @@
+pub mod Octets
+pub mod Cut
+pub mod Served
+pub mod Turns
+pub mod Replied

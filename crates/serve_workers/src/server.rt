@@ -1,0 +1,57 @@
+//! The server: a cell of versions, and its engine behind a lock.
+ghost use Rattle.std.specs.Prelude.{◌≡◌, ◌↔◌, ◌<◌, ◌≤◌, IfOk, IfErr};
+ghost use Rattle.dns_engine.specs.Held.{Held};
+ghost use Rattle.dns_engine.specs.Told.{IsTold};
+ghost use Rattle.dns_engine.specs.Replayed.{IsReplay};
+ghost use Rattle.dns_engine.specs.declared.fault.EngineFault.{EngineFault as Fault};
+ghost use Rattle.dns_engine.specs.declared.owners.TheConstants.{KEPT};
+
+use dns_engine::{Engine, FirstZone, NoEngine, VersionCell, VersionPublisher, VersionReader};
+use dns_message::Update;
+use dns_rdata::Rcode;
+use std::alloc::Global;
+use std::sync::{Mutex, Wait};
+
+/// A cell of versions, with the engine that publishes in it behind a lock. Queries take no lock but the cell's own.
+#[derive(Drop)]
+pub struct Server<'a, Z: FirstZone> {
+    cell: &'a VersionCell<Z>,
+    engine: Mutex<Engine<'a, Z>>,
+}
+
+impl<'a, Z: FirstZone> Server<'a, Z> {
+    /// The server of a cell in which the first version alone is published, whose engine keeps so many versions in front of the
+    /// last. It is refused as the engine is, and both come back.
+    pub fn new<R: Wait>(
+        rt: &R,
+        cell: &'a VersionCell<Z>,
+        publisher: VersionPublisher<Z>,
+        reader: VersionReader<Z>,
+        keep: usize,
+    ) -> Result<Server<'a, Z>, NoEngine<Z>>
+        requires { publisher.number ≡ 0 }
+        ensures kept { IfOk result (λ _. keep ≤ KEPT) }
+        ensures refused { IfErr result (λ refused. (refused.fault ≡ Fault.TooGreat) ↔ (KEPT < keep)) }
+        ensures given_back { IfErr result (λ refused. refused.publisher ≡ publisher) }
+    {
+        let engine = Engine::new(rt, cell, publisher, reader, keep)?;
+        Ok(Server {
+            cell,
+            engine: Mutex::new(engine),
+        })
+    }
+
+    /// Its cell.
+    pub fn cell(&self) -> &'a VersionCell<Z> {
+        self.cell
+    }
+
+    /// Hands an update to the engine, behind its lock, and gives the code that is told: that of an engine whose last version is the
+    /// first zone with updates replayed.
+    pub fn update<R: Wait>(&self, rt: &R, alloc: Global, update: &Update, may: bool) -> Rcode
+        ensures { (old new : Held) × IsReplay Z.zone old.last × IsTold old update.now may result new }
+    {
+        let mut engine = self.engine.lock(rt);
+        engine.update(rt, alloc, self.cell, update, may)
+    }
+}

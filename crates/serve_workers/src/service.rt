@@ -1,0 +1,160 @@
+//! A zone served on sockets, by workers.
+ghost use Rattle.std.specs.Prelude.{◌≡◌, ◌≤◌};
+
+use crate::allowed::Allowed;
+use crate::gate::{Gate, OpenGate};
+use crate::scratch::Scratch;
+use crate::server::Server;
+use crate::stream::Answering;
+use crate::tcp::TcpJob;
+use crate::udp::UdpJob;
+use crate::workers::{Job, run_workers};
+use dns_engine::{FirstZone, VersionCell, VersionPublisher, VersionReader};
+use snapshot_cell::{Cell, Parts};
+use std::alloc::Global;
+use std::net::{TcpListener, UdpSocket};
+use std::sync::Wait;
+use std::thread::Threads;
+use std::time::Clock;
+use thiserror::Error;
+use zone_tree::{Version, Zone};
+
+/// How a zone is served.
+#[derive(Clone, Copy)]
+pub struct Plan<'a> {
+    /// The socket on which datagrams come.
+    pub datagrams: &'a UdpSocket,
+    /// The listener on which connections come.
+    pub listener: &'a TcpListener,
+    /// How many workers there are for each of them.
+    pub workers: usize,
+    /// How many versions are kept in front of the last.
+    pub keep: usize,
+    /// How many requests a worker answers by datagrams, or connections it serves.
+    pub most: u64,
+    /// Who may update and transfer.
+    pub allowed: Allowed<'a>,
+}
+
+/// Why a zone isn't served any more.
+#[derive(Clone, Copy, Debug, PartialEq, Eq, Error)]
+pub enum ServeFault {
+    /// There are more readers, or more versions are to be kept, than there may be.
+    #[error("too many workers, or versions to keep")]
+    TooMany,
+    /// A thread was refused.
+    #[error("a thread can't be started")]
+    NotStarted,
+    /// A socket has failed.
+    #[error("a socket has failed")]
+    Device,
+    /// A growth was refused.
+    #[error("no memory")]
+    NoMemory,
+}
+
+/// A worker's job on either socket.
+#[derive(Drop)]
+enum SocketJob<'a, C> {
+    /// Requests by datagrams.
+    Datagrams(UdpJob<'a>),
+    /// Connections.
+    Connections(TcpJob<'a, C>),
+}
+
+impl<C: Clock> SocketJob<'_, C> {
+    /// Whether it ended since its socket failed.
+    fn has_failed(&self) -> bool {
+        match self {
+            SocketJob::Datagrams(job) => job.has_failed(),
+            SocketJob::Connections(job) => job.has_failed(),
+        }
+    }
+}
+
+impl<C: Clock + Sync> Job for SocketJob<'_, C> {
+    fn run<R: Wait, A: Answering, G: Gate>(&mut self, rt: &R, answering: &mut A, gate: &G) {
+        match self {
+            SocketJob::Datagrams(job) => job.run(rt, answering, gate),
+            SocketJob::Connections(job) => job.run(rt, answering, gate),
+        }
+    }
+}
+
+/// Serves a zone on sockets: its workers answer queries in the version that is published last, and updates, each of which publishes
+/// the next one (RFC 1035, 4.2; RFC 2136, 3). It ends once each worker has done what it may, or where a socket fails.
+pub fn serve_zone<R: Threads + Wait + Clock + Sync, Z: FirstZone + Send + Sync>(
+    rt: &R,
+    alloc: Global,
+    zone: Zone,
+    plan: Plan<'_>,
+) -> Result<(), ServeFault>
+    requires { zone ≡ Z.zone }
+{
+    let readers = plan.workers.saturating_mul(2).saturating_add(1);
+    let Ok(
+        Parts {
+            cell,
+            publisher,
+            readers,
+        },
+    ) = Cell::new(rt, alloc, readers, Version::first(zone))
+    else {
+        return Err(ServeFault::NoMemory);
+    };
+    serve_cell::<R, Z>(rt, alloc, &cell, publisher, readers, plan)
+}
+
+/// Serves the versions of a cell in which the first one alone is published.
+fn serve_cell<R: Threads + Wait + Clock + Sync, Z: FirstZone + Send + Sync>(
+    rt: &R,
+    alloc: Global,
+    cell: &VersionCell<Z>,
+    publisher: VersionPublisher<Z>,
+    mut readers: Vec<VersionReader<Z>>,
+    plan: Plan<'_>,
+) -> Result<(), ServeFault>
+    requires { publisher.number ≡ 0 }
+{
+    let Some(reader) = readers.pop() else {
+        return Err(ServeFault::TooMany);
+    };
+    let Ok(server) = Server::new(rt, cell, publisher, reader, plan.keep) else {
+        return Err(ServeFault::TooMany);
+    };
+    let pairs = pairs_of(rt, alloc, readers, plan)?;
+    let Ok(pairs) = run_workers(rt, alloc, &server, pairs, &OpenGate) else {
+        return Err(ServeFault::NotStarted);
+    };
+    if pairs.iter().any(|pair| pair.1.has_failed()) {
+        return Err(ServeFault::Device);
+    }
+    Ok(())
+}
+
+/// The readers with their jobs, by turns on the one socket and on the other.
+fn pairs_of<'a, R: Clock, Z: FirstZone>(
+    rt: &'a R,
+    alloc: Global,
+    readers: Vec<VersionReader<Z>>,
+    plan: Plan<'a>,
+) -> Result<Vec<(VersionReader<Z>, SocketJob<'a, R>)>, ServeFault> {
+    let mut pairs = Vec::new(alloc);
+    let mut by_datagrams = true;
+    for reader in readers {
+        let Ok(scratch) = Scratch::new(alloc) else {
+            return Err(ServeFault::NoMemory);
+        };
+        let job = if by_datagrams {
+            SocketJob::Datagrams(UdpJob::new(plan.datagrams, plan.allowed, plan.most, scratch))
+        } else {
+            let job = TcpJob::new(plan.listener, rt, plan.allowed, plan.most, scratch);
+            SocketJob::Connections(job)
+        };
+        by_datagrams = !by_datagrams;
+        if pairs.push((reader, job)).is_err() {
+            return Err(ServeFault::NoMemory);
+        }
+    }
+    Ok(pairs)
+}

@@ -1,0 +1,191 @@
+//! Streams of requests and what is written on them, by the octets that RFC 1035, 4 and RFC 2136, 2 give for them, put together by
+//! hand. A table is a text, a row a line.
+ghost use Rattle.std.specs.Prelude.{◌≡◌, None};
+
+use crate::{Asked, Counted, OpenGate, Server, Stream, serve_stream};
+use dns_engine::{EngineFault, FirstZone, NoEngine, VersionCell, VersionPublisher, VersionReader};
+use dns_name::Name;
+use dns_rdata::{RData, RRset, RType, Ttl};
+use serve_core::Peer;
+use snapshot_cell::{Cell, Parts};
+use std::alloc::Global;
+use std::io::{self, Cursor, Read};
+use std::marker::Brand;
+use std::process::Abort;
+use std::sync::Wait;
+use std::test::Fail;
+use zone_tree::{Version, Zone};
+
+/// A zone of five sets, in canonical order. A row is an owner, a type's number, and the data's octets in hexadecimal.
+const ZONE: &str = "\
+example.test. 2 036e7331076578616d706c65047465737400\n\
+example.test. 6 036e7331076578616d706c650474657374000561646d696e076578616d706c650474657374000000000100001c2000000384001275000000012c\n\
+ns1.example.test. 1 c0000201\n\
+web.example.test. 1 c000020a\n\
+www.example.test. 5 03776562076578616d706c65047465737400\n";
+
+/// Streams over the zone. A row is whether the peer may update, how many octets can be written, how the stream ends, the octets that are
+/// read and those that are written in hexadecimal, and what is shown.
+const STREAMS: &str = "\
+may 9999 Clean 003e432128000001000100010000076578616d706c6504746573740000060001036e6577c00c00ff00fe000000000000c01e0001000100000e100004c000024d003e432128000001000100010000076578616d706c6504746573740000060001036e6577c00c00ff00fe000000000000c01e0001000100000e100004c000024d0022123401000001000000000000036e6577076578616d706c6504746573740000010001001e123401000001000000000000076578616d706c6504746573740000060001 000c4321a8000000000000000000000c4321a80600000000000000000032123485000001000100000000036e6577076578616d706c6504746573740000010001c00c0001000100000e100004c000024d004c123485000001000100000000076578616d706c6504746573740000060001c00c0006000100000e100022036e7331c00c0561646d696ec00c0000000200001c2000000384001275000000012c an update, the same again, and what is then asked\n\
+not 9999 Clean 0032432128000001000000010000076578616d706c6504746573740000060001036e6577c00c0001000100000e100004c000024d003e432128000001000100010000076578616d706c6504746573740000060001036e6577c00c00ff00fe000000000000c01e0001000100000e100004c000024d001e123401000001000000000000076578616d706c6504746573740000060001 000c4321a8050000000000000000000c4321a8050000000000000000004c123485000001000100000000076578616d706c6504746573740000060001c00c0006000100000e100022036e7331c00c0561646d696ec00c0000000100001c2000000384001275000000012c updates of a peer that may not update\n\
+may 9999 Clean 003e432128000001000000020000076578616d706c650474657374000006000103777777c00c0001000100000e100004c0000207c01e000500ff000000000000001e123401000001000000000000076578616d706c6504746573740000060001002212340100000100000000000003777777076578616d706c6504746573740000010001003e432128000001000000020000076578616d706c650474657374000006000103777777c00c0001000100000e100004c0000207c01e000500ff000000000000001e123401000001000000000000076578616d706c6504746573740000060001002212340100000100000000000003777777076578616d706c6504746573740000010001 000c4321a8000000000000000000004c123485000001000100000000076578616d706c6504746573740000060001c00c0006000100000e100022036e7331c00c0561646d696ec00c0000000200001c2000000384001275000000012c005012348503000100000001000003777777076578616d706c6504746573740000010001c010000600010000012c0022036e7331c0100561646d696ec0100000000200001c2000000384001275000000012c000c4321a8000000000000000000004c123485000001000100000000076578616d706c6504746573740000060001c00c0006000100000e100022036e7331c00c0561646d696ec00c0000000300001c2000000384001275000000012c003212348500000100010000000003777777076578616d706c6504746573740000010001c00c0001000100000e100004c0000207 an address beside an alias that goes; the same again\n\
+may 9999 Torn 002212340100000100000000000003777777076578616d706c6504746573740000010001002212340100000100000000000003777777076578616d706c65047465737400000100 004412348500000100020000000003777777076578616d706c6504746573740000010001c00c0005000100000e10000603776562c010c02e0001000100000e100004c000020a a frame without its last octet\n\
+may 9999 Torn 00  half a length\n\
+may 9999 Clean 000b12340100000100000000000000002212340100000100000000000003777777076578616d706c6504746573740000010001 004412348500000100020000000003777777076578616d706c6504746573740000010001c00c0005000100000e10000603776562c010c02e0001000100000e100004c000020a requests that get no reply\n\
+may 9999 Clean   nothing\n\
+may 68 Device 002212340100000100000000000003777777076578616d706c6504746573740000010001002212340100000100000000000003777777076578616d706c6504746573740000010001 004412348500000100020000000003777777076578616d706c6504746573740000010001c00c0005000100000e10000603776562c010c02e0001000100000e100004c000 a stream that takes 68 octets\n";
+
+/// The octets that hexadecimal stands for.
+pub(crate) fn octets_of(alloc: Global, text: &str) -> Result<Vec<u8>, Fail> {
+    let mut octets = Vec::new(alloc);
+    for pair in text.as_bytes().chunks(2) {
+        let digits = std::str::from_utf8(pair)?;
+        octets.push(u8::from_str_radix(digits, 16)?)?;
+    }
+    Ok(octets)
+}
+
+/// The zone.
+pub(crate) fn zone(alloc: Global) -> Result<Zone, Fail> {
+    let mut sets = Vec::new(alloc);
+    for row in ZONE.lines() {
+        let mut words = row.split(' ');
+        let owner = Name::from_text(words.next().unwrap_or("").as_bytes(), &Name::root())?;
+        let rtype = RType(words.next().unwrap_or("").parse()?);
+        let octets = octets_of(alloc, words.next().unwrap_or(""))?;
+        let data = RData::from_wire(alloc, rtype, &octets)?;
+        sets.push(RRset::new(alloc, &owner, Ttl(3600), data)?)?;
+    }
+    Ok(Zone::new(alloc, sets)?)
+}
+
+/// A stream that lies in memory: it gives three octets a read at most, and takes so many in all.
+#[derive(Drop)]
+pub(crate) struct Tape<'a> {
+    pub(crate) input: Cursor<&'a [u8]>,
+    pub(crate) output: Vec<u8>,
+    pub(crate) room: usize,
+}
+
+impl Stream for Tape<'_> {
+    ghost octets = { λ _. None };
+
+    fn read(&mut self, buf: &mut [u8]) -> io::Result<usize> {
+        let most = buf.len().min(3);
+        Read::read(&mut self.input, &mut buf[..most])
+    }
+
+    fn write(&mut self, buf: &[u8]) -> io::Result<usize> {
+        let len = buf.len().min(self.room);
+        self.output.extend_from_slice(&buf[..len])?;
+        self.room -= len;
+        Ok(len)
+    }
+}
+
+/// Serves the stream of a row, and looks for its end and for what is written.
+fn serve_row<R: Wait + Abort, Z: FirstZone>(
+    rt: &R,
+    alloc: Global,
+    server: &Server<'_, Z>,
+    reader: &mut VersionReader<Z>,
+    row: &str,
+) -> Result<(), Fail> {
+    let mut words = row.splitn(6, ' ');
+    let may = words.next() == Some("may");
+    let room: usize = words.next().unwrap_or("").parse()?;
+    let end = words.next().unwrap_or("");
+    let input = octets_of(alloc, words.next().unwrap_or(""))?;
+    let output = octets_of(alloc, words.next().unwrap_or(""))?;
+    let what = words.next().unwrap_or("");
+    let peer = Peer {
+        may_update: may,
+        may_transfer: may,
+        stream: true,
+    };
+    let mut asked = Asked::new(alloc, server, reader, peer);
+    let mut stream = Counted::new(Tape {
+        input: Cursor::new(input.as_slice()),
+        output: Vec::new(alloc),
+        room,
+    });
+    let mut request = vec![in alloc; 0u8; 65_535]?;
+    let mut out = vec![in alloc; 0u8; 65_535]?;
+    let mut frame = vec![in alloc; 0u8; 65_537]?;
+    let ended = serve_stream(
+        rt,
+        &mut asked,
+        &mut stream,
+        &OpenGate,
+        &mut request,
+        &mut out,
+        &mut frame,
+    );
+    let ended = format!(in alloc; "{ended:?}")?;
+    assert_eq!(rt; ended.as_str(), end, "{what}");
+    assert_eq!(rt; stream.inner.output.as_slice(), output.as_slice(), "{what}");
+    Ok(())
+}
+
+/// Serves the stream of a row by a server of its own; nine versions are too many for it.
+fn serve_alone<R: Wait + Abort, Z: FirstZone>(
+    rt: &R,
+    alloc: Global,
+    cell: &VersionCell<Z>,
+    publisher: VersionPublisher<Z>,
+    owned: VersionReader<Z>,
+    reader: &mut VersionReader<Z>,
+    row: &str,
+) -> Result<(), Fail>
+    requires { publisher.number ≡ 0 }
+{
+    let NoEngine {
+        fault,
+        publisher,
+        reader: owned,
+    } = match Server::new(rt, cell, publisher, owned, 9) {
+        Ok(_) => return Err("nine versions are too many".into()),
+        Err(refused) => refused,
+    };
+    assert_eq!(rt; fault, EngineFault::TooGreat);
+    let Ok(server) = Server::new(rt, cell, publisher, owned, 8) else {
+        return Err("no server".into());
+    };
+    serve_row(rt, alloc, &server, reader, row)
+}
+
+/// Serves the stream of a row over the zone anew.
+fn play<R: Wait + Abort, Z: FirstZone>(
+    rt: &R,
+    alloc: Global,
+    zone: Zone,
+    row: &[u8],
+) -> Result<(), Fail>
+    requires { zone ≡ Z.zone }
+{
+    let Parts {
+        cell,
+        publisher,
+        mut readers,
+    } = Cell::new(rt, alloc, 2, Version::first(zone))?;
+    let owned = readers.pop().ok_or("no reader")?;
+    let mut reader = readers.pop().ok_or("no reader")?;
+    let row = std::str::from_utf8(row)?;
+    serve_alone::<R, Z>(rt, alloc, &cell, publisher, owned, &mut reader, row)
+}
+
+/// Serves the stream of a row over the zone anew, by a cell of its own.
+fn serve_anew<R: Wait + Abort>(rt: &R, alloc: Global, row: &str) -> Result<(), Fail> {
+    let zone = zone(alloc)?;
+    play::<R, Brand>(rt, alloc, zone, row.as_bytes())
+}
+
+// Updates and queries on a stream, in their order, and how it ends (RFC 1035, 4.2.2; RFC 2136, 3).
+#[test]
+fn streams(rt: HostRuntime) -> Result<(), Fail> {
+    for row in STREAMS.lines() {
+        serve_anew(&rt, rt.alloc(), row)?;
+    }
+    Ok(())
+}
