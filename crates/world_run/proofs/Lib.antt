@@ -1,4 +1,9 @@
+pub mod AnswerLemmas
+pub mod CallReplays
 pub mod EndLemmas
+pub mod JudgeLemmas
+pub mod KeptLemmas
 pub mod PlayLemmas
+pub mod ReplayLemmas
 pub mod RunLemmas
 pub mod StepLemmas

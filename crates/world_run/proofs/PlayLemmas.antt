@@ -35,14 +35,14 @@ next_played lines i line replies given first world after lt is told so_far =
     ∙ behind-one replies given (play after (drop (i + 1) lines))
 
 -- all lines are played
-pub all_played : (zone : List Record) (lines : List WorldStep) (i : ℕ) (replies : List WorldReply) (world : World) → length lines ≤ i → play (started zone) lines ≡ behind replies (play world (drop i lines)) → replies_of zone lines ≡ Some replies
-all_played zone lines i replies world end so_far =
+pub all_played : (zone : List Record) (keep window : ℕ) (lines : List WorldStep) (i : ℕ) (replies : List WorldReply) (world : World) → length lines ≤ i → play (started zone keep window) lines ≡ behind replies (play world (drop i lines)) → replies_of zone keep window lines ≡ Some replies
+all_played zone keep window lines i replies world end so_far =
     ap (option_map (λ played. played.0)) (so_far ∙ ap (λ (l : List WorldStep). behind replies (play world l)) (drop_all i lines end))
     ∙ ap (λ (l : List WorldReply). Some l) (append-nil replies)
 
 -- a line passes the limit
-pub limit_passed : (zone : List Record) (lines : List WorldStep) (i : ℕ) (line : WorldStep) (replies : List WorldReply) (world : World) → i < length lines → line ≡ get_or lines i line → turn world line ≡ None
-    → play (started zone) lines ≡ behind replies (play world (drop i lines)) → replies_of zone lines ≡ None
-limit_passed zone lines i line replies world lt is none so_far =
+pub limit_passed : (zone : List Record) (keep window : ℕ) (lines : List WorldStep) (i : ℕ) (line : WorldStep) (replies : List WorldReply) (world : World) → i < length lines → line ≡ get_or lines i line → turn world line ≡ None
+    → play (started zone keep window) lines ≡ behind replies (play world (drop i lines)) → replies_of zone keep window lines ≡ None
+limit_passed zone keep window lines i line replies world lt is none so_far =
     ap (option_map (λ played. played.0)) (so_far ∙ ap (λ (l : List WorldStep). behind replies (play world l)) (line_due lines i line lt is)
     ∙ ap (λ t. behind replies (option_and_then (λ told. onto_replies told.0 (play told.1 (drop (i + 1) lines))) t)) none)

@@ -1,12 +1,12 @@
 -- The steps of a call, one after the other.
-use Rattle.std.proofs.Common.{◌≡◌, refl, sym, ap, ◌∙◌, ℕ, zero, suc, ◌+◌, ◌-◌, ◌<◌, List, arith, Option, Some, None}
+use Rattle.std.proofs.Common.{◌≡◌, refl, sym, ap, ◌∙◌, ℕ, zero, suc, ◌+◌, ◌-◌, ◌<◌, arith, Option, Some, None}
 use Rattle.std.specs.Prelude.{MatchOption}
 use Rattle.std.specs.Option.{option_map}
 use Rattle.cell_core.specs.Words.{State}
 use Rattle.cell_core.specs.WordSteps.{HasWordStep}
 use Rattle.cell_core.specs.declared.words.WordStep.{WordStep}
 use Rattle.cell_core.proofs.MadeLemmas.{none_made}
-use Rattle.dns_rdata.specs.Record.{Record}
+use Rattle.zone_tree.specs.Version.{Version as Numbered}
 use Rattle.world_run.specs.declared.phase.Phase.{Phase}
 use Rattle.world_run.specs.declared.phase.End.{End}
 use Rattle.world_run.specs.declared.phase.Progress.{Progress}
@@ -15,40 +15,40 @@ use Rattle.world_run.specs.Phases.{word_step, after}
 use Rattle.world_run.specs.World.{step_once, steps_up_to, most_steps}
 
 -- where the words have no such step, the call takes none
-pub none_once : (words : State (List Record)) (phase : Phase) (step : WordStep (List Record)) → step ≡ word_step phase → (HasWordStep words step → ⊥) → step_once words phase ≡ None
+pub none_once : (words : State Numbered) (phase : Phase) (step : WordStep Numbered) → step ≡ word_step phase → (HasWordStep words step → ⊥) → step_once words phase ≡ None
 none_once words phase step is none =
     ap (option_map (λ told. (after phase told.0, told.1))) (none_made words (word_step phase) (λ has. none (rw is has)))
 
-pub stays_there : (left : ℕ) (words : State (List Record)) (phase : Phase) → 0 < left → step_once words phase ≡ None → steps_up_to left words phase ≡ (On phase, words)
+pub stays_there : (left : ℕ) (words : State Numbered) (phase : Phase) → 0 < left → step_once words phase ≡ None → steps_up_to left words phase ≡ (On phase, words)
 unfolding steps_up_to
 stays_there zero words phase some none = absurd (omega (arith, some))
 stays_there (suc left) words phase some none = rw none refl
 
-pub goes_further : (left : ℕ) (words between : State (List Record)) (phase next : Phase) → 0 < left → step_once words phase ≡ Some (On next, between) → steps_up_to left words phase ≡ steps_up_to (left - 1) between next
+pub goes_further : (left : ℕ) (words between : State Numbered) (phase next : Phase) → 0 < left → step_once words phase ≡ Some (On next, between) → steps_up_to left words phase ≡ steps_up_to (left - 1) between next
 unfolding steps_up_to
 goes_further zero words between phase next some goes = absurd (omega (arith, some))
 goes_further (suc left) words between phase next some goes = let e : suc left - 1 ≡ left = omega arith in rw (goes, e) refl
 
-pub ends_there : (left : ℕ) (words between : State (List Record)) (phase : Phase) (end : End) → 0 < left → step_once words phase ≡ Some (Done end, between) → steps_up_to left words phase ≡ (Done end, between)
+pub ends_there : (left : ℕ) (words between : State Numbered) (phase : Phase) (end : End) → 0 < left → step_once words phase ≡ Some (Done end, between) → steps_up_to left words phase ≡ (Done end, between)
 unfolding steps_up_to
 ends_there zero words between phase end some ends = absurd (omega (arith, some))
 ends_there (suc left) words between phase end some ends = rw ends refl
 
 -- what a call under way was told of its step
-abbrev pub IsTold : State (List Record) → Phase → State (List Record) → Option Progress → Type 0
+abbrev pub IsTold : State Numbered → Phase → State Numbered → Option Progress → Type 0
 IsTold words phase after told =
     MatchOption told ((step_once words phase ≡ None) × (after ≡ words)) (λ progress. step_once words phase ≡ Some (progress, after))
 
-told_some : (words after : State (List Record)) (phase : Phase) (told : Option Progress) (progress : Progress) → told ≡ Some progress → IsTold words phase after told → step_once words phase ≡ Some (progress, after)
+told_some : (words after : State Numbered) (phase : Phase) (told : Option Progress) (progress : Progress) → told ≡ Some progress → IsTold words phase after told → step_once words phase ≡ Some (progress, after)
 told_some words after phase None progress is t = absurd (let wrong = is in cc)
 told_some words after phase (Some other) progress is t = let same : other ≡ progress = (let e = is in cc) in t ∙ ap (λ (p : Progress). Some (p, after)) same
 
-told_none : (words after : State (List Record)) (phase : Phase) (told : Option Progress) → told ≡ None → IsTold words phase after told → (step_once words phase ≡ None) × (after ≡ words)
+told_none : (words after : State Numbered) (phase : Phase) (told : Option Progress) → told ≡ None → IsTold words phase after told → (step_once words phase ≡ None) × (after ≡ words)
 told_none words after phase None is t = t
 told_none words after phase (Some other) is t = absurd (let wrong = is in cc)
 
 -- the call takes one step more
-pub further : (at : ℕ) (first words after : State (List Record)) (begun phase next : Phase) (told : Option Progress) (progress : Progress) → at < most_steps → told ≡ Some progress → progress ≡ On next → IsTold words phase after told
+pub further : (at : ℕ) (first words after : State Numbered) (begun phase next : Phase) (told : Option Progress) (progress : Progress) → at < most_steps → told ≡ Some progress → progress ≡ On next → IsTold words phase after told
     → steps_up_to most_steps first begun ≡ steps_up_to (most_steps - at) words phase → steps_up_to most_steps first begun ≡ steps_up_to (most_steps - (at + 1)) after next
 further at first words after begun phase next told progress lt is on t so_far =
     let left : most_steps - at - 1 ≡ most_steps - (at + 1) = omega arith in
@@ -56,24 +56,24 @@ further at first words after begun phase next told progress lt is on t so_far =
     ∙ ap (λ n. steps_up_to n after next) left
 
 -- the call can't take its next step
-pub stayed : (at : ℕ) (first words after : State (List Record)) (begun phase : Phase) (told : Option Progress) → at < most_steps → told ≡ None → IsTold words phase after told
+pub stayed : (at : ℕ) (first words after : State Numbered) (begun phase : Phase) (told : Option Progress) → at < most_steps → told ≡ None → IsTold words phase after told
     → steps_up_to most_steps first begun ≡ steps_up_to (most_steps - at) words phase → (On phase, after) ≡ steps_up_to most_steps first begun
 stayed at first words after begun phase told lt is t so_far =
     let none = told_none words after phase told is t in
-    ap (λ (s : State (List Record)). (On phase, s)) none.1 ∙ sym (so_far ∙ stays_there (most_steps - at) words phase (omega arith) none.0)
+    ap (λ (s : State Numbered). (On phase, s)) none.1 ∙ sym (so_far ∙ stays_there (most_steps - at) words phase (omega arith) none.0)
 
 -- the call is at its end
-pub ended : (at : ℕ) (first words after : State (List Record)) (begun phase : Phase) (end : End) (told : Option Progress) (progress : Progress) → at < most_steps → told ≡ Some progress → progress ≡ Done end → IsTold words phase after told
+pub ended : (at : ℕ) (first words after : State Numbered) (begun phase : Phase) (end : End) (told : Option Progress) (progress : Progress) → at < most_steps → told ≡ Some progress → progress ≡ Done end → IsTold words phase after told
     → steps_up_to most_steps first begun ≡ steps_up_to (most_steps - at) words phase → (Done end, after) ≡ steps_up_to most_steps first begun
 ended at first words after begun phase end told progress lt is done t so_far =
     sym (so_far ∙ ends_there (most_steps - at) words after phase end (omega arith) (told_some words after phase told (Done end) (is ∙ ap Some done) t))
 
-no_more : (left : ℕ) (words : State (List Record)) (phase : Phase) → left ≡ 0 → steps_up_to left words phase ≡ (On phase, words)
+no_more : (left : ℕ) (words : State Numbered) (phase : Phase) → left ≡ 0 → steps_up_to left words phase ≡ (On phase, words)
 unfolding steps_up_to
 no_more zero words phase is = refl
 no_more (suc left) words phase is = absurd (omega (arith, is))
 
 -- so many steps are taken
-pub passed : (at : ℕ) (first words : State (List Record)) (begun phase : Phase) → at ≡ most_steps
+pub passed : (at : ℕ) (first words : State Numbered) (begun phase : Phase) → at ≡ most_steps
     → steps_up_to most_steps first begun ≡ steps_up_to (most_steps - at) words phase → (On phase, words) ≡ steps_up_to most_steps first begun
 passed at first words begun phase is so_far = sym (so_far ∙ no_more (most_steps - at) words phase (omega arith))

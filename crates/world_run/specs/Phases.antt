@@ -1,29 +1,32 @@
 -- Calls as steps on words: the step that each takes next, and what follows on it (own).
-use Rattle.std.specs.Prelude.{ℕ, Bool, true, false, List, bytes_eq}
+use Rattle.std.specs.Prelude.{ℕ, Bool, true, false, List, bytes_eq, Option, None, Some}
 use Rattle.cell_core.specs.declared.words.WordStep.{WordStep}
 use Rattle.cell_core.specs.declared.words.WordStep.TheVariants as word
 use Rattle.cell_core.specs.declared.words.WordEvent.{WordEvent}
 use Rattle.cell_core.specs.declared.words.WordEvent.TheVariants as told
-use Rattle.dns_rdata.specs.Record.{Record}
+use Rattle.dns_message.specs.declared.query.Head.{Head}
+use Rattle.world_run.specs.declared.phase.Keeping.{Keeping}
 use Rattle.world_run.specs.declared.phase.Purpose.{Purpose}
 use Rattle.world_run.specs.declared.phase.Purpose.TheVariants as purpose
 use Rattle.world_run.specs.declared.phase.Phase.{Phase}
-use Rattle.world_run.specs.declared.phase.Phase.TheVariants.{Load, Probe, Prepare, Swap, Settle, Release, Bury, Free}
-use Rattle.world_run.specs.declared.phase.End.TheVariants.{Owned, Told}
+use Rattle.world_run.specs.declared.phase.Phase.TheVariants.{Load, Probe, Prepare, Swap, Settle, Keep, Release, Bury, Free}
+use Rattle.world_run.specs.declared.phase.End.TheVariants.{Owned, Told, NoSlot, Kept}
 use Rattle.world_run.specs.declared.phase.Progress.{Progress}
 use Rattle.world_run.specs.declared.phase.Progress.TheVariants.{On, Done}
 use Rattle.world_run.specs.declared.step.Answer.{Answer}
 use Rattle.world_run.specs.declared.step.Answer.TheVariants as answer
 use Rattle.world_run.specs.declared.step.StepName.{StepName}
 use Rattle.world_run.specs.declared.step.StepName.TheVariants as step
+use Rattle.zone_tree.specs.Version.{Version as Numbered}
 
 -- the step on a word that a call takes next (own)
-abbrev pub word_step : Phase → WordStep (List Record)
+abbrev pub word_step : Phase → WordStep Numbered
 word_step (Load name) = word.Load
-word_step (Probe zone) = word.Probe
-word_step (Prepare zone) = word.Prepare zone
-word_step Swap = word.Swap
-word_step Settle = word.Settle
+word_step (Probe version keeping) = word.Probe
+word_step (Prepare version keeping) = word.Prepare version
+word_step (Swap keeping) = word.Swap
+word_step (Settle keeping) = word.Settle
+word_step (Keep given keeping) = word.Load
 word_step (Release owner for) = word.Release owner
 word_step (Bury owner for) = word.Bury owner
 word_step (Free owner number for) = word.Free owner
@@ -31,75 +34,84 @@ word_step (Free owner number for) = word.Free owner
 -- that step's name (own)
 abbrev pub step_name : Phase → StepName
 step_name (Load name) = step.Load
-step_name (Probe zone) = step.Probe
-step_name (Prepare zone) = step.Prepare
-step_name Swap = step.Swap
-step_name Settle = step.Settle
+step_name (Probe version keeping) = step.Probe
+step_name (Prepare version keeping) = step.Prepare
+step_name (Swap keeping) = step.Swap
+step_name (Settle keeping) = step.Settle
+step_name (Keep given keeping) = step.Load
 step_name (Release owner for) = step.Release
 step_name (Bury owner for) = step.Bury
 step_name (Free owner number for) = step.Free
 
--- what a call gives that releases an owner, and has buried nothing (own)
-abbrev pub left_told : Purpose → Answer
-left_told purpose.Drop = answer.Left
-left_told purpose.Publish = answer.Published
+-- an update whose publication's owner is gone gives up the oldest version that is kept, where that is due, and is at its end
+-- (own)
+abbrev pub oldest_after : Head → ℕ → Option ℕ → Progress
+oldest_after head kept None = Done (Kept head kept)
+oldest_after head kept (Some owner) = On (Release owner (purpose.Oldest head kept))
 
--- what it gives where it has buried a version (own)
-abbrev pub buried_told : ℕ → Purpose → Answer
-buried_told number purpose.Drop = answer.Buried number
-buried_told number purpose.Publish = answer.Published
+-- what follows where an owner is gone; a drop gives this (own)
+abbrev pub past : Purpose → Answer → Progress
+past purpose.Drop answer = Done (Told answer)
+past (purpose.Publish keeping kept) answer = oldest_after keeping.head kept keeping.oldest
+past (purpose.Oldest head kept) answer = Done (Kept head kept)
 
 -- a load ends with an owner under its name (own)
 abbrev pub load_after : List ℕ → WordEvent → Progress
 load_after name (told.Loaded owner number) = Done (Owned name owner number)
 load_after name event = On (Load name)
 
--- probes go on up to a slot that is free, or to the last, where the publication ends (own)
-abbrev pub probe_after : List Record → WordEvent → Progress
-probe_after zone told.Taken = On (Prepare zone)
-probe_after zone told.NoSlot = Done (Told answer.NoSlot)
-probe_after zone event = On (Probe zone)
+-- probes go on up to a slot that is free, or to the last, where the update ends (own)
+abbrev pub probe_after : Numbered → Keeping → WordEvent → Progress
+probe_after version keeping told.Taken = On (Prepare version keeping)
+probe_after version keeping told.NoSlot = Done (NoSlot keeping.head)
+probe_after version keeping event = On (Probe version keeping)
 
--- on a settle follows the release of the owner that it gave (own)
-abbrev pub settle_after : WordEvent → Progress
-settle_after (told.Settled owner number) = On (Release owner purpose.Publish)
-settle_after event = On Settle
+-- on a settle follows a load of the version that was published (own)
+abbrev pub settle_after : Keeping → WordEvent → Progress
+settle_after keeping (told.Settled owner number) = On (Keep owner keeping)
+settle_after keeping event = On (Settle keeping)
+
+-- on that load follows the release of the owner that the publication gave (own)
+abbrev pub keep_after : ℕ → Keeping → WordEvent → Progress
+keep_after given keeping (told.Loaded owner number) = On (Release given (purpose.Publish keeping owner))
+keep_after given keeping event = On (Keep given keeping)
 
 -- on a release follows a bury where no share is left (own)
 abbrev pub release_after : ℕ → Purpose → WordEvent → Progress
 release_after owner for told.Emptied = On (Bury owner for)
-release_after owner for event = Done (Told (left_told for))
+release_after owner for event = past for answer.Left
 
 -- on a bury that won follows a free (own)
 abbrev pub bury_after : ℕ → Purpose → WordEvent → Progress
 bury_after owner for (told.Buried number) = On (Free owner number for)
-bury_after owner for event = Done (Told (left_told for))
+bury_after owner for event = past for answer.Left
 
 -- what follows on a call's step, by what the step told (own)
 abbrev pub after : Phase → WordEvent → Progress
 after (Load name) event = load_after name event
-after (Probe zone) event = probe_after zone event
-after (Prepare zone) event = On Swap
-after Swap event = On Settle
-after Settle event = settle_after event
+after (Probe version keeping) event = probe_after version keeping event
+after (Prepare version keeping) event = On (Swap keeping)
+after (Swap keeping) event = On (Settle keeping)
+after (Settle keeping) event = settle_after keeping event
+after (Keep given keeping) event = keep_after given keeping event
 after (Release owner for) event = release_after owner for event
 after (Bury owner for) event = bury_after owner for event
-after (Free owner number for) event = Done (Told (buried_told number for))
+after (Free owner number for) event = past for (answer.Buried number)
 
 -- a call is to put a name into use (own)
 abbrev pub reserves : List ℕ → Phase → Bool
 reserves name (Load other) = bytes_eq other name
 reserves name phase = false
 
--- whether an owner is released for a publication (own)
-abbrev pub is_for_publish : Purpose → Bool
-is_for_publish purpose.Drop = false
-is_for_publish purpose.Publish = true
+-- whether an owner is released for an update (own)
+abbrev pub is_for_update : Purpose → Bool
+is_for_update purpose.Drop = false
+is_for_update for = true
 
--- a call is a publication (own)
-abbrev pub publishes : Phase → Bool
-publishes (Load name) = false
-publishes (Release owner for) = is_for_publish for
-publishes (Bury owner for) = is_for_publish for
-publishes (Free owner number for) = is_for_publish for
-publishes phase = true
+-- a call is an update (own)
+abbrev pub updates : Phase → Bool
+updates (Load name) = false
+updates (Release owner for) = is_for_update for
+updates (Bury owner for) = is_for_update for
+updates (Free owner number for) = is_for_update for
+updates phase = true

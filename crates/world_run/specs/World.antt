@@ -1,18 +1,36 @@
--- Zone versions in the words of a cell, the names of their strong owners, and the calls under way: what each line of a
--- script makes of them, and its reply (own).
-use Rattle.std.specs.Prelude.{ℕ, zero, suc, Bool, not, ◌||◌, nat_le, List, [], ◌∷◌, ◌++◌, length, bytes_eq, filter, find, Option, Some, None, if◌then◌else◌}
-use Rattle.std.specs.List.{list_any}
-use Rattle.std.specs.Option.{option_and_then, option_map}
-use Rattle.cell_core.specs.Words.{State, begun, found_by}
+-- Zone versions in the words of a cell, the names of their strong owners, the versions that are kept, and the calls under way:
+-- what each line of a script makes of them, and its reply (own).
+use Rattle.std.specs.Prelude.{ℕ, zero, suc, Bool, true, false, not, ◌||◌, ◌&&◌, ◌==◌, is_some, nat_le, nat_lt, List, [], ◌∷◌, ◌++◌, length, bytes_eq, filter, find, remove, take, drop, Option, Some, None, if◌then◌else◌}
+use Rattle.std.specs.List.{list_any, slice_get, flat_map}
+use Rattle.std.specs.Option.{option_and_then, option_map, option_to_list}
+use Rattle.cell_core.specs.Words.{State, grants, word_of, begun, found_by, found_last}
+use Rattle.cell_core.specs.WordSteps.{with_new_owner}
 use Rattle.cell_core.specs.Made.{made}
+use Rattle.cell_core.specs.declared.words.Owner.TheVariants.{Holding}
+use Rattle.dns_rdata.specs.declared.numbers.Rcode.{Rcode}
+use Rattle.dns_rdata.specs.declared.numbers.Rcode.TheVariants.{NoError, ServFail}
+use Rattle.dns_rdata.specs.Numbers.{type_IXFR}
+use Rattle.dns_rdata.specs.declared.numbers.Serial.{Serial}
 use Rattle.dns_rdata.specs.Record.{Record}
-use Rattle.serve_core.specs.declared.transport.Transport.TheVariants.{Udp}
-use Rattle.serve_core.specs.Reply.{reply}
+use Rattle.dns_message.specs.declared.query.Head.{Head}
+use Rattle.dns_message.specs.declared.query.Parsed.{Parsed}
+use Rattle.dns_message.specs.declared.query.Parsed.TheVariants.{Query as Asks}
+use Rattle.dns_message.specs.declared.query.Query.{Query as QueryAsked}
+use Rattle.dns_message.specs.Octets.{fit}
+use Rattle.dns_message.specs.Request.{reads}
+use Rattle.serve_core.specs.declared.transport.Transport.{Transport}
+use Rattle.serve_core.specs.declared.transport.Transport.TheVariants.{Udp, Tcp}
+use Rattle.serve_core.specs.Reply.{bare}
+use Rattle.serve_core.specs.Served.{got_for}
+use Rattle.serve_core.specs.Transfers.{peer_over, is_permitted, messages_to}
+use Rattle.serve_core.specs.Transport.{limit_of}
+use Rattle.world_run.specs.declared.judged.Judged.{Judged}
+use Rattle.world_run.specs.declared.judged.Judged.TheVariants as judgement
 use Rattle.world_run.specs.declared.phase.Phase.{Phase}
 use Rattle.world_run.specs.declared.phase.Phase.TheVariants as phase
 use Rattle.world_run.specs.declared.phase.Purpose.TheVariants as purpose
 use Rattle.world_run.specs.declared.phase.End.{End}
-use Rattle.world_run.specs.declared.phase.End.TheVariants.{Owned, Told}
+use Rattle.world_run.specs.declared.phase.End.TheVariants.{Owned, Told, NoSlot, Kept}
 use Rattle.world_run.specs.declared.phase.Progress.{Progress}
 use Rattle.world_run.specs.declared.phase.Progress.TheVariants.{On, Done}
 use Rattle.world_run.specs.declared.play.Named.{Named}
@@ -20,33 +38,48 @@ use Rattle.world_run.specs.declared.play.UnderWay.{UnderWay}
 use Rattle.world_run.specs.declared.start.Start.{Start}
 use Rattle.world_run.specs.declared.start.Start.TheVariants.{Refused, Answers, Takes}
 use Rattle.world_run.specs.declared.step.Answer.{Answer}
-use Rattle.world_run.specs.declared.step.Answer.TheVariants.{Owner, Reply, Silent}
+use Rattle.world_run.specs.declared.step.Answer.TheVariants.{Owner, Reply, Silent, Messages}
 use Rattle.world_run.specs.declared.step.Call.{Call}
-use Rattle.world_run.specs.declared.step.Call.TheVariants.{Load, Drop, Ask, Publish}
+use Rattle.world_run.specs.declared.step.Call.TheVariants.{Load, Drop, Ask, Transfer, Update}
 use Rattle.world_run.specs.declared.step.WorldReply.{WorldReply}
 use Rattle.world_run.specs.declared.step.WorldReply.TheVariants.{Answered, Begun, Step, Last, NotEnabled}
 use Rattle.world_run.specs.declared.step.WorldStep.{WorldStep}
 use Rattle.world_run.specs.declared.step.WorldStep.TheVariants.{Whole, Begin, Next}
-use Rattle.world_run.specs.Phases.{word_step, step_name, after, reserves, publishes}
+use Rattle.world_run.specs.Judgements.{asks_update, judged}
+use Rattle.zone_tree.specs.Version.{Version as Numbered}
+use Rattle.zone_tree.specs.Zone.{soa_of}
+use Rattle.transfer_core.specs.Chain.{told}
+use Rattle.transfer_core.specs.Window.{kept_since}
+use Rattle.world_run.specs.Numbered.{first_version}
+use Rattle.world_run.specs.Phases.{word_step, step_name, after, reserves, updates}
 
--- the words of a cell of zone versions, the names in use with their owners, and the calls under way (own)
+-- the words of a cell of zone versions, the names in use with their owners, and the calls under way; how many versions are kept
+-- beside the last, how many entries the window has at most from which changes are sent (RFC 1995, 5), and the owners of the
+-- versions that are kept, the oldest first (own)
 pub record World : Type 0 where
-  pub words : State (List Record)
+  pub words : State Numbered
   pub names : List Named
   pub calls : List UnderWay
+  pub keep : ℕ
+  pub window : ℕ
+  pub kept : List ℕ
 
--- the world in which one version is published, no name is in use, and no call is under way (own)
-abbrev pub started : List Record → World
-started first = record { words = begun first; names = []; calls = [] }
+-- the words in which one version is published, and loaded once (own)
+abbrev pub loaded_once : Numbered → State Numbered
+loaded_once first = with_new_owner (Holding 0 0) (record (begun first) { latest = word_of 0 1; granted = 1 })
+
+-- the world in which one version is published and kept, no name is in use, and no call is under way (own)
+abbrev pub started : List Record → ℕ → ℕ → World
+started first keep window = record { words = loaded_once (first_version first); names = []; calls = []; keep = keep; window = window; kept = 0 ∷ [] }
 
 -- at most so many calls are under way (own)
 abbrev pub most_calls : ℕ
 most_calls = 64
 
--- no call takes more steps: a publication has 64 probes, a prepare, a swap, a settle, and a release, a bury and a free of
--- the owner that it gives (own)
+-- no call takes more steps: an update has 64 probes, a prepare, a swap, a settle, a load, and a release, a bury and a free of
+-- the owner that the publication gives and of the oldest that is kept (own)
 abbrev pub most_steps : ℕ
-most_steps = 70
+most_steps = 74
 
 -- the owner that a name is in use for; none where it isn't in use (own)
 abbrev pub owner_of : List ℕ → List Named → Option ℕ
@@ -69,33 +102,113 @@ abbrev pub is_taken : List ℕ → World → Bool
 is_taken name world =
     list_any (λ named. bytes_eq named.name name) world.names || list_any (λ call. reserves name call.phase) world.calls
 
--- the zone of the version that a name's owner has; none where the name isn't in use (own)
+-- the version that a name's owner has; none where the name isn't in use (own)
+abbrev pub version_of : List ℕ → World → Option Numbered
+version_of name world = option_and_then (found_by world.words) (owner_of name world.names)
+
+-- its zone (own)
 abbrev pub zone_of : List ℕ → World → Option (List Record)
-zone_of name world = option_and_then (found_by world.words) (owner_of name world.names)
+zone_of name world = option_map (λ version. version.zone) (version_of name world)
+
+-- the versions that are kept, the oldest first (own)
+abbrev pub kept_versions : World → List Numbered
+kept_versions world = flat_map (λ owner. option_to_list (found_by world.words owner)) world.kept
 
 -- what answers a request: octets, or nothing (own)
 abbrev pub answer_of : Option (List ℕ) → Answer
 answer_of None = Silent
 answer_of (Some octets) = Reply octets
 
+-- a call that takes no step begins with its answer; with none it isn't enabled (own)
+abbrev pub answering : Option Answer → Start
+answering None = Refused
+answering (Some answer) = Answers answer
+
 -- a name is dropped where it is in use (own)
 abbrev pub drop_start : Option ℕ → Start
 drop_start None = Refused
 drop_start (Some owner) = Takes (phase.Release owner purpose.Drop)
 
--- a request over UDP is answered in a zone (own)
+-- whether a request over a transport is for a transfer that is sent, where each peer may have it (RFC 5936, 2.2.1)
+abbrev pub asks_sent : Transport → List Record → Parsed → Bool
+asks_sent transport zone (Asks query) = is_permitted zone (peer_over transport true) query
+asks_sent transport zone said = false
+
+-- a request over UDP is answered in a zone, where it asks for no update and for no transfer that is sent: it gets what it gets of
+-- a server that peers may update (own)
+abbrev pub ask_said : List Record → Parsed → Start
+ask_said zone said =
+    if asks_update said || asks_sent Udp zone said then Refused else Answers (answer_of (got_for Udp true zone said).reply)
+
 abbrev pub ask_start : Option (List Record) → List ℕ → Start
 ask_start None request = Refused
-ask_start (Some zone) request = Answers (answer_of (reply Udp zone request))
+ask_start (Some zone) request = ask_said zone (reads request)
 
--- how a call begins: a name that is in use isn't loaded, and one that isn't is neither dropped nor asked; while a
--- publication is under way there is no other (own)
+-- what changed up to a version that is served, as so many of the kept versions tell that are numbered up to it, since the one of a
+-- serial (RFC 1995, 4)
+abbrev pub changes_among : ℕ → List Numbered → ℕ → Numbered → Serial → Option (List Record)
+changes_among window kept count version serial =
+    option_map (told (soa_of version.zone)) (kept_since window (drop count kept) serial.0 (take count kept))
+
+-- what changed up to a version that is served, as the versions tell that are kept, since the one of the serial that an asker holds:
+-- none where that isn't in the window, or a version behind it isn't kept (RFC 1995, 4 and 5; own)
+abbrev pub changes_told : ℕ → List Numbered → Numbered → Option Serial → Option (List Record)
+changes_told window kept version None = None
+changes_told window kept version (Some serial) =
+    changes_among window kept (length (filter (λ other. nat_le other.number version.number) kept)) version serial
+
+-- a question for a transfer over TCP is answered where it is sent, with this version as the one that is served; what changed since
+-- another version is asked of the versions that are kept, and so stands back while an update is under way (RFC 1995, 2; RFC 5936, 2.2; own)
+abbrev pub transfer_asked : World → Numbered → QueryAsked → Start
+transfer_asked world version query =
+    if not (is_permitted version.zone (peer_over Tcp true) query) then Refused
+    else if query.question.rtype.0 == type_IXFR && list_any (λ call. updates call.phase) world.calls then Refused
+    else Answers (Messages (messages_to version.zone (changes_told world.window (kept_versions world) version query.serial) (peer_over Tcp true) query))
+
+abbrev pub transfer_said : World → Numbered → Parsed → Start
+transfer_said world version (Asks query) = transfer_asked world version query
+transfer_said world version said = Refused
+
+abbrev pub transfer_start : World → Option Numbered → List ℕ → Start
+transfer_start world None request = Refused
+transfer_start world (Some version) request = transfer_said world version (reads request)
+
+-- the reply to an update: its header alone, with a code (RFC 2136, 3.8; own)
+abbrev pub code_reply : Head → Rcode → Answer
+code_reply head code = Reply (fit (bare head code) (limit_of Udp))
+
+-- the owner of the oldest version that is kept, where no more are to be kept (own)
+abbrev pub oldest_kept : ℕ → List ℕ → Option ℕ
+oldest_kept keep kept = if nat_lt keep (length kept) then slice_get kept 0 else None
+
+-- an owner that is to be released has a version, where there is one (own)
+abbrev pub is_held : State Numbered → Option ℕ → Bool
+is_held words None = true
+is_held words (Some owner) = is_some (found_by words owner)
+
+-- an update that makes a version is enabled where its steps can be made: a share is left to load the version by, and the oldest
+-- that it gives up is held (own)
+abbrev pub publication_start : State Numbered → Head → Numbered → Option ℕ → Start
+publication_start words head version oldest =
+    if nat_lt words.granted grants && is_held words oldest then Takes (phase.Probe version (record { head = head; oldest = oldest }))
+    else Refused
+
+-- an update by what it comes to: it is told a code, or it makes a version (RFC 2136, 3; own)
+abbrev pub update_start : World → Option Judged → Start
+update_start world None = Refused
+update_start world (Some (judgement.Told head code)) = Answers (code_reply head code)
+update_start world (Some (judgement.Makes head version)) = publication_start world.words head version (oldest_kept world.keep world.kept)
+
+-- how a call begins: a name that is in use isn't loaded, and one that isn't is neither dropped nor asked; an update is judged in
+-- the last version, and while one is under way there is no other, and no question for what changed (own)
 abbrev pub start : World → Call → Start
 start world (Load name) = if is_taken name world then Refused else Takes (phase.Load name)
 start world (Drop name) = drop_start (owner_of name world.names)
 start world (Ask name request) = ask_start (zone_of name world) request
-start world (Publish zone) =
-    if list_any (λ call. publishes call.phase) world.calls then Refused else Takes (phase.Probe zone)
+start world (Transfer name request) = transfer_start world (version_of name world) request
+start world (Update request) =
+    if list_any (λ call. updates call.phase) world.calls then Refused
+    else update_start world (option_and_then (λ last. judged last request) (found_last world.words))
 
 -- the names in use without the one that a call gives up (own)
 abbrev pub given_up : Call → List Named → List Named
@@ -105,24 +218,32 @@ given_up call names = names
 -- the names in use at the end of a call (own)
 abbrev pub names_at : End → List Named → List Named
 names_at (Owned name owner number) names = names ++ record { name = name; owner = owner } ∷ []
-names_at (Told answer) names = names
+names_at end names = names
 
--- what a call gives at its end (own)
+-- the owners of the versions that are kept at the end of a call: an update's last one, for which the oldest is given up where no
+-- more are to be kept (own)
+abbrev pub kept_at : ℕ → End → List ℕ → List ℕ
+kept_at keep (Kept head owner) kept = (if nat_lt keep (length kept) then remove kept 0 else kept) ++ owner ∷ []
+kept_at keep end kept = kept
+
+-- what a call gives at its end: an update is told NOERROR, or SERVFAIL where it found no slot (own)
 abbrev pub answer_at : End → Answer
 answer_at (Owned name owner number) = Owner name number
 answer_at (Told answer) = answer
+answer_at (NoSlot head) = code_reply head ServFail
+answer_at (Kept head owner) = code_reply head NoError
 
 -- the next step of a call on the words, and what follows on it; none where the words have no such step (own)
-abbrev pub step_once : State (List Record) → Phase → Option (Progress × State (List Record))
+abbrev pub step_once : State Numbered → Phase → Option (Progress × State Numbered)
 step_once words phase = option_map (λ told. (after phase told.0, told.1)) (made words (word_step phase))
 
 -- the steps of a call on the words up to its end, but no more than so many; where one can't be made, it stays there (own)
-abbrev pub go_on : (State (List Record) → Phase → Progress × State (List Record)) → State (List Record) → Phase → Option (Progress × State (List Record)) → Progress × State (List Record)
+abbrev pub go_on : (State Numbered → Phase → Progress × State Numbered) → State Numbered → Phase → Option (Progress × State Numbered) → Progress × State Numbered
 go_on more words phase None = (On phase, words)
 go_on more words phase (Some (On next, between)) = more between next
 go_on more words phase (Some (Done end, between)) = (Done end, between)
 
-unfoldable pub steps_up_to : ℕ → State (List Record) → Phase → Progress × State (List Record)
+unfoldable pub steps_up_to : ℕ → State Numbered → Phase → Progress × State Numbered
 steps_up_to zero words phase = (On phase, words)
 steps_up_to (suc left) words phase = go_on (steps_up_to left) words phase (step_once words phase)
 
@@ -131,10 +252,10 @@ abbrev pub is_full : World → Bool
 is_full world = nat_le most_calls (length world.calls)
 
 -- a call that has made all its steps; one that can't make them isn't enabled (own)
-abbrev pub all_made : World → Call → Progress × State (List Record) → WorldReply × World
+abbrev pub all_made : World → Call → Progress × State Numbered → WorldReply × World
 all_made world call (On phase, words) = (NotEnabled, record world { words = words })
 all_made world call (Done end, words) =
-    (Answered (answer_at end), record world { words = words; names = names_at end (given_up call world.names) })
+    (Answered (answer_at end), record world { words = words; names = names_at end (given_up call world.names); kept = kept_at world.keep end world.kept })
 
 -- a call at once, by how it begins (own)
 abbrev pub whole : World → Call → Start → Option (WorldReply × World)
@@ -156,12 +277,12 @@ begin_under world name call None = begin world name call (start world call)
 begin_under world name call (Some other) = Some (NotEnabled, world)
 
 -- a call under way that takes its next step (own)
-abbrev pub stepped : World → List ℕ → Phase → Option (Progress × State (List Record)) → WorldReply × World
+abbrev pub stepped : World → List ℕ → Phase → Option (Progress × State Numbered) → WorldReply × World
 stepped world name phase None = (NotEnabled, world)
 stepped world name phase (Some (On next, words)) =
     (Step (step_name phase), record world { words = words; calls = without_call name world.calls ++ record { name = name; phase = next } ∷ [] })
 stepped world name phase (Some (Done end, words)) =
-    (Last (step_name phase) (answer_at end), record world { words = words; names = names_at end world.names; calls = without_call name world.calls })
+    (Last (step_name phase) (answer_at end), record world { words = words; names = names_at end world.names; calls = without_call name world.calls; kept = kept_at world.keep end world.kept })
 
 abbrev pub next : World → List ℕ → Option UnderWay → WorldReply × World
 next world name None = (NotEnabled, world)
@@ -181,6 +302,6 @@ abbrev pub play : World → List WorldStep → Option (List WorldReply × World)
 play world [] = Some ([], world)
 play world (line ∷ lines) = option_and_then (λ told. onto_replies told.0 (play told.1 lines)) (turn world line)
 
--- the replies to lines, from a first version on (own)
-abbrev pub replies_of : List Record → List WorldStep → Option (List WorldReply)
-replies_of first lines = option_map (λ played. played.0) (play (started first) lines)
+-- the replies to lines, from a first version on, with so many versions kept beside the last, and a window of so many (own)
+abbrev pub replies_of : List Record → ℕ → ℕ → List WorldStep → Option (List WorldReply)
+replies_of first keep window lines = option_map (λ played. played.0) (play (started first keep window) lines)

@@ -1,15 +1,28 @@
 //! What the definitions say of lines that are played, each the contract of a function that does nothing.
-ghost use Rattle.std.specs.Prelude.{◌≡◌, ℕ, ◌<◌, ◌^◌, List, [], ◌∷◌, length, codes, Some};
+ghost use Rattle.std.specs.Prelude.{◌≡◌, ℕ, ◌<◌, ◌^◌, true, false, List, [], ◌∷◌, length, codes, Some};
 ghost use Rattle.cell_core.specs.Cell.{Cell};
 ghost use Rattle.cell_core.specs.Shows.{Shows};
 ghost use Rattle.dns_rdata.specs.Record.{Record};
+ghost use Rattle.dns_message.specs.Request.{reads};
+ghost use Rattle.world_run.specs.Judgements.{judged};
+ghost use Rattle.zone_tree.specs.Version.{Version as Numbered};
+ghost use Rattle.world_run.specs.Numbered.{first_version, changes_between};
+ghost use Rattle.world_run.specs.Phases.{after};
+ghost use Rattle.world_run.specs.UpdateAnswers.{head_of, KeepsHead, got_alone};
+ghost use Rattle.world_run.specs.declared.judged.Judged.TheVariants.{Told, Makes};
+ghost use Rattle.world_run.specs.declared.phase.End.TheVariants.{NoSlot, Kept};
+ghost use Rattle.world_run.specs.declared.phase.Phase.{Phase};
+ghost use Rattle.cell_core.specs.declared.words.WordEvent.{WordEvent};
+ghost use Rattle.dns_rdata.specs.declared.numbers.Rcode.{Rcode};
+ghost use Rattle.dns_rdata.specs.declared.numbers.Rcode.TheVariants.{NoError, ServFail};
+ghost use Rattle.dns_message.specs.declared.query.Head.{Head};
+ghost use Rattle.serve_core.specs.Served.{got};
 ghost use Rattle.serve_core.specs.declared.transport.Transport.TheVariants.{Udp};
-ghost use Rattle.serve_core.specs.Reply.{reply};
+ghost use Rattle.world_run.specs.Replays.{IsReplayed, IsAnsweredInReplay};
 ghost use Rattle.world_run.specs.Runs.{Run, IsShownBy, IsAnsweredAtLoaded, ShowsReached};
-ghost use Rattle.world_run.specs.World.{World, started, turn, play, replies_of, zone_of, start, answer_of};
-ghost use Rattle.world_run.specs.declared.start.Start.TheVariants.{Answers};
-ghost use Rattle.world_run.specs.declared.step.Call.TheVariants.{Load, Drop, Ask, Publish};
-ghost use Rattle.world_run.specs.declared.step.Answer.TheVariants.{Owner, Buried, Published};
+ghost use Rattle.world_run.specs.World.{World, started, turn, play, replies_of, zone_of, start, ask_said, code_reply, answer_at};
+ghost use Rattle.world_run.specs.declared.step.Call.TheVariants.{Load, Drop, Ask, Update};
+ghost use Rattle.world_run.specs.declared.step.Answer.TheVariants.{Owner, Left, Buried};
 ghost use Rattle.world_run.specs.declared.step.StepName.TheVariants as StepName;
 ghost use Rattle.world_run.specs.declared.step.WorldStep.TheVariants.{Whole, Begin, Next};
 ghost use Rattle.world_run.specs.declared.step.WorldReply.{WorldReply};
@@ -19,39 +32,61 @@ ghost use Rattle.world_run.specs.declared.step.WorldStep.{WorldStep};
 /// Lines that are played make a run of steps on words, which shows a run of the cell; each name in use is that of an owner
 /// which a load of the run gave.
 pub fn plays_are_runs()
-    ensures run { (first : List Record) (lines : List WorldStep) (replies : List WorldReply) (world : World)
-        → play (started first) lines ≡ Some (replies, world) → (run : Run) × IsShownBy first run world }
-    ensures cell { (first : List Record) (lines : List WorldStep) (replies : List WorldReply) (world : World)
-        → play (started first) lines ≡ Some (replies, world) → ShowsReached first world.words }
+    ensures run { (first : List Record) (keep window : ℕ) (lines : List WorldStep) (replies : List WorldReply) (world : World)
+        → play (started first keep window) lines ≡ Some (replies, world) → (run : Run) × IsShownBy first run world }
+    ensures cell { (first : List Record) (keep window : ℕ) (lines : List WorldStep) (replies : List WorldReply) (world : World)
+        → play (started first keep window) lines ≡ Some (replies, world) → ShowsReached first world.words }
 {}
 
 /// Whatever lines were played, a request of a name in use is answered in the version that was last at the load which gave the
 /// name its owner.
 pub fn asks_are_answered_at_loaded()
-    ensures version { (first : List Record) (lines : List WorldStep) (replies : List WorldReply) (world : World) (name : List ℕ) (zone : List Record)
-        → play (started first) lines ≡ Some (replies, world) → zone_of name world ≡ Some zone → IsAnsweredAtLoaded first world name zone }
+    ensures version { (first : List Record) (keep window : ℕ) (lines : List WorldStep) (replies : List WorldReply) (world : World) (name : List ℕ) (zone : List Record)
+        → play (started first keep window) lines ≡ Some (replies, world) → zone_of name world ≡ Some zone → IsAnsweredAtLoaded first world name zone }
     ensures answer { (world : World) (name request : List ℕ) (zone : List Record) → zone_of name world ≡ Some zone
-        → start world (Ask name request) ≡ Answers (answer_of (reply Udp zone request)) }
+        → start world (Ask name request) ≡ ask_said zone (reads request) }
+{}
+
+/// Whatever lines were played, the versions that were published are the first zone and its replays: each further version is what
+/// the next update that a line sent makes of the one before it, let through by each rule there. A request of a name in use is
+/// answered in the replay of as many updates as the number says that was last at the load which gave the name its owner.
+pub fn versions_are_replays()
+    ensures replay { (first : List Record) (keep window : ℕ) (lines : List WorldStep) (replies : List WorldReply) (world : World)
+        → play (started first keep window) lines ≡ Some (replies, world) → IsReplayed first lines world }
+    ensures answered { (first : List Record) (keep window : ℕ) (lines : List WorldStep) (replies : List WorldReply) (world : World) (name : List ℕ) (zone : List Record)
+        → play (started first keep window) lines ≡ Some (replies, world) → zone_of name world ≡ Some zone → IsAnsweredInReplay first lines world name zone }
+{}
+
+/// An update that is told a code at once, or makes a version, gets that code, or NOERROR and the version's zone, in the version that
+/// is last when it begins; one that makes a version ends with NOERROR, or with SERVFAIL where each of the 64 slots was seen in use.
+pub fn updates_are_told()
+    ensures told { (last : Numbered) (request : List ℕ) (head : Head) (code : Rcode) → judged last request ≡ Some (Told head code)
+        → got Udp true false last.zone request ≡ got_alone head code last.zone }
+    ensures made { (last : Numbered) (request : List ℕ) (head : Head) (version : Numbered) → judged last request ≡ Some (Makes head version)
+        → got Udp true false last.zone request ≡ got_alone head NoError version.zone }
+    ensures under_way { (at : Phase) (event : WordEvent) (head : Head) → head_of at ≡ Some head → KeepsHead head event (after at event) }
+    ensures ends { (head : Head) (owner : ℕ) → (answer_at (NoSlot head) ≡ code_reply head ServFail) × (answer_at (Kept head owner) ≡ code_reply head NoError) }
 {}
 
 /// While the numbers of versions fit 64 bits, a line that isn't enabled changes nothing.
 pub fn refused_lines_change_nothing()
-    ensures { (world after : World) (line : WorldStep) (cell : Cell (List Record)) → Shows world.words cell → length cell.published < 2 ^ 64
+    ensures { (world after : World) (line : WorldStep) (cell : Cell Numbered) → Shows world.words cell → length cell.published < 2 ^ 64
         → turn world line ≡ Some (NotEnabled, after) → after ≡ world }
 {}
 
-/// Worked examples: an older version outlives its successor for whom it was loaded, and the last name that is in use for it
-/// buries it; a drop under way takes its steps one at a time, and its name is free at once.
+/// Worked examples, of an update that makes the second version: the first outlives it for whom it was loaded, and the last name that
+/// is in use for it buries it; a drop under way takes its steps one at a time, and its name is free at once.
 pub fn examples()
-    ensures two_versions { (first second : List Record) (request : List ℕ)
-        → replies_of first (Whole (Load (codes "a")) ∷ Whole (Publish second) ∷ Whole (Load (codes "b"))
-        ∷ Whole (Ask (codes "a") request) ∷ Whole (Ask (codes "b") request) ∷ Whole (Drop (codes "a")) ∷ Whole (Drop (codes "a")) ∷ [])
-        ≡ Some (Answered (Owner (codes "a") 0) ∷ Answered Published ∷ Answered (Owner (codes "b") 1)
-        ∷ Answered (answer_of (reply Udp first request)) ∷ Answered (answer_of (reply Udp second request))
-        ∷ Answered (Buried 0) ∷ NotEnabled ∷ []) }
-    ensures one_step_at_a_time { (first second : List Record)
-        → replies_of first (Whole (Load (codes "a")) ∷ Whole (Publish second) ∷ Begin (codes "x") (Drop (codes "a")) ∷ Next (codes "x")
+    ensures two_versions { (first second : List Record) (head : Head) (request : List ℕ)
+        → judged (first_version first) request ≡ Some (Makes head (record { number = 1; zone = second; changes = Some (changes_between first second) }))
+        → replies_of first 0 0 (Whole (Load (codes "a")) ∷ Whole (Update request) ∷ Whole (Load (codes "b"))
+        ∷ Whole (Drop (codes "a")) ∷ Whole (Drop (codes "a")) ∷ Whole (Drop (codes "b")) ∷ [])
+        ≡ Some (Answered (Owner (codes "a") 0) ∷ Answered (code_reply head NoError) ∷ Answered (Owner (codes "b") 1)
+        ∷ Answered (Buried 0) ∷ NotEnabled ∷ Answered Left ∷ []) }
+    ensures one_step_at_a_time { (first second : List Record) (head : Head) (request : List ℕ)
+        → judged (first_version first) request ≡ Some (Makes head (record { number = 1; zone = second; changes = Some (changes_between first second) }))
+        → replies_of first 0 0 (Whole (Load (codes "a")) ∷ Whole (Update request) ∷ Begin (codes "x") (Drop (codes "a")) ∷ Next (codes "x")
         ∷ Whole (Load (codes "a")) ∷ Next (codes "x") ∷ Next (codes "x") ∷ Next (codes "x") ∷ [])
-        ≡ Some (Answered (Owner (codes "a") 0) ∷ Answered Published ∷ Begun ∷ Step StepName.Release
+        ≡ Some (Answered (Owner (codes "a") 0) ∷ Answered (code_reply head NoError) ∷ Begun ∷ Step StepName.Release
         ∷ Answered (Owner (codes "a") 1) ∷ Step StepName.Bury ∷ Last StepName.Free (Buried 0) ∷ NotEnabled ∷ []) }
 {}

@@ -1,8 +1,7 @@
-//! What a script's lines are lent: names, requests and zones, seen as their octets and records.
+//! What a script's lines are lent: names and requests, seen as their octets.
 ghost use Rattle.std.specs.Prelude.{◌≡◌};
 
 use std::marker::Model;
-use zone_tree::Zone;
 
 /// The name of a strong owner, or of a call under way: octets that compare. Contracts see the octets.
 #[derive(Drop)]
@@ -70,43 +69,5 @@ impl<'a> Request<'a> {
         ensures { result.now ≡ self.now }
     {
         self.octets
-    }
-}
-
-/// A zone that somebody else keeps. Contracts see its records.
-#[derive(Drop)]
-pub struct LentZone<'a> {
-    zone: &'a Zone,
-}
-
-impl<'a> Model for LentZone<'a> {
-    ghost use Rattle.std.specs.Prelude.{List};
-    ghost use Rattle.dns_rdata.specs.Record.{Record};
-
-    ghost Value = { List Record };
-
-    ghost view = { λ a. a.zone.now };
-}
-
-impl<'a> LentZone<'a> {
-    /// This zone.
-    pub fn new(zone: &'a Zone) -> LentZone<'a>
-        ensures { result ≡ zone.now }
-    {
-        LentZone { zone }
-    }
-
-    /// The zone.
-    pub fn zone(&self) -> &'a Zone
-        ensures { result.now ≡ self.now }
-    {
-        self.zone
-    }
-
-    /// The same zone.
-    pub fn copy(&self) -> LentZone<'a>
-        ensures { result ≡ self.now }
-    {
-        LentZone { zone: self.zone }
     }
 }

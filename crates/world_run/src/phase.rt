@@ -1,18 +1,33 @@
 //! How far calls have come: the step that each takes next, and what follows on it.
-ghost use Rattle.std.specs.Prelude.{◌≡◌};
-ghost use Rattle.world_run.specs.Phases.{word_step, step_name, after, reserves as says_reserves, publishes as says_publishes};
+ghost use Rattle.std.specs.Prelude.{◌≡◌, IfOk, IfErr};
+ghost use Rattle.world_run.specs.Phases.{word_step, step_name, after, reserves as says_reserves, updates as says_updates};
 
-use crate::lent::{Handle, LentZone};
+use crate::fault::WorldFault;
+use crate::lent::Handle;
+use crate::published::Published;
 use crate::step::{Answer, StepName};
 use cell_core::{WordEvent, WordStep};
+use dns_message::Head;
+
+/// What an update does behind its publication.
+#[derive(Clone, Copy, Drop)]
+pub struct Keeping {
+    /// The update's header, which its reply copies.
+    pub head: Head,
+    /// The owner of the oldest version that is kept, where that is given up for the new one.
+    pub oldest: Option<usize>,
+}
 
 /// What an owner is released for.
 #[derive(Clone, Copy, Drop)]
 pub enum Purpose {
     /// A name is dropped.
     Drop,
-    /// A version was published, and the one before it is given up.
-    Publish,
+    /// An update has published a version, and has loaded it under this owner: the one before it, which the publication gave,
+    /// is given up.
+    Publish(Keeping, usize),
+    /// The oldest version that is kept is given up, for the one that an update of this header has loaded under this owner.
+    Oldest(Head, usize),
 }
 
 /// How far a call has come, by the step that it takes next.
@@ -20,14 +35,16 @@ pub enum Purpose {
 pub enum Phase<'a> {
     /// A load, under this name.
     Load(Handle<'a>),
-    /// A probe of the next slot, for this zone.
-    Probe(LentZone<'a>),
-    /// A prepare of this zone.
-    Prepare(LentZone<'a>),
+    /// A probe of the next slot, for this version.
+    Probe(Published, Keeping),
+    /// A prepare of this version.
+    Prepare(Published, Keeping),
     /// A swap.
-    Swap,
+    Swap(Keeping),
     /// A settle.
-    Settle,
+    Settle(Keeping),
+    /// A load of the version that was published. The publication gave this owner.
+    Keep(usize, Keeping),
     /// A release of this owner.
     Release(usize, Purpose),
     /// A bury by this owner.
@@ -43,6 +60,10 @@ pub enum End<'a> {
     Owned(Handle<'a>, usize, u64),
     /// It gives this.
     Told(Answer),
+    /// An update of this header has found no slot.
+    NoSlot(Head),
+    /// An update of this header has made a version, which is kept under this owner.
+    Kept(Head, usize),
 }
 
 /// What follows on a step.
@@ -56,19 +77,23 @@ pub enum Progress<'a> {
 
 impl<'a> Phase<'a> {
     /// The step on a word that the call takes next.
-    pub fn word_step(&self) -> WordStep<LentZone<'a>>
-        ensures { result ≡ word_step self.now }
+    ///
+    /// `NoMemory` where so many hold the version that it takes that they can't be counted.
+    pub fn word_step(&self) -> Result<WordStep<Published>, WorldFault>
+        ensures ok { IfOk result (λ step. step ≡ word_step self.now) }
+        ensures refused { IfErr result (λ fault. fault ≡ WorldFault.NoMemory) }
     {
-        match self {
+        Ok(match self {
             Phase::Load(_) => WordStep::Load,
-            Phase::Probe(_) => WordStep::Probe,
-            Phase::Prepare(zone) => WordStep::Prepare(zone.copy()),
-            Phase::Swap => WordStep::Swap,
-            Phase::Settle => WordStep::Settle,
+            Phase::Probe(_, _) => WordStep::Probe,
+            Phase::Prepare(version, _) => WordStep::Prepare(version.share()?),
+            Phase::Swap(_) => WordStep::Swap,
+            Phase::Settle(_) => WordStep::Settle,
+            Phase::Keep(_, _) => WordStep::Load,
             Phase::Release(owner, _) => WordStep::Release(*owner),
             Phase::Bury(owner, _) => WordStep::Bury(*owner),
             Phase::Free(owner, _, _) => WordStep::Free(*owner),
-        }
+        })
     }
 
     /// That step's name.
@@ -77,10 +102,11 @@ impl<'a> Phase<'a> {
     {
         match self {
             Phase::Load(_) => StepName::Load,
-            Phase::Probe(_) => StepName::Probe,
-            Phase::Prepare(_) => StepName::Prepare,
-            Phase::Swap => StepName::Swap,
-            Phase::Settle => StepName::Settle,
+            Phase::Probe(_, _) => StepName::Probe,
+            Phase::Prepare(_, _) => StepName::Prepare,
+            Phase::Swap(_) => StepName::Swap,
+            Phase::Settle(_) => StepName::Settle,
+            Phase::Keep(_, _) => StepName::Load,
             Phase::Release(_, _) => StepName::Release,
             Phase::Bury(_, _) => StepName::Bury,
             Phase::Free(_, _, _) => StepName::Free,
@@ -88,20 +114,22 @@ impl<'a> Phase<'a> {
     }
 
     /// What follows on the step, by what it told.
-    pub fn after(&self, event: WordEvent) -> Progress<'a>
-        ensures { result ≡ after self.now event }
+    ///
+    /// `NoMemory` where so many hold the version that it goes on with that they can't be counted.
+    pub fn after(&self, event: WordEvent) -> Result<Progress<'a>, WorldFault>
+        ensures ok { IfOk result (λ progress. progress ≡ after self.now event) }
+        ensures refused { IfErr result (λ fault. fault ≡ WorldFault.NoMemory) }
     {
         match self {
-            Phase::Load(name) => after_load(name, event),
-            Phase::Probe(zone) => after_probe(zone, event),
-            Phase::Prepare(_) => Progress::On(Phase::Swap),
-            Phase::Swap => Progress::On(Phase::Settle),
-            Phase::Settle => after_settle(event),
-            Phase::Release(owner, purpose) => after_release(*owner, *purpose, event),
-            Phase::Bury(owner, purpose) => after_bury(*owner, *purpose, event),
-            Phase::Free(_, number, purpose) => {
-                Progress::Done(End::Told(purpose.buried(*number)))
-            }
+            Phase::Probe(version, keeping) => after_probe(version, *keeping, event),
+            Phase::Load(name) => Ok(after_load(name, event)),
+            Phase::Prepare(_, keeping) => Ok(Progress::On(Phase::Swap(*keeping))),
+            Phase::Swap(keeping) => Ok(Progress::On(Phase::Settle(*keeping))),
+            Phase::Settle(keeping) => Ok(after_settle(*keeping, event)),
+            Phase::Keep(given, keeping) => Ok(after_keep(*given, *keeping, event)),
+            Phase::Release(owner, purpose) => Ok(after_release(*owner, *purpose, event)),
+            Phase::Bury(owner, purpose) => Ok(after_bury(*owner, *purpose, event)),
+            Phase::Free(_, number, purpose) => Ok(purpose.past(Answer::Buried(*number))),
         }
     }
 
@@ -115,41 +143,42 @@ impl<'a> Phase<'a> {
         }
     }
 
-    /// Whether the call is a publication.
-    pub fn publishes(&self) -> bool
-        ensures { result ≡ says_publishes self.now }
+    /// Whether the call is an update.
+    pub fn updates(&self) -> bool
+        ensures { result ≡ says_updates self.now }
     {
         match self {
             Phase::Load(_) => false,
-            Phase::Probe(_) | Phase::Prepare(_) | Phase::Swap | Phase::Settle => true,
             Phase::Release(_, purpose) | Phase::Bury(_, purpose) | Phase::Free(_, _, purpose) => {
-                matches!(purpose, Purpose::Publish)
+                !matches!(purpose, Purpose::Drop)
             }
+            _ => true,
         }
     }
 }
 
-ghost use Rattle.world_run.specs.Phases.{load_after, probe_after, settle_after, release_after, bury_after, left_told, buried_told};
+ghost use Rattle.world_run.specs.Phases.{load_after, probe_after, settle_after, keep_after, release_after, bury_after, past as says_past, oldest_after};
 
 impl Purpose {
-    /// What a call gives that has buried nothing.
-    fn left(self) -> Answer
-        ensures { result ≡ left_told self }
+    /// What follows where the owner is gone; a drop gives this.
+    fn past<'a>(self, answer: Answer) -> Progress<'a>
+        ensures { result ≡ says_past self answer }
     {
         match self {
-            Purpose::Drop => Answer::Left,
-            Purpose::Publish => Answer::Published,
+            Purpose::Drop => Progress::Done(End::Told(answer)),
+            Purpose::Publish(keeping, kept) => oldest_after(keeping.head, kept, keeping.oldest),
+            Purpose::Oldest(head, kept) => Progress::Done(End::Kept(head, kept)),
         }
     }
+}
 
-    /// What a call gives that has buried the version of this number.
-    fn buried(self, number: u64) -> Answer
-        ensures { result ≡ buried_told number self }
-    {
-        match self {
-            Purpose::Drop => Answer::Buried(number),
-            Purpose::Publish => Answer::Published,
-        }
+/// What follows where the owner that a publication gave is gone.
+fn oldest_after<'a>(head: Head, kept: usize, oldest: Option<usize>) -> Progress<'a>
+    ensures { result ≡ oldest_after head kept oldest }
+{
+    match oldest {
+        None => Progress::Done(End::Kept(head, kept)),
+        Some(owner) => Progress::On(Phase::Release(owner, Purpose::Oldest(head, kept))),
     }
 }
 
@@ -166,25 +195,40 @@ fn after_load<'a>(name: &Handle<'a>, event: WordEvent) -> Progress<'a>
 }
 
 /// What follows on a probe.
-fn after_probe<'a>(zone: &LentZone<'a>, event: WordEvent) -> Progress<'a>
-    ensures { result ≡ probe_after zone.now event }
+fn after_probe<'a>(
+    version: &Published,
+    keeping: Keeping,
+    event: WordEvent,
+) -> Result<Progress<'a>, WorldFault>
+    ensures ok { IfOk result (λ progress. progress ≡ probe_after version.now keeping event) }
+    ensures refused { IfErr result (λ fault. fault ≡ WorldFault.NoMemory) }
 {
     match event {
-        WordEvent::Taken => Progress::On(Phase::Prepare(zone.copy())),
-        WordEvent::NoSlot => Progress::Done(End::Told(Answer::NoSlot)),
-        _ => Progress::On(Phase::Probe(zone.copy())),
+        WordEvent::Taken => Ok(Progress::On(Phase::Prepare(version.share()?, keeping))),
+        WordEvent::NoSlot => Ok(Progress::Done(End::NoSlot(keeping.head))),
+        _ => Ok(Progress::On(Phase::Probe(version.share()?, keeping))),
     }
 }
 
 /// What follows on a settle.
-fn after_settle<'a>(event: WordEvent) -> Progress<'a>
-    ensures { result ≡ settle_after event }
+fn after_settle<'a>(keeping: Keeping, event: WordEvent) -> Progress<'a>
+    ensures { result ≡ settle_after keeping event }
 {
     match event {
-        WordEvent::Settled { owner, number: _ } => {
-            Progress::On(Phase::Release(owner, Purpose::Publish))
+        WordEvent::Settled { owner, number: _ } => Progress::On(Phase::Keep(owner, keeping)),
+        _ => Progress::On(Phase::Settle(keeping)),
+    }
+}
+
+/// What follows on the load of the version that was published.
+fn after_keep<'a>(given: usize, keeping: Keeping, event: WordEvent) -> Progress<'a>
+    ensures { result ≡ keep_after given keeping event }
+{
+    match event {
+        WordEvent::Loaded { owner, number: _ } => {
+            Progress::On(Phase::Release(given, Purpose::Publish(keeping, owner)))
         }
-        _ => Progress::On(Phase::Settle),
+        _ => Progress::On(Phase::Keep(given, keeping)),
     }
 }
 
@@ -194,7 +238,7 @@ fn after_release<'a>(owner: usize, purpose: Purpose, event: WordEvent) -> Progre
 {
     match event {
         WordEvent::Emptied => Progress::On(Phase::Bury(owner, purpose)),
-        _ => Progress::Done(End::Told(purpose.left())),
+        _ => purpose.past(Answer::Left),
     }
 }
 
@@ -204,6 +248,6 @@ fn after_bury<'a>(owner: usize, purpose: Purpose, event: WordEvent) -> Progress<
 {
     match event {
         WordEvent::Buried(number) => Progress::On(Phase::Free(owner, number, purpose)),
-        _ => Progress::Done(End::Told(purpose.left())),
+        _ => purpose.past(Answer::Left),
     }
 }

@@ -1,30 +1,42 @@
-//! The zone versions in the words of a cell, the names of their owners, and the calls under way, a line at a time.
-ghost use Rattle.std.specs.Prelude.{◌≡◌, ◌<◌, IsTrue, IsFalse, ◌++◌, ◌∷◌, [], Some, None, IfOk, IfErr, OnOk, OnErr, filter, not, bytes_eq, find, MatchOption};
+//! The zone versions in the words of a cell, the names of their owners, the versions that are kept, and the calls under way, a
+//! line at a time.
+ghost use Rattle.std.specs.Prelude.{◌≡◌, ◌<◌, IsTrue, IsFalse, ◌++◌, ◌∷◌, [], Some, None, IfOk, IfErr, OnOk, OnErr, filter, not, bytes_eq, find, MatchOption, if◌then◌else◌, nat_lt, length, remove, true};
 ghost use Rattle.std.specs.List.{list_any};
-ghost use Rattle.std.specs.Option.{option_copied, option_map};
-ghost use Rattle.serve_core.specs.declared.transport.Transport.TheVariants.{Udp};
-ghost use Rattle.serve_core.specs.Reply.{reply};
-ghost use Rattle.world_run.specs.Phases.{reserves as says_reserves, publishes as says_publishes};
-ghost use Rattle.world_run.specs.World.{World, started, most_steps, owner_of, without_name, call_of, without_call, is_taken as says_taken, zone_of, answer_of, start as says_start, given_up, names_at, answer_at, step_once as says_step_once, steps_up_to, is_full as says_full, all_made as says_all_made, whole as says_whole, begin_under, stepped as says_stepped, next as says_next, turn as says_turn};
+ghost use Rattle.std.specs.Option.{option_copied, option_map, option_and_then};
+ghost use Rattle.cell_core.specs.Words.{found_last};
+ghost use Rattle.world_run.specs.Judgements.{judged as says_judged};
+ghost use Rattle.world_run.specs.Phases.{reserves as says_reserves, updates as says_updates};
+ghost use Rattle.world_run.specs.World.{World, loaded_once as says_loaded_once, started, most_steps, owner_of, without_name, call_of, without_call, is_taken as says_taken, version_of, kept_versions, answering, transfer_asked, transfer_start, code_reply, oldest_kept, is_held as says_held, update_start, start as says_start, given_up, names_at, kept_at, answer_at, step_once as says_step_once, steps_up_to, is_full as says_full, all_made as says_all_made, whole as says_whole, begin_under, stepped as says_stepped, next as says_next, turn as says_turn};
+ghost use Rattle.world_run.specs.declared.judged.Judged.TheVariants.{Makes};
 ghost use Rattle.world_run.specs.declared.play.Named.{Named as NamedRow};
 ghost use Rattle.world_run.specs.declared.play.UnderWay.{UnderWay as UnderWayRow};
 
+use crate::asked::{answer_in, reply_with};
 use crate::fault::WorldFault;
-use crate::lent::{Handle, LentZone, Request};
-use crate::phase::{End, Phase, Progress, Purpose};
+use crate::judged::{Judged, judge};
+use crate::kept::{KeptVersions, chain_to};
+use crate::lent::{Handle, Request};
+use crate::message_list::all_messages;
+use crate::phase::{End, Keeping, Phase, Progress, Purpose};
+use crate::published::Published;
 use crate::start::Start;
 use crate::step::{Answer, Call, Octets, WorldReply, WorldStep};
-use cell_core::{StepFault, WordMachine};
-use serve_core::{Transport, UDP_LIMIT, respond_without_updates};
+use cell_core::{StepFault, WordMachine, WordStep};
+use dns_message::{Head, Parsed, Query, parse};
+use dns_rdata::{RType, Rcode};
+use serve_core::{Peer, Transport, is_permitted, transfer_reply};
 use std::alloc::Global;
 use std::marker::Model;
-use zone_tree::Zone;
+use zone_tree::{Version, Zone};
+
+/// The owner of the first version that is kept.
+const FIRST_OWNER: usize = 0;
 
 /// At most so many calls are under way.
 const MOST_CALLS: usize = 64;
 
 /// No call takes more steps.
-const MOST_STEPS: usize = 70;
+const MOST_STEPS: usize = 74;
 
 /// A name in use, and the owner that it is in use for.
 #[derive(Drop)]
@@ -40,12 +52,17 @@ pub struct UnderWay<'a> {
     phase: Phase<'a>,
 }
 
-/// The words of a cell of zone versions, the names in use, and the calls under way.
+/// The words of a cell of zone versions, the names in use, and the calls under way; how many versions are kept beside the last,
+/// how many entries the window has at most from which changes are sent (RFC 1995, 5), and the owners of the versions that are
+/// kept, the oldest first.
 #[derive(Drop)]
 pub struct Play<'a> {
-    machine: WordMachine<LentZone<'a>>,
+    machine: WordMachine<Published>,
     names: Vec<Named<'a>>,
     calls: Vec<UnderWay<'a>>,
+    keep: usize,
+    window: usize,
+    kept: Vec<usize>,
 }
 
 impl<'a> Model for Play<'a> {
@@ -53,24 +70,35 @@ impl<'a> Model for Play<'a> {
 
     ghost Value = { World };
 
-    ghost view = { λ a. record { words = a.machine; names = a.names.items; calls = a.calls.items } };
+    ghost view = { λ a. record { words = a.machine; names = a.names.items; calls = a.calls.items; keep = a.keep; window = a.window; kept = a.kept.items } };
 }
 
 impl<'a> Play<'a> {
-    /// One version is published, no name is in use, and no call is under way.
+    /// One version is published and kept, no name is in use, and no call is under way.
     ///
     /// `NoMemory` where a growth was refused.
-    pub fn new(alloc: Global, zone: &'a Zone) -> Result<Play<'a>, WorldFault>
-        ensures made { IfOk result (λ play. play ≡ started zone.now) }
+    pub fn new(
+        alloc: Global,
+        zone: Zone,
+        keep: usize,
+        window: usize,
+    ) -> Result<Play<'a>, WorldFault>
+        ensures made { IfOk result (λ play. play ≡ started zone keep window) }
         ensures refused { IfErr result (λ fault. fault ≡ WorldFault.NoMemory) }
     {
-        let Ok(machine) = WordMachine::new(alloc, LentZone::new(zone)) else {
+        let first = Published::new(alloc, Version::first(zone))?;
+        let machine = loaded_once(alloc, first)?;
+        let mut kept = Vec::new(alloc);
+        let Ok(()) = kept.push(FIRST_OWNER) else {
             return Err(WorldFault::NoMemory);
         };
         Ok(Play {
             machine,
             names: Vec::new(alloc),
             calls: Vec::new(alloc),
+            keep,
+            window,
+            kept,
         })
     }
 
@@ -153,7 +181,7 @@ impl<'a> Play<'a> {
                 Ok(WorldReply::Step(step))
             }
             Progress::Done(end) => {
-                let answer = finish(alloc, &mut self.names, end)?;
+                let answer = self.finish(alloc, end)?;
                 Ok(WorldReply::Last(step, answer))
             }
         }
@@ -171,13 +199,43 @@ impl<'a> Play<'a> {
                 None => Ok(Start::Refused),
                 Some(owner) => Ok(Start::Takes(Phase::Release(owner, Purpose::Drop))),
             },
-            Call::Ask(name, request) => match self.zone_under(name) {
+            Call::Ask(name, request) => match self.version_under(name) {
                 None => Ok(Start::Refused),
-                Some(zone) => Ok(Start::Answers(answer_in(alloc, zone, request)?)),
+                Some(version) => Ok(Start::answering(answer_in(alloc, version, request)?)),
             },
-            Call::Publish(_) if is_publishing(&self.calls) => Ok(Start::Refused),
-            Call::Publish(zone) => Ok(Start::Takes(Phase::Probe(zone.copy()))),
+            Call::Transfer(name, request) => match self.version_under(name) {
+                None => Ok(Start::Refused),
+                Some(version) => Ok(Start::answering(self.transfer(alloc, version, request)?)),
+            },
+            Call::Update(_) if is_updating(&self.calls) => Ok(Start::Refused),
+            Call::Update(request) => self.update(alloc, request),
         }
+    }
+
+    /// How an update begins where none is under way.
+    fn update(&self, alloc: Global, request: &Request<'_>) -> Result<Start<'a>, WorldFault>
+        ensures ok { IfOk result (λ how. how ≡ update_start self.now (option_and_then (λ last. says_judged last request.now) (found_last self.now.words))) }
+        ensures refused { IfErr result (λ fault. fault ≡ WorldFault.NoMemory) }
+    {
+        let Some(last) = self.machine.last() else {
+            return Ok(Start::Refused);
+        };
+        match judge(alloc, last, request)? {
+            None => Ok(Start::Refused),
+            Some(Judged::Told(head, code)) => Ok(Start::Answers(reply_with(alloc, head, code)?)),
+            Some(Judged::Makes(head, version)) => Ok(self.publication(head, version)),
+        }
+    }
+
+    /// How an update begins that makes a version.
+    fn publication(&self, head: Head, version: Published) -> Start<'a>
+        ensures { result ≡ update_start self.now (Some (Makes head version)) }
+    {
+        let oldest = oldest_of(self.keep, &self.kept);
+        if !self.machine.has_shares() || !is_held(&self.machine, oldest) {
+            return Start::Refused;
+        }
+        Start::Takes(Phase::Probe(version, Keeping { head, oldest }))
     }
 
     /// Whether a name is in use, or a call under way is to put it into use.
@@ -187,13 +245,72 @@ impl<'a> Play<'a> {
         is_in_use(&self.names, name) || is_reserved(&self.calls, name)
     }
 
-    /// The zone of the version that a name's owner has; none where the name isn't in use.
-    fn zone_under(&self, name: &Handle<'_>) -> Option<&'a Zone>
-        ensures { option_copied result ≡ zone_of name.now self.now }
+    /// The version that a name's owner has; none where the name isn't in use.
+    fn version_under(&self, name: &Handle<'_>) -> Option<&Version>
+        ensures { option_copied result ≡ version_of name.now self.now }
     {
         let owner = owner_under(&self.names, name)?;
-        let lent = self.machine.value(owner)?;
-        Some(lent.zone())
+        let published = self.machine.value(owner)?;
+        Some(published.version())
+    }
+
+    /// The versions that are kept.
+    ///
+    /// `NoMemory` where a growth was refused.
+    fn kept_versions(&self, alloc: Global) -> Result<KeptVersions<'_>, WorldFault>
+        ensures ok { IfOk result (λ versions. versions ≡ kept_versions self.now) }
+        ensures refused { IfErr result (λ fault. fault ≡ WorldFault.NoMemory) }
+    {
+        let mut versions = KeptVersions::new(alloc);
+        for owner in &self.kept {
+            if let Some(published) = self.machine.value(*owner) {
+                versions.push(published.version())?;
+            }
+        }
+        Ok(versions)
+    }
+
+    /// What a request over TCP gets that asks for a transfer which is sent, of a version that is served; None of another one.
+    fn transfer(
+        &self,
+        alloc: Global,
+        version: &Version,
+        request: &Request<'_>,
+    ) -> Result<Option<Answer>, WorldFault>
+        ensures ok { IfOk result (λ answer. answering answer ≡ transfer_start self.now (Some version.now) request.now) }
+        ensures refused { IfErr result (λ fault. fault ≡ WorldFault.NoMemory) }
+    {
+        match parse(alloc, request.as_slice()) {
+            Parsed::Query(query) => self.transfer_of(alloc, version, &query),
+            Parsed::Silent => Ok(None),
+            Parsed::Fault(_, _) => Ok(None),
+            Parsed::Update(_update) => Ok(None),
+            Parsed::NoMemory(_) => Err(WorldFault::NoMemory),
+        }
+    }
+
+    /// What a question over TCP gets for a transfer that is sent, of a version that is served; None of another one, and of a
+    /// question for what changed while an update is under way.
+    fn transfer_of(
+        &self,
+        alloc: Global,
+        version: &Version,
+        query: &Query,
+    ) -> Result<Option<Answer>, WorldFault>
+        ensures ok { IfOk result (λ answer. answering answer ≡ transfer_asked self.now version.now query.now) }
+        ensures refused { IfErr result (λ fault. fault ≡ WorldFault.NoMemory) }
+    {
+        let peer = Peer::over(Transport::Tcp, true);
+        if !is_permitted(version, query, peer) {
+            return Ok(None);
+        }
+        if query.question.rtype == RType::IXFR && is_updating(&self.calls) {
+            return Ok(None);
+        }
+        let kept = self.kept_versions(alloc)?;
+        let chain = chain_to(&kept, version, self.window, query.serial);
+        let messages = all_messages(alloc, transfer_reply(version, &chain, query, peer))?;
+        Ok(Some(Answer::Messages(messages)))
     }
 
     /// Room for one call more.
@@ -221,8 +338,31 @@ impl<'a> Play<'a> {
             Progress::On(_) => Ok(WorldReply::NotEnabled),
             Progress::Done(end) => {
                 give_up(&mut self.names, call);
-                let answer = finish(alloc, &mut self.names, end)?;
+                let answer = self.finish(alloc, end)?;
                 Ok(WorldReply::Answered(answer))
+            }
+        }
+    }
+
+    /// Puts a name into use, or keeps a version, where a call ends with one, and gives what the call gives.
+    fn finish(&mut self, alloc: Global, end: End<'a>) -> Result<Answer, WorldFault>
+        ensures ok { IfOk result (λ answer. (answer ≡ answer_at end.entry)
+            × (self.new ≡ record self.old { names = names_at end.entry self.old.names; kept = kept_at self.old.keep end.entry self.old.kept })) }
+        ensures refused { IfErr result (λ fault. fault ≡ WorldFault.NoMemory) }
+    {
+        match end {
+            End::Told(answer) => Ok(answer),
+            End::Owned(name, owner, number) => {
+                let Ok(octets) = name.as_slice().to_vec(alloc) else {
+                    return Err(WorldFault::NoMemory);
+                };
+                put_name(&mut self.names, name, owner)?;
+                Ok(Answer::Owner(Octets::new(octets), number))
+            }
+            End::NoSlot(head) => reply_with(alloc, head, Rcode::ServFail),
+            End::Kept(head, owner) => {
+                put_kept(&mut self.kept, self.keep, owner)?;
+                reply_with(alloc, head, Rcode::NoError)
             }
         }
     }
@@ -230,7 +370,7 @@ impl<'a> Play<'a> {
 
 /// Takes the next step of a call; none where the words have no such step.
 fn step_once<'a>(
-    machine: &mut WordMachine<LentZone<'a>>,
+    machine: &mut WordMachine<Published>,
     phase: &Phase<'a>,
 ) -> Result<Option<Progress<'a>>, WorldFault>
     ensures ok { IfOk result (λ told. MatchOption told
@@ -238,8 +378,9 @@ fn step_once<'a>(
         (λ progress. says_step_once machine.old phase.now ≡ Some (progress, machine.new))) }
     ensures refused { IfErr result (λ fault. fault ≡ WorldFault.NoMemory) }
 {
-    match machine.step(phase.word_step()) {
-        Ok(event) => Ok(Some(phase.after(event))),
+    let taken = phase.word_step()?;
+    match machine.step(taken) {
+        Ok(event) => Ok(Some(phase.after(event)?)),
         Err(StepFault::NotEnabled) => Ok(None),
         Err(StepFault::NoMemory) => Err(WorldFault::NoMemory),
     }
@@ -247,7 +388,7 @@ fn step_once<'a>(
 
 /// Takes the steps of a call up to its end; where one can't be made, it stays there.
 fn take_steps<'a>(
-    machine: &mut WordMachine<LentZone<'a>>,
+    machine: &mut WordMachine<Published>,
     first: Phase<'a>,
 ) -> Result<Progress<'a>, WorldFault>
     ensures ok { IfOk result (λ progress. (progress, machine.new) ≡ steps_up_to most_steps machine.old first.entry) }
@@ -294,11 +435,11 @@ fn is_reserved(calls: &[UnderWay<'_>], name: &Handle<'_>) -> bool
     calls.iter().any(|call| call.phase.reserves(name))
 }
 
-/// Whether a publication is under way.
-fn is_publishing(calls: &[UnderWay<'_>]) -> bool
-    ensures { result ≡ list_any (λ call. says_publishes call.phase) calls.now }
+/// Whether an update is under way.
+fn is_updating(calls: &[UnderWay<'_>]) -> bool
+    ensures { result ≡ list_any (λ call. says_updates call.phase) calls.now }
 {
-    calls.iter().any(|call| call.phase.publishes())
+    calls.iter().any(|call| call.phase.updates())
 }
 
 /// The owner that a name is in use for.
@@ -358,37 +499,72 @@ fn put_under_way<'a>(
     }
 }
 
-/// Puts a name into use where a call ends with one, and gives what the call gives.
-fn finish<'a>(alloc: Global, names: &mut Vec<Named<'a>>, end: End<'a>) -> Result<Answer, WorldFault>
-    ensures ok { IfOk result (λ answer. (answer ≡ answer_at end.entry) × (names.new.items ≡ names_at end.entry names.old.items)) }
+/// Puts a name into use.
+fn put_name<'a>(
+    names: &mut Vec<Named<'a>>,
+    name: Handle<'a>,
+    owner: usize,
+) -> Result<(), WorldFault>
+    ensures ok { OnOk result (names.new.items ≡ names.old.items ++ record { name = name.entry; owner = owner } ∷ []) }
     ensures refused { IfErr result (λ fault. fault ≡ WorldFault.NoMemory) }
 {
-    match end {
-        End::Told(answer) => Ok(answer),
-        End::Owned(name, owner, number) => {
-            let Ok(octets) = name.as_slice().to_vec(alloc) else {
-                return Err(WorldFault::NoMemory);
-            };
-            let Ok(()) = names.push(Named { name, owner }) else {
-                return Err(WorldFault::NoMemory);
-            };
-            Ok(Answer::Owner(Octets::new(octets), number))
-        }
+    match names.push(Named { name, owner }) {
+        Ok(()) => Ok(()),
+        Err(_) => Err(WorldFault::NoMemory),
     }
 }
 
-/// The reply to a request over UDP in a zone.
-fn answer_in(alloc: Global, zone: &Zone, request: &Request<'_>) -> Result<Answer, WorldFault>
-    ensures ok { IfOk result (λ told. told ≡ answer_of (reply Udp zone.now request.now)) }
+/// Whether no more versions are to be kept.
+fn are_all_kept(keep: usize, kept: &[usize]) -> bool
+    ensures { result ≡ nat_lt keep (length kept.now) }
+{
+    kept.len() > keep
+}
+
+/// The owner of the oldest version that is kept, where no more are to be kept.
+fn oldest_of(keep: usize, kept: &[usize]) -> Option<usize>
+    ensures { result ≡ oldest_kept keep kept.now }
+{
+    if are_all_kept(keep, kept) {
+        return kept.first().copied();
+    }
+    None
+}
+
+/// Whether an owner that is to be released has a version, where there is one.
+fn is_held(machine: &WordMachine<Published>, owner: Option<usize>) -> bool
+    ensures { result ≡ says_held machine.now owner }
+{
+    match owner {
+        None => true,
+        Some(owner) => machine.value(owner).is_some(),
+    }
+}
+
+/// Keeps one owner more, the last one, in place of the first where no more are to be kept.
+fn put_kept(kept: &mut Vec<usize>, keep: usize, owner: usize) -> Result<(), WorldFault>
+    ensures ok { OnOk result (kept.new.items ≡ (if nat_lt keep (length kept.old.items) then remove kept.old.items 0 else kept.old.items) ++ owner ∷ []) }
     ensures refused { IfErr result (λ fault. fault ≡ WorldFault.NoMemory) }
 {
-    let mut out = [0; UDP_LIMIT];
-    let request = request.as_slice();
-    let Some(len) = respond_without_updates(alloc, zone, Transport::Udp, request, &mut out) else {
-        return Ok(Answer::Silent);
+    if are_all_kept(keep, kept) {
+        let _ = kept.remove(0);
+    }
+    match kept.push(owner) {
+        Ok(()) => Ok(()),
+        Err(_) => Err(WorldFault::NoMemory),
+    }
+}
+
+/// The words in which a version is published, and loaded once.
+fn loaded_once(alloc: Global, first: Published) -> Result<WordMachine<Published>, WorldFault>
+    ensures made { IfOk result (λ machine. machine ≡ says_loaded_once first) }
+    ensures refused { IfErr result (λ fault. fault ≡ WorldFault.NoMemory) }
+{
+    let Ok(mut machine) = WordMachine::new(alloc, first) else {
+        return Err(WorldFault::NoMemory);
     };
-    match out[..len].to_vec(alloc) {
-        Ok(octets) => Ok(Answer::Reply(Octets::new(octets))),
+    match machine.step(WordStep::Load) {
+        Ok(_) => Ok(machine),
         Err(_) => Err(WorldFault::NoMemory),
     }
 }

@@ -1,4 +1,7 @@
 //! How a call begins.
+ghost use Rattle.std.specs.Prelude.{◌≡◌};
+ghost use Rattle.world_run.specs.World.{answering};
+
 use crate::phase::Phase;
 use crate::step::Answer;
 
@@ -11,4 +14,16 @@ pub enum Start<'a> {
     Answers(Answer),
     /// It takes this step first.
     Takes(Phase<'a>),
+}
+
+impl<'a> Start<'a> {
+    /// A call that takes no step begins with its answer; with none it isn't enabled.
+    pub fn answering(answer: Option<Answer>) -> Start<'a>
+        ensures { result ≡ answering answer }
+    {
+        match answer {
+            None => Start::Refused,
+            Some(answer) => Start::Answers(answer),
+        }
+    }
 }

@@ -2,21 +2,25 @@
 ghost use Rattle.std.specs.Prelude.{Some};
 ghost use Rattle.world_run.specs.Told.{step_words};
 
-use crate::lent::{Handle, LentZone, Request};
+use crate::lent::{Handle, Request};
+use crate::message_list::MessageList;
 use std::fmt;
 use std::marker::Model;
 
-/// A call. All but `Ask` take steps on the words of the cell.
+/// A call. All but `Ask` and `Transfer` take steps on the words of the cell.
 #[derive(Drop)]
 pub enum Call<'a> {
     /// A strong owner of the version that is published last, under this name.
     Load(Handle<'a>),
     /// A strong owner is given up.
     Drop(Handle<'a>),
-    /// A request over UDP, answered in the version that a strong owner has.
+    /// A request over UDP that asks for no update and for no transfer that is sent, answered in the version that a strong owner has.
     Ask(Handle<'a>, Request<'a>),
-    /// A version more; the owner of the one before it, which the publication gives, is given up.
-    Publish(LentZone<'a>),
+    /// A question over TCP for a transfer that is sent, with the version that a strong owner has as the one that is served
+    /// (RFC 1995, 2; RFC 5936, 2.2).
+    Transfer(Handle<'a>, Request<'a>),
+    /// A dynamic update from a peer that may update (RFC 2136).
+    Update(Request<'a>),
 }
 
 /// A line of a script.
@@ -113,10 +117,8 @@ pub enum Answer {
     Reply(Octets),
     /// A request that gets no reply.
     Silent,
-    /// A version was published.
-    Published,
-    /// No version was published: each of the 64 slots was seen in use.
-    NoSlot,
+    /// The messages of a transfer.
+    Messages(MessageList),
 }
 
 /// What a line gave.
@@ -130,7 +132,8 @@ pub enum WorldReply {
     Step(StepName),
     /// The step that the call under way has taken, its last, and what the call gave.
     Last(StepName, Answer),
-    /// The line wasn't enabled, and changed nothing: a name that is in use already, or that is in no use; a second
-    /// publication; a step that the words don't have.
+    /// The line wasn't enabled, and changed nothing: a name that is in use already, or that is in no use; an update, or a question
+    /// for what changed, while an update is under way; a request of another kind than the call's; a step that the words don't
+    /// have.
     NotEnabled,
 }

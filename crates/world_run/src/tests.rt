@@ -1,7 +1,5 @@
 //! Scripts' lines, with replies by the octets of RFC 1035, 4.1.
-use crate::{
-    Answer, Call, Handle, LentZone, Request, StepName, WorldFault, WorldReply, WorldStep, run,
-};
+use crate::{Answer, Call, Handle, Request, StepName, WorldFault, WorldReply, WorldStep, run};
 use dns_name::Name;
 use dns_rdata::{RData, RRset, RType, Ttl};
 use std::alloc::Global;
@@ -15,18 +13,28 @@ const SOA: &[u8] = b"\0\0\0\0\0\x01\0\0\x1c\x20\0\0\x03\x84\0\x12\x75\0\0\0\x01\
 /// The data of an NS: `ns1.example.test.`.
 const NS: &[u8] = b"\x03ns1\x07example\x04test\0";
 
-/// The zone `example.test.`, with an address at `new.example.test.` where that is asked for; None where there is no memory.
-fn zone_of(alloc: Global, has_new: bool) -> Option<Zone> {
+/// The update that adds the address 192.0.2.0 at `new.example.test.`, for an hour (RFC 2136, 2).
+const ADD: &[u8; 50] =
+    b"\x43\x21\x28\x00\x00\x01\x00\x00\x00\x01\x00\x00\x07example\x04test\x00\x00\x06\x00\x01\x03new\xc0\x0c\x00\x01\x00\x01\x00\x00\x0e\x10\x00\x04\xc0\x00\x02\x00";
+
+/// The query for `new.example.test.`, type A.
+const NEW: &[u8] =
+    b"\x12\x34\x01\x00\x00\x01\x00\x00\x00\x00\x00\x00\x03new\x07example\x04test\x00\x00\x01\x00\x01";
+
+/// The zone `example.test.`; None where there is no memory.
+fn zone_of(alloc: Global) -> Option<Zone> {
     let apex = Name::from_text(b"example.test.", &Name::root()).ok()?;
-    let new = Name::from_text(b"new", &apex).ok()?;
     let mut sets = Vec::new(alloc);
     sets.push(set_of(alloc, &apex, RType::NS, NS)?).ok()?;
     sets.push(set_of(alloc, &apex, RType::SOA, SOA)?).ok()?;
-    if has_new {
-        sets.push(set_of(alloc, &new, RType::A, &[192, 0, 2, 77])?)
-            .ok()?;
-    }
     Zone::new(alloc, sets).ok()
+}
+
+/// The update that adds the address of 192.0.2.0/24 with this last octet.
+fn adding(last: u8) -> [u8; 50] {
+    let mut octets = *ADD;
+    octets[49] = last;
+    octets
 }
 
 /// A set of one record.
@@ -45,9 +53,9 @@ fn give_up(name: &[u8]) -> Call<'_> {
     Call::Drop(Handle::new(name))
 }
 
-/// A version more.
-fn publish(zone: &Zone) -> Call<'_> {
-    Call::Publish(LentZone::new(zone))
+/// An update.
+fn update(octets: &[u8]) -> Call<'_> {
+    Call::Update(Request::new(octets))
 }
 
 /// A call at once.
@@ -66,43 +74,32 @@ fn next(name: &[u8]) -> WorldStep<'_> {
 }
 
 // A name that only the second version has: asked of the first it is a name error (RFC 1035, 4.1.1: RCODE 3), of the second
-// it has its address. The first version is buried when nobody owns it any more.
+// it has its address. The first version is buried when nobody owns it any more; the last one is kept.
 #[test]
 fn versions(rt: HostRuntime) -> Result<(), Fail> {
     let alloc = rt.alloc();
-    let query =
-        b"\x12\x34\x01\x00\x00\x01\x00\x00\x00\x00\x00\x00\x03new\x07example\x04test\x00\x00\x01\x00\x01";
-    let first = zone_of(alloc, false).expect(&rt, "a zone");
-    let second = zone_of(alloc, true).expect(&rt, "a zone");
+    let add = adding(77);
     let lines = [
         whole(load(b"a")),
-        whole(publish(&second)),
+        whole(update(&add)),
         whole(load(b"b")),
-        whole(Call::Ask(Handle::new(b"a"), Request::new(query))),
-        begin(b"x", Call::Ask(Handle::new(b"b"), Request::new(query))),
+        whole(Call::Ask(Handle::new(b"a"), Request::new(NEW))),
+        begin(b"x", Call::Ask(Handle::new(b"b"), Request::new(NEW))),
         whole(give_up(b"a")),
         whole(give_up(b"b")),
     ];
-    let replies = run(alloc, &first, &lines)?;
-    let Some(WorldReply::Answered(Answer::Reply(in_first))) = replies.get(3) else {
-        return Err(Fail::from("no answer"));
-    };
-    let Some(WorldReply::Answered(Answer::Reply(in_second))) = replies.get(4) else {
-        return Err(Fail::from("no answer"));
-    };
+    let replies = run(alloc, zone_of(alloc).expect(&rt, "a zone"), 0, 0, &lines)?;
     assert!(rt; is_owner(replies.get(0), b"a", 0));
+    assert!(rt; is_reply(replies.get(1), b"\x43\x21\xa8\x00\0\0\0\0\0\0\0\0", b""));
     assert!(rt; is_owner(replies.get(2), b"b", 1));
+    assert!(rt; is_reply(replies.get(3), b"\x12\x34\x85\x03\x00\x01\x00\x00", b""));
     assert!(rt;
-        in_first
-            .as_slice()
-            .starts_with(b"\x12\x34\x85\x03\x00\x01\x00\x00")
+        is_reply(
+            replies.get(4),
+            b"\x12\x34\x85\x00\x00\x01\x00\x01",
+            b"\x00\x04\xc0\x00\x02\x4d"
+        )
     );
-    assert!(rt;
-        in_second
-            .as_slice()
-            .starts_with(b"\x12\x34\x85\x00\x00\x01\x00\x01")
-    );
-    assert!(rt; in_second.as_slice().ends_with(b"\x00\x04\xc0\x00\x02\x4d"));
     assert!(rt; is_buried(replies.get(5), 0));
     assert!(rt; matches!(replies.get(6), Some(WorldReply::Answered(Answer::Left))));
     Ok(())
@@ -118,6 +115,16 @@ fn is_owner(reply: Option<&WorldReply>, name: &[u8], number: u64) -> bool {
     }
 }
 
+/// Whether a line was answered by a reply that begins and ends with these octets.
+fn is_reply(reply: Option<&WorldReply>, front: &[u8], back: &[u8]) -> bool {
+    match reply {
+        Some(WorldReply::Answered(Answer::Reply(octets))) => {
+            octets.as_slice().starts_with(front) && octets.as_slice().ends_with(back)
+        }
+        _ => false,
+    }
+}
+
 /// Whether a line buried the version of this number.
 fn is_buried(reply: Option<&WorldReply>, number: u64) -> bool {
     match reply {
@@ -126,120 +133,80 @@ fn is_buried(reply: Option<&WorldReply>, number: u64) -> bool {
     }
 }
 
-/// Whether a line took this step, and its call goes on.
-fn took(reply: Option<&WorldReply>, name: StepName) -> bool {
+/// The octet that stands for a step: the first letter of its name, in upper case where its call goes on.
+fn letter(reply: &WorldReply) -> u8 {
     match reply {
-        Some(WorldReply::Step(given)) => *given == name,
-        _ => false,
+        WorldReply::Step(step) => letter_of(*step),
+        WorldReply::Last(step, _) => letter_of(*step).to_ascii_lowercase(),
+        _ => b'-',
     }
 }
 
-// A release that leaves no owner buries its version and frees the slot, a step at a time.
-#[test]
-fn steps_of_a_drop(rt: HostRuntime) -> Result<(), Fail> {
-    let alloc = rt.alloc();
-    let zone = zone_of(alloc, false).expect(&rt, "a zone");
-    let lines = [
-        whole(load(b"a")),
-        whole(publish(&zone)),
-        begin(b"x", give_up(b"a")),
-        next(b"x"),
-        next(b"x"),
-        next(b"x"),
-        next(b"x"),
-    ];
-    let replies = run(alloc, &zone, &lines)?;
-    assert!(rt;
-        matches!(
-            replies.get(1),
-            Some(WorldReply::Answered(Answer::Published))
-        )
-    );
-    assert!(rt; matches!(replies.get(2), Some(WorldReply::Begun)));
-    assert!(rt; took(replies.get(3), StepName::Release));
-    assert!(rt; took(replies.get(4), StepName::Bury));
-    assert!(rt;
-        matches!(
-            replies.get(5),
-            Some(WorldReply::Last(StepName::Free, Answer::Buried(0)))
-        )
-    );
-    assert!(rt; matches!(replies.get(6), Some(WorldReply::NotEnabled)));
-    Ok(())
-}
-
-// The steps of a publication: slot 0 is in use. What is loaded behind the swap is the new version; there is no second
-// publication, and the version before is buried where nobody owns it.
-#[test]
-fn steps_of_a_publication(rt: HostRuntime) -> Result<(), Fail> {
-    let alloc = rt.alloc();
-    let zone = zone_of(alloc, false).expect(&rt, "a zone");
-    let lines = [
-        begin(b"u", publish(&zone)),
-        next(b"u"),
-        next(b"u"),
-        whole(publish(&zone)),
-        next(b"u"),
-        whole(load(b"a")),
-        next(b"u"),
-        whole(load(b"b")),
-        next(b"u"),
-        next(b"u"),
-        whole(give_up(b"a")),
-        next(b"u"),
-        whole(publish(&zone)),
-    ];
-    let replies = run(alloc, &zone, &lines)?;
-    let steps = [
-        (1, StepName::Probe),
-        (2, StepName::Probe),
-        (4, StepName::Prepare),
-        (6, StepName::Swap),
-        (8, StepName::Settle),
-    ];
-    for (at, step) in steps {
-        assert!(rt; took(replies.get(at), step), "{at}");
+/// A letter of a step's name that no other has.
+fn letter_of(step: StepName) -> u8 {
+    match step {
+        StepName::Load => b'L',
+        StepName::Probe => b'P',
+        StepName::Prepare => b'A',
+        StepName::Swap => b'W',
+        StepName::Settle => b'S',
+        StepName::Release => b'R',
+        StepName::Bury => b'B',
+        StepName::Free => b'F',
     }
-    assert!(rt; matches!(replies.get(3), Some(WorldReply::NotEnabled)));
-    assert!(rt; is_owner(replies.get(5), b"a", 0));
-    assert!(rt; is_owner(replies.get(7), b"b", 1));
-    assert!(rt;
-        matches!(
-            replies.get(9),
-            Some(WorldReply::Last(StepName::Release, Answer::Published))
-        )
-    );
-    assert!(rt; is_buried(replies.get(10), 0));
-    assert!(rt; matches!(replies.get(11), Some(WorldReply::NotEnabled)));
-    assert!(rt;
-        matches!(
-            replies.get(12),
-            Some(WorldReply::Answered(Answer::Published))
-        )
-    );
+}
+
+/// Whether lines took these steps, by their letters.
+fn took(replies: &[WorldReply], letters: &[u8]) -> bool {
+    replies.iter().map(letter).eq(letters.iter().copied())
+}
+
+// A second update, a step at a time, where one version beside the last is kept, and where two are: slots 0 and 1 are in use,
+// and the first version is given up where it is the third one.
+#[test]
+fn steps_of_an_update(rt: HostRuntime) -> Result<(), Fail> {
+    let alloc = rt.alloc();
+    let (one, two) = (adding(1), adding(2));
+    for (keep, steps) in [(1, b"--PPPAWSLRRBf-"), (2, b"--PPPAWSLr----")] {
+        let mut lines = Vec::new(alloc);
+        lines.push(whole(update(&one)))?;
+        lines.push(begin(b"u", update(&two)))?;
+        for _ in 0..12 {
+            lines.push(next(b"u"))?;
+        }
+        let replies = run(alloc, zone_of(alloc).expect(&rt, "a zone"), keep, 0, &lines)?;
+        assert!(rt; took(&replies, steps), "{keep}");
+    }
     Ok(())
 }
 
-// Lines that aren't enabled, each behind a publication, `load a` and `begin x load b`.
+// Lines that aren't enabled, each behind `load a`, `begin x load b` and `begin u update`: an update while one is under way,
+// also one that is refused; a query that is sent as an update, and an update that is asked.
 #[test]
 fn not_enabled(rt: HostRuntime) -> Result<(), Fail> {
     let alloc = rt.alloc();
-    let zone = zone_of(alloc, false).expect(&rt, "a zone");
+    let add = adding(1);
     let lines = [
-        whole(publish(&zone)),
         whole(load(b"a")),
         begin(b"x", load(b"b")),
+        whole(update(NEW)),
+        begin(b"u", update(&add)),
         whole(load(b"a")),
         whole(load(b"b")),
         begin(b"y", load(b"b")),
         whole(give_up(b"b")),
         whole(give_up(b"c")),
         whole(Call::Ask(Handle::new(b"b"), Request::new(b"\0"))),
+        whole(Call::Ask(Handle::new(b"a"), Request::new(&add))),
         begin(b"x", give_up(b"a")),
         next(b"y"),
+        whole(update(&add)),
+        whole(update(b"\x43\x21\x28\0\0\0\0\0\0\0\0\0")),
     ];
-    let replies = run(alloc, &zone, &lines)?;
-    for (at, reply) in replies.iter().enumerate().skip(3) {
+    let replies = run(alloc, zone_of(alloc).expect(&rt, "a zone"), 0, 0, &lines)?;
+    assert!(rt; matches!(replies.get(2), Some(WorldReply::NotEnabled)));
+    assert!(rt; matches!(replies.get(3), Some(WorldReply::Begun)));
+    for (at, reply) in replies.iter().enumerate().skip(4) {
         assert!(rt; matches!(reply, WorldReply::NotEnabled), "{at}");
     }
     Ok(())
@@ -258,7 +225,6 @@ fn names(alloc: Global) -> Option<Vec<[u8; 2]>> {
 #[test]
 fn limit(rt: HostRuntime) -> Result<(), Fail> {
     let alloc = rt.alloc();
-    let zone = zone_of(alloc, false).expect(&rt, "a zone");
     let names = names(alloc).expect(&rt, "names");
     let mut lines = Vec::new(alloc);
     for name in &names {
@@ -266,64 +232,31 @@ fn limit(rt: HostRuntime) -> Result<(), Fail> {
     }
     lines.push(whole(give_up(b"z")))?;
     lines.push(next(b"z"))?;
-    let replies = run(alloc, &zone, &lines)?;
+    let replies = run(alloc, zone_of(alloc).expect(&rt, "a zone"), 0, 0, &lines)?;
     assert!(rt; matches!(replies.get(63), Some(WorldReply::Begun)));
     assert!(rt; matches!(replies.get(64), Some(WorldReply::NotEnabled)));
     assert!(rt; matches!(replies.get(65), Some(WorldReply::NotEnabled)));
     lines.push(whole(load(b"z")))?;
-    assert!(rt; matches!(run(alloc, &zone, &lines), Err(WorldFault::Limit)));
-    Ok(())
-}
-
-// 64 versions are owned: there is no slot for one more, until one of them is buried.
-#[test]
-fn no_slot(rt: HostRuntime) -> Result<(), Fail> {
-    let alloc = rt.alloc();
-    let zone = zone_of(alloc, false).expect(&rt, "a zone");
-    let names = names(alloc).expect(&rt, "names");
-    let mut lines = Vec::new(alloc);
-    for name in &names {
-        lines.push(whole(load(name.as_slice())))?;
-        lines.push(whole(publish(&zone)))?;
-    }
-    let owned = names.get(60).expect(&rt, "a name");
-    lines.push(whole(give_up(owned.as_slice())))?;
-    lines.push(whole(publish(&zone)))?;
-    let replies = run(alloc, &zone, &lines)?;
-    assert!(rt; is_owner(replies.get(126), b"hh", 63));
-    assert!(rt;
-        matches!(
-            replies.get(125),
-            Some(WorldReply::Answered(Answer::Published))
-        )
-    );
-    assert!(rt; matches!(replies.get(127), Some(WorldReply::Answered(Answer::NoSlot))));
-    assert!(rt; is_buried(replies.get(128), 60));
-    assert!(rt;
-        matches!(
-            replies.get(129),
-            Some(WorldReply::Answered(Answer::Published))
-        )
-    );
+    let zone = zone_of(alloc).expect(&rt, "a zone");
+    assert!(rt; matches!(run(alloc, zone, 0, 0, &lines), Err(WorldFault::Limit)));
     Ok(())
 }
 
 /// Whether lines of each kind were played; else there was no memory for them, or for the test itself.
 fn made_or_had_no_memory(rt: &(impl AllocGlobal + Abort)) -> bool {
-    let Some(zone) = zone_of(rt.alloc(), false) else {
+    let Some(zone) = zone_of(rt.alloc()) else {
         return false;
     };
+    let add = adding(77);
     let lines = [
         begin(b"x", load(b"a")),
         next(b"x"),
-        whole(publish(&zone)),
-        whole(Call::Ask(
-            Handle::new(b"a"),
-            Request::new(b"\x12\x34\x01\0\0\x01\0\0\0\0\0\0\0\0\x02\0\x01"),
-        )),
+        whole(update(&add)),
+        whole(update(b"\x43\x21\x28\0\0\0\0\0\0\0\0\0")),
+        whole(Call::Ask(Handle::new(b"a"), Request::new(NEW))),
         whole(give_up(b"a")),
     ];
-    match run(rt.alloc(), &zone, &lines) {
+    match run(rt.alloc(), zone, 0, 0, &lines) {
         Ok(replies) => {
             assert!(rt;
                 matches!(
@@ -331,14 +264,10 @@ fn made_or_had_no_memory(rt: &(impl AllocGlobal + Abort)) -> bool {
                     Some(WorldReply::Last(StepName::Load, Answer::Owner(_, 0)))
                 )
             );
-            assert!(rt;
-                matches!(
-                    replies.get(2),
-                    Some(WorldReply::Answered(Answer::Published))
-                )
-            );
-            assert!(rt; matches!(replies.get(3), Some(WorldReply::Answered(Answer::Reply(_)))));
-            assert!(rt; is_buried(replies.get(4), 0));
+            assert!(rt; is_reply(replies.get(2), b"\x43\x21\xa8\x00", b""));
+            assert!(rt; is_reply(replies.get(3), b"\x43\x21\xa8\x01", b""));
+            assert!(rt; is_reply(replies.get(4), b"\x12\x34\x85\x03", b""));
+            assert!(rt; is_buried(replies.get(5), 0));
             true
         }
         Err(fault) => {

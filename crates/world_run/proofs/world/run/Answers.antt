@@ -8,4 +8,4 @@ loop-line-preserved c =
     (next_played c.args.lines.now c.loop-line.line-index c.line-item.result c.loop-line.replies.items c.in-Ok.reply _ c.loop-line.play c.turn.new.self (omega arith) c.line-item.is c.in-Ok.ensures.ok c.loop-line.invariant)
 
 pub returns-clause-told : goal.returns-clause-told
-returns-clause-told c = all_played c.args.zone.now c.args.lines.now c.loop-line.line-index c.loop-line.replies.items c.loop-line.play (omega arith) c.loop-line.invariant
+returns-clause-told c = all_played c.args.zone c.args.keep c.args.window c.args.lines.now c.loop-line.line-index c.loop-line.replies.items c.loop-line.play (omega arith) c.loop-line.invariant

@@ -1,0 +1,81 @@
+//! What requests get that ask for no update, and the replies to updates (RFC 1034, 4.3.2; RFC 2136, 3.8).
+ghost use Rattle.std.specs.Prelude.{◌≡◌, Some, IfOk, IfErr};
+ghost use Rattle.dns_message.specs.declared.query.Parsed.TheVariants.{Query as Asks};
+ghost use Rattle.serve_core.specs.declared.transport.Transport.TheVariants.{Udp};
+ghost use Rattle.world_run.specs.World.{answering, ask_said, ask_start, asks_sent, code_reply};
+ghost use Rattle.world_run.specs.declared.step.Answer.TheVariants.{Reply};
+
+use crate::fault::WorldFault;
+use crate::judged::UPDATE;
+use crate::lent::Request;
+use crate::step::{Answer, Octets};
+use dns_message::{Head, Parsed, Query, parse};
+use dns_rdata::Rcode;
+use serve_core::{Peer, Transport, UDP_LIMIT, is_permitted, respond_to, write_bare};
+use std::alloc::Global;
+use zone_tree::Version;
+
+/// What a request over UDP gets that is asked in a version's zone; None of an update, and of a question for a transfer that is
+/// sent.
+pub(crate) fn answer_in(
+    alloc: Global,
+    version: &Version,
+    request: &Request<'_>,
+) -> Result<Option<Answer>, WorldFault>
+    ensures ok { IfOk result (λ answer. answering answer ≡ ask_start (Some version.now.zone) request.now) }
+    ensures refused { IfErr result (λ fault. fault ≡ WorldFault.NoMemory) }
+{
+    match parse(alloc, request.as_slice()) {
+        Parsed::Silent => Ok(Some(Answer::Silent)),
+        Parsed::Fault(head, _) if head.opcode == UPDATE => Ok(None),
+        Parsed::Fault(head, code) => Ok(Some(reply_with(alloc, head, code)?)),
+        Parsed::Query(query) => answer_query(alloc, version, &query),
+        Parsed::Update(_update) => Ok(None),
+        Parsed::NoMemory(_) => Err(WorldFault::NoMemory),
+    }
+}
+
+/// What a query over UDP gets that is asked in a version's zone; None of a question for a transfer that is sent.
+fn answer_query(
+    alloc: Global,
+    version: &Version,
+    query: &Query,
+) -> Result<Option<Answer>, WorldFault>
+    ensures ok { IfOk result (λ answer. answering answer ≡ ask_said version.now.zone (Asks query.now)) }
+    ensures refused { IfErr result (λ fault. fault ≡ WorldFault.NoMemory) }
+{
+    if is_sent(version, query) {
+        return Ok(None);
+    }
+    let mut out = [0; UDP_LIMIT];
+    let len = respond_to(version.zone(), query, Transport::Udp, true, &mut out);
+    Ok(Some(reply_of(alloc, &out[..len])?))
+}
+
+/// Whether a query over UDP is for a transfer that is sent.
+fn is_sent(version: &Version, query: &Query) -> bool
+    ensures { result ≡ asks_sent Udp version.now.zone (Asks query.now) }
+{
+    is_permitted(version, query, Peer::over(Transport::Udp, true))
+}
+
+/// The reply to an update: its header alone, with a code.
+pub(crate) fn reply_with(alloc: Global, head: Head, code: Rcode) -> Result<Answer, WorldFault>
+    ensures ok { IfOk result (λ answer. answer ≡ code_reply head code) }
+    ensures refused { IfErr result (λ fault. fault ≡ WorldFault.NoMemory) }
+{
+    let mut out = [0; UDP_LIMIT];
+    let len = write_bare(head, code, Transport::Udp, &mut out);
+    reply_of(alloc, &out[..len])
+}
+
+/// A reply of these octets.
+fn reply_of(alloc: Global, octets: &[u8]) -> Result<Answer, WorldFault>
+    ensures ok { IfOk result (λ answer. answer ≡ Reply octets.now) }
+    ensures refused { IfErr result (λ fault. fault ≡ WorldFault.NoMemory) }
+{
+    match octets.to_vec(alloc) {
+        Ok(octets) => Ok(Answer::Reply(Octets::new(octets))),
+        Err(_) => Err(WorldFault::NoMemory),
+    }
+}

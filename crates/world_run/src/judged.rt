@@ -1,0 +1,80 @@
+//! What an update comes to in the last version (RFC 2136, 3).
+ghost use Rattle.std.specs.Prelude.{◌≡◌, ◌+◌, ◌<◌, ◌^◌, true, IfOk, IfErr, ◌==◌, Some, None, if◌then◌else◌};
+ghost use Rattle.dns_message.specs.Message.{opcode_UPDATE};
+ghost use Rattle.world_run.specs.Judgements.{judged as says_judged, judged_by};
+ghost use Rattle.world_run.specs.declared.judged.Judged.TheVariants.{Told};
+ghost use Rattle.update_core.specs.Applied.{code_of};
+
+use crate::fault::WorldFault;
+use crate::lent::Request;
+use crate::published::Published;
+use dns_message::{Head, Parsed, Update, parse};
+use dns_rdata::Rcode;
+use std::alloc::Global;
+use update_core::{Outcome, apply};
+use zone_tree::Version;
+
+/// The OPCODE of a dynamic update (RFC 2136, 1.3).
+pub(crate) const UPDATE: u8 = 5;
+
+/// What an update comes to.
+#[derive(Drop)]
+pub enum Judged {
+    /// It gets this code, behind this header, and changes nothing.
+    Told(Head, Rcode),
+    /// It makes this version. The header is the update's.
+    Makes(Head, Published),
+}
+
+/// What an update comes to in the last version; None of another request, and where numbers of 64 bits end (RFC 2136, 3; own).
+///
+/// `NoMemory` where a growth was refused.
+pub(crate) fn judge(
+    alloc: Global,
+    last: &Published,
+    request: &Request<'_>,
+) -> Result<Option<Judged>, WorldFault>
+    ensures ok { IfOk result (λ judged. judged ≡ says_judged last.now request.now) }
+    ensures refused { IfErr result (λ fault. fault ≡ WorldFault.NoMemory) }
+{
+    let version = last.version();
+    if version.number() == u64::MAX {
+        return Ok(None);
+    }
+    match parse(alloc, request.as_slice()) {
+        Parsed::Update(update) => judge_update(alloc, version, &update),
+        Parsed::Fault(head, code) => Ok(judge_fault(head, code)),
+        Parsed::NoMemory(_) => Err(WorldFault::NoMemory),
+        Parsed::Silent => Ok(None),
+        Parsed::Query(_) => Ok(None),
+    }
+}
+
+/// What an update comes to that can't be read; None of another request.
+fn judge_fault(head: Head, code: Rcode) -> Option<Judged>
+    ensures { result ≡ (if head.opcode == opcode_UPDATE then Some (Told head code) else None) }
+{
+    if head.opcode == UPDATE {
+        return Some(Judged::Told(head, code));
+    }
+    None
+}
+
+/// What an update that was read comes to (RFC 2136, 3).
+fn judge_update(
+    alloc: Global,
+    version: &Version,
+    update: &Update,
+) -> Result<Option<Judged>, WorldFault>
+    requires { version.now.number + 1 < 2 ^ 64 }
+    ensures ok { IfOk result (λ judged. judged ≡ judged_by version.now update.now (code_of version.now.zone update.now true)) }
+    ensures refused { IfErr result (λ fault. fault ≡ WorldFault.NoMemory) }
+{
+    let head = update.head;
+    match apply(alloc, version, update, true) {
+        Outcome::Refused(code) => Ok(Some(Judged::Told(head, code))),
+        Outcome::Unchanged => Ok(Some(Judged::Told(head, Rcode::NoError))),
+        Outcome::Next(next) => Ok(Some(Judged::Makes(head, Published::new(alloc, next)?))),
+        Outcome::NoMemory => Err(WorldFault::NoMemory),
+    }
+}

@@ -1,0 +1,56 @@
+//! The messages of a transfer (RFC 5936, 2.2).
+ghost use Rattle.std.specs.Prelude.{◌≡◌, IfOk, IfErr};
+
+use crate::fault::WorldFault;
+use crate::step::Octets;
+use std::alloc::Global;
+use std::marker::Model;
+use transfer_core::{ChainView, MAX_MESSAGE, Packer};
+use zone_tree::ZoneRead;
+
+/// The messages of a transfer, in turn. Contracts see the list of their octets.
+#[derive(Drop)]
+pub struct MessageList {
+    items: Vec<Octets>,
+}
+
+impl Model for MessageList {
+    ghost use Rattle.std.specs.Prelude.{List, ℕ};
+
+    ghost Value = { List (List ℕ) };
+
+    ghost view = { λ a. a.items.items };
+}
+
+impl MessageList {
+    /// The messages.
+    pub fn as_slice(&self) -> &[Octets]
+        ensures { result.now ≡ self.now }
+    {
+        self.items.as_slice()
+    }
+}
+
+/// The messages that are left of a transfer.
+pub(crate) fn all_messages<Z: ZoneRead, C: ChainView>(
+    alloc: Global,
+    packer: Packer<'_, Z, C>,
+) -> Result<MessageList, WorldFault>
+    ensures ok { IfOk result (λ list. list ≡ packer.entry) }
+    ensures refused { IfErr result (λ fault. fault ≡ WorldFault.NoMemory) }
+{
+    let Ok(mut out) = vec![in alloc; 0_u8; MAX_MESSAGE] else {
+        return Err(WorldFault::NoMemory);
+    };
+    let mut left = packer;
+    let mut items = Vec::new(alloc);
+    while let Some(len) = left.next_message(&mut out) {
+        let Ok(octets) = out[..len].to_vec(alloc) else {
+            return Err(WorldFault::NoMemory);
+        };
+        let Ok(()) = items.push(Octets::new(octets)) else {
+            return Err(WorldFault::NoMemory);
+        };
+    }
+    Ok(MessageList { items })
+}
