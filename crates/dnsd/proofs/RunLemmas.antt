@@ -4,7 +4,7 @@ use Rattle.std.specs.Io.KnownBytes.{Keeps}
 use Rattle.dns_rdata.specs.Record.{Record}
 use Rattle.dnsd.specs.declared.command.Command.{Command}
 use Rattle.dnsd.specs.declared.fault.Fault.{Fault}
-use Rattle.dnsd.specs.declared.fault.Fault.TheVariants.{Zone, Script, World, Device}
+use Rattle.dnsd.specs.declared.fault.Fault.TheVariants.{Zone, Script, World, Transfer, Device}
 use Rattle.dnsd.specs.Run.{AtDevice, DoesIn, BeginsToDoIn}
 use Rattle.dnsd.proofs.LinesLemmas.{Appends-kept, Begins-whole}
 
@@ -14,6 +14,7 @@ AtDevice-each (Ok x) P fact = tt
 AtDevice-each (Err (Zone fault)) P fact = tt
 AtDevice-each (Err (Script line)) P fact = tt
 AtDevice-each (Err (World fault)) P fact = tt
+AtDevice-each (Err (Transfer fault)) P fact = tt
 AtDevice-each (Err (Device fault)) P fact = fact
 
 -- what was written whole, and is kept, is a beginning

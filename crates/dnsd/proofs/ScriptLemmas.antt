@@ -1,16 +1,17 @@
 -- Lemmas on scripts and on what is printed of the replies.
-use Rattle.std.proofs.Common.{◌≡◌, ℕ, ◌+◌, ◌<◌, List, [], ◌∷◌, ◌++◌, length, map, drop, Option, Some, None, Result, Ok, Err, IfSome, IfErr, refl, sym, ap, ◌∙◌, subst, arith, append_assoc}
+use Rattle.std.proofs.Common.{◌≡◌, ℕ, ◌+◌, ◌<◌, ◌≤◌, List, [], ◌∷◌, ◌++◌, length, map, drop, Option, Some, None, Result, Ok, Err, IfSome, IfErr, refl, sym, ap, ◌∙◌, subst, arith, append_assoc, append-nil, codes}
 use Rattle.std.specs.Io.BufRead.{take_through, drop_through, strip_last}
 use Rattle.std.specs.Io.KnownBytes.{Appends}
 use Rattle.std.proofs.Common.{get_or}
-use Rattle.std.proofs.lemmas.List.{drop_more, map-append}
+use Rattle.std.proofs.lemmas.List.{drop_more, drop_all, map-append}
 use Rattle.dnsd.proofs.LinesLemmas.{input_lines-first, IsWritten, Appends-twice}
-use Rattle.dnsd.specs.Lines.{input_lines, Begins}
+use Rattle.dnsd.specs.Lines.{input_lines, Begins, spaced_behind}
+use Rattle.hex.specs.Hex.{encode_lower}
 use Rattle.dnsd.specs.Script.{step_of, onto_steps, steps_from, script_of, said_by, printed, printed_lines, printed_replies, output_of_steps, script_output, IsPastLimit}
 use Rattle.dns_rdata.specs.Record.{Record}
 use Rattle.dnsd.specs.Run.{AtDevice, AtLimit}
 use Rattle.dnsd.specs.declared.fault.Fault.{Fault}
-use Rattle.dnsd.specs.declared.fault.Fault.TheVariants.{Zone, Script, World, Device}
+use Rattle.dnsd.specs.declared.fault.Fault.TheVariants.{Zone, Script, World, Transfer, Device}
 use Rattle.world_run.specs.World.{replies_of}
 use Rattle.world_run.specs.declared.fault.WorldFault.{WorldFault}
 use Rattle.world_run.specs.declared.fault.WorldFault.TheVariants.{NoMemory, Limit}
@@ -123,38 +124,54 @@ AtLimit-each (Zone fault) fact other so at = tt
 AtLimit-each (Script line) fact other so at = tt
 AtLimit-each (World NoMemory) fact other so at = tt
 AtLimit-each (World Limit) fact other so at = so at
+AtLimit-each (Transfer fault) fact other so at = tt
 AtLimit-each (Device fault) fact other so at = tt
 
 -- a script that is read passes the limit where its lines do
-pub past_limit : (left : Option (List ℕ)) (zone : List Record) (steps played : List ScriptStep) → IfSome left (λ input. script_of input ≡ Ok (map said_by steps)) → played ≡ steps → IsPastLimit zone (Ok (map said_by played)) → IfSome left (λ input. IsPastLimit zone (script_of input))
-past_limit None zone steps played read is past = tt
-past_limit (Some input) zone steps played read is past = rw read (rw (sym is) past)
+pub past_limit : (left : Option (List ℕ)) (zone : List Record) (keep window : ℕ) (steps played : List ScriptStep) → IfSome left (λ input. script_of input ≡ Ok (map said_by steps)) → played ≡ steps → IsPastLimit zone keep window (Ok (map said_by played)) → IfSome left (λ input. IsPastLimit zone keep window (script_of input))
+past_limit None zone keep window steps played read is past = tt
+past_limit (Some input) zone keep window steps played read is past = rw read (rw (sym is) past)
 
-output_is : (zone : List Record) (input : List ℕ) (lines : List WorldStep) (replies : List WorldReply) → script_of input ≡ Ok lines → replies_of zone lines ≡ Some replies → printed_lines replies ≡ script_output zone input
-output_is zone input lines replies read told = sym (ap (output_of_steps zone) read ∙ ap printed_replies told)
+output_is : (zone : List Record) (keep window : ℕ) (input : List ℕ) (lines : List WorldStep) (replies : List WorldReply) → script_of input ≡ Ok lines → replies_of zone keep window lines ≡ Some replies → printed_lines replies ≡ script_output zone keep window input
+output_is zone keep window input lines replies read told = sym (ap (output_of_steps zone keep window) read ∙ ap printed_replies told)
 
 -- what is written of the replies is the script's output
-pub written_out : (left : Option (List ℕ)) (zone : List Record) (steps played : List ScriptStep) (replies shown : List WorldReply) (before after : Option (List ℕ)) → IfSome left (λ input. script_of input ≡ Ok (map said_by steps)) → played ≡ steps
-    → replies_of zone (map said_by played) ≡ Some replies → shown ≡ replies → Appends before after (printed_lines shown) → IfSome left (λ input. Appends before after (script_output zone input))
-written_out None zone steps played replies shown before after read is told same written = tt
-written_out (Some input) zone steps played replies shown before after read is told same written =
+pub written_out : (left : Option (List ℕ)) (zone : List Record) (keep window : ℕ) (steps played : List ScriptStep) (replies shown : List WorldReply) (before after : Option (List ℕ)) → IfSome left (λ input. script_of input ≡ Ok (map said_by steps)) → played ≡ steps
+    → replies_of zone keep window (map said_by played) ≡ Some replies → shown ≡ replies → Appends before after (printed_lines shown) → IfSome left (λ input. Appends before after (script_output zone keep window input))
+written_out None zone keep window steps played replies shown before after read is told same written = tt
+written_out (Some input) zone keep window steps played replies shown before after read is told same written =
     let lines : script_of input ≡ Ok (map said_by played) = read ∙ ap (λ (s : List ScriptStep). Ok (map said_by s)) (sym is) in
-    subst (λ octets. Appends before after octets) (ap printed_lines same ∙ output_is zone input (map said_by played) replies lines told) written
+    subst (λ octets. Appends before after octets) (ap printed_lines same ∙ output_is zone keep window input (map said_by played) replies lines told) written
 
-pub begun_out : (left : Option (List ℕ)) (zone : List Record) (steps played : List ScriptStep) (replies shown : List WorldReply) (before after : Option (List ℕ)) → IfSome left (λ input. script_of input ≡ Ok (map said_by steps)) → played ≡ steps
-    → replies_of zone (map said_by played) ≡ Some replies → shown ≡ replies → Begins before after (printed_lines shown) → IfSome left (λ input. Begins before after (script_output zone input))
-begun_out None zone steps played replies shown before after read is told same written = tt
-begun_out (Some input) zone steps played replies shown before after read is told same written =
+pub begun_out : (left : Option (List ℕ)) (zone : List Record) (keep window : ℕ) (steps played : List ScriptStep) (replies shown : List WorldReply) (before after : Option (List ℕ)) → IfSome left (λ input. script_of input ≡ Ok (map said_by steps)) → played ≡ steps
+    → replies_of zone keep window (map said_by played) ≡ Some replies → shown ≡ replies → Begins before after (printed_lines shown) → IfSome left (λ input. Begins before after (script_output zone keep window input))
+begun_out None zone keep window steps played replies shown before after read is told same written = tt
+begun_out (Some input) zone keep window steps played replies shown before after read is told same written =
     let lines : script_of input ≡ Ok (map said_by played) = read ∙ ap (λ (s : List ScriptStep). Ok (map said_by s)) (sym is) in
-    subst (λ octets. Begins before after octets) (ap printed_lines same ∙ output_is zone input (map said_by played) replies lines told) written
+    subst (λ octets. Begins before after octets) (ap printed_lines same ∙ output_is zone keep window input (map said_by played) replies lines told) written
 
 at_device : (fault : Fault) (fact : Type 0) → fact → AtDevice fault fact
 at_device (Zone fault) fact there = tt
 at_device (Script line) fact there = tt
 at_device (World fault) fact there = tt
+at_device (Transfer fault) fact there = tt
 at_device (Device fault) fact there = there
 
 -- a fact at a device's fault
 pub IfErr-at_device : {X : Type 0} (result : Result X Fault) (fact : Type 0) → fact → IfErr result (λ fault. AtDevice fault fact)
 IfErr-at_device (Ok x) fact there = tt
 IfErr-at_device (Err fault) fact there = at_device fault fact there
+
+-- one message more is added, behind a space
+pub spaced_more : (messages : List (List ℕ)) (at : ℕ) (message : List ℕ) → at < length messages → message ≡ get_or messages at message → (line between after : List ℕ) → between ≡ line ++ codes " " → after ≡ between ++ encode_lower message
+    → (all : List ℕ) → line ++ spaced_behind (drop at messages) ≡ all → after ++ spaced_behind (drop (at + 1) messages) ≡ all
+spaced_more messages at message within is line between after space digits all before =
+    let parts : spaced_behind (drop at messages) ≡ (codes " " ++ encode_lower message) ++ spaced_behind (drop (at + 1) messages) = ap spaced_behind (drop_more messages at message within ∙ ap (λ x. x ∷ drop (at + 1) messages) (sym is)) in
+    let grown : after ≡ line ++ (codes " " ++ encode_lower message) = digits ∙ ap (λ xs. xs ++ encode_lower message) space ∙ append_assoc line (codes " ") (encode_lower message) in
+    ap (λ xs. xs ++ spaced_behind (drop (at + 1) messages)) grown
+    ∙ append_assoc line (codes " " ++ encode_lower message) (spaced_behind (drop (at + 1) messages)) ∙ ap (λ xs. line ++ xs) (sym parts) ∙ before
+
+-- all messages are added
+pub spaced_end : (messages : List (List ℕ)) (at : ℕ) → length messages ≤ at → (line all : List ℕ) → line ++ spaced_behind (drop at messages) ≡ all → line ≡ all
+spaced_end messages at past line all before =
+    sym (append-nil line) ∙ ap (λ xs. line ++ spaced_behind xs) (sym (drop_all at messages past)) ∙ before

@@ -8,22 +8,24 @@ use Rattle.master_file.specs.WrittenZone.{zone_text}
 use Rattle.master_file.specs.Fault.{no_memory}
 use Rattle.dnsd.specs.declared.command.Source.{Source}
 use Rattle.dnsd.specs.declared.command.Command.{Command}
-use Rattle.dnsd.specs.declared.command.Command.TheVariants.{Answer, Check, Steps}
+use Rattle.dnsd.specs.declared.command.Command.TheVariants.{Answer, Check, Apply, Steps}
 use Rattle.dnsd.specs.declared.fault.Fault.{Fault}
-use Rattle.dnsd.specs.declared.fault.Fault.TheVariants.{Zone, Script, World, Device}
+use Rattle.dnsd.specs.declared.fault.Fault.TheVariants.{Zone, Script, World, Transfer, Device}
 use Rattle.world_run.specs.declared.fault.WorldFault.TheVariants as world
 use Rattle.dnsd.specs.declared.script.ScriptFault.{ScriptFault}
 use Rattle.dnsd.specs.declared.script.ScriptFault.TheVariants as script
+use Rattle.dnsd.specs.Apply.{taken, taken_text, TellsTransfer}
 use Rattle.dnsd.specs.Input.{zone_text_of, behind_zone_text}
 use Rattle.dnsd.specs.Lines.{output_of, Begins}
 use Rattle.dnsd.specs.Script.{script_of, script_output}
 use Rattle.dnsd.specs.Told.{IsTold}
 
--- the status with which the program ends at a fault: 1 where the zone or the script is refused, 3 at a device's fault
+-- the status with which the program ends at a fault: 1 where the zone, the script or the transfer is refused, 3 at a device's fault
 abbrev pub status_of : Fault → ℕ
 status_of (Zone fault) = 1
 status_of (Script line) = 1
 status_of (World fault) = 1
+status_of (Transfer fault) = 1
 status_of (Device fault) = 3
 
 -- a script's fault as the program's
@@ -51,6 +53,7 @@ abbrev pub IsOfPlay : Fault → Type 0
 IsOfPlay (Zone fault) = ⊥
 IsOfPlay (Script line) = ⊥
 IsOfPlay (World fault) = Unit
+IsOfPlay (Transfer fault) = ⊥
 IsOfPlay (Device fault) = Unit
 
 -- a fault that a script may be given: its first line that says no step, or want of memory while its steps are played
@@ -58,6 +61,7 @@ abbrev pub IsOfScript : List ℕ → Fault → Type 0
 IsOfScript input (Zone fault) = ⊥
 IsOfScript input (Script line) = script_of input ≡ Err line
 IsOfScript input (World fault) = IsOk (script_of input)
+IsOfScript input (Transfer fault) = ⊥
 IsOfScript input (Device fault) = Unit
 
 -- a fault that a command may be given for its input: requests are never refused, and where the zone is printed nothing is
@@ -66,25 +70,31 @@ IsOfInput (Answer zone origin transport) input (Device fault) = Unit
 IsOfInput (Answer zone origin transport) input fault = ⊥
 IsOfInput (Check zone origin) input (Device fault) = Unit
 IsOfInput (Check zone origin) input fault = ⊥
-IsOfInput (Steps zone origin) input fault = IsOfScript input fault
+IsOfInput (Apply zone origin) input (Transfer fault) = Unit
+IsOfInput (Apply zone origin) input (Device fault) = Unit
+IsOfInput (Apply zone origin) input fault = ⊥
+IsOfInput (Steps zone origin keep window) input fault = IsOfScript input fault
 
 -- where a command's zone comes from
 abbrev pub source_of : Command → Source
 source_of (Answer zone origin transport) = zone
 source_of (Check zone origin) = zone
-source_of (Steps zone origin) = zone
+source_of (Apply zone origin) = zone
+source_of (Steps zone origin keep window) = zone
 
 -- the origin at the start of a command's zone's text
 abbrev pub origin_of : Command → List (List ℕ)
 origin_of (Answer zone origin transport) = origin
 origin_of (Check zone origin) = origin
-origin_of (Steps zone origin) = origin
+origin_of (Apply zone origin) = origin
+origin_of (Steps zone origin keep window) = origin
 
 -- what a command writes for an input in a zone; a flag for each request says where memory is wanted for an update
 abbrev pub output_for : Command → List Bool → List Record → List ℕ → List ℕ
 output_for (Answer zone origin transport) starved records input = output_of transport starved records input
 output_for (Check zone origin) starved records input = zone_text records
-output_for (Steps zone origin) starved records input = script_output records input
+output_for (Apply zone origin) starved records input = taken_text records input
+output_for (Steps zone origin keep window) starved records input = script_output records keep window input
 
 -- what a command writes for an input in a zone was written, wherever memory was wanted for an update
 abbrev pub DoesIn : Command → List Record → List ℕ → Option (List ℕ) → Option (List ℕ) → Type 0
@@ -93,6 +103,13 @@ DoesIn command records input before after = (starved : List Bool) × Appends bef
 -- a beginning of it was written
 abbrev pub BeginsToDoIn : Command → List Record → List ℕ → Option (List ℕ) → Option (List ℕ) → Type 0
 BeginsToDoIn command records input before after = (starved : List Bool) × Begins before after (output_for command starved records input)
+
+-- a command that takes a transfer tells what becomes of it
+abbrev pub TellsIn : Command → List Record → List ℕ → Result (Unit {0}) Fault → Type 0
+TellsIn (Apply zone origin) records input told = TellsTransfer (taken records input) told
+TellsIn (Answer zone origin transport) records input told = Unit
+TellsIn (Check zone origin) records input told = Unit
+TellsIn (Steps zone origin keep window) records input told = Unit
 
 -- the zone of a command's text, or the fault that is told of it (RFC 1035, 5)
 abbrev pub zone_for : Command → List ℕ → Result (List Record) FileFault

@@ -6,9 +6,9 @@ use Rattle.hex.specs.declared.error.FromHexError.{FromHexError}
 use Rattle.hex.specs.Hex.{decode_of, encode_lower}
 use Rattle.dns_rdata.specs.Record.{Record}
 use Rattle.world_run.specs.declared.step.Answer.{Answer}
-use Rattle.world_run.specs.declared.step.Answer.TheVariants.{Owner, Left, Buried, Reply, Silent, Published, NoSlot}
+use Rattle.world_run.specs.declared.step.Answer.TheVariants.{Owner, Left, Buried, Reply, Silent, Messages}
 use Rattle.world_run.specs.declared.step.Call.{Call}
-use Rattle.world_run.specs.declared.step.Call.TheVariants.{Load, Drop, Ask}
+use Rattle.world_run.specs.declared.step.Call.TheVariants.{Load, Drop, Ask, Transfer, Update}
 use Rattle.world_run.specs.declared.step.WorldReply.{WorldReply}
 use Rattle.world_run.specs.declared.step.WorldReply.TheVariants.{Answered, Begun, Step, Last, NotEnabled}
 use Rattle.world_run.specs.declared.step.WorldStep.{WorldStep}
@@ -19,7 +19,7 @@ use Rattle.dnsd.specs.declared.script.ScriptCall.{ScriptCall}
 use Rattle.dnsd.specs.declared.script.ScriptCall.TheVariants as call
 use Rattle.dnsd.specs.declared.script.ScriptStep.{ScriptStep}
 use Rattle.dnsd.specs.declared.script.ScriptStep.TheVariants as script
-use Rattle.dnsd.specs.Lines.{MOST_OCTETS, input_lines}
+use Rattle.dnsd.specs.Lines.{MOST_OCTETS, input_lines, spaced}
 use Rattle.world_run.specs.Told.{step_words}
 use Rattle.world_run.specs.World.{replies_of}
 
@@ -45,14 +45,35 @@ abbrev pub asking : List ℕ → Option (List ℕ) → Option Call
 asking name None = None
 asking name (Some request) = Some (Ask name request)
 
--- the call that words say, `load NAME`, `drop NAME` or `ask NAME HEX`; none where they are others
-unfoldable pub call_in : List (List ℕ) → Option Call
-call_in (word ∷ name ∷ []) =
-    if bytes_eq word (codes "load") && is_name name then Some (Load name)
-    else if bytes_eq word (codes "drop") && is_name name then Some (Drop name)
+-- a question for a transfer, of a strong owner's version
+abbrev pub transferring : List ℕ → Option (List ℕ) → Option Call
+transferring name None = None
+transferring name (Some request) = Some (Transfer name request)
+
+-- an update that is sent
+abbrev pub updating : Option (List ℕ) → Option Call
+updating None = None
+updating (Some request) = Some (Update request)
+
+-- the call that two words say, `load NAME`, `drop NAME` or `update HEX`; none where they are others
+abbrev pub call_of_two : List ℕ → List ℕ → Option Call
+call_of_two word rest =
+    if bytes_eq word (codes "load") && is_name rest then Some (Load rest)
+    else if bytes_eq word (codes "drop") && is_name rest then Some (Drop rest)
+    else if bytes_eq word (codes "update") then updating (request_in (decode_of rest))
     else None
-call_in (word ∷ name ∷ digits ∷ []) =
-    if bytes_eq word (codes "ask") && is_name name then asking name (request_in (decode_of digits)) else None
+
+-- the call that three words say, `ask NAME HEX` or `ixfr NAME HEX`; none where they are others
+abbrev pub call_of_three : List ℕ → List ℕ → List ℕ → Option Call
+call_of_three word name digits =
+    if bytes_eq word (codes "ask") && is_name name then asking name (request_in (decode_of digits))
+    else if bytes_eq word (codes "ixfr") && is_name name then transferring name (request_in (decode_of digits))
+    else None
+
+-- the call that words say, one of two words or of three; none where they are others
+unfoldable pub call_in : List (List ℕ) → Option Call
+call_in (word ∷ rest ∷ []) = call_of_two word rest
+call_in (word ∷ name ∷ digits ∷ []) = call_of_three word name digits
 call_in words = None
 
 -- the step that words say: a call with all its steps, `begin NAME` and a call, or `next NAME`; none where they are others
@@ -89,6 +110,8 @@ abbrev pub called_by : ScriptCall → Call
 called_by (call.Load name) = Load name.items
 called_by (call.Drop name) = Drop name.items
 called_by (call.Ask name request) = Ask name.items request.items
+called_by (call.Transfer name request) = Transfer name.items request.items
+called_by (call.Update request) = Update request.items
 
 -- a step of a script as the world takes it
 abbrev pub said_by : ScriptStep → WorldStep
@@ -108,8 +131,7 @@ printed_answer Left = codes "left"
 printed_answer (Buried number) = codes "buried " ++ decimal number
 printed_answer (Reply octets) = encode_lower octets
 printed_answer Silent = codes "-"
-printed_answer Published = codes "published"
-printed_answer NoSlot = codes "no slot"
+printed_answer (Messages messages) = spaced messages
 
 -- what is printed of the reply to a line
 abbrev pub printed : WorldReply → List ℕ
@@ -129,16 +151,17 @@ abbrev pub printed_replies : Option (List WorldReply) → List ℕ
 printed_replies None = []
 printed_replies (Some replies) = printed_lines replies
 
--- what is printed for the lines of a script, or nothing where one says no step
-abbrev pub output_of_steps : List Record → Result (List WorldStep) ℕ → List ℕ
-output_of_steps zone (Ok lines) = printed_replies (replies_of zone lines)
-output_of_steps zone (Err line) = []
+-- what is printed for the lines of a script, with so many versions kept beside the last, and a window of so many; nothing where one
+-- says no step
+abbrev pub output_of_steps : List Record → ℕ → ℕ → Result (List WorldStep) ℕ → List ℕ
+output_of_steps zone keep window (Ok lines) = printed_replies (replies_of zone keep window lines)
+output_of_steps zone keep window (Err line) = []
 
 -- the lines of a script pass the limit
-abbrev pub IsPastLimit : List Record → Result (List WorldStep) ℕ → Type 0
-IsPastLimit zone (Ok lines) = replies_of zone lines ≡ None
-IsPastLimit zone (Err line) = ⊥
+abbrev pub IsPastLimit : List Record → ℕ → ℕ → Result (List WorldStep) ℕ → Type 0
+IsPastLimit zone keep window (Ok lines) = replies_of zone keep window lines ≡ None
+IsPastLimit zone keep window (Err line) = ⊥
 
--- what is printed for a script that is played from a zone on
-abbrev pub script_output : List Record → List ℕ → List ℕ
-script_output zone input = output_of_steps zone (script_of input)
+-- what is printed for a script that is played from a zone on, with so many versions kept beside the last, and a window of so many
+abbrev pub script_output : List Record → ℕ → ℕ → List ℕ → List ℕ
+script_output zone keep window input = output_of_steps zone keep window (script_of input)

@@ -1,8 +1,9 @@
 //! The command line.
-ghost use Rattle.std.specs.Prelude.{◌≡◌};
+ghost use Rattle.std.specs.Prelude.{◌≡◌, ◌≤◌, IfOk};
 ghost use Rattle.dnsd.specs.Run.{source_of, origin_of};
 
-use clap::{Arg, ArgAction, Command as Parser};
+use crate::serve::{Serve, serve_of, serve_options};
+use clap::{Arg, ArgAction, ArgMatches, Command as Parser};
 use dns_name::{Name, NameFault};
 use serve_core::Transport;
 use std::alloc::{AllocError, Global};
@@ -36,12 +37,23 @@ pub enum Command<'a> {
         /// The origin at the start of the zone's text.
         origin: Name,
     },
+    /// Takes a transfer, a message in hexadecimal a line, and prints the zone's text behind it.
+    Apply {
+        /// Where the zone's text comes from.
+        zone: Source<'a>,
+        /// The origin at the start of the zone's text.
+        origin: Name,
+    },
     /// Plays a script of steps over the versions of a zone.
     Steps {
         /// Where the zone's text comes from.
         zone: Source<'a>,
         /// The origin at the start of the zone's text.
         origin: Name,
+        /// How many versions are kept beside the last, at most [`MAX_KEEP`].
+        keep: usize,
+        /// How many entries the window has at most from which changes are sent, at most [`MAX_WINDOW`].
+        window: usize,
     },
 }
 
@@ -53,6 +65,7 @@ impl<'a> Command<'a> {
         match self {
             Command::Answer { zone, .. }
             | Command::Check { zone, .. }
+            | Command::Apply { zone, .. }
             | Command::Steps { zone, .. } => *zone,
         }
     }
@@ -64,9 +77,19 @@ impl<'a> Command<'a> {
         match self {
             Command::Answer { origin, .. }
             | Command::Check { origin, .. }
+            | Command::Apply { origin, .. }
             | Command::Steps { origin, .. } => origin,
         }
     }
+}
+
+/// What a command line asks for.
+#[derive(Drop)]
+pub enum Task<'a> {
+    /// A command over standard input and output.
+    Lines(Command<'a>),
+    /// A zone served on sockets.
+    Serve(Serve<'a>),
 }
 
 /// Why a command line is refused.
@@ -76,6 +99,10 @@ pub enum CommandFault<'a> {
     Words(clap::Error),
     /// The origin is no name.
     Origin(&'a str, NameFault),
+    /// The word for this option is no number of those that it takes.
+    Number(&'static str, &'a str),
+    /// The word for this option is no address.
+    Address(&'static str, &'a str),
 }
 
 impl From<clap::Error> for CommandFault<'_> {
@@ -90,11 +117,11 @@ impl From<AllocError> for CommandFault<'_> {
     }
 }
 
-/// The command that these words ask for, the program's own name first.
+/// What these words ask for, the program's own name first.
 pub fn parse_words<'a, S: AsStr>(
     alloc: Global,
     words: &'a [S],
-) -> Result<Command<'a>, CommandFault<'a>> {
+) -> Result<Task<'a>, CommandFault<'a>> {
     let matches = program(alloc)?.try_get_matches_from(words)?;
     let Some((name, found)) = matches.subcommand() else {
         return Err(CommandFault::from(AllocError));
@@ -107,9 +134,32 @@ pub fn parse_words<'a, S: AsStr>(
         Some("-") | None => Source::Input,
         Some(path) => Source::File(path),
     };
+    if name == "serve" {
+        return Ok(Task::Serve(serve_of(alloc, found, zone, origin)?));
+    }
+    Ok(Task::Lines(command_of(name, found, zone, origin)?))
+}
+
+/// The command of a name.
+fn command_of<'a>(
+    name: &str,
+    found: &ArgMatches<'a>,
+    zone: Source<'a>,
+    origin: Name,
+) -> Result<Command<'a>, CommandFault<'a>> {
     match name {
         "check" => return Ok(Command::Check { zone, origin }),
-        "steps" => return Ok(Command::Steps { zone, origin }),
+        "apply" => return Ok(Command::Apply { zone, origin }),
+        "steps" => {
+            let keep = number_for(found.get_str(KEEP), KEEP, MAX_KEEP, 0)?;
+            let window = number_for(found.get_str(WINDOW), WINDOW, MAX_WINDOW, MAX_WINDOW)?;
+            return Ok(Command::Steps {
+                zone,
+                origin,
+                keep,
+                window,
+            });
+        }
         _ => {}
     }
     let transport = if found.get_flag("tcp") {
@@ -124,12 +174,52 @@ pub fn parse_words<'a, S: AsStr>(
     })
 }
 
+/// The option for how many versions are kept beside the last.
+const KEEP: &str = "keep";
+
+/// The most versions that are kept beside the last.
+const MAX_KEEP: usize = 8;
+
+/// The option for how many entries the window has.
+const WINDOW: &str = "window";
+
+/// The most entries of the window.
+const MAX_WINDOW: usize = 16;
+
+/// The number that a word gives an option, from 0 to the greatest that it takes; where there is no word, the option's own.
+pub fn number_for<'a>(
+    word: Option<&'a str>,
+    option: &'static str,
+    most: usize,
+    own: usize,
+) -> Result<usize, CommandFault<'a>>
+    ensures { own ≤ most → IfOk result (λ number. number ≤ most) }
+{
+    let Some(word) = word else {
+        return Ok(own);
+    };
+    match word.parse::<usize>() {
+        Ok(number) if number <= most => Ok(number),
+        _ => Err(CommandFault::Number(option, word)),
+    }
+}
+
 /// The program's command line.
 fn program<'a>(alloc: Global) -> Result<Parser<'a>, AllocError> {
     let tcp = Arg::new(alloc, "tcp")
         .long("tcp")
         .help("replies as over TCP, of at most 65535 octets; else as over UDP, of at most 512")
         .action(ArgAction::SetTrue);
+    let keep = Arg::new(alloc, KEEP)
+        .long(KEEP)
+        .value_name("N")
+        .help("how many versions are kept beside the last, at most 8")
+        .default_value("0");
+    let window = Arg::new(alloc, WINDOW)
+        .long(WINDOW)
+        .value_name("N")
+        .help("how many entries the window has at most from which changes are sent, at most 16")
+        .default_value("16");
     let answer = subcommand(
         alloc,
         "answer",
@@ -140,11 +230,17 @@ fn program<'a>(alloc: Global) -> Result<Parser<'a>, AllocError> {
         "check",
         "prints the zone's text in its written form, one record a line",
     )?;
+    let apply = subcommand(
+        alloc,
+        "apply",
+        "takes a transfer, a message in hexadecimal a line, and prints the zone's text behind it",
+    )?;
     let steps = subcommand(
         alloc,
         "steps",
-        "plays a script of steps, a line each; its requests come over UDP",
+        "plays a script of steps, a line each; its requests come over UDP, for transfers over TCP",
     )?;
+    let serve = subcommand(alloc, "serve", "serves a zone on sockets, by UDP and TCP")?;
     Ok(
         Parser::new(alloc, "dnsd")
             .about("an authoritative name server for one zone")
@@ -152,7 +248,9 @@ fn program<'a>(alloc: Global) -> Result<Parser<'a>, AllocError> {
             .arg_required_else_help(true)
             .subcommand(answer.arg(tcp)?)?
             .subcommand(check)?
-            .subcommand(steps)?,
+            .subcommand(apply)?
+            .subcommand(steps.arg(keep)?.arg(window)?)?
+            .subcommand(serve_options(alloc, serve)?)?,
     )
 }
 

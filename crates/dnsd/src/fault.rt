@@ -1,6 +1,6 @@
 //! Why a command isn't done, and the statuses with which the program ends.
 ghost use Rattle.std.specs.Prelude.{◌≡◌};
-ghost use Rattle.dnsd.specs.declared.fault.Fault.TheVariants.{Zone, World, Device};
+ghost use Rattle.dnsd.specs.declared.fault.Fault.TheVariants.{Zone, World, Transfer, Device};
 ghost use Rattle.dnsd.specs.Run.{status_of, fault_of};
 ghost use Rattle.dnsd.specs.Told.{told};
 
@@ -8,11 +8,12 @@ use crate::script::ScriptFault;
 use master_file::FileFault;
 use std::error::Error;
 use std::{fmt, io};
+use transfer_core::TransferFault;
 use world_run::WorldFault;
 
 /// The status of a command that was done.
 pub const DONE: u8 = 0;
-/// The status of a zone or a script that was refused.
+/// The status of a zone, a script or a transfer that was refused.
 pub const REFUSED: u8 = 1;
 /// The status of a command line that was refused.
 pub const BAD_COMMAND: u8 = 2;
@@ -28,6 +29,8 @@ pub enum Fault {
     Script(u64),
     /// The steps of a script aren't played.
     World(WorldFault),
+    /// A transfer isn't taken.
+    Transfer(TransferFault),
     /// A device's fault, or want of memory.
     Device(io::Error),
 }
@@ -38,7 +41,7 @@ impl Fault {
         ensures { result ≡ status_of self.now }
     {
         match self {
-            Fault::Zone(_) | Fault::Script(_) | Fault::World(_) => REFUSED,
+            Fault::Zone(_) | Fault::Script(_) | Fault::World(_) | Fault::Transfer(_) => REFUSED,
             Fault::Device(_) => FAILED,
         }
     }
@@ -52,6 +55,7 @@ impl fmt::Display for Fault {
             Fault::Zone(fault) => write!(f, "{fault}"),
             Fault::Script(line) => write!(f, "line {line}: bad"),
             Fault::World(fault) => write!(f, "{fault}"),
+            Fault::Transfer(fault) => write!(f, "{fault}"),
             Fault::Device(fault) => write!(f, "{fault}"),
         }
     }
@@ -83,6 +87,14 @@ impl From<WorldFault> for Fault {
 
     fn from(fault: WorldFault) -> Fault {
         Fault::World(fault)
+    }
+}
+
+impl From<TransferFault> for Fault {
+    ghost from_gives = { λ fault given. given ≡ Transfer fault };
+
+    fn from(fault: TransferFault) -> Fault {
+        Fault::Transfer(fault)
     }
 }
 

@@ -1,31 +1,40 @@
 //! `dnsd`: an authoritative name server for one zone of class IN.
 //!
 //! The command line is parsed by `command`, the zone's text is read by `master_file`, and `answer` replies to each request
-//! that it reads, over UDP or TCP. `check` prints the zone's written text. `steps` plays a `script`: names come into use for
+//! that it reads, over UDP or TCP. `check` prints the zone's written text, and `apply` that of the zone
+//! behind a transfer's messages. `steps` plays a `script`: names come into use for
 //! versions of the zone, and requests over UDP are answered in them. What a reply says is `serve_core`'s, and what a step does
-//! is `world_run`'s.
+//! is `world_run`'s. `serve` answers on sockets, by the workers of `serve_workers`.
 #![tactic(auto)]
 
 ghost use Rattle.std.specs.Prelude.{◌≡◌, ◌⊎◌};
 
 pub mod answer;
+pub mod apply;
 pub mod check;
 pub mod command;
 pub mod fault;
 mod input;
+mod kept;
 mod lines;
 pub mod run;
 pub mod script;
+pub mod serve;
 mod shown;
 pub mod steps;
 pub mod tell;
 
-use command::{Command, CommandFault, Source, parse_words};
+use command::{Command, CommandFault, Source, Task, parse_words};
 use fault::{BAD_COMMAND, DONE, FAILED};
 use run::{run_text, run_with_zone};
+use serve::run_serve;
 use std::io::{self, BufReader, BufWriter};
+use std::net::{Net, TcpListener, TcpStream};
 use std::process::ExitCode;
 use std::rt::{Env, Files};
+use std::sync::Wait;
+use std::thread::Threads;
+use std::time::Clock;
 use std::{env, fs};
 use tell::tell;
 
@@ -40,17 +49,38 @@ fn main(rt: HostRuntime) -> ExitCode {
 }
 
 /// Does what the program's words ask for, and gives its status.
-fn run_words<R: Files + Env + Print + Eprint + Input + AllocGlobal>(rt: &R) -> io::Result<u8> {
+fn run_words<
+    R: Files
+        + Env
+        + Print
+        + Eprint
+        + Input
+        + AllocGlobal
+        + Net<Listener = TcpListener, Stream = TcpStream>
+        + Threads
+        + Wait
+        + Clock
+        + Sync,
+>(rt: &R) -> io::Result<u8> {
     let alloc = rt.alloc();
     let words: Vec<String> = env::args(rt)?.collect(alloc)?;
     match parse_words(alloc, words.as_slice()) {
-        Ok(command) => run_command(rt, &command),
+        Ok(Task::Lines(command)) => run_command(rt, &command),
+        Ok(Task::Serve(serve)) => run_serve(rt, &serve),
         Err(CommandFault::Words(fault)) => {
             fault.print(rt)?;
             Ok(status_of(&fault))
         }
         Err(CommandFault::Origin(word, fault)) => {
             eprintln!(rt; "error: '{word}' is no name for --origin: {fault}")?;
+            Ok(BAD_COMMAND)
+        }
+        Err(CommandFault::Number(option, word)) => {
+            eprintln!(rt; "error: '{word}' is no number for --{option}")?;
+            Ok(BAD_COMMAND)
+        }
+        Err(CommandFault::Address(option, word)) => {
+            eprintln!(rt; "error: '{word}' is no address for --{option}")?;
             Ok(BAD_COMMAND)
         }
     }

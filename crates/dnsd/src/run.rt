@@ -2,9 +2,10 @@
 ghost use Rattle.std.specs.Prelude.{◌≡◌, ◌⊎◌, [], Ok, Err, OnOk, OnErr, IfOk, IfErr, IfSome};
 ghost use Rattle.std.specs.Io.Buffered.{writer_buffer, writer_contents};
 ghost use Rattle.dnsd.specs.Input.{zone_text_of, behind_zone_text};
-ghost use Rattle.dnsd.specs.Run.{status_of, AtRefusedZone, AtDevice, IsOfInput, IsOfRun, IsOfZone, IsRefused, zone_for, Does, DoesIn, BeginsToDo, BeginsToDoIn};
+ghost use Rattle.dnsd.specs.Run.{status_of, AtRefusedZone, AtDevice, IsOfInput, IsOfRun, IsOfZone, IsRefused, zone_for, TellsIn, Does, DoesIn, BeginsToDo, BeginsToDoIn};
 
 use crate::answer::run_answer;
+use crate::apply::run_apply;
 use crate::check::run_check;
 use crate::command::Command;
 use crate::fault::Fault;
@@ -17,8 +18,8 @@ use std::io::{BufRead, BufWriter, Write};
 use zone_tree::Zone;
 
 /// Does one parsed command whose zone's text is the front of the reader, up to a line `%` or its end; the command's input
-/// follows it. What is wrong goes to `errors`, on a line, and for a zone's text what it means below it. Gives the program's
-/// status: 0 done, 1 the zone or the script is refused, 3 a device's fault or want of memory. At 0 nothing that was written is
+/// follows it. What is wrong goes to `errors`, on a line, and for a zone's text or a transfer what it means below it. Gives the program's
+/// status: 0 done, 1 the zone, the script or the transfer is refused, 3 a device's fault or want of memory. At 0 nothing that was written is
 /// left in the buffer.
 pub fn run_text<R: BufRead, W: Write + Drop, E: Write>(
     alloc: Global,
@@ -62,6 +63,7 @@ pub fn run_with_zone<R: BufRead, W: Write + Drop>(
         Does command.now text.now input (writer_contents W.contents writer.old) (writer_contents W.contents writer.new))) }
     ensures flushed { OnOk result (writer_buffer writer.new ≡ []) }
     ensures zone { IfErr result (λ fault. IsOfZone (zone_for command.now text.now) fault) }
+    ensures transfer { IfSome (R.remaining reader.old) (λ input. IfOk (zone_for command.now text.now) (λ zone. TellsIn command.now zone input result)) }
     ensures fault { IfErr result (λ fault. IfSome (R.remaining reader.old) (λ input. IsOfRun command.now input fault)) }
     ensures unread { IfErr result (λ fault. AtRefusedZone fault (R.remaining reader.new ≡ R.remaining reader.old)) }
     ensures unwritten { IfErr result (λ fault. status_of fault ≡ 1
@@ -85,6 +87,7 @@ fn run_read<R: BufRead, W: Write + Drop>(
     ensures refused { IfErr read (λ fault. result ≡ Err (Fault.Zone fault)) }
     ensures unread { OnErr read (R.remaining reader.new ≡ R.remaining reader.old) }
     ensures zone { OnOk read (IfErr result (λ fault. AtRefusedZone fault ⊥)) }
+    ensures transfer { IfOk read (λ zone. IfSome (R.remaining reader.old) (λ input. TellsIn command.now zone input result)) }
     ensures ok { IfOk read (λ zone. OnOk result (IfSome (R.remaining reader.old) (λ input.
         DoesIn command.now zone input (writer_contents W.contents writer.old) (writer_contents W.contents writer.new)))) }
     ensures flushed { OnOk result (writer_buffer writer.new ≡ []) }
@@ -112,6 +115,7 @@ fn run_over<R: BufRead, W: Write + Drop>(
     ensures flushed { OnOk result (writer_buffer writer.new ≡ []) }
     ensures fault { IfErr result (λ fault. IfSome (R.remaining reader.old) (λ input. IsOfInput command.now input fault)) }
     ensures zone { IfErr result (λ fault. AtRefusedZone fault ⊥) }
+    ensures transfer { IfSome (R.remaining reader.old) (λ input. TellsIn command.now zone input result) }
     ensures unwritten { IfErr result (λ fault. status_of fault ≡ 1
         → writer_contents W.contents writer.new ≡ writer_contents W.contents writer.old) }
     ensures failed { IfErr result (λ fault. AtDevice fault (IfSome (R.remaining reader.old) (λ input.
@@ -135,6 +139,7 @@ fn do_command<R: BufRead, W: Write>(
         DoesIn command.now zone input (W.contents writer.old) (W.contents writer.new))) }
     ensures fault { IfErr result (λ fault. IfSome (R.remaining reader.old) (λ input. IsOfInput command.now input fault)) }
     ensures zone { IfErr result (λ fault. AtRefusedZone fault ⊥) }
+    ensures transfer { IfSome (R.remaining reader.old) (λ input. TellsIn command.now zone input result) }
     ensures unwritten { IfErr result (λ fault. status_of fault ≡ 1 → W.contents writer.new ≡ W.contents writer.old) }
     ensures failed { IfErr result (λ fault. AtDevice fault (IfSome (R.remaining reader.old) (λ input.
         BeginsToDoIn command.now zone input (W.contents writer.old) (W.contents writer.new)))) }
@@ -144,6 +149,9 @@ fn do_command<R: BufRead, W: Write>(
             Ok(run_answer(alloc, zone, *transport, reader, writer)?)
         }
         Command::Check { .. } => Ok(run_check(alloc, &zone, writer)?),
-        Command::Steps { .. } => run_steps(alloc, &zone, reader, writer),
+        Command::Apply { .. } => run_apply(alloc, &zone, reader, writer),
+        Command::Steps { keep, window, .. } => {
+            run_steps(alloc, zone, *keep, *window, reader, writer)
+        }
     }
 }

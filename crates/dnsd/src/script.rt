@@ -1,14 +1,14 @@
 //! Scripts: steps as lines of text.
 //!
-//! A line is a call, `load NAME`, `drop NAME` or `ask NAME HEX`, or `begin NAME` and a call, or `next NAME`, its words with one
-//! space between; a name is 1 to 8 lower-case letters and digits, and HEX a request of 1 to 65,535 octets in hexadecimal. The
-//! last line may want its LF.
+//! A line is a call, `load NAME`, `drop NAME`, `ask NAME HEX`, `ixfr NAME HEX` or `update HEX`, or `begin NAME` and a call, or
+//! `next NAME`, its words with one space between; a name is 1 to 8 lower-case letters and digits, and HEX a request of 1 to 65,535 octets in
+//! hexadecimal. The last line may want its LF.
 ghost use Rattle.std.specs.Prelude.{◌≡◌, ◌==◌, ◌&&◌, bytes_eq, ◌++◌, ◌∷◌, [], Ok, Err, OnOk, IfOk, IfErr, IfSome, map};
 ghost use Rattle.std.specs.List.{list_all};
 ghost use Rattle.std.specs.Option.{option_map};
 ghost use Rattle.dnsd.specs.declared.script.ScriptFault.TheVariants.{Device};
 ghost use Rattle.dnsd.specs.Script.{AtBad};
-ghost use Rattle.dnsd.specs.Script.{words_of as words_on, is_name as says_name, is_name_octet as says_name_octet, request_in, asking, call_in as says_call, step_in as says_step, step_of as step_on, script_of, called_by, said_by};
+ghost use Rattle.dnsd.specs.Script.{words_of as words_on, is_name as says_name, is_name_octet as says_name_octet, request_in, asking, transferring, updating, call_of_two as says_call_of_two, call_of_three as says_call_of_three, call_in as says_call, step_in as says_step, step_of as step_on, script_of, called_by, said_by};
 ghost use Rattle.hex.specs.Hex.{decode_of};
 ghost use Rattle.world_run.specs.declared.step.WorldStep.TheVariants.{Whole, Begin};
 
@@ -31,6 +31,11 @@ pub enum ScriptCall {
     Drop(Vec<u8>),
     /// A request over UDP, answered in the version of the strong owner of this name.
     Ask(Vec<u8>, Vec<u8>),
+    /// A question over TCP for a transfer, with the version of the strong owner of this name as the one that is served
+    /// (RFC 1995, 2; RFC 5936, 2.2).
+    Transfer(Vec<u8>, Vec<u8>),
+    /// A dynamic update from a peer that may update (RFC 2136).
+    Update(Vec<u8>),
 }
 
 /// A step that a script may say.
@@ -73,6 +78,11 @@ impl ScriptCall {
                 Handle::new(name.as_slice()),
                 Request::new(request.as_slice()),
             ),
+            ScriptCall::Transfer(name, request) => Call::Transfer(
+                Handle::new(name.as_slice()),
+                Request::new(request.as_slice()),
+            ),
+            ScriptCall::Update(request) => Call::Update(Request::new(request.as_slice())),
         }
     }
 }
@@ -200,28 +210,82 @@ fn call_in(alloc: Global, words: &[&[u8]]) -> io::Result<Option<ScriptCall>>
     ensures { IfOk result (λ call. option_map called_by call ≡ says_call (map (λ word. word.now) words.now)) }
 {
     match words {
-        [word, name] if *word == b"load".as_slice() && is_name(name) => {
-            Ok(Some(ScriptCall::Load(Vec::from_slice(alloc, name)?)))
-        }
-        [word, name] if *word == b"drop".as_slice() && is_name(name) => {
-            Ok(Some(ScriptCall::Drop(Vec::from_slice(alloc, name)?)))
-        }
-        [word, name, digits] if *word == b"ask".as_slice() && is_name(name) => {
-            ask_of(alloc, name, digits)
-        }
+        [word, rest] => call_of_two(alloc, word, rest),
+        [word, name, digits] => call_of_three(alloc, word, name, digits),
         _ => Ok(None),
     }
+}
+
+/// The call that two words say; None where they say none.
+fn call_of_two(alloc: Global, word: &[u8], rest: &[u8]) -> io::Result<Option<ScriptCall>>
+    ensures { IfOk result (λ call. option_map called_by call ≡ says_call_of_two word.now rest.now) }
+{
+    if is_word_for(word, b"load", rest) {
+        return Ok(Some(ScriptCall::Load(Vec::from_slice(alloc, rest)?)));
+    }
+    if is_word_for(word, b"drop", rest) {
+        return Ok(Some(ScriptCall::Drop(Vec::from_slice(alloc, rest)?)));
+    }
+    if word == b"update".as_slice() {
+        return update_of(alloc, rest);
+    }
+    Ok(None)
+}
+
+/// The call that three words say; None where they say none.
+fn call_of_three(
+    alloc: Global,
+    word: &[u8],
+    name: &[u8],
+    digits: &[u8],
+) -> io::Result<Option<ScriptCall>>
+    ensures { IfOk result (λ call. option_map called_by call ≡ says_call_of_three word.now name.now digits.now) }
+{
+    if is_word_for(word, b"ask", name) {
+        return ask_of(alloc, name, digits);
+    }
+    if is_word_for(word, b"ixfr", name) {
+        return transfer_of(alloc, name, digits);
+    }
+    Ok(None)
 }
 
 /// A request in hexadecimal, asked of a strong owner; None where it is none of 1 to 65,535 octets.
 fn ask_of(alloc: Global, name: &[u8], digits: &[u8]) -> io::Result<Option<ScriptCall>>
     ensures { IfOk result (λ call. option_map called_by call ≡ asking name.now (request_in (decode_of digits.now))) }
 {
+    match request_of(alloc, digits)? {
+        Some(request) => Ok(Some(ScriptCall::Ask(Vec::from_slice(alloc, name)?, request))),
+        None => Ok(None),
+    }
+}
+
+/// A question for a transfer in hexadecimal, of a strong owner's version; None where it is none of 1 to 65,535 octets.
+fn transfer_of(alloc: Global, name: &[u8], digits: &[u8]) -> io::Result<Option<ScriptCall>>
+    ensures { IfOk result (λ call. option_map called_by call ≡ transferring name.now (request_in (decode_of digits.now))) }
+{
+    match request_of(alloc, digits)? {
+        Some(request) => Ok(Some(ScriptCall::Transfer(Vec::from_slice(alloc, name)?, request))),
+        None => Ok(None),
+    }
+}
+
+/// An update in hexadecimal; None where it is none of 1 to 65,535 octets.
+fn update_of(alloc: Global, digits: &[u8]) -> io::Result<Option<ScriptCall>>
+    ensures { IfOk result (λ call. option_map called_by call ≡ updating (request_in (decode_of digits.now))) }
+{
+    match request_of(alloc, digits)? {
+        Some(request) => Ok(Some(ScriptCall::Update(request))),
+        None => Ok(None),
+    }
+}
+
+/// The octets of a request in hexadecimal; None where they are none of 1 to 65,535.
+fn request_of(alloc: Global, digits: &[u8]) -> io::Result<Option<Vec<u8>>>
+    ensures { IfOk result (λ request. option_map (λ octets. octets.items) request ≡ request_in (decode_of digits.now)) }
+{
     match hex::decode(alloc, digits) {
-        Ok(octets) if !octets.is_empty() && octets.len() <= MAX_REQUEST => {
-            let name = Vec::from_slice(alloc, name)?;
-            Ok(Some(ScriptCall::Ask(name, octets)))
-        }
+        Ok(octets) if !octets.is_empty() && octets.len() <= MAX_REQUEST => Ok(Some(octets)),
         Err(FromHexError::OutOfMemory) => Err(io::Error::from(AllocError)),
         _ => Ok(None),
     }

@@ -2,7 +2,7 @@
 ghost use Rattle.std.specs.Prelude.{◌≡◌, ◌++◌, ◌∷◌, [], map, Some, Ok, Err, OnOk, OnErr, IfOk, IfErr, IfSome, decimal};
 ghost use Rattle.std.specs.Io.KnownBytes.{Appends};
 ghost use Rattle.hex.specs.Hex.{encode_lower};
-ghost use Rattle.dnsd.specs.Lines.{Begins};
+ghost use Rattle.dnsd.specs.Lines.{Begins, spaced, spaced_behind};
 ghost use Rattle.dnsd.specs.Run.{status_of, AtRefusedZone, AtDevice, AtLimit, IsOfScript, IsOfPlay};
 ghost use Rattle.dnsd.specs.Script.{script_of, script_output, IsPastLimit, said_by, printed_answer, printed, printed_lines};
 ghost use Rattle.world_run.specs.Told.{step_words};
@@ -13,34 +13,37 @@ use crate::fault::Fault;
 use crate::script::{ScriptStep, read_script};
 use std::alloc::Global;
 use std::io::{self, BufRead, Write};
-use world_run::{Answer, StepName, WorldReply, WorldStep, run};
+use world_run::{Answer, Octets, StepName, WorldReply, WorldStep, run};
 use zone_tree::Zone;
 
-/// Plays the script that the reader gives, from a zone on, and writes for each line what its call gave: `NAME N` for a strong
-/// owner of version N, `left`, `buried N`, the reply to a request in lower-case hexadecimal, `-` where there is none; `ok` for a
-/// call that is under way; the name of the step that one took, at its last step with what the call gave; and `not enabled`.
+/// Plays the script that the reader gives, from a zone on, with so many versions kept beside the last and a window of so many, and
+/// writes for each line what its call gave: `NAME N` for a strong owner of version N, `left`, `buried N`, the reply to a request or
+/// to an update in lower-case hexadecimal, `-` where there is none, the messages of a transfer with a space between; `ok` for a call that is under way; the name of the step that one took, at its
+/// last step with what the call gave; and `not enabled`.
 ///
 /// The script is read whole before anything is done, and played before anything is written. `Script` is the first line that
 /// says no step, `World` want of memory while it is played or a line that begins a call where 64 are under way, `Device` a
 /// device's fault or want of memory beside; then what was written is a beginning of the output.
 pub fn run_steps<R: BufRead, W: Write>(
     alloc: Global,
-    zone: &Zone,
+    zone: Zone,
+    keep: usize,
+    window: usize,
     reader: &mut R,
     writer: &mut W,
 ) -> Result<(), Fault>
     // Where the reader tells its octets and the writer those that it holds.
     ensures ok { OnOk result (IfSome (R.remaining reader.old) (λ input.
-        Appends (W.contents writer.old) (W.contents writer.new) (script_output zone.now input))) }
+        Appends (W.contents writer.old) (W.contents writer.new) (script_output zone keep window input))) }
     ensures zone { IfErr result (λ fault. AtRefusedZone fault ⊥) }
     ensures fault { IfErr result (λ fault. IfSome (R.remaining reader.old) (λ input. IsOfScript input fault)) }
-    ensures limit { IfErr result (λ fault. AtLimit fault (IfSome (R.remaining reader.old) (λ input. IsPastLimit zone.now (script_of input)))) }
+    ensures limit { IfErr result (λ fault. AtLimit fault (IfSome (R.remaining reader.old) (λ input. IsPastLimit zone keep window (script_of input)))) }
     ensures unwritten { IfErr result (λ fault. status_of fault ≡ 1 → W.contents writer.new ≡ W.contents writer.old) }
     ensures failed { IfErr result (λ fault. AtDevice fault (IfSome (R.remaining reader.old) (λ input.
-        Begins (W.contents writer.old) (W.contents writer.new) (script_output zone.now input)))) }
+        Begins (W.contents writer.old) (W.contents writer.new) (script_output zone keep window input)))) }
 {
     let script = read_script(alloc, reader)?;
-    let replies = match play(alloc, zone, script.as_slice()) {
+    let replies = match play(alloc, zone, keep, window, script.as_slice()) {
         Ok(replies) => replies,
         Err(fault) => return Err(fault),
     };
@@ -49,17 +52,19 @@ pub fn run_steps<R: BufRead, W: Write>(
 }
 
 /// The replies to a script's steps, from a zone on.
-fn play<'a>(
+fn play(
     alloc: Global,
-    zone: &'a Zone,
-    script: &'a [ScriptStep],
+    zone: Zone,
+    keep: usize,
+    window: usize,
+    script: &[ScriptStep],
 ) -> Result<Vec<WorldReply>, Fault>
-    ensures replies { IfOk result (λ replies. replies_of zone.now (map said_by script.now) ≡ Some replies.items) }
+    ensures replies { IfOk result (λ replies. replies_of zone keep window (map said_by script.now) ≡ Some replies.items) }
     ensures fault { IfErr result (λ fault. IsOfPlay fault) }
-    ensures limit { IfErr result (λ fault. AtLimit fault (IsPastLimit zone.now (Ok (map said_by script.now)))) }
+    ensures limit { IfErr result (λ fault. AtLimit fault (IsPastLimit zone keep window (Ok (map said_by script.now)))) }
 {
     let steps = world_steps(alloc, script)?;
-    let replies = match run(alloc, zone, steps.as_slice()) {
+    let replies = match run(alloc, zone, keep, window, steps.as_slice()) {
         Ok(replies) => replies,
         Err(fault) => return Err(Fault::World(fault)),
     };
@@ -131,11 +136,39 @@ fn put_answer(alloc: Global, line: &mut Vec<u8>, answer: &Answer) -> io::Result<
             put(line, b"buried ")?;
             put_number(line, *number)
         }
-        Answer::Reply(octets) => put(line, hex::encode(alloc, octets.as_slice())?.as_bytes()),
+        Answer::Reply(octets) => put_digits(alloc, line, octets),
         Answer::Silent => put(line, b"-"),
-        Answer::Published => put(line, b"published"),
-        Answer::NoSlot => put(line, b"no slot"),
+        Answer::Messages(messages) => put_messages(alloc, line, messages.as_slice()),
     }
+}
+
+/// Adds messages in lower-case hexadecimal, with a space between them.
+fn put_messages(alloc: Global, line: &mut Vec<u8>, messages: &[Octets]) -> io::Result<()>
+    ensures { OnOk result (line.new.items ≡ line.old.items ++ spaced messages.now) }
+{
+    let Some((first, behind)) = messages.split_first() else {
+        return Ok(());
+    };
+    put_digits(alloc, line, first)?;
+    put_behind(alloc, line, behind)
+}
+
+/// Adds messages in lower-case hexadecimal, with a space in front of each.
+fn put_behind(alloc: Global, line: &mut Vec<u8>, messages: &[Octets]) -> io::Result<()>
+    ensures { OnOk result (line.new.items ≡ line.old.items ++ spaced_behind messages.now) }
+{
+    for message in messages {
+        put(line, b" ")?;
+        put_digits(alloc, line, message)?;
+    }
+    Ok(())
+}
+
+/// Adds octets in lower-case hexadecimal.
+fn put_digits(alloc: Global, line: &mut Vec<u8>, octets: &Octets) -> io::Result<()>
+    ensures { OnOk result (line.new.items ≡ line.old.items ++ encode_lower octets.now) }
+{
+    put(line, hex::encode(alloc, octets.as_slice())?.as_bytes())
 }
 
 /// Adds the name of a step.

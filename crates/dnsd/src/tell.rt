@@ -9,9 +9,10 @@ use crate::shown::shown;
 use master_file::{Cause, FileFault};
 use std::alloc::Global;
 use std::io::{self, Write};
+use transfer_core::TransferFault;
 
 /// The status of what was done over a zone's text; what is wrong goes to `errors` first, on a line, and for a zone's text
-/// what it means below it, with the word at fault and the line of the text. Where it can't be told, that is a device's fault too.
+/// or a transfer what it means below it, of a text with the word at fault and the line of the text. Where it can't be told, that is a device's fault too.
 pub fn tell<E: Write>(alloc: Global, done: Result<(), Fault>, text: &[u8], errors: &mut E) -> u8
     ensures done { OnOk done ((result ≡ 0) × (E.contents errors.new ≡ E.contents errors.old)) }
     ensures fault { IfErr done (λ fault. EndsBy fault result (E.contents errors.old) (E.contents errors.new)) }
@@ -26,7 +27,7 @@ pub fn tell<E: Write>(alloc: Global, done: Result<(), Fault>, text: &[u8], error
     }
 }
 
-/// Writes what is told of a fault on a line, and below it what it means where it is a zone's text's.
+/// Writes what is told of a fault on a line, and below it what it means where it is a zone's text's or a transfer's.
 fn write_fault<E: Write>(
     alloc: Global,
     fault: &Fault,
@@ -38,6 +39,7 @@ fn write_fault<E: Write>(
     writeln!(errors, "{fault}")?;
     match fault {
         Fault::Zone(fault) => write_reason(alloc, *fault, text, errors),
+        Fault::Transfer(fault) => write_transfer_reason(*fault, errors),
         _ => Ok(()),
     }
 }
@@ -58,6 +60,30 @@ fn write_reason<E: Write>(
     write_whole(errors, reason_of(fault).as_bytes())?;
     write_whole(errors, shown.as_slice())?;
     write_whole(errors, b"\n")
+}
+
+/// Writes what a fault of a transfer means, on a line.
+fn write_transfer_reason<E: Write>(fault: TransferFault, errors: &mut E) -> io::Result<()>
+    ensures { OnOk result (AppendsSome (E.contents errors.old) (E.contents errors.new)) }
+{
+    write_whole(errors, reason_of_transfer(fault).as_bytes())?;
+    write_whole(errors, b"\n")
+}
+
+/// What a fault of a transfer means, in words.
+fn reason_of_transfer(fault: TransferFault) -> &'static str {
+    match fault {
+        TransferFault::Broken => {
+            "a message can't be read, or the records aren't a list that begins and is closed by an SOA"
+        }
+        TransferFault::WrongBase => {
+            "the records begin at another serial, delete what isn't there, or add what is"
+        }
+        TransferFault::NotInZone => {
+            "a record is outside the zone or over a limit, or the records are no zone"
+        }
+        TransferFault::NoMemory => "the transfer needs more memory than there is",
+    }
 }
 
 /// What a fault of a zone's text means, in words.

@@ -4,10 +4,13 @@
 mod answers;
 mod faults;
 mod negative;
+mod script_transfers;
+mod script_updates;
+mod transfers;
 mod updates;
 mod zones;
 
-use crate::command::{Command, Source, parse_words};
+use crate::command::{Command, Source, Task, parse_words};
 use crate::run::run_text;
 use dns_name::Name;
 use serve_core::Transport;
@@ -41,11 +44,18 @@ fn answer(rt: &impl Abort, transport: Transport) -> Command<'static> {
     }
 }
 
-/// The command `steps` over standard input.
+/// The command `steps` over standard input, with the last version alone kept.
 fn steps() -> Command<'static> {
+    steps_with(0, 16)
+}
+
+/// The command `steps` over standard input, with so many versions kept beside the last, and a window of so many.
+fn steps_with(keep: usize, window: usize) -> Command<'static> {
     Command::Steps {
         zone: Source::Input,
         origin: Name::root(),
+        keep,
+        window,
     }
 }
 
@@ -199,15 +209,15 @@ type 253|\
 type 254|\
 12340100000100000000000003777777076578616d706c6504746573740000fe0001|\
 123481040000000000000000\n\
-IXFR|\
+IXFR without an SOA|\
 123401000001000000000000076578616d706c6504746573740000fb0001|\
-123481040000000000000000\n\
-AXFR|\
+123481010000000000000000\n\
+AXFR over UDP|\
 123401000001000000000000076578616d706c6504746573740000fc0001|\
-123481040000000000000000\n\
+123481010000000000000000\n\
 class 3 and AXFR|\
 123401000001000000000000076578616d706c6504746573740000fc0003|\
-123481040000000000000000\n\
+123481050001000000000000076578616d706c6504746573740000fc0003\n\
 OPCODE 2|\
 12341100000100000000000003777777076578616d706c6504746573740000010001|\
 123491040000000000000000\n\
@@ -382,6 +392,28 @@ fn command_lines(rt: HostRuntime) -> Result<(), Fail> {
     Ok(())
 }
 
+/// How many versions `steps` is told to keep, and the size of its window, where this option has this number.
+fn numbers_of(rt: &HostRuntime, option: &str, number: &str) -> Option<(usize, usize)> {
+    match parse_words(rt.alloc(), &["dnsd", "steps", option, number, "-"]) {
+        Ok(Task::Lines(Command::Steps { keep, window, .. })) => Some((keep, window)),
+        _ => None,
+    }
+}
+
+// From 0 to 8 versions are kept beside the last, by default 0, and the window has 0 to 16 entries, by default 16.
+#[test]
+fn numbers_of_versions(rt: HostRuntime) -> Result<(), Fail> {
+    for number in ["9", "x", ""] {
+        assert!(rt; numbers_of(&rt, "--keep", number).is_none());
+    }
+    assert!(rt; numbers_of(&rt, "--keep", "0") == Some((0, 16)));
+    assert!(rt; numbers_of(&rt, "--keep", "8") == Some((8, 16)));
+    assert!(rt; numbers_of(&rt, "--window", "3") == Some((0, 3)));
+    assert!(rt; numbers_of(&rt, "--window", "0") == Some((0, 0)));
+    assert!(rt; numbers_of(&rt, "--window", "17").is_none());
+    Ok(())
+}
+
 // The words after the program's name, and what carries the replies.
 #[test]
 fn command_transports(rt: HostRuntime) -> Result<(), Fail> {
@@ -392,7 +424,7 @@ fn command_transports(rt: HostRuntime) -> Result<(), Fail> {
     ];
     for (words, asked) in cases {
         match parse_words(rt.alloc(), words) {
-            Ok(Command::Answer { transport, .. }) => {
+            Ok(Task::Lines(Command::Answer { transport, .. })) => {
                 assert_eq!(rt; transport, asked, "{words:?}")
             }
             _ => return Err(Fail::from("no command")),
@@ -458,7 +490,7 @@ fn most_calls(rt: HostRuntime) -> Result<(), Fail> {
 }
 
 /// Lines that are no step.
-const BAD_LINES: [&str; 38] = [
+const BAD_LINES: [&str; 41] = [
     "",
     "load",
     "load ",
@@ -484,6 +516,9 @@ const BAD_LINES: [&str; 38] = [
     "ask A 00",
     "ask",
     "update",
+    "update ",
+    "update 0g",
+    "update 00 00",
     "copy a b",
     "begin",
     "begin x",

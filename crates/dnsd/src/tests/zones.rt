@@ -1,6 +1,6 @@
 //! Zone text as the program reads and prints it (RFC 1035, 5).
 use super::{Told, ZONE, ask, ask_rows, run_command};
-use crate::command::{Command, Source, parse_words};
+use crate::command::{Command, Source, Task, parse_words};
 use crate::run_command as run_with_files;
 use dns_name::Name;
 use std::alloc::{AllocError, Global};
@@ -87,7 +87,7 @@ fn origins(rt: HostRuntime) -> Result<(), Fail> {
         (&["dnsd", "check", "--origin", "x.test.", "-"], below),
     ];
     for (words, text) in cases {
-        let Ok(command) = parse_words(rt.alloc(), words) else {
+        let Ok(Task::Lines(command)) = parse_words(rt.alloc(), words) else {
             return Err(Fail::from("no command"));
         };
         let told = run_command(&rt, &command, zone, "")?;
@@ -411,7 +411,7 @@ fn reasons(rt: HostRuntime) -> Result<(), Fail> {
 #[test]
 fn missing_file(rt: HostRuntime) -> Result<(), Fail> {
     let words = ["dnsd", "check", "no/such/zone"];
-    let Ok(command) = parse_words(rt.alloc(), &words) else {
+    let Ok(Task::Lines(command)) = parse_words(rt.alloc(), &words) else {
         return Err(Fail::from("no command"));
     };
     assert_eq!(rt; run_with_files(&rt, &command)?, 3);

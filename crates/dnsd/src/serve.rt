@@ -1,0 +1,238 @@
+//! Serving a zone on sockets (RFC 1035, 4.2).
+use crate::command::{CommandFault, Source, number_for};
+use crate::fault::{DONE, FAILED, Fault};
+use crate::input::read_zone_text;
+use crate::tell::tell;
+use clap::{Arg, ArgMatches, Command as Parser};
+use dns_name::Name;
+use master_file::read_zone;
+use serve_workers::{Allowed, Plan, serve_zone};
+use std::alloc::{AllocError, Global};
+use std::io::{self, BufReader};
+use std::marker::Brand;
+use std::net::{IpAddr, Net, SocketAddr, TcpListener, TcpStream, UdpSocket};
+use std::rt::Files;
+use std::sync::Wait;
+use std::thread::Threads;
+use std::time::Clock;
+use std::{fs, mem};
+use zone_tree::{Zone, ZoneRead};
+
+/// A zone to be served, and how.
+#[derive(Drop)]
+pub struct Serve<'a> {
+    /// Where the zone's text comes from.
+    pub zone: Source<'a>,
+    /// The origin at the start of the zone's text.
+    pub origin: Name,
+    /// The address and the port, for datagrams and for connections.
+    pub listen: SocketAddr,
+    /// How many workers there are for datagrams, and as many for connections; at most [`MAX_WORKERS`].
+    pub workers: usize,
+    /// How many versions are kept in front of the last; at most [`MAX_KEEP`].
+    pub keep: usize,
+    /// After how many requests or connections a worker ends.
+    pub most: u64,
+    /// The addresses that may update and transfer.
+    pub allowed: Vec<IpAddr>,
+}
+
+/// The option for the address to listen on.
+const LISTEN: &str = "listen";
+
+/// The option for how many workers there are.
+const WORKERS: &str = "workers";
+
+/// The most workers for datagrams, and for connections.
+const MAX_WORKERS: usize = 30;
+
+/// The option for how many versions are kept in front of the last.
+const KEEP: &str = "keep";
+
+/// The most versions that are kept in front of the last.
+const MAX_KEEP: usize = 8;
+
+/// The option for who may update and transfer.
+const ALLOW: &str = "allow";
+
+/// The option for after how many requests or connections a worker ends.
+const COUNT: &str = "count";
+
+/// The command's options.
+pub fn serve_options<'a>(alloc: Global, parser: Parser<'a>) -> Result<Parser<'a>, AllocError> {
+    let listen = Arg::new(alloc, LISTEN)
+        .long(LISTEN)
+        .value_name("ADDR:PORT")
+        .help("the address and the port to listen on, by UDP and TCP")
+        .required(true);
+    let workers = Arg::new(alloc, WORKERS)
+        .long(WORKERS)
+        .value_name("N")
+        .help("how many workers there are for UDP, and as many for TCP, from 1 to 30")
+        .default_value("4");
+    let keep = Arg::new(alloc, KEEP)
+        .long(KEEP)
+        .value_name("N")
+        .help("how many versions are kept in front of the last, at most 8")
+        .default_value("8");
+    let allow = Arg::new(alloc, ALLOW)
+        .long(ALLOW)
+        .value_name("LIST")
+        .help("the addresses that may update and transfer, with commas between them")
+        .default_value("127.0.0.1");
+    let count = Arg::new(alloc, COUNT).long(COUNT).value_name("N").help(
+        "after how many requests or connections a worker ends; else never",
+    );
+    parser
+        .arg(listen)?
+        .arg(workers)?
+        .arg(keep)?
+        .arg(allow)?
+        .arg(count)
+}
+
+/// What the options ask for.
+pub fn serve_of<'a>(
+    alloc: Global,
+    found: &ArgMatches<'a>,
+    zone: Source<'a>,
+    origin: Name,
+) -> Result<Serve<'a>, CommandFault<'a>> {
+    let word = found.get_str(LISTEN).unwrap_or("");
+    let Ok(listen) = word.parse::<SocketAddr>() else {
+        return Err(CommandFault::Address(LISTEN, word));
+    };
+    let workers = number_for(found.get_str(WORKERS), WORKERS, MAX_WORKERS, 4)?;
+    if workers == 0 {
+        return Err(CommandFault::Number(WORKERS, "0"));
+    }
+    let keep = number_for(found.get_str(KEEP), KEEP, MAX_KEEP, MAX_KEEP)?;
+    let allowed = addresses_of(alloc, found.get_str(ALLOW).unwrap_or(""))?;
+    let most = match found.get_str(COUNT) {
+        None => u64::MAX,
+        Some(word) => word
+            .parse::<u64>()
+            .map_err(|_| CommandFault::Number(COUNT, word))?,
+    };
+    Ok(Serve {
+        zone,
+        origin,
+        listen,
+        workers,
+        keep,
+        most,
+        allowed,
+    })
+}
+
+/// The addresses of a list with commas between them.
+fn addresses_of<'a>(alloc: Global, list: &'a str) -> Result<Vec<IpAddr>, CommandFault<'a>> {
+    let mut addresses = Vec::new(alloc);
+    for word in list.split(',') {
+        let Ok(address) = word.parse::<IpAddr>() else {
+            return Err(CommandFault::Address(ALLOW, word));
+        };
+        if addresses.push(address).is_err() {
+            return Err(CommandFault::from(AllocError));
+        }
+    }
+    Ok(addresses)
+}
+
+/// Serves a zone, and gives the program's status: 0 where each worker has done what it may, 1 where the zone is refused, 3 at a
+/// device's fault, a thread that can't be started or want of memory.
+pub fn run_serve<
+    R: Files
+        + Eprint
+        + Input
+        + AllocGlobal
+        + Net<Listener = TcpListener, Stream = TcpStream>
+        + Threads
+        + Wait
+        + Clock
+        + Sync,
+>(rt: &R, serve: &Serve<'_>) -> io::Result<u8> {
+    let alloc = rt.alloc();
+    let text = match serve.zone {
+        Source::Input => read_zone_text(alloc, &mut BufReader::new(alloc, rt.reader())?)?,
+        Source::File(path) => match fs::read(rt, path) {
+            Ok(text) => text,
+            Err(fault) => {
+                eprintln!(rt; "error: the zone's file '{path}' can't be read: {fault}")?;
+                return Ok(FAILED);
+            }
+        },
+    };
+    match read_zone(alloc, text.as_slice(), &serve.origin) {
+        Ok(zone) => {
+            mem::drop(text);
+            serve_on(rt, serve, zone)
+        }
+        Err(fault) => {
+            let mut errors = Vec::new(alloc);
+            let status = tell(alloc, Err(Fault::Zone(fault)), text.as_slice(), &mut errors);
+            rt.eprint(String::from_utf8_lossy(alloc, errors.as_slice())?)?;
+            Ok(status)
+        }
+    }
+}
+
+/// Serves a zone on sockets at an address, once it is told that they stand.
+fn serve_on<
+    R: Eprint
+        + AllocGlobal
+        + Net<Listener = TcpListener, Stream = TcpStream>
+        + Threads
+        + Wait
+        + Clock
+        + Sync,
+>(rt: &R, serve: &Serve<'_>, zone: Zone) -> io::Result<u8> {
+    let bound = match TcpListener::bind(rt, serve.listen) {
+        Ok(listener) => bound_beside(rt, listener),
+        Err(fault) => Err(fault),
+    };
+    let (listener, datagrams, address) = match bound {
+        Ok(bound) => bound,
+        Err(fault) => {
+            let listen = serve.listen;
+            eprintln!(rt; "error: {listen} can't be listened on: {fault}")?;
+            return Ok(FAILED);
+        }
+    };
+    let (apex, serial, records) = (zone.apex().to_text(), zone.serial().0, records_of(&zone));
+    eprintln!(rt; "listening on {address}: {apex} with serial {serial}, {records} records")?;
+    let plan = Plan {
+        datagrams: &datagrams,
+        listener: &listener,
+        workers: serve.workers,
+        keep: serve.keep,
+        most: serve.most,
+        allowed: Allowed::new(serve.allowed.as_slice()),
+    };
+    match serve_zone::<R, Brand>(rt, rt.alloc(), zone, plan) {
+        Ok(()) => Ok(DONE),
+        Err(fault) => {
+            eprintln!(rt; "error: {fault}")?;
+            Ok(FAILED)
+        }
+    }
+}
+
+/// The listener with a socket of datagrams at its address, and that address.
+fn bound_beside<R: Net>(
+    rt: &R,
+    listener: TcpListener,
+) -> io::Result<(TcpListener, UdpSocket, SocketAddr)> {
+    let address = listener.local_addr()?;
+    let datagrams = UdpSocket::bind(rt, address)?;
+    Ok((listener, datagrams, address))
+}
+
+/// How many records a zone has.
+fn records_of(zone: &Zone) -> usize {
+    let mut records = 0usize;
+    for set in zone.walk() {
+        records = records.saturating_add(set.data().len());
+    }
+    records
+}
