@@ -1,6 +1,7 @@
 # `make demo` shows two requests with their replies, from the program as compiled, before any proof; `make dnsd` proves and builds
-# the program; `make test` is the gate; `make mistakes [CRATE="NAME .."]` tries the edits that the gate leaves out.
-.PHONY: demo dnsd test mistakes
+# the program; `make test` is the gate; `make mistakes [CRATE="NAME .."]` tries the edits that the gate leaves out; `make refused
+# [CRATE="NAME .."]` runs tests with each request for memory refused in turn.
+.PHONY: demo dnsd test mistakes refused
 
 demo:
 	./demo.sh
@@ -14,3 +15,6 @@ test:
 
 mistakes:
 	./mistakes.sh $(CRATE)
+
+refused:
+	./refused.sh $(CRATE)

@@ -1,15 +1,13 @@
 #!/usr/bin/env bash
 # Makes a zone and queries, runs the proved program over them, and prints records read a second, queries answered a second
-# and peak memory; then, over a zone of a dozen records, messages parsed and replies written a second.
+# and peak memory; then, over a zone of a dozen records, messages parsed and replies written a second; and last how often a query
+# searches the zone, by bench/searches.sh.
 # Usage: [DNSD=PROGRAM] bench/answer.sh [RECORDS ..], by default 1000 and 100000. `make dnsd` builds the program.
 set -euo pipefail
 cd "$(dirname "$0")/.."
-program=${DNSD:-$PWD/crates/dnsd/out/dnsd}
+. bench/program.sh
 queries=500000
 messages=1000000
-work=$(mktemp -d)
-trap 'rm -rf "$work"' EXIT
-[ -x "$program" ] || { echo "bench: no program at $program: run make dnsd first" >&2; exit 1; }
 
 # The zone: an SOA, an NS, and then hosts of which each tenth is an alias of the one before it.
 zone() {
@@ -87,3 +85,5 @@ read -r written _ < <(measure "$work/zone" "$work/written")
 awk -v q="$messages" -v n="$none" -v p="$parsed" -v w="$written" 'BEGIN {
     printf "%d messages a second passed over, %d parsed, %d answered by ten records\n", q / n, q / p, q / w
 }'
+
+bench/searches.sh

@@ -5,10 +5,7 @@
 # Usage: [DNSD=PROGRAM] bench/load.sh [RECORDS ..], by default 10000 100000 1000000. `make dnsd` builds the program.
 set -euo pipefail
 cd "$(dirname "$0")/.."
-program=${DNSD:-$PWD/crates/dnsd/out/dnsd}
-work=$(mktemp -d)
-trap 'rm -rf "$work"' EXIT
-[ -x "$program" ] || { echo "bench: no program at $program: run make dnsd first" >&2; exit 1; }
+. bench/program.sh
 
 # The zone: of each 20 owners that are added, eight are delegations (three with glue), six hosts (four with mail and a text), three
 # aliases, one an SRV set, one a set of eight addresses, and one has a name of about 190 octets.

@@ -5,11 +5,8 @@
 # Usage: [DNSD=PROGRAM] [UPDATES=N] bench/update.sh [RECORDS ..], by default 100000 updates and 1000 100000 900000 records (a zone of 1,000,000 takes no more).
 set -euo pipefail
 cd "$(dirname "$0")/.."
-program=${DNSD:-$PWD/crates/dnsd/out/dnsd}
+. bench/program.sh
 updates=${UPDATES:-100000}
-work=$(mktemp -d)
-trap 'rm -rf "$work"' EXIT
-[ -x "$program" ] || { echo "bench: no program at $program: run make dnsd first" >&2; exit 1; }
 
 # An SOA, an NS, and hosts in canonical order.
 zone() {
