@@ -74,6 +74,15 @@ loop1 CNAME loop2\n\
 a.b TXT x\n\
 ns1 in A 192.0.2.1\n";
 
+/// The command over standard input and output that words ask for.
+fn lines_command<'a>(alloc: Global, words: &'a [&'a str]) -> Result<Command<'a>, Fail> {
+    match parse_words(alloc, words) {
+        Ok(Task::Lines(command)) => Ok(command),
+        Ok(Task::Serve(_serve)) => Err(Fail::from("a zone to be served")),
+        Err(_fault) => Err(Fail::from("no command")),
+    }
+}
+
 // Names without a final dot are under the origin, which is the root unless one is given.
 #[test]
 fn origins(rt: HostRuntime) -> Result<(), Fail> {
@@ -87,9 +96,7 @@ fn origins(rt: HostRuntime) -> Result<(), Fail> {
         (&["dnsd", "check", "--origin", "x.test.", "-"], below),
     ];
     for (words, text) in cases {
-        let Ok(Task::Lines(command)) = parse_words(rt.alloc(), words) else {
-            return Err(Fail::from("no command"));
-        };
+        let command = lines_command(rt.alloc(), words)?;
         let told = run_command(&rt, &command, zone, "")?;
         told.is(&rt, "an origin", 0, text, "");
     }
@@ -411,9 +418,7 @@ fn reasons(rt: HostRuntime) -> Result<(), Fail> {
 #[test]
 fn missing_file(rt: HostRuntime) -> Result<(), Fail> {
     let words = ["dnsd", "check", "no/such/zone"];
-    let Ok(Task::Lines(command)) = parse_words(rt.alloc(), &words) else {
-        return Err(Fail::from("no command"));
-    };
+    let command = lines_command(rt.alloc(), &words)?;
     assert_eq!(rt; run_with_files(&rt, &command)?, 3);
     Ok(())
 }
