@@ -1,5 +1,5 @@
 -- The positions of a table ascend.
-use Rattle.std.proofs.Common.{◌≡◌, ℕ, suc, zero, ◌+◌, ◌<◌, ◌≤◌, ◌&&◌, Bool, true, false, nat_lt, nat_le, cond, List, [], ◌∷◌, ◌++◌, length, take, map, All, Option, Some, None, refl, sym, ap, subst, ◌∙◌, arith}
+use Rattle.std.proofs.Common.{◌≡◌, ℕ, suc, zero, ◌+◌, ◌<◌, ◌≤◌, ◌&&◌, Bool, true, false, nat_lt, nat_le, cond, List, [], ◌∷◌, ◌++◌, length, take, All, Option, Some, None, refl, sym, subst, arith}
 use Rattle.std.specs.List.{AllPairs}
 use Rattle.std.specs.List.Sorted.{IsStrictlyIncreasing}
 use Rattle.std.proofs.lemmas.List.{length-take-le, append_assoc, append-nil}
@@ -7,7 +7,7 @@ use Rattle.std.proofs.lemmas.List.Elements.{All-nil, All-cons, All-head, All-tai
 use Rattle.std.proofs.lemmas.List.Kept.{AllPairs-cons, AllPairs-from_increasing}
 use Rattle.wire_names.specs.Table.{Table, IsTable, table_of, position_in, enter, entered}
 use Rattle.wire_names.specs.Written.{new_entries, entries_of}
-use Rattle.wire_names.proofs.DraftLemmas.{places, entries_none, entries_some}
+use Rattle.wire_names.proofs.EntryLemmas.{places, entries_none, entries_some}
 use Rattle.wire_names.proofs.LongerLemmas.{spells_within}
 use Rattle.wire_names.proofs.TableLemmas.{target_spells}
 
@@ -90,17 +90,14 @@ below_end msg positions table k d h =
     spells_within msg _ _ own.0 _ own.1
 
 -- the positions behind a name that was written ascend
-pub positions_ascend : (compress : Bool) (out positions inside starts own_starts own : List ℕ) (at : ℕ) (name : List (List ℕ)) → at ≤ length out → IsTable (take at out) positions → inside ≡ positions → IsStrictlyIncreasing inside → map (λ start. length (take at out) + start) starts ≡ places (entries_of compress (table_of (take at out) positions) (length (take at out)) name) → own_starts ≡ starts → own ≡ entered (λ p. p) inside (map (λ start. at + start) own_starts) → IsStrictlyIncreasing own
-positions_ascend compress out positions inside starts own_starts own at name within table same up p s e =
+pub positions_ascend : (compress : Bool) (out positions inside own : List ℕ) (at : ℕ) (name : List (List ℕ)) → at ≤ length out → IsTable (take at out) positions → inside ≡ positions → IsStrictlyIncreasing inside → own ≡ entered (λ p. p) inside (places (entries_of compress (table_of (take at out) positions) at name)) → IsStrictlyIncreasing own
+positions_ascend compress out positions inside own at name within table same up e =
     let msg = take at out in
     let len : length msg ≡ at = length-take-le at out within in
-    let new = entries_of compress (table_of msg positions) (length msg) name in
-    let entries = IsFrom-entries compress (table_of msg positions) (length msg) name in
-    let low = below_end msg positions table in
+    let new = entries_of compress (table_of msg positions) at name in
+    let entries = IsFrom-entries compress (table_of msg positions) at name in
+    let low = subst (λ (n : ℕ). All (λ (x : ℕ). x < n) positions) len (below_end msg positions table) in
     let all : Ascends (inside ++ places new) =
-    ascends_append (length msg) inside (places new) (AllPairs-from_increasing inside up) entries.up (subst (All (λ (x : ℕ). x < length msg)) (sym same) low) entries.from in
-    let starts_are : map (λ start. at + start) own_starts ≡ places new =
-    ap (map (λ (start : ℕ). at + start)) s ∙ ap (λ (n : ℕ). map (λ (start : ℕ). n + start) starts) (sym len) ∙ p in
-    let own_is : own ≡ entered (λ q. q) inside (places new) = e ∙ ap (entered (λ (q : ℕ). q) inside) starts_are in
-    let whole : Ascends own = subst Ascends (sym own_is) (entered_ascends inside (places new) all) in
+    ascends_append at inside (places new) (AllPairs-from_increasing inside up) entries.up (subst (All (λ (x : ℕ). x < at)) (sym same) low) entries.from in
+    let whole : Ascends own = subst Ascends (sym e) (entered_ascends inside (places new) all) in
     λ k h. whole k (k + 1) 0 (omega arith) h

@@ -1,7 +1,9 @@
 pub mod AscendLemmas
-pub mod DraftLemmas
+pub mod CutLemmas
+pub mod EntryLemmas
 pub mod GrammarLemmas
 pub mod LongerLemmas
+pub mod OtherwiseLemmas
 pub mod OverwrittenLemmas
 pub mod ReadLemmas
 pub mod TableLemmas

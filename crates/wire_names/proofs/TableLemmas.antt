@@ -1,5 +1,5 @@
 -- The table of positions: what is spelt where, and what is entered.
-use Rattle.std.proofs.Common.{◌≡◌, ℕ, ◌+◌, ◌<◌, ◌≤◌, ◌↔◌, Bool, true, false, not, IsTrue, cond, is_some, List, [], ◌∷◌, length, map, min, All, get_or, drop, ⊎_elim, Option, Some, None, Result, Ok, Err, Bor, refl, sym, ap, subst, ◌∙◌, arith}
+use Rattle.std.proofs.Common.{◌≡◌, ℕ, ◌+◌, ◌<◌, ◌≤◌, ◌↔◌, Bool, true, false, not, IsTrue, cond, is_some, List, [], ◌∷◌, length, map, min, All, get_or, drop, ⊎_elim, Option, Some, None, MatchOption, Result, Ok, Err, Bor, refl, sym, ap, subst, ◌∙◌, arith}
 use Rattle.std.specs.Bool.{Decides}
 use Rattle.std.specs.Cmp.Lexicographic.{pointwise_decides}
 use Rattle.std.specs.List.{filter, fold, reduce}
@@ -9,9 +9,9 @@ use Rattle.std.proofs.lemmas.Bool.{cases_lt}
 use Rattle.std.proofs.lemmas.List.{drop_more, length-drop, get_or-drop, get_or_default}
 use Rattle.std.proofs.lemmas.List.Elements.{All-nil, All-cons, All-head, All-tail, All-map, All-filter}
 use Rattle.std.proofs.lemmas.List.Kept.{AllPairs-from_increasing}
-use Rattle.std.specs.Iterator.{YieldsFirstRef}
 use Rattle.std.specs.Str.{bytes_eq}
 use Rattle.std.proofs.lemmas.Slice.Eq.{bytes_eq-Decides}
+use Rattle.dns_name.specs.Labels.{labels_in, IsFirstLabel}
 use Rattle.wire_names.specs.Parts.{part_at, label_at}
 use Rattle.wire_names.specs.Spells.{Spells, closing, label, pointer}
 use Rattle.wire_names.specs.declared.part.NameReadFault.{NameReadFault}
@@ -87,16 +87,16 @@ closing_nil : (msg : List ℕ) (at run place : ℕ) (name rest : List (List ℕ)
 closing_nil msg at run place name rest alike p nil =
     (λ e. alike.there (place + 1) (subst (λ (x : List (List ℕ)). Spells msg run place x (place + 1)) (sym nil) (closing p refl)), λ s. refl)
 
-pub answers_closing : (msg : List ℕ) (at run place : ℕ) (name rest after : List (List ℕ)) (b : Bool) (o : Option (Bor (List ℕ))) → SpellsAlike msg at run place name rest → part_at msg place ≡ Ok Closing → YieldsFirstRef (λ (x : List (List ℕ)). x) rest o after → is_some o ≡ not b → Answers msg at name b
-answers_closing msg at run place name rest after true None alike p e n = closing_nil msg at run place name rest alike p e.0
-answers_closing msg at run place name rest after false None alike p e n = cc
-answers_closing msg at run place name rest after true (Some x) alike p e n = cc
-answers_closing msg at run place name rest after false (Some x) alike p e n = answers_no msg at run place name rest alike (λ next s. let nil = spells_closing msg run place next rest p s in let other : rest ≡ x.now ∷ after = e in cc)
+-- what is told of the first label: none, or one in front of the others
+pub answers_closing : (msg : List ℕ) (at run place : ℕ) (name : List (List ℕ)) (rest : List ℕ) (b : Bool) (o : Option (Bor (List ℕ) × Bor (List ℕ))) → SpellsAlike msg at run place name (labels_in rest) → part_at msg place ≡ Ok Closing → MatchOption o (labels_in rest ≡ []) (λ parts. IsFirstLabel rest parts.0.now parts.1.now) → is_some o ≡ not b → Answers msg at name b
+answers_closing msg at run place name rest true None alike p e n = closing_nil msg at run place name (labels_in rest) alike p e
+answers_closing msg at run place name rest false None alike p e n = cc
+answers_closing msg at run place name rest true (Some x) alike p e n = cc
+answers_closing msg at run place name rest false (Some x) alike p e n = answers_no msg at run place name (labels_in rest) alike (λ next s. let nil = spells_closing msg run place next (labels_in rest) p s in let other = e.labels in cc)
 
-pub answers_end : (msg : List ℕ) (at run place n : ℕ) (name rest after : List (List ℕ)) (o : Option (Bor (List ℕ))) → SpellsAlike msg at run place name rest → part_at msg place ≡ Ok (Label n) → YieldsFirstRef (λ (x : List (List ℕ)). x) rest o after → o ≡ None → Answers msg at name false
-answers_end msg at run place n name rest after None alike p e none =
-    answers_no msg at run place name rest alike (λ next s. let is = (spells_label msg run place next n rest p s).is in let nil : rest ≡ [] = e.0 in cc)
-answers_end msg at run place n name rest after (Some x) alike p e none = cc
+pub answers_end : (msg : List ℕ) (at run place n : ℕ) (name rest : List (List ℕ)) → SpellsAlike msg at run place name rest → part_at msg place ≡ Ok (Label n) → rest ≡ [] → Answers msg at name false
+answers_end msg at run place n name rest alike p nil =
+    answers_no msg at run place name rest alike (λ next s. let is = (spells_label msg run place next n rest p s).is in cc)
 
 equal_from : (e b : Bool) → b ≡ not e → b ≡ false → e ≡ true
 equal_from true b t f = refl

@@ -10,7 +10,7 @@ use Rattle.wire_names.specs.Spells.{Spells, closing, label, pointer}
 use Rattle.wire_names.specs.Table.{Table, IsTable, IsTarget, spelt_at, table_of, position_in, enter, entered}
 use Rattle.wire_names.specs.Written.{pointer_to, name_octets, new_entries, written, entries_of, table_after, IsOverwritten}
 use Rattle.wire_names.specs.declared.part.Part.TheVariants.{Label, Pointer}
-use Rattle.wire_names.proofs.DraftLemmas.{places, octets_none, octets_some, entries_none, entries_some}
+use Rattle.wire_names.proofs.EntryLemmas.{places, octets_none, octets_some, entries_none, entries_some}
 use Rattle.wire_names.proofs.LongerLemmas.{spells_longer, spells_within, ReadsName, ReadsName-spells, IsTable-longer, table_longer}
 use Rattle.wire_names.proofs.OverwrittenLemmas.{octets_are}
 use Rattle.wire_names.proofs.TableLemmas.{target_spells, position_in-found}
@@ -236,14 +236,6 @@ pub after_name : (compress : Bool) (msg positions : List ℕ) (name : List (List
 after_name compress msg positions name table lawful =
     after_entries msg (written compress (table_of msg positions) name) positions (entries_of compress (table_of msg positions) (length msg) name) table (written_read compress msg positions name table lawful)
 
--- what a write leaves
-pub after_write : (compress : Bool) (msg whole positions starts own : List ℕ) (name : List (List ℕ)) → IsTable msg positions → IsName name → whole ≡ msg ++ written compress (table_of msg positions) name → map (λ start. length msg + start) starts ≡ places (entries_of compress (table_of msg positions) (length msg) name) → own ≡ entered (λ p. p) positions (map (λ start. length msg + start) starts) → IsTableOf whole own (table_after compress (table_of msg positions) (length msg) name)
-after_write compress msg whole positions starts own name table lawful text places_are own_is =
-    let after = after_name compress msg positions name table lawful in
-    let same : own ≡ entered (λ p. p) positions (places (entries_of compress (table_of msg positions) (length msg) name)) = own_is ∙ ap (λ (x : List ℕ). entered (λ p. p) positions x) places_are in
-    subst (λ (x : List ℕ). IsTableOf x own (table_after compress (table_of msg positions) (length msg) name)) (sym text)
-    (subst (λ (x : List ℕ). IsTableOf (msg ++ written compress (table_of msg positions) name) x (table_after compress (table_of msg positions) (length msg) name)) (sym same) after)
-
 -- a name in full is one under an empty table
 wire_text : (name : List (List ℕ)) → name_octets [] name ≡ wire_of name
 wire_text [] = refl
@@ -256,14 +248,15 @@ written_spelt false msg positions behind name table lawful =
     let whole = name_spelt msg [] msg behind (length msg) name (IsBehind-none msg [] (All-nil (IsTarget msg))) lawful.labels in
     subst (λ (x : List ℕ). Spells (msg ++ (x ++ behind)) (length msg) (length msg) name (length msg + length x)) (wire_text name) whole
 
--- the same of a buffer that is written into
-pub after_put : (compress : Bool) (out new positions inside octets text starts own_starts own : List ℕ) (at next : ℕ) (name : List (List ℕ)) → at ≤ length out → IsTable (take at out) positions → inside ≡ positions → IsName name → IsOverwritten out new at octets next → octets ≡ text → text ≡ written compress (table_of (take at out) positions) name → map (λ start. length (take at out) + start) starts ≡ places (entries_of compress (table_of (take at out) positions) (length (take at out)) name) → own_starts ≡ starts → own ≡ entered (λ p. p) inside (map (λ start. at + start) own_starts) → IsTableOf (take next new) own (table_after compress (table_of (take at out) positions) at name)
-after_put compress out new positions inside octets text starts own_starts own at next name within table same lawful put o t p s e =
-    let len : length (take at out) ≡ at = length-take-le at out within in
-    let whole : take next new ≡ take at out ++ written compress (table_of (take at out) positions) name = octets_are out new at octets next put ∙ ap (λ (x : List ℕ). take at out ++ x) (o ∙ t) in
-    let own_is : own ≡ entered (λ p. p) positions (map (λ start. length (take at out) + start) starts) =
-    e ∙ ap (λ (x : List ℕ). entered (λ p. p) x (map (λ (start : ℕ). at + start) own_starts)) same
-    ∙ ap (λ (x : List ℕ). entered (λ p. p) positions (map (λ (start : ℕ). at + start) x)) s
-    ∙ ap (λ (n : ℕ). entered (λ p. p) positions (map (λ (start : ℕ). n + start) starts)) (sym len) in
-    let after = after_write compress (take at out) (take next new) positions starts own name table lawful whole p own_is in
-    subst (λ (n : ℕ). IsTableOf (take next new) own (table_after compress (table_of (take at out) positions) n name)) len after
+-- what a write into a buffer leaves
+pub after_put : (compress : Bool) (out new positions inside octets own : List ℕ) (at next : ℕ) (name : List (List ℕ)) → at ≤ length out → IsTable (take at out) positions → inside ≡ positions → IsName name → IsOverwritten out new at octets next → written compress (table_of (take at out) positions) name ≡ octets → own ≡ entered (λ p. p) inside (places (entries_of compress (table_of (take at out) positions) at name)) → IsTableOf (take next new) own (table_after compress (table_of (take at out) positions) at name)
+after_put compress out new positions inside octets own at next name within table same lawful put text e =
+    let msg = take at out in
+    let len : length msg ≡ at = length-take-le at out within in
+    let whole : take next new ≡ msg ++ written compress (table_of msg positions) name = octets_are out new at octets next put ∙ ap (λ (x : List ℕ). msg ++ x) (sym text) in
+    let own_is : own ≡ entered (λ p. p) positions (places (entries_of compress (table_of msg positions) at name)) =
+    e ∙ ap (λ (x : List ℕ). entered (λ p. p) x (places (entries_of compress (table_of msg positions) at name))) same in
+    let after = after_name compress msg positions name table lawful in
+    let there = subst (λ (n : ℕ). IsTableOf (msg ++ written compress (table_of msg positions) name) (entered (λ p. p) positions (places (entries_of compress (table_of msg positions) n name))) (table_after compress (table_of msg positions) n name)) len after in
+    subst (λ (x : List ℕ). IsTableOf x own (table_after compress (table_of msg positions) at name)) (sym whole)
+    (subst (λ (x : List ℕ). IsTableOf (msg ++ written compress (table_of msg positions) name) x (table_after compress (table_of msg positions) at name)) (sym own_is) there)

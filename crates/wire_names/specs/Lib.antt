@@ -1,3 +1,4 @@
+pub mod Cut
 pub mod Examples
 pub mod NameAt
 pub mod Parts

@@ -26,6 +26,11 @@ new_entries table at (label ∷ name) =
       | None ↦ (at, label ∷ name) ∷ new_entries table (at + 1 + length label) name
     ]
 
+-- the positions of labels that stand one behind another, each behind its length, from a position on
+abbrev pub starts_of : ℕ → Name → List ℕ
+starts_of at [] = []
+starts_of at (label ∷ name) = at ∷ starts_of (at + 1 + length label) name
+
 -- a name's octets, compressed or in full: a name in the data of an SRV record is never compressed (RFC 2782)
 abbrev pub written : Bool → Table → Name → List ℕ
 written compress table name = if compress then name_octets table name else wire_of name

@@ -1,12 +1,14 @@
 //! The names of a message that pointers can name.
-ghost use Rattle.std.specs.Prelude.{◌≡◌, ℕ, ◌+◌, ◌↔◌, [], IsTrue, map};
+ghost use Rattle.std.specs.Prelude.{◌≡◌, ℕ, ◌+◌, ◌<◌, ◌^◌, ◌↔◌, [], length, take, IsTrue};
 ghost use Rattle.std.specs.List.Sorted.{IsStrictlyIncreasing};
+ghost use Rattle.dns_name.specs.Labels.{labels_in, IsWhole};
 ghost use Rattle.wire_names.specs.Spells.{Spells};
-ghost use Rattle.wire_names.specs.Table.{IsTable, table_of, position_in, entered};
+ghost use Rattle.wire_names.specs.Table.{IsTable, table_of, position_in, enter, entered};
+ghost use Rattle.wire_names.specs.Written.{starts_of};
 
-use crate::part::{Part, label_at, part_at};
+use crate::label::first_label;
+use crate::part::{POINTER, Part, label_at, part_at};
 use arrayvec::ArrayVec;
-use dns_name::Name;
 use std::marker::Model;
 
 /// The most positions that a table has (own).
@@ -39,51 +41,99 @@ impl Positions {
         }
     }
 
-    /// The earliest position at which the name is spelt, case included: the first in a table that ascends.
-    pub(crate) fn position_of(&self, msg: &[u8], name: &Name) -> Option<u16>
+    /// The earliest position at which the name in these octets is spelt, case included: the first in a table that ascends.
+    pub(crate) fn position_of(&self, msg: &[u8], octets: &[u8]) -> Option<u16>
         requires table { IsTable msg.now self.now }
         requires ascending { IsStrictlyIncreasing self.now }
-        ensures { result ≡ position_in (table_of msg.now self.now) name.now }
+        requires whole { IsWhole octets.now }
+        ensures { result ≡ position_in (table_of msg.now self.now) (labels_in octets.now) }
     {
         for position in self.own.as_slice() {
-            if is_spelt(msg, usize::from(*position), name) {
+            if is_spelt(msg, usize::from(*position), octets) {
                 return Some(*position);
             }
         }
         None
     }
 
-    /// Enters the positions of labels, each so many octets behind a position: as long as there is room, and none that
-    /// a pointer can't name (RFC 1035, 4.1.4).
-    pub(crate) fn enter(&mut self, at: usize, starts: &[u8])
-        ensures { self.new ≡ entered (λ position. position) self.old (map (λ start. at + start) starts.now) }
+    /// Enters the positions of so many labels of a name whose octets stand at a position: as long as there is room, and none
+    /// that a pointer can't name (RFC 1035, 4.1.4).
+    pub(crate) fn enter(&mut self, at: usize, octets: &[u8], count: usize)
+        requires whole { IsWhole octets.now }
+        requires within { at + length octets.now < 2 ^ 64 }
+        ensures { self.new ≡ entered (λ position. position) self.old (starts_of at (take count (labels_in octets.now))) }
     {
-        for start in starts {
-            let position = at.saturating_add(usize::from(*start));
-            if !self.own.is_full() && position <= MAX_TARGET {
-                self.own.push(position as u16);
-            }
+        let mut rest = octets;
+        let mut place = at;
+        for _i in 0..count {
+            let Some((label, behind)) = first_label(rest) else {
+                return;
+            };
+            self.enter_one(place);
+            place += 1 + label.len();
+            rest = behind;
+        }
+    }
+
+    /// Enters a position where there is room, and where a pointer can name it (RFC 1035, 4.1.4).
+    fn enter_one(&mut self, position: usize)
+        ensures { self.new ≡ enter (λ position. position) self.old position }
+    {
+        if !self.own.is_full() && position <= MAX_TARGET {
+            self.own.push(position as u16);
         }
     }
 }
 
-/// Whether the octets at a position spell this name, case included.
-fn is_spelt(msg: &[u8], at: usize, name: &Name) -> bool
-    ensures { IsTrue result ↔ ((next : ℕ) × Spells msg.now at at name.now next) }
+/// Whether the octets at a position spell the name in these octets, case included.
+fn is_spelt(msg: &[u8], at: usize, octets: &[u8]) -> bool
+    requires { IsWhole octets.now }
+    ensures { IsTrue result ↔ ((next : ℕ) × Spells msg.now at at (labels_in octets.now) next) }
 {
-    let mut labels = name.labels();
+    if begins_otherwise(msg, at, octets) {
+        return false;
+    }
+    spells(msg, at, octets)
+}
+
+/// Whether a label at a position is seen at once to be another than the first of these octets: one of another length, or of
+/// another last octet. Most positions of a table are passed over by it.
+fn begins_otherwise(msg: &[u8], at: usize, octets: &[u8]) -> bool
+    requires { IsWhole octets.now }
+    ensures { IsTrue result → (next : ℕ) → Spells msg.now at at (labels_in octets.now) next → ⊥ }
+{
+    let (Some(there), Some(own)) = (msg.get(at), octets.first()) else {
+        return false;
+    };
+    let len = usize::from(*own);
+    if usize::from(*there) != len {
+        return usize::from(*there) < POINTER;
+    }
+    match (msg.get(at + len), octets.get(len)) {
+        (Some(last), Some(own)) => last != own,
+        _ => false,
+    }
+}
+
+/// Whether the octets at a position spell the name in these octets, label by label.
+fn spells(msg: &[u8], at: usize, octets: &[u8]) -> bool
+    requires { IsWhole octets.now }
+    ensures { IsTrue result ↔ ((next : ℕ) × Spells msg.now at at (labels_in octets.now) next) }
+{
+    let mut rest = octets;
     let mut run = at;
     let mut place = at;
     loop {
         match part_at(msg, place) {
-            Ok(Part::Closing) => return labels.next().is_none(),
+            Ok(Part::Closing) => return first_label(rest).is_none(),
             Ok(Part::Label(len)) => {
-                let Some(label) = labels.next() else {
+                let Some((label, behind)) = first_label(rest) else {
                     return false;
                 };
                 if label != label_at(msg, place, len) {
                     return false;
                 }
+                rest = behind;
                 place += 1 + len;
             }
             Ok(Part::Pointer(target)) if target < run => {

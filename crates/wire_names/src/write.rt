@@ -1,13 +1,15 @@
 //! Writing a name into a message, with pointers to names in front of it (RFC 1035, 4.1.4).
-ghost use Rattle.std.specs.Prelude.{◌≡◌, ◌+◌, ◌<◌, ◌≤◌, ◌++◌, ◌∷◌, [], length, map, take, IfSome, IsNone};
-ghost use Rattle.dns_name.specs.Name.{wire_of, IsName};
+ghost use Rattle.std.specs.Prelude.{◌≡◌, true, ◌<◌, ◌≤◌, ◌++◌, [], length, take, IfSome, IsNone};
+ghost use Rattle.dns_name.specs.Labels.{IsWhole};
+ghost use Rattle.dns_name.specs.Name.{IsName};
+ghost use Rattle.wire_names.specs.Cut.{cut_octets, IsCut};
 ghost use Rattle.wire_names.specs.Table.{IsTable, table_of};
-ghost use Rattle.wire_names.specs.Written.{name_octets, new_entries, pointer_to, written, entries_of, table_after, WritesOctets};
+ghost use Rattle.wire_names.specs.Written.{pointer_to, written, table_after, WritesOctets};
 
+use crate::label::first_label;
 use crate::part::POINTER;
 use crate::table::Positions;
-use arrayvec::ArrayVec;
-use dns_name::{MAX_NAME, Name};
+use dns_name::Name;
 use std::marker::Model;
 
 /// Writes names into one message, and keeps the positions of those that pointers can name (RFC 1035, 4.1.4). Contracts
@@ -29,11 +31,13 @@ impl Model for NameWriter {
     ghost invariant = { λ a. IsStrictlyIncreasing a.positions };
 }
 
-/// A name as it is to be written, and how many octets of it stand before each label that is written out.
-#[derive(Drop)]
-struct Draft {
-    octets: ArrayVec<u8, MAX_NAME>,
-    starts: ArrayVec<u8, MAX_NAME>,
+/// How a name is written behind a message: so many labels from the front of its octets, which end behind so many of them, and
+/// then a pointer, where there is one.
+#[derive(Clone, Copy)]
+struct Cut {
+    labels: usize,
+    len: usize,
+    target: Option<u16>,
 }
 
 impl NameWriter {
@@ -62,47 +66,56 @@ impl NameWriter {
         ensures unchanged { IsNone result → self.new ≡ self.old }
         ensures lawful { IsName name.now }
     {
-        let draft = self.draft(&out[..at], name, compress);
-        let next = put(out, at, draft.octets.as_slice())?;
-        self.positions.enter(at, draft.starts.as_slice());
+        let octets = name.wire();
+        let cut = self.cut(&out[..at], octets, compress);
+        let next = put_cut(out, at, octets, cut)?;
+        self.positions.enter(at, octets, cut.labels);
         Some(next)
     }
 
-    /// The name as it is written behind the message.
-    fn draft(&self, msg: &[u8], name: &Name, compress: bool) -> Draft
-        requires { IsTable msg.now self.now }
-        ensures octets { result.octets.items ≡ written compress (table_of msg.now self.now) name.now }
-        ensures starts { map (λ start. length msg.now + start) result.starts.items ≡ map (λ entry. entry.0) (entries_of compress (table_of msg.now self.now) (length msg.now) name.now) }
-        ensures lawful { IsName name.now }
+    /// How the name in these octets is written behind the message.
+    fn cut(&self, msg: &[u8], octets: &[u8], compress: bool) -> Cut
+        requires table { IsTable msg.now self.now }
+        requires whole { IsWhole octets.now }
+        ensures { IsCut compress (table_of msg.now self.now) octets.now result }
     {
-        let wire = name.wire();
         if compress {
-            self.compressed(msg, name)
+            self.compressed(msg, octets)
         } else {
-            Draft::whole(wire)
+            Cut {
+                labels: 0,
+                len: octets.len(),
+                target: None,
+            }
         }
     }
 
-    /// The name as it is written behind the message with compression.
-    fn compressed(&self, msg: &[u8], name: &Name) -> Draft
+    /// How the name in these octets is written behind the message with compression.
+    fn compressed(&self, msg: &[u8], octets: &[u8]) -> Cut
         requires table { IsTable msg.now self.now }
-        requires lawful { IsName name.now }
-        ensures octets { result.octets.items ≡ name_octets (table_of msg.now self.now) name.now }
-        ensures starts { map (λ start. length msg.now + start) result.starts.items ≡ map (λ entry. entry.0) (new_entries (table_of msg.now self.now) (length msg.now) name.now) }
+        requires whole { IsWhole octets.now }
+        ensures { IsCut true (table_of msg.now self.now) octets.now result }
     {
-        let mut draft = Draft::empty();
-        let mut rest = name.copy();
-        while let Some(behind) = rest.parent() {
-            if let Some(target) = self.positions.position_of(msg, &rest) {
-                draft.put_pointer(target);
-                return draft;
-            }
-            let octets = rest.wire();
-            draft.put_label(&octets[..octets.len() - behind.wire().len()]);
-            rest = behind;
+        let Some((label, behind)) = first_label(octets) else {
+            return Cut {
+                labels: 0,
+                len: 1,
+                target: None,
+            };
+        };
+        if let Some(target) = self.positions.position_of(msg, octets) {
+            return Cut {
+                labels: 0,
+                len: 0,
+                target: Some(target),
+            };
         }
-        draft.octets.push(0);
-        draft
+        let rest = self.compressed(msg, behind);
+        Cut {
+            labels: rest.labels + 1,
+            len: rest.len + 1 + label.len(),
+            target: rest.target,
+        }
     }
 }
 
@@ -115,51 +128,33 @@ impl Default for NameWriter {
     }
 }
 
-impl Draft {
-    /// Nothing.
-    fn empty() -> Draft
-        ensures octets { result.octets.items ≡ [] }
-        ensures starts { result.starts.items ≡ [] }
-    {
-        Draft {
-            octets: ArrayVec::new(),
-            starts: ArrayVec::new(),
-        }
+/// Puts a name's octets at a position as they are cut: the position behind them, or None where they don't fit, and then
+/// nothing is written. What is in front of them and behind them stays.
+fn put_cut(out: &mut [u8], at: usize, octets: &[u8], cut: Cut) -> Option<usize>
+    requires within { at ≤ length out.old }
+    requires whole { cut.len ≤ length octets.now }
+    requires low { IfSome cut.target (λ target. target < 16384) }
+    ensures { WritesOctets out.old out.new at (cut_octets octets.now cut.len cut.target) result }
+{
+    let front = &octets[..cut.len];
+    match cut.target {
+        None => put(out, at, front),
+        Some(target) => put_both(out, at, front, target),
     }
+}
 
-    /// A name in full, with no label that can be pointed to.
-    fn whole(wire: &[u8]) -> Draft
-        requires { length wire.now ≤ MAX_NAME }
-        ensures octets { result.octets.items ≡ wire.now }
-        ensures starts { result.starts.items ≡ [] }
-    {
-        let mut draft = Draft::empty();
-        let _ = draft.octets.try_extend_from_slice(wire);
-        draft
+/// Puts octets at a position and a pointer behind them, as [`put`] does (RFC 1035, 4.1.4).
+fn put_both(out: &mut [u8], at: usize, front: &[u8], target: u16) -> Option<usize>
+    requires within { at ≤ length out.old }
+    requires low { target < 16384 }
+    ensures { WritesOctets out.old out.new at (front.now ++ pointer_to target) result }
+{
+    if front.len() + 2 > out.len() - at {
+        return None;
     }
-
-    /// Puts a label behind the others, its length octet in front.
-    fn put_label(&mut self, octets: &[u8])
-        requires octets { length self.old.octets.items + length octets.now ≤ MAX_NAME }
-        requires starts { length self.old.starts.items < MAX_NAME }
-        ensures octets { self.new.octets.items ≡ self.old.octets.items ++ octets.now }
-        ensures starts { self.new.starts.items ≡ self.old.starts.items ++ length self.old.octets.items ∷ [] }
-    {
-        self.starts.push(self.octets.len() as u8);
-        let _ = self.octets.try_extend_from_slice(octets);
-    }
-
-    /// Puts a pointer behind the labels.
-    fn put_pointer(&mut self, target: u16)
-        requires low { target < 16384 }
-        requires octets { length self.old.octets.items + 2 ≤ MAX_NAME }
-        ensures octets { self.new.octets.items ≡ self.old.octets.items ++ pointer_to target }
-        ensures starts { self.new.starts.items ≡ self.old.starts.items }
-    {
-        let [high, low] = target.to_be_bytes();
-        self.octets.push(POINTER as u8 + high);
-        self.octets.push(low);
-    }
+    let [high, low] = target.to_be_bytes();
+    let behind = put(out, at, front)?;
+    put(out, behind, &[POINTER as u8 + high, low])
 }
 
 /// Puts octets at a position: the position behind them, or None where they don't fit, and then nothing is written.

@@ -1,7 +1,13 @@
-use Rattle.std.proofs.Common.{◌≡◌, ◌+◌, drop, map}
+use Rattle.std.proofs.Common.{◌≡◌, ◌+◌, ◌-◌, ◌<◌, ◌^◌, length, take}
+use Rattle.dns_name.specs.Labels.{labels_in, IsWhole}
 use Rattle.wire_names.specs.Table.{entered}
+use Rattle.wire_names.specs.Written.{starts_of}
 use Rattle.wire_names.proofs.table.Positions.enter.Given as goal
 
 -- what is left completes what is entered
-abbrev pub invariant-loop-start : goal.invariant-loop-start
-invariant-loop-start l = entered (λ p. p) l.self-inside.own.items (map (λ s. l.at + s) (drop l.start-index l.starts)) ≡ entered (λ p. p) l.initial.self-inside.own.items (map (λ s. l.at + s) l.starts)
+abbrev pub invariant-loop-i : goal.invariant-loop-i
+invariant-loop-i l = record {
+  whole : IsWhole l.rest;
+  within : l.place + length l.rest < 2 ^ 64;
+  same : entered (λ p. p) l.self (starts_of l.place (take (l.count - l._i) (labels_in l.rest))) ≡ entered (λ p. p) l.initial.self (starts_of l.at (take l.count (labels_in l.octets)));
+}

@@ -1,0 +1,112 @@
+-- Names cut where a pointer stands for the rest.
+use Rattle.std.proofs.Common.{◌≡◌, ℕ, suc, ◌+◌, ◌-◌, ◌/◌, ◌%◌, ◌<◌, ◌≤◌, Bool, true, false, List, [], ◌∷◌, ◌++◌, length, take, get_or, Option, Some, None, refl, sym, ap, subst, ◌∙◌, add-one, arith}
+use Rattle.std.proofs.Math.Seq.{take-append-add, take-length}
+use Rattle.std.proofs.lemmas.List.{length-append, append_assoc}
+use Rattle.dns_name.specs.Labels.{labels_in, IsWhole, IsFirstLabel}
+use Rattle.dns_name.specs.Name.{wire_of, IsName}
+use Rattle.dns_name.proofs.LabelLemmas.{wire_of-labels_in, labels_in-wire_of}
+use Rattle.wire_names.specs.Cut.{cut_octets, IsCut}
+use Rattle.wire_names.specs.Table.{Table, position_in, enter, entered}
+use Rattle.wire_names.specs.Written.{name_octets, new_entries, pointer_to, written, entries_of, starts_of, IsOverwritten, WritesOctets}
+use Rattle.wire_names.specs.declared.write.Cut.{Cut}
+use Rattle.wire_names.proofs.EntryLemmas.{places, octets_none, octets_some, entries_none, entries_some}
+use Rattle.wire_names.proofs.OverwrittenLemmas.{length_stays, IsOverwritten-then}
+
+pub pointer_octets : (target : ℕ) (octets : List ℕ) → target < 16384 → octets ≡ (target / 256 % 256) ∷ (target % 256) ∷ [] → (192 + get_or octets 0 0) ∷ get_or octets 1 0 ∷ [] ≡ pointer_to target
+pointer_octets target octets low e =
+    let high : target / 256 % 256 ≡ target / 256 = omega arith in
+    ap (λ (o : List ℕ). (192 + get_or o 0 0) ∷ get_or o 1 0 ∷ []) e ∙ ap (λ (h : ℕ). (192 + h) ∷ (target % 256) ∷ []) high
+
+-- octets and a pointer behind them are put as one
+pub put_both_is : (a b c : List ℕ) (at n target : ℕ) (x y : List ℕ) (r : Option ℕ) → IsOverwritten a b at x n → WritesOctets b c n y r → y ≡ pointer_to target → at ≤ length a → length x + 2 ≤ length a - at → WritesOctets a c at (x ++ pointer_to target) r
+put_both_is a b c at n target x y None front behind e within fits =
+    let two : length y ≡ 2 = ap length e in
+    let whole = length_stays a b at x n front in
+    let next = front.next_is in
+    let short = behind.0 in
+    absurd (omega arith)
+put_both_is a b c at n target x y (Some m) front behind e within fits =
+    subst (λ (z : List ℕ). IsOverwritten a c at (x ++ z) m) e (IsOverwritten-then a b c at n m x y front behind)
+
+-- a name in full
+pub IsCut-whole : (compress : Bool) (table : Table) (octets : List ℕ) → IsWhole octets → compress ≡ false → IsCut compress table octets (record { labels = 0; len = length octets; target = None })
+IsCut-whole true table octets whole e = cc
+IsCut-whole false table octets whole e = record {
+  text = wire_of-labels_in octets whole ∙ sym (take-length octets);
+  entries = λ at. refl;
+  within = omega arith;
+  few = omega arith;
+  low = tt;
+}
+
+front_more : (len n : ℕ) (front behind : List ℕ) → n ≡ length front + len → front ++ take len behind ≡ take n (front ++ behind)
+front_more len n front behind e = sym (ap (λ (m : ℕ). take m (front ++ behind)) e ∙ take-append-add front behind len)
+
+cut_more : (len n : ℕ) (target : Option ℕ) (front behind : List ℕ) → n ≡ length front + len → front ++ cut_octets behind len target ≡ cut_octets (front ++ behind) n target
+cut_more len n None front behind e = front_more len n front behind e
+cut_more len n (Some target) front behind e =
+    sym (append_assoc front (take len behind) (pointer_to target)) ∙ ap (λ (x : List ℕ). x ++ pointer_to target) (front_more len n front behind e)
+
+-- what is told of a first label
+module _ (table : Table) (octets label rest : List ℕ) (first : IsFirstLabel octets label rest) where
+  -- all of it is a pointer
+  pub IsCut-pointer : (target : ℕ) → position_in table (labels_in octets) ≡ Some target → target < 16384 → IsCut true table octets (record { labels = 0; len = 0; target = Some target })
+  IsCut-pointer target e low =
+      let found : position_in table (label ∷ labels_in rest) ≡ Some target = ap (position_in table) (sym first.labels) ∙ e in
+      record {
+        text = ap (name_octets table) first.labels ∙ octets_some table label (labels_in rest) target found;
+        entries = λ at. ap (λ (name : List (List ℕ)). places (new_entries table at name)) first.labels ∙ ap places (entries_some table at label (labels_in rest) target found);
+        within = omega arith;
+        few = omega arith;
+        low = low;
+      }
+
+  -- the label is written out
+  pub IsCut-label : (cut : Cut) → position_in table (labels_in octets) ≡ None → IsCut true table rest cut → IsCut true table octets (record { labels = cut.labels + 1; len = cut.len + 1 + length label; target = cut.target })
+  IsCut-label cut e behind =
+      let none : position_in table (label ∷ labels_in rest) ≡ None = ap (position_in table) (sym first.labels) ∙ e in
+      let len : length octets ≡ length label + 1 + length rest = let a = ap length first.octets_are in let b = length-append label rest in omega arith in
+      let within = behind.within in
+      let few = behind.few in
+      let size : cut.len + 1 + length label ≡ length (length label ∷ label) + cut.len = omega arith in
+      record {
+        text = ap (name_octets table) first.labels ∙ octets_none table label (labels_in rest) none
+            ∙ ap (λ (x : List ℕ). length label ∷ label ++ x) behind.text
+            ∙ cut_more cut.len (cut.len + 1 + length label) cut.target (length label ∷ label) rest size
+            ∙ ap (λ (x : List ℕ). cut_octets x (cut.len + 1 + length label) cut.target) (sym first.octets_are);
+        entries = λ at.
+            ap (λ (name : List (List ℕ)). places (new_entries table at name)) first.labels
+            ∙ ap places (entries_none table at label (labels_in rest) none)
+            ∙ ap (λ (xs : List ℕ). at ∷ xs) (behind.entries (at + 1 + length label))
+            ∙ ap (λ (k : ℕ). starts_of at (take k (label ∷ labels_in rest))) (sym (add-one cut.labels))
+            ∙ ap (λ (name : List (List ℕ)). starts_of at (take (cut.labels + 1) name)) (sym first.labels);
+        within = omega arith;
+        few = omega arith;
+        low = behind.low;
+      }
+
+-- how a name's octets are cut
+pub record IsCutOf (compress : Bool) (table : Table) (name : List (List ℕ)) (octets : List ℕ) (cut : Cut) : Type 0 where
+  pub text : written compress table name ≡ cut_octets octets cut.len cut.target
+  pub entries : (at : ℕ) → places (entries_of compress table at name) ≡ starts_of at (take cut.labels (labels_in octets))
+
+pub IsCutOf-name : (compress : Bool) (table : Table) (name : List (List ℕ)) (octets : List ℕ) (cut : Cut) → octets ≡ wire_of name → IsName name → IsCut compress table octets cut → IsCutOf compress table name octets cut
+IsCutOf-name compress table name octets cut e lawful is =
+    let same : labels_in octets ≡ name = ap labels_in e ∙ labels_in-wire_of name lawful.labels in
+    record {
+      text = ap (written compress table) (sym same) ∙ is.text;
+      entries = λ at. ap (λ (n : List (List ℕ)). places (entries_of compress table at n)) (sym same) ∙ is.entries at;
+    }
+
+-- one position is entered of those of labels
+pub entered_step : (xs next whole : List ℕ) (label : List ℕ) (place there count i : ℕ) (names rest : List (List ℕ)) → names ≡ label ∷ rest → i < count → next ≡ enter (λ p. p) xs place → there ≡ place + (1 + length label) → entered (λ p. p) xs (starts_of place (take (count - i) names)) ≡ whole → entered (λ p. p) next (starts_of there (take (count - (i + 1)) rest)) ≡ whole
+entered_step xs next whole label place there count i names rest first within n t so_far =
+    let left : count - i ≡ suc (count - (i + 1)) = omega arith in
+    let on : there ≡ place + 1 + length label = omega arith in
+    let front : entered (λ p. p) xs (starts_of place (take (count - i) names)) ≡ entered (λ p. p) (enter (λ p. p) xs place) (starts_of (place + 1 + length label) (take (count - (i + 1)) rest)) =
+    ap (λ (ns : List (List ℕ)). entered (λ p. p) xs (starts_of place (take (count - i) ns))) first
+    ∙ ap (λ (m : ℕ). entered (λ p. p) xs (starts_of place (take m (label ∷ rest)))) left in
+    let behind : entered (λ p. p) next (starts_of there (take (count - (i + 1)) rest)) ≡ entered (λ p. p) (enter (λ p. p) xs place) (starts_of (place + 1 + length label) (take (count - (i + 1)) rest)) =
+    ap (λ (ys : List ℕ). entered (λ p. p) ys (starts_of there (take (count - (i + 1)) rest))) n
+    ∙ ap (λ (p : ℕ). entered (λ q. q) (enter (λ q. q) xs place) (starts_of p (take (count - (i + 1)) rest))) on in
+    behind ∙ sym front ∙ so_far

@@ -1,0 +1,20 @@
+-- How the octets of a name are cut where a pointer stands for the rest of it (RFC 1035, 4.1.4).
+use Rattle.std.specs.Prelude.{◌≡◌, ℕ, ◌<◌, ◌≤◌, Bool, List, ◌++◌, length, take, map, Option, Some, None, IfSome}
+use Rattle.dns_name.specs.Labels.{labels_in}
+use Rattle.wire_names.specs.Table.{Table}
+use Rattle.wire_names.specs.Written.{pointer_to, written, entries_of, starts_of}
+use Rattle.wire_names.specs.declared.write.Cut.{Cut}
+
+-- so many of the octets, and then a pointer, where there is one
+abbrev pub cut_octets : List ℕ → ℕ → Option ℕ → List ℕ
+cut_octets octets len None = take len octets
+cut_octets octets len (Some target) = take len octets ++ pointer_to target
+
+-- octets are cut as their name is written where there is this table: up to its longest suffix that the table has, and none of
+-- the octets where the name is in full
+pub record IsCut (compress : Bool) (table : Table) (octets : List ℕ) (cut : Cut) : Type 0 where
+  pub text : written compress table (labels_in octets) ≡ cut_octets octets cut.len cut.target
+  pub entries : (at : ℕ) → map (λ entry. entry.0) (entries_of compress table at (labels_in octets)) ≡ starts_of at (take cut.labels (labels_in octets))
+  pub within : cut.len ≤ length octets
+  pub few : cut.labels ≤ length octets
+  pub low : IfSome cut.target (λ target. target < 16384)
