@@ -149,7 +149,7 @@ bury_publishes words new owner event cell later (place, there, seat, found, m) s
           )
     ]
 
-publishes_nothing : (words new : Zones) (step : WordStep Numbered) (event : WordEvent) (cell later : Cell Numbered) → NoSwap step → Makes words step event new → ShowsStep words step event cell later → later.published ≡ cell.published
+pub publishes_nothing : (words new : Zones) (step : WordStep Numbered) (event : WordEvent) (cell later : Cell Numbered) → NoSwap step → Makes words step event new → ShowsStep words step event cell later → later.published ≡ cell.published
 publishes_nothing words new word.Load event cell later apart m s = load_publishes words new event cell later m s
 publishes_nothing words new word.Probe event cell later apart m s = ap (λ (c : Cell Numbered). c.published) s
 publishes_nothing words new (word.Prepare version) event cell later apart m s = ap (λ (c : Cell Numbered). c.published) s

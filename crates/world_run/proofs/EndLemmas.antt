@@ -356,14 +356,26 @@ IsFirst words (phase.Keep given keeping) = ⊥
 IsFirst words (phase.Bury owner for) = ⊥
 IsFirst words (phase.Free owner number for) = ⊥
 
+-- it begins with a probe
+abbrev pub IsProbe : Phase → Type 0
+IsProbe (phase.Load name) = ⊥
+IsProbe (phase.Probe version keeping) = Unit {0}
+IsProbe (phase.Prepare version keeping) = ⊥
+IsProbe (phase.Swap keeping) = ⊥
+IsProbe (phase.Settle keeping) = ⊥
+IsProbe (phase.Keep given keeping) = ⊥
+IsProbe (phase.Release owner for) = ⊥
+IsProbe (phase.Bury owner for) = ⊥
+IsProbe (phase.Free owner number for) = ⊥
+
 load_done : (left : ℕ) (words new : Zones) (name : List ℕ) (event : WordEvent) → 1 ≤ left → Makes words word.Load event new → IsDone (steps_up_to left words (phase.Load name)).0
 load_done left words new name event enough (number, found, few, told_is, new_is) =
     let made_here : Makes words word.Load (told.Loaded (length words.owners) number) new = (number, found, few, refl, new_is) in
     done_by left words new (phase.Load name) _ (omega arith) (went words new (phase.Load name) (told.Loaded (length words.owners) number) _ made_here refl) tt
 
-first_done : (words new : Zones) (cell : Cell Numbered) (at : Phase) (event : WordEvent) → IsFirst words at → Shows words cell → length cell.published < 2 ^ 64 → Makes words (word_step at) event new → IsDone (steps_up_to most_steps words at).0
+first_done : (words new : Zones) (cell : Cell Numbered) (at : Phase) (event : WordEvent) → IsFirst words at → Shows words cell → (IsProbe at → length cell.published < 2 ^ 64) → Makes words (word_step at) event new → IsDone (steps_up_to most_steps words at).0
 first_done words new cell (phase.Load name) event is s few m = load_done most_steps words new name event (omega arith) m
-first_done words new cell (phase.Probe version keeping) event is s few (place, there, at, found, m) = probe_ends most_steps words cell version keeping place (omega arith) s is few at
+first_done words new cell (phase.Probe version keeping) event is s few (place, there, at, found, m) = probe_ends most_steps words cell version keeping place (omega arith) s is (few tt) at
 first_done words new cell (phase.Release owner purpose.Drop) event is s few (number, place, there, seat, found, m) = release_ends most_steps words cell owner number place purpose.Drop (drop_passes owner) (omega arith) s seat tt
 first_done words new cell (phase.Release owner (purpose.Publish keeping kept)) event is s few m = absurd is
 first_done words new cell (phase.Release owner (purpose.Oldest head kept)) event is s few m = absurd is
@@ -374,7 +386,7 @@ first_done words new cell (phase.Keep given keeping) event is s few m = absurd i
 first_done words new cell (phase.Bury owner for) event is s few m = absurd is
 first_done words new cell (phase.Free owner number for) event is s few m = absurd is
 
-first_by : (words : Zones) (cell : Cell Numbered) (at : Phase) (o : Option (Progress × Zones)) → step_once words at ≡ o → IsFirst words at → Shows words cell → length cell.published < 2 ^ 64 → Unchanged words (steps_up_to most_steps words at)
+pub first_by : (words : Zones) (cell : Cell Numbered) (at : Phase) (o : Option (Progress × Zones)) → step_once words at ≡ o → IsFirst words at → Shows words cell → (IsProbe at → length cell.published < 2 ^ 64) → Unchanged words (steps_up_to most_steps words at)
 first_by words cell at None e is s few = subst (λ (c : Progress × Zones). Unchanged words c) (sym (stays_there most_steps words at (omega arith) e)) refl
 first_by words cell at (Some came) e is s few =
     let one = one_step words came.1 at came.0 e in
@@ -446,7 +458,7 @@ update_first world None = tt
 update_first world (Some (judgement.Told head code)) = tt
 update_first world (Some (judgement.Makes head version)) = publication_first world.words head version (oldest_kept world.keep world.kept)
 
-start_first : (world : World) (call : Call) → FirstOf world.words (start world call)
+pub start_first : (world : World) (call : Call) → FirstOf world.words (start world call)
 start_first world (Load name) = first_if world.words (is_taken name world) _ _ (λ e. tt) (λ e. tt)
 start_first world (Drop name) = drop_first world.words (owner_of name world.names)
 start_first world (Ask name request) = ask_first world.words (zone_of name world) request
@@ -485,7 +497,7 @@ whole_refusal world cell call Refused is s few = itself world
 whole_refusal world cell call (Answers answer) is s few = refusal_if world (is_full world) _ _ (nothing world) (another world _ _ (no_answered answer))
 whole_refusal world cell call (Takes at) is s few =
     refusal_if world (is_full world) _ _ (nothing world)
-    (all_made_refusal world call (steps_up_to most_steps world.words at) (first_by world.words cell at (step_once world.words at) refl is s few))
+    (all_made_refusal world call (steps_up_to most_steps world.words at) (first_by world.words cell at (step_once world.words at) refl is s (λ probe. few)))
 
 begin_refusal : (world : World) (name : List ℕ) (call : Call) (how : Start) → Refusal world (begin world name call how)
 begin_refusal world name call Refused = itself world

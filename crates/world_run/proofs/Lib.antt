@@ -1,6 +1,13 @@
 pub mod AnswerLemmas
 pub mod CallReplays
 pub mod EndLemmas
+pub mod HandEnds
+pub mod HandLemmas
+pub mod HandPlay
+pub mod HandSteps
+pub mod HandTurns
+pub mod HandWorld
+pub mod HeldLemmas
 pub mod JudgeLemmas
 pub mod KeptLemmas
 pub mod PlayLemmas

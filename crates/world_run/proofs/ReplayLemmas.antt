@@ -63,7 +63,7 @@ pub record StepOf (words : Zones) (at : Phase) (progress : Progress) (new : Zone
   pub makes : Makes words (word_step at) event new
   pub goes : after at event ≡ progress
 
-step_by : (words new : Zones) (at : Phase) (progress : Progress) (o : Option (WordEvent × State Numbered)) → made words (word_step at) ≡ o → option_map {U = Progress × State Numbered} (λ t. (after at t.0, t.1)) o ≡ Some (progress, new) → StepOf words at progress new
+pub step_by : (words new : Zones) (at : Phase) (progress : Progress) (o : Option (WordEvent × State Numbered)) → made words (word_step at) ≡ o → option_map {U = Progress × State Numbered} (λ t. (after at t.0, t.1)) o ≡ Some (progress, new) → StepOf words at progress new
 step_by words new at progress None e is = absurd (let wrong = is in cc)
 step_by words new at progress (Some t) e is =
     let pair : (after at t.0, t.1) ≡ (progress, new) = (let i = is in cc) in
@@ -143,7 +143,7 @@ transfer_ok S first us words calls world None request = tt
 transfer_ok S first us words calls world (Some version) request = sent_ok S first us words calls world version (reads request)
 
 -- the last version is the replay of all updates
-last_replay : (S : List ℕ → Type 0) (first : List Record) (words : Zones) (us : List DynamicUpdate) (last : Numbered) → Tells S first words us → found_last words ≡ Some last → (last.number ≡ length us) × (last.zone ≡ replay first us)
+pub last_replay : (S : List ℕ → Type 0) (first : List Record) (words : Zones) (us : List DynamicUpdate) (last : Numbered) → Tells S first words us → found_last words ≡ Some last → (last.number ≡ length us) × (last.zone ≡ replay first us)
 last_replay S first words us last t found =
     let given = last_is_given words t.cell (length us) t.shows t.replays.counted in
     let is = t.replays.versions (length us) last (sym given ∙ found) in
@@ -252,7 +252,7 @@ next_goes S first world name (Some call) found g = stepped_goes S first world na
 abbrev pub LineSent : (List ℕ → Type 0) → Line → Type 0
 LineSent S line = (request : List ℕ) → Sends request line → S request
 
-turn_goes : (S : List ℕ → Type 0) (first : List Record) (world : World) (line : Line) → LineSent S line → Goes S first world → GoesBehind S first (turn world line)
+pub turn_goes : (S : List ℕ → Type 0) (first : List Record) (world : World) (line : Line) → LineSent S line → Goes S first world → GoesBehind S first (turn world line)
 turn_goes S first world (Whole call) sent g = whole_goes S first world call (start world call) g (start_ok S first world call sent g)
 turn_goes S first world (Begin name call) sent g = under_goes S first world name call (call_of name world.calls) sent g
 turn_goes S first world (Next name) sent g = to_some S first _ (next_goes S first world name (call_of name world.calls) refl g)
@@ -282,7 +282,7 @@ play_goes S first world [] replies behind sent g e =
 play_goes S first world (line ∷ lines) replies behind sent g e =
     line_goes S first world behind lines replies (turn world line) (turn_goes S first world line sent.0 g) (λ given between goes more last p. play_goes S first between lines more last sent.1 goes p) e
 
-all_sent : (all lines : List Line) → ((place : ℕ) (line : Line) → slice_get lines place ≡ Some line → (there : ℕ) × (slice_get all there ≡ Some line)) → AllSent (IsSent all) lines
+pub all_sent : (all lines : List Line) → ((place : ℕ) (line : Line) → slice_get lines place ≡ Some line → (there : ℕ) × (slice_get all there ≡ Some line)) → AllSent (IsSent all) lines
 all_sent all [] at = tt
 all_sent all (line ∷ lines) at =
     ((λ request sends. let there = at 0 line refl in (there.0, line, there.1, sends)), all_sent all lines (λ place other e. at (suc place) other e))
@@ -303,7 +303,7 @@ start_tells S first = record {
         (ap (λ (v : Numbered). v.number) (sym same), ap (λ (v : Numbered). v.zone) (sym same))
     first_is first (suc k) version e = absurd (let wrong = e in cc)
 
-start_goes : (S : List ℕ → Type 0) (first : List Record) (keep window : ℕ) → Goes S first (started first keep window)
+pub start_goes : (S : List ℕ → Type 0) (first : List Record) (keep window : ℕ) → Goes S first (started first keep window)
 start_goes S first keep window = record {
   us = [];
   tells = tells_same S first (begun (first_version first)) (loaded_once (first_version first)) [] word.Load (told.Loaded 0 0) tt (0, refl, lit< tt, refl, refl) (start_tells S first);
@@ -314,7 +314,7 @@ start_goes S first keep window = record {
 played_goes : (first : List Record) (keep window : ℕ) (lines : List Line) (replies : List WorldReply) (world : World) → play (started first keep window) lines ≡ Some (replies, world) → Goes (IsSent lines) first world
 played_goes first keep window lines replies world e = play_goes (IsSent lines) first (started first keep window) lines replies world (all_sent lines lines (λ place line at. (place, at))) (start_goes (IsSent lines) first keep window) e
 
-goes_replayed : (first : List Record) (lines : List Line) (world : World) → Goes (IsSent lines) first world → IsReplayed first lines world
+pub goes_replayed : (first : List Record) (lines : List Line) (world : World) → Goes (IsSent lines) first world → IsReplayed first lines world
 goes_replayed first lines world g = record { reached = record { cell = g.tells.cell; steps = g.tells.steps; runs = g.tells.runs; shows = g.tells.shows }; updates = g.us; replays = g.tells.replays }
 
 -- whatever lines were played, the versions are replays of updates that they send

@@ -1,3 +1,4 @@
+pub mod Held
 pub mod Judgements
 pub mod Numbered
 pub mod Phases

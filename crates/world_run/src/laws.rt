@@ -18,6 +18,7 @@ ghost use Rattle.dns_rdata.specs.declared.numbers.Rcode.TheVariants.{NoError, Se
 ghost use Rattle.dns_message.specs.declared.query.Head.{Head};
 ghost use Rattle.serve_core.specs.Served.{got};
 ghost use Rattle.serve_core.specs.declared.transport.Transport.TheVariants.{Udp};
+ghost use Rattle.world_run.specs.Held.{HoldVersions, IsAtRest};
 ghost use Rattle.world_run.specs.Replays.{IsReplayed, IsAnsweredInReplay};
 ghost use Rattle.world_run.specs.Runs.{Run, IsShownBy, IsAnsweredAtLoaded, ShowsReached};
 ghost use Rattle.world_run.specs.World.{World, started, turn, play, replies_of, zone_of, start, ask_said, code_reply, answer_at};
@@ -89,4 +90,18 @@ pub fn examples()
         ∷ Whole (Load (codes "a")) ∷ Next (codes "x") ∷ Next (codes "x") ∷ Next (codes "x") ∷ [])
         ≡ Some (Answered (Owner (codes "a") 0) ∷ Answered (code_reply head NoError) ∷ Begun ∷ Step StepName.Release
         ∷ Answered (Owner (codes "a") 1) ∷ Step StepName.Bury ∷ Last StepName.Free (Buried 0) ∷ NotEnabled ∷ []) }
+{}
+
+/// Whatever lines were played, each name in use holds the version that was published with its number, through any reuse of its slot;
+/// and while no update is under way, the versions that are kept are the newest, one more than are kept beside the last.
+pub fn versions_are_held()
+    ensures { (first : List Record) (keep window : ℕ) (lines : List WorldStep) (replies : List WorldReply) (world : World)
+        → play (started first keep window) lines ≡ Some (replies, world) → HoldVersions first lines world }
+{}
+
+/// When no call is under way and no name is in use, where the last version alone is kept, each version before it is buried, and 63
+/// slots are free.
+pub fn versions_before_the_last_are_buried()
+    ensures { (first : List Record) (window : ℕ) (lines : List WorldStep) (replies : List WorldReply) (world : World)
+        → play (started first 0 window) lines ≡ Some (replies, world) → world.names ≡ [] → world.calls ≡ [] → IsAtRest first lines world }
 {}

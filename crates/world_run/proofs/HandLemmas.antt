@@ -1,0 +1,184 @@
+-- Who has the owners in hand that aren't spent: each is in one place.
+use Rattle.std.proofs.Common.{◌≡◌, ◌≢◌, refl, sym, ap, ◌∙◌, subst, ℕ, zero, suc, ◌+◌, ◌<◌, inl, inr, List, [], ◌∷◌, ◌++◌, length, arith, Option, Some, None}
+use Rattle.std.specs.Prelude.{◌==◌}
+use Rattle.std.specs.List.{slice_get, slice_set}
+use Rattle.std.proofs.lemmas.Bool.Decides.{eqb_tells}
+use Rattle.std.proofs.lemmas.Option.{slice_get_within}
+use Rattle.cell_core.proofs.CountLemmas.{one_if}
+use Rattle.cell_core.proofs.SeatLemmas.{get_set_same, get_set_other, get_push_old, get_push_new}
+use Rattle.cell_core.specs.declared.words.Owner.{Owner}
+use Rattle.cell_core.specs.declared.words.Owner.TheVariants.{Holding, Burying, Freeing, Spent}
+
+-- what an owner in hand is: it holds a version, or that of a number; it is to bury, or to free
+pub data Hand : Type 0 where
+  holds : Hand
+  has : ℕ → Hand
+  buries : Hand
+  frees : Hand
+
+pub record Seat : Type 0 where
+  pub owner : ℕ
+  pub hand : Hand
+
+abbrev pub HandIs : List Owner → ℕ → Hand → Type 0
+HandIs owners owner holds = (number : ℕ) × (place : ℕ) × (slice_get owners owner ≡ Some (Holding number place))
+HandIs owners owner (has number) = (place : ℕ) × (slice_get owners owner ≡ Some (Holding number place))
+HandIs owners owner buries = (place : ℕ) × (slice_get owners owner ≡ Some (Burying place))
+HandIs owners owner frees = (place : ℕ) × (slice_get owners owner ≡ Some (Freeing place))
+
+abbrev pub AllFit : List Owner → List Seat → Type 0
+AllFit owners [] = Unit {0}
+AllFit owners (s ∷ ss) = HandIs owners s.owner s.hand × AllFit owners ss
+
+-- how often an owner is in hand
+abbrev pub times : ℕ → List Seat → ℕ
+times i [] = 0
+times i (s ∷ ss) = one_if (s.owner == i) + times i ss
+
+-- an owner that isn't spent counts
+abbrev pub lives : Option Owner → ℕ
+lives None = 0
+lives (Some (Holding number place)) = 1
+lives (Some (Burying place)) = 1
+lives (Some (Freeing place)) = 1
+lives (Some Spent) = 0
+
+-- those in hand are what they are said to be, and each owner that isn't spent is in hand once
+pub record Seated (owners : List Owner) (ss : List Seat) : Type 0 where
+  pub fit : AllFit owners ss
+  pub exact : (i : ℕ) → times i ss ≡ lives (slice_get owners i)
+
+pub times_append : (i : ℕ) (a b : List Seat) → times i (a ++ b) ≡ times i a + times i b
+times_append i [] b = omega arith
+times_append i (s ∷ a) b = let more = times_append i a b in omega (arith, more)
+
+pub fit_append : (owners : List Owner) (a b : List Seat) → AllFit owners a → AllFit owners b → AllFit owners (a ++ b)
+fit_append owners [] b f g = g
+fit_append owners (s ∷ a) b f g = (f.0, fit_append owners a b f.1 g)
+
+pub fit_front : (owners : List Owner) (a b : List Seat) → AllFit owners (a ++ b) → AllFit owners a
+fit_front owners [] b f = tt
+fit_front owners (s ∷ a) b f = (f.0, fit_front owners a b f.1)
+
+pub fit_back : (owners : List Owner) (a b : List Seat) → AllFit owners (a ++ b) → AllFit owners b
+fit_back owners [] b f = f
+fit_back owners (s ∷ a) b f = fit_back owners a b f.1
+
+-- the same ones in another order
+pub seated_as : (owners : List Owner) (a b : List Seat) → AllFit owners b → ((i : ℕ) → times i b ≡ times i a) → Seated owners a → Seated owners b
+seated_as owners a b fit same s = record { fit = fit; exact = λ i. same i ∙ s.exact i }
+
+-- an owner with the same place in the words is the same
+hand_still : (old new : List Owner) (owner : ℕ) (hand : Hand) → ((how : Owner) → slice_get old owner ≡ Some how → slice_get new owner ≡ Some how) → HandIs old owner hand → HandIs new owner hand
+hand_still old new owner holds same h = (h.0, h.1, same (Holding h.0 h.1) h.2)
+hand_still old new owner (has number) same h = (h.0, same (Holding number h.0) h.1)
+hand_still old new owner buries same h = (h.0, same (Burying h.0) h.1)
+hand_still old new owner frees same h = (h.0, same (Freeing h.0) h.1)
+
+self_equal : (i : ℕ) → one_if (i == i) ≡ 1
+self_equal i = elim (eqb_tells i i) [ inl same ↦ rw same.0 refl | inr other ↦ absurd (other.1 refl) ]
+
+pub other_equal : (i j : ℕ) → i ≢ j → one_if (i == j) ≡ 0
+other_equal i j apart = elim (eqb_tells i j) [ inl same ↦ absurd (apart same.1) | inr other ↦ rw other.0 refl ]
+
+pub fit_still : (old new : List Owner) (ss : List Seat) → ((i : ℕ) (how : Owner) → 0 < times i ss → slice_get old i ≡ Some how → slice_get new i ≡ Some how) → AllFit old ss → AllFit new ss
+fit_still old new [] same f = tt
+fit_still old new (s ∷ ss) same f =
+    let one = self_equal s.owner in
+    (hand_still old new s.owner s.hand (λ how at. same s.owner how (omega (arith, one)) at) f.0, fit_still old new ss (λ i how some at. same i how (omega (arith, some)) at) f.1)
+
+-- one owner more, which holds a version
+lives_push : (owners : List Owner) (number place i : ℕ) → lives (slice_get (owners ++ Holding number place ∷ []) i) ≡ one_if (length owners == i) + lives (slice_get owners i)
+lives_push [] number place zero = refl
+lives_push [] number place (suc i) = let none = other_equal 0 (suc i) (λ e. absurd (omega (arith, e))) in omega (arith, none)
+lives_push (o ∷ owners) number place zero = let none = other_equal (length (o ∷ owners)) 0 (λ e. absurd (omega (arith, e))) in omega (arith, none)
+lives_push (o ∷ owners) number place (suc i) =
+    let more = lives_push owners number place i in
+    let same : one_if (length (o ∷ owners) == suc i) ≡ one_if (length owners == i) = elim (eqb_tells (length owners) i) [
+      | inl is ↦ (let one = self_equal (suc i) in let e : length (o ∷ owners) ≡ suc i = omega (arith, is.1) in rw (e, is.0) one)
+      | inr isnt ↦ (let none = other_equal (length (o ∷ owners)) (suc i) (λ e. isnt.1 (omega (arith, e))) in rw isnt.0 none)
+    ] in
+    omega (arith, more, same)
+
+pub seated_push : (old new : List Owner) (number place : ℕ) (ss : List Seat) (hand : Hand) → new ≡ old ++ Holding number place ∷ [] → HandIs new (length old) hand → Seated old ss → Seated new (record { owner = length old; hand = hand } ∷ ss)
+seated_push old new number place ss hand is here s = record {
+  fit = (here, fit_still old new ss (λ i how some at. ap (λ (o : List Owner). slice_get o i) is ∙ get_push_old old (Holding number place) how i at) s.fit);
+  exact = λ i. (
+      let there = lives_push old number place i in
+      let before = s.exact i in
+      let e : lives (slice_get new i) ≡ lives (slice_get (old ++ Holding number place ∷ []) i) = ap (λ (o : List Owner). lives (slice_get o i)) is in
+      omega (arith, there, before, e)
+      );
+}
+
+pub push_there : (old new : List Owner) (number place : ℕ) → new ≡ old ++ Holding number place ∷ [] → slice_get new (length old) ≡ Some (Holding number place)
+push_there old new number place is = ap (λ (o : List Owner). slice_get o (length old)) is ∙ get_push_new old (Holding number place) (length old) refl
+
+-- an owner that has come further: it is in nobody else's hand
+rest_apart : (owners : List Owner) (owner : ℕ) (hand : Hand) (ss : List Seat) (how : Owner) → lives (Some how) ≡ 1 → slice_get owners owner ≡ Some how → Seated owners (record { owner = owner; hand = hand } ∷ ss) → times owner ss ≡ 0
+rest_apart owners owner hand ss how one at s =
+    let all = s.exact owner in
+    let mine = self_equal owner in
+    let e : lives (slice_get owners owner) ≡ 1 = ap lives at ∙ one in
+    omega (arith, all, mine, e)
+
+rest_fits : (old new : List Owner) (owner : ℕ) (hand : Hand) (ss : List Seat) (how next : Owner) → lives (Some how) ≡ 1 → slice_get old owner ≡ Some how → new ≡ slice_set old owner next → Seated old (record { owner = owner; hand = hand } ∷ ss) → AllFit new ss
+rest_fits old new owner hand ss how next one at is s =
+    let none = rest_apart old owner hand ss how one at s in
+    fit_still old new ss (λ i other some there. (
+    let apart : i ≢ owner = λ e. (let f : times owner ss ≡ times i ss = ap (λ j. times j ss) (sym e) in absurd (omega (arith, f, none, some))) in
+    ap (λ (o : List Owner). slice_get o i) is ∙ (get_set_other old owner i next apart ∙ there)
+    )) s.fit.1
+
+-- behind its step it isn't in hand any more
+pub seated_spent : (old new : List Owner) (owner : ℕ) (hand : Hand) (ss : List Seat) (how : Owner) → lives (Some how) ≡ 1 → slice_get old owner ≡ Some how → new ≡ slice_set old owner Spent → Seated old (record { owner = owner; hand = hand } ∷ ss) → Seated new ss
+seated_spent old new owner hand ss how one at is s = record {
+  fit = rest_fits old new owner hand ss how Spent one at is s;
+  exact = λ i. elim (eqb_tells owner i) [
+    | inl same ↦ (
+        let none = rest_apart old owner hand ss how one at s in
+        let f : times i ss ≡ times owner ss = ap (λ j. times j ss) (sym same.1) in
+        let there : slice_get new i ≡ Some Spent = ap (λ (o : List Owner). slice_get o i) is ∙ (ap (slice_get (slice_set old owner Spent)) (sym same.1) ∙ get_set_same old owner Spent (slice_get_within old owner how at)) in
+        let e : lives (slice_get new i) ≡ 0 = ap lives there in
+        omega (arith, none, f, e)
+        )
+    | inr other ↦ (
+        let all = s.exact i in
+        let mine = other_equal owner i other.1 in
+        let there : slice_get new i ≡ slice_get old i = ap (λ (o : List Owner). slice_get o i) is ∙ get_set_other old owner i Spent (λ e. other.1 (sym e)) in
+        let e : lives (slice_get new i) ≡ lives (slice_get old i) = ap lives there in
+        omega (arith, all, mine, e)
+        )
+  ];
+}
+
+-- or it is there as what it is then
+pub seated_next : (old new : List Owner) (owner : ℕ) (hand later : Hand) (ss : List Seat) (how next : Owner) → lives (Some how) ≡ 1 → lives (Some next) ≡ 1 → slice_get old owner ≡ Some how → new ≡ slice_set old owner next → (slice_get new owner ≡ Some next → HandIs new owner later)
+    → Seated old (record { owner = owner; hand = hand } ∷ ss) → Seated new (record { owner = owner; hand = later } ∷ ss)
+seated_next old new owner hand later ss how next one two at is then s =
+    let here : slice_get new owner ≡ Some next = ap (λ (o : List Owner). slice_get o owner) is ∙ get_set_same old owner next (slice_get_within old owner how at) in
+    record {
+      fit = (then here, rest_fits old new owner hand ss how next one at is s);
+      exact = λ i. (
+          let all = s.exact i in
+          elim (eqb_tells owner i) [
+            | inl same ↦ (
+                let e : lives (slice_get new i) ≡ 1 = ap (λ j. lives (slice_get new j)) (sym same.1) ∙ (ap lives here ∙ two) in
+                let f : lives (slice_get old i) ≡ 1 = ap (λ j. lives (slice_get old j)) (sym same.1) ∙ (ap lives at ∙ one) in
+                omega (arith, all, e, f)
+                )
+            | inr other ↦ (
+                let there : slice_get new i ≡ slice_get old i = ap (λ (o : List Owner). slice_get o i) is ∙ get_set_other old owner i next (λ e. other.1 (sym e)) in
+                let e : lives (slice_get new i) ≡ lives (slice_get old i) = ap lives there in
+                omega (arith, all, e)
+                )
+          ]
+          );
+    }
+
+-- the first two of those in hand the other way round
+pub seated_swap : (owners : List Owner) (a b : Seat) (ss : List Seat) → Seated owners (a ∷ b ∷ ss) → Seated owners (b ∷ a ∷ ss)
+seated_swap owners a b ss s = record { fit = (s.fit.1.0, (s.fit.0, s.fit.1.1)); exact = λ i. (let all = s.exact i in omega (arith, all)) }
+
+pub seated_where : (old new : List Owner) (ss : List Seat) → new ≡ old → Seated old ss → Seated new ss
+seated_where old new ss is s = subst (λ o. Seated o ss) (sym is) s

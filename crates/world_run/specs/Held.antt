@@ -1,0 +1,41 @@
+-- Which versions are held while lines are played: those of the names in use, and the newest, which are kept (own).
+use Rattle.std.specs.Prelude.{◌≡◌, ℕ, ◌-◌, ◌<◌, Bool, ◌==◌, true, false, List, length, drop, count_by, Some}
+use Rattle.std.specs.List.{list_any, slice_get}
+use Rattle.cell_core.specs.Words.{version_in, free_word}
+use Rattle.cell_core.specs.declared.words.Owner.TheVariants.{Holding}
+use Rattle.cell_core.specs.declared.words.Slot.{Slot}
+use Rattle.dns_rdata.specs.Record.{Record}
+use Rattle.zone_tree.specs.Version.{Version as Numbered}
+use Rattle.world_run.specs.declared.play.UnderWay.{UnderWay}
+use Rattle.world_run.specs.declared.step.WorldStep.{WorldStep}
+use Rattle.world_run.specs.Phases.{updates}
+use Rattle.world_run.specs.Replays.{IsReplayed}
+use Rattle.world_run.specs.World.{World, owner_of, version_of, kept_versions}
+
+-- an update is under way (own)
+abbrev pub is_updating : World → Bool
+is_updating world = list_any (λ (call : UnderWay). updates call.phase) world.calls
+
+-- a name in use holds a version: that which was published with its number lies in the slot of the name's owner, and is the one
+-- that the name has (own)
+pub record HoldsVersion (published : List Numbered) (world : World) (name : List ℕ) (owner : ℕ) : Type 0 where
+  pub number : ℕ
+  pub place : ℕ
+  pub version : Numbered
+  pub holds : slice_get world.words.owners owner ≡ Some (Holding number place)
+  pub lies : version_in world.words place ≡ Some (record { number = number; value = version })
+  pub has : version_of name world ≡ Some version
+  pub published_so : slice_get published number ≡ Some version
+
+-- each name in use holds its version; and while no update is under way, the versions that are kept are the newest, one more than
+-- are kept beside the last, or all (own)
+pub record HoldVersions (first : List Record) (lines : List WorldStep) (world : World) : Type 0 where
+  pub replayed : IsReplayed first lines world
+  pub names : (name : List ℕ) (owner : ℕ) → owner_of name world.names ≡ Some owner → HoldsVersion replayed.reached.cell.published world name owner
+  pub kept : is_updating world ≡ false → kept_versions world ≡ drop (length replayed.updates - world.keep) replayed.reached.cell.published
+
+-- each number before the last is buried, and all slots but one are free (own)
+pub record IsAtRest (first : List Record) (lines : List WorldStep) (world : World) : Type 0 where
+  pub replayed : IsReplayed first lines world
+  pub buried : (number : ℕ) → number < length replayed.updates → replayed.reached.cell.buried number ≡ true
+  pub free : count_by (λ (there : Slot Numbered). there.shares == free_word) world.words.table ≡ 63
