@@ -2,3 +2,4 @@ pub mod ReplayLemmas
 pub mod OwnedLemmas
 pub mod ToldLemmas
 pub mod SendLemmas
+pub mod ChainLemmas

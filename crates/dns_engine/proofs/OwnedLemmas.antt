@@ -1,6 +1,8 @@
 -- Owners in full places, and the newest of a list.
-use Rattle.std.proofs.Common.{◌≡◌, refl, ℕ, suc, ◌+◌, ◌-◌, ◌≤◌, ◌<◌, min, List, [], ◌∷◌, ◌++◌, length, take, drop, take-append-drop, append_assoc, length-drop, Option, None, Some, arith, sym, ap, ◌∙◌, subst}
+use Rattle.std.proofs.Common.{◌≡◌, refl, ℕ, suc, zero, ◌+◌, ◌-◌, ◌≤◌, ◌<◌, min, List, [], ◌∷◌, ◌++◌, length, take, drop, take-append-drop, append_assoc, length-drop, Option, None, Some, arith, sym, ap, ◌∙◌, subst}
 use Rattle.std.proofs.lemmas.List.{length_push, drop_all}
+use Rattle.std.specs.List.{slice_get}
+use Rattle.std.proofs.Math.ListN.{get_or}
 use lib.Seq.{drop-append-le}
 use Rattle.dns_rdata.specs.Record.{Record}
 use Rattle.zone_tree.specs.Version.{Version}
@@ -9,6 +11,9 @@ use Rattle.snapshot_cell.proofs.HistoryLemmas.{goes_on}
 use Rattle.dns_engine.specs.Versions.{IsFirst, IsNext}
 use Rattle.dns_engine.specs.Held.{Held, newest, IsNewest, held_with}
 use Rattle.dns_engine.specs.Owned.{owned, IsFull}
+
+some_none : (owner : Numbered Version) → Some owner ≡ None → ⊥
+some_none owner same = cc
 
 pub owned-append : (places more : List (Option (Numbered Version))) → owned (places ++ more) ≡ owned places ++ owned more
 owned-append [] more = refl
@@ -34,6 +39,38 @@ pub owned-drop : (places : List (Option (Numbered Version))) → IsFull places �
 owned-drop [] full = refl
 owned-drop (None ∷ places) full = absurd full
 owned-drop (Some other ∷ places) full = refl
+
+-- the version of the owner in a place
+abbrev pub shown : Option (Option (Numbered Version)) → Option Version
+shown None = None
+shown (Some None) = None
+shown (Some (Some owner)) = Some owner.value
+
+pub owned_get : (places : List (Option (Numbered Version))) (at : ℕ) → IsFull places → slice_get (owned places) at ≡ shown (slice_get places at)
+owned_get [] at full = refl
+owned_get (None ∷ places) at full = absurd full
+owned_get (Some owner ∷ places) zero full = refl
+owned_get (Some owner ∷ places) (suc at) full = owned_get places at full
+
+-- no place is without an owner
+pub place_owned : (places : List (Option (Numbered Version))) (at : ℕ) (place : Option (Numbered Version)) → IsFull places → at < length places → place ≡ get_or places at place → place ≡ None → ⊥
+place_owned [] at place full within is none = absurd (omega arith)
+place_owned (None ∷ places) at place full within is none = full
+place_owned (Some owner ∷ places) zero place full within is none = some_none owner (sym is ∙ none)
+place_owned (Some owner ∷ places) (suc at) place full within is none = place_owned places at place full (omega arith) is none
+
+-- one owner more, of the version in the next place
+pub share_more : (items places new : List (Option (Numbered Version))) (at : ℕ) (place : Option (Numbered Version)) (owner : Numbered Version) → take (at + 1) items ≡ take at items ++ place ∷ [] → place ≡ Some owner
+    → new ≡ places ++ Some owner ∷ [] → IsFull places → owned places ≡ owned (take at items) → length places ≤ at → IsFull new × (owned new ≡ owned (take (at + 1) items)) × (length new ≤ at + 1)
+share_more items places new at place owner longer is more full same short =
+    let size : length new ≡ length places + 1 = ap length more ∙ length_push places (Some owner) in (
+      subst IsFull (sym more) (full_push places owner full),
+      ap owned more
+          ∙ owned-append places (Some owner ∷ [])
+          ∙ ap (λ l. l ++ owner.value ∷ []) same
+          ∙ sym (ap owned longer ∙ owned-append (take at items) (place ∷ []) ∙ ap (λ p. owned (take at items) ++ owned (p ∷ [])) is),
+      omega (arith, size, short),
+    )
 
 -- the newest of a list with one value more
 pub newest_push : {T : Type 0} (keep : ℕ) (values : List T) (value : T) → 0 < keep → newest keep (values ++ value ∷ []) ≡ newest (keep - 1) values ++ value ∷ []

@@ -1,5 +1,5 @@
 -- A history of versions is a replay.
-use Rattle.std.proofs.Common.{◌≡◌, ◌≢◌, refl, ℕ, ◌+◌, suc, true, List, [], ◌∷◌, ◌++◌, length, Option, None, Some, unwrap_or, arith, sym, ap, ◌∙◌, subst}
+use Rattle.std.proofs.Common.{◌≡◌, ◌≢◌, refl, ◌+◌, true, List, [], ◌∷◌, ◌++◌, length, None, Some, unwrap_or, arith, sym, ap, ◌∙◌, subst}
 use Rattle.std.proofs.lemmas.List.{length_push}
 use Rattle.dns_rdata.specs.Record.{Record}
 use Rattle.dns_message.specs.declared.update.Update.{Update}
@@ -8,7 +8,7 @@ use Rattle.update_core.specs.Verdict.{verdict}
 use Rattle.update_core.specs.Act.{act, replay}
 use Rattle.cell_core.specs.Cell.{EachFollows}
 use Rattle.snapshot_cell.specs.History.{Numbered, IsHistory, IsPublished}
-use Rattle.dns_engine.specs.Versions.{IsFirst, Makes, IsNext}
+use Rattle.dns_engine.specs.Versions.{IsFirst, IsNext}
 use Rattle.dns_engine.specs.Held.{Held, IsNewest}
 use Rattle.dns_engine.specs.Replayed.{EachChanges, IsReplay}
 

@@ -1,5 +1,5 @@
 -- What becomes of an update that is taken.
-use Rattle.std.proofs.Common.{◌≡◌, ◌≢◌, List, Bool, true, false, Option, None, Some}
+use Rattle.std.proofs.Common.{◌≡◌, List, Bool, true, false, Option, None, Some}
 use Rattle.std.specs.Option.{option_or}
 use Rattle.dns_rdata.specs.Record.{Record}
 use Rattle.dns_rdata.specs.declared.numbers.Rcode.{Rcode}
@@ -8,7 +8,7 @@ use Rattle.zone_tree.specs.Version.{Version}
 use Rattle.update_core.specs.declared.outcome.Outcome.TheVariants.{Next}
 use Rattle.update_core.specs.Verdict.{verdict, permission, check, prescan}
 use Rattle.update_core.specs.Applied.{IsTold}
-use Rattle.dns_engine.specs.Versions.{Makes, IsNext}
+use Rattle.dns_engine.specs.Versions.{Makes}
 
 permitted : (front behind : Option Rcode) (may : Bool) → option_or front (option_or (permission may) behind) ≡ None → option_or front (option_or (permission true) behind) ≡ None
 permitted front behind true h = h

@@ -1,5 +1,5 @@
 -- What a published version is: the first zone, with updates replayed (RFC 2136, 3).
-use Rattle.std.specs.Prelude.{◌≡◌, ◌≢◌, ℕ, true, List, [], ◌∷◌, length, None, unwrap_or}
+use Rattle.std.specs.Prelude.{◌≡◌, ◌≢◌, true, List, [], ◌∷◌, length, None, unwrap_or}
 use Rattle.dns_rdata.specs.Record.{Record}
 use Rattle.dns_message.specs.declared.update.Update.{Update}
 use Rattle.zone_tree.specs.Version.{Version}

@@ -7,10 +7,12 @@ ghost use Rattle.dns_engine.specs.Told.{IsTold};
 ghost use Rattle.dns_engine.specs.declared.fault.EngineFault.{EngineFault as Fault};
 
 use crate::fault::{EngineFault, NoEngine};
+use crate::newest::Newest;
 use crate::owners::{KEPT, Owners};
 use crate::versions::{FirstZone, VersionCell, VersionPublisher, VersionReader};
 use dns_message::Update;
 use dns_rdata::Rcode;
+use snapshot_cell::Spent;
 use std::alloc::Global;
 use std::marker::Model;
 use std::sync::Wait;
@@ -91,6 +93,15 @@ impl<'a, Z: FirstZone> Engine<'a, Z> {
         ensures { result.now ≡ self.now.last }
     {
         self.publisher.value()
+    }
+
+    /// Owners of all versions that it keeps, the last one among them. [`Spent`] where one of them can't be shared. It waits for nobody.
+    pub fn newest(&self, cell: &'a VersionCell<Z>) -> Result<Newest<'a, Z>, Spent>
+        ensures { IfOk result (λ newest. newest ≡ self.now) }
+    {
+        let last = cell.newest(&self.publisher)?;
+        let older = self.older.share()?;
+        Ok(Newest::new(last, self.keep, older))
     }
 
     /// Publishes what an update makes of the version published last, sent by a peer that may update, or may not, and tells its

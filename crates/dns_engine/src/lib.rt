@@ -9,12 +9,14 @@
 mod engine;
 mod fault;
 mod laws;
+mod newest;
 mod owners;
 mod versions;
 
 pub use engine::Engine;
 pub use fault::{EngineFault, NoEngine};
 pub use laws::published_versions_are_replays;
+pub use newest::Newest;
 pub use owners::KEPT;
 pub use versions::{
     FirstZone, VersionCell, VersionOwner, VersionPublisher, VersionReader, ZoneVersions,

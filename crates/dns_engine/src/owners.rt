@@ -1,10 +1,14 @@
 //! Owners of versions, in no memory of their own.
-ghost use Rattle.std.specs.Prelude.{◌≡◌, ◌-◌, ◌<◌, ◌≤◌, [], ◌∷◌, ◌++◌, length};
+ghost use Rattle.std.specs.Prelude.{◌≡◌, ◌-◌, ◌<◌, ◌≤◌, [], ◌∷◌, ◌++◌, length, IfOk};
+ghost use Rattle.std.specs.List.{slice_get};
+ghost use Rattle.std.specs.Option.{option_copied};
 ghost use Rattle.dns_engine.specs.Held.{newest};
 
 use crate::versions::{FirstZone, VersionOwner};
 use arrayvec::ArrayVec;
+use snapshot_cell::Spent;
 use std::marker::Model;
+use zone_tree::Version;
 
 /// How many versions in front of the last an engine may keep (own).
 pub const KEPT: usize = 8;
@@ -35,6 +39,38 @@ impl<'a, Z: FirstZone> Owners<'a, Z> {
         Owners {
             places: ArrayVec::new(),
         }
+    }
+
+    /// How many versions they own.
+    pub(crate) fn len(&self) -> usize
+        ensures len { result ≡ length self.now }
+        ensures most { result ≤ KEPT }
+    {
+        self.places.len()
+    }
+
+    /// The version at a place, counted from 0, the oldest; None where there are no more.
+    pub(crate) fn version(&self, at: usize) -> Option<&Version>
+        ensures { option_copied result ≡ slice_get self.now at }
+    {
+        match self.places.get(at) {
+            Some(Some(owner)) => Some(owner.get()),
+            Some(None) => None,
+            None => None,
+        }
+    }
+
+    /// As many owners more, of the same versions. [`Spent`] where one of them can't be shared.
+    pub(crate) fn share(&self) -> Result<Owners<'a, Z>, Spent>
+        ensures { IfOk result (λ owners. owners ≡ self.now) }
+    {
+        let mut places = ArrayVec::new();
+        for place in self.places.as_slice() {
+            if let Some(owner) = place {
+                places.push(Some(owner.share()?));
+            }
+        }
+        Ok(Owners { places })
     }
 
     /// Puts an owner behind the others, of which the newest stay, so many in all.

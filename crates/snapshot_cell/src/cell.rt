@@ -121,6 +121,14 @@ impl<T: Drop, C: Names<T>> Cell<T, C> {
         Ok(Strong::new(version))
     }
 
+    /// An owner of the version that its publisher published last. [`Spent`] where its count of owners is full. It waits for nobody.
+    pub fn newest(&self, publisher: &Publisher<T, C>) -> Result<Strong<'_, T, C>, Spent>
+        ensures { IfOk result (λ strong. strong ≡ publisher.now) }
+    {
+        let version = publisher.last.share().ok_or(Spent)?;
+        Ok(Strong::new(version))
+    }
+
     /// Publishes a value that may follow the last one, and gives the old version's owner. [`NoSlot`] with the value where
     /// there is no memory for its version: nothing is then published.
     pub fn publish<R: Wait>(

@@ -2,6 +2,7 @@
 ghost use Rattle.std.specs.Prelude.{◌≡◌, ◌<◌, ◌+◌, ◌-◌, ◌^◌, IfOk, IfErr, IfSome};
 ghost use Rattle.snapshot_cell.specs.History.{Numbered, IsPublished, next};
 
+use crate::fault::Spent;
 use crate::names::Names;
 use std::alloc::Global;
 use std::marker::{Model, PhantomData};
@@ -144,6 +145,14 @@ impl<'a, T: Drop, C: Names<T>> Strong<'a, T, C> {
         ensures published { IsPublished C.begins C.follows self.now }
     {
         self.version.number()
+    }
+
+    /// One owner more of the version. [`Spent`] where its count of owners is full.
+    pub fn share(&self) -> Result<Strong<'a, T, C>, Spent>
+        ensures { IfOk result (λ strong. strong ≡ self.now) }
+    {
+        let version = self.version.share().ok_or(Spent)?;
+        Ok(Strong::new(version))
     }
 
     /// Gives the owner up.

@@ -1,9 +1,9 @@
 -- What is held is the newest again.
-use Rattle.std.proofs.Common.{rules, arith, ◌≡◌, ◌+◌, ◌++◌, ◌∷◌, [], ap, sym, ◌∙◌, subst}
+use Rattle.std.proofs.Common.{◌≡◌, ◌+◌, ◌++◌, ◌∷◌, [], ap, sym, ◌∙◌, subst}
 use Rattle.zone_tree.specs.Version.{Version}
 use Rattle.snapshot_cell.specs.History.{Numbered}
 use Rattle.dns_engine.specs.Versions.{IsNext}
-use Rattle.dns_engine.specs.Held.{Held, newest, IsNewest}
+use Rattle.dns_engine.specs.Held.{Held, newest}
 use Rattle.dns_engine.proofs.OwnedLemmas.{newest_on}
 use Rattle.dns_engine.proofs.engine.Engine.publish.Goals as goal
 

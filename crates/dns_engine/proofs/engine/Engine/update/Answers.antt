@@ -1,9 +1,9 @@
 -- The version that an update makes is published.
-use Rattle.std.proofs.Common.{rules, ◌≡◌, refl, sym, ap, ◌∙◌, subst, None}
+use Rattle.std.proofs.Common.{rules, ◌≡◌, refl, subst, None}
 use Rattle.zone_tree.specs.Version.{Version}
 use Rattle.update_core.specs.Verdict.{verdict}
-use Rattle.dns_engine.specs.Versions.{Makes, IsNext}
-use Rattle.dns_engine.specs.Told.{IsTold, made}
+use Rattle.dns_engine.specs.Versions.{Makes}
+use Rattle.dns_engine.specs.Told.{made}
 use Rattle.dns_engine.proofs.ToldLemmas.{made_of}
 use Rattle.dns_engine.proofs.engine.Engine.update.Goals as goal
 

@@ -1,5 +1,5 @@
 -- The oldest goes where there are so many.
-use Rattle.std.proofs.Common.{rules, arith, ◌≡◌, ◌-◌, ◌≤◌, ◌<◌, length, ap, sym, ◌∙◌}
+use Rattle.std.proofs.Common.{rules, arith, ◌≡◌, ◌-◌, ◌≤◌, length, ap, sym, ◌∙◌}
 use Rattle.dns_engine.specs.Held.{newest}
 use Rattle.dns_engine.specs.Owned.{owned}
 use Rattle.dns_engine.proofs.OwnedLemmas.{length-owned, oldest_out, all_stay}
