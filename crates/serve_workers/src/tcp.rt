@@ -113,7 +113,7 @@ impl<'a, C: Clock> TcpJob<'a, C> {
         let Ok(connection) = Connection::new(stream, self.clock) else {
             return;
         };
-        answering.turn_to(self.allowed.peer(from.ip(), true));
+        answering.turn_to(self.allowed.peer(from, true));
         let Scratch {
             request,
             reply,

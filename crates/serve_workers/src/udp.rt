@@ -26,7 +26,7 @@ pub fn serve_udp<R: Wait, A: Answering, D: Datagrams, G: Gate>(
         let Some((len, from)) = datagrams.receive(request) else {
             return false;
         };
-        answering.turn_to(allowed.peer(from.ip(), false));
+        answering.turn_to(allowed.peer(from, false));
         gate.enter();
         match answering.answer(rt, &request[..len], reply) {
             Ok(Some(written)) => datagrams.send(&reply[..written], from),

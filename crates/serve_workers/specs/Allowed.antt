@@ -1,0 +1,17 @@
+-- Which addresses may update and transfer (RFC 2136, 3.3; RFC 5936, 5).
+use Rattle.std.specs.Prelude.{◌≡◌, List}
+use Rattle.std.specs.List.{Any}
+use Rattle.std.specs.Net.Addr.{MatchIp, IsCanonicalOf}
+use Rattle.std.specs.declared.net.ip_addr.IpAddr.{IpAddr}
+
+-- an IPv4-mapped address of IPv6 stands for that of IPv4, any other address for itself (RFC 4291, 2.5.5.2)
+abbrev pub StandsFor : IpAddr → IpAddr → Type 0
+StandsFor address own = MatchIp address (λ _. own ≡ address) (λ ip. IsCanonicalOf ip own)
+
+-- two addresses stand for one
+abbrev pub AreOne : IpAddr → IpAddr → Type 0
+AreOne a b = (own : IpAddr) × StandsFor a own × StandsFor b own
+
+-- a list of addresses has an address, as it stands there or by one that stands for the same
+abbrev pub IsAllowed : List IpAddr → IpAddr → Type 0
+IsAllowed addresses address = Any (λ allowed. AreOne allowed address) addresses
