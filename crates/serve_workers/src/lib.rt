@@ -9,6 +9,7 @@
 mod allowed;
 mod answer;
 mod asked;
+mod connection;
 mod counted;
 mod datagrams;
 mod frames;
@@ -36,6 +37,8 @@ pub use tcp::TcpJob;
 pub use udp::{UdpJob, serve_udp};
 pub use workers::{Job, NotStarted, run_workers};
 
+#[cfg(test)]
+mod connection_tests;
 #[cfg(test)]
 mod gate_tests;
 #[cfg(test)]
