@@ -3,3 +3,4 @@ pub mod TurnLemmas
 pub mod ReplyLemmas
 pub mod SendLemmas
 pub mod ConnectionLemmas
+pub mod ExchangeLemmas

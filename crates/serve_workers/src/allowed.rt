@@ -1,7 +1,6 @@
 //! Which addresses may update and transfer.
 ghost use Rattle.std.specs.Prelude.{◌≡◌, ◌↔◌, IsTrue};
-ghost use Rattle.std.specs.Net.Socket.{socket_ip};
-ghost use Rattle.serve_workers.specs.Allowed.{AreOne, IsAllowed};
+ghost use Rattle.serve_workers.specs.Allowed.{AreOne, IsAllowed, IsPeer};
 
 use serve_core::Peer;
 use std::net::{IpAddr, SocketAddr};
@@ -24,9 +23,7 @@ impl<'a> Allowed<'a> {
     /// The peer at an address, over a stream or by datagrams. It may update and transfer where the addresses have its own, from
     /// whichever port it asks.
     pub fn peer(self, from: SocketAddr, stream: bool) -> Peer
-        ensures stream { result.stream ≡ stream }
-        ensures update { IsTrue result.may_update ↔ IsAllowed self.entry.addresses.now (socket_ip from) }
-        ensures transfer { IsTrue result.may_transfer ↔ IsAllowed self.entry.addresses.now (socket_ip from) }
+        ensures { IsPeer self.entry.addresses.now stream from result }
     {
         let may = has_address(self.addresses, from.ip());
         Peer {

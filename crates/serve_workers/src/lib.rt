@@ -34,7 +34,7 @@ pub use server::Server;
 pub use service::{Plan, ServeFault, serve_zone};
 pub use stream::{Answering, StreamEnd, serve_stream};
 pub use tcp::TcpJob;
-pub use udp::{UdpJob, serve_udp};
+pub use udp::{DatagramsEnd, UdpJob, serve_udp};
 pub use workers::{Job, NotStarted, run_workers};
 
 #[cfg(test)]
