@@ -2,3 +2,5 @@ pub mod StreamLemmas
 pub mod TurnLemmas
 pub mod ReplyLemmas
 pub mod SendLemmas
+pub mod ConnectionLemmas
+pub mod ExchangeLemmas
