@@ -1,11 +1,11 @@
 -- Datagrams that are answered one behind the other.
-use Rattle.std.proofs.Common.{◌≡◌, refl, ℕ, ◌+◌, ◌-◌, ◌^◌, ◌<◌, min, max, false, List, [], ◌∷◌, ◌++◌, length, Option, None, Some, IfSome, ◌⊎◌, inl, inr, sym, ap, ◌∙◌, subst, append_assoc, append-nil, length-append, arith}
+use Rattle.std.proofs.Common.{◌≡◌, refl, ℕ, ◌+◌, ◌<◌, false, List, [], ◌∷◌, ◌++◌, length, Option, None, Some, IfSome, inl, inr, sym, ap, ◌∙◌, subst, append_assoc, append-nil, length-append, arith}
 use Rattle.std.specs.declared.net.ip_addr.IpAddr.{IpAddr}
 use Rattle.std.specs.declared.net.socket_addr.SocketAddr.{SocketAddr}
 use Rattle.serve_core.specs.declared.peer.Peer.{Peer}
 use Rattle.serve_workers.specs.Allowed.{IsPeer}
-use Rattle.serve_workers.specs.Datagrams.{Datagram, Receives, Sends, SendsOrFails, AreSent, none, sent, failed, count_of}
-use Rattle.serve_workers.specs.Exchanged.{RepliesTo, Exchanges, Exchanged, TurnMade, TurnsBy, EndsBy}
+use Rattle.serve_workers.specs.Datagrams.{Datagram, Receives, Sends, SendsOrFails, none, sent, failed, count_of}
+use Rattle.serve_workers.specs.Exchanged.{RepliesTo, Exchanged, TurnMade, TurnsBy, EndsBy}
 use Rattle.serve_workers.specs.Exchanged.{none as no_exchange, next}
 use Rattle.serve_workers.specs.Served.{BeginsWith}
 use Rattle.serve_workers.specs.declared.udp.DatagramsEnd.{DatagramsEnd}

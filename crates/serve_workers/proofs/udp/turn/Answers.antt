@@ -1,8 +1,5 @@
 -- A datagram that is received is answered as its own sender's.
-use Rattle.std.proofs.Common.{subst}
-use Rattle.serve_core.specs.declared.peer.Peer.{Peer}
 use Rattle.serve_workers.proofs.TurnLemmas.{begins_more}
-use Rattle.serve_workers.specs.Exchanged.{RepliesTo}
 use Rattle.serve_workers.proofs.ExchangeLemmas.{turn_made, turn_spent}
 use Rattle.serve_workers.proofs.udp.turn.Goals as goal
 
