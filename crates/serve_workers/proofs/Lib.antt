@@ -2,3 +2,4 @@ pub mod StreamLemmas
 pub mod TurnLemmas
 pub mod ReplyLemmas
 pub mod SendLemmas
+pub mod TransferLemmas
