@@ -1,5 +1,8 @@
 pub mod Octets
 pub mod Cut
+pub mod Allowed
+pub mod Datagrams
+pub mod Exchanged
 pub mod Served
 pub mod Turns
 pub mod Replied

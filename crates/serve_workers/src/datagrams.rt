@@ -1,20 +1,35 @@
 //! Requests and replies as datagrams (RFC 1035, 4.2.1).
-ghost use Rattle.std.specs.Prelude.{◌≤◌, length, IfSome};
+ghost use Rattle.std.specs.Prelude.{◌≡◌, ℕ, ◌≤◌, List, length, take, Option, None, IfSome};
+ghost use Rattle.serve_workers.specs.Datagrams.{Datagram, Receives, SendsOrFails, count_of};
 
 use std::net::{SocketAddr, UdpSocket};
 
-/// Where requests come from and replies go to, a datagram each.
+/// Where requests come from and replies go to, a datagram each. One that lies in memory may tell its datagrams, which contracts then
+/// speak of.
 pub trait Datagrams {
-    /// Receives a datagram into the front of a buffer, and gives how many octets it has there and who sent it. None where the
-    /// receiving fails.
-    fn receive(&mut self, buf: &mut [u8]) -> Option<(usize, SocketAddr)>
-        ensures { IfSome result (λ received. received.0 ≤ length buf.new) };
-
-    /// Sends a datagram. A failure is counted.
-    fn send(&mut self, octets: &[u8], to: SocketAddr);
+    /// The datagrams that are left to be received, and those that were sent; none where the device doesn't tell.
+    ghost datagrams: { Self → Option (List Datagram × List Datagram) };
 
     /// How many sends and receives have failed; at most 2^64 - 1 are counted.
-    fn faults(&self) -> u64;
+    ghost failed: { Self → ℕ };
+
+    /// Receives a datagram into the front of a buffer that has room for any, and gives how many octets it has there and who sent it.
+    /// None where the receiving fails, which is counted.
+    fn receive(&mut self, buf: &mut [u8]) -> Option<(usize, SocketAddr)>
+        requires { 65535 ≤ length buf.old }
+        ensures bound { IfSome result (λ received. received.0 ≤ length buf.new) }
+        ensures receives { IfSome result (λ received. Receives (datagrams self.old) (datagrams self.new) (take received.0 buf.new, received.1)) }
+        ensures same { IfSome result (λ _. failed self.new ≡ failed self.old) }
+        ensures nothing { result ≡ None → datagrams self.new ≡ datagrams self.old }
+        ensures counted { result ≡ None → failed self.new ≡ count_of (failed self.old) 1 };
+
+    /// Sends a datagram. A failure is counted.
+    fn send(&mut self, octets: &[u8], to: SocketAddr)
+        ensures { SendsOrFails (datagrams self.old) (failed self.old) (datagrams self.new) (failed self.new) (octets.now, to) };
+
+    /// How many sends and receives have failed; at most 2^64 - 1 are counted.
+    fn faults(&self) -> u64
+        ensures { result ≡ failed self.now };
 }
 
 /// A socket that several workers share, with the count of one worker's failures.
@@ -26,17 +41,25 @@ pub struct SharedSocket<'a> {
 
 impl<'a> SharedSocket<'a> {
     /// A worker's part in a socket, with no failure counted yet.
-    pub fn new(socket: &'a UdpSocket) -> SharedSocket<'a> {
+    pub fn new(socket: &'a UdpSocket) -> SharedSocket<'a>
+        ensures { result.faults ≡ 0 }
+    {
         SharedSocket { socket, faults: 0 }
     }
 
     /// Counts a failure.
-    fn count(&mut self) {
+    fn count(&mut self)
+        ensures { self.new.faults ≡ count_of self.old.faults 1 }
+    {
         self.faults = self.faults.saturating_add(1);
     }
 }
 
 impl Datagrams for SharedSocket<'_> {
+    ghost datagrams = { λ _. None };
+
+    ghost failed = { λ socket. socket.faults };
+
     fn receive(&mut self, buf: &mut [u8]) -> Option<(usize, SocketAddr)> {
         match self.socket.recv_from(buf) {
             Ok(received) => Some(received),

@@ -9,6 +9,7 @@
 mod allowed;
 mod answer;
 mod asked;
+mod connection;
 mod counted;
 mod datagrams;
 mod frames;
@@ -35,9 +36,11 @@ pub use service::{Plan, ServeFault, serve_zone};
 pub use stream::{Answering, StreamEnd, serve_stream};
 pub use tcp::TcpJob;
 pub use turn::Broken;
-pub use udp::{UdpJob, serve_udp};
+pub use udp::{DatagramsEnd, UdpJob, serve_udp};
 pub use workers::{Job, NotStarted, run_workers};
 
+#[cfg(test)]
+mod connection_tests;
 #[cfg(test)]
 mod gate_tests;
 #[cfg(test)]

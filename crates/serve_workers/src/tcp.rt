@@ -1,68 +1,39 @@
 //! Requests on connections, answered one after another (RFC 1035, 4.2.2).
-ghost use Rattle.std.specs.Prelude.{None};
-
 use crate::allowed::Allowed;
-use crate::counted::{Counted, Stream};
+use crate::connection::Connection;
+use crate::counted::Counted;
 use crate::gate::Gate;
 use crate::scratch::Scratch;
 use crate::stream::{Answering, serve_stream};
 use crate::workers::Job;
-use std::io::{self, ErrorKind, Read, Write};
 use std::net::{SocketAddr, TcpListener, TcpStream};
 use std::sync::Wait;
 use std::time::{Clock, Duration};
+use std::{io, thread};
 
-/// How many seconds a connection may take from its beginning, or from its last reply, until the next request is whole (own).
-const PATIENCE: u64 = 10;
+/// How many seconds are waited for room until the next connection is accepted (own).
+const PAUSE: u64 = 1;
 
-/// How many connections in a row may fail before they are begun, until a worker gives up (own).
-const FAILURES: u64 = 64;
-
-/// A connection that ends where no whole request has come for too long.
-#[derive(Drop)]
-struct Connection<'a, C> {
-    stream: TcpStream,
-    clock: &'a C,
-    begun: Duration,
+/// Why no connection was accepted.
+#[derive(Clone, Copy, Debug, PartialEq, Eq)]
+pub(crate) enum Refusal {
+    /// It failed before it was accepted, which is its client's alone.
+    Client,
+    /// There is no room for it: no descriptor, or no memory.
+    Room,
+    /// The listener is none.
+    Listener,
 }
 
-impl<'a, C: Clock> Connection<'a, C> {
-    /// A connection, whose time begins.
-    fn new(stream: TcpStream, clock: &'a C) -> io::Result<Connection<'a, C>> {
-        stream.set_nodelay(true)?;
-        stream.set_write_timeout(Some(Duration::from_secs(PATIENCE)))?;
-        let begun = clock.monotonic()?;
-        Ok(Connection {
-            stream,
-            clock,
-            begun,
-        })
-    }
-
-    /// How long it may still take until the next request is whole.
-    fn left(&self) -> io::Result<Duration> {
-        let taken = self.clock.monotonic()?.saturating_sub(self.begun);
-        let left = Duration::from_secs(PATIENCE).saturating_sub(taken);
-        if left.is_zero() {
-            return Err(io::Error::from(ErrorKind::TimedOut));
-        }
-        Ok(left)
-    }
-}
-
-impl<C: Clock> Stream for Connection<'_, C> {
-    ghost octets = { λ _. None };
-
-    fn read(&mut self, buf: &mut [u8]) -> io::Result<usize> {
-        let left = self.left()?;
-        self.stream.set_read_timeout(Some(left))?;
-        Read::read(&mut self.stream, buf)
-    }
-
-    fn write(&mut self, buf: &[u8]) -> io::Result<usize> {
-        let len = Write::write(&mut self.stream, buf)?;
-        self.begun = self.clock.monotonic()?;
-        Ok(len)
+/// Why no connection was accepted, by the system's error (Linux, accept(2)). One that isn't named there is as want of room, so that
+/// nobody turns on it without end.
+pub(crate) fn refusal_of(fault: &io::Error) -> Refusal {
+    match fault.raw_os_error() {
+        // EPERM, EINTR, ENONET, EPROTO, ENOPROTOOPT, EOPNOTSUPP, ENETDOWN, ENETUNREACH, ECONNABORTED, EHOSTDOWN, EHOSTUNREACH
+        Some(1 | 4 | 64 | 71 | 92 | 95 | 100 | 101 | 103 | 112 | 113) => Refusal::Client,
+        // EBADF, EFAULT, EINVAL, ENOTSOCK
+        Some(9 | 14 | 22 | 88) => Refusal::Listener,
+        _ => Refusal::Room,
     }
 }
 
@@ -73,7 +44,7 @@ pub struct TcpJob<'a, C> {
     clock: &'a C,
     allowed: Allowed<'a>,
     most: u64,
-    faults: u64,
+    has_failed: bool,
     scratch: Scratch,
 }
 
@@ -91,14 +62,31 @@ impl<'a, C: Clock> TcpJob<'a, C> {
             clock,
             allowed,
             most,
-            faults: 0,
+            has_failed: false,
             scratch,
         }
     }
 
-    /// Whether it has ended since connections failed before they were begun, too many in a row.
+    /// Whether it has ended since its listener failed.
     pub fn has_failed(&self) -> bool {
-        self.faults >= FAILURES
+        self.has_failed
+    }
+
+    /// The next connection, and who asks there; none where the listener is broken. One that fails before it is accepted is passed
+    /// over. For want of room nothing is accepted for a while.
+    fn accept<R: Wait>(&self, rt: &R) -> Option<(TcpStream, SocketAddr)> {
+        for _ in rt.forever() {
+            let fault = match self.listener.accept() {
+                Ok(accepted) => return Some(accepted),
+                Err(fault) => fault,
+            };
+            match refusal_of(&fault) {
+                Refusal::Client => {}
+                Refusal::Room => thread::sleep(self.clock, Duration::from_secs(PAUSE)),
+                Refusal::Listener => return None,
+            }
+        }
+        unreachable!()
     }
 
     /// Serves a connection, until it ends.
@@ -110,10 +98,13 @@ impl<'a, C: Clock> TcpJob<'a, C> {
         gate: &G,
     ) {
         let (stream, from) = accepted;
+        if stream.set_nodelay(true).is_err() {
+            return;
+        }
         let Ok(connection) = Connection::new(stream, self.clock) else {
             return;
         };
-        answering.turn_to(self.allowed.peer(from.ip(), true));
+        answering.turn_to(self.allowed.peer(from, true));
         let Scratch {
             request,
             reply,
@@ -127,18 +118,11 @@ impl<'a, C: Clock> TcpJob<'a, C> {
 impl<C: Clock + Sync> Job for TcpJob<'_, C> {
     fn run<R: Wait, A: Answering, G: Gate>(&mut self, rt: &R, answering: &mut A, gate: &G) {
         for _ in 0..self.most {
-            match self.listener.accept() {
-                Ok(accepted) => {
-                    self.faults = 0;
-                    self.serve(rt, answering, accepted, gate);
-                }
-                Err(_) => {
-                    self.faults = self.faults.saturating_add(1);
-                    if self.has_failed() {
-                        return;
-                    }
-                }
-            }
+            let Some(accepted) = self.accept(rt) else {
+                self.has_failed = true;
+                return;
+            };
+            self.serve(rt, answering, accepted, gate);
         }
     }
 }

@@ -1,5 +1,8 @@
 //! Requests as datagrams, answered one after another (RFC 1035, 4.2.1).
-ghost use Rattle.std.specs.Prelude.{◌≤◌, length};
+ghost use Rattle.std.specs.Prelude.{◌≡◌, ◌≤◌, length, IfSome, OnOk, OnErr};
+ghost use Rattle.serve_workers.specs.Served.{BeginsWith};
+ghost use Rattle.serve_workers.specs.Exchanged.{RepliesTo, TurnsBy, EndsBy};
+ghost use Rattle.serve_workers.specs.Replied.{by_datagram};
 
 use crate::allowed::Allowed;
 use crate::datagrams::{Datagrams, SharedSocket};
@@ -7,11 +10,78 @@ use crate::gate::Gate;
 use crate::scratch::Scratch;
 use crate::stream::Answering;
 use crate::workers::Job;
-use std::net::UdpSocket;
+use snapshot_cell::Spent;
+use std::net::{SocketAddr, UdpSocket};
 use std::sync::Wait;
 
-/// Answers requests that come as datagrams, so many; false where a receive fails before. A send that fails is counted by the datagrams.
-/// What is behind the 65,535th octet of a datagram is lost, and there is none.
+/// How the answering of datagrams ends.
+#[derive(Clone, Copy, Debug, PartialEq, Eq)]
+pub enum DatagramsEnd {
+    /// As many are answered as may be.
+    Done,
+    /// By a datagram that couldn't be received.
+    Device,
+    /// No version could be loaded.
+    Spent,
+}
+
+/// Answers a request that came as a datagram: its reply goes to who sent it, and a send that fails is counted. [`Spent`] where no
+/// version can be loaded; nothing is then sent.
+fn reply<R: Wait, A: Answering, D: Datagrams>(
+    rt: &R,
+    answering: &mut A,
+    datagrams: &mut D,
+    request: &[u8],
+    from: SocketAddr,
+    out: &mut [u8],
+) -> Result<(), Spent>
+    requires { 65535 ≤ length out.old }
+    ensures grows { BeginsWith (A.seen answering.new) (A.seen answering.old) }
+    ensures replied { OnOk result (RepliesTo A.is_reply (by_datagram (A.peer answering.old)) request.now from (A.seen answering.new) (D.datagrams datagrams.old) (D.failed datagrams.old) (D.datagrams datagrams.new) (D.failed datagrams.new)) }
+    ensures spent { OnErr result (D.datagrams datagrams.new ≡ D.datagrams datagrams.old) }
+    ensures same { OnErr result (D.failed datagrams.new ≡ D.failed datagrams.old) }
+{
+    match answering.answer(rt, request, out) {
+        Ok(Some(len)) => {
+            datagrams.send(&out[..len], from);
+            Ok(())
+        }
+        Ok(None) => Ok(()),
+        Err(spent) => Err(spent),
+    }
+}
+
+/// Receives a datagram and answers it; how the answering ends where it does so by this.
+fn turn<R: Wait, A: Answering, D: Datagrams, G: Gate>(
+    rt: &R,
+    answering: &mut A,
+    datagrams: &mut D,
+    allowed: Allowed<'_>,
+    gate: &G,
+    request: &mut [u8],
+    out: &mut [u8],
+) -> Option<DatagramsEnd>
+    requires request_room { 65535 ≤ length request.old }
+    requires reply_room { 65535 ≤ length out.old }
+    ensures { IfSome (D.datagrams datagrams.old) (λ o. TurnsBy A.is_reply allowed.entry.addresses.now result (A.seen answering.old) o (D.failed datagrams.old) (A.seen answering.new) (D.datagrams datagrams.new) (D.failed datagrams.new)) }
+{
+    let Some((len, from)) = datagrams.receive(request) else {
+        return Some(DatagramsEnd::Device);
+    };
+    answering.turn_to(allowed.peer(from, false));
+    gate.enter();
+    let replied = reply(rt, answering, datagrams, &request[..len], from, out);
+    gate.leave();
+    match replied {
+        Ok(()) => {}
+        Err(_) => return Some(DatagramsEnd::Spent),
+    }
+    None
+}
+
+/// Answers requests that come as datagrams one after another, so many; fewer where one can't be received, or no version can be loaded.
+/// Over datagrams that tell themselves, what is sent is the replies in the order of the requests, each to who asked, who may update
+/// and transfer by its own address; but for those that fail to be sent, which are counted (RFC 1035, 4.2.1).
 pub fn serve_udp<R: Wait, A: Answering, D: Datagrams, G: Gate>(
     rt: &R,
     answering: &mut A,
@@ -19,22 +89,20 @@ pub fn serve_udp<R: Wait, A: Answering, D: Datagrams, G: Gate>(
     allowed: Allowed<'_>,
     most: u64,
     gate: &G,
-    scratch: &mut Scratch,
-) -> bool {
-    let Scratch { request, reply, .. } = scratch;
-    for _ in 0..most {
-        let Some((len, from)) = datagrams.receive(request) else {
-            return false;
-        };
-        answering.turn_to(allowed.peer(from.ip(), false));
-        gate.enter();
-        match answering.answer(rt, &request[..len], reply) {
-            Ok(Some(written)) => datagrams.send(&reply[..written], from),
-            Ok(None) | Err(_) => {}
+    request: &mut [u8],
+    out: &mut [u8],
+) -> DatagramsEnd
+    requires request_room { 65535 ≤ length request.old }
+    requires reply_room { 65535 ≤ length out.old }
+    ensures { IfSome (D.datagrams datagrams.old) (λ o. EndsBy A.is_reply allowed.entry.addresses.now result (A.seen answering.old) o (D.failed datagrams.old) most (A.seen answering.new) (D.datagrams datagrams.new) (D.failed datagrams.new)) }
+{
+    for _done in 0..most {
+        match turn(rt, answering, datagrams, allowed, gate, request, out) {
+            Some(end) => return end,
+            None => {}
         }
-        gate.leave();
     }
-    true
+    DatagramsEnd::Done
 }
 
 /// A worker's job on a socket of datagrams.
@@ -72,15 +140,17 @@ impl<'a> UdpJob<'a> {
 
 impl Job for UdpJob<'_> {
     fn run<R: Wait, A: Answering, G: Gate>(&mut self, rt: &R, answering: &mut A, gate: &G) {
-        let is_done = serve_udp(
+        let Scratch { request, reply, .. } = &mut self.scratch;
+        let end = serve_udp(
             rt,
             answering,
             &mut self.datagrams,
             self.allowed,
             self.most,
             gate,
-            &mut self.scratch,
+            request,
+            reply,
         );
-        self.has_failed = !is_done;
+        self.has_failed = end != DatagramsEnd::Done;
     }
 }

@@ -1,0 +1,93 @@
+//! Connections that end where a request, or the taking of a reply, is too long in coming.
+use crate::counted::Stream;
+use std::io::{self, ErrorKind};
+use std::net::TcpStream;
+use std::time::{Clock, Duration};
+
+/// How many seconds a connection may take from its beginning, or from its last message, until the next request is whole; and as many
+/// until a message is taken in whole (own).
+pub(crate) const PATIENCE: u64 = 10;
+
+/// A stream whose reads and writes can be bounded in time.
+pub(crate) trait Timed: Stream {
+    /// From now on a read fails where it takes longer. An error where this can't be had.
+    fn limit_reads(&self, most: Duration) -> io::Result<()>;
+
+    /// From now on a write that takes longer fails, or gives what was written till then. An error where this can't be had.
+    fn limit_writes(&self, most: Duration) -> io::Result<()>;
+}
+
+impl Timed for TcpStream {
+    fn limit_reads(&self, most: Duration) -> io::Result<()> {
+        self.set_read_timeout(Some(most))
+    }
+
+    fn limit_writes(&self, most: Duration) -> io::Result<()> {
+        self.set_write_timeout(Some(most))
+    }
+}
+
+/// A connection that fails where no whole request has come for too long, or where its peer is too long in taking a message.
+#[derive(Drop)]
+pub(crate) struct Connection<'a, S, C> {
+    stream: S,
+    clock: &'a C,
+    /// Since when the request, or the taking of the message, is waited for.
+    begun: Duration,
+    /// Whether a message is written in part.
+    is_writing: bool,
+}
+
+impl<'a, S, C: Clock> Connection<'a, S, C> {
+    /// A connection, whose time begins. An error where the clock can't be read.
+    pub(crate) fn new(stream: S, clock: &'a C) -> io::Result<Connection<'a, S, C>>
+    where
+        S: Drop,
+    {
+        let begun = clock.monotonic()?;
+        Ok(Connection {
+            stream,
+            clock,
+            begun,
+            is_writing: false,
+        })
+    }
+
+    /// How long what is waited for may still take. [`ErrorKind::TimedOut`] where it has taken too long, and the clock's error.
+    fn left(&self) -> io::Result<Duration> {
+        let taken = self.clock.monotonic()?.saturating_sub(self.begun);
+        let left = Duration::from_secs(PATIENCE).saturating_sub(taken);
+        if left.is_zero() {
+            return Err(io::Error::from(ErrorKind::TimedOut));
+        }
+        Ok(left)
+    }
+}
+
+impl<S: Timed, C: Clock> Stream for Connection<'_, S, C> {
+    ghost octets = { λ connection. S.octets connection.stream };
+
+    #[tactic(auto, using(crate::proofs::ConnectionLemmas::gives_nothing))]
+    fn read(&mut self, buf: &mut [u8]) -> io::Result<usize> {
+        let left = self.left()?;
+        self.stream.limit_reads(left)?;
+        self.stream.read(buf)
+    }
+
+    // A write that takes all that it is given ends a message, and the next one begins one.
+    #[tactic(auto, using(crate::proofs::ConnectionLemmas::takes_nothing))]
+    fn write(&mut self, buf: &[u8]) -> io::Result<usize> {
+        if !self.is_writing {
+            self.begun = self.clock.monotonic()?;
+            self.is_writing = true;
+        }
+        let left = self.left()?;
+        self.stream.limit_writes(left)?;
+        let len = self.stream.write(buf)?;
+        if len == buf.len() {
+            self.is_writing = false;
+            self.begun = self.clock.monotonic().unwrap_or(self.begun);
+        }
+        Ok(len)
+    }
+}
