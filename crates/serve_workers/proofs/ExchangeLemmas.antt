@@ -7,10 +7,15 @@ use Rattle.serve_workers.specs.Allowed.{IsPeer}
 use Rattle.serve_workers.specs.Datagrams.{Datagram, Receives, Sends, SendsOrFails, none, sent, failed, count_of}
 use Rattle.serve_workers.specs.Exchanged.{RepliesTo, Exchanged, TurnMade, TurnsBy, EndsBy}
 use Rattle.serve_workers.specs.Exchanged.{none as no_exchange, next}
+use Rattle.serve_workers.specs.Replied.{by_datagram}
 use Rattle.serve_workers.specs.Served.{BeginsWith}
 use Rattle.serve_workers.specs.declared.udp.DatagramsEnd.{DatagramsEnd}
 use Rattle.serve_workers.specs.declared.udp.DatagramsEnd.TheVariants.{Done, Device, Spent}
 use Rattle.serve_workers.proofs.TurnLemmas.{begins_itself, begins_more}
+
+-- a peer that asks by datagrams is itself as one that does
+pub datagram_same : (peer : Peer) → peer.stream ≡ false → by_datagram peer ≡ peer
+datagram_same peer e = λ i. let own : Peer = record { may_update = peer.may_update; may_transfer = peer.may_transfer; stream = sym e i } in own
 
 count_none : (faults : ℕ) → faults ≡ count_of faults 0
 count_none faults = omega arith

@@ -1,5 +1,5 @@
 -- What is read and written in several turns.
-use Rattle.std.proofs.Common.{◌≡◌, refl, ℕ, ◌+◌, ◌-◌, ◌≤◌, List, [], ◌∷◌, ◌++◌, Option, None, Some, IfSome, arith, length, take, drop, slice_range, sym, ap, ◌∙◌, subst, le_refl, drop_at, length-take-le, append_assoc, append-nil, take_all, length-drop, ◌<◌, ◌^◌, ◌≢◌, false, nat_le}
+use Rattle.std.proofs.Common.{◌≡◌, ℕ, ◌+◌, ◌-◌, ◌≤◌, List, [], ◌++◌, Option, None, Some, arith, length, take, drop, slice_range, sym, ap, ◌∙◌, subst, le_refl, drop_at, length-take-le, append_assoc, append-nil, take_all, length-drop, ◌<◌, ◌^◌, false, nat_le}
 use Rattle.std.proofs.lemmas.Slice.{take-put_mid_below}
 use borrow.Rule.Slice.PartMut.{put_mid, post_of}
 use lib.Seq.{take-add, take-append-le}
@@ -7,8 +7,7 @@ use Rattle.std.proofs.lemmas.Bool.Decides.{nat_tests}
 use Rattle.std.proofs.lemmas.Nat.{from_be_bytes-to_be_bytes_2}
 use Rattle.std.specs.Int.{w16, to_be_bytes}
 use Rattle.dns_message.specs.Message.{number_at}
-use Rattle.dns_message.specs.Frame.{frame_in}
-use Rattle.serve_workers.specs.Octets.{Gives, Takes, IsAtEnd, IsTorn}
+use Rattle.serve_workers.specs.Octets.{Gives, Takes, IsTorn}
 
 -- what is read after what was read is read with it
 pub gives_more : (a b c : Option (List ℕ × List ℕ)) (xs ys : List ℕ) → Gives a b xs → Gives b c ys → Gives a c (xs ++ ys)

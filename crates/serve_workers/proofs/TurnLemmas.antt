@@ -1,8 +1,8 @@
 -- Turns one behind the other.
-use Rattle.std.proofs.Common.{◌≡◌, refl, ℕ, List, [], ◌∷◌, ◌++◌, Option, None, Some, IfSome, ◌⊎◌, inl, inr, sym, ap, ◌∙◌, subst, append_assoc, append-nil}
+use Rattle.std.proofs.Common.{◌≡◌, refl, ℕ, List, [], ◌∷◌, ◌++◌, Option, None, Some, IfSome, inl, inr, sym, ap, ◌∙◌, subst, append_assoc, append-nil}
 use Rattle.dns_message.specs.Frame.{frame_of}
-use Rattle.serve_workers.specs.Octets.{Gives, Takes, IsAtEnd, IsTorn, frames_of}
-use Rattle.serve_workers.specs.Served.{BeginsWith, Answers, none, next, Served, PartlyServed, EndsAs}
+use Rattle.serve_workers.specs.Octets.{Gives, Takes, IsAtEnd, frames_of}
+use Rattle.serve_workers.specs.Served.{BeginsWith, none, next, Served, PartlyServed, EndsAs}
 use Rattle.serve_workers.specs.Turns.{Turn, PartOfTurn, Stops, TurnsAs, Replies, RepliesPartly, IsBrokenAs, end_of}
 use Rattle.serve_workers.specs.declared.turn.Broken.{Broken}
 use Rattle.serve_workers.specs.declared.turn.Broken.TheVariants.{Spent as IsSpent, Failed}
@@ -15,7 +15,7 @@ begins_itself values = ([], sym (append-nil values))
 pub begins_more : {T : Type 0} (a b c : List T) → BeginsWith b a → BeginsWith c b → BeginsWith c a
 begins_more a b c first then = (first.0 ++ then.0, then.1 ∙ ap (λ l. l ++ then.0) first.1 ∙ append_assoc a first.0 then.0)
 
-frames_push : (messages : List (List ℕ)) (message : List ℕ) → frames_of (messages ++ message ∷ []) ≡ frames_of messages ++ frame_of message
+pub frames_push : (messages : List (List ℕ)) (message : List ℕ) → frames_of (messages ++ message ∷ []) ≡ frames_of messages ++ frame_of message
 frames_push [] message = append-nil (frame_of message)
 frames_push (first ∷ messages) message = ap (λ l. frame_of first ++ l) (frames_push messages message) ∙ sym (append_assoc (frame_of first) (frames_of messages) (frame_of message))
 

@@ -1,5 +1,5 @@
 -- The octets of a stream that tells them (own).
-use Rattle.std.specs.Prelude.{◌≡◌, ◌≢◌, ℕ, List, [], ◌∷◌, ◌++◌, length, take, flat_map, Option, None, Some, IfSome}
+use Rattle.std.specs.Prelude.{◌≡◌, ◌≢◌, ℕ, List, [], ◌∷◌, ◌++◌, take, flat_map, Option, None, Some, IfSome}
 use Rattle.dns_message.specs.Frame.{frame_of, frame_in}
 
 -- these octets were read from a stream: those that were left begin with them, and nothing was written

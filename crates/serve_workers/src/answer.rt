@@ -1,14 +1,17 @@
-//! Requests that are answered at once, with a version that is loaded (RFC 1034, 4.3.2), and updates, which the engine answers.
-ghost use Rattle.std.specs.Prelude.{◌≤◌, [], ◌∷◌, length, take};
+//! Requests that are answered at once, with a version that is loaded (RFC 1034, 4.3.2), and those that the engine answers, or the
+//! versions that it keeps: updates (RFC 2136, 3) and transfers (RFC 1995, 4; RFC 5936, 2.2).
+ghost use Rattle.std.specs.Prelude.{◌≡◌, ◌≤◌, ◌⊎◌, List, ℕ, [], ◌∷◌, length, take};
+ghost use Rattle.dns_message.specs.Request.{reads};
+ghost use Rattle.dns_message.specs.declared.query.Parsed.TheVariants.{Query as SaysQuery};
 ghost use Rattle.serve_core.specs.Transport.{limit_of};
 ghost use Rattle.serve_core.specs.Transfers.{transport_of};
-ghost use Rattle.serve_workers.specs.Replied.{IsReplied, IsUpdate, IsNow};
+ghost use Rattle.serve_workers.specs.Replied.{IsReplied, IsUpdate, IsTransfer, IsNow, IsServed};
 
 use crate::server::Server;
-use dns_engine::{FirstZone, VersionCell, VersionReader};
-use dns_message::{Parsed, parse};
+use dns_engine::{FirstZone, Newest, VersionCell, VersionReader};
+use dns_message::{Parsed, Query, parse};
 use dns_rdata::Rcode;
-use serve_core::{Peer, respond_to, write_bare};
+use serve_core::{Peer, is_permitted, respond_to_peer, write_bare};
 use std::alloc::Global;
 use std::sync::Wait;
 
@@ -19,17 +22,28 @@ pub enum Now {
     Bytes(usize),
     /// There is no reply.
     Silent,
-    /// The request is an update, which the engine answers.
+    /// The request is an update, or asks for a transfer that is permitted.
     Later,
     /// No version could be loaded.
+    Spent,
+}
+
+/// What an update or a transfer gets.
+#[derive(Drop)]
+pub enum Served<'s, Z: FirstZone> {
+    /// A reply of so many octets.
+    Reply(usize),
+    /// The messages of a transfer of the last of these versions, which a query asks for.
+    Transfer(Newest<'s, Z>, Query),
+    /// No version could be owned.
     Spent,
 }
 
 /// The OPCODE of a dynamic update (RFC 2136, 1.3).
 const UPDATE: u8 = 5;
 
-/// Answers a request at once, unless it is an update: writes the reply in the version that is loaded to the front of `out`. Only
-/// a query loads a version.
+/// Answers a request at once, unless it is an update or a transfer that is permitted: writes the reply in the version that is loaded to
+/// the front of `out`. Only a query loads a version.
 pub fn answer_now<R: Wait, Z: FirstZone>(
     rt: &R,
     alloc: Global,
@@ -57,36 +71,62 @@ pub fn answer_now<R: Wait, Z: FirstZone>(
             let Ok(strong) = cell.load(rt, reader) else {
                 return Now::Spent;
             };
-            let zone = strong.get().zone();
-            let len = respond_to(zone, &query, transport, peer.may_update, out);
-            return Now::Bytes(len);
+            let version = strong.get();
+            if is_permitted(version, &query, peer) {
+                return Now::Later;
+            }
+            return Now::Bytes(respond_to_peer(version.zone(), &query, peer, out));
         }
     }
 }
 
-/// Answers an update: hands it to the engine, and writes the code that it gets to the front of `out` (RFC 2136, 3).
-pub fn serve_one<R: Wait, Z: FirstZone>(
+/// Answers an update: hands it to the engine, and writes the code that it gets to the front of `out` (RFC 2136, 3). Of a transfer it
+/// gives the versions that its messages are made of, and the query; where no longer permitted, the reply.
+#[tactic(auto, using(crate::proofs::ReplyLemmas::later_heard))]
+pub fn serve_one<'s, R: Wait, Z: FirstZone>(
     rt: &R,
     alloc: Global,
-    server: &Server<'_, Z>,
+    server: &Server<'s, Z>,
+    reader: &mut VersionReader<Z>,
     peer: Peer,
     request: &[u8],
     out: &mut [u8],
-) -> usize
-    requires update { IsUpdate request.now }
+) -> Served<'s, Z>
+    requires later { IsUpdate request.now ⊎ IsTransfer Z.zone peer request.now }
     requires room { limit_of (transport_of peer) ≤ length out.old }
-    ensures len { result ≤ limit_of (transport_of peer) }
-    ensures reply { IsReplied Z.zone peer request.now (take result out.new ∷ []) }
+    ensures { IsServed Z.zone peer request.now out.new result }
 {
     let transport = peer.transport();
     match parse(alloc, request) {
         Parsed::Update(update) => {
             let code = server.update(rt, alloc, &update, peer.may_update);
-            write_bare(update.head, code, transport, out)
+            Served::Reply(write_bare(update.head, code, transport, out))
         }
-        Parsed::NoMemory(head) => write_bare(head, Rcode::ServFail, transport, out),
-        Parsed::Fault(head, code) => write_bare(head, code, transport, out),
+        Parsed::NoMemory(head) => Served::Reply(write_bare(head, Rcode::ServFail, transport, out)),
+        Parsed::Fault(head, code) => Served::Reply(write_bare(head, code, transport, out)),
+        Parsed::Query(query) => {
+            let Ok(newest) = server.versions_for(rt, reader, &query) else {
+                return Served::Spent;
+            };
+            serve_query(newest, query, peer, out)
+        }
         Parsed::Silent => unreachable!(),
-        Parsed::Query(_) => unreachable!(),
     }
+}
+
+/// What a query gets in the last of these versions.
+fn serve_query<'s, Z: FirstZone>(
+    newest: Newest<'s, Z>,
+    query: Query,
+    peer: Peer,
+    out: &mut [u8],
+) -> Served<'s, Z>
+    requires { limit_of (transport_of peer) ≤ length out.old }
+    ensures { (request : List ℕ) → reads request ≡ SaysQuery query → IsServed Z.zone peer request out.new result }
+{
+    if is_permitted(newest.last(), &query, peer) {
+        return Served::Transfer(newest, query);
+    }
+    let len = respond_to_peer(newest.last().zone(), &query, peer, out);
+    Served::Reply(len)
 }

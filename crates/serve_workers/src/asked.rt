@@ -1,10 +1,17 @@
 //! A server as one who answers a peer's requests.
-ghost use Rattle.std.specs.Prelude.{[]};
-ghost use Rattle.serve_workers.specs.Replied.{IsReplied};
+ghost use Rattle.std.specs.Prelude.{◌≡◌, ◌-◌, ◌^◌, ◌<◌, ◌≤◌, ◌⊎◌, [], length, IfErr, OnOk};
+ghost use Rattle.std.specs.Result.{IsErrOf};
+ghost use Rattle.zone_tree.specs.Version.{Version};
+ghost use Rattle.serve_workers.specs.Replied.{IsReplied, IsUpdate, IsTransfer};
+ghost use Rattle.serve_workers.specs.Turns.{Replies, IsBrokenAs};
+ghost use Rattle.serve_workers.specs.declared.turn.Broken.{Broken as BrokenBy};
 
-use crate::answer::{Now, answer_now, serve_one};
+use crate::answer::{Now, Served, answer_now, serve_one};
+use crate::counted::{Counted, Stream};
 use crate::server::Server;
 use crate::stream::Answering;
+use crate::transfer::{send_transfer, write_transfer};
+use crate::turn::{Broken, write_frame};
 use dns_engine::{FirstZone, VersionReader};
 use serve_core::Peer;
 use snapshot_cell::Spent;
@@ -35,6 +42,36 @@ impl<'a, 's, Z: FirstZone> Asked<'a, 's, Z> {
             peer,
         }
     }
+
+    /// Answers an update, or a transfer that is permitted, on a stream.
+    #[tactic(auto, using(crate::proofs::ReplyLemmas::limit_most))]
+    fn answer_later<R: Wait, S: Stream>(
+        &mut self,
+        rt: &R,
+        stream: &mut Counted<S>,
+        request: &[u8],
+        out: &mut [u8],
+        frame: &mut [u8],
+    ) -> Result<(), Broken>
+        requires later { IsUpdate request.now ⊎ IsTransfer Z.zone self.old.peer request.now }
+        requires counting { stream.old.faults < 2 ^ 64 - 1 }
+        requires reply_room { 65535 ≤ length out.old }
+        requires frame_room { 65537 ≤ length frame.old }
+        ensures peer { self.new.peer ≡ self.old.peer }
+        ensures replied { OnOk result (Replies {T = Version} (λ _. IsReplied Z.zone self.old.peer) [] request.now [] (S.octets stream.old.inner) (S.octets stream.new.inner)) }
+        ensures broken { IfErr result (λ broken. IsBrokenAs {T = Version} (λ _. IsReplied Z.zone self.old.peer) broken [] request.now [] (S.octets stream.old.inner) (S.octets stream.new.inner)) }
+        ensures same { OnOk result (stream.new.faults ≡ stream.old.faults) }
+        ensures counted { IsErrOf result BrokenBy.Failed → stream.old.faults < stream.new.faults }
+    {
+        let peer = self.peer;
+        match serve_one(rt, self.alloc, self.server, self.reader, peer, request, out) {
+            Served::Reply(len) => write_frame(stream, &out[..len], frame),
+            Served::Transfer(newest, query) => {
+                send_transfer(&newest, &query, peer, stream, out, frame)
+            }
+            Served::Spent => Err(Broken::Spent),
+        }
+    }
 }
 
 impl<'a, 's, Z: FirstZone> Answering for Asked<'a, 's, Z> {
@@ -56,15 +93,42 @@ impl<'a, 's, Z: FirstZone> Answering for Asked<'a, 's, Z> {
         request: &[u8],
         out: &mut [u8],
     ) -> Result<Option<usize>, Spent> {
+        let peer = Peer {
+            stream: false,
+            ..self.peer
+        };
         let cell = self.server.cell();
-        match answer_now(rt, self.alloc, cell, self.reader, self.peer, request, out) {
+        match answer_now(rt, self.alloc, cell, self.reader, peer, request, out) {
             Now::Bytes(len) => Ok(Some(len)),
             Now::Silent => Ok(None),
             Now::Later => {
-                let len = serve_one(rt, self.alloc, self.server, self.peer, request, out);
-                Ok(Some(len))
+                match serve_one(rt, self.alloc, self.server, self.reader, peer, request, out) {
+                    Served::Reply(len) => Ok(Some(len)),
+                    Served::Transfer(newest, query) => {
+                        Ok(write_transfer(&newest, &query, peer, out))
+                    }
+                    Served::Spent => Err(Spent),
+                }
             }
             Now::Spent => Err(Spent),
+        }
+    }
+
+    #[tactic(auto, using(crate::proofs::ReplyLemmas::limit_most, crate::proofs::ReplyLemmas::silent_replied, crate::proofs::TurnLemmas::begins_itself))]
+    fn answer_on<R: Wait, S: Stream>(
+        &mut self,
+        rt: &R,
+        stream: &mut Counted<S>,
+        request: &[u8],
+        out: &mut [u8],
+        frame: &mut [u8],
+    ) -> Result<(), Broken> {
+        let cell = self.server.cell();
+        match answer_now(rt, self.alloc, cell, self.reader, self.peer, request, out) {
+            Now::Bytes(len) => write_frame(stream, &out[..len], frame),
+            Now::Silent => Ok(()),
+            Now::Later => self.answer_later(rt, stream, request, out, frame),
+            Now::Spent => Err(Broken::Spent),
         }
     }
 }

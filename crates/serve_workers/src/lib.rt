@@ -19,12 +19,13 @@ mod server;
 mod service;
 mod stream;
 mod tcp;
+mod transfer;
 mod turn;
 mod udp;
 mod workers;
 
 pub use allowed::Allowed;
-pub use answer::{Now, answer_now, serve_one};
+pub use answer::{Now, Served, answer_now, serve_one};
 pub use asked::Asked;
 pub use counted::{Counted, DeviceFailed, Stream};
 pub use datagrams::{Datagrams, SharedSocket};
@@ -34,6 +35,7 @@ pub use server::Server;
 pub use service::{Plan, ServeFault, serve_zone};
 pub use stream::{Answering, StreamEnd, serve_stream};
 pub use tcp::TcpJob;
+pub use turn::Broken;
 pub use udp::{DatagramsEnd, UdpJob, serve_udp};
 pub use workers::{Job, NotStarted, run_workers};
 

@@ -6,9 +6,12 @@ ghost use Rattle.dns_engine.specs.Replayed.{IsReplay};
 ghost use Rattle.dns_engine.specs.declared.fault.EngineFault.{EngineFault as Fault};
 ghost use Rattle.dns_engine.specs.declared.owners.TheConstants.{KEPT};
 
-use dns_engine::{Engine, FirstZone, NoEngine, VersionCell, VersionPublisher, VersionReader};
-use dns_message::Update;
-use dns_rdata::Rcode;
+use dns_engine::{
+    Engine, FirstZone, Newest, NoEngine, VersionCell, VersionPublisher, VersionReader,
+};
+use dns_message::{Query, Update};
+use dns_rdata::{RType, Rcode};
+use snapshot_cell::Spent;
 use std::alloc::Global;
 use std::sync::{Mutex, Wait};
 
@@ -53,5 +56,21 @@ impl<'a, Z: FirstZone> Server<'a, Z> {
     {
         let mut engine = self.engine.lock(rt);
         engine.update(rt, alloc, self.cell, update, may)
+    }
+
+    /// The versions that a query for a transfer is answered with: of an IXFR all that the engine keeps, which are copied behind its
+    /// lock; of another query the one that is loaded, without that lock. [`Spent`] where one of them can't be owned.
+    pub fn versions_for<R: Wait>(
+        &self,
+        rt: &R,
+        reader: &mut VersionReader<Z>,
+        query: &Query,
+    ) -> Result<Newest<'a, Z>, Spent> {
+        if query.question.rtype == RType::IXFR {
+            let engine = self.engine.lock(rt);
+            return engine.newest(self.cell);
+        }
+        let strong = self.cell.load(rt, reader)?;
+        Ok(Newest::alone(strong))
     }
 }

@@ -1,14 +1,18 @@
 //! Requests of a stream, answered one after another (RFC 1035, 4.2.2).
-ghost use Rattle.std.specs.Prelude.{◌≡◌, ℕ, ◌-◌, ◌^◌, ◌<◌, ◌≤◌, List, length, option_map, IfOk, IfSome};
+ghost use Rattle.std.specs.Prelude.{◌≡◌, ℕ, ◌-◌, ◌^◌, ◌<◌, ◌≤◌, List, length, IfOk, IfErr, IfSome, OnOk};
 ghost use Rattle.zone_tree.specs.Version.{Version};
+ghost use Rattle.std.specs.Result.{IsErrOf};
 ghost use Rattle.serve_workers.specs.Octets.{messages_in};
+ghost use Rattle.serve_workers.specs.Replied.{by_datagram};
+ghost use Rattle.serve_workers.specs.Turns.{Replies, IsBrokenAs};
+ghost use Rattle.serve_workers.specs.declared.turn.Broken.{Broken as BrokenBy};
 ghost use Rattle.serve_workers.specs.Served.{BeginsWith, EndsAs};
 ghost use Rattle.serve_core.specs.declared.peer.Peer.{Peer as PeerAsking};
 ghost use Rattle.serve_workers.specs.declared.stream.StreamEnd.{StreamEnd as End};
 
 use crate::counted::{Counted, Stream};
 use crate::gate::Gate;
-use crate::turn::turn;
+use crate::turn::{Broken, turn};
 use serve_core::Peer;
 use snapshot_cell::Spent;
 use std::sync::Wait;
@@ -42,8 +46,8 @@ pub trait Answering {
         ensures other { peer self.new ≡ other }
         ensures grows { BeginsWith (seen self.new) (seen self.old) };
 
-    /// Answers a request: writes the reply to the front of a buffer, and gives how many octets it has; None where there is no reply.
-    /// [`Spent`] where no version can be loaded.
+    /// Answers a request that came as a datagram: writes the one message of the reply to the front of a buffer, and gives how many
+    /// octets it has; None where there is no reply. [`Spent`] where no version can be loaded.
     fn answer<R: Wait>(
         &mut self,
         rt: &R,
@@ -54,7 +58,27 @@ pub trait Answering {
         ensures same { peer self.new ≡ peer self.old }
         ensures grows { BeginsWith (seen self.new) (seen self.old) }
         ensures bound { IfOk result (λ len. IfSome len (λ n. (n < 65536) × (n ≤ length out.new))) }
-        ensures reply { IfOk result (λ len. is_reply (peer self.old) (seen self.new) request.now (messages_in len out.new)) };
+        ensures reply { IfOk result (λ len. is_reply (by_datagram (peer self.old)) (seen self.new) request.now (messages_in len out.new)) };
+
+    /// Answers a request of a stream: writes the frames of the reply's messages, in their order, by way of buffers for a message and for
+    /// a frame.
+    fn answer_on<R: Wait, S: Stream>(
+        &mut self,
+        rt: &R,
+        stream: &mut Counted<S>,
+        request: &[u8],
+        out: &mut [u8],
+        frame: &mut [u8],
+    ) -> Result<(), Broken>
+        requires counting { stream.old.faults < 2 ^ 64 - 1 }
+        requires reply_room { 65535 ≤ length out.old }
+        requires frame_room { 65537 ≤ length frame.old }
+        ensures peer { peer self.new ≡ peer self.old }
+        ensures grows { BeginsWith (seen self.new) (seen self.old) }
+        ensures replied { OnOk result (Replies (is_reply (peer self.old)) (seen self.old) request.now (seen self.new) (S.octets stream.old.inner) (S.octets stream.new.inner)) }
+        ensures broken { IfErr result (λ broken. IsBrokenAs (is_reply (peer self.old)) broken (seen self.old) request.now (seen self.new) (S.octets stream.old.inner) (S.octets stream.new.inner)) }
+        ensures same { OnOk result (stream.new.faults ≡ stream.old.faults) }
+        ensures counted { IsErrOf result BrokenBy.Failed → stream.old.faults < stream.new.faults };
 }
 
 /// Answers the requests of a stream one after another, until it ends. Over a stream that tells its octets, what is written is the

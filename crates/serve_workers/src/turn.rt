@@ -1,14 +1,13 @@
 //! One turn of a stream: a request is read and its reply is written (RFC 1035, 4.2.2).
 ghost use Rattle.std.specs.Prelude.{◌≡◌, ◌-◌, ◌^◌, ◌<◌, ◌≤◌, ℕ, List, ◌++◌, length, Some, None, IfErr, IfSome, OnOk, OnErr};
-ghost use Rattle.std.specs.Result.{IsErrOf};
 ghost use Rattle.serve_workers.specs.Octets.{Takes};
 ghost use Rattle.dns_message.specs.Frame.{frame_of};
 ghost use Rattle.serve_workers.specs.Served.{BeginsWith};
-ghost use Rattle.serve_workers.specs.Turns.{Replies, IsBrokenAs, TurnsAs, end_of};
+ghost use Rattle.serve_workers.specs.Turns.{TurnsAs, end_of};
 ghost use Rattle.serve_workers.specs.declared.turn.Broken.{Broken as BrokenBy};
 ghost use Rattle.serve_workers.specs.declared.stream.StreamEnd.{StreamEnd as End};
 
-use crate::counted::{Counted, DeviceFailed, Stream};
+use crate::counted::{Counted, Stream};
 use crate::frames::{Cut, put, read_frame};
 use crate::gate::Gate;
 use crate::stream::{Answering, StreamEnd};
@@ -16,8 +15,8 @@ use dns_message::put_frame;
 use std::sync::Wait;
 
 /// Why no whole reply is written.
-#[derive(Clone, Copy)]
-pub(crate) enum Broken {
+#[derive(Clone, Copy, Debug, PartialEq, Eq)]
+pub enum Broken {
     /// No version could be loaded.
     Spent,
     /// The stream failed.
@@ -37,11 +36,11 @@ impl Broken {
 }
 
 /// Writes a message's frame to a stream, through a buffer.
-fn write_frame<S: Stream>(
+pub(crate) fn write_frame<S: Stream>(
     stream: &mut Counted<S>,
     message: &[u8],
     frame: &mut [u8],
-) -> Result<(), DeviceFailed>
+) -> Result<(), Broken>
     requires counting { stream.old.faults < 2 ^ 64 - 1 }
     requires most { length message.now ≤ 65535 }
     requires room { 65537 ≤ length frame.old }
@@ -49,38 +48,12 @@ fn write_frame<S: Stream>(
     ensures same { OnOk result (stream.new.faults ≡ stream.old.faults) }
     ensures part { OnErr result ((front back : List ℕ) × (frame_of message.now ≡ front ++ back) × Takes (S.octets stream.old.inner) (S.octets stream.new.inner) front) }
     ensures counted { OnErr result (stream.old.faults < stream.new.faults) }
+    ensures failed { IfErr result (λ broken. broken ≡ BrokenBy.Failed) }
 {
     let Some(len) = put_frame(message, frame) else {
         unreachable!()
     };
-    put(stream, &frame[..len])
-}
-
-/// Answers a request on a stream.
-fn reply<R: Wait, A: Answering, S: Stream>(
-    rt: &R,
-    answering: &mut A,
-    stream: &mut Counted<S>,
-    request: &[u8],
-    out: &mut [u8],
-    frame: &mut [u8],
-) -> Result<(), Broken>
-    requires counting { stream.old.faults < 2 ^ 64 - 1 }
-    requires reply_room { 65535 ≤ length out.old }
-    requires frame_room { 65537 ≤ length frame.old }
-    ensures peer { A.peer answering.new ≡ A.peer answering.old }
-    ensures grows { BeginsWith (A.seen answering.new) (A.seen answering.old) }
-    ensures replied { OnOk result (Replies (A.is_reply (A.peer answering.old)) (A.seen answering.old) request.now (A.seen answering.new) (S.octets stream.old.inner) (S.octets stream.new.inner)) }
-    ensures broken { IfErr result (λ broken. IsBrokenAs (A.is_reply (A.peer answering.old)) broken (A.seen answering.old) request.now (A.seen answering.new) (S.octets stream.old.inner) (S.octets stream.new.inner)) }
-    ensures same { OnOk result (stream.new.faults ≡ stream.old.faults) }
-    ensures counted { IsErrOf result BrokenBy.Failed → stream.old.faults < stream.new.faults }
-{
-    let len = match answering.answer(rt, request, out) {
-        Ok(Some(len)) => len,
-        Ok(None) => return Ok(()),
-        Err(_) => return Err(Broken::Spent),
-    };
-    match write_frame(stream, &out[..len], frame) {
+    match put(stream, &frame[..len]) {
         Ok(()) => Ok(()),
         Err(_) => Err(Broken::Failed),
     }
@@ -112,7 +85,7 @@ pub(crate) fn turn<R: Wait, A: Answering, S: Stream, G: Gate>(
         Err(Cut::Failed) => return Some(StreamEnd::Device),
     };
     gate.enter();
-    let replied = reply(rt, answering, stream, &request[..len], out, frame);
+    let replied = answering.answer_on(rt, stream, &request[..len], out, frame);
     gate.leave();
     match replied {
         Ok(()) => {}

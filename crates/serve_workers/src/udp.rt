@@ -2,6 +2,7 @@
 ghost use Rattle.std.specs.Prelude.{◌≡◌, ◌≤◌, length, IfSome, OnOk, OnErr};
 ghost use Rattle.serve_workers.specs.Served.{BeginsWith};
 ghost use Rattle.serve_workers.specs.Exchanged.{RepliesTo, TurnsBy, EndsBy};
+ghost use Rattle.serve_workers.specs.Replied.{by_datagram};
 
 use crate::allowed::Allowed;
 use crate::datagrams::{Datagrams, SharedSocket};
@@ -36,7 +37,7 @@ fn reply<R: Wait, A: Answering, D: Datagrams>(
 ) -> Result<(), Spent>
     requires { 65535 ≤ length out.old }
     ensures grows { BeginsWith (A.seen answering.new) (A.seen answering.old) }
-    ensures replied { OnOk result (RepliesTo A.is_reply (A.peer answering.old) request.now from (A.seen answering.new) (D.datagrams datagrams.old) (D.failed datagrams.old) (D.datagrams datagrams.new) (D.failed datagrams.new)) }
+    ensures replied { OnOk result (RepliesTo A.is_reply (by_datagram (A.peer answering.old)) request.now from (A.seen answering.new) (D.datagrams datagrams.old) (D.failed datagrams.old) (D.datagrams datagrams.new) (D.failed datagrams.new)) }
     ensures spent { OnErr result (D.datagrams datagrams.new ≡ D.datagrams datagrams.old) }
     ensures same { OnErr result (D.failed datagrams.new ≡ D.failed datagrams.old) }
 {

@@ -1,5 +1,5 @@
 -- What was read stands behind what was read before.
-use Rattle.std.proofs.Common.{rules, arith, ◌≤◌, ◌-◌, length, take, subst}
+use Rattle.std.proofs.Common.{rules, ◌-◌, length, subst}
 use Rattle.serve_workers.specs.Octets.{Gives}
 use Rattle.serve_workers.proofs.StreamLemmas.{gives_more, filled}
 use Rattle.serve_workers.proofs.frames.fill.Goals as goal

@@ -1,5 +1,5 @@
 -- What was written is a longer front.
-use Rattle.std.proofs.Common.{rules, arith, ◌-◌, ◌++◌, length, take, drop, subst, sym, take-append-drop}
+use Rattle.std.proofs.Common.{rules, take, drop, subst, sym, take-append-drop}
 use Rattle.serve_workers.specs.Octets.{Takes}
 use Rattle.serve_workers.proofs.StreamLemmas.{takes_more, takes_no_more, written}
 use Rattle.serve_workers.proofs.frames.put.Goals as goal

@@ -1,5 +1,5 @@
 -- What was read behind the length is read with it.
-use Rattle.std.proofs.Common.{rules, arith, ◌++◌, take, length-take-le}
+use Rattle.std.proofs.Common.{rules, ◌++◌, take}
 use Rattle.std.specs.Int.{w16, to_be_bytes}
 use Rattle.serve_workers.proofs.StreamLemmas.{gives_more, torn_frame}
 use Rattle.serve_workers.proofs.frames.read_frame.Goals as goal

@@ -1,5 +1,5 @@
 -- One turn behind the other.
-use Rattle.std.proofs.Common.{rules, refl, ◌∙◌, Some, None, IfSome, subst}
+use Rattle.std.proofs.Common.{refl, ◌∙◌, Some, None, IfSome, subst}
 use Rattle.serve_core.specs.declared.peer.Peer.{Peer}
 use Rattle.serve_workers.specs.Turns.{TurnsAs}
 use Rattle.serve_workers.proofs.TurnLemmas.{known_first, known_more, known_ends}

@@ -1,5 +1,5 @@
 -- The requests so far are answered.
-use Rattle.std.proofs.Common.{◌≡◌, ◌≤◌, length}
+use Rattle.std.proofs.Common.{◌≡◌}
 use Rattle.serve_workers.proofs.TurnLemmas.{Known}
 use Rattle.serve_workers.proofs.stream.serve_stream.Given as goal
 

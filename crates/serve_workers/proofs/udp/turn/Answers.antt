@@ -1,6 +1,6 @@
 -- A datagram that is received is answered as its own sender's.
 use Rattle.serve_workers.proofs.TurnLemmas.{begins_more}
-use Rattle.serve_workers.proofs.ExchangeLemmas.{turn_made, turn_spent}
+use Rattle.serve_workers.proofs.ExchangeLemmas.{datagram_same, turn_made, turn_spent}
 use Rattle.serve_workers.proofs.udp.turn.Goals as goal
 
 pub returns-in-Err : goal.returns-in-Err
@@ -11,5 +11,6 @@ returns-in-Err g c =
 pub returns : goal.returns
 returns g c =
     let grows = begins_more _ _ _ c.turn_to.ensures.grows c.reply-replied.ensures.grows in
-    let replied = rw c.turn_to.ensures.other at c.in-Ok.ensures.replied in
+    let turned = rw c.turn_to.ensures.other at c.in-Ok.ensures.replied in
+    let replied = rw (datagram_same c.peer.result c.peer.ensures.over) at turned in
     turn_made g.A.Answering.is_reply c.args.allowed.addresses.now _ _ _ _ _ _ _ _ _ _ _ grows c.peer.ensures c.in-Some.ensures.receives c.in-Some.ensures.same replied
