@@ -99,10 +99,21 @@ pub enum CommandFault<'a> {
     Words(clap::Error),
     /// The origin is no name.
     Origin(&'a str, NameFault),
-    /// The word for this option is no number of those that it takes.
-    Number(&'static str, &'a str),
-    /// The word for this option is no address.
-    Address(&'static str, &'a str),
+    /// The word for an option is no number of those that it takes.
+    Number {
+        /// The option.
+        option: &'static str,
+        /// The word.
+        word: &'a str,
+        /// The least number that it takes.
+        least: u64,
+        /// The greatest number that it takes.
+        most: u64,
+    },
+    /// The word for the address to listen on is no address with a port.
+    Listen(&'a str),
+    /// A word of the list of addresses that may update and transfer is no address.
+    Allow(&'a str),
 }
 
 impl From<clap::Error> for CommandFault<'_> {
@@ -151,8 +162,8 @@ fn command_of<'a>(
         "check" => return Ok(Command::Check { zone, origin }),
         "apply" => return Ok(Command::Apply { zone, origin }),
         "steps" => {
-            let keep = number_for(found.get_str(KEEP), KEEP, MAX_KEEP, 0)?;
-            let window = number_for(found.get_str(WINDOW), WINDOW, MAX_WINDOW, MAX_WINDOW)?;
+            let keep = number_for(found.get_str(KEEP), KEEP, 0, MAX_KEEP, 0)?;
+            let window = number_for(found.get_str(WINDOW), WINDOW, 0, MAX_WINDOW, MAX_WINDOW)?;
             return Ok(Command::Steps {
                 zone,
                 origin,
@@ -186,21 +197,28 @@ const WINDOW: &str = "window";
 /// The most entries of the window.
 const MAX_WINDOW: usize = 16;
 
-/// The number that a word gives an option, from 0 to the greatest that it takes; where there is no word, the option's own.
+/// The number that a word gives an option, from the least to the greatest that it takes; where there is no word, the option's own.
 pub fn number_for<'a>(
     word: Option<&'a str>,
     option: &'static str,
+    least: usize,
     most: usize,
     own: usize,
 ) -> Result<usize, CommandFault<'a>>
-    ensures { own ≤ most → IfOk result (λ number. number ≤ most) }
+    ensures least { least ≤ own → IfOk result (λ number. least ≤ number) }
+    ensures most { own ≤ most → IfOk result (λ number. number ≤ most) }
 {
     let Some(word) = word else {
         return Ok(own);
     };
     match word.parse::<usize>() {
-        Ok(number) if number <= most => Ok(number),
-        _ => Err(CommandFault::Number(option, word)),
+        Ok(number) if least <= number && number <= most => Ok(number),
+        _ => Err(CommandFault::Number {
+            option,
+            word,
+            least: least as u64,
+            most: most as u64,
+        }),
     }
 }
 
@@ -224,23 +242,32 @@ fn program<'a>(alloc: Global) -> Result<Parser<'a>, AllocError> {
         alloc,
         "answer",
         "replies to requests in hexadecimal, a line each",
+        "Example, which asks for www.example.test., type A:\n  echo 12340100000100000000000003777777076578616d706c6504746573740000010001 | dnsd answer zones/example.test.zone",
     )?;
     let check = subcommand(
         alloc,
         "check",
         "prints the zone's text in its written form, one record a line",
+        "Example:\n  dnsd check zones/example.test.zone",
     )?;
     let apply = subcommand(
         alloc,
         "apply",
         "takes a transfer, a message in hexadecimal a line, and prints the zone's text behind it",
+        "Example, with the messages of a transfer in a file:\n  dnsd apply zones/example.test.zone < messages",
     )?;
     let steps = subcommand(
         alloc,
         "steps",
         "plays a script of steps, a line each; its requests come over UDP, for transfers over TCP",
+        "Example, which takes the version that is served into use and gives it up:\n  printf 'load a\\ndrop a\\n' | dnsd steps zones/example.test.zone",
     )?;
-    let serve = subcommand(alloc, "serve", "serves a zone on sockets, by UDP and TCP")?;
+    let serve = subcommand(
+        alloc,
+        "serve",
+        "serves a zone on sockets, by UDP and TCP",
+        "Example:\n  dnsd serve --listen 127.0.0.1:5353 zones/example.test.zone\n  dig +noedns @127.0.0.1 -p 5353 www.example.test.",
+    )?;
     Ok(
         Parser::new(alloc, "dnsd")
             .about("an authoritative name server for one zone")
@@ -254,8 +281,13 @@ fn program<'a>(alloc: Global) -> Result<Parser<'a>, AllocError> {
     )
 }
 
-/// A command over a zone.
-fn subcommand<'a>(alloc: Global, name: &'a str, about: &'a str) -> Result<Parser<'a>, AllocError> {
+/// A command over a zone, with an example.
+fn subcommand<'a>(
+    alloc: Global,
+    name: &'a str,
+    about: &'a str,
+    example: &'a str,
+) -> Result<Parser<'a>, AllocError> {
     let origin = Arg::new(alloc, "origin")
         .long("origin")
         .value_name("NAME")
@@ -268,6 +300,7 @@ fn subcommand<'a>(alloc: Global, name: &'a str, about: &'a str) -> Result<Parser
     Ok(
         Parser::new(alloc, name)
             .about(about)
+            .after_help(example)
             .arg(origin)?
             .arg(zone)?,
     )

@@ -75,12 +75,29 @@ fn run_words<
             eprintln!(rt; "error: '{word}' is no name for --origin: {fault}")?;
             Ok(BAD_COMMAND)
         }
-        Err(CommandFault::Number(option, word)) => {
-            eprintln!(rt; "error: '{word}' is no number for --{option}")?;
+        Err(
+            CommandFault::Number {
+                option,
+                word,
+                least,
+                most,
+            },
+        ) => {
+            eprintln!(rt;
+                "error: --{option} takes a number from {least} to {most}, and '{word}' is none"
+            )?;
             Ok(BAD_COMMAND)
         }
-        Err(CommandFault::Address(option, word)) => {
-            eprintln!(rt; "error: '{word}' is no address for --{option}")?;
+        Err(CommandFault::Listen(word)) => {
+            eprintln!(rt;
+                "error: --listen takes an address and a port, as 127.0.0.1:5353 or [::1]:5353, and '{word}' is none"
+            )?;
+            Ok(BAD_COMMAND)
+        }
+        Err(CommandFault::Allow(word)) => {
+            eprintln!(rt;
+                "error: --allow takes addresses with commas between them, as 127.0.0.1,192.0.2.7, and '{word}' is none"
+            )?;
             Ok(BAD_COMMAND)
         }
     }

@@ -8,7 +8,7 @@ use dns_name::Name;
 use master_file::read_zone;
 use serve_workers::{Allowed, Plan, serve_zone};
 use std::alloc::{AllocError, Global};
-use std::io::{self, BufReader};
+use std::io::{self, BufReader, ErrorKind};
 use std::marker::Brand;
 use std::net::{IpAddr, Net, SocketAddr, TcpListener, TcpStream, UdpSocket};
 use std::rt::Files;
@@ -100,20 +100,12 @@ pub fn serve_of<'a>(
 ) -> Result<Serve<'a>, CommandFault<'a>> {
     let word = found.get_str(LISTEN).unwrap_or("");
     let Ok(listen) = word.parse::<SocketAddr>() else {
-        return Err(CommandFault::Address(LISTEN, word));
+        return Err(CommandFault::Listen(word));
     };
-    let workers = number_for(found.get_str(WORKERS), WORKERS, MAX_WORKERS, 4)?;
-    if workers == 0 {
-        return Err(CommandFault::Number(WORKERS, "0"));
-    }
-    let keep = number_for(found.get_str(KEEP), KEEP, MAX_KEEP, MAX_KEEP)?;
+    let workers = number_for(found.get_str(WORKERS), WORKERS, 1, MAX_WORKERS, 4)?;
+    let keep = number_for(found.get_str(KEEP), KEEP, 0, MAX_KEEP, MAX_KEEP)?;
     let allowed = addresses_of(alloc, found.get_str(ALLOW).unwrap_or(""))?;
-    let most = match found.get_str(COUNT) {
-        None => u64::MAX,
-        Some(word) => word
-            .parse::<u64>()
-            .map_err(|_| CommandFault::Number(COUNT, word))?,
-    };
+    let most = count_of(found.get_str(COUNT))?;
     Ok(Serve {
         zone,
         origin,
@@ -125,12 +117,25 @@ pub fn serve_of<'a>(
     })
 }
 
+/// After how many requests or connections a worker ends, by the option's word; without one it never does.
+fn count_of<'a>(word: Option<&'a str>) -> Result<u64, CommandFault<'a>> {
+    let Some(word) = word else {
+        return Ok(u64::MAX);
+    };
+    word.parse::<u64>().map_err(|_| CommandFault::Number {
+        option: COUNT,
+        word,
+        least: 0,
+        most: u64::MAX,
+    })
+}
+
 /// The addresses of a list with commas between them.
 fn addresses_of<'a>(alloc: Global, list: &'a str) -> Result<Vec<IpAddr>, CommandFault<'a>> {
     let mut addresses = Vec::new(alloc);
     for word in list.split(',') {
         let Ok(address) = word.parse::<IpAddr>() else {
-            return Err(CommandFault::Address(ALLOW, word));
+            return Err(CommandFault::Allow(word));
         };
         if addresses.push(address).is_err() {
             return Err(CommandFault::from(AllocError));
@@ -187,15 +192,18 @@ fn serve_on<
         + Clock
         + Sync,
 >(rt: &R, serve: &Serve<'_>, zone: Zone) -> io::Result<u8> {
-    let bound = match TcpListener::bind(rt, serve.listen) {
-        Ok(listener) => bound_beside(rt, listener),
-        Err(fault) => Err(fault),
-    };
-    let (listener, datagrams, address) = match bound {
+    let (listener, datagrams, address) = match bound_at(rt, serve.listen) {
         Ok(bound) => bound,
-        Err(fault) => {
+        Err((transport, fault)) => {
             let listen = serve.listen;
-            eprintln!(rt; "error: {listen} can't be listened on: {fault}")?;
+            match reason_of(&fault) {
+                Some(reason) => {
+                    eprintln!(rt; "error: {listen} can't be listened on by {transport}: {reason}")?;
+                }
+                None => {
+                    eprintln!(rt; "error: {listen} can't be listened on by {transport}: {fault}")?;
+                }
+            }
             return Ok(FAILED);
         }
     };
@@ -218,14 +226,28 @@ fn serve_on<
     }
 }
 
-/// The listener with a socket of datagrams at its address, and that address.
-fn bound_beside<R: Net>(
+/// A listener at an address, a socket of datagrams beside it, and the address with the port that they have; or what carries the
+/// requests that can't be listened for, and why.
+fn bound_at<R: Net<Listener = TcpListener, Stream = TcpStream>>(
     rt: &R,
-    listener: TcpListener,
-) -> io::Result<(TcpListener, UdpSocket, SocketAddr)> {
-    let address = listener.local_addr()?;
-    let datagrams = UdpSocket::bind(rt, address)?;
+    listen: SocketAddr,
+) -> Result<(TcpListener, UdpSocket, SocketAddr), (&'static str, io::Error)> {
+    let listener = TcpListener::bind(rt, listen).map_err(|fault| ("TCP", fault))?;
+    let address = listener.local_addr().map_err(|fault| ("TCP", fault))?;
+    let datagrams = UdpSocket::bind(rt, address).map_err(|fault| ("UDP", fault))?;
     Ok((listener, datagrams, address))
+}
+
+/// Why an address can't be listened on, in an operator's words; none where the fault's own words are told.
+fn reason_of(fault: &io::Error) -> Option<&'static str> {
+    match fault.kind() {
+        ErrorKind::AddrInUse => Some("another program listens there"),
+        ErrorKind::AddrNotAvailable => Some("the address isn't one of this machine's"),
+        ErrorKind::PermissionDenied => {
+            Some("a port below 1024 wants root, or the capability CAP_NET_BIND_SERVICE")
+        }
+        _ => None,
+    }
 }
 
 /// How many records a zone has.

@@ -1,0 +1,201 @@
+#!/usr/bin/env bash
+# Measures `dnsd serve` by dnsperf, beside knotd and nsd where these are installed, each with as many workers, in the same run: queries
+# a second over UDP and processor time a query (of the server alone, from /proc), queries a second over TCP; then of dnsd updates a
+# second, and the 99th percentile of queries' times without and with updates beside them.
+# Usage: [DNSD=PROGRAM] bench/serve.sh [--seconds N] [--workers "N .."] [--port N] [RECORDS ..]
+#   by default 5 seconds a figure, 1, 2 and 4 workers, port 15453, and zones of 1000 and 1000000 records
+# It needs Debian's dnsperf, and knot and nsd for the figures beside. `make dnsd` builds the program.
+set -euo pipefail
+cd "$(dirname "$0")/.."
+. bench/program.sh
+seconds=5
+workers="1 2 4"
+port=15453
+sizes=()
+while [ $# -gt 0 ]; do
+    case $1 in
+        --seconds) seconds=$2; shift 2 ;;
+        --workers) workers=$2; shift 2 ;;
+        --port) port=$2; shift 2 ;;
+        *) sizes+=("$1"); shift ;;
+    esac
+done
+[ ${#sizes[@]} -gt 0 ] || sizes=(1000 1000000)
+PATH=$PATH:/usr/sbin:/sbin
+command -v dnsperf >/dev/null || { echo "bench: no dnsperf: it is Debian's package dnsperf" >&2; exit 1; }
+
+server=
+stop() {
+    [ -n "$server" ] || return 0
+    kill "$server" 2>/dev/null || true
+    wait "$server" 2>/dev/null || true
+    server=
+}
+trap 'stop; rm -rf "$work"' EXIT
+
+# The zone: an SOA, an NS, and then hosts of which each tenth is an alias of the one before it.
+zone() {
+    awk -v n="$1" 'BEGIN {
+        print "example.test. 3600 IN SOA ns1.example.test. admin.example.test. 1 7200 900 1209600 300"
+        print "example.test. 3600 IN NS ns1.example.test."
+        for (i = 0; i + 2 < n; i++) {
+            if (i % 10 == 9) printf "h%d.example.test. 3600 IN CNAME h%d.example.test.\n", i, i - 1
+            else printf "h%d.example.test. 3600 IN A 192.0.2.%d\n", i, i % 256
+        }
+    }'
+}
+
+# The queries, type A: by turns a name that exists, one that does not, and an alias.
+questions() {
+    awk -v n="$1" 'BEGIN {
+        for (i = 0; i < 100000; i++) {
+            at = int((i * 7919) % (n - 2) / 10) * 10
+            print (i % 3 == 0 ? "h" at : i % 3 == 1 ? "x" at : "h" (at + 9)) ".example.test A"
+        }
+    }'
+}
+
+# Updates: an address at a name of its own is added, and the one that was added before is deleted.
+updates() {
+    awk 'BEGIN {
+        for (i = 0; i < 50000; i++) {
+            printf "example.test\nadd u%d 3600 A 192.0.2.1\nsend\n", i
+            printf "example.test\ndelete u%d A 192.0.2.1\nsend\n", i
+        }
+    }'
+}
+
+start_dnsd() {
+    "$program" serve --listen "127.0.0.1:$port" --workers "$1" "$work/zone" 2>"$work/log" &
+    server=$!
+}
+
+start_knotd() {
+    mkdir -p "$work/knotd"
+    cat >"$work/knotd.conf" <<end
+server:
+    rundir: "$work/knotd"
+    listen: 127.0.0.1@$port
+    udp-workers: $1
+    tcp-workers: $1
+    background-workers: 1
+database:
+    storage: "$work/knotd"
+zone:
+  - domain: example.test.
+    storage: "$work"
+    file: zone
+    zonefile-sync: -1
+    journal-content: none
+log:
+  - target: stderr
+    any: error
+end
+    knotd -c "$work/knotd.conf" >"$work/log" 2>&1 &
+    server=$!
+}
+
+start_nsd() {
+    mkdir -p "$work/nsd"
+    cat >"$work/nsd.conf" <<end
+server:
+    ip-address: 127.0.0.1@$port
+    username: ""
+    server-count: $1
+    zonesdir: "$work"
+    xfrdir: "$work/nsd"
+    database: ""
+    zonelistfile: "$work/nsd/zone.list"
+    xfrdfile: "$work/nsd/xfrd.state"
+    pidfile: ""
+    rrl-ratelimit: 0
+    minimal-responses: no
+remote-control:
+    control-enable: no
+zone:
+    name: example.test
+    zonefile: zone
+end
+    nsd -d -c "$work/nsd.conf" >"$work/log" 2>&1 &
+    server=$!
+}
+
+# Waits, at most a minute, until the server answers.
+wait_for() {
+    echo "example.test SOA" >"$work/one"
+    for _ in $(seq 120); do
+        if dnsperf -s 127.0.0.1 -p "$port" -d "$work/one" -n 1 -t 0.5 2>/dev/null | grep -q 'NOERROR 1'; then return 0; fi
+        kill -0 "$server" 2>/dev/null || break
+        sleep 0.2
+    done
+    cat "$work/log" >&2
+    echo "bench: the server doesn't answer" >&2
+    exit 1
+}
+
+# Processor time of a process and those below it, in ticks.
+ticks() {
+    local child
+    awk '{ sub(/.*\) /, ""); print $12 + $13 }' "/proc/$1/stat" 2>/dev/null || true
+    for child in $(cat "/proc/$1/task/"*/children 2>/dev/null); do ticks "$child"; done
+}
+spent() { ticks "$server" | awk '{ t += $1 } END { print t }'; }
+
+# dnsperf's figures: queries completed, queries a second, and the share that was lost.
+figures() {
+    awk '/Queries completed:/ { done = $3 } /Queries lost:/ { lost = $4 } /per second:/ { rate = $4 }
+        END { gsub(/[()]/, "", lost); print done, rate, lost }'
+}
+
+# The 99th percentile of the times that dnsperf -v tells, in milliseconds.
+percentile() {
+    awk '/^> / { print $NF }' | sort -g | awk '{ at[NR] = $1 } END { if (NR) printf "%.3f", 1000 * at[int(NR * 0.99 + 0.5)] }'
+}
+
+hertz=$(getconf CLK_TCK)
+# One server over UDP and then over TCP: NAME WORKERS RECORDS
+measure() {
+    local before after done rate lost over
+    "start_$1" "$2"
+    wait_for
+    for over in udp tcp; do
+        before=$(spent)
+        read -r done rate lost < <(dnsperf -m $over -s 127.0.0.1 -p "$port" -d "$work/questions" -l "$seconds" -c "$2" -T 1 -q $((50 * $2)) 2>/dev/null | figures)
+        after=$(spent)
+        awk -v name="$1" -v w="$2" -v n="$3" -v over=$over -v done="$done" -v rate="$rate" -v lost="$lost" -v t=$((after - before)) -v hz="$hertz" 'BEGIN {
+            printf "%s, %d workers, %d records, %s: %d queries a second, %.2f microseconds of processor time a query, %s lost\n",
+                name, w, n, toupper(over), rate, 1000000 * t / hz / (done ? done : 1), lost
+        }'
+    done
+    stop
+}
+
+# Updates beside queries: WORKERS RECORDS
+measure_updates() {
+    local alone beside updated
+    updates >"$work/updates"
+    start_dnsd "$1"
+    wait_for
+    alone=$(dnsperf -v -s 127.0.0.1 -p "$port" -d "$work/questions" -l "$seconds" -c 4 -T 1 -Q 2000 2>/dev/null | percentile)
+    dnsperf -u -s 127.0.0.1 -p "$port" -d "$work/updates" -l "$seconds" -c 1 -T 1 -q 1 >"$work/updated" 2>&1 &
+    local updater=$!
+    beside=$(dnsperf -v -s 127.0.0.1 -p "$port" -d "$work/questions" -l "$seconds" -c 4 -T 1 -Q 2000 2>/dev/null | percentile)
+    wait "$updater"
+    updated=$(awk '/[Uu]pdates per second:/ { print $4 }' "$work/updated")
+    awk -v w="$1" -v n="$2" -v u="$updated" -v a="$alone" -v b="$beside" 'BEGIN {
+        printf "dnsd, %d workers, %d records: %d updates a second, one after another; of 2000 queries a second 99 in 100 take at most %s ms without updates and %s ms beside them\n", w, n, u, a, b
+    }'
+    stop
+}
+
+for records in "${sizes[@]}"; do
+    zone "$records" >"$work/zone"
+    questions "$records" >"$work/questions"
+    for w in $workers; do
+        measure dnsd "$w" "$records"
+        for other in knotd nsd; do
+            if command -v $other >/dev/null; then measure $other "$w" "$records"; fi
+        done
+    done
+    measure_updates 4 "$records"
+done
