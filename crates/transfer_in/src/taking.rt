@@ -1,5 +1,5 @@
 //! How far a list has been taken, over messages that come one after another (RFC 5936, 2.2; RFC 1995, 4).
-ghost use Rattle.std.specs.Prelude.{◌≡◌, ◌⊎◌, ◌∷◌, [], true, IfOk, IfErr, Some, None};
+ghost use Rattle.std.specs.Prelude.{◌≡◌, ◌⊎◌, ◌∷◌, [], true, IfOk, IfErr, Some, None, Err};
 ghost use Rattle.dns_rdata.specs.Record.{IsLawful};
 ghost use Rattle.zone_tree.specs.Zone.{IsZone, apex_of};
 ghost use Rattle.transfer_core.specs.Take.{entered, is_soa, behind_first};
@@ -91,6 +91,7 @@ impl Progress {
         requires { IsKept (apex_of zone.now) self }
         ensures told { Tells (behind zone.now self []) (λ next. next) result }
         ensures lawful { IfOk result IsZone }
+        ensures nothing { self ≡ Progress.Nothing → result ≡ Err TransferFault.Broken }
     {
         // That the records are a zone is known of them from here on.
         let _soa = zone.soa();
