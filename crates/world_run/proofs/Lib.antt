@@ -1,4 +1,5 @@
 pub mod AnswerLemmas
+pub mod BurialLemmas
 pub mod CallReplays
 pub mod ChainLists
 pub mod EndLemmas

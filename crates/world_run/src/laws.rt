@@ -1,5 +1,5 @@
 //! What the definitions say of lines that are played, each the contract of a function that does nothing.
-ghost use Rattle.std.specs.Prelude.{◌≡◌, ℕ, ◌<◌, ◌^◌, true, false, List, [], ◌∷◌, length, codes, Some};
+ghost use Rattle.std.specs.Prelude.{◌≡◌, ℕ, ◌<◌, ◌≤◌, ◌^◌, filter, true, false, List, [], ◌∷◌, length, codes, Some};
 ghost use Rattle.cell_core.specs.Cell.{Cell};
 ghost use Rattle.cell_core.specs.Shows.{Shows};
 ghost use Rattle.dns_rdata.specs.Record.{Record};
@@ -22,7 +22,7 @@ ghost use Rattle.dns_rdata.specs.Numbers.{type_IXFR};
 ghost use Rattle.zone_tree.specs.Zone.{IsZone};
 ghost use Rattle.serve_core.specs.Served.{got};
 ghost use Rattle.serve_core.specs.declared.transport.Transport.TheVariants.{Udp};
-ghost use Rattle.world_run.specs.Held.{HoldVersions, IsAtRest};
+ghost use Rattle.world_run.specs.Held.{HoldVersions, IsGone, IsAtRest, tells_buried};
 ghost use Rattle.world_run.specs.Leads.{AreOctets, AnswerIxfr};
 ghost use Rattle.world_run.specs.Replays.{IsReplayed, IsAnsweredInReplay};
 ghost use Rattle.world_run.specs.Runs.{Run, IsShownBy, IsAnsweredAtLoaded, ShowsReached};
@@ -120,4 +120,13 @@ pub fn transfers_lead_to_the_served()
     ensures { (first : List Record) (keep window : ℕ) (lines : List WorldStep) (replies : List WorldReply) (world : World) (name request : List ℕ) (query : Query) (octets : List (List ℕ))
         → IsZone first → AreOctets lines → play (started first keep window) lines ≡ Some (replies, world) → reads request ≡ Asks query → query.question.rtype.0 ≡ type_IXFR
         → start world (Transfer name request) ≡ Answers (Messages octets) → AnswerIxfr first lines world name query octets }
+{}
+
+/// Whatever lines were played, at most one of them is told that it has buried a number; nobody owns that number then, and it isn't the
+/// last.
+pub fn burials_are_told_once()
+    ensures once { (first : List Record) (keep window : ℕ) (lines : List WorldStep) (replies : List WorldReply) (world : World) (number : ℕ)
+        → play (started first keep window) lines ≡ Some (replies, world) → length (filter (tells_buried number) replies) ≤ 1 }
+    ensures gone { (first : List Record) (keep window : ℕ) (lines : List WorldStep) (replies : List WorldReply) (world : World) (number : ℕ)
+        → play (started first keep window) lines ≡ Some (replies, world) → 0 < length (filter (tells_buried number) replies) → IsGone world number }
 {}
