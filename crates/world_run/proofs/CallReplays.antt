@@ -49,7 +49,7 @@ placed (z ∷ xs) x y zero e = inl e
 placed (z ∷ xs) x y (suc k) e = elim (placed xs x y k e) [ inl old ↦ inl old | inr new ↦ inr (omega (arith, new.0), new.1) ]
 
 -- a replay with one update more
-replay_more : (zone : List Record) (us : List DynamicUpdate) (u : DynamicUpdate) → replay zone (us ++ u ∷ []) ≡ unwrap_or (act (replay zone us) u) (replay zone us)
+pub replay_more : (zone : List Record) (us : List DynamicUpdate) (u : DynamicUpdate) → replay zone (us ++ u ∷ []) ≡ unwrap_or (act (replay zone us) u) (replay zone us)
 replay_more zone [] u = refl
 replay_more zone (one ∷ us) u = replay_more (unwrap_or (act zone one) zone) us u
 

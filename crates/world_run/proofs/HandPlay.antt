@@ -333,8 +333,8 @@ play_kept S first begun_as world (line ∷ lines) replies behind sent k e =
     (λ given between kept more last p. play_kept S first begun_as between lines more last sent.1 kept p) e
 
 -- at the start version 0 is kept, and nothing else is in hand
-start_hands : (first : List Record) (keep window : ℕ) → Hands (started first keep window)
-start_hands first keep window =
+pub started_hands : (first : List Record) (keep window : ℕ) → Hands (started first keep window)
+started_hands first keep window =
     let shown = step_shows {T = Numbered} (begun (first_version first)) (loaded_once (first_version first)) word.Load (told.Loaded 0 0) (cell_start (first_version first)) (begun_shows (first_version first)) (0, refl, lit< tt, refl, refl) in
     record {
       cell = shown.0;
@@ -362,4 +362,4 @@ start_hands first keep window =
 
 pub played_kept : (first : List Record) (keep window : ℕ) (lines : List Line) (replies : List WorldReply) (world : World) → play (started first keep window) lines ≡ Some (replies, world) → Kept (IsSent lines) first (started first keep window) world
 played_kept first keep window lines replies world e =
-    play_kept (IsSent lines) first (started first keep window) (started first keep window) lines replies world (all_sent lines lines (λ place line at. (place, at))) (record { goes = start_goes (IsSent lines) first keep window; hands = start_hands first keep window; same = (refl, refl) }) e
+    play_kept (IsSent lines) first (started first keep window) (started first keep window) lines replies world (all_sent lines lines (λ place line at. (place, at))) (record { goes = start_goes (IsSent lines) first keep window; hands = started_hands first keep window; same = (refl, refl) }) e

@@ -1,5 +1,7 @@
 pub mod AnswerLemmas
+pub mod BurialLemmas
 pub mod CallReplays
+pub mod ChainLists
 pub mod EndLemmas
 pub mod HandEnds
 pub mod HandLemmas
@@ -10,7 +12,12 @@ pub mod HandWorld
 pub mod HeldLemmas
 pub mod JudgeLemmas
 pub mod KeptLemmas
+pub mod LeadLemmas
+pub mod LeadReplies
 pub mod PlayLemmas
 pub mod ReplayLemmas
 pub mod RunLemmas
+pub mod SentUpdates
+pub mod SpeltLemmas
 pub mod StepLemmas
+pub mod ToldLemmas

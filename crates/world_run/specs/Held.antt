@@ -1,12 +1,18 @@
 -- Which versions are held while lines are played: those of the names in use, and the newest, which are kept (own).
-use Rattle.std.specs.Prelude.{◌≡◌, ℕ, ◌-◌, ◌<◌, Bool, ◌==◌, true, false, List, length, drop, count_by, Some}
+use Rattle.std.specs.Prelude.{◌≡◌, ℕ, ◌+◌, ◌-◌, ◌<◌, Bool, ◌==◌, true, false, List, length, drop, count_by, Some}
 use Rattle.std.specs.List.{list_any, slice_get}
+use Rattle.cell_core.specs.Cell.{Cell}
+use Rattle.cell_core.specs.Shows.{Shows, held}
 use Rattle.cell_core.specs.Words.{version_in, free_word}
 use Rattle.cell_core.specs.declared.words.Owner.TheVariants.{Holding}
 use Rattle.cell_core.specs.declared.words.Slot.{Slot}
 use Rattle.dns_rdata.specs.Record.{Record}
 use Rattle.zone_tree.specs.Version.{Version as Numbered}
 use Rattle.world_run.specs.declared.play.UnderWay.{UnderWay}
+use Rattle.world_run.specs.declared.step.Answer.{Answer}
+use Rattle.world_run.specs.declared.step.Answer.TheVariants.{Buried}
+use Rattle.world_run.specs.declared.step.WorldReply.{WorldReply}
+use Rattle.world_run.specs.declared.step.WorldReply.TheVariants.{Answered, Last}
 use Rattle.world_run.specs.declared.step.WorldStep.{WorldStep}
 use Rattle.world_run.specs.Phases.{updates}
 use Rattle.world_run.specs.Replays.{IsReplayed}
@@ -33,6 +39,24 @@ pub record HoldVersions (first : List Record) (lines : List WorldStep) (world : 
   pub replayed : IsReplayed first lines world
   pub names : (name : List ℕ) (owner : ℕ) → owner_of name world.names ≡ Some owner → HoldsVersion replayed.reached.cell.published world name owner
   pub kept : is_updating world ≡ false → kept_versions world ≡ drop (length replayed.updates - world.keep) replayed.reached.cell.published
+
+-- a reply tells that its call has buried a number (own)
+abbrev pub tells_so : ℕ → Answer → Bool
+tells_so number (Buried other) = other == number
+tells_so number answer = false
+
+abbrev pub tells_buried : ℕ → WorldReply → Bool
+tells_buried number (Answered answer) = tells_so number answer
+tells_buried number (Last step answer) = tells_so number answer
+tells_buried number reply = false
+
+-- a number is buried: no name and no call has an owner of it, and it isn't the last (own)
+pub record IsGone (world : World) (number : ℕ) : Type 0 where
+  pub cell : Cell Numbered
+  pub shows : Shows world.words cell
+  pub buried : cell.buried number ≡ true
+  pub unheld : held world.words.owners number ≡ 0
+  pub before_last : number + 1 < length cell.published
 
 -- each number before the last is buried, and all slots but one are free (own)
 pub record IsAtRest (first : List Record) (lines : List WorldStep) (world : World) : Type 0 where

@@ -1,5 +1,6 @@
 pub mod Held
 pub mod Judgements
+pub mod Leads
 pub mod Numbered
 pub mod Phases
 pub mod Replays

@@ -1,5 +1,5 @@
 //! What the definitions say of lines that are played, each the contract of a function that does nothing.
-ghost use Rattle.std.specs.Prelude.{◌≡◌, ℕ, ◌<◌, ◌^◌, true, false, List, [], ◌∷◌, length, codes, Some};
+ghost use Rattle.std.specs.Prelude.{◌≡◌, ℕ, ◌<◌, ◌≤◌, ◌^◌, filter, true, false, List, [], ◌∷◌, length, codes, Some};
 ghost use Rattle.cell_core.specs.Cell.{Cell};
 ghost use Rattle.cell_core.specs.Shows.{Shows};
 ghost use Rattle.dns_rdata.specs.Record.{Record};
@@ -16,14 +16,20 @@ ghost use Rattle.cell_core.specs.declared.words.WordEvent.{WordEvent};
 ghost use Rattle.dns_rdata.specs.declared.numbers.Rcode.{Rcode};
 ghost use Rattle.dns_rdata.specs.declared.numbers.Rcode.TheVariants.{NoError, ServFail};
 ghost use Rattle.dns_message.specs.declared.query.Head.{Head};
+ghost use Rattle.dns_message.specs.declared.query.Parsed.TheVariants.{Query as Asks};
+ghost use Rattle.dns_message.specs.declared.query.Query.{Query};
+ghost use Rattle.dns_rdata.specs.Numbers.{type_IXFR};
+ghost use Rattle.zone_tree.specs.Zone.{IsZone};
 ghost use Rattle.serve_core.specs.Served.{got};
 ghost use Rattle.serve_core.specs.declared.transport.Transport.TheVariants.{Udp};
-ghost use Rattle.world_run.specs.Held.{HoldVersions, IsAtRest};
+ghost use Rattle.world_run.specs.Held.{HoldVersions, IsGone, IsAtRest, tells_buried};
+ghost use Rattle.world_run.specs.Leads.{AreOctets, AnswerIxfr};
 ghost use Rattle.world_run.specs.Replays.{IsReplayed, IsAnsweredInReplay};
 ghost use Rattle.world_run.specs.Runs.{Run, IsShownBy, IsAnsweredAtLoaded, ShowsReached};
 ghost use Rattle.world_run.specs.World.{World, started, turn, play, replies_of, zone_of, start, ask_said, code_reply, answer_at};
-ghost use Rattle.world_run.specs.declared.step.Call.TheVariants.{Load, Drop, Ask, Update};
-ghost use Rattle.world_run.specs.declared.step.Answer.TheVariants.{Owner, Left, Buried};
+ghost use Rattle.world_run.specs.declared.start.Start.TheVariants.{Answers};
+ghost use Rattle.world_run.specs.declared.step.Call.TheVariants.{Load, Drop, Ask, Transfer, Update};
+ghost use Rattle.world_run.specs.declared.step.Answer.TheVariants.{Owner, Left, Buried, Messages};
 ghost use Rattle.world_run.specs.declared.step.StepName.TheVariants as StepName;
 ghost use Rattle.world_run.specs.declared.step.WorldStep.TheVariants.{Whole, Begin, Next};
 ghost use Rattle.world_run.specs.declared.step.WorldReply.{WorldReply};
@@ -104,4 +110,23 @@ pub fn versions_are_held()
 pub fn versions_before_the_last_are_buried()
     ensures { (first : List Record) (window : ℕ) (lines : List WorldStep) (replies : List WorldReply) (world : World)
         → play (started first 0 window) lines ≡ Some (replies, world) → world.names ≡ [] → world.calls ≡ [] → IsAtRest first lines world }
+{}
+
+/// Whatever lines were played from a zone on, an IXFR that is answered gets the SOA alone where its serial isn't less than that of
+/// the version which its name holds; else records that lead from the version of that serial to the one that is held: who holds
+/// the former and takes them, holds the latter; and where what changed isn't told, the version in whole, which leads there from
+/// any version (RFC 1995, 2 and 4; RFC 5936, 2.2).
+pub fn transfers_lead_to_the_served()
+    ensures { (first : List Record) (keep window : ℕ) (lines : List WorldStep) (replies : List WorldReply) (world : World) (name request : List ℕ) (query : Query) (octets : List (List ℕ))
+        → IsZone first → AreOctets lines → play (started first keep window) lines ≡ Some (replies, world) → reads request ≡ Asks query → query.question.rtype.0 ≡ type_IXFR
+        → start world (Transfer name request) ≡ Answers (Messages octets) → AnswerIxfr first lines world name query octets }
+{}
+
+/// Whatever lines were played, at most one of them is told that it has buried a number; nobody owns that number then, and it isn't the
+/// last.
+pub fn burials_are_told_once()
+    ensures once { (first : List Record) (keep window : ℕ) (lines : List WorldStep) (replies : List WorldReply) (world : World) (number : ℕ)
+        → play (started first keep window) lines ≡ Some (replies, world) → length (filter (tells_buried number) replies) ≤ 1 }
+    ensures gone { (first : List Record) (keep window : ℕ) (lines : List WorldStep) (replies : List WorldReply) (world : World) (number : ℕ)
+        → play (started first keep window) lines ≡ Some (replies, world) → 0 < length (filter (tells_buried number) replies) → IsGone world number }
 {}

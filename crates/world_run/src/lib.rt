@@ -24,8 +24,9 @@ mod world;
 
 pub use fault::WorldFault;
 pub use laws::{
-    asks_are_answered_at_loaded, examples, plays_are_runs, refused_lines_change_nothing,
-    updates_are_told, versions_are_held, versions_are_replays, versions_before_the_last_are_buried,
+    asks_are_answered_at_loaded, burials_are_told_once, examples, plays_are_runs,
+    refused_lines_change_nothing, transfers_lead_to_the_served, updates_are_told,
+    versions_are_held, versions_are_replays, versions_before_the_last_are_buried,
 };
 pub use lent::{Handle, Request};
 pub use message_list::MessageList;
