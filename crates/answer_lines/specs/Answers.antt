@@ -1,5 +1,5 @@
 -- Requests and replies as lines of hexadecimal (own).
-use Rattle.std.specs.Prelude.{◌≡◌, ◌<◌, ℕ, Bool, false, List, [], ◌∷◌, ◌++◌, length, map, nat_le, Option, Some, None, Result, Ok, Err, if◌then◌else◌, codes}
+use Rattle.std.specs.Prelude.{◌≡◌, ◌<◌, ℕ, Bool, true, false, List, [], ◌∷◌, ◌++◌, length, map, nat_le, Option, Some, None, Result, Ok, Err, if◌then◌else◌, codes}
 use Rattle.std.specs.Io.BufRead.{drop_through, first_piece}
 use Rattle.std.specs.Io.KnownBytes.{Appends}
 use Rattle.hex.specs.declared.error.FromHexError.{FromHexError}

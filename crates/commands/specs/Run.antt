@@ -1,5 +1,5 @@
 -- What a run of the program comes to (own).
-use Rattle.std.specs.Prelude.{◌≡◌, ℕ, ◌⊎◌, Bool, List, Option, IfSome, Result, Ok, Err, IsOk}
+use Rattle.std.specs.Prelude.{◌≡◌, ℕ, ◌⊎◌, Bool, List, Option, IfSome, IfOk, Result, Ok, Err, IsOk}
 use Rattle.std.specs.Io.KnownBytes.{Appends}
 use Rattle.dns_rdata.specs.Record.{Record}
 use Rattle.master_file.specs.declared.fault.FileFault.{FileFault}
@@ -103,6 +103,10 @@ TellsIn (Steps zone origin keep window) records input told = Unit
 abbrev pub zone_for : Command → List ℕ → Result (List Record) FileFault
 zone_for command text = zone_of_text (origin_of command) text
 
+-- the same over a text that is a zone and the input behind it
+abbrev pub TellsOf : Command → List ℕ → List ℕ → Result (Unit {0}) Fault → Type 0
+TellsOf command text input told = IfOk (zone_for command text) (λ zone. TellsIn command zone input told)
+
 -- a fault of a zone's text is the one that is told of it, or want of memory; any other is of a text that is a zone
 abbrev pub IsOfZone : Result (List Record) FileFault → Fault → Type 0
 IsOfZone read (Zone fault) = (fault ≡ no_memory) ⊎ (read ≡ Err fault)
@@ -118,13 +122,14 @@ abbrev pub EndsBy : Fault → ℕ → Option (List ℕ) → Option (List ℕ) �
 EndsBy fault status before after = ((status ≡ status_of fault) × IsTold fault before after) ⊎ (status ≡ 3)
 
 -- a command was refused: a fault with status 1 was told on a line, that of the zone's text at the front of what is read, or
--- one that the command may be given for its input behind it
+-- one that the command may be given for its input behind it; of a transfer, the one that is told of it
 pub record IsRefused (command : Command) (read before after : Option (List ℕ)) : Type 0 where
   pub fault : Fault
   pub status : status_of fault ≡ 1
   pub told : IsTold fault before after
   pub of_zone : IfSome read (λ octets. IsOfZone (zone_for command (zone_text_of octets)) fault)
   pub of_input : IfSome read (λ octets. IsOfRun command (behind_zone_text octets) fault)
+  pub of_transfer : IfSome read (λ octets. TellsOf command (zone_text_of octets) (behind_zone_text octets) (Err fault))
 
 -- a text is a zone, and what a command writes for an input in that zone was written
 pub record Does (command : Command) (text input : List ℕ) (before after : Option (List ℕ)) : Type 0 where

@@ -2,7 +2,7 @@
 ghost use Rattle.std.specs.Prelude.{◌≡◌, ◌⊎◌, [], Ok, Err, OnOk, OnErr, IfOk, IfErr, IfSome};
 ghost use Rattle.std.specs.Io.Buffered.{writer_buffer, writer_contents};
 ghost use Rattle.line_io.specs.Input.{zone_text_of, behind_zone_text};
-ghost use Rattle.commands.specs.Run.{status_of, AtRefusedZone, AtDevice, IsOfInput, IsOfRun, IsOfZone, IsRefused, zone_for, TellsIn, Does, DoesIn, BeginsToDo, BeginsToDoIn};
+ghost use Rattle.commands.specs.Run.{status_of, AtRefusedZone, AtDevice, IsOfInput, IsOfRun, IsOfZone, IsRefused, zone_for, TellsIn, TellsOf, Does, DoesIn, BeginsToDo, BeginsToDoIn};
 
 use crate::apply::run_apply;
 use crate::check::run_check;
@@ -32,6 +32,8 @@ pub fn run_text<R: BufRead, W: Write + Drop, E: Write>(
     ensures done { result ≡ 0 → IfSome (R.remaining reader.old) (λ input.
         Does command.now (zone_text_of input) (behind_zone_text input) (writer_contents W.contents writer.old) (writer_contents W.contents writer.new)) }
     ensures flushed { result ≡ 0 → writer_buffer writer.new ≡ [] }
+    ensures taken { result ≡ 0 → IfSome (R.remaining reader.old) (λ input.
+        TellsOf command.now (zone_text_of input) (behind_zone_text input) (Ok tt)) }
     ensures quiet { result ≡ 0 → E.contents errors.new ≡ E.contents errors.old }
     ensures refused { result ≡ 1 → IsRefused command.now (R.remaining reader.old)
         (E.contents errors.old) (E.contents errors.new) }
@@ -63,7 +65,7 @@ pub fn run_with_zone<R: BufRead, W: Write + Drop>(
         Does command.now text.now input (writer_contents W.contents writer.old) (writer_contents W.contents writer.new))) }
     ensures flushed { OnOk result (writer_buffer writer.new ≡ []) }
     ensures zone { IfErr result (λ fault. IsOfZone (zone_for command.now text.now) fault) }
-    ensures transfer { IfSome (R.remaining reader.old) (λ input. IfOk (zone_for command.now text.now) (λ zone. TellsIn command.now zone input result)) }
+    ensures transfer { IfSome (R.remaining reader.old) (λ input. TellsOf command.now text.now input result) }
     ensures fault { IfErr result (λ fault. IfSome (R.remaining reader.old) (λ input. IsOfRun command.now input fault)) }
     ensures unread { IfErr result (λ fault. AtRefusedZone fault (R.remaining reader.new ≡ R.remaining reader.old)) }
     ensures unwritten { IfErr result (λ fault. status_of fault ≡ 1

@@ -1,9 +1,9 @@
 //! Words of a command line, and what they ask for.
-use crate::command::{BAD_COMMAND, Task, parse_words};
+use crate::command::{Task, parse_words};
 use crate::run_command;
 use commands::Command;
 use serve_core::Transport;
-use std::process::Abort;
+use std::alloc::Global;
 use std::test::Fail;
 
 // The words after the program's name, and whether they are a command.
@@ -78,39 +78,35 @@ fn command_transports(rt: HostRuntime) -> Result<(), Fail> {
     Ok(())
 }
 
-/// The origin of `check` by these words, as text.
-fn origin_is(rt: &(impl AllocGlobal + Abort), words: &[&str], want: &str) {
-    match parse_words(rt.alloc(), words) {
-        Ok(Task::Lines(Command::Check { origin, .. })) => {
-            assert_eq!(rt; origin.to_text().as_str(), want)
-        }
-        _ => assert!(rt; false, "no command"),
+/// The command over standard input and output that words ask for.
+fn lines_command<'a>(alloc: Global, words: &'a [&'a str]) -> Result<Command<'a>, Fail> {
+    match parse_words(alloc, words) {
+        Ok(Task::Lines(command)) => Ok(command),
+        Ok(Task::Serve(_serve)) => Err(Fail::from("a zone to be served")),
+        Err(_fault) => Err(Fail::from("no command")),
     }
 }
 
 // An origin without a final dot is relative to the root, which is the origin unless one is given.
 #[test]
-fn origins(rt: HostRuntime) {
-    origin_is(&rt, &["dnsd", "check", "-"], ".");
-    origin_is(
-        &rt,
-        &["dnsd", "check", "--origin", "X.test", "-"],
-        "X.test.",
-    );
-    origin_is(
-        &rt,
-        &["dnsd", "check", "--origin", "x.test.", "-"],
-        "x.test.",
-    );
+fn origins(rt: HostRuntime) -> Result<(), Fail> {
+    let cases: [(&[&str], &str); 3] = [
+        (&["dnsd", "check", "-"], "."),
+        (&["dnsd", "check", "--origin", "X.test", "-"], "X.test."),
+        (&["dnsd", "check", "--origin", "x.test.", "-"], "x.test."),
+    ];
+    for (words, origin) in cases {
+        let command = lines_command(rt.alloc(), words)?;
+        assert_eq!(rt; command.origin().to_text().as_str(), origin);
+    }
+    Ok(())
 }
 
 // A file that isn't there is a device's fault.
 #[test]
 fn missing_file(rt: HostRuntime) -> Result<(), Fail> {
     let words = ["dnsd", "check", "no/such/zone"];
-    let Ok(Task::Lines(command)) = parse_words(rt.alloc(), &words) else {
-        return Err(Fail::from("no command"));
-    };
+    let command = lines_command(rt.alloc(), &words)?;
     assert_eq!(rt; run_command(&rt, &command)?, 3);
     Ok(())
 }

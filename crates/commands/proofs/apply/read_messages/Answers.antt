@@ -1,4 +1,4 @@
-use Rattle.std.proofs.Common.{◌≡◌, ◌<◌, ap, ◌∙◌, sym, length, arith}
+use Rattle.std.proofs.Common.{◌≡◌, ◌<◌, ap, ◌∙◌, length, arith}
 use Rattle.std.specs.Io.BufRead.{strip_last}
 use Rattle.commands.specs.Apply.{message_on}
 use Rattle.line_io.proofs.LinesLemmas.{IfSome-each}

@@ -1,4 +1,3 @@
-use Rattle.std.proofs.lemmas.Result.{err_from_is_err_and}
 use Rattle.commands.proofs.ApplyLemmas.{text_taken, text_begun, told_taken}
 use Rattle.commands.proofs.RunLemmas.{AtDevice-each}
 use Rattle.commands.proofs.apply.run_apply.Goals as goal
