@@ -1,32 +1,17 @@
 //! `dnsd`: an authoritative name server for one zone of class IN.
 //!
-//! The command line is parsed by `command`, the zone's text is read by `master_file`, and `answer` replies to each request
-//! that it reads, over UDP or TCP. `check` prints the zone's written text, and `apply` that of the zone
-//! behind a transfer's messages. `steps` plays a `script`: names come into use for
-//! versions of the zone, and requests over UDP are answered in them. What a reply says is `serve_core`'s, and what a step does
-//! is `world_run`'s. `serve` answers on sockets, by the workers of `serve_workers`.
+//! The command line is parsed by `command`. What a command does over a zone's text, standard input and standard output is
+//! `commands`': `answer` replies to each request that it reads, `check` prints the zone's written text, `apply` that of the zone
+//! behind a transfer's messages, and `steps` plays a script. `serve` answers on sockets, by the workers of `serve_workers`.
 #![tactic(auto)]
 
 ghost use Rattle.std.specs.Prelude.{◌≡◌, ◌⊎◌};
 
-pub mod answer;
-pub mod apply;
-pub mod check;
 pub mod command;
-pub mod fault;
-mod input;
-mod kept;
-mod lines;
-pub mod run;
-pub mod script;
 pub mod serve;
-mod shown;
-pub mod steps;
-pub mod tell;
 
-use command::{Command, CommandFault, Source, Task, parse_words};
-use fault::{BAD_COMMAND, DONE, FAILED};
-use run::{run_text, run_with_zone};
+use command::{BAD_COMMAND, CommandFault, Task, parse_words};
+use commands::{Command, DONE, FAILED, Source, run_text, run_with_zone, tell};
 use serve::run_serve;
 use std::io::{self, BufReader, BufWriter};
 use std::net::{Net, TcpListener, TcpStream};
@@ -36,7 +21,6 @@ use std::sync::Wait;
 use std::thread::Threads;
 use std::time::Clock;
 use std::{env, fs};
-use tell::tell;
 
 fn main(rt: HostRuntime) -> ExitCode {
     match run_words(&rt) {

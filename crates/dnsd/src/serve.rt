@@ -1,10 +1,9 @@
 //! Serving a zone on sockets (RFC 1035, 4.2).
-use crate::command::{CommandFault, Source, number_for};
-use crate::fault::{DONE, FAILED, Fault};
-use crate::input::read_zone_text;
-use crate::tell::tell;
+use crate::command::{CommandFault, number_for};
 use clap::{Arg, ArgMatches, Command as Parser};
+use commands::{DONE, FAILED, Fault, Source, tell};
 use dns_name::Name;
+use line_io::read_zone_text;
 use master_file::read_zone;
 use serve_workers::{Allowed, Plan, serve_zone};
 use std::alloc::{AllocError, Global};

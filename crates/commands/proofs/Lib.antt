@@ -1,0 +1,3 @@
+pub mod ApplyLemmas
+pub mod RunLemmas
+pub mod ToldLemmas

@@ -1,0 +1,3 @@
+pub mod Apply
+pub mod Run
+pub mod Told

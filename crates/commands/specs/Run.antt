@@ -1,0 +1,144 @@
+-- What a run of the program comes to (own).
+use Rattle.std.specs.Prelude.{◌≡◌, ℕ, ◌⊎◌, Bool, List, Option, IfSome, IfOk, Result, Ok, Err, IsOk}
+use Rattle.std.specs.Io.KnownBytes.{Appends}
+use Rattle.dns_rdata.specs.Record.{Record}
+use Rattle.master_file.specs.declared.fault.FileFault.{FileFault}
+use Rattle.master_file.specs.ZoneText.{zone_of_text}
+use Rattle.master_file.specs.WrittenZone.{zone_text}
+use Rattle.master_file.specs.Fault.{no_memory}
+use Rattle.commands.specs.declared.command.Source.{Source}
+use Rattle.commands.specs.declared.command.Command.{Command}
+use Rattle.commands.specs.declared.command.Command.TheVariants.{Answer, Check, Apply, Steps}
+use Rattle.commands.specs.declared.fault.Fault.{Fault}
+use Rattle.commands.specs.declared.fault.Fault.TheVariants.{Zone, Script, World, Transfer, Device}
+use Rattle.script_text.specs.declared.fault.StepsFault.{StepsFault}
+use Rattle.script_text.specs.declared.fault.StepsFault.TheVariants as script
+use Rattle.commands.specs.Apply.{taken, taken_text, TellsTransfer}
+use Rattle.line_io.specs.Input.{zone_text_of, behind_zone_text}
+use Rattle.answer_lines.specs.Answers.{output_of}
+use Rattle.line_io.specs.Lines.{Begins}
+use Rattle.script_text.specs.Script.{script_of, script_output}
+use Rattle.commands.specs.Told.{IsTold}
+
+-- the status with which the program ends at a fault: 1 where the zone, the script or the transfer is refused, 3 at a device's fault
+abbrev pub status_of : Fault → ℕ
+status_of (Zone fault) = 1
+status_of (Script line) = 1
+status_of (World fault) = 1
+status_of (Transfer fault) = 1
+status_of (Device fault) = 3
+
+-- a script's fault as the program's
+abbrev pub fault_of : StepsFault → Fault
+fault_of (script.Script line) = Script line
+fault_of (script.World fault) = World fault
+fault_of (script.Device fault) = Device fault
+
+-- a fact where the zone's text is refused
+abbrev pub AtRefusedZone : Fault → Type 0 → Type 0
+AtRefusedZone (Zone fault) fact = fact
+AtRefusedZone fault fact = Unit
+
+-- a fact where a device fails, or memory is wanted
+abbrev pub AtDevice : Fault → Type 0 → Type 0
+AtDevice (Device fault) fact = fact
+AtDevice fault fact = Unit
+
+-- a fault that a script may be given: its first line that says no step, or want of memory while its steps are played
+abbrev pub IsOfScript : List ℕ → Fault → Type 0
+IsOfScript input (Zone fault) = ⊥
+IsOfScript input (Script line) = script_of input ≡ Err line
+IsOfScript input (World fault) = IsOk (script_of input)
+IsOfScript input (Transfer fault) = ⊥
+IsOfScript input (Device fault) = Unit
+
+-- a fault that a command may be given for its input: requests are never refused, and where the zone is printed nothing is
+abbrev pub IsOfInput : Command → List ℕ → Fault → Type 0
+IsOfInput (Answer zone origin transport) input (Device fault) = Unit
+IsOfInput (Answer zone origin transport) input fault = ⊥
+IsOfInput (Check zone origin) input (Device fault) = Unit
+IsOfInput (Check zone origin) input fault = ⊥
+IsOfInput (Apply zone origin) input (Transfer fault) = Unit
+IsOfInput (Apply zone origin) input (Device fault) = Unit
+IsOfInput (Apply zone origin) input fault = ⊥
+IsOfInput (Steps zone origin keep window) input fault = IsOfScript input fault
+
+-- where a command's zone comes from
+abbrev pub source_of : Command → Source
+source_of (Answer zone origin transport) = zone
+source_of (Check zone origin) = zone
+source_of (Apply zone origin) = zone
+source_of (Steps zone origin keep window) = zone
+
+-- the origin at the start of a command's zone's text
+abbrev pub origin_of : Command → List (List ℕ)
+origin_of (Answer zone origin transport) = origin
+origin_of (Check zone origin) = origin
+origin_of (Apply zone origin) = origin
+origin_of (Steps zone origin keep window) = origin
+
+-- what a command writes for an input in a zone; a flag for each request says where memory is wanted for an update
+abbrev pub output_for : Command → List Bool → List Record → List ℕ → List ℕ
+output_for (Answer zone origin transport) starved records input = output_of transport starved records input
+output_for (Check zone origin) starved records input = zone_text records
+output_for (Apply zone origin) starved records input = taken_text records input
+output_for (Steps zone origin keep window) starved records input = script_output records keep window input
+
+-- what a command writes for an input in a zone was written, wherever memory was wanted for an update
+abbrev pub DoesIn : Command → List Record → List ℕ → Option (List ℕ) → Option (List ℕ) → Type 0
+DoesIn command records input before after = (starved : List Bool) × Appends before after (output_for command starved records input)
+
+-- a beginning of it was written
+abbrev pub BeginsToDoIn : Command → List Record → List ℕ → Option (List ℕ) → Option (List ℕ) → Type 0
+BeginsToDoIn command records input before after = (starved : List Bool) × Begins before after (output_for command starved records input)
+
+-- a command that takes a transfer tells what becomes of it
+abbrev pub TellsIn : Command → List Record → List ℕ → Result (Unit {0}) Fault → Type 0
+TellsIn (Apply zone origin) records input told = TellsTransfer (taken records input) told
+TellsIn (Answer zone origin transport) records input told = Unit
+TellsIn (Check zone origin) records input told = Unit
+TellsIn (Steps zone origin keep window) records input told = Unit
+
+-- the zone of a command's text, or the fault that is told of it (RFC 1035, 5)
+abbrev pub zone_for : Command → List ℕ → Result (List Record) FileFault
+zone_for command text = zone_of_text (origin_of command) text
+
+-- the same over a text that is a zone and the input behind it
+abbrev pub TellsOf : Command → List ℕ → List ℕ → Result (Unit {0}) Fault → Type 0
+TellsOf command text input told = IfOk (zone_for command text) (λ zone. TellsIn command zone input told)
+
+-- a fault of a zone's text is the one that is told of it, or want of memory; any other is of a text that is a zone
+abbrev pub IsOfZone : Result (List Record) FileFault → Fault → Type 0
+IsOfZone read (Zone fault) = (fault ≡ no_memory) ⊎ (read ≡ Err fault)
+IsOfZone read fault = IsOk read
+
+-- a fault that a command may be given for its input, where its zone's text isn't refused
+abbrev pub IsOfRun : Command → List ℕ → Fault → Type 0
+IsOfRun command input (Zone fault) = Unit
+IsOfRun command input fault = IsOfInput command input fault
+
+-- a fault was told on a line, and its status given; or it couldn't be told, and the status is a device's fault's
+abbrev pub EndsBy : Fault → ℕ → Option (List ℕ) → Option (List ℕ) → Type 0
+EndsBy fault status before after = ((status ≡ status_of fault) × IsTold fault before after) ⊎ (status ≡ 3)
+
+-- a command was refused: a fault with status 1 was told on a line, that of the zone's text at the front of what is read, or
+-- one that the command may be given for its input behind it; of a transfer, the one that is told of it
+pub record IsRefused (command : Command) (read before after : Option (List ℕ)) : Type 0 where
+  pub fault : Fault
+  pub status : status_of fault ≡ 1
+  pub told : IsTold fault before after
+  pub of_zone : IfSome read (λ octets. IsOfZone (zone_for command (zone_text_of octets)) fault)
+  pub of_input : IfSome read (λ octets. IsOfRun command (behind_zone_text octets) fault)
+  pub of_transfer : IfSome read (λ octets. TellsOf command (zone_text_of octets) (behind_zone_text octets) (Err fault))
+
+-- a text is a zone, and what a command writes for an input in that zone was written
+pub record Does (command : Command) (text input : List ℕ) (before after : Option (List ℕ)) : Type 0 where
+  pub zone : List Record
+  pub is_zone : zone_for command text ≡ Ok zone
+  pub written : DoesIn command zone input before after
+
+-- a text is a zone, and a beginning of what a command writes for an input in that zone was written
+pub record BeginsToDo (command : Command) (text input : List ℕ) (before after : Option (List ℕ)) : Type 0 where
+  pub zone : List Record
+  pub is_zone : zone_for command text ≡ Ok zone
+  pub written : BeginsToDoIn command zone input before after

@@ -1,8 +1,0 @@
-mod VersionsLemmas
-mod AnswerLemmas
-pub mod CheckLemmas
-pub mod InputLemmas
-pub mod LinesLemmas
-pub mod RunLemmas
-pub mod ScriptLemmas
-pub mod ApplyLemmas

@@ -1,6 +1,0 @@
-use Rattle.dnsd.specs.Versions.{begun}
-use Rattle.dnsd.proofs.LinesLemmas.{Begins-none, IfSome-each, OnErr-each}
-use Rattle.dnsd.proofs.answer.run_answer.Goals as goal
-
-pub returns-in_err-buffers-clause-err : goal.returns-in_err-buffers-clause-err
-returns-in_err-buffers-clause-err g c = OnErr-each _ _ (IfSome-each _ _ (λ input e. Begins-none c.args.transport (begun c.args.zone) input _))

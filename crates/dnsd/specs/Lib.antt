@@ -1,7 +1,0 @@
-pub mod Apply
-pub mod Input
-pub mod Lines
-pub mod Run
-pub mod Script
-pub mod Told
-pub mod Versions
