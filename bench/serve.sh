@@ -33,18 +33,6 @@ stop() {
 }
 trap 'stop; rm -rf "$work"' EXIT
 
-# The zone: an SOA, an NS, and then hosts of which each tenth is an alias of the one before it.
-zone() {
-    awk -v n="$1" 'BEGIN {
-        print "example.test. 3600 IN SOA ns1.example.test. admin.example.test. 1 7200 900 1209600 300"
-        print "example.test. 3600 IN NS ns1.example.test."
-        for (i = 0; i + 2 < n; i++) {
-            if (i % 10 == 9) printf "h%d.example.test. 3600 IN CNAME h%d.example.test.\n", i, i - 1
-            else printf "h%d.example.test. 3600 IN A 192.0.2.%d\n", i, i % 256
-        }
-    }'
-}
-
 # The queries, type A: by turns a name that exists, one that does not, and an alias.
 questions() {
     awk -v n="$1" 'BEGIN {
