@@ -8,6 +8,7 @@
 set -euo pipefail
 cd "$(dirname "$0")/.."
 . bench/program.sh
+. tests/secondary.sh
 seconds=600
 rate=100
 updates=20
@@ -50,39 +51,8 @@ second=0
 if [ $transfers = yes ] && command -v knotd >/dev/null && command -v dig >/dev/null; then
     if [ "$(held "$port" | wc -l)" -gt 20 ]; then
         second=$((port + 1))
-        mkdir "$work/knotd"
-        cat >"$work/knotd.conf" <<end
-server:
-    rundir: "$work/knotd"
-    listen: 127.0.0.1@$second
-    udp-workers: 1
-    tcp-workers: 1
-database:
-    storage: "$work/knotd"
-remote:
-  - id: primary
-    address: 127.0.0.1@$port
-    no-edns: on
-acl:
-  - id: readers
-    address: 127.0.0.1
-    action: transfer
-zone:
-  - domain: example.test.
-    storage: "$work/knotd"
-    file: zone
-    zonefile-sync: -1
-    master: primary
-    acl: readers
-    refresh-min-interval: 2
-    refresh-max-interval: 2
-    retry-min-interval: 2
-    retry-max-interval: 2
-log:
-  - target: stderr
-    any: info
-end
-        knotd -c "$work/knotd.conf" >"$work/knotd.log" 2>&1 &
+        knotd_secondary "$work/knotd" "$second" "$port"
+        knotd -c "$work/knotd/knotd.conf" >"$work/knotd.log" 2>&1 &
         started+=($!)
         for _ in $(seq 100); do [ "$(held $second | wc -l)" -le 20 ] || break; sleep 0.2; done
     else

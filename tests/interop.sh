@@ -9,6 +9,7 @@
 # It needs Debian's packages bind9-dnsutils, knot-dnsutils, bind9-utils, bind9, knot and nsd, and the program that `make dnsd` builds.
 set -euo pipefail
 cd "$(dirname "$0")/.."
+. tests/secondary.sh
 program=${DNSD:-$PWD/crates/dnsd/out/dnsd}
 port=15353
 transfers=yes
@@ -454,36 +455,8 @@ end
 
 # Knot as a secondary, on a port.
 start_knotd() {
-    mkdir "$work/knotd"
-    cat >"$work/knotd.conf" <<end
-server:
-    rundir: "$work/knotd"
-    listen: 127.0.0.1@$1
-database:
-    storage: "$work/knotd"
-remote:
-  - id: primary
-    address: 127.0.0.1@$port
-    no-edns: on
-acl:
-  - id: readers
-    address: 127.0.0.1
-    action: transfer
-zone:
-  - domain: $d
-    storage: "$work/knotd"
-    file: zone
-    master: primary
-    acl: readers
-    refresh-min-interval: 2
-    refresh-max-interval: 2
-    retry-min-interval: 2
-    retry-max-interval: 2
-log:
-  - target: stderr
-    any: info
-end
-    knotd -c "$work/knotd.conf" >"$work/knotd.log" 2>&1 &
+    knotd_secondary "$work/knotd" "$1" "$port"
+    knotd -c "$work/knotd/knotd.conf" >"$work/knotd.log" 2>&1 &
     started+=($!)
 }
 
