@@ -23,4 +23,6 @@ pub use versions::{
 };
 
 #[cfg(test)]
+mod refused_tests;
+#[cfg(test)]
 mod tests;

@@ -25,7 +25,7 @@ const UPDATE: &[u8] =
     b"\x43\x21\x28\0\0\x01\0\0\0\x01\0\0\x07example\x04test\0\0\x06\0\x01\x03new\xc0\x0c\0\x01\0\x01\0\0\x0e\x10\0\x04\xc0\0\x02";
 
 /// The zone `example.test.` of an SOA and an NS.
-fn small_zone(alloc: Global) -> Result<Zone, Fail> {
+pub(crate) fn small_zone(alloc: Global) -> Result<Zone, Fail> {
     let apex = Name::from_text(b"example.test.", &Name::root())?;
     let mut sets = Vec::new(alloc);
     for (rtype, octets) in [(RType::NS, NS), (RType::SOA, SOA)] {
@@ -36,7 +36,7 @@ fn small_zone(alloc: Global) -> Result<Zone, Fail> {
 }
 
 /// The update that adds the address of this last octet.
-fn update_of(alloc: Global, last: u8) -> Result<Update, Fail> {
+pub(crate) fn update_of(alloc: Global, last: u8) -> Result<Update, Fail> {
     let mut octets = UPDATE.to_vec(alloc)?;
     octets.push(last)?;
     match parse(alloc, &octets) {

@@ -1,0 +1,120 @@
+//! An engine whose memory is refused: what was published last stays, and the same call made anew succeeds.
+ghost use Rattle.std.specs.Prelude.{◌≡◌};
+
+use crate::fault::NoEngine;
+use crate::tests::{small_zone, update_of};
+use crate::{Engine, FirstZone, VersionCell, VersionPublisher, VersionReader};
+use dns_message::Update;
+use dns_rdata::{Rcode, Serial};
+use snapshot_cell::{Cell, Parts};
+use std::alloc::Global;
+use std::marker::Brand;
+use std::sync::Wait;
+use std::test::Fail;
+use zone_tree::{Version, Zone};
+
+/// The zone, or, where memory is refused, the zone made anew.
+fn zone_anew(alloc: Global) -> Option<Zone> {
+    match small_zone(alloc) {
+        Ok(zone) => Some(zone),
+        Err(_) => small_zone(alloc).ok(),
+    }
+}
+
+/// The update, likewise.
+fn update_anew(alloc: Global) -> Option<Update> {
+    match update_of(alloc, 77) {
+        Ok(update) => Some(update),
+        Err(_) => update_of(alloc, 77).ok(),
+    }
+}
+
+/// The code of an update, or, where it is SERVFAIL and the version published last is still the first, that of the same update sent
+/// anew.
+fn sent_anew<'a, R: Wait, Z: FirstZone>(
+    rt: &R,
+    alloc: Global,
+    cell: &'a VersionCell<Z>,
+    engine: &mut Engine<'a, Z>,
+    update: &Update,
+) -> Rcode {
+    let code = engine.update(rt, alloc, cell, update, true);
+    if code == Rcode::ServFail && engine.number() == 0 && engine.last().serial().0 == 1 {
+        return engine.update(rt, alloc, cell, update, true);
+    }
+    code
+}
+
+/// Whether the versions that the engine keeps tell what changed since the first; asked once more where they can't be owned.
+fn tells_the_change<'a, Z: FirstZone>(engine: &Engine<'a, Z>, cell: &'a VersionCell<Z>) -> bool {
+    let newest = match engine.newest(cell) {
+        Ok(newest) => newest,
+        Err(_) => match engine.newest(cell) {
+            Ok(newest) => newest,
+            Err(_) => return false,
+        },
+    };
+    newest.last().number() == 1 && newest.chain(Some(Serial(1))).whole
+}
+
+/// Whether an engine that is made of these publishes the update.
+fn publishes<'a, R: Wait, Z: FirstZone>(
+    rt: &R,
+    alloc: Global,
+    cell: &'a VersionCell<Z>,
+    publisher: VersionPublisher<Z>,
+    reader: VersionReader<Z>,
+) -> bool
+    requires { publisher.number ≡ 0 }
+{
+    let made = match Engine::new(rt, cell, publisher, reader, 2) {
+        Ok(engine) => Ok(engine),
+        Err(
+            NoEngine {
+                publisher,
+                reader,
+                ..
+            },
+        ) => Engine::new(rt, cell, publisher, reader, 2),
+    };
+    let (Ok(mut engine), Some(update)) = (made, update_anew(alloc)) else {
+        return false;
+    };
+    sent_anew(rt, alloc, cell, &mut engine, &update) == Rcode::NoError
+        && engine.number() == 1
+        && tells_the_change(&engine, cell)
+}
+
+/// Whether the update is published in a cell that begins with a zone; None where there is no memory for the cell.
+fn plays<R: Wait, Z: FirstZone>(rt: &R, alloc: Global, zone: Zone) -> Option<bool>
+    requires { zone ≡ Z.zone }
+{
+    let Ok(
+        Parts {
+            cell,
+            publisher,
+            mut readers,
+        },
+    ) = Cell::new(rt, alloc, 2, Version::first(zone))
+    else {
+        return None;
+    };
+    let reader = readers.pop()?;
+    let is_published = publishes::<R, Z>(rt, alloc, &cell, publisher, reader);
+    Some(is_published)
+}
+
+// With any one growth refused, the version published last stays, and the same update makes the next one once it is sent anew.
+#[test]
+fn refused_growth(rt: HostRuntime) -> Result<(), Fail> {
+    let zone = zone_anew(rt.alloc()).ok_or("no zone")?;
+    let is_published = match plays::<HostRuntime, Brand>(&rt, rt.alloc(), zone) {
+        Some(is_published) => is_published,
+        None => {
+            let zone = zone_anew(rt.alloc()).ok_or("no zone")?;
+            plays::<HostRuntime, Brand>(&rt, rt.alloc(), zone) == Some(true)
+        }
+    };
+    assert!(rt; is_published);
+    Ok(())
+}
