@@ -115,43 +115,57 @@ fn addresses(rt: HostRuntime) {
     assert!(rt; address(Word::Quoted(b"10.1.0.52")) == Err(Cause::BadData));
 }
 
-/// Texts that aren't digits alone, or a number over 65,535.
-const NO_NUMBERS: [&[u8]; 6] = [
-    b"65536",
-    b"",
-    b"+1",
-    b"1h",
-    b"\\049",
-    b"99999999999999999999",
+/// Words, and what number of at most 65,535 they are: digits alone.
+const NUMBERS: [(Word<'_>, Option<u32>); 9] = [
+    (Word::Plain(b"65535"), Some(65535)),
+    (Word::Plain(b"0000000000000000000020"), Some(20)),
+    (Word::Plain(b"65536"), None),
+    (Word::Plain(b""), None),
+    (Word::Plain(b"+1"), None),
+    (Word::Plain(b"1h"), None),
+    (Word::Plain(b"\\049"), None),
+    (Word::Plain(b"99999999999999999999"), None),
+    (Word::Quoted(b"1"), None),
 ];
 
-/// The first of these that isn't refused.
-fn number_read() -> Option<&'static [u8]> {
-    for text in NO_NUMBERS {
-        if number(Word::Plain(text), 65535) != Err(Cause::Number) {
-            return Some(text);
+/// Whether a word is this number, or is refused as none.
+fn is_read_as(word: Word<'_>, want: Option<u32>) -> bool {
+    match number(word, 65535) {
+        Ok(read) => want == Some(read),
+        Err(cause) => want.is_none() && cause == Cause::Number,
+    }
+}
+
+/// The index of the first word that is read otherwise.
+fn wrong_number() -> Option<usize> {
+    let mut at = 0usize;
+    for (word, want) in NUMBERS {
+        if !is_read_as(word, want) {
+            return Some(at);
         }
+        at = at.saturating_add(1);
     }
     None
 }
 
-/// Whether a text is this number, up to the greatest of 65,535.
-fn is_read_as(word: Word<'_>, want: Result<u32, Cause>) -> bool {
-    number(word, 65535) == want
+/// Whether the greatest TTL is 2^31 - 1 (RFC 2181, 8).
+fn ttls_are_read() -> bool {
+    ttl(Word::Plain(b"2147483647")) == Ok(Ttl(2_147_483_647))
+        && ttl(Word::Plain(b"2147483648")) == Err(Cause::Number)
 }
 
-// Digits alone, up to the greatest number; the greatest TTL is 2^31 - 1 (RFC 2181, 8).
+/// Whether digits alone are a number, whatever it is.
+fn digits_are_told() -> bool {
+    is_number(Word::Plain(b"99999999999"))
+        && !is_number(Word::Plain(b""))
+        && !is_number(Word::Quoted(b"1"))
+}
+
 #[test]
 fn numbers(rt: HostRuntime) {
-    assert_eq!(rt; number_read(), None);
-    assert!(rt; is_read_as(Word::Plain(b"65535"), Ok(65535)));
-    assert!(rt; is_read_as(Word::Plain(b"0000000000000000000020"), Ok(20)));
-    assert!(rt; is_read_as(Word::Quoted(b"1"), Err(Cause::Number)));
-    assert!(rt; ttl(Word::Plain(b"2147483647")) == Ok(Ttl(2_147_483_647)));
-    assert!(rt; ttl(Word::Plain(b"2147483648")) == Err(Cause::Number));
-    assert!(rt; is_number(Word::Plain(b"99999999999")));
-    assert!(rt; !is_number(Word::Plain(b"")));
-    assert!(rt; !is_number(Word::Quoted(b"1")));
+    assert_eq!(rt; wrong_number(), None);
+    assert!(rt; ttls_are_read());
+    assert!(rt; digits_are_told());
 }
 
 /// The types in any case.
