@@ -157,321 +157,351 @@ mod tests {
     use dns_name::Name;
     use dns_rdata::{Class, RData, RRset, RType, Rcode, Shown, Ttl};
     use std::alloc::Global;
-    use std::test::Fail;
+    use std::slice;
 
-    fn name(octets: &[u8]) -> Result<Name, Fail> {
-        let (name, _) = Name::from_wire(octets).ok_or("no name")?;
-        Ok(name)
+    /// An owner, a type and data octets, how many records the set has, and the octet of the data that is one more in each
+    /// further record.
+    type Row = (&'static [u8], RType, &'static [u8], u8, usize);
+
+    /// A reply that is to be written: to a query with RD, or, where the question's name is empty, to a request without a
+    /// question. The TTL is that of the authority section, where it isn't the sets' own.
+    #[derive(Clone, Copy)]
+    struct Case {
+        name: &'static [u8],
+        rtype: RType,
+        rcode: Rcode,
+        aa: bool,
+        below_cut: bool,
+        ttl: Option<Ttl>,
+        answer: &'static [Row],
+        authority: &'static [Row],
+        additional: &'static [Row],
     }
 
-    fn question(octets: &[u8], rtype: RType) -> Result<Question, Fail> {
-        Ok(Question {
-            name: name(octets)?,
-            rtype,
-            class: Class::IN,
-        })
-    }
+    /// An authoritative reply without records.
+    const EMPTY: Case = Case {
+        name: b"",
+        rtype: RType::A,
+        rcode: Rcode::NoError,
+        aa: true,
+        below_cut: false,
+        ttl: None,
+        answer: &[],
+        authority: &[],
+        additional: &[],
+    };
 
-    /// A record of an hour.
-    fn one(alloc: Global, owner: &Name, rtype: RType, octets: &[u8]) -> Result<RRset, Fail> {
-        let data = RData::from_wire(alloc, rtype, octets)?;
-        Ok(RRset::new(alloc, owner, Ttl(3600), data)?)
+    const WWW: &[u8] = b"\x03www\x07example\x04test\x00";
+
+    const WEB: &[u8] = b"\x03web\x07example\x04test\x00";
+
+    /// The first address of 192.0.2.0/24 (RFC 5737, 3).
+    const FIRST: &[u8] = b"\xc0\x00\x02\x01";
+
+    fn name(octets: &[u8]) -> Option<Name> {
+        let (name, _) = Name::from_wire(octets)?;
+        Some(name)
     }
 
     /// One more record.
-    fn more(alloc: Global, set: &mut RRset, octets: &[u8]) -> Result<(), Fail> {
-        let next = RData::from_wire(alloc, set.rtype(), octets)?;
+    fn put(alloc: Global, set: &mut RRset, octets: &[u8]) -> Option<()> {
+        let next = RData::from_wire(alloc, set.rtype(), octets).ok()?;
         if set.rtype() == next.rtype() {
-            set.insert(next)?;
+            set.insert(next).ok()?;
         }
-        Ok(())
+        Some(())
     }
 
-    /// So many addresses of 192.0.2.0/24 (RFC 5737, 3), from 192.0.2.1 on.
-    fn addresses(alloc: Global, owner: &Name, count: u8) -> Result<RRset, Fail> {
-        let mut set = one(alloc, owner, RType::A, &[192, 0, 2, 1])?;
-        for last in 2..=count {
-            more(alloc, &mut set, &[192, 0, 2, last])?;
+    /// The set of a row, whose records are of an hour.
+    fn set_of(alloc: Global, row: Row) -> Option<RRset> {
+        let (owner, rtype, octets, count, at) = row;
+        let first = RData::from_wire(alloc, rtype, octets).ok()?;
+        let mut set = RRset::new(alloc, &name(owner)?, Ttl(3600), first).ok()?;
+        let mut data = Vec::new(alloc);
+        data.extend_from_slice(octets).ok()?;
+        for _ in 1..count {
+            if let Some(octet) = data.get_mut(at) {
+                *octet = octet.wrapping_add(1);
+            }
+            put(alloc, &mut set, &data)?;
         }
-        Ok(set)
+        Some(set)
     }
 
-    fn shown<'a>(owner: &Name, sets: &'a [RRset]) -> Shown<'a> {
-        Shown {
-            owner: owner.copy(),
-            ttl: None,
-            sets,
+    fn sets_of(alloc: Global, rows: &[Row]) -> Option<Vec<RRset>> {
+        let mut sets = Vec::new(alloc);
+        for row in rows {
+            sets.push(set_of(alloc, *row)?).ok()?;
         }
+        Some(sets)
     }
 
-    /// A reply to a query with RD, without records.
-    fn reply_to(question: &Question) -> Reply<'_> {
+    /// Sets, each under its own owner.
+    fn shown(alloc: Global, sets: &[RRset], ttl: Option<Ttl>) -> Option<Vec<Shown<'_>>> {
+        let mut section = Vec::new(alloc);
+        for set in sets {
+            let one = Shown {
+                owner: set.owner(),
+                ttl,
+                sets: slice::from_ref(set),
+            };
+            section.push(one).ok()?;
+        }
+        Some(section)
+    }
+
+    /// The front of a reply, without records.
+    fn front<'a>(case: &Case, question: Option<&'a Question>) -> Reply<'a> {
+        let (id, opcode, rd) = if question.is_some() {
+            (0x1234, 0, true)
+        } else {
+            (0xfedc, 2, false)
+        };
         Reply {
-            head: Head {
-                id: 0x1234,
-                opcode: 0,
-                rd: true,
-            },
-            rcode: Rcode::NoError,
-            aa: true,
-            question: Some(question),
+            head: Head { id, opcode, rd },
+            rcode: case.rcode,
+            aa: case.aa,
+            question,
             answer: &[],
             authority: &[],
             additional: &[],
-            below_cut: false,
+            below_cut: case.below_cut,
         }
+    }
+
+    /// Writes the reply of a case with this question, and gives its length.
+    fn write_to(
+        alloc: Global,
+        case: &Case,
+        question: Option<&Question>,
+        limit: usize,
+        out: &mut [u8],
+    ) -> Option<usize>
+        requires least { MIN_LIMIT ≤ limit }
+        requires room { limit ≤ length out.old }
+    {
+        let answers = sets_of(alloc, case.answer)?;
+        let authorities = sets_of(alloc, case.authority)?;
+        let others = sets_of(alloc, case.additional)?;
+        let answer = shown(alloc, &answers, None)?;
+        let authority = shown(alloc, &authorities, case.ttl)?;
+        let additional = shown(alloc, &others, None)?;
+        let reply = Reply {
+            answer: &answer,
+            authority: &authority,
+            additional: &additional,
+            ..front(case, question)
+        };
+        Some(write_reply(&reply, limit, out))
+    }
+
+    /// Writes the reply of a case, and gives its length; None where memory is refused.
+    fn write(alloc: Global, case: &Case, limit: usize, out: &mut [u8]) -> Option<usize>
+        requires least { MIN_LIMIT ≤ limit }
+        requires room { limit ≤ length out.old }
+    {
+        if case.name.is_empty() {
+            return write_to(alloc, case, None, limit, out);
+        }
+        let question = Question {
+            name: name(case.name)?,
+            rtype: case.rtype,
+            class: Class::IN,
+        };
+        write_to(alloc, case, Some(&question), limit, out)
+    }
+
+    /// Whether the reply of a case, of so many octets in all, has these at a position, over UDP.
+    fn has(alloc: Global, case: &Case, len: usize, at: usize, want: &[u8]) -> Option<bool> {
+        let mut out = [0xee; MIN_LIMIT];
+        let written = write(alloc, case, MIN_LIMIT, &mut out)?;
+        Some(written == len && out.get(at..)?.starts_with(want))
+    }
+
+    /// Whether the reply of a case is these octets, over UDP.
+    fn is(alloc: Global, case: &Case, want: &[u8]) -> bool {
+        has(alloc, case, want.len(), 0, want) == Some(true)
     }
 
     // By the diagrams of RFC 1035, 4.1 and 4.1.4: the alias' owner is at 12, what is behind www in it at 16, and the
     // address' owner in the alias' data at 46.
     #[test]
-    fn alias_and_address(rt: HostRuntime) -> Result<(), Fail> {
-        let question = question(b"\x03www\x07example\x04test\x00", RType::A)?;
-        let web = name(b"\x03web\x07example\x04test\x00")?;
-        let sets = [
-            one(rt.alloc(), &question.name, RType::CNAME, web.wire())?,
-            one(rt.alloc(), &web, RType::A, b"\xc0\x00\x02\x0a")?,
-        ];
-        let (alias, address) = sets.split_at(1);
-        let answer = [shown(&question.name, alias), shown(&web, address)];
-        let reply = Reply {
-            answer: &answer,
-            ..reply_to(&question)
+    fn alias_and_address(rt: HostRuntime) {
+        let case = Case {
+            name: WWW,
+            answer: &[
+                (WWW, RType::CNAME, WEB, 1, 0),
+                (WEB, RType::A, b"\xc0\x00\x02\x0a", 1, 0),
+            ],
+            ..EMPTY
         };
-        let mut out = [0xee; MIN_LIMIT];
-        let len = write_reply(&reply, MIN_LIMIT, &mut out);
         let want = b"\x12\x34\x85\x00\x00\x01\x00\x02\x00\x00\x00\x00\
             \x03www\x07example\x04test\x00\x00\x01\x00\x01\
             \xc0\x0c\x00\x05\x00\x01\x00\x00\x0e\x10\x00\x06\x03web\xc0\x10\
             \xc0\x2e\x00\x01\x00\x01\x00\x00\x0e\x10\x00\x04\xc0\x00\x02\x0a";
-        assert_eq!(rt; &out[..len], want.as_slice());
-        Ok(())
+        assert!(rt; is(rt.alloc(), &case, want));
     }
+
+    /// An SOA's data.
+    const START: &[u8] = b"\x03ns1\x07example\x04test\x00\x05admin\x07example\x04test\x00\
+            \x00\x00\x00\x01\x00\x00\x1c\x20\x00\x00\x03\x84\x00\x12\x75\x00\x00\x00\x01\x2c";
 
     // A name error with its SOA, whose TTL is the one given (RFC 2308, 3); both names of its data have pointers.
     #[test]
-    fn name_error(rt: HostRuntime) -> Result<(), Fail> {
-        let question = question(b"\x04nope\x07example\x04test\x00", RType::A)?;
-        let zone = name(b"\x07example\x04test\x00")?;
-        let start = [one(
-            rt.alloc(),
-            &zone,
-            RType::SOA,
-            b"\x03ns1\x07example\x04test\x00\x05admin\x07example\x04test\x00\
-            \x00\x00\x00\x01\x00\x00\x1c\x20\x00\x00\x03\x84\x00\x12\x75\x00\x00\x00\x01\x2c",
-        )?];
-        let authority = [Shown {
-            owner: zone,
-            ttl: Some(Ttl(300)),
-            sets: &start,
-        }];
-        let reply = Reply {
+    fn name_error(rt: HostRuntime) {
+        let case = Case {
+            name: b"\x04nope\x07example\x04test\x00",
             rcode: Rcode::NxDomain,
-            authority: &authority,
-            ..reply_to(&question)
+            ttl: Some(Ttl(300)),
+            authority: &[(b"\x07example\x04test\x00", RType::SOA, START, 1, 0)],
+            ..EMPTY
         };
-        let mut out = [0xee; MIN_LIMIT];
-        let len = write_reply(&reply, MIN_LIMIT, &mut out);
         let want = b"\x12\x34\x85\x03\x00\x01\x00\x00\x00\x01\x00\x00\
             \x04nope\x07example\x04test\x00\x00\x01\x00\x01\
             \xc0\x11\x00\x06\x00\x01\x00\x00\x01\x2c\x00\x22\x03ns1\xc0\x11\x05admin\xc0\x11\
             \x00\x00\x00\x01\x00\x00\x1c\x20\x00\x00\x03\x84\x00\x12\x75\x00\x00\x00\x01\x2c";
-        assert_eq!(rt; &out[..len], want.as_slice());
-        Ok(())
+        assert!(rt; is(rt.alloc(), &case, want));
     }
+
+    const SERVICE: &[u8] = b"\x01s\x07example\x04test\x00";
+
+    /// An SRV's data.
+    const TARGET: &[u8] = b"\x00\x01\x00\x02\x00\x35\x03web\x07example\x04test\x00";
 
     // The target of an SRV is written in full, and nothing points to it (RFC 2782).
     #[test]
-    fn service(rt: HostRuntime) -> Result<(), Fail> {
-        let question = question(b"\x01s\x07example\x04test\x00", RType::SRV)?;
-        let web = name(b"\x03web\x07example\x04test\x00")?;
-        let data = b"\x00\x01\x00\x02\x00\x35\x03web\x07example\x04test\x00";
-        let service = [one(rt.alloc(), &question.name, RType::SRV, data)?];
-        let address = [one(rt.alloc(), &web, RType::A, b"\xc0\x00\x02\x0a")?];
-        let answer = [shown(&question.name, &service)];
-        let additional = [shown(&web, &address)];
-        let reply = Reply {
-            answer: &answer,
-            additional: &additional,
-            ..reply_to(&question)
+    fn service(rt: HostRuntime) {
+        let case = Case {
+            name: SERVICE,
+            rtype: RType::SRV,
+            answer: &[(SERVICE, RType::SRV, TARGET, 1, 0)],
+            additional: &[(WEB, RType::A, b"\xc0\x00\x02\x0a", 1, 0)],
+            ..EMPTY
         };
-        let mut out = [0xee; MIN_LIMIT];
-        let len = write_reply(&reply, MIN_LIMIT, &mut out);
         let want = b"\x12\x34\x85\x00\x00\x01\x00\x01\x00\x00\x00\x01\
             \x01s\x07example\x04test\x00\x00\x21\x00\x01\
             \xc0\x0c\x00\x21\x00\x01\x00\x00\x0e\x10\x00\x18\
             \x00\x01\x00\x02\x00\x35\x03web\x07example\x04test\x00\
             \x03web\xc0\x0e\x00\x01\x00\x01\x00\x00\x0e\x10\x00\x04\xc0\x00\x02\x0a";
-        assert_eq!(rt; &out[..len], want.as_slice());
-        Ok(())
+        assert!(rt; is(rt.alloc(), &case, want));
     }
 
     // Without a question the first name is at 12; the name of the NS data, at 28, is the owner behind it.
     #[test]
-    fn sections_in_order(rt: HostRuntime) -> Result<(), Fail> {
-        let zone = name(b"\x04test\x00")?;
-        let server = name(b"\x02ns\x04test\x00")?;
-        let servers = [one(rt.alloc(), &zone, RType::NS, server.wire())?];
-        let glue = [addresses(rt.alloc(), &server, 1)?];
-        let authority = [shown(&zone, &servers)];
-        let additional = [shown(&server, &glue)];
-        let reply = Reply {
-            head: Head {
-                id: 0xfedc,
-                opcode: 2,
-                rd: false,
-            },
+    fn sections_in_order(rt: HostRuntime) {
+        let case = Case {
             rcode: Rcode::NxDomain,
             aa: false,
-            question: None,
-            answer: &[],
-            authority: &authority,
-            additional: &additional,
             below_cut: true,
+            authority: &[(b"\x04test\x00", RType::NS, b"\x02ns\x04test\x00", 1, 0)],
+            additional: &[(b"\x02ns\x04test\x00", RType::A, FIRST, 1, 0)],
+            ..EMPTY
         };
-        let mut out = [0xee; MIN_LIMIT];
-        let len = write_reply(&reply, MIN_LIMIT, &mut out);
         let want = b"\xfe\xdc\x90\x03\x00\x00\x00\x00\x00\x01\x00\x01\
             \x04test\x00\x00\x02\x00\x01\x00\x00\x0e\x10\x00\x05\x02ns\xc0\x0c\
             \xc0\x1c\x00\x01\x00\x01\x00\x00\x0e\x10\x00\x04\xc0\x00\x02\x01";
-        assert_eq!(rt; &out[..len], want.as_slice());
-        Ok(())
+        assert!(rt; is(rt.alloc(), &case, want));
     }
 
     // A label is shared as it is spelt: the owner shown has its own first label before the name at 16.
     #[test]
-    fn case_is_kept_apart(rt: HostRuntime) -> Result<(), Fail> {
-        let question = question(b"\x03WWW\x07example\x04test\x00", RType::A)?;
-        let sets = [addresses(rt.alloc(), &question.name, 1)?];
-        let owner = name(b"\x03www\x07example\x04test\x00")?;
-        let answer = [shown(&owner, &sets)];
-        let reply = Reply {
-            answer: &answer,
-            ..reply_to(&question)
+    fn case_is_kept_apart(rt: HostRuntime) {
+        let case = Case {
+            name: b"\x03WWW\x07example\x04test\x00",
+            answer: &[(WWW, RType::A, FIRST, 1, 0)],
+            ..EMPTY
         };
-        let mut out = [0xee; MIN_LIMIT];
-        let len = write_reply(&reply, MIN_LIMIT, &mut out);
         let want = b"\x03www\xc0\x10\x00\x01\x00\x01\x00\x00\x0e\x10\x00\x04\xc0\x00\x02\x01";
-        assert_eq!(rt; len, 54);
-        assert_eq!(rt; &out[34..54], want.as_slice());
-        Ok(())
+        assert!(rt; has(rt.alloc(), &case, 54, 34, want) == Some(true));
     }
 
-    // Thirty addresses are 34 octets and 30 records of 16: 514 (RFC 1035, 4.2.1).
-    #[test]
-    fn cut_to_the_limit(rt: HostRuntime) -> Result<(), Fail> {
-        let question = question(b"\x03www\x07example\x04test\x00", RType::A)?;
-        let sets = [addresses(rt.alloc(), &question.name, 30)?];
-        let answer = [shown(&question.name, &sets)];
-        let reply = Reply {
-            answer: &answer,
-            ..reply_to(&question)
+    /// Thirty addresses are 34 octets and 30 records of 16: 514 (RFC 1035, 4.2.1).
+    fn cut_at(alloc: Global, limit: usize, len: usize, want: &[u8]) -> Option<bool>
+        requires least { MIN_LIMIT ≤ limit }
+        requires room { limit ≤ 600 }
+    {
+        let case = Case {
+            name: WWW,
+            answer: &[(WWW, RType::A, FIRST, 30, 3)],
+            ..EMPTY
         };
         let mut out = [0xee; 600];
-        assert_eq!(rt; write_reply(&reply, 514, &mut out), 514);
-        assert_eq!(rt; &out[..8], b"\x12\x34\x85\x00\x00\x01\x00\x1e".as_slice());
-        let len = write_reply(&reply, 513, &mut out);
-        let want =
-            b"\x12\x34\x87\x00\x00\x01\x00\x00\x00\x00\x00\x00\x03www\x07example\x04test\x00\x00\x01\x00\x01";
-        assert_eq!(rt; &out[..len], want.as_slice());
-        Ok(())
+        let written = write(alloc, &case, limit, &mut out)?;
+        Some(written == len && out.starts_with(want))
     }
+
+    #[test]
+    fn cut_to_the_limit(rt: HostRuntime) {
+        let whole = b"\x12\x34\x85\x00\x00\x01\x00\x1e";
+        assert!(rt; cut_at(rt.alloc(), 514, 514, whole) == Some(true));
+        let cut =
+            b"\x12\x34\x87\x00\x00\x01\x00\x00\x00\x00\x00\x00\x03www\x07example\x04test\x00\x00\x01\x00\x01";
+        assert!(rt; cut_at(rt.alloc(), 513, cut.len(), cut) == Some(true));
+    }
+
+    const MAIL: &[u8] = b"\x01m\x07example\x04test\x00";
+
+    /// An MX's data.
+    const EXCHANGE: &[u8] = b"\x00\x01\x03web\x07example\x04test\x00";
 
     // An MX record is 20 octets with its exchange written out and 16 with a pointer to it, an address 16: behind a question
     // that ends at 32, 29 exchanges are 500 octets, and 516 with the address (RFC 2181, 9).
     #[test]
-    fn additional_data_is_left_out(rt: HostRuntime) -> Result<(), Fail> {
-        let question = question(b"\x01m\x07example\x04test\x00", RType::MX)?;
-        let web = name(b"\x03web\x07example\x04test\x00")?;
-        let mut data = *b"\x00\x01\x03web\x07example\x04test\x00";
-        let mut set = one(rt.alloc(), &question.name, RType::MX, &data)?;
-        for preference in 2..=28 {
-            data[1] = preference;
-            more(rt.alloc(), &mut set, &data)?;
-        }
-        let address = [addresses(rt.alloc(), &web, 1)?];
-        let additional = [shown(&web, &address)];
-        let mut exchanges = [set];
-        let mut out = [0xee; MIN_LIMIT];
-        let answer = [shown(&question.name, &exchanges)];
-        let reply = Reply {
-            answer: &answer,
-            additional: &additional,
-            ..reply_to(&question)
+    fn additional_data_is_left_out(rt: HostRuntime) {
+        let fits = Case {
+            name: MAIL,
+            rtype: RType::MX,
+            answer: &[(MAIL, RType::MX, EXCHANGE, 28, 1)],
+            additional: &[(WEB, RType::A, FIRST, 1, 0)],
+            ..EMPTY
         };
-        assert_eq!(rt; write_reply(&reply, MIN_LIMIT, &mut out), 500);
-        assert_eq!(rt;
-            &out[..12],
-            b"\x12\x34\x85\x00\x00\x01\x00\x1c\x00\x00\x00\x01".as_slice()
-        );
-        data[1] = 29;
-        more(rt.alloc(), &mut exchanges[0], &data)?;
-        let answer = [shown(&question.name, &exchanges)];
-        let reply = Reply {
-            answer: &answer,
-            additional: &additional,
-            ..reply_to(&question)
+        let want = b"\x12\x34\x85\x00\x00\x01\x00\x1c\x00\x00\x00\x01";
+        assert!(rt; has(rt.alloc(), &fits, 500, 0, want) == Some(true));
+        let over = Case {
+            answer: &[(MAIL, RType::MX, EXCHANGE, 29, 1)],
+            ..fits
         };
-        assert_eq!(rt; write_reply(&reply, MIN_LIMIT, &mut out), 500);
-        assert_eq!(rt;
-            &out[..12],
-            b"\x12\x34\x85\x00\x00\x01\x00\x1d\x00\x00\x00\x00".as_slice()
-        );
-        Ok(())
+        let want = b"\x12\x34\x85\x00\x00\x01\x00\x1d\x00\x00\x00\x00";
+        assert!(rt; has(rt.alloc(), &over, 500, 0, want) == Some(true));
     }
+
+    const SERVER: &[u8] = b"\x02ns\x03sub\x04test\x00";
 
     // A referral whose glue doesn't fit is cut: header and question with TC (RFC 1034, 4.3.2; RFC 2181, 9).
     #[test]
-    fn referral_with_too_much_glue(rt: HostRuntime) -> Result<(), Fail> {
-        let question = question(b"\x01x\x03sub\x04test\x00", RType::A)?;
-        let zone = name(b"\x03sub\x04test\x00")?;
-        let server = name(b"\x02ns\x03sub\x04test\x00")?;
-        let servers = [one(rt.alloc(), &zone, RType::NS, server.wire())?];
-        let glue = [addresses(rt.alloc(), &server, 30)?];
-        let authority = [shown(&zone, &servers)];
-        let additional = [shown(&server, &glue)];
-        let reply = Reply {
+    fn referral_with_too_much_glue(rt: HostRuntime) {
+        let case = Case {
+            name: b"\x01x\x03sub\x04test\x00",
             aa: false,
-            authority: &authority,
-            additional: &additional,
             below_cut: true,
-            ..reply_to(&question)
+            authority: &[(b"\x03sub\x04test\x00", RType::NS, SERVER, 1, 0)],
+            additional: &[(SERVER, RType::A, FIRST, 30, 3)],
+            ..EMPTY
         };
-        let mut out = [0xee; MIN_LIMIT];
-        let len = write_reply(&reply, MIN_LIMIT, &mut out);
         let want =
             b"\x12\x34\x83\x00\x00\x01\x00\x00\x00\x00\x00\x00\x01x\x03sub\x04test\x00\x00\x01\x00\x01";
-        assert_eq!(rt; &out[..len], want.as_slice());
-        Ok(())
+        assert!(rt; is(rt.alloc(), &case, want));
     }
+
+    /// A text of 4,096 octets: sixteen strings of 255.
+    const TEXT: &[u8; 4096] = &[255; 4096];
 
     // Four texts of 4096 octets reach over position 16,383, where no pointer can lead: the owner of the addresses
     // behind them is written out at each (RFC 1035, 4.1.4).
     #[test]
-    fn names_too_far_for_pointers(rt: HostRuntime) -> Result<(), Fail> {
-        let question = question(b"\x03www\x07example\x04test\x00", RType::TXT)?;
-        let server = name(b"\x02ns\x07example\x04test\x00")?;
-        let mut text = [255; 4096];
-        let mut set = one(rt.alloc(), &question.name, RType::TXT, &text)?;
-        for mark in 0..3 {
-            text[1] = mark;
-            more(rt.alloc(), &mut set, &text)?;
-        }
-        let texts = [set];
-        let glue = [addresses(rt.alloc(), &server, 2)?];
-        let answer = [shown(&question.name, &texts)];
-        let additional = [shown(&server, &glue)];
-        let reply = Reply {
-            answer: &answer,
-            additional: &additional,
-            ..reply_to(&question)
+    fn names_too_far_for_pointers(rt: HostRuntime) {
+        let case = Case {
+            name: WWW,
+            rtype: RType::TXT,
+            answer: &[(WWW, RType::TXT, TEXT, 4, 1)],
+            additional: &[(b"\x02ns\x07example\x04test\x00", RType::A, FIRST, 2, 3)],
+            ..EMPTY
         };
         let mut out = [0xee; MAX_LIMIT];
-        let len = write_reply(&reply, MAX_LIMIT, &mut out);
-        assert_eq!(rt; len, 34 + 4 * 4108 + 2 * 19);
+        let len = write(rt.alloc(), &case, MAX_LIMIT, &mut out);
+        assert!(rt; len == Some(34 + 4 * 4108 + 2 * 19));
         let want = b"\x02ns\xc0\x10\x00\x01\x00\x01\x00\x00\x0e\x10\x00\x04\xc0\x00\x02\x01\
             \x02ns\xc0\x10\x00\x01\x00\x01\x00\x00\x0e\x10\x00\x04\xc0\x00\x02\x02";
-        assert_eq!(rt; &out[16466..16504], want.as_slice());
-        Ok(())
+        assert!(rt; &out[16466..16504] == want.as_slice());
     }
 }

@@ -1,5 +1,5 @@
 //! Zones that changes make, beside a plain list of sets that the same changes are made of.
-ghost use Rattle.std.specs.Prelude.{◌≡◌, ◌<◌, ◌^◌, ◌++◌, filter, IfOk, OnOk, IfSome};
+ghost use Rattle.std.specs.Prelude.{◌≡◌, ◌++◌, filter, IfOk, OnOk, IfSome};
 ghost use Rattle.std.specs.Option.{option_copied, option_to_list};
 ghost use Rattle.std.specs.Ordering.{is_lt, is_gt};
 ghost use Rattle.zone_tree.specs.Change.{changed, edited};
@@ -12,13 +12,12 @@ use crate::check::check;
 use crate::fault::{NewFault, ZoneFault};
 use crate::own::count_of;
 use crate::read::ZoneRead;
-use crate::tests::{EXAMPLE, NS, Row, SOA, name, walks};
+use crate::tests::{data_of, is_printed, name, set_of, sets_of, walks};
 use crate::zone::{Zone, edit};
 use dns_name::Name;
-use dns_rdata::{RData, RRset, RType, Ttl};
+use dns_rdata::{RRset, RType, Ttl};
 use std::alloc::{AllocError, Global};
 use std::cmp::Ordering;
-use std::test::Fail;
 
 /// Where a set stands beside an owner and a type.
 fn beside(set: &RRset, owner: &Name, rtype: RType) -> Ordering
@@ -144,237 +143,177 @@ fn ordered(sets: &[RRset]) -> Result<(), NewFault>
     }
 }
 
-/// The zone of these sets, and what changes make of it where they make a zone of the plain list.
-fn edit_of(
-    alloc: Global,
-    sets: &[RRset],
-    changes: &[Change],
-) -> Result<(Zone, Result<Zone, ZoneFault>), NewFault> {
+/// That changes make a zone of the plain list of these sets, where they do.
+fn keep_rules(alloc: Global, sets: &[RRset], changes: &[Change]) -> Result<(), NewFault>
+    ensures { OnOk result (KeepsRules (edited (records_in sets.now) changes.now)) }
+{
     ordered(sets)?;
-    let zone = Zone::new(alloc, copies(alloc, sets)?)?;
     let plain = edited_plainly(alloc, copies(alloc, sets)?, changes)?;
     let _ = Zone::new(alloc, plain)?;
+    Ok(())
+}
+
+/// A zone and what changes make of it.
+#[derive(Drop)]
+struct Edited {
+    zone: Zone,
+    new: Result<Zone, ZoneFault>,
+}
+
+/// The zone of these sets, and what changes make of it, where they make a zone of the plain list.
+fn edit_of(alloc: Global, sets: &[RRset], changes: &[Change]) -> Result<Edited, NewFault> {
+    keep_rules(alloc, sets, changes)?;
+    let zone = Zone::new(alloc, copies(alloc, sets)?)?;
     let new = edit_anew(alloc, &zone, changes);
-    Ok((zone, new))
+    Ok(Edited { zone, new })
 }
 
-/// A set of one record; None where memory is refused.
-fn set_of(alloc: Global, row: Row, ttl: Ttl) -> Option<RRset>
-    requires { ttl.0 < 2 ^ 31 }
-{
-    let (owner, rtype, octets) = row;
-    let (owner, _) = Name::from_wire(owner)?;
-    let data = RData::from_wire(alloc, rtype, octets).ok()?;
-    RRset::new(alloc, &owner, ttl, data).ok()
-}
-
-/// Sets of one record each; None where memory is refused.
-fn sets_of(alloc: Global, rows: &[Row]) -> Option<Vec<RRset>> {
-    let mut sets = Vec::new(alloc);
-    for row in rows {
-        sets.push(set_of(alloc, *row, Ttl(3600))?).ok()?;
-    }
-    Some(sets)
-}
-
-/// A set of one record put, or an owner's type removed.
-#[derive(Clone, Copy)]
-enum Step<'a> {
-    Put(Row<'a>),
-    Remove(&'a [u8], RType),
-}
-
-/// The changes of these steps; None where memory is refused.
-fn changes_of(alloc: Global, steps: &[Step]) -> Option<Vec<Change>> {
+/// The changes of steps, with commas between them: a row put, or one removed; None where memory is refused.
+fn changes_of(alloc: Global, steps: &str) -> Option<Vec<Change>> {
     let mut changes = Vec::new(alloc);
-    for step in steps {
-        let change = match step {
-            Step::Put(row) => Change::Put(set_of(alloc, *row, Ttl(60))?),
-            Step::Remove(owner, rtype) => {
-                let (owner, _) = Name::from_wire(owner)?;
-                Change::Remove(owner, *rtype)
-            }
-        };
-        changes.push(change).ok()?;
+    for step in steps.split_terminator(", ") {
+        changes.push(change_of(alloc, step)?).ok()?;
     }
     Some(changes)
 }
 
-const TXT: &[u8] = b"\x02hi";
-
-const AT_A: &[u8] = b"\x01a\x07example\0";
-
-const AT_DEEP: &[u8] = b"\x01x\x03sub\x07example\0";
-
-const AT_SUB: &[u8] = b"\x03sub\x07example\0";
+/// The change of a step; None where memory is refused.
+fn change_of(alloc: Global, step: &str) -> Option<Change> {
+    let (verb, row) = step.split_once(' ')?;
+    if verb == "put" {
+        return Some(Change::Put(set_of(alloc, row, Ttl(60))?));
+    }
+    let (owner, word) = row.split_once(' ')?;
+    let (rtype, _) = data_of(word)?;
+    Some(Change::Remove(name(owner)?, rtype))
+}
 
 /// The zone that all cases begin with.
-const ROWS: [Row; 5] = [
-    (EXAMPLE, RType::NS, NS),
-    (EXAMPLE, RType::SOA, SOA),
-    (AT_A, RType::A, &[192, 0, 2, 1]),
-    (AT_A, RType::TXT, TXT),
-    (AT_DEEP, RType::TXT, TXT),
-];
+const ROWS: &str = "@ NS, @ SOA, a A, a TXT, x.sub TXT";
 
-/// Whether the changes of these steps make a zone of these rows, with its apex where its SOA stands, and leave the zone
-/// before as it was.
-fn makes(alloc: Global, steps: &[Step], want: &[Row]) -> Result<bool, Fail> {
-    let sets = sets_of(alloc, &ROWS).ok_or("no sets")?;
-    let changes = changes_of(alloc, steps).ok_or("no changes")?;
-    let (zone, new) = edit_of(alloc, &sets, &changes)?;
-    let new = new?;
-    Ok(walks(&new, want)? && *new.apex() == new.soa().owner() && walks(&zone, &ROWS)?)
+/// Steps, and the rows of the zone that they make: a set of another type between two, of another owner, and in place of one; one of
+/// two sets removed, the last one of an owner, and one that isn't there; an alias that stands beside other data on the way;
+/// and an SOA and an NS that move down.
+const CASES: &str = "\
+put a MX: @ NS, @ SOA, a A, a MX, a TXT, x.sub TXT\n\
+put sub A: @ NS, @ SOA, a A, a TXT, sub A, x.sub TXT\n\
+put a TXT: @ NS, @ SOA, a A, a TXT, x.sub TXT\n\
+remove A.EXAMPLE. A: @ NS, @ SOA, a TXT, x.sub TXT\n\
+remove x.sub TXT: @ NS, @ SOA, a A, a TXT\n\
+remove sub A: @ NS, @ SOA, a A, a TXT, x.sub TXT\n\
+put a CNAME, remove a A, remove a TXT: @ NS, @ SOA, a CNAME, x.sub TXT\n\
+put sub SOA, remove @ SOA, put sub NS, remove @ NS, remove a A, remove a TXT: sub NS, sub SOA, x.sub TXT\n";
+
+/// The zone that cases begin with, and what these steps make of it; None where memory is refused.
+fn edit_by(alloc: Global, steps: &str) -> Option<Edited> {
+    let sets = sets_of(alloc, ROWS)?;
+    edit_of(alloc, &sets, &changes_of(alloc, steps)?).ok()
 }
 
-// A set of another type between two, of another owner, and in place of one.
+/// Whether the zone after steps has these rows, with its apex where its SOA stands, and the zone before is as it was.
+fn are_made(edited: &Edited, want: &str) -> Option<bool> {
+    let new = edited.new.as_ref().ok()?;
+    let apex = *new.apex() == new.soa().owner();
+    Some(apex && walks(new, want)? && walks(&edited.zone, ROWS)?)
+}
+
+/// Whether the steps of a row make a zone of the rows behind them.
+fn is_made(alloc: Global, row: &str) -> Option<bool> {
+    let (steps, want) = row.split_once(": ")?;
+    are_made(&edit_by(alloc, steps)?, want)
+}
+
 #[test]
-fn sets_are_put(rt: HostRuntime) -> Result<(), Fail> {
-    let [ns, soa, address, text, deep] = ROWS;
-    let mail: Row = (AT_A, RType::MX, b"\0\x0a\x04mail\0");
-    let sub: Row = (AT_SUB, RType::A, &[192, 0, 2, 2]);
-    assert!(rt;
-        makes(
-            rt.alloc(),
-            &[Step::Put(mail)],
-            &[ns, soa, address, mail, text, deep]
-        )?
-    );
-    assert!(rt;
-        makes(
-            rt.alloc(),
-            &[Step::Put(sub)],
-            &[ns, soa, address, text, sub, deep]
-        )?
-    );
-    assert!(rt; makes(rt.alloc(), &[Step::Put(text)], &ROWS)?);
+fn zones_are_changed(rt: HostRuntime) -> Result<(), &'static str> {
+    for row in CASES.lines() {
+        if is_made(rt.alloc(), row) != Some(true) {
+            return Err(row);
+        }
+    }
     Ok(())
 }
 
-// One of two sets, the last one of an owner, and one that isn't there.
-#[test]
-fn sets_are_removed(rt: HostRuntime) -> Result<(), Fail> {
-    let [ns, soa, address, text, deep] = ROWS;
-    let upper: &[u8] = b"\x01A\x07EXAMPLE\0";
-    assert!(rt;
-        makes(
-            rt.alloc(),
-            &[Step::Remove(upper, RType::A)],
-            &[ns, soa, text, deep]
-        )?
-    );
-    assert!(rt;
-        makes(
-            rt.alloc(),
-            &[Step::Remove(AT_DEEP, RType::TXT)],
-            &[ns, soa, address, text]
-        )?
-    );
-    assert!(rt; makes(rt.alloc(), &[Step::Remove(AT_SUB, RType::A)], &ROWS)?);
-    Ok(())
-}
-
-// An alias stands beside other data on the way.
-#[test]
-fn zones_on_the_way_need_not_keep_the_rules(rt: HostRuntime) -> Result<(), Fail> {
-    let [ns, soa, _, _, deep] = ROWS;
-    let alias: Row = (AT_A, RType::CNAME, NS);
-    let steps = [
-        Step::Put(alias),
-        Step::Remove(AT_A, RType::A),
-        Step::Remove(AT_A, RType::TXT),
-    ];
-    assert!(rt; makes(rt.alloc(), &steps, &[ns, soa, alias, deep])?);
-    Ok(())
-}
-
-// The SOA and the NS move down.
-#[test]
-fn apex_moves_with_the_soa(rt: HostRuntime) -> Result<(), Fail> {
-    let [_, _, _, _, deep] = ROWS;
-    let soa: Row = (AT_SUB, RType::SOA, SOA);
-    let ns: Row = (AT_SUB, RType::NS, NS);
-    let steps = [
-        Step::Put(soa),
-        Step::Remove(EXAMPLE, RType::SOA),
-        Step::Put(ns),
-        Step::Remove(EXAMPLE, RType::NS),
-        Step::Remove(AT_A, RType::A),
-        Step::Remove(AT_A, RType::TXT),
-    ];
-    assert!(rt; makes(rt.alloc(), &steps, &[ns, soa, deep])?);
-    Ok(())
+/// Whether a name exists before steps and after them.
+fn exist(edited: &Edited, text: &str) -> Option<(bool, bool)> {
+    let name = name(text)?;
+    let new = edited.new.as_ref().ok()?;
+    Some((edited.zone.exists(&name), new.exists(&name)))
 }
 
 // An owner without sets is gone, and with it the empty name above it; the zone before has both (RFC 4592, 2.2.2).
 #[test]
-fn owner_without_sets_is_gone(rt: HostRuntime) -> Result<(), Fail> {
-    let sets = sets_of(rt.alloc(), &ROWS).ok_or("no sets")?;
-    let changes = changes_of(rt.alloc(), &[Step::Remove(AT_DEEP, RType::TXT)]).ok_or("no changes")?;
-    let (zone, new) = edit_of(rt.alloc(), &sets, &changes)?;
-    let new = new?;
-    for owner in [AT_DEEP, AT_SUB] {
-        assert!(rt; zone.exists(&name(owner)?), "{owner:?} before");
-        assert!(rt; !new.exists(&name(owner)?), "{owner:?} after");
+fn owner_without_sets_is_gone(rt: HostRuntime) -> Result<(), &'static str> {
+    let edited = edit_by(rt.alloc(), "remove x.sub TXT").ok_or("no memory")?;
+    for (text, after) in [("x.sub", false), ("sub", false), ("a", true)] {
+        if exist(&edited, text) != Some((true, after)) {
+            return Err(text);
+        }
     }
-    assert!(rt; new.exists(&name(AT_A)?));
     Ok(())
+}
+
+/// Whether the one record of a set is this address, with the TTL of a minute.
+fn is_address(set: &RRset, octets: &[u8]) -> bool {
+    let data = set.data();
+    set.ttl() == Ttl(60) && data.len() == 1 && data[0].octets() == octets
+}
+
+/// Whether the address of `a` after a step has its own data and TTL.
+fn has_address(edited: &Edited) -> Option<bool> {
+    let set = edited.new.as_ref().ok()?.rrset(&name("a")?, RType::A)?;
+    Some(is_address(set, &[192, 0, 2, 9]))
 }
 
 // A set that is put has its own data and TTL in place of the old ones.
 #[test]
-fn set_that_is_put_replaces_another(rt: HostRuntime) -> Result<(), Fail> {
-    let address: &[u8] = &[192, 0, 2, 9];
-    let sets = sets_of(rt.alloc(), &ROWS).ok_or("no sets")?;
-    let changes = changes_of(rt.alloc(), &[Step::Put((AT_A, RType::A, address))]).ok_or(
-        "no changes",
-    )?;
-    let (_, new) = edit_of(rt.alloc(), &sets, &changes)?;
-    let new = new?;
-    let set = new.rrset(&name(AT_A)?, RType::A).ok_or("no set")?;
-    assert_eq!(rt; set.ttl(), Ttl(60));
-    assert_eq!(rt; set.data().len(), 1);
-    assert_eq!(rt; set.data()[0].octets(), address);
+fn set_that_is_put_replaces_another(rt: HostRuntime) -> Result<(), &'static str> {
+    let edited = edit_by(rt.alloc(), "put a A9").ok_or("no memory")?;
+    if has_address(&edited) != Some(true) {
+        return Err("another address");
+    }
     Ok(())
+}
+
+/// The sets that cases begin with, or, where memory is refused, what the same call gives anew.
+fn sets_anew(alloc: Global) -> Option<Vec<RRset>> {
+    match sets_of(alloc, ROWS) {
+        Some(sets) => Some(sets),
+        None => sets_of(alloc, ROWS),
+    }
+}
+
+/// Likewise the changes of steps.
+fn changes_anew(alloc: Global, steps: &str) -> Option<Vec<Change>> {
+    match changes_of(alloc, steps) {
+        Some(changes) => Some(changes),
+        None => changes_of(alloc, steps),
+    }
+}
+
+/// Likewise what these make of the sets.
+fn edited_anew(alloc: Global, steps: &str) -> Option<Edited> {
+    let sets = sets_anew(alloc)?;
+    let changes = changes_anew(alloc, steps)?;
+    match edit_of(alloc, &sets, &changes) {
+        Ok(edited) => Some(edited),
+        Err(_) => edit_of(alloc, &sets, &changes).ok(),
+    }
 }
 
 // With one request for memory refused, whichever it is, the zone before is as it was, and the same changes are made anew.
 #[test]
-fn changes_anew_where_memory_is_refused(rt: HostRuntime) -> Result<(), Fail> {
-    let [ns, soa, _, text, _] = ROWS;
-    let steps = [
-        Step::Put((AT_SUB, RType::TXT, TXT)),
-        Step::Remove(AT_DEEP, RType::TXT),
-        Step::Remove(AT_A, RType::A),
-    ];
-    let sets = match sets_of(rt.alloc(), &ROWS) {
-        Some(sets) => sets,
-        None => sets_of(rt.alloc(), &ROWS).ok_or("no sets")?,
-    };
-    let changes = match changes_of(rt.alloc(), &steps) {
-        Some(changes) => changes,
-        None => changes_of(rt.alloc(), &steps).ok_or("no changes")?,
-    };
-    let (zone, new) = match edit_of(rt.alloc(), &sets, &changes) {
-        Ok(given) => given,
-        Err(_) => edit_of(rt.alloc(), &sets, &changes)?,
-    };
-    assert!(rt; walks(&zone, &ROWS)?, "the zone before");
-    assert!(rt;
-        walks(&new?, &[ns, soa, text, (AT_SUB, RType::TXT, TXT)])?,
-        "the zone after"
-    );
+fn changes_anew_where_memory_is_refused(rt: HostRuntime) -> Result<(), &'static str> {
+    let steps = "put sub TXT, remove x.sub TXT, remove a A";
+    let edited = edited_anew(rt.alloc(), steps).ok_or("no zone")?;
+    if are_made(&edited, "@ NS, @ SOA, a TXT, sub TXT") != Some(true) {
+        return Err("another zone");
+    }
     Ok(())
 }
 
 // The printed text of each fault.
 #[test]
-fn faults_of_changes(rt: HostRuntime) -> Result<(), Fail> {
-    for (fault, want) in [
-        (ZoneFault::NoMemory, "B1 NoMemory"),
-        (ZoneFault::Limit, "B2 Limit"),
-    ] {
-        assert_eq!(rt; format!(in rt.alloc(); "{fault}")?.as_str(), want);
-    }
-    Ok(())
+fn faults_of_changes(rt: HostRuntime) {
+    assert!(rt; is_printed(rt.alloc(), &ZoneFault::NoMemory, "B1 NoMemory"));
+    assert!(rt; is_printed(rt.alloc(), &ZoneFault::Limit, "B2 Limit"));
 }

@@ -1,4 +1,7 @@
-//! A small zone through each call, and lists that are no zone.
+//! A small zone through each call, and lists that are no zone. Zones are tables as text: names below `example.` and words
+//! that stand for a type and its data.
+ghost use Rattle.std.specs.Prelude.{◌<◌, ◌^◌};
+
 use crate::delta::Delta;
 use crate::fault::{BrokenRule, NewFault};
 use crate::read::ZoneRead;
@@ -7,46 +10,74 @@ use crate::zone::{Zone, edit};
 use dns_name::Name;
 use dns_rdata::{RData, RRset, RType, Serial, Ttl};
 use std::alloc::Global;
-use std::test::Fail;
+use std::fmt::Display;
 
-pub(crate) const EXAMPLE: &[u8] = b"\x07example\0";
+const SOA: &[u8] = b"\0\0\0\0\0\x01\0\0\0\x02\0\0\0\x03\0\0\0\x04\0\0\0\x05";
 
-pub(crate) const SOA: &[u8] = b"\0\0\0\0\0\x01\0\0\0\x02\0\0\0\x03\0\0\0\x04\0\0\0\x05";
+const NS: &[u8] = b"\x02ns\x07example\0";
 
-pub(crate) const NS: &[u8] = b"\x02ns\x07example\0";
+/// Words of rows, with the type and the data octets of each.
+const WORDS: [(&str, RType, &[u8]); 7] = [
+    ("A", RType::A, &[192, 0, 2, 1]),
+    ("A9", RType::A, &[192, 0, 2, 9]),
+    ("NS", RType::NS, NS),
+    ("CNAME", RType::CNAME, NS),
+    ("SOA", RType::SOA, SOA),
+    ("MX", RType::MX, b"\0\x0a\x05host1\x07example\0"),
+    ("TXT", RType::TXT, b"\x02hi"),
+];
 
-/// An owner, a type and data octets.
-pub(crate) type Row<'a> = (&'a [u8], RType, &'a [u8]);
-
-pub(crate) fn name(octets: &[u8]) -> Result<Name, Fail> {
-    let (name, _) = Name::from_wire(octets).ok_or("no name")?;
-    Ok(name)
+/// The type and the data of a word.
+pub(crate) fn data_of(word: &str) -> Option<(RType, &'static [u8])> {
+    for (known, rtype, octets) in WORDS {
+        if known == word {
+            return Some((rtype, octets));
+        }
+    }
+    None
 }
 
-/// The zone of sets of one record each.
-fn zone_of(alloc: Global, rows: &[Row]) -> Result<Result<Zone, NewFault>, Fail> {
+/// A name below `example.`; a whole one where the text ends in a dot.
+pub(crate) fn name(text: &str) -> Option<Name> {
+    let origin = Name::from_text(b"example.", &Name::root()).ok()?;
+    Name::from_text(text.as_bytes(), &origin).ok()
+}
+
+/// The set of a row, of one record: a name and a word; None where memory is refused.
+pub(crate) fn set_of(alloc: Global, row: &str, ttl: Ttl) -> Option<RRset>
+    requires { ttl.0 < 2 ^ 31 }
+{
+    let (owner, word) = row.split_once(' ')?;
+    let (rtype, octets) = data_of(word)?;
+    let data = RData::from_wire(alloc, rtype, octets).ok()?;
+    RRset::new(alloc, &name(owner)?, ttl, data).ok()
+}
+
+/// The sets of rows, with commas between them; none of an empty text. None where memory is refused.
+pub(crate) fn sets_of(alloc: Global, rows: &str) -> Option<Vec<RRset>> {
     let mut sets = Vec::new(alloc);
-    for (owner, rtype, octets) in rows {
-        let data = RData::from_wire(alloc, *rtype, octets)?;
-        let set = RRset::new(alloc, &name(owner)?, Ttl(3600), data)?;
-        sets.push(set)?;
+    for row in rows.split_terminator(", ") {
+        sets.push(set_of(alloc, row, Ttl(3600))?).ok()?;
     }
-    Ok(Zone::new(alloc, sets))
+    Some(sets)
+}
+
+/// Whether a set has a row's owner and type.
+fn is_row(set: &RRset, row: &str) -> Option<bool> {
+    let (owner, word) = row.split_once(' ')?;
+    let (rtype, _) = data_of(word)?;
+    Some(set.owner() == name(owner)? && set.rtype() == rtype)
 }
 
 /// Whether a walk gives a set of each row, in their order.
-pub(crate) fn walks(zone: &Zone, rows: &[Row]) -> Result<bool, Fail> {
-    let mut at = 0usize;
+pub(crate) fn walks(zone: &Zone, rows: &str) -> Option<bool> {
+    let mut rows = rows.split_terminator(", ");
     for set in zone.walk() {
-        let Some((owner, rtype, _)) = rows.get(at) else {
-            return Ok(false);
-        };
-        if set.owner() != name(owner)? || set.rtype() != *rtype {
-            return Ok(false);
+        if !is_row(set, rows.next()?)? {
+            return Some(false);
         }
-        at = at.saturating_add(1);
     }
-    Ok(at == rows.len())
+    Some(rows.next().is_none())
 }
 
 /// What a call gives, or, where memory is refused, what the same call gives anew.
@@ -59,118 +90,109 @@ fn twice<C: Fn() -> Option<Zone>>(call: C) -> Option<Zone>
     }
 }
 
-/// The zone of sets of one record each; None where memory is refused.
-fn made(alloc: Global, rows: &[Row]) -> Option<Zone> {
-    let mut sets = Vec::new(alloc);
-    for (owner, rtype, octets) in rows {
-        let (owner, _) = Name::from_wire(owner)?;
-        let data = RData::from_wire(alloc, *rtype, octets).ok()?;
-        let set = RRset::new(alloc, &owner, Ttl(3600), data).ok()?;
-        sets.push(set).ok()?;
-    }
-    Zone::new(alloc, sets).ok()
+/// The zone of rows; None where memory is refused.
+fn zone_of(alloc: Global, rows: &str) -> Option<Zone> {
+    Zone::new(alloc, sets_of(alloc, rows)?).ok()
 }
 
 // With one request for memory refused, whichever it is, the zone is made anew.
 #[test]
-fn is_made_anew_where_memory_is_refused(rt: HostRuntime) -> Result<(), Fail> {
-    let rows: [Row; 4] = [
-        (EXAMPLE, RType::NS, NS),
-        (EXAMPLE, RType::SOA, SOA),
-        (b"\x01a\x07example\0", RType::TXT, b"\x02hi"),
-        (b"\x01b\x07example\0", RType::A, &[192, 0, 2, 1]),
-    ];
-    let zone = twice(|| made(rt.alloc(), &rows)).ok_or("no zone")?;
-    assert!(rt; walks(&zone, &rows)?, "all sets");
+fn is_made_anew_where_memory_is_refused(rt: HostRuntime) -> Result<(), &'static str> {
+    let rows = "@ NS, @ SOA, a TXT, b A";
+    let zone = twice(|| zone_of(rt.alloc(), rows)).ok_or("no zone")?;
+    if walks(&zone, rows) != Some(true) {
+        return Err("other sets");
+    }
     Ok(())
+}
+
+const NAMES: &str = "@ NS, @ SOA, * MX, * TXT, sub.* TXT, a.host2 A, SUBDEL NS";
+
+/// Names of this zone, and how many sets they own; a minus sign where they don't exist.
+const OWNED: &str = "\
+example. 2\n\
+EXAMPLE. 2\n\
+. 0\n\
+* 2\n\
+sub.* 1\n\
+host1 - 0\n\
+host2 0\n\
+a.host2 1\n\
+b.host2 - 0\n\
+subdel 1\n\
+exampla. - 0\n";
+
+/// Whether a row's name exists and owns as many sets as the row says.
+fn is_owned(zone: &Zone, row: &str) -> Option<bool> {
+    let (text, owned) = row.split_once(' ')?;
+    let count = usize::from_str_radix(owned.trim_start_matches("- "), 10).ok()?;
+    let name = name(text)?;
+    let exists = !owned.starts_with('-');
+    Some(zone.exists(&name) == exists && zone.rrsets_at(&name).len() == count)
 }
 
 // Names that exist and don't, with how many sets they own (RFC 4592, 2.2.1 to 2.2.3).
 #[test]
-fn looks_up(rt: HostRuntime) -> Result<(), Fail> {
-    let rows: [Row; 7] = [
-        (EXAMPLE, RType::NS, NS),
-        (EXAMPLE, RType::SOA, SOA),
-        (
-            b"\x01*\x07example\0",
-            RType::MX,
-            b"\0\x0a\x05host1\x07example\0",
-        ),
-        (b"\x01*\x07example\0", RType::TXT, b"\x02hi"),
-        (b"\x03sub\x01*\x07example\0", RType::TXT, b"\x02hi"),
-        (b"\x01a\x05host2\x07example\0", RType::A, &[192, 0, 2, 1]),
-        (b"\x06SUBDEL\x07example\0", RType::NS, NS),
-    ];
-    let zone = zone_of(rt.alloc(), &rows)??;
-    let cases: [(&[u8], bool, usize); 11] = [
-        (EXAMPLE, true, 2),
-        (b"\x07EXAMPLE\0", true, 2),
-        (b"\0", true, 0),
-        (b"\x01*\x07example\0", true, 2),
-        (b"\x03sub\x01*\x07example\0", true, 1),
-        (b"\x05host1\x07example\0", false, 0),
-        (b"\x05host2\x07example\0", true, 0),
-        (b"\x01a\x05host2\x07example\0", true, 1),
-        (b"\x01b\x05host2\x07example\0", false, 0),
-        (b"\x06subdel\x07example\0", true, 1),
-        (b"\x07exampla\0", false, 0),
-    ];
-    for (octets, exists, owned) in cases {
-        let name = name(octets)?;
-        assert_eq!(rt; zone.exists(&name), exists, "{octets:?}");
-        assert_eq!(rt; zone.rrsets_at(&name).len(), owned, "{octets:?}");
+fn looks_up(rt: HostRuntime) -> Result<(), &'static str> {
+    let zone = zone_of(rt.alloc(), NAMES).ok_or("no zone")?;
+    for row in OWNED.lines() {
+        if is_owned(&zone, row) != Some(true) {
+            return Err(row);
+        }
     }
-    let wild = name(b"\x01*\x07example\0")?;
-    let found = zone.rrset(&wild, RType::TXT).ok_or("no set")?;
-    assert_eq!(rt; found.rtype(), RType::TXT);
-    assert!(rt; zone.rrset(&wild, RType::A).is_none());
-    assert_eq!(rt; zone.soa().rtype(), RType::SOA);
-    assert!(rt; *zone.apex() == name(EXAMPLE)?);
-    assert!(rt; walks(&zone, &rows)?, "all sets");
+    if finds(&zone) != Some(true) {
+        return Err("sets");
+    }
     Ok(())
+}
+
+/// Whether this zone has a wildcard's text and no address of it, its SOA and its apex, and no set that isn't a row's.
+fn finds(zone: &Zone) -> Option<bool> {
+    let wild = name("*")?;
+    let text = zone.rrset(&wild, RType::TXT)?.rtype() == RType::TXT;
+    let address = zone.rrset(&wild, RType::A).is_some();
+    let apex = zone.soa().rtype() == RType::SOA && *zone.apex() == name("example.")?;
+    Some(text && !address && apex && walks(zone, NAMES)?)
+}
+
+/// Rows that are no zone, and the rule that is told. The last breaks several: an owner outside, no NS at the apex, and an
+/// NS at an asterisk.
+const REFUSED: &str = "\
+@ SOA, @ NS: Z2 NotAscending\n\
+@ NS, @ SOA, @ SOA: Z2 NotAscending\n\
+: Z3 NoSoa\n\
+@ NS: Z3 NoSoa\n\
+@ NS, @ SOA, www SOA: Z4 SecondSoa\n\
+. NS, @ NS, @ SOA: Z5 Outside\n\
+@ SOA, www A: Z6 NoNameServer\n\
+@ NS, @ SOA, www A, www CNAME: Z7 AliasNotAlone\n\
+@ NS, @ SOA, @ CNAME: Z2 NotAscending\n\
+@ NS, @ SOA, * NS: Z8 WildCut\n\
+. A, @ SOA, * NS: Z5 Outside\n";
+
+/// Whether a fault is printed so.
+pub(crate) fn is_printed<D: Display>(alloc: Global, fault: &D, want: &str) -> bool {
+    match format!(in alloc; "{fault}") {
+        Ok(text) => text.as_str() == want,
+        Err(_) => false,
+    }
+}
+
+/// Whether a row's sets are refused by the rule that it names.
+fn is_refused(alloc: Global, row: &str) -> Option<bool> {
+    let (rows, word) = row.split_once(": ")?;
+    match Zone::new(alloc, sets_of(alloc, rows)?) {
+        Ok(_zone) => Some(false),
+        Err(fault) => Some(is_printed(alloc, &fault, word)),
+    }
 }
 
 // Each rule broken, and which is told.
 #[test]
-fn refuses(rt: HostRuntime) -> Result<(), Fail> {
-    let ns: Row = (EXAMPLE, RType::NS, NS);
-    let soa: Row = (EXAMPLE, RType::SOA, SOA);
-    let address: Row = (b"\x03www\x07example\0", RType::A, &[192, 0, 2, 1]);
-    let alias: Row = (b"\x03www\x07example\0", RType::CNAME, NS);
-    let cases: [(&[Row], BrokenRule); 11] = [
-        (&[soa, ns], BrokenRule::NotAscending),
-        (&[ns, soa, soa], BrokenRule::NotAscending),
-        (&[], BrokenRule::NoSoa),
-        (&[ns], BrokenRule::NoSoa),
-        (
-            &[ns, soa, (b"\x03www\x07example\0", RType::SOA, SOA)],
-            BrokenRule::SecondSoa,
-        ),
-        (&[(b"\0", RType::NS, NS), ns, soa], BrokenRule::Outside),
-        (&[soa, address], BrokenRule::NoNameServer),
-        (&[ns, soa, address, alias], BrokenRule::AliasNotAlone),
-        (
-            &[ns, soa, (EXAMPLE, RType::CNAME, NS)],
-            BrokenRule::NotAscending,
-        ),
-        (
-            &[ns, soa, (b"\x01*\x07example\0", RType::NS, NS)],
-            BrokenRule::WildCut,
-        ),
-        // The first of several: an owner outside, no NS at the apex, and an NS at an asterisk.
-        (
-            &[
-                (b"\0", RType::A, &[192, 0, 2, 1]),
-                soa,
-                (b"\x01*\x07example\0", RType::NS, NS),
-            ],
-            BrokenRule::Outside,
-        ),
-    ];
-    for (rows, want) in cases {
-        match zone_of(rt.alloc(), rows)? {
-            Ok(_) => assert!(rt; false, "{want:?}"),
-            Err(fault) => assert_eq!(rt; fault, NewFault::Broken(want)),
+fn refuses(rt: HostRuntime) -> Result<(), &'static str> {
+    for row in REFUSED.lines() {
+        if is_refused(rt.alloc(), row) != Some(true) {
+            return Err(row);
         }
     }
     Ok(())
@@ -194,38 +216,46 @@ fn changed(version: &Version, before: &Version) -> Option<(usize, usize, bool)> 
     Some((delta.deletions().len(), delta.additions().len(), is_old))
 }
 
-// The first version has number 0 and tells of no change, and the one behind it has number 1 and tells what it changed.
+/// Whether the first version has number 0 and tells of no change, and the one behind it has number 1 and tells what it
+/// changed.
+fn tell_changes(first: &Version, second: &Version) -> bool {
+    let numbers = (first.number(), second.number()) == (0, 1);
+    let serials = first.serial() == Serial(1) && second.serial() == Serial(1);
+    let none = changed(first, first).is_none();
+    numbers && serials && none && changed(second, first) == Some((0, 0, true))
+}
+
 #[test]
-fn versions(rt: HostRuntime) -> Result<(), Fail> {
-    let ns: Row = (EXAMPLE, RType::NS, NS);
-    let first = Version::first(zone_of(rt.alloc(), &[ns, (EXAMPLE, RType::SOA, SOA)])??);
-    assert_eq!(rt; (first.number(), first.serial()), (0, Serial(1)));
-    assert!(rt; changed(&first, &first).is_none());
+fn versions(rt: HostRuntime) -> Result<(), &'static str> {
+    let first = Version::first(zone_of(rt.alloc(), "@ NS, @ SOA").ok_or("no zone")?);
     let second = version_behind(rt.alloc(), &first).ok_or("no memory")?;
-    assert_eq!(rt; (second.number(), second.serial()), (1, Serial(1)));
-    assert!(rt; changed(&second, &first) == Some((0, 0, true)));
+    if !tell_changes(&first, &second) {
+        return Err("other changes");
+    }
     Ok(())
 }
 
+/// The rules and their words.
+const RULES: [(BrokenRule, &str); 8] = [
+    (BrokenRule::TooManyRecords, "Z1 TooManyRecords"),
+    (BrokenRule::NotAscending, "Z2 NotAscending"),
+    (BrokenRule::NoSoa, "Z3 NoSoa"),
+    (BrokenRule::SecondSoa, "Z4 SecondSoa"),
+    (BrokenRule::Outside, "Z5 Outside"),
+    (BrokenRule::NoNameServer, "Z6 NoNameServer"),
+    (BrokenRule::AliasNotAlone, "Z7 AliasNotAlone"),
+    (BrokenRule::WildCut, "Z8 WildCut"),
+];
+
 // The printed text of each fault.
 #[test]
-fn faults(rt: HostRuntime) -> Result<(), Fail> {
-    let cases = [
-        (BrokenRule::TooManyRecords, "Z1 TooManyRecords"),
-        (BrokenRule::NotAscending, "Z2 NotAscending"),
-        (BrokenRule::NoSoa, "Z3 NoSoa"),
-        (BrokenRule::SecondSoa, "Z4 SecondSoa"),
-        (BrokenRule::Outside, "Z5 Outside"),
-        (BrokenRule::NoNameServer, "Z6 NoNameServer"),
-        (BrokenRule::AliasNotAlone, "Z7 AliasNotAlone"),
-        (BrokenRule::WildCut, "Z8 WildCut"),
-    ];
-    for (fault, want) in cases {
-        let broken = NewFault::Broken(fault);
-        assert_eq!(rt; format!(in rt.alloc(); "{fault}")?.as_str(), want);
-        assert_eq!(rt; format!(in rt.alloc(); "{broken}")?.as_str(), want);
+fn faults(rt: HostRuntime) -> Result<(), &'static str> {
+    let alloc = rt.alloc();
+    for (rule, want) in RULES {
+        if !is_printed(alloc, &rule, want) || !is_printed(alloc, &NewFault::Broken(rule), want) {
+            return Err(want);
+        }
     }
-    let refused = NewFault::NoMemory;
-    assert_eq!(rt; format!(in rt.alloc(); "{refused}")?.as_str(), "NoMemory");
+    assert!(rt; is_printed(alloc, &NewFault::NoMemory, "NoMemory"));
     Ok(())
 }
