@@ -155,7 +155,7 @@ mod tests {
     use super::*;
     use crate::query::{Head, Question};
     use dns_name::Name;
-    use dns_rdata::{Class, RData, RRset, RType, Rcode, Shown, Ttl};
+    use dns_rdata::{Class, LentName, RData, RRset, RType, Rcode, Shown, Ttl};
     use std::alloc::Global;
     use std::test::Fail;
 
@@ -196,9 +196,9 @@ mod tests {
         Ok(set)
     }
 
-    fn shown<'a>(owner: &Name, sets: &'a [RRset]) -> Shown<'a> {
+    fn shown<'a>(owner: &'a Name, sets: &'a [RRset]) -> Shown<'a> {
         Shown {
-            owner: owner.copy(),
+            owner: LentName::spelt(owner),
             ttl: None,
             sets,
         }
@@ -261,7 +261,7 @@ mod tests {
             \x00\x00\x00\x01\x00\x00\x1c\x20\x00\x00\x03\x84\x00\x12\x75\x00\x00\x00\x01\x2c",
         )?];
         let authority = [Shown {
-            owner: zone,
+            owner: LentName::spelt(&zone),
             ttl: Some(Ttl(300)),
             sets: &start,
         }];

@@ -261,7 +261,7 @@ fn codes(rt: HostRuntime) {
         assert_eq!(rt; code.number(), number);
     }
     let none = Shown::default();
-    assert!(rt; none.sets.is_empty() && none.ttl.is_none() && none.owner.is_root());
+    assert!(rt; none.sets.is_empty() && none.ttl.is_none() && none.owner.to_name().is_root());
 }
 
 /// The address, read once more where a growth was refused.

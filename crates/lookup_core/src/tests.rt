@@ -128,7 +128,7 @@ fn tell_section(alloc: Global, text: &mut String, section: &[Shown]) -> Result<(
     text.push_str(" |")?;
     for shown in section {
         for set in shown.sets {
-            let owner = shown.owner.to_text();
+            let owner = shown.owner.to_name().to_text();
             let word = word_of(set.rtype());
             let told = format!(in alloc; " {owner} {word}")?;
             text.push_str(told.as_str())?;
@@ -273,7 +273,8 @@ fn thirty_three_sets(rt: HostRuntime) -> Result<(), Fail> {
         sets.push(host)?;
     }
     let zone = Zone::new(rt.alloc(), sets)?;
-    let said = answer(&zone, &name(EXAMPLE)?, RType::NS);
+    let asked = name(EXAMPLE)?;
+    let said = answer(&zone, &asked, RType::NS);
     assert_eq!(rt; said.additional.len(), 32);
     Ok(())
 }
@@ -335,11 +336,13 @@ fn places(rt: HostRuntime) -> Result<(), Fail> {
 #[test]
 fn owners_and_ttls(rt: HostRuntime) -> Result<(), Fail> {
     let zone = zone_of(rt.alloc(), ZONE)?;
-    let said = answer(&zone, &name("nope")?, RType::A);
+    let asked = name("nope")?;
+    let said = answer(&zone, &asked, RType::A);
     let shown = said.authority.as_slice();
     assert_eq!(rt; shown.len(), 1);
     assert_eq!(rt; shown[0].ttl, Some(Ttl(300)));
-    let said = answer(&zone, &name("P.q.dyn")?, RType::A);
+    let asked = name("P.q.dyn")?;
+    let said = answer(&zone, &asked, RType::A);
     let shown = said.answer.as_slice();
     assert_eq!(rt; shown.len(), 1);
     assert_eq!(rt; shown[0].ttl, None);
