@@ -8,8 +8,8 @@ use Rattle.dns_rdata.specs.Numbers.{type_CNAME}
 
 -- the name that stands there; in data the one that an alias of them stands for, the root where they are another type's
 -- (RFC 1035, 3.3.1)
-abbrev pub name_at : Source → Name
-name_at source.Root = []
-name_at (source.Name name) = name.now
-name_at (source.Stored name) = name.now
-name_at (source.Target rdata) = unwrap_or (if rdata.now.rtype == type_CNAME then target_of rdata.now.octets else None) []
+abbrev pub name_lent : Source → Name
+name_lent source.Root = []
+name_lent (source.Name name) = name.now
+name_lent (source.Stored name) = name.now
+name_lent (source.Target rdata) = unwrap_or (if rdata.now.rtype == type_CNAME then target_of rdata.now.octets else None) []

@@ -32,9 +32,9 @@ impl<'a> Model for LentName<'a> {
 
     ghost Value = { List (List ℕ) };
 
-    ghost use Rattle.dns_rdata.specs.Lent.{name_at};
+    ghost use Rattle.dns_rdata.specs.Lent.{name_lent};
 
-    ghost view = { λ a. name_at a.source };
+    ghost view = { λ a. name_lent a.source };
 }
 
 impl<'a> LentName<'a> {
