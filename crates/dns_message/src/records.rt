@@ -68,7 +68,8 @@ pub(crate) fn put_section(
 {
     let mut next = at;
     for shown in section {
-        next = put_sets(out, next, names, &shown.owner, shown.ttl, shown.sets)?;
+        let owner = shown.owner.to_name();
+        next = put_sets(out, next, names, &owner, shown.ttl, shown.sets)?;
     }
     Some(next)
 }

@@ -155,7 +155,7 @@ mod tests {
     use super::*;
     use crate::query::{Head, Question};
     use dns_name::Name;
-    use dns_rdata::{Class, RData, RRset, RType, Rcode, Shown, Ttl};
+    use dns_rdata::{Class, LentName, RData, RRset, RType, Rcode, Shown, Ttl};
     use std::alloc::Global;
     use std::slice;
 
@@ -241,7 +241,7 @@ mod tests {
         let mut section = Vec::new(alloc);
         for set in sets {
             let one = Shown {
-                owner: set.owner(),
+                owner: LentName::stored(set.stored_owner()),
                 ttl,
                 sets: slice::from_ref(set),
             };

@@ -79,9 +79,9 @@ impl Name {
     pub fn copy(&self) -> Name
         ensures { result ≡ self.now }
     {
-        Name {
-            octets: self.octets.clone().unwrap(),
-        }
+        let mut octets = ArrayVec::new();
+        append(&mut octets, self.octets());
+        Name { octets }
     }
 
     /// The name in lower case (RFC 4343, 3).

@@ -4,5 +4,6 @@ pub mod Data
 pub mod Record
 pub mod Raw
 pub mod SerialOrder
+pub mod Lent
 pub mod Shown
 pub use Rattle.dns_name.specs.Name

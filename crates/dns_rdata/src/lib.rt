@@ -9,6 +9,7 @@ mod data;
 mod form;
 mod laws;
 mod layout;
+mod lent;
 mod numbers;
 mod raw;
 mod rrset;
@@ -20,6 +21,7 @@ pub use laws::{
     names_of_data, one_more, read_again, records_in_order, served_types, strings_in_a_row,
 };
 pub use layout::Layout;
+pub use lent::LentName;
 pub use numbers::{Class, RType, Rcode, Serial, Ttl};
 pub use raw::RawRecord;
 pub use rrset::{MAX_SET, RRset, SetFault};

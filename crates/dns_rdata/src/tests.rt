@@ -344,7 +344,7 @@ fn wrong_number() -> Option<u8> {
 fn codes(rt: HostRuntime) {
     assert_eq!(rt; wrong_number(), None);
     let none = Shown::default();
-    assert!(rt; none.sets.is_empty() && none.ttl.is_none() && none.owner.is_root());
+    assert!(rt; none.sets.is_empty() && none.ttl.is_none() && none.owner.to_name().is_root());
 }
 
 /// The address, read once more where a growth was refused.

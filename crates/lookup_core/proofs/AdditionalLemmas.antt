@@ -65,8 +65,17 @@ any_shown owner name ttl rtype (r ∷ rs) =
     ∙ (elim (is_same owner name) as (λ b. (b && r.rtype == rtype || b && list_any (λ x. x.rtype == rtype) rs) ≡ (b && (r.rtype == rtype || list_any (λ x. x.rtype == rtype) rs))) [ true ↦ refl | false ↦ refl ])
 
 -- whether they are among those of one entry
-pub any_entry : (shown : Shown) (name : List (List ℕ)) (rtype : ℕ) → list_any (is_of name rtype) (records_shown shown) ≡ (is_same shown.owner name && list_any (λ r. r.rtype == rtype) (flat_map (λ set. set) shown.sets.now))
+any_entry : (shown : Shown) (name : List (List ℕ)) (rtype : ℕ) → list_any (is_of name rtype) (records_shown shown) ≡ (is_same shown.owner name && list_any (λ r. r.rtype == rtype) (flat_map (λ set. set) shown.sets.now))
 any_entry shown name rtype = any_shown shown.owner name (option_map (λ ttl. ttl.0) shown.ttl) rtype (flat_map (λ set. set) shown.sets.now)
+
+-- an entry of the type, and one of other types
+pub any_entry-typed : (shown : Shown) (name : List (List ℕ)) (rtype : ℕ) → list_any (λ r. r.rtype == rtype) (flat_map (λ set. set) shown.sets.now) ≡ true → list_any (is_of name rtype) (records_shown shown) ≡ is_same shown.owner name
+any_entry-typed shown name rtype typed =
+    any_entry shown name rtype ∙ ap (λ b. is_same shown.owner name && b) typed ∙ (elim (is_same shown.owner name) as (λ b. (b && true) ≡ b) [ true ↦ refl | false ↦ refl ])
+
+pub any_entry-other : (shown : Shown) (name : List (List ℕ)) (rtype : ℕ) → list_any (λ r. r.rtype == rtype) (flat_map (λ set. set) shown.sets.now) ≡ false → list_any (is_of name rtype) (records_shown shown) ≡ false
+any_entry-other shown name rtype other =
+    any_entry shown name rtype ∙ ap (λ b. is_same shown.owner name && b) other ∙ (elim (is_same shown.owner name) as (λ b. (b && false) ≡ false) [ true ↦ refl | false ↦ refl ])
 
 -- sets that are each once don't depend on the order of those before
 or_swap : (a b c : Bool) → (a || (b || c)) ≡ (b || (a || c))

@@ -243,7 +243,7 @@ fn is_answered(answer: &[Shown<'_>], set: &RRset) -> bool
 fn shows(shown: &Shown<'_>, set: &RRset) -> bool
     ensures { result ≡ list_any (is_of (owner_of set.now) (rtype_of set.now)) (records_shown shown.now) }
 {
-    shown.owner == set.owner() && has_type(shown.sets, set.rtype())
+    has_type(shown.sets, set.rtype()) && shown.owner.to_name() == set.owner()
 }
 
 /// Whether the sets have records of a type.

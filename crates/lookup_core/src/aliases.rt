@@ -13,7 +13,7 @@ ghost use Rattle.lookup_core.specs.Shown.{section_shown, searched_before, chain_
 use crate::look::{Look, look_up};
 use arrayvec::ArrayVec;
 use dns_name::Name;
-use dns_rdata::{RRset, RType, Shown};
+use dns_rdata::{LentName, RRset, RType, Shown};
 use std::slice;
 use zone_tree::ZoneRead;
 
@@ -47,13 +47,13 @@ pub(crate) struct Chain<'z> {
 
 /// The chain from the name asked. It stops at a target outside the zone, at one already searched, or after
 /// [`MOST_ALIASES`] aliases (own).
-pub(crate) fn follow<'z, Z: ZoneRead>(zone: &'z Z, name: &Name, rtype: RType) -> Chain<'z>
+pub(crate) fn follow<'z, Z: ZoneRead>(zone: &'z Z, name: &'z Name, rtype: RType) -> Chain<'z>
     ensures chain { chain_shown result ≡ chain (Z.records zone.now) name.now rtype.0 }
     ensures few { length result.aliases.items ≤ MOST_ALIASES }
     ensures some { is_none_of (section_shown result.aliases.items) ≡ (length result.aliases.items == 0) }
 {
     let mut aliases = ArrayVec::new();
-    let mut searched = name.copy();
+    let mut searched = LentName::spelt(name);
     for _ in 0..MOST_ALIASES {
         let end = match look_up(zone, &searched, rtype) {
             Look::Alias(alias) => {
@@ -82,9 +82,9 @@ pub(crate) fn follow<'z, Z: ZoneRead>(zone: &'z Z, name: &Name, rtype: RType) ->
 }
 
 /// Sets under the name searched, with their own TTLs (RFC 4592, 3.3).
-fn under<'z>(name: Name, sets: &'z [RRset]) -> Shown<'z>
-    ensures owner { result.owner ≡ name }
-    ensures records { records_shown result ≡ owned_by name (flat_map (λ set. set) sets.now) }
+fn under<'z>(name: LentName<'z>, sets: &'z [RRset]) -> Shown<'z>
+    ensures owner { result.owner ≡ name.entry }
+    ensures records { records_shown result ≡ owned_by name.entry (flat_map (λ set. set) sets.now) }
 {
     Shown {
         owner: name,
@@ -94,18 +94,19 @@ fn under<'z>(name: Name, sets: &'z [RRset]) -> Shown<'z>
 }
 
 /// The name that an alias stands for (RFC 1035, 3.3.1).
-fn target(alias: &RRset) -> Name
+fn target(alias: &RRset) -> LentName<'_>
     requires { rtype_of alias.now ≡ type_CNAME }
     ensures { result ≡ target alias.now }
 {
-    alias.data()[0].target().unwrap()
+    LentName::target(&alias.data()[0])
 }
 
 /// Whether a target isn't searched: it is outside the zone, or already searched (own).
-fn is_final<Z: ZoneRead>(zone: &Z, aliases: &[Shown<'_>], target: &Name) -> bool
+fn is_final<Z: ZoneRead>(zone: &Z, aliases: &[Shown<'_>], target: &LentName<'_>) -> bool
     ensures { result ≡ is_final (Z.records zone.now) (searched_before aliases.now) target.now }
 {
-    !target.is_under(zone.apex()) || is_searched(aliases, target)
+    let target = target.to_name();
+    !target.is_under(zone.apex()) || is_searched(aliases, &target)
 }
 
 /// Whether one of the aliases was found at a name.
@@ -113,7 +114,7 @@ fn is_searched(aliases: &[Shown<'_>], name: &Name) -> bool
     ensures { result ≡ list_any (λ before. is_same before name.now) (searched_before aliases.now) }
 {
     for alias in aliases {
-        if alias.owner == *name {
+        if alias.owner.to_name() == *name {
             return true;
         }
     }

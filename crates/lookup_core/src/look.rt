@@ -9,7 +9,7 @@ use crate::matched::Matched;
 use crate::sets::set_of;
 use crate::walk::match_down;
 use dns_name::Name;
-use dns_rdata::{RRset, RType};
+use dns_rdata::{LentName, RRset, RType};
 use std::slice;
 use zone_tree::ZoneRead;
 
@@ -30,10 +30,11 @@ pub(crate) enum Look<'z> {
 
 /// What is found at a name: what the records there say, else those at the source of synthesis (RFC 1034, 4.3.2, step 3;
 /// RFC 4592, 3.3).
-pub(crate) fn look_up<'z, Z: ZoneRead>(zone: &'z Z, name: &Name, rtype: RType) -> Look<'z>
+pub(crate) fn look_up<'z, Z: ZoneRead>(zone: &'z Z, name: &LentName<'_>, rtype: RType) -> Look<'z>
     ensures { look_shown name.now result ≡ look (Z.records zone.now) name.now rtype.0 }
 {
-    match match_down(zone, name) {
+    let name = name.to_name();
+    match match_down(zone, &name) {
         Matched::Cut(cut) => Look::Cut(cut),
         Matched::Exact(sets) => found_in(sets, rtype),
         Matched::Wild(source) => found_in(zone.rrsets_at(&source), rtype),

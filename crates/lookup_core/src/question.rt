@@ -15,7 +15,7 @@ use zone_tree::ZoneRead;
 /// here.
 ///
 /// The zone speaks for names at or below its apex: whether the name is one, the caller asks first. No memory is taken.
-pub fn answer<'z, Z: ZoneRead>(zone: &'z Z, name: &Name, rtype: RType) -> Answer<'z>
+pub fn answer<'z, Z: ZoneRead>(zone: &'z Z, name: &'z Name, rtype: RType) -> Answer<'z>
     ensures { sections_shown result ≡ sections (Z.records zone.now) name.now rtype.0 }
 {
     let Chain {

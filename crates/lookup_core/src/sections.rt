@@ -10,7 +10,7 @@ ghost use Rattle.lookup_core.specs.Shown.{section_shown, end_shown};
 use crate::additional::MOST_ADDITIONAL;
 use crate::aliases::{End, MOST_SHOWN};
 use arrayvec::ArrayVec;
-use dns_rdata::{RRset, RType, Rcode, Shown, Ttl};
+use dns_rdata::{LentName, RRset, RType, Rcode, Shown, Ttl};
 use std::slice;
 use zone_tree::ZoneRead;
 
@@ -76,7 +76,7 @@ pub(crate) fn standing(set: &RRset) -> Shown<'_>
     ensures owner { result.owner ≡ owner_of set.now }
 {
     Shown {
-        owner: set.owner(),
+        owner: LentName::stored(set.stored_owner()),
         ttl: None,
         sets: slice::from_ref(set),
     }
@@ -88,7 +88,7 @@ pub(crate) fn negative_soa<Z: ZoneRead>(zone: &Z) -> Shown<'_>
 {
     let soa = zone.soa();
     Shown {
-        owner: soa.owner(),
+        owner: LentName::stored(soa.stored_owner()),
         ttl: Some(negative_ttl(soa)),
         sets: slice::from_ref(soa),
     }

@@ -140,7 +140,7 @@ fn word_of_ttl(ttl: Option<Ttl>) -> &'static str {
 fn tell_section(text: &mut String, section: &[Shown]) -> Result<(), AllocError> {
     text.push_str(" |")?;
     for shown in section {
-        let owner = shown.owner.to_text();
+        let owner = shown.owner.to_name().to_text();
         for set in shown.sets {
             for part in [
                 " ",

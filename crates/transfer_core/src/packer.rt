@@ -13,7 +13,7 @@ use dns_message::{
     Head, MIN_LIMIT, Question, RecordList, Reply, SentRecord, write_answers, write_reply,
 };
 use dns_name::Name;
-use dns_rdata::{RRset, Rcode, Shown};
+use dns_rdata::{LentName, RRset, Rcode, Shown};
 use std::marker::Model;
 use std::slice;
 use zone_tree::ZoneRead;
@@ -150,7 +150,7 @@ fn write_datagram<Z: ZoneRead, C: ChainView>(
         return len;
     }
     let shown = Shown {
-        owner: question.name.copy(),
+        owner: LentName::spelt(&question.name),
         ttl: None,
         sets: slice::from_ref(soa),
     };

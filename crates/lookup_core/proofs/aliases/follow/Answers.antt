@@ -9,7 +9,7 @@ use Rattle.lookup_core.proofs.aliases.follow.Goals.{in-Cut, in-Data, in-NoData, 
 
 pub loop-init : goal.loop-init
 loop-init g c = record {
-  way = λ more all. rw (c.new-aliases.ensures, c.copy-searched.ensures) (begins (g.Z.ZoneRead.records c.args.zone.now) c.args.name.now c.args.rtype.0 more (omega arith));
+  way = λ more all. rw (c.new-aliases.ensures, c.spelt-searched.ensures) (begins (g.Z.ZoneRead.records c.args.zone.now) c.args.name.now c.args.rtype.0 more (omega arith));
   count = ap length c.new-aliases.ensures;
 }
 

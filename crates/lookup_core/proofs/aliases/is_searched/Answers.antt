@@ -10,7 +10,7 @@ returns-then-eq c =
     sym
     (list_any-searched_before c.args.name.now c.args.aliases.now
     ∙ list_any_at (λ alias. is_same alias.owner c.args.name.now) c.args.aliases.now c.loop-alias.alias-index c.alias-item.result (omega arith)
-    (ap (λ alias. is_same alias.owner c.args.name.now) (sym c.alias-item.is) ∙ sym c.eq.ensures ∙ c.if-eq.true))
+    (ap (λ alias. is_same alias.owner c.args.name.now) (sym c.alias-item.is) ∙ ap (λ owner. is_same owner c.args.name.now) (sym c.to_name.ensures) ∙ sym c.eq.ensures ∙ c.if-eq.true))
 
 -- all aliases were seen
 pub returns : goal.returns

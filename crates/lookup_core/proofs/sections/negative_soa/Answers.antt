@@ -6,5 +6,5 @@ negative_ttl-requires-clause-typed g c = rtype_of-soa_of (g.Z.ZoneRead.records c
 
 pub returns : goal.returns
 returns g c =
-    rw c.owner.ensures.of
+    rw (c.stored.ensures, c.stored_owner.ensures.of)
     (negative_soa-shown (g.Z.ZoneRead.records c.args.zone.now) c.soa-soa.result.now c.from_ref.result.now c.negative_ttl.result.0 c.soa-soa.ensures.set c.from_ref.ensures.value c.soa-soa.ensures.one c.negative_ttl.ensures)

@@ -19,9 +19,9 @@ returns-clause-octets g c =
     let list = map (spelt c.args.records.now.name.now) (option_to_list c.args.records.now.next ++ listed c.args.records.now.rest) in
     let answer : section_of c.from_ref-2.result.now ≡ map (shown_as q.name None) soa = ap section_of c.from_ref-2.ensures.value
     ∙ append-nil _
-    ∙ ap (λ (sets : List (List Record)). map (shown_as c.copy.result None) (flat_map (λ set. set) sets)) c.from_ref.ensures.value
-    ∙ ap (map (shown_as c.copy.result None)) (append-nil soa)
-    ∙ ap (λ (n : Name). map (shown_as n None) soa) c.copy.ensures in
+    ∙ ap (λ (sets : List (List Record)). map (shown_as c.spelt.result None) (flat_map (λ set. set) sets)) c.from_ref.ensures.value
+    ∙ ap (map (shown_as c.spelt.result None)) (append-nil soa)
+    ∙ ap (λ (n : Name). map (shown_as n None) soa) c.spelt.ensures in
     let single = fit (answers head (Some q) (map (shown_as q.name None) soa)) 512 in
     let parts = filled head (Some q) 512 [] list in
     let left = c.write_answers-len.ensures.left ∙ ap (λ (n : ℕ). (filled head (Some q) n [] list).1) c.requires in

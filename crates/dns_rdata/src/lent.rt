@@ -1,0 +1,89 @@
+//! Names lent from where they stand.
+ghost use Rattle.std.specs.Prelude.{◌≡◌, [], unwrap_or};
+ghost use Rattle.dns_rdata.specs.Data.{target_of};
+ghost use Rattle.dns_rdata.specs.Numbers.{type_CNAME};
+
+use crate::data::RData;
+use dns_name::{Name, StoredName};
+use std::marker::Model;
+
+/// Where a lent name stands.
+#[derive(Drop)]
+pub(crate) enum Source<'a> {
+    /// Nowhere: it is the root.
+    Root,
+    /// In a name, as it is spelt there.
+    Name(&'a Name),
+    /// In a name that a zone keeps.
+    Stored(&'a StoredName),
+    /// In an alias's data (RFC 1035, 3.3.1).
+    Target(&'a RData),
+}
+
+/// A name lent from where it stands: no octet of it is copied before [`LentName::to_name`]. Contracts see the list of its
+/// labels.
+#[derive(Drop)]
+pub struct LentName<'a> {
+    source: Source<'a>,
+}
+
+impl<'a> Model for LentName<'a> {
+    ghost use Rattle.std.specs.Prelude.{ℕ, List};
+
+    ghost Value = { List (List ℕ) };
+
+    ghost use Rattle.dns_rdata.specs.Lent.{name_lent};
+
+    ghost view = { λ a. name_lent a.source };
+}
+
+impl<'a> LentName<'a> {
+    /// The root, which stands nowhere.
+    pub fn root() -> LentName<'a>
+        ensures { result ≡ [] }
+    {
+        LentName {
+            source: Source::Root,
+        }
+    }
+
+    /// A name as it is spelt.
+    pub fn spelt(name: &'a Name) -> LentName<'a>
+        ensures { result ≡ name.now }
+    {
+        LentName {
+            source: Source::Name(name),
+        }
+    }
+
+    /// A name that a zone keeps, in lower case.
+    pub fn stored(name: &'a StoredName) -> LentName<'a>
+        ensures { result ≡ name.now }
+    {
+        LentName {
+            source: Source::Stored(name),
+        }
+    }
+
+    /// The name that an alias of these data stands for (RFC 1035, 3.3.1).
+    pub fn target(rdata: &'a RData) -> LentName<'a>
+        requires { rdata.now.rtype ≡ type_CNAME }
+        ensures { result ≡ unwrap_or (target_of rdata.now.octets) [] }
+    {
+        LentName {
+            source: Source::Target(rdata),
+        }
+    }
+
+    /// The name itself. It takes no memory.
+    pub fn to_name(&self) -> Name
+        ensures { result ≡ self.now }
+    {
+        match &self.source {
+            Source::Root => Name::root(),
+            Source::Name(name) => name.copy(),
+            Source::Stored(name) => name.to_name(),
+            Source::Target(rdata) => rdata.target().unwrap_or(Name::root()),
+        }
+    }
+}
