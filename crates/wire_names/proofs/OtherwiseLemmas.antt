@@ -12,7 +12,9 @@ use Rattle.wire_names.specs.declared.part.NameReadFault.TheVariants.{Short, BadL
 use Rattle.wire_names.specs.declared.part.Part.{Part}
 use Rattle.wire_names.specs.declared.part.Part.TheVariants.{Closing, Label, Pointer}
 use Rattle.wire_names.proofs.GrammarLemmas.{IsLabelAt-part, label_size}
-use Rattle.wire_names.proofs.LongerLemmas.{part_within}
+use Rattle.wire_names.proofs.LongerLemmas.{part_within, spells_within}
+use Rattle.wire_names.proofs.TableLemmas.{target_spells}
+use Rattle.wire_names.specs.Table.{IsTarget, spelt_at}
 
 -- the first octet of a part
 abbrev FirstOf : ℕ → Part → Type 0
@@ -118,3 +120,30 @@ module _ (msg octets : List ℕ) (position at len : ℕ) (whole : IsWhole octets
       let some = differs.0 in
       let there : position + (len - 1) ≡ at + wide - 1 = omega arith in
       other_octet (len - 1) first (omega arith) (λ e. differs.1 (sym (ap (λ (x : ℕ). get_or msg x 0) there) ∙ e))
+
+-- a table's position is in the message, and so is the label there
+first_within : (msg : List ℕ) (run at next : ℕ) (name : List (List ℕ)) → Spells msg run at name next → get_or msg at 0 < 192 → at + get_or msg at 0 < length msg
+first_within msg run at next _ (closing p e) low =
+    let zero = first_at msg at Closing p in
+    let within = part_within msg at Closing p in
+    omega arith
+first_within msg run at next _ (label {n = n} p e s) low =
+    let first = first_at msg at (Label n) p in
+    let is = IsLabelAt-part msg at n p in
+    let within = is.within in
+    omega arith
+first_within msg run at next name (pointer {target = target} p g s e) low =
+    let far = first_at msg at (Pointer target) p in
+    omega arith
+
+module _ (msg octets : List ℕ) (position at : ℕ) (target : IsTarget msg position) (here : at ≡ position) where
+  pub target_within : at < length msg
+  target_within = let own = target_spells msg position target in let within = spells_within msg position position own.0 (spelt_at msg position) own.1 in omega arith
+
+  pub label_within : (len wide : ℕ) → IsWhole octets → len ≡ get_or octets 0 0 → wide ≡ len → get_or msg at 0 ≡ len → at + wide < length msg
+  label_within len wide whole is same first =
+      let short = first_short octets whole in
+      let own = target_spells msg position target in
+      let there : get_or msg at 0 ≡ get_or msg position 0 = ap (λ (x : ℕ). get_or msg x 0) here in
+      let within = first_within msg position position own.0 (spelt_at msg position) own.1 (omega arith) in
+      omega arith

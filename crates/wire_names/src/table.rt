@@ -4,7 +4,7 @@ ghost use Rattle.std.specs.List.Sorted.{IsStrictlyIncreasing};
 ghost use Rattle.dns_name.specs.Labels.{labels_in, IsWhole};
 ghost use Rattle.wire_names.specs.Spells.{Spells};
 ghost use Rattle.wire_names.specs.Start.{IsStart};
-ghost use Rattle.wire_names.specs.Table.{IsTable, table_of, position_in, enter, entered};
+ghost use Rattle.wire_names.specs.Table.{IsTable, IsTarget, table_of, position_in, enter, entered};
 ghost use Rattle.wire_names.specs.Written.{starts_of};
 
 use crate::label::first_label;
@@ -117,6 +117,7 @@ fn octet_at(octets: &[u8], index: usize) -> u8
 
 /// Whether the octets at a position spell the name in these octets, case included.
 fn is_spelt(msg: &[u8], position: u16, start: Start, octets: &[u8]) -> bool
+    requires target { IsTarget msg.now position }
     requires whole { IsWhole octets.now }
     requires start { IsStart octets.now start }
     ensures { IsTrue result ↔ ((next : ℕ) × Spells msg.now position position (labels_in octets.now) next) }
@@ -130,18 +131,17 @@ fn is_spelt(msg: &[u8], position: u16, start: Start, octets: &[u8]) -> bool
 /// Whether a label at a position is seen at once to be another than the first of these octets: one of another length, or of
 /// other octets at its end. Most positions of a table are passed over by it.
 fn begins_otherwise(msg: &[u8], position: u16, start: Start, octets: &[u8]) -> bool
+    requires target { IsTarget msg.now position }
     requires whole { IsWhole octets.now }
     requires start { IsStart octets.now start }
     ensures { IsTrue result → (next : ℕ) → Spells msg.now position position (labels_in octets.now) next → ⊥ }
 {
     let at = usize::from(position);
-    let end = at + usize::from(start.len);
-    if end >= msg.len() {
-        return false;
-    }
     if msg[at] != start.len {
         return usize::from(msg[at]) < POINTER;
     }
+    let len = usize::from(start.len);
+    let end = at + len;
     msg[end] != start.last || is_other_near_the_end(msg, end, start, octets)
 }
 

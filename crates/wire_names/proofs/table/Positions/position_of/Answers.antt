@@ -1,6 +1,10 @@
 use Rattle.std.proofs.Common.{◌∙◌, refl}
-use Rattle.wire_names.proofs.TableLemmas.{position_found, position_passed}
+use Rattle.wire_names.proofs.TableLemmas.{position_found, position_passed, target_at}
 use Rattle.wire_names.proofs.table.Positions.position_of.Goals as goal
+
+pub is_spelt-requires-clause-target : goal.is_spelt-requires-clause-target
+is_spelt-requires-clause-target c =
+    target_at _ c.args.self.now _ _ c.requires.table (c.as_slice-position-items.ensures.value ∙ c.self.view_is) c.loop-position-test.true
 
 pub returns-then-is_spelt : goal.returns-then-is_spelt
 returns-then-is_spelt c =
