@@ -263,7 +263,7 @@ fn write_messages<W: Write>(
 /// Writes the messages of a transfer in hexadecimal, with a space between them, and a line end. Each message is written before
 /// the next one is made.
 fn write_transfer<C: ChainView, W: Write>(
-    messages: &mut Packer<'_, Zone, C>,
+    messages: &mut Packer<'_, C>,
     out: &mut [u8],
     digits: &mut [u8],
     writer: &mut W,
@@ -282,7 +282,7 @@ fn write_transfer<C: ChainView, W: Write>(
 
 /// Writes the messages that are left in hexadecimal, with a space in front of each.
 fn write_behind<C: ChainView, W: Write>(
-    messages: &mut Packer<'_, Zone, C>,
+    messages: &mut Packer<'_, C>,
     out: &mut [u8],
     digits: &mut [u8],
     writer: &mut W,

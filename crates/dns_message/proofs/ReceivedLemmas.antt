@@ -1,10 +1,10 @@
 -- How the messages of a transfer are read.
-use Rattle.std.proofs.Common.{◌≡◌, ℕ, zero, suc, ◌+◌, ◌-◌, ◌<◌, ◌≤◌, Bool, List, [], ◌∷◌, ◌++◌, map, append_assoc, Option, Some, None, refl, sym, ap, ◌∙◌, arith, option_map, option_and_then}
-use Rattle.std.proofs.lemmas.List.{append-nil}
+use Rattle.std.proofs.Common.{◌≡◌, ◌||◌, ◌==◌, not, nat_lt, cond, true, false, length, ℕ, zero, suc, ◌+◌, ◌-◌, ◌<◌, ◌≤◌, Bool, List, [], ◌∷◌, ◌++◌, map, append_assoc, Option, Some, None, refl, sym, ap, ◌∙◌, arith, option_map, option_and_then}
+use Rattle.std.proofs.lemmas.List.{append-nil, length-map}
 use Rattle.dns_rdata.specs.Raw.{RawRecord}
 use Rattle.dns_message.specs.Message.{Entry, Body, number_at}
-use Rattle.dns_message.specs.Reads.{question_at, questions_at, record_at, records_at, body_in, has_opt}
-use Rattle.dns_message.specs.Received.{received, HasAnswerAt}
+use Rattle.dns_message.specs.Reads.{question_at, questions_at, record_at, records_at, body_in, has_opt, is_reply}
+use Rattle.dns_message.specs.Received.{received, rcode_of, received_records, HasAnswerAt}
 use Rattle.dns_message.specs.declared.query.Question.{Question}
 use Rattle.dns_message.proofs.ReadLemmas.{sight}
 
@@ -168,3 +168,37 @@ module _ (msg : List ℕ) where
           whole = rw (body_in, e, f, g, h) refl;
           answer = f;
         }
+
+-- so many records that are read are some, where the count isn't 0
+abbrev how_many : Option (List Entry × ℕ) → ℕ
+how_many None = 0
+how_many (Some r) = length r.0
+
+one_behind : (r : Entry × ℕ) (o : Option (List Entry × ℕ)) (es : List Entry) (next : ℕ) → option_map {U = List Entry × ℕ} (λ rest. (r.0 ∷ rest.0, rest.1)) o ≡ Some (es, next) → 0 < length es
+one_behind r None es next e = let no : ⊥ = cc in absurd no
+one_behind r (Some rest) es next e = let same : suc (length rest.0) ≡ length es = ap how_many e in omega arith
+
+some_entries : (count : ℕ) (msg : List ℕ) (at : ℕ) (es : List Entry) (next : ℕ) → 0 < count → records_at count msg at ≡ Some (es, next) → 0 < length es
+unfolding records_at
+some_entries zero msg at es next h e = absurd (omega arith)
+some_entries (suc count) msg at es next h e = by (record_at msg at) e
+  where
+    by : (o : Option (Entry × ℕ)) → option_and_then {U = List Entry × ℕ} (λ r. option_map {U = List Entry × ℕ} (λ rest. (r.0 ∷ rest.0, rest.1)) (records_at count msg r.1)) o ≡ Some (es, next) → 0 < length es
+    by None f = let no : ⊥ = cc in absurd no
+    by (Some r) f = one_behind r (records_at count msg r.1) es next f
+
+abbrev how_many_raw : Option (List RawRecord) → ℕ
+how_many_raw None = 0
+how_many_raw (Some rs) = length rs
+
+pub answer_some : (msg : List ℕ) (at count : ℕ) → HasAnswerAt msg at → count ≡ number_at msg 6 → 0 < count → received_records msg ≡ Some [] → ⊥
+answer_some msg at count has same some e = by (nat_lt (length msg) 12 || not (is_reply msg) || not (rcode_of msg == 0)) e
+  where
+    by : (b : Bool) → cond b None (option_map (λ body. map (received msg) body.answer) (body_in msg)) ≡ Some [] → ⊥
+    by true f = cc
+    by false f =
+        let is : Some (map (received msg) has.body.answer) ≡ Some [] = sym (ap (option_map (λ body. map (received msg) body.answer)) has.whole) ∙ f in
+        let none : length (map (received msg) has.body.answer) ≡ 0 = ap how_many_raw is in
+        let each = length-map has.body.answer (received msg) in
+        let there = some_entries (number_at msg 6) msg at has.body.answer has.next (omega arith) has.answer in
+        omega arith

@@ -1,5 +1,5 @@
 //! The messages of a transfer as they are received (RFC 5936, 2.2; RFC 1995, 4).
-ghost use Rattle.std.specs.Prelude.{◌≡◌, ◌+◌, ◌≤◌, [], length, map, IfOk, MatchOption, None, unwrap_or};
+ghost use Rattle.std.specs.Prelude.{◌≡◌, ◌≢◌, ◌+◌, ◌<◌, ◌≤◌, [], length, map, IfOk, OnErr, MatchOption, Some, None, unwrap_or};
 ghost use Rattle.std.specs.Option.{option_map};
 ghost use Rattle.dns_message.specs.Expanded.{expanded_data};
 ghost use Rattle.dns_message.specs.Reads.{is_reply, questions_at, records_at, body_in};
@@ -20,9 +20,11 @@ const RCODES: u8 = 16;
 /// The records of the answer section of a message that was received, in their order, each with its owner in lower case and
 /// the names in its data in full; a record whose data can't be read has none, which is the form of no type that is served.
 /// None where the octets are no reply of RCODE NOERROR, or a question or a record of any section can't be read; octets behind
-/// the last record are ignored (RFC 1035, 4.1; RFC 5936, 2.2; own). An `Err` only where a growth was refused.
+/// the last record are ignored (RFC 1035, 4.1; RFC 5936, 2.2; own). An `Err` only where a growth was refused; none is asked for
+/// where there is no such record.
 pub fn received_records(alloc: Global, bytes: &[u8]) -> Result<Option<RawRecords>, AllocError>
-    ensures { IfOk result (λ found. found ≡ received_records bytes.now) }
+    ensures found { IfOk result (λ found. found ≡ received_records bytes.now) }
+    ensures some { OnErr result (received_records bytes.now ≢ Some []) }
 {
     if bytes.len() < HEADER || !is_reply(bytes) || rcode_of(bytes) != 0 {
         return Ok(None);
@@ -72,7 +74,8 @@ fn all_received(
     at: usize,
     count: u16,
 ) -> Result<Option<RawRecords>, AllocError>
-    ensures { IfOk result (λ found. found ≡ option_map (λ r. map (received bytes.now) r.0) (records_at count bytes.now at)) }
+    ensures found { IfOk result (λ found. found ≡ option_map (λ r. map (received bytes.now) r.0) (records_at count bytes.now at)) }
+    ensures some { OnErr result (0 < count) }
 {
     let mut records = Vec::new(alloc);
     let mut place = at;

@@ -2,6 +2,7 @@ pub mod GatherLemmas
 pub mod LabelLemmas
 pub mod LawLemmas
 pub mod OrderLemmas
+pub mod PieceLemmas
 pub mod ReadLemmas
 pub mod RoundLemmas
 pub mod SameLemmas

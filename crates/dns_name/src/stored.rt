@@ -117,8 +117,21 @@ fn put_front(to: &mut ArrayVec<u8, MAX_NAME>, octets: &[u8])
 {
     if let Some((piece, behind)) = first_piece(octets) {
         put_front(to, behind);
-        let label = label_of(piece);
-        append_label(to, label.as_slice());
+        put_piece(to, piece);
+    }
+}
+
+/// The label that a piece stands for behind the others, behind its length: most pieces are their labels.
+#[tactic(auto, using(crate::proofs::PieceLemmas::plain_piece))]
+fn put_piece(to: &mut ArrayVec<u8, MAX_NAME>, piece: &[u8])
+    requires short { length (octets_stored piece.now) ≤ MAX_LABEL }
+    requires room { length to.old.items + length (octets_stored piece.now) + 2 ≤ MAX_NAME }
+    ensures { to.new.items ≡ to.old.items ++ length (octets_stored piece.now) ∷ octets_stored piece.now }
+{
+    if piece.contains(&ESCAPE) {
+        append_label(to, label_of(piece).as_slice());
+    } else {
+        append_label(to, piece);
     }
 }
 

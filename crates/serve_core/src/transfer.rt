@@ -15,7 +15,7 @@ use crate::transport::Transport;
 use dns_message::Query;
 use dns_rdata::{Class, RType, Rcode, Serial};
 use transfer_core::{ChainView, Packer, SetRecords, TransferRecords, full, steps};
-use zone_tree::{Version, Zone, ZoneRead};
+use zone_tree::{Version, ZoneRead};
 
 /// The messages of a transfer of a version's zone that a query asks for: of an IXFR from a serial that isn't less than the
 /// version's the SOA alone, else what changed where the chain is whole; else the zone in whole; over UDP one message (RFC 1995, 2
@@ -25,7 +25,7 @@ pub fn transfer_reply<'a, C: ChainView>(
     chain: &'a C,
     query: &'a Query,
     peer: Peer,
-) -> Packer<'a, Zone, C>
+) -> Packer<'a, C>
     requires permitted { is_permitted version.now.zone peer query.now ≡ true }
     ensures messages { result ≡ messages_to version.now.zone (told_changes (C.whole chain.now) (soa_of version.now.zone) (C.versions chain.now)) peer query.now }
     ensures changes { (zone : List Record) → C.whole chain.now ≡ true → LeadTo zone (C.versions chain.now) version.now.zone
@@ -55,7 +55,7 @@ fn list_for<'a, C: ChainView>(
     version: &'a Version,
     chain: &'a C,
     query: &Query,
-) -> TransferRecords<'a, Zone, C>
+) -> TransferRecords<'a, C>
     ensures { listed result ≡ list_for version.now.zone (told_changes (C.whole chain.now) (soa_of version.now.zone) (C.versions chain.now)) query.now }
 {
     let zone = version.zone();

@@ -11,11 +11,10 @@ use dns_engine::{FirstZone, Newest};
 use dns_message::Query;
 use serve_core::{Peer, transfer_reply};
 use transfer_core::{ChainView, MAX_MESSAGE, Packer};
-use zone_tree::ZoneRead;
 
 /// Writes the frames of messages to a stream, one after another, so that no more than one message is in memory.
-fn write_messages<Z: ZoneRead, C: ChainView, S: Stream>(
-    packer: Packer<'_, Z, C>,
+fn write_messages<C: ChainView, S: Stream>(
+    packer: Packer<'_, C>,
     stream: &mut Counted<S>,
     out: &mut [u8],
     frame: &mut [u8],

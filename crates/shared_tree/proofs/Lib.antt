@@ -1,3 +1,4 @@
 pub mod LawLemmas
 pub mod LinkLemmas
 pub mod PairLemmas
+pub mod WayLemmas

@@ -1,15 +1,14 @@
 -- What the words on pairs give of two lists with a pair between them, by where a key stands.
-use Rattle.std.proofs.Common.{subst, ◌≡◌, refl, sym, ap, ◌∙◌, Bool, true, false, List, [], ◌∷◌, ◌++◌, append_assoc, append-nil, Option, Some, None, cond, true≢false}
+use Rattle.std.proofs.Common.{◌≡◌, refl, sym, ap, ◌∙◌, Bool, true, false, List, [], ◌∷◌, ◌++◌, append_assoc, append-nil, Option, Some, None, cond, true≢false}
 use Rattle.std.specs.Option.{option_or}
 use Rattle.std.specs.List.{filter, find, AllByRecursion}
 use Rattle.std.specs.declared.cmp.Ordering.{Ordering}
 use Rattle.std.specs.declared.cmp.Ordering.TheVariants.{Less, Equal, Greater}
 use Rattle.std.specs.Ordering.{is_lt, is_gt, is_eq, is_ne, ordering_reverse}
 use Rattle.std.specs.Cmp.{IsTotalOrder}
-use Rattle.std.proofs.lemmas.Cmp.{tied_itself}
 use Rattle.std.proofs.lemmas.List.Elements.{filter-append}
 use Rattle.std.proofs.lemmas.List.Folds.{find-append}
-use Rattle.shared_tree.specs.Pairs.{IsAscending, pairs_below, pairs_above, pair_at, pair_after, pairs_with, pairs_without, first_pair, pairs_behind}
+use Rattle.shared_tree.specs.Pairs.{IsAscending, pairs_below, pairs_above, pair_at, pair_after, pairs_with, pairs_without}
 
 -- facts by recursion on a list
 module _ {X : Type 0} where
@@ -254,43 +253,3 @@ module _ {K V : Type 0} (cmp : K → K → Ordering) where
         | true ↦ λ t f. absurd (some_none x f)
         | false ↦ λ t f. rw (other_is _ t) (ap (λ l. x ∷ l) (without_absent key xs f))
       ] refl e
-
--- what a search finds is the first that a filter keeps
-pub find_first : {K V : Type 0} (p : K × V → Bool) (xs : List (K × V)) → find p xs ≡ first_pair (filter p xs)
-find_first p [] = refl
-find_first p (x ∷ xs) = elim (p x) as (λ b. cond b (Some x) (find p xs) ≡ first_pair (cond b (x ∷ filter p xs) (filter p xs))) [ true ↦ refl | false ↦ find_first p xs ]
-
--- what holds of each pair holds of the first
-first_holds : {K V : Type 0} (P : K × V → Type 0) (xs : List (K × V)) (x : K × V) → AllByRecursion P xs → first_pair xs ≡ Some x → P x
-first_holds P [] x h e = absurd (some_none x (sym e))
-first_holds P (y ∷ ys) x h e = let same : y ≡ x = cc in subst P same h.0
-
--- the pairs behind a key, or all, are the first of them and those behind its key
-module _ {K V : Type 0} {cmp : K → K → Ordering} (o : IsTotalOrder cmp) where
-  all_behind : (x : K × V) (xs : List (K × V)) → IsAscending cmp (x ∷ xs) → x ∷ xs ≡ x ∷ pairs_above cmp x.0 (x ∷ xs)
-  all_behind x xs h = ap (λ l. x ∷ l) (sym (rw (tied_itself o x.0) (all_above cmp x.0 xs h.0)))
-
-  above_step : (key : K) (xs : List (K × V)) (x : K × V) → IsAscending cmp xs → first_pair (pairs_above cmp key xs) ≡ Some x → pairs_above cmp key xs ≡ x ∷ pairs_above cmp x.0 xs
-  above_step key [] x h e = absurd (some_none x (sym e))
-  above_step key (y ∷ ys) x h e =
-      elim (is_lt (cmp key y.0)) as (λ b. is_lt (cmp key y.0) ≡ b → first_pair (cond b (y ∷ pairs_above cmp key ys) (pairs_above cmp key ys)) ≡ Some x → cond b (y ∷ pairs_above cmp key ys) (pairs_above cmp key ys) ≡ x ∷ pairs_above cmp x.0 (y ∷ ys)) [
-        | true ↦ λ t f.
-            let same : y ≡ x = cc in
-            let kept = all_above cmp key ys (each_weaker _ _ (λ z g. o.trans key y.0 z.0 (less_is _ t) g) ys h.0) in
-            subst (λ z. y ∷ pairs_above cmp key ys ≡ z ∷ pairs_above cmp z.0 (y ∷ ys)) same (rw kept (all_behind y ys h))
-        | false ↦ λ t f.
-            let less = first_holds (λ z. cmp y.0 z.0 ≡ Less) (pairs_above cmp key ys) x (each_filtered (λ z. cmp y.0 z.0 ≡ Less) (λ z. is_lt (cmp key z.0)) ys h.0) f in
-            let not : is_lt (cmp x.0 y.0) ≡ false = ap is_lt (o.antisymm x.0 y.0 ∙ ap ordering_reverse less) in
-            rw not (above_step key ys x h.1 f)
-      ] refl e
-
-  pub behind_step : (last : Option K) (xs : List (K × V)) (x : K × V) → IsAscending cmp xs → first_pair (pairs_behind cmp last xs) ≡ Some x → pairs_behind cmp last xs ≡ x ∷ pairs_behind cmp (Some x.0) xs
-  behind_step None [] x h e = absurd (some_none x (sym e))
-  behind_step None (y ∷ ys) x h e =
-      let same : y ≡ x = cc in
-      subst (λ z. y ∷ ys ≡ z ∷ pairs_above cmp z.0 (y ∷ ys)) same (all_behind y ys h)
-  behind_step (Some key) xs x h e = above_step key xs x h e
-
-  pub none_first : (xs : List (K × V)) → first_pair xs ≡ None → xs ≡ []
-  none_first [] e = refl
-  none_first (x ∷ xs) e = absurd (some_none x e)

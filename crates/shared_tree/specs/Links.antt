@@ -1,5 +1,6 @@
 -- What stands below a link: its pairs in order, its height, and that it is level throughout (own).
-use Rattle.std.specs.Prelude.{◌≡◌, ℕ, ◌+◌, ◌*◌, ◌^◌, ◌<◌, ◌≤◌, max, List, [], ◌∷◌, ◌++◌}
+use Rattle.std.specs.Prelude.{◌≡◌, ℕ, suc, ◌+◌, ◌*◌, ◌^◌, ◌<◌, ◌≤◌, max, List, [], ◌∷◌, ◌++◌, length, Option, None, Some}
+use Rattle.std.specs.Borrow.{Bor}
 use Rattle.std.specs.declared.cmp.Ordering.{Ordering}
 use Rattle.shared_tree.specs.Pairs.{TreeView, IsAscending}
 use Rattle.shared_tree.specs.declared.node.Link.{Link, Leaf, Fork'}
@@ -19,11 +20,11 @@ link_height (Fork' p left pair right h) = max (link_height left) (link_height ri
 abbrev pub IsLevel : {K V : Type 0} → Link K V → Link K V → Type 0
 IsLevel left right = (link_height left ≤ link_height right + 1) × (link_height right ≤ link_height left + 1)
 
--- at each node the two sides are level, and the height that it says is its own (own)
+-- at each node the two sides are level, and the height that it says is its own and at most 64 (own)
 abbrev pub IsFormed : {K V : Type 0} → Link K V → Type 0
 IsFormed Leaf = Unit {0}
 IsFormed (Fork' p left pair right h) =
-    (h ≡ max (link_height left) (link_height right) + 1) × IsLevel left right × IsFormed left × IsFormed right
+    (h ≡ max (link_height left) (link_height right) + 1) × IsLevel left right × IsFormed left × IsFormed right × (h ≤ 64)
 
 -- two formed sides, neither higher than the other by more than two: they can be joined, and are level then (own)
 abbrev pub AreJoinable : {K V : Type 0} → Link K V → Link K V → Type 0
@@ -82,3 +83,25 @@ view_of root = record { pairs = link_pairs root; height = link_height root }
 -- a height is just the binary digits of a count, as where pairs are halved at each node (own)
 abbrev pub IsHalved : ℕ → ℕ → Type 0
 IsHalved height count = (count < 2 ^ height) × (2 ^ height ≤ max 1 (2 * count))
+
+-- the pairs that are left of nodes on the way down to a pair, the highest node first: of each its own and those on its right,
+-- behind those of the nodes below it (own)
+abbrev pub pairs_on_way : {K V : Type 0} → List (Option (Bor (Node K V))) → List (K × V)
+pairs_on_way [] = []
+pairs_on_way (None ∷ way) = pairs_on_way way
+pairs_on_way (Some node ∷ way) = pairs_on_way way ++ node.now.pair.value ∷ link_pairs node.now.right
+
+-- nodes on a way, of which so many stand above: what stands on the right of each is formed, and no way down from there has
+-- more than 64 nodes (own)
+abbrev pub AreOnWay : {K V : Type 0} → ℕ → List (Option (Bor (Node K V))) → Type 0
+AreOnWay above [] = Unit {0}
+AreOnWay above (None ∷ way) = ⊥
+AreOnWay above (Some node ∷ way) =
+    IsFormed node.now.right × (above + link_height node.now.right < 64) × AreOnWay (suc above) way
+
+-- a node that is taken off a way, the lowest one (own)
+pub record IsTaken {K V : Type 0} (old new : List (Option (Bor (Node K V)))) (node : Bor (Node K V)) : Type 0 where
+  pub is : old ≡ new ++ Some node ∷ []
+  pub rest : AreOnWay 0 new
+  pub formed : IsFormed node.now.right
+  pub room : length new + link_height node.now.right < 64

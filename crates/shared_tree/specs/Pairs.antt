@@ -41,11 +41,6 @@ module _ {K V : Type 0} (cmp : K → K → Ordering) where
   abbrev pub pair_after : K → List (K × V) → Option (K × V)
   pair_after key pairs = find (λ pair. is_lt (cmp key pair.0)) pairs
 
-  -- the pairs behind a key, or all (own)
-  abbrev pub pairs_behind : Option K → List (K × V) → List (K × V)
-  pairs_behind None pairs = pairs
-  pairs_behind (Some key) pairs = pairs_above key pairs
-
   -- the pairs with one in place, whatever pair its key had (own)
   abbrev pub pairs_with : K → V → List (K × V) → List (K × V)
   pairs_with key value pairs = pairs_below key pairs ++ (key, value) ∷ pairs_above key pairs

@@ -6,6 +6,9 @@ use crate::fault::NoMemory;
 use std::alloc::{AllocError, Global};
 use std::sync::Arc;
 
+/// The most nodes on a way down: a tree that needs more has over 2^44 pairs, which no memory holds.
+pub(crate) const MAX_HEIGHT: usize = 64;
+
 /// The pairs on one side of a node: none, or those of a node that other trees may share.
 #[cycle(tree)]
 #[derive(Drop)]
@@ -86,7 +89,7 @@ impl Maker {
     }
 
     /// The node of a pair between two sides: the only call that makes a node, and that counts one. `NoMemory` where memory
-    /// is refused, or where a side is 255 nodes high or 2^64 - 1 nodes are made, which no memory holds.
+    /// is refused, or where a side is [`MAX_HEIGHT`] nodes high or 2^64 - 1 nodes are made, which no memory holds.
     pub(crate) fn fork<K: Drop, V: Drop>(
         &mut self,
         left: Link<K, V>,
@@ -100,7 +103,10 @@ impl Maker {
         ensures at_most_one { self.new.made ≤ self.old.made + 1 }
     {
         let higher = left.height().max(right.height());
-        let height = higher.checked_add(1).ok_or(NoMemory)?;
+        if usize::from(higher) >= MAX_HEIGHT {
+            return Err(NoMemory);
+        }
+        let height = higher + 1;
         let made = self.made.checked_add(1).ok_or(NoMemory)?;
         let node = Arc::new(
             self.alloc,

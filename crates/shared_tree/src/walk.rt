@@ -1,42 +1,43 @@
 //! The pairs of a tree in order.
 ghost use Rattle.std.specs.Iterator.{YieldsFirstRef, item_count};
-ghost use Rattle.std.specs.Prelude.{◌≡◌};
-ghost use Rattle.shared_tree.specs.Links.{link_pairs};
-ghost use Rattle.std.specs.Option.{option_copied};
-ghost use Rattle.shared_tree.specs.Pairs.{IsAscending, first_pair, pairs_behind};
+ghost use Rattle.std.specs.Prelude.{◌≡◌, ◌+◌, ◌≤◌, [], ◌++◌, length, MatchOption};
+ghost use Rattle.shared_tree.specs.Links.{link_pairs, link_height, IsFormed, AreOnWay, pairs_on_way, IsTaken};
 
-use crate::look::{after_in, first_in};
-use crate::node::Link;
+use crate::node::{Link, MAX_HEIGHT, Node};
+use arrayvec::ArrayVec;
 use std::marker::Model;
 
-/// The pairs of a tree that are left, in the order of their keys. It asks the tree for the pair after the last one, so
-/// that it takes no memory, and a step is one way down. Contracts see the list of the pairs that are left.
+/// Nodes on the way down to a pair, the highest first; what stands on the left of each is passed.
+type Way<'a, K, V> = ArrayVec<Option<&'a Node<K, V>>, MAX_HEIGHT>;
+
+/// The pairs of a tree that are left, in the order of their keys. It keeps the way down to the next one, in room of its own,
+/// so that it takes no memory, and a walk comes to each link once. Contracts see the list of the pairs that are left.
 #[derive(Drop)]
 pub struct Walk<'a, K: Ord, V> {
-    root: &'a Link<K, V>,
-    last: Option<&'a K>,
+    way: Way<'a, K, V>,
 }
 
 impl<'a, K: Ord, V> Model for Walk<'a, K, V> {
     ghost use Rattle.std.specs.Prelude.{List};
-    ghost use Rattle.shared_tree.specs.Links.{link_pairs};
-    ghost use Rattle.shared_tree.specs.Pairs.{IsAscending, pairs_behind};
-    ghost use Rattle.std.specs.Option.{option_copied};
+    ghost use Rattle.shared_tree.specs.Links.{AreOnWay, pairs_on_way};
 
     ghost Value = { List (K × V) };
 
-    ghost view = { λ walk. pairs_behind K.cmp (option_copied walk.last) (link_pairs walk.root.now) };
+    ghost view = { λ walk. pairs_on_way walk.way.items };
 
-    ghost invariant = { λ walk. IsAscending K.cmp (link_pairs walk.root.now) };
+    ghost invariant = { λ walk. AreOnWay 0 walk.way.items };
 }
 
 impl<'a, K: Ord, V> Walk<'a, K, V> {
     /// All pairs below a link.
+    #[tactic(auto, using(crate::proofs::WayLemmas::low_enough))]
     pub(crate) fn new(root: &'a Link<K, V>) -> Walk<'a, K, V>
-        requires { IsAscending K.cmp (link_pairs root.now) }
+        requires { IsFormed root.now }
         ensures { result ≡ link_pairs root.now }
     {
-        Walk { root, last: None }
+        let mut way = ArrayVec::new();
+        go_down(&mut way, root);
+        Walk { way }
     }
 }
 
@@ -48,18 +49,32 @@ impl<'a, K: Ord, V> Iterator for Walk<'a, K, V> {
     ghost remaining = { item_count (λ walk. walk) };
 
     fn next(&mut self) -> Option<&'a (K, V)> {
-        let pair = first_behind(self.root, self.last)?;
-        self.last = Some(&pair.0);
-        Some(pair)
+        let node = take_lowest(&mut self.way)?;
+        go_down(&mut self.way, &node.right);
+        Some(&*node.pair)
     }
 }
 
-/// The first pair behind a key, or of all.
-fn first_behind<'a, K: Ord, V>(root: &'a Link<K, V>, last: Option<&K>) -> Option<&'a (K, V)>
-    ensures { IsAscending K.cmp (link_pairs root.now) → option_copied result ≡ first_pair (pairs_behind K.cmp (option_copied last.entry) (link_pairs root.now)) }
+/// Takes the lowest node off a way.
+fn take_lowest<'a, K, V>(way: &mut Way<'a, K, V>) -> Option<&'a Node<K, V>>
+    requires { AreOnWay 0 way.old.items }
+    ensures { MatchOption result ((way.old.items ≡ []) × (way.new.items ≡ [])) (λ node. IsTaken way.old.items way.new.items node) }
 {
-    match last {
-        Some(key) => after_in(root, key),
-        None => first_in(root),
+    let lowest = way.pop()?;
+    lowest
+}
+
+/// Puts the way down from a link to its first pair behind a way.
+fn go_down<'a, K, V>(way: &mut Way<'a, K, V>, link: &'a Link<K, V>)
+    requires way { AreOnWay 0 way.old.items }
+    requires formed { IsFormed link.now }
+    requires room { length way.old.items + link_height link.now ≤ MAX_HEIGHT }
+    ensures way { AreOnWay 0 way.new.items }
+    ensures pairs { pairs_on_way way.new.items ≡ link_pairs link.now ++ pairs_on_way way.old.items }
+{
+    let mut below = link;
+    while let Link::Fork(node) = below {
+        way.push(Some(&**node));
+        below = &node.left;
     }
 }

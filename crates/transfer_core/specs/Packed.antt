@@ -15,7 +15,7 @@ abbrev pub max_message : ℕ
 max_message = 16384
 
 -- the records of a transfer that are left
-abbrev pub listed : {Z C : Type 0} → TransferRecords Z C → List Record
+abbrev pub listed : {C : Type 0} → TransferRecords C → List Record
 listed (Set records) = records
 listed (Full records) = records
 listed (Changes records) = records

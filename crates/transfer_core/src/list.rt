@@ -112,7 +112,7 @@ impl<'a> Iterator for SetRecords<'a> {
 }
 
 /// The next set of a walk that isn't the SOA's.
-fn next_other<'a, Z: ZoneRead>(walk: &mut Walk<'a, Z>) -> Option<&'a RRset>
+fn next_other<'a>(walk: &mut Walk<'a>) -> Option<&'a RRset>
     ensures { MatchOption (option_copied result) ((beside_soa (records_in walk.old) ≡ []) × (beside_soa (records_in walk.new) ≡ [])) (λ set. beside_soa (records_in walk.old) ≡ set ++ beside_soa (records_in walk.new)) }
 {
     loop {
@@ -124,10 +124,7 @@ fn next_other<'a, Z: ZoneRead>(walk: &mut Walk<'a, Z>) -> Option<&'a RRset>
 }
 
 /// The next set of a list: one of the walk, and where none is left the one that closes the list.
-fn next_set<'a, Z: ZoneRead>(
-    walk: &mut Walk<'a, Z>,
-    closing: &mut Option<&'a RRset>,
-) -> Option<&'a RRset>
+fn next_set<'a>(walk: &mut Walk<'a>, closing: &mut Option<&'a RRset>) -> Option<&'a RRset>
     ensures { MatchOption (option_copied result)
         ((records_left walk.old (option_copied closing.old) ≡ []) × (records_left walk.new (option_copied closing.new) ≡ []))
         (λ set. records_left walk.old (option_copied closing.old) ≡ set ++ records_left walk.new (option_copied closing.new)) }
@@ -140,13 +137,14 @@ fn next_set<'a, Z: ZoneRead>(
 
 /// The list of a zone in whole, as far as it is left: the SOA, all other records in canonical order, the SOA again
 /// (RFC 5936, 2.2). It takes no memory. Contracts see the records that are left.
-pub struct FullList<'a, Z: ZoneRead> {
+#[derive(Drop)]
+pub struct FullList<'a> {
     rest: SetRecords<'a>,
-    walk: Walk<'a, Z>,
+    walk: Walk<'a>,
     closing: Option<&'a RRset>,
 }
 
-impl<'a, Z: ZoneRead> Model for FullList<'a, Z> {
+impl<'a> Model for FullList<'a> {
     ghost use Rattle.std.specs.Prelude.{List, ◌++◌};
     ghost use Rattle.std.specs.Option.{option_copied};
     ghost use Rattle.dns_rdata.specs.Record.{Record};
@@ -157,19 +155,9 @@ impl<'a, Z: ZoneRead> Model for FullList<'a, Z> {
     ghost view = { λ list. list.rest ++ records_left list.walk (option_copied list.closing) };
 }
 
-impl<'a, Z: ZoneRead> Drop for FullList<'a, Z> {
-    fn drop(self) {
-        let FullList {
-            rest: _,
-            walk: _,
-            closing: _,
-        } = self;
-    }
-}
-
 /// The list of a zone in whole: its SOA, all its other records in canonical order, its SOA again (RFC 5936, 2.2). It takes
 /// no memory.
-pub fn full<Z: ZoneRead>(zone: &Z) -> FullList<'_, Z>
+pub fn full<Z: ZoneRead>(zone: &Z) -> FullList<'_>
     ensures list { result ≡ full (Z.records zone.now) }
     ensures lawful { IsZone (Z.records zone.now) }
 {
@@ -181,7 +169,7 @@ pub fn full<Z: ZoneRead>(zone: &Z) -> FullList<'_, Z>
     }
 }
 
-impl<'a, Z: ZoneRead> Iterator for FullList<'a, Z> {
+impl<'a> Iterator for FullList<'a> {
     type Item = LentRecord<'a>;
 
     ghost next_gives = { YieldsFirst (λ list. list) };

@@ -16,22 +16,21 @@ use dns_name::Name;
 use dns_rdata::{LentName, RRset, Rcode, Shown};
 use std::marker::Model;
 use std::slice;
-use zone_tree::ZoneRead;
 
 /// The most octets of a message of a transfer (own).
 pub const MAX_MESSAGE: usize = 16384;
 
 /// The records of a transfer that are left.
-pub enum TransferRecords<'a, Z: ZoneRead, C: ChainView> {
+pub enum TransferRecords<'a, C: ChainView> {
     /// Those of a set: of the SOA alone, where the one who asks holds what is served (RFC 1995, 2).
     Set(SetRecords<'a>),
     /// Those of a zone in whole (RFC 5936, 2.2).
-    Full(FullList<'a, Z>),
+    Full(FullList<'a>),
     /// Those of what changed (RFC 1995, 4).
     Changes(ChangesList<'a, C>),
 }
 
-impl<'a, Z: ZoneRead, C: ChainView> Drop for TransferRecords<'a, Z, C> {
+impl<'a, C: ChainView> Drop for TransferRecords<'a, C> {
     fn drop(self) {
         match self {
             TransferRecords::Set(_) => {}
@@ -41,7 +40,7 @@ impl<'a, Z: ZoneRead, C: ChainView> Drop for TransferRecords<'a, Z, C> {
     }
 }
 
-impl<'a, Z: ZoneRead, C: ChainView> TransferRecords<'a, Z, C> {
+impl<'a, C: ChainView> TransferRecords<'a, C> {
     /// The next record.
     fn next_record(&mut self) -> Option<LentRecord<'a>>
         ensures { MatchOption result
@@ -57,14 +56,14 @@ impl<'a, Z: ZoneRead, C: ChainView> TransferRecords<'a, Z, C> {
 }
 
 /// The records of a list as the one who asked for a name is shown them: that name keeps the spelling asked (own).
-pub(crate) struct SpeltList<'a, Z: ZoneRead, C: ChainView> {
+pub(crate) struct SpeltList<'a, C: ChainView> {
     name: &'a Name,
     next: Option<LentRecord<'a>>,
-    rest: TransferRecords<'a, Z, C>,
+    rest: TransferRecords<'a, C>,
     ghost ended: { next ≡ None → listed rest ≡ [] },
 }
 
-impl<'a, Z: ZoneRead, C: ChainView> Drop for SpeltList<'a, Z, C> {
+impl<'a, C: ChainView> Drop for SpeltList<'a, C> {
     fn drop(self) {
         let SpeltList {
             name: _,
@@ -74,8 +73,8 @@ impl<'a, Z: ZoneRead, C: ChainView> Drop for SpeltList<'a, Z, C> {
     }
 }
 
-impl<'a, Z: ZoneRead, C: ChainView> SpeltList<'a, Z, C> {
-    fn new(name: &'a Name, mut list: TransferRecords<'a, Z, C>) -> SpeltList<'a, Z, C>
+impl<'a, C: ChainView> SpeltList<'a, C> {
+    fn new(name: &'a Name, mut list: TransferRecords<'a, C>) -> SpeltList<'a, C>
         ensures { map (spelt result.name.now) (option_to_list result.next ++ listed result.rest) ≡ map (spelt name.now) (listed list.entry) }
     {
         let next = list.next_record();
@@ -87,7 +86,7 @@ impl<'a, Z: ZoneRead, C: ChainView> SpeltList<'a, Z, C> {
     }
 }
 
-impl<'a, Z: ZoneRead, C: ChainView> RecordList for SpeltList<'a, Z, C> {
+impl<'a, C: ChainView> RecordList for SpeltList<'a, C> {
     ghost left = { λ list. map (spelt list.name.now) (option_to_list list.next ++ listed list.rest) };
 
     fn first(&self) -> Option<SentRecord<'_>>
@@ -133,10 +132,10 @@ fn owner_to(name: &Name, owner: Name) -> Name
 
 /// Writes the one message of a list over UDP: the list where all of it fits a datagram; else the SOA alone, and where that
 /// doesn't fit either, the header and the question with TC 1 (RFC 1995, 2; own).
-fn write_datagram<Z: ZoneRead, C: ChainView>(
+fn write_datagram<C: ChainView>(
     head: Head,
     question: &Question,
-    records: &mut SpeltList<'_, Z, C>,
+    records: &mut SpeltList<'_, C>,
     soa: &RRset,
     out: &mut [u8],
 ) -> usize
@@ -170,14 +169,14 @@ fn write_datagram<Z: ZoneRead, C: ChainView>(
 /// The messages of a transfer, one after another: whole records, as many in each as fit into [`MAX_MESSAGE`] octets. The first
 /// has the question, all have its header's ID, AA 1 and names with pointers into the same message (RFC 5936, 2.2). Over UDP
 /// there is one message (RFC 1995, 2). It takes no memory. Contracts see the octets of the messages that are left.
-pub struct Packer<'a, Z: ZoneRead, C: ChainView> {
+pub struct Packer<'a, C: ChainView> {
     head: Head,
     question: Option<&'a Question>,
     soa: Option<&'a RRset>,
-    records: SpeltList<'a, Z, C>,
+    records: SpeltList<'a, C>,
 }
 
-impl<'a, Z: ZoneRead, C: ChainView> Model for Packer<'a, Z, C> {
+impl<'a, C: ChainView> Model for Packer<'a, C> {
     ghost use Rattle.std.specs.Prelude.{List, ℕ, map, ◌++◌};
     ghost use Rattle.std.specs.Option.{option_copied, option_to_list};
     ghost use Rattle.transfer_core.specs.Packed.{messages_left, spelt, listed};
@@ -187,7 +186,7 @@ impl<'a, Z: ZoneRead, C: ChainView> Model for Packer<'a, Z, C> {
     ghost view = { λ p. messages_left p.head (option_copied p.question) (option_copied p.soa) (map (spelt p.records.name.now) (option_to_list p.records.next ++ listed p.records.rest)) };
 }
 
-impl<'a, Z: ZoneRead, C: ChainView> Drop for Packer<'a, Z, C> {
+impl<'a, C: ChainView> Drop for Packer<'a, C> {
     fn drop(self) {
         let Packer {
             head: _,
@@ -198,13 +197,9 @@ impl<'a, Z: ZoneRead, C: ChainView> Drop for Packer<'a, Z, C> {
     }
 }
 
-impl<'a, Z: ZoneRead, C: ChainView> Packer<'a, Z, C> {
+impl<'a, C: ChainView> Packer<'a, C> {
     /// For a list that a question asks for over TCP (RFC 5936, 2.2; RFC 1995, 4).
-    pub fn new(
-        head: Head,
-        question: &'a Question,
-        list: TransferRecords<'a, Z, C>,
-    ) -> Packer<'a, Z, C>
+    pub fn new(head: Head, question: &'a Question, list: TransferRecords<'a, C>) -> Packer<'a, C>
         ensures { result ≡ octets_of (packed head question.now (listed list.entry)) }
     {
         Packer {
@@ -220,9 +215,9 @@ impl<'a, Z: ZoneRead, C: ChainView> Packer<'a, Z, C> {
     pub fn datagram(
         head: Head,
         question: &'a Question,
-        list: TransferRecords<'a, Z, C>,
+        list: TransferRecords<'a, C>,
         soa: &'a RRset,
-    ) -> Packer<'a, Z, C>
+    ) -> Packer<'a, C>
         ensures { result ≡ datagram head question.now (listed list.entry) soa.now ∷ [] }
     {
         Packer {

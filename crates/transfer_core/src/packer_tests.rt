@@ -10,7 +10,7 @@ use std::test::Fail;
 use zone_tree::{Version, Zone, ZoneRead};
 
 /// The records of a transfer for which no version is asked.
-type Listed<'a> = TransferRecords<'a, Zone, KeptChain<'a, Vec<Version>>>;
+type Listed<'a> = TransferRecords<'a, KeptChain<'a, Vec<Version>>>;
 
 const APEX: &[u8] = b"\x07example\x04test\0";
 

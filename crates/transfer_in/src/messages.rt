@@ -14,14 +14,14 @@ use zone_tree::Zone;
 ///
 /// Their answer sections' records are one list, whose first record that has a fault is told; a message that can't be read,
 /// that is no reply or that has an RCODE other than NOERROR is `Broken` before its records are looked at. `Broken` too where
-/// the list ends before it is closed, or is empty. `NoMemory` where a growth was refused; where there is no message none is asked
-/// for, so that this is `Broken` always.
+/// the list ends before it is closed, or is empty. `NoMemory` where a growth was refused; where the messages have no record none is
+/// asked for, so that this is `Broken` always.
 pub fn apply(alloc: Global, zone: &Zone, messages: &[Vec<u8>]) -> Result<Zone, TransferFault>
     ensures zone { IfOk result (λ next. take zone.now (records_of_messages (map (λ message. message.items) messages.now)) ≡ Ok next) }
     ensures lawful { IfOk result IsZone }
     ensures fault { IfErr result (λ fault. (fault ≡ TransferFault.NoMemory)
         ⊎ (take zone.now (records_of_messages (map (λ message. message.items) messages.now)) ≡ Err fault)) }
-    ensures empty { messages.now ≡ [] → result ≡ Err TransferFault.Broken }
+    ensures empty { records_of_messages (map (λ message. message.items) messages.now) ≡ [] → result ≡ Err TransferFault.Broken }
 {
     let mut progress = Progress::Nothing;
     for message in messages {

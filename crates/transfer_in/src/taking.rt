@@ -1,5 +1,5 @@
 //! How far a list has been taken, over messages that come one after another (RFC 5936, 2.2; RFC 1995, 4).
-ghost use Rattle.std.specs.Prelude.{◌≡◌, ◌⊎◌, ◌∷◌, [], true, IfOk, IfErr, Some, None, Err};
+ghost use Rattle.std.specs.Prelude.{◌≡◌, ◌≢◌, ◌⊎◌, ◌∷◌, [], true, IfOk, IfErr, OnErr, Some, None, Ok, Err};
 ghost use Rattle.dns_rdata.specs.Record.{IsLawful};
 ghost use Rattle.zone_tree.specs.Zone.{IsZone, apex_of};
 ghost use Rattle.transfer_core.specs.Take.{entered, is_soa, behind_first};
@@ -63,6 +63,7 @@ impl Progress {
         requires { IsKept (apex_of zone.now) self }
         ensures told { TellsRead zone.now self records.now result }
         ensures kept { IfOk result (IsKept (apex_of zone.now)) }
+        ensures none { records.now ≡ [] → result ≡ Ok self }
     {
         let mut progress = self;
         for sent in records {
@@ -81,6 +82,7 @@ impl Progress {
         requires { IsKept (apex_of zone.now) self }
         ensures told { TellsRead zone.now self (records_of_message message.now) result }
         ensures kept { IfOk result (IsKept (apex_of zone.now)) }
+        ensures none { records_of_message message.now ≡ [] → result ≡ Ok self }
     {
         let records = records_of_message(alloc, message)?;
         self.read_all(alloc, zone, &records)
@@ -167,9 +169,12 @@ fn go_on(
     Ok(Progress::Under(reading))
 }
 
-/// The records of a message; where it can't be read, one that can't be read. An `Err` only where a growth was refused.
+/// The records of a message; where it can't be read, one that can't be read. An `Err` only where a growth was refused, which none
+/// asks for where there is no record.
+#[tactic(auto, using(crate::proofs::MessageLemmas::some_of))]
 fn records_of_message(alloc: Global, message: &[u8]) -> Result<Vec<RawRecord>, AllocError>
-    ensures { IfOk result (λ records. records.items ≡ records_of_message message.now) }
+    ensures found { IfOk result (λ records. records.items ≡ records_of_message message.now) }
+    ensures some { OnErr result (records_of_message message.now ≢ []) }
 {
     match received_records(alloc, message)? {
         Some(records) => Ok(records.into_vec()),

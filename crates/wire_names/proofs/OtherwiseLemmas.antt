@@ -1,5 +1,5 @@
 -- Octets that spell a name begin with a pointer, or as the name's own octets do.
-use Rattle.std.proofs.Common.{◌≡◌, ℕ, suc, ◌+◌, ◌*◌, ◌-◌, ◌<◌, ◌≤◌, ◌==◌, ◌⊎◌, inl, inr, ⊎_elim, All, Bool, true, false, not, IsTrue, nat_lt, nat_le, cond, List, [], ◌∷◌, ◌++◌, length, drop, get_or, Ok, Err, refl, sym, ap, subst, ◌∙◌, arith}
+use Rattle.std.proofs.Common.{◌≡◌, ℕ, zero, suc, ◌+◌, ◌*◌, ◌-◌, ◌<◌, ◌≤◌, ◌==◌, ◌⊎◌, inl, inr, ⊎_elim, All, Bool, true, false, not, IsTrue, nat_lt, nat_le, cond, List, [], ◌∷◌, ◌++◌, length, drop, get_or, Ok, Err, refl, sym, ap, subst, ◌∙◌, arith}
 use Rattle.std.proofs.lemmas.Bool.Decides.{nat_tests}
 use Rattle.std.proofs.lemmas.List.{drop_more, get_or-take, get_or-drop, get_or_append_left}
 use Rattle.std.proofs.lemmas.List.Elements.{All-head}
@@ -12,7 +12,9 @@ use Rattle.wire_names.specs.declared.part.NameReadFault.TheVariants.{Short, BadL
 use Rattle.wire_names.specs.declared.part.Part.{Part}
 use Rattle.wire_names.specs.declared.part.Part.TheVariants.{Closing, Label, Pointer}
 use Rattle.wire_names.proofs.GrammarLemmas.{IsLabelAt-part, label_size}
-use Rattle.wire_names.proofs.LongerLemmas.{part_within}
+use Rattle.wire_names.proofs.LongerLemmas.{part_within, spells_within}
+use Rattle.wire_names.proofs.TableLemmas.{target_spells}
+use Rattle.wire_names.specs.Table.{IsTarget, spelt_at}
 
 -- the first octet of a part
 abbrev FirstOf : ℕ → Part → Type 0
@@ -46,10 +48,10 @@ first_at msg at part p =
     let list = drop_more msg at 0 within in
     first_if (x == 0) (nat_lt x 64) (nat_lt x 192) x (drop (at + 1) msg) part refl refl (sym (ap part_of list) ∙ p)
 
--- octets begin as a name's own octets do: with the length of its first label, and with that label's last octet
+-- octets begin as a name's own octets do: with the length of its first label, and with that label
 record BeginsAlike (msg : List ℕ) (at : ℕ) (octets : List ℕ) : Type 0 where
   first : get_or msg at 0 ≡ get_or octets 0 0
-  last : (n : ℕ) → n ≡ get_or octets 0 0 → get_or msg (at + n) 0 ≡ get_or octets n 0
+  each : (n : ℕ) → n ≤ get_or octets 0 0 → get_or msg (at + n) 0 ≡ get_or octets n 0
 
 last_label : (msg : List ℕ) (at n k : ℕ) (l behind : List ℕ) → l ≡ label_at msg at n → length l ≡ n → k < n → get_or msg (at + 1 + k) 0 ≡ get_or (length l ∷ l ++ behind) (suc k) 0
 last_label msg at n k l behind e len h =
@@ -58,22 +60,23 @@ last_label msg at n k l behind e len h =
     let there = get_or-drop (at + 1) msg k 0 in
     sym (front ∙ ap (λ (x : List ℕ). get_or x k 0) e ∙ taken ∙ there)
 
+each_octet : (msg : List ℕ) (at n m : ℕ) (l behind : List ℕ) → get_or msg at 0 ≡ n → l ≡ label_at msg at n → length l ≡ n → m ≤ n → get_or msg (at + m) 0 ≡ get_or (length l ∷ l ++ behind) m 0
+each_octet msg at n zero l behind first e len h =
+    let here : at + 0 ≡ at = omega arith in
+    ap (λ (x : ℕ). get_or msg x 0) here ∙ first ∙ sym len
+each_octet msg at n (suc k) l behind first e len h =
+    let there : at + suc k ≡ at + 1 + k = omega arith in
+    ap (λ (x : ℕ). get_or msg x 0) there ∙ last_label msg at n k l behind e len (omega arith)
+
 begins : (msg : List ℕ) (run at next : ℕ) (name : List (List ℕ)) → Spells msg run at name next → (192 ≤ get_or msg at 0) ⊎ BeginsAlike msg at (wire_of name)
 begins msg run at next _ (closing p e) =
     let zero = first_at msg at Closing p in
-    inr (record { first = zero; last = λ n h. let here : at + n ≡ at = omega arith in let none : n ≡ 0 = h in ap (λ (x : ℕ). get_or msg x 0) here ∙ zero ∙ ap (λ (x : ℕ). get_or (0 ∷ []) x 0) (sym none) })
+    inr (record { first = zero; each = λ n h. let here : at + n ≡ at = omega arith in let none : n ≡ 0 = omega arith in ap (λ (x : ℕ). get_or msg x 0) here ∙ zero ∙ ap (λ (x : ℕ). get_or (0 ∷ []) x 0) (sym none) })
 begins msg run at next _ (label {n = n} {l = l} {ls = ls} p e s) =
     let first = first_at msg at (Label n) p in
     let is = IsLabelAt-part msg at n p in
-    let some = is.some in
     let len : length l ≡ n = ap length e ∙ label_size msg at n is in
-    inr (record {
-      first = first ∙ sym len;
-      last = λ m h.
-          let there : at + m ≡ at + 1 + (n - 1) = omega arith in
-          let own : m ≡ suc (n - 1) = omega arith in
-          ap (λ (x : ℕ). get_or msg x 0) there ∙ last_label msg at n (n - 1) l (wire_of ls) e len (omega arith) ∙ ap (λ (x : ℕ). get_or (length l ∷ l ++ wire_of ls) x 0) (sym own);
-    })
+    inr (record { first = first ∙ sym len; each = λ m h. let low : m ≤ n = omega arith in each_octet msg at n m l (wire_of ls) first e len low })
 begins msg run at next name (pointer {target = target} p g s e) = inl (first_at msg at (Pointer target) p)
 
 -- the octets of a name begin with no pointer
@@ -89,15 +92,58 @@ begins_as : (msg octets : List ℕ) (at next : ℕ) → IsWhole octets → Spell
 begins_as msg octets at next whole s =
     subst (λ (x : List ℕ). (192 ≤ get_or msg at 0) ⊎ BeginsAlike msg at x) (wire_of-labels_in octets whole) (begins msg at at next (labels_in octets) s)
 
--- another length octet, which is no pointer's
-pub otherwise_first : (msg octets : List ℕ) (at there own x y z : ℕ) → IsWhole octets → there ≡ get_or msg at 0 → own ≡ get_or octets 0 0 → x ≡ there → y ≡ own → (x ≡ y → ⊥) → z ≡ there → IsTrue (nat_lt z 192) → (next : ℕ) → Spells msg at at (labels_in octets) next → ⊥
-otherwise_first msg octets at there own x y z whole t o xe ye ne ze low next s =
-    let below : z < 192 = grind (arith, nat_tests) in
-    ⊎_elim (λ (far : 192 ≤ get_or msg at 0). omega arith) (λ (alike : BeginsAlike msg at octets). ne (xe ∙ t ∙ alike.first ∙ sym o ∙ sym ye)) (begins_as msg octets at next whole s)
+-- what a position spells, and another length octet there, which is no pointer's
+module _ (msg octets : List ℕ) (position at len : ℕ) (whole : IsWhole octets) (here : at ≡ position) (own : len ≡ get_or octets 0 0) where
+  pub other_length : (there : ℕ) → (get_or msg at 0 ≡ len → ⊥) → there ≡ get_or msg at 0 → IsTrue (nat_lt there 192) → (next : ℕ) → Spells msg position position (labels_in octets) next → ⊥
+  other_length there differs is low next s =
+      let below : there < 192 = grind (arith, nat_tests) in
+      let first : get_or msg at 0 ≡ get_or msg position 0 = ap (λ (x : ℕ). get_or msg x 0) here in
+      ⊎_elim (λ (far : 192 ≤ get_or msg position 0). omega arith) (λ (alike : BeginsAlike msg position octets). differs (first ∙ alike.first ∙ sym own)) (begins_as msg octets position next whole s)
 
--- another last octet of the first label
-pub otherwise_last : (msg octets : List ℕ) (at there own x n last own_last : ℕ) → IsWhole octets → there ≡ get_or msg at 0 → own ≡ get_or octets 0 0 → x ≡ there → n ≡ own → x ≡ n → last ≡ get_or msg (at + n) 0 → own_last ≡ get_or octets n 0 → IsTrue (not (last == own_last)) → (next : ℕ) → Spells msg at at (labels_in octets) next → ⊥
-otherwise_last msg octets at there own x n last own_last whole t o xe ne same le oe differs next s =
-    let short = first_short octets whole in
-    let other : (last ≡ own_last → ⊥) = grind (arith, nat_tests) in
-    ⊎_elim (λ (far : 192 ≤ get_or msg at 0). omega arith) (λ (alike : BeginsAlike msg at octets). other (le ∙ alike.last n (ne ∙ o) ∙ sym oe)) (begins_as msg octets at next whole s)
+  -- another octet of the first label
+  other_octet : (k : ℕ) → get_or msg at 0 ≡ len → k ≤ len → (get_or msg (position + k) 0 ≡ get_or octets k 0 → ⊥) → (next : ℕ) → Spells msg position position (labels_in octets) next → ⊥
+  other_octet k same low differs next s =
+      let short = first_short octets whole in
+      let first : get_or msg at 0 ≡ get_or msg position 0 = ap (λ (x : ℕ). get_or msg x 0) here in
+      ⊎_elim (λ (far : 192 ≤ get_or msg position 0). omega arith) (λ (alike : BeginsAlike msg position octets). differs (alike.each k (omega arith))) (begins_as msg octets position next whole s)
+
+  -- its last
+  pub other_last : (wide last : ℕ) → wide ≡ len → get_or msg at 0 ≡ len → last ≡ get_or octets len 0 → IsTrue (not (get_or msg (at + wide) 0 == last)) → (next : ℕ) → Spells msg position position (labels_in octets) next → ⊥
+  other_last wide last same first is differs =
+      let other : (get_or msg (at + wide) 0 ≡ last → ⊥) = grind (arith, nat_tests) in
+      let there : position + len ≡ at + wide = omega arith in
+      other_octet len first (omega arith) (λ e. other (sym (ap (λ (x : ℕ). get_or msg x 0) there) ∙ e ∙ sym is))
+
+  -- or the one in front of it
+  pub other_near : (wide : ℕ) → wide ≡ len → get_or msg at 0 ≡ len → (len ≡ 0 → ⊥) × (get_or msg (at + wide - 1) 0 ≡ get_or octets (len - 1) 0 → ⊥) → (next : ℕ) → Spells msg position position (labels_in octets) next → ⊥
+  other_near wide same first differs =
+      let some = differs.0 in
+      let there : position + (len - 1) ≡ at + wide - 1 = omega arith in
+      other_octet (len - 1) first (omega arith) (λ e. differs.1 (sym (ap (λ (x : ℕ). get_or msg x 0) there) ∙ e))
+
+-- a table's position is in the message, and so is the label there
+first_within : (msg : List ℕ) (run at next : ℕ) (name : List (List ℕ)) → Spells msg run at name next → get_or msg at 0 < 192 → at + get_or msg at 0 < length msg
+first_within msg run at next _ (closing p e) low =
+    let zero = first_at msg at Closing p in
+    let within = part_within msg at Closing p in
+    omega arith
+first_within msg run at next _ (label {n = n} p e s) low =
+    let first = first_at msg at (Label n) p in
+    let is = IsLabelAt-part msg at n p in
+    let within = is.within in
+    omega arith
+first_within msg run at next name (pointer {target = target} p g s e) low =
+    let far = first_at msg at (Pointer target) p in
+    omega arith
+
+module _ (msg octets : List ℕ) (position at : ℕ) (target : IsTarget msg position) (here : at ≡ position) where
+  pub target_within : at < length msg
+  target_within = let own = target_spells msg position target in let within = spells_within msg position position own.0 (spelt_at msg position) own.1 in omega arith
+
+  pub label_within : (len wide : ℕ) → IsWhole octets → len ≡ get_or octets 0 0 → wide ≡ len → get_or msg at 0 ≡ len → at + wide < length msg
+  label_within len wide whole is same first =
+      let short = first_short octets whole in
+      let own = target_spells msg position target in
+      let there : get_or msg at 0 ≡ get_or msg position 0 = ap (λ (x : ℕ). get_or msg x 0) here in
+      let within = first_within msg position position own.0 (spelt_at msg position) own.1 (omega arith) in
+      omega arith

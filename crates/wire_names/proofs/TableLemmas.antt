@@ -210,6 +210,10 @@ positions_in-at msg positions i x name b table within here answers =
     let list : drop i positions ≡ x ∷ drop (i + 1) positions = cc in
     ap (λ (xs : List ℕ). positions_in (table_of msg xs) name) list ∙ positions_in-step msg (drop (i + 1) positions) x name b target answers
 
+-- each of a table's positions is one that a pointer can name
+pub target_at : (msg own items : List ℕ) (i : ℕ) → IsTable msg own → items ≡ own → i < length items → IsTarget msg (get_or items i 0)
+target_at msg own items i table same within = subst (IsTable msg) (sym same) table i 0 within
+
 -- where positions ascend, those behind an index are above the one there
 above_at : (xs : List ℕ) (i : ℕ) → IsStrictlyIncreasing xs → i < length xs → All (λ y. get_or xs i 0 < y) (drop (i + 1) xs)
 above_at xs i up within k d h =

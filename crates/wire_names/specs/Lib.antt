@@ -3,5 +3,6 @@ pub mod Examples
 pub mod NameAt
 pub mod Parts
 pub mod Spells
+pub mod Start
 pub mod Table
 pub mod Written

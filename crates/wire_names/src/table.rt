@@ -1,9 +1,10 @@
 //! The names of a message that pointers can name.
-ghost use Rattle.std.specs.Prelude.{◌≡◌, ℕ, ◌+◌, ◌<◌, ◌^◌, ◌↔◌, [], length, take, IsTrue};
+ghost use Rattle.std.specs.Prelude.{◌≡◌, ℕ, ◌+◌, ◌-◌, ◌<◌, ◌^◌, ◌↔◌, [], length, take, IsTrue, slice_index_or};
 ghost use Rattle.std.specs.List.Sorted.{IsStrictlyIncreasing};
 ghost use Rattle.dns_name.specs.Labels.{labels_in, IsWhole};
 ghost use Rattle.wire_names.specs.Spells.{Spells};
-ghost use Rattle.wire_names.specs.Table.{IsTable, table_of, position_in, enter, entered};
+ghost use Rattle.wire_names.specs.Start.{IsStart};
+ghost use Rattle.wire_names.specs.Table.{IsTable, IsTarget, table_of, position_in, enter, entered};
 ghost use Rattle.wire_names.specs.Written.{starts_of};
 
 use crate::label::first_label;
@@ -48,8 +49,9 @@ impl Positions {
         requires whole { IsWhole octets.now }
         ensures { result ≡ position_in (table_of msg.now self.now) (labels_in octets.now) }
     {
+        let start = start_of(octets);
         for position in self.own.as_slice() {
-            if is_spelt(msg, usize::from(*position), octets) {
+            if is_spelt(msg, *position, start, octets) {
                 return Some(*position);
             }
         }
@@ -85,34 +87,74 @@ impl Positions {
     }
 }
 
-/// Whether the octets at a position spell the name in these octets, case included.
-fn is_spelt(msg: &[u8], at: usize, octets: &[u8]) -> bool
-    requires { IsWhole octets.now }
-    ensures { IsTrue result ↔ ((next : ℕ) × Spells msg.now at at (labels_in octets.now) next) }
+/// What is seen at once of a name: how many octets its first label has, and the last of them.
+#[derive(Clone, Copy)]
+struct Start {
+    len: u8,
+    last: u8,
+}
+
+/// What is seen at once of the name in these octets.
+fn start_of(octets: &[u8]) -> Start
+    ensures { IsStart octets.now result }
 {
-    if begins_otherwise(msg, at, octets) {
+    let len = octet_at(octets, 0);
+    Start {
+        len,
+        last: octet_at(octets, usize::from(len)),
+    }
+}
+
+/// The octet at an index, or 0 behind the end.
+fn octet_at(octets: &[u8], index: usize) -> u8
+    ensures { result ≡ slice_index_or octets.now index 0 }
+{
+    match octets.get(index) {
+        Some(octet) => *octet,
+        None => 0,
+    }
+}
+
+/// Whether the octets at a position spell the name in these octets, case included.
+fn is_spelt(msg: &[u8], position: u16, start: Start, octets: &[u8]) -> bool
+    requires target { IsTarget msg.now position }
+    requires whole { IsWhole octets.now }
+    requires start { IsStart octets.now start }
+    ensures { IsTrue result ↔ ((next : ℕ) × Spells msg.now position position (labels_in octets.now) next) }
+{
+    if begins_otherwise(msg, position, start, octets) {
         return false;
     }
-    spells(msg, at, octets)
+    spells(msg, usize::from(position), octets)
 }
 
 /// Whether a label at a position is seen at once to be another than the first of these octets: one of another length, or of
-/// another last octet. Most positions of a table are passed over by it.
-fn begins_otherwise(msg: &[u8], at: usize, octets: &[u8]) -> bool
-    requires { IsWhole octets.now }
-    ensures { IsTrue result → (next : ℕ) → Spells msg.now at at (labels_in octets.now) next → ⊥ }
+/// other octets at its end. Most positions of a table are passed over by it.
+fn begins_otherwise(msg: &[u8], position: u16, start: Start, octets: &[u8]) -> bool
+    requires target { IsTarget msg.now position }
+    requires whole { IsWhole octets.now }
+    requires start { IsStart octets.now start }
+    ensures { IsTrue result → (next : ℕ) → Spells msg.now position position (labels_in octets.now) next → ⊥ }
 {
-    let (Some(there), Some(own)) = (msg.get(at), octets.first()) else {
+    let at = usize::from(position);
+    if msg[at] != start.len {
+        return usize::from(msg[at]) < POINTER;
+    }
+    let len = usize::from(start.len);
+    let end = at + len;
+    msg[end] != start.last || is_other_near_the_end(msg, end, start, octets)
+}
+
+/// Whether the octet in front of the last one of a label, which stands at this position, is another than that of the first of
+/// these octets.
+fn is_other_near_the_end(msg: &[u8], end: usize, start: Start, octets: &[u8]) -> bool
+    requires within { end < length msg.now }
+    ensures { IsTrue result → (start.len ≡ 0 → ⊥) × (slice_index_or msg.now (end - 1) 0 ≡ slice_index_or octets.now (start.len - 1) 0 → ⊥) }
+{
+    if start.len == 0 {
         return false;
-    };
-    let len = usize::from(*own);
-    if usize::from(*there) != len {
-        return usize::from(*there) < POINTER;
     }
-    match (msg.get(at + len), octets.get(len)) {
-        (Some(last), Some(own)) => last != own,
-        _ => false,
-    }
+    octet_at(msg, end.saturating_sub(1)) != octet_at(octets, usize::from(start.len) - 1)
 }
 
 /// Whether the octets at a position spell the name in these octets, label by label.

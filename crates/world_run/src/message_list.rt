@@ -6,7 +6,6 @@ use crate::step::Octets;
 use std::alloc::Global;
 use std::marker::Model;
 use transfer_core::{ChainView, MAX_MESSAGE, Packer};
-use zone_tree::ZoneRead;
 
 /// The messages of a transfer, in turn. Contracts see the list of their octets.
 #[derive(Drop)]
@@ -32,9 +31,9 @@ impl MessageList {
 }
 
 /// The messages that are left of a transfer.
-pub(crate) fn all_messages<Z: ZoneRead, C: ChainView>(
+pub(crate) fn all_messages<C: ChainView>(
     alloc: Global,
-    packer: Packer<'_, Z, C>,
+    packer: Packer<'_, C>,
 ) -> Result<MessageList, WorldFault>
     ensures ok { IfOk result (λ list. list ≡ packer.entry) }
     ensures refused { IfErr result (λ fault. fault ≡ WorldFault.NoMemory) }

@@ -1,28 +1,27 @@
 -- What stands at a name, behind it and below it, by the owners of the sets.
-use Rattle.std.proofs.Common.{◌≡◌, refl, sym, ap, ◌∙◌, subst, ℕ, ◌<◌, Bool, true, false, ◌&&◌, ◌||◌, cond, List, [], ◌∷◌, ◌++◌, length, arith, append-nil, true≢false, Option, Some, None, Bor}
+use Rattle.std.proofs.Common.{◌≡◌, refl, sym, ap, ◌∙◌, subst, ℕ, ◌<◌, Bool, true, false, ◌||◌, cond, List, [], ◌∷◌, ◌++◌, length, arith, append-nil, true≢false, Option, Some, None, Bor}
 use Rattle.std.specs.Global.{Vec}
 use Rattle.std.specs.declared.cmp.Ordering.{Ordering}
 use Rattle.std.specs.declared.cmp.Ordering.TheVariants.{Less, Equal, Greater}
-use Rattle.std.specs.List.{filter, find, list_any, All, AllByRecursion}
+use Rattle.std.specs.List.{filter, find, list_any, AllByRecursion}
 use Rattle.std.specs.Prelude.{◌==◌}
 use Rattle.std.specs.Option.{option_map, option_to_list, option_copied, is_some, MatchOption}
 use Rattle.std.specs.Ordering.{is_lt, is_gt, is_eq, ordering_reverse}
 use Rattle.std.specs.Cmp.{Equal-is}
-use Rattle.std.proofs.lemmas.Cmp.{tied_itself}
-use Rattle.std.proofs.lemmas.List.Elements.{filter-append, All-filter}
+use Rattle.std.proofs.lemmas.List.Elements.{filter-append}
 use Rattle.std.proofs.lemmas.List.Folds.{list_any-append}
 use Rattle.dns_name.specs.Name.{is_same, is_under, canonical_cmp}
 use Rattle.dns_name.specs.Order.{is_same_equiv, is_same_tied}
 use Rattle.dns_rdata.specs.Numbers.{type_SOA}
 use Rattle.dns_rdata.specs.Record.{Record, owner_of, rtype_of}
-use Rattle.shared_tree.specs.Pairs.{IsAscending, value_at, pair_at, pair_after, pairs_above, pairs_behind, first_pair}
-use Rattle.shared_tree.proofs.PairLemmas.{filter_ascends, none_at_below}
+use Rattle.shared_tree.specs.Pairs.{IsAscending, value_at, pair_at, pair_after}
+use Rattle.shared_tree.proofs.PairLemmas.{none_at_below}
 use Rattle.zone_tree.specs.Zone.{rrsets_of, rrset_of, exists, soa_of}
-use Rattle.zone_tree.specs.Sets.{records_in, IsSetBefore, IsRRset, AreWhole, records_behind, rrsets_after}
+use Rattle.zone_tree.specs.Sets.{records_in, AreWhole}
 use Rattle.zone_tree.specs.Filed.{Filed, sets_under, records_under, IsFiled, AreFiled, AreKept, items_of}
 use Rattle.zone_tree.proofs.NameOrder.{canonical_total, folds_from_same, under_from_front, under_between}
-use Rattle.zone_tree.proofs.Rising.{filter_alike, any_alike, each_weaker, each_filter, Rises, rises_from_pairs, pairs_from_rises, Rises-filter, filter_one}
-use Rattle.zone_tree.proofs.SetLemmas.{filter_by_sets, any_by_sets, some_each}
+use Rattle.zone_tree.proofs.Rising.{filter_alike, any_alike, each_weaker, Rises, filter_one}
+use Rattle.zone_tree.proofs.SetLemmas.{filter_by_sets, any_by_sets}
 use Rattle.zone_tree.proofs.LookLemmas.{lt_not_under, rrset_found}
 use Rattle.zone_tree.proofs.LawLemmas.{soa_is_at_apex}
 use Rattle.zone_tree.proofs.ZoneLemmas.{kept_whole}
@@ -51,20 +50,6 @@ module _ (t : List (List ℕ) → Bool) where
   any_under (pair ∷ pairs) h =
       list_any-append (λ set. t (owner_of set)) pair.1.items (sets_under pairs)
       ∙ rw (any_alike (λ set. t (owner_of set)) (t pair.0) pair.1.items h.0.some (alike (t pair.0) pair.0 pair.1.items refl h.0.own), any_under pairs h.1) refl
-
-  -- the owners that it keeps are in order, and so are their sets
-  pub filed_filter : (pairs : List Filed) → AreFiled pairs → AreFiled (filter (λ pair. t pair.0) pairs)
-  filed_filter pairs h =
-      let kept = filter_under pairs h.each in
-      let order : Rises IsSetBefore (filter (λ set. t (owner_of set)) (sets_under pairs)) = Rises-filter (λ set. t (owner_of set)) IsSetBefore (sets_under pairs) (rises_from_pairs IsSetBefore (sets_under pairs) h.rising.ascending) in
-      record {
-        rising = record {
-          each = subst (All IsRRset) kept (All-filter (λ set. t (owner_of set)) IsRRset (sets_under pairs) h.rising.each);
-          ascending = pairs_from_rises IsSetBefore (sets_under (filter (λ pair. t pair.0) pairs)) (subst (Rises IsSetBefore) kept order);
-        };
-        each = each_filter (λ pair. t pair.0) IsFiled pairs h.each;
-        ascends = filter_ascends canonical_cmp (λ pair. t pair.0) pairs h.ascends;
-      }
 
 -- owners differ
 apart_by : (o : Bool) (name : List (List ℕ)) (p q : Filed) → is_eq (canonical_cmp name p.0) ≡ o → canonical_cmp p.0 q.0 ≡ Less → o ≡ true → is_eq (canonical_cmp name q.0) ≡ false
@@ -145,67 +130,11 @@ rrsets_at_key pairs h name = ap records_in (sym (sets_at_key pairs h name)) ∙ 
 pub whole_at_key : (pairs : List Filed) → AreFiled pairs → (name : List (List ℕ)) → AreWhole (records_under pairs) (items_of (value_at canonical_cmp name pairs))
 whole_at_key pairs h name = subst (AreWhole (records_under pairs)) (sets_at_key pairs h name) (kept_whole (sets_under pairs) h.rising (λ set. is_same (owner_of set) name))
 
--- the owners behind a name, and their sets
-behind_filed : (last : Option (List (List ℕ))) (pairs : List Filed) → AreFiled pairs → AreFiled (pairs_behind canonical_cmp last pairs)
-behind_filed None pairs h = h
-behind_filed (Some last) pairs h = filed_filter (λ name. is_lt (canonical_cmp last name)) pairs h
-
-behind_records : (last : Option (List (List ℕ))) (pairs : List Filed) → AreFiled pairs → records_behind last (records_under pairs) ≡ records_under (pairs_behind canonical_cmp last pairs)
-behind_records None pairs h = refl
-behind_records (Some last) pairs h =
-    filter_by_sets (λ owner _. is_lt (canonical_cmp last owner)) (sets_under pairs) h.rising.each ∙ ap records_in (filter_under (λ name. is_lt (canonical_cmp last name)) pairs h.each)
-
--- the sets of the first owner
-abbrev pub first_sets : List Filed → List (List Record)
-first_sets pairs = items_of (option_map (λ pair. pair.1) (first_pair pairs))
-
+-- the owner of the records of sets is that of the first of them
 pub owner_first : (items rest : List (List Record)) (name : List (List ℕ)) → 0 < length items → AllByRecursion (λ set. 0 < length set) (items ++ rest) → AllByRecursion (λ set. owner_of set ≡ name) items → owner_of (records_in (items ++ rest)) ≡ name
 owner_first [] rest name l h k = absurd (omega arith)
 owner_first ([] ∷ items) rest name l h k = absurd (omega (arith, h.0))
 owner_first ((r ∷ rs) ∷ items) rest name l h k = k.0
-
-own_value : (pair : Filed) (pairs : List Filed) → value_at canonical_cmp pair.0 (pair ∷ pairs) ≡ Some pair.1
-own_value pair pairs = ap (λ o. option_map (λ (p : Filed). p.1) (cond (is_eq o) (Some pair) (pair_at canonical_cmp pair.0 pairs))) (tied_itself canonical_total pair.0)
-
-first_records : (pairs : List Filed) → AreFiled pairs → records_in (first_sets pairs) ≡ rrsets_of (records_under pairs) (owner_of (records_under pairs))
-first_records [] h = refl
-first_records (pair ∷ pairs) h =
-    let owner = owner_first pair.1.items (sets_under pairs) pair.0 h.each.0.some (some_each (sets_under (pair ∷ pairs)) h.rising.each) h.each.0.own in
-    ap (λ o. records_in (items_of o)) (sym (own_value pair pairs)) ∙ rrsets_at_key (pair ∷ pairs) h pair.0 ∙ ap (rrsets_of (records_under (pair ∷ pairs))) (sym owner)
-
--- are those of the first owner behind a name
-pub next_records : (last : Option (List (List ℕ))) (pairs : List Filed) → AreFiled pairs → records_in (first_sets (pairs_behind canonical_cmp last pairs)) ≡ rrsets_after last (records_under pairs)
-next_records last pairs h =
-    first_records (pairs_behind canonical_cmp last pairs) (behind_filed last pairs h) ∙ (λ i. rrsets_of (sym (behind_records last pairs h) i) (owner_of (sym (behind_records last pairs h) i)))
-
--- and whole
-filter_both : {X : Type 0} (p q : X → Bool) (xs : List X) → filter p (filter q xs) ≡ filter (λ x. q x && p x) xs
-filter_both p q [] = refl
-filter_both {X} p q (x ∷ xs) = by (q x) (filter_both p q xs)
-  where
-    by : (b : Bool) → filter p (filter q xs) ≡ filter (λ y. q y && p y) xs → filter p (cond b (x ∷ filter q xs) (filter q xs)) ≡ cond (b && p x) (x ∷ filter (λ y. q y && p y) xs) (filter (λ y. q y && p y) xs)
-    by true e = ap (λ l. cond (p x) (x ∷ l) l) e
-    by false e = e
-
-none_whole : (zone : List Record) → AreWhole zone []
-none_whole zone = record {
-  some = λ k d l. absurd (omega arith);
-  whole = λ k d l. absurd (omega arith);
-  ascending = λ i j d l m. absurd (omega arith);
-}
-
-first_whole : (zone : List Record) (pairs : List Filed) → AreFiled pairs → ((name : List (List ℕ)) → AreWhole zone (filter (λ set. is_same (owner_of set) name) (sets_under pairs))) → AreWhole zone (first_sets pairs)
-first_whole zone [] h whole = none_whole zone
-first_whole zone (pair ∷ pairs) h whole =
-    subst (AreWhole zone) (sets_at_key (pair ∷ pairs) h pair.0 ∙ ap items_of (own_value pair pairs)) (whole pair.0)
-
-pub next_whole : (last : Option (List (List ℕ))) (pairs : List Filed) → AreFiled pairs → AreWhole (records_under pairs) (first_sets (pairs_behind canonical_cmp last pairs))
-next_whole None pairs h = first_whole (records_under pairs) pairs h (λ name. kept_whole (sets_under pairs) h.rising (λ set. is_same (owner_of set) name))
-next_whole (Some last) pairs h =
-    first_whole (records_under pairs) (pairs_above canonical_cmp last pairs) (behind_filed (Some last) pairs h)
-    (λ name. subst (AreWhole (records_under pairs))
-    (sym (ap (filter (λ set. is_same (owner_of set) name)) (sym (filter_under (λ other. is_lt (canonical_cmp last other)) pairs h.each)) ∙ filter_both (λ set. is_same (owner_of set) name) (λ set. is_lt (canonical_cmp last (owner_of set))) (sets_under pairs)))
-    (kept_whole (sets_under pairs) h.rising (λ set. is_lt (canonical_cmp last (owner_of set)) && is_same (owner_of set) name)))
 
 -- whether a name exists, by what the calls give
 module _ (pairs : List Filed) (h : AreFiled pairs) (name : List (List ℕ)) (at : Option (Bor (Vec (List Record)))) (is : option_copied at ≡ value_at canonical_cmp name pairs) where

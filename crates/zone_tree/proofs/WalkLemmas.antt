@@ -1,26 +1,25 @@
 -- Records as sets, and a walk over them, one owner's behind another's.
-use Rattle.std.proofs.Common.{◌≡◌, refl, sym, ap, ◌∙◌, subst, ℕ, zero, suc, ◌<◌, Bool, true, false, ◌&&◌, cond, List, [], ◌∷◌, ◌++◌, length, arith, true≢false, eqb-true, eq-eqb, Option, Some, None, Bor, slice_get}
-use Rattle.std.specs.Option.{option_copied, option_map}
+use Rattle.std.proofs.Common.{◌≡◌, refl, sym, ap, ◌∙◌, subst, ℕ, ◌<◌, Bool, true, false, ◌&&◌, cond, List, [], ◌∷◌, ◌++◌, length, arith, true≢false, eqb-true, eq-eqb}
 use Rattle.std.specs.Prelude.{◌==◌}
 use Rattle.std.specs.declared.cmp.Ordering.{Ordering}
 use Rattle.std.specs.declared.cmp.Ordering.TheVariants.{Less, Equal, Greater}
-use Rattle.std.specs.List.{filter, AllByRecursion}
-use Rattle.std.specs.Ordering.{nat_cmp, is_lt, is_gt, is_eq, ordering_then}
+use Rattle.std.specs.List.{AllByRecursion}
+use Rattle.std.specs.Ordering.{nat_cmp, is_gt, ordering_then}
 use Rattle.std.specs.Cmp.{first_so, second_so}
 use Rattle.std.specs.Cmp.Lexicographic.{slice_cmp}
-use Rattle.std.proofs.lemmas.Cmp.{tied_itself, tied_back, alike_right}
+use Rattle.std.proofs.lemmas.Cmp.{alike_right}
 use Rattle.std.proofs.lemmas.List.Elements.{recursion_from_All}
 use Rattle.dns_name.specs.Name.{is_same, canonical_cmp}
-use Rattle.dns_name.specs.Order.{is_same_equiv, is_same_tied}
+use Rattle.dns_name.specs.Order.{is_same_equiv}
 use Rattle.dns_rdata.specs.Record.{Record, owner_of, rtype_of}
-use Rattle.shared_tree.proofs.PairLemmas.{each_passes, filter_all, filter_none, each_front, each_behind}
-use Rattle.zone_tree.specs.Zone.{IsZone, IsBefore, is_of, stands_at, rrsets_of, rrset_of}
-use Rattle.zone_tree.specs.Sets.{records_in, IsSetBefore, AreWhole, records_behind, rrsets_after, in_front, sets_in}
-use Rattle.zone_tree.specs.Walk.{sets_left, IsOnTheWay, AreNext}
-use Rattle.zone_tree.proofs.NameOrder.{canonical_total, tie_from_same}
-use Rattle.zone_tree.proofs.Rising.{each_weaker, each_append, Rises, rises_from_pairs, Rises-filter}
+use Rattle.shared_tree.proofs.PairLemmas.{each_passes}
+use Rattle.zone_tree.specs.Zone.{IsBefore, is_of, rrset_of}
+use Rattle.zone_tree.specs.Sets.{records_in, IsSetBefore, AreWhole, in_front, sets_in}
+use Rattle.zone_tree.specs.Filed.{Filed, sets_under, records_under, AreFiled}
+use Rattle.zone_tree.proofs.NameOrder.{canonical_total}
+use Rattle.zone_tree.proofs.Rising.{each_weaker, each_append, Rises, rises_from_pairs}
 use Rattle.zone_tree.proofs.LookLemmas.{not_both, owner_by, is_false}
-use Rattle.zone_tree.proofs.SetLemmas.{less}
+use Rattle.zone_tree.proofs.ZoneLemmas.{sets_whole}
 
 -- the records of sets are the records
 front_kept : (r : Record) (sets : List (List Record)) → records_in (in_front r sets) ≡ r ∷ records_in sets
@@ -138,25 +137,6 @@ module _ where
       (whole_each zone sets (recursion_from_All (λ set. 0 < length set) sets h.some) (recursion_from_All (λ set. set ≡ rrset_of zone (owner_of set) (rtype_of set)) sets h.whole))
       (rises_from_pairs IsSetBefore sets h.ascending)
 
--- the records behind two names that tie are the same
-pub same_behind : (zone : List Record) (name other : List (List ℕ)) → canonical_cmp name other ≡ Equal → records_behind (Some name) zone ≡ records_behind (Some other) zone
-same_behind zone name other e = λ i. filter (λ r. is_lt (canonical_total.congr name other r.owner e i)) zone
-
--- the first of the sets that are left of an owner
-own_next : (last : Option (List (List ℕ))) (zone : List Record) (set : List Record) (rest : List (List Record)) → IsOnTheWay zone last (set ∷ rest) → AreNext zone (sets_left zone last (set ∷ rest)) (set ∷ rest)
-own_next None zone set rest h = absurd h.own.0
-own_next (Some last) zone set rest h = (
-  record {
-    lawful = h.lawful;
-    own = each_weaker (λ other. canonical_cmp last (owner_of other) ≡ Equal) (λ other. canonical_cmp (owner_of set) (owner_of other) ≡ Equal) (λ other e. sym (canonical_total.congr last (owner_of set) (owner_of other) h.own.0) ∙ e) rest h.own.1;
-  },
-  ap (λ l. (set ∷ rest) ++ sets_in l) (same_behind zone last (owner_of set) h.own.0),
-)
-
-pub rest_next : (zone : List Record) (last : Option (List (List ℕ))) (rest : List (List Record)) → 0 < length rest → IsOnTheWay zone last rest → AreNext zone (sets_left zone last rest) rest
-rest_next zone last [] l h = absurd (omega arith)
-rest_next zone last (set ∷ rest) l h = own_next last zone set rest h
-
 -- a name that isn't after one that another is before
 pub behind_by : (name : List (List ℕ)) (x y : Record) (o : Ordering) → canonical_cmp x.owner y.owner ≡ o → is_gt o ≡ false → canonical_cmp name x.owner ≡ Less → canonical_cmp name y.owner ≡ Less
 behind_by name x y Less e h f = canonical_total.trans name x.owner y.owner f e
@@ -166,124 +146,6 @@ behind_by name x y Greater e h f = absurd (true≢false h)
 pub owners_rise : (x y : Record) → IsBefore x y → is_gt (canonical_cmp x.owner y.owner) ≡ false
 owners_rise x y h = owner_by (canonical_cmp x.owner y.owner) (ordering_then (nat_cmp x.rtype y.rtype) (slice_cmp nat_cmp x.rdata y.rdata)) h
 
--- records in order, none before a name, are those at it and then those behind it
-parted : (name : List (List ℕ)) (xs : List Record) → Rises IsBefore xs → AllByRecursion (λ x. is_gt (canonical_cmp name x.owner) ≡ false) xs → xs ≡ filter (stands_at name) xs ++ filter (λ r. is_lt (canonical_cmp name r.owner)) xs
-parted name [] h k = refl
-parted name (x ∷ xs) h k = by (canonical_cmp name x.owner) refl k.0 (parted name xs h.1 k.1)
-  where
-    stands : (y : Record) → stands_at name y ≡ is_eq (canonical_cmp name y.owner)
-    stands y = is_same_equiv.symm y.owner name ∙ is_same_tied name y.owner
-
-    by : (o : Ordering) → canonical_cmp name x.owner ≡ o → is_gt o ≡ false → xs ≡ filter (stands_at name) xs ++ filter (λ r. is_lt (canonical_cmp name r.owner)) xs
-        → x ∷ xs ≡ filter (stands_at name) (x ∷ xs) ++ filter (λ r. is_lt (canonical_cmp name r.owner)) (x ∷ xs)
-    by Less e f rest =
-        let all : AllByRecursion (λ y. canonical_cmp name y.owner ≡ Less) xs = each_weaker (IsBefore x) (λ y. canonical_cmp name y.owner ≡ Less) (λ y b. behind_by name x y (canonical_cmp x.owner y.owner) refl (owners_rise x y b) e) xs h.0 in
-        let none : filter (stands_at name) (x ∷ xs) ≡ [] = filter_none (stands_at name) (x ∷ xs) (stands x ∙ ap is_eq e, each_weaker (λ y. canonical_cmp name y.owner ≡ Less) (λ y. stands_at name y ≡ false) (λ y g. stands y ∙ ap is_eq g) xs all) in
-        let kept : filter (λ r. is_lt (canonical_cmp name r.owner)) (x ∷ xs) ≡ x ∷ xs = filter_all (λ r. is_lt (canonical_cmp name r.owner)) (x ∷ xs) (ap is_lt e, each_weaker (λ y. canonical_cmp name y.owner ≡ Less) (λ y. is_lt (canonical_cmp name y.owner) ≡ true) (λ y g. ap is_lt g) xs all) in
-        sym (ap (λ l. l ++ filter (λ r. is_lt (canonical_cmp name r.owner)) (x ∷ xs)) none ∙ kept)
-    by Equal e f rest =
-        let at : stands_at name x ≡ true = stands x ∙ ap is_eq e in
-        let here : filter (stands_at name) (x ∷ xs) ≡ x ∷ filter (stands_at name) xs = ap (λ b. cond b (x ∷ filter (stands_at name) xs) (filter (stands_at name) xs)) at in
-        let there : filter (λ r. is_lt (canonical_cmp name r.owner)) (x ∷ xs) ≡ filter (λ r. is_lt (canonical_cmp name r.owner)) xs = ap (λ o. cond (is_lt o) (x ∷ filter (λ r. is_lt (canonical_cmp name r.owner)) xs) (filter (λ r. is_lt (canonical_cmp name r.owner)) xs)) e in
-        ap (λ l. x ∷ l) rest ∙ sym (λ i. here i ++ there i)
-    by Greater e f rest = absurd (true≢false f)
-
--- of what a weaker test keeps, a test keeps what it keeps of all
-filter_within : {X : Type 0} (p q : X → Bool) → ((x : X) → p x ≡ true → q x ≡ true) → (xs : List X) → filter p (filter q xs) ≡ filter p xs
-filter_within p q f [] = refl
-filter_within {X} p q f (x ∷ xs) = by (p x) (q x) refl (f x) (filter_within p q f xs)
-  where
-    by : (b c : Bool) → p x ≡ b → (p x ≡ true → c ≡ true) → filter p (filter q xs) ≡ filter p xs → filter p (cond c (x ∷ filter q xs) (filter q xs)) ≡ cond b (x ∷ filter p xs) (filter p xs)
-    by true true e g k = rw (e, k) refl
-    by true false e g k = absurd (true≢false (sym (g e)))
-    by false true e g k = rw (e, k) refl
-    by false false e g k = k
-
--- the records behind the first of those behind a name
-far_behind : (last : Option (List (List ℕ))) (zone : List Record) (b : Record) (bs : List Record) → records_behind last zone ≡ b ∷ bs → records_behind (Some b.owner) (records_behind last zone) ≡ records_behind (Some b.owner) zone
-far_behind None zone b bs e = refl
-far_behind (Some last) zone b bs e =
-    let first : is_lt (canonical_cmp last b.owner) ≡ true = (subst (AllByRecursion (λ r. is_lt (canonical_cmp last r.owner) ≡ true)) e (each_passes (λ r. is_lt (canonical_cmp last r.owner)) zone)).0 in
-    filter_within (λ r. is_lt (canonical_cmp b.owner r.owner)) (λ r. is_lt (canonical_cmp last r.owner))
-    (λ r h. ap is_lt (canonical_total.trans last b.owner r.owner (less (canonical_cmp last b.owner) first) (less (canonical_cmp b.owner r.owner) h))) zone
-
-rises_behind : (last : Option (List (List ℕ))) (zone : List Record) → Rises IsBefore zone → Rises IsBefore (records_behind last zone)
-rises_behind None zone h = h
-rises_behind (Some last) zone h = Rises-filter (λ r. is_lt (canonical_cmp last r.owner)) IsBefore zone h
-
--- the sets of the first owner behind a name, and those of the owners behind it
-module _ (zone : List Record) (lawful : IsZone zone) (last : Option (List (List ℕ))) (sets : List (List Record)) (whole : AreWhole zone sets) where
-  -- a record at the owner, and one behind it, aren't of one set
-  apart_owners : (name : List (List ℕ)) (r y : Record) → stands_at name r ≡ true → is_lt (canonical_cmp name y.owner) ≡ true → of_one r y ≡ false
-  apart_owners name r y h k =
-      let names : is_same r.owner y.owner ≡ false = is_same_equiv.congr r.owner name y.owner h ∙ is_same_tied name y.owner ∙ ap is_eq (less (canonical_cmp name y.owner) k) in
-      rw names refl
-
-  first_owner : (name : List (List ℕ)) (set : List Record) → 0 < length set → AllByRecursion (λ r. stands_at name r ≡ true) set → canonical_cmp name (owner_of set) ≡ Equal
-  first_owner name [] l h = absurd (omega arith)
-  first_owner name (r ∷ rs) l h = tied_back canonical_total r.owner name (tie_from_same r.owner name h.0)
-
-  each_owner : (name : List (List ℕ)) (others : List (List Record)) → AllByRecursion (λ set. 0 < length set) others → AllByRecursion (λ r. stands_at name r ≡ true) (records_in others) → AllByRecursion (λ set. canonical_cmp name (owner_of set) ≡ Equal) others
-  each_owner name [] h k = tt
-  each_owner name (set ∷ others) h k = (
-    first_owner name set h.0 (each_front (λ r. stands_at name r ≡ true) set (records_in others) k),
-    each_owner name others h.1 (each_behind (λ r. stands_at name r ≡ true) set (records_in others) k),
-  )
-
-  some_next : (b : Record) (bs : List Record) → records_behind last zone ≡ b ∷ bs → records_in sets ≡ rrsets_of (b ∷ bs) b.owner → AreNext zone (sets_in (records_behind last zone)) sets
-  some_next b bs e is =
-      let name = b.owner in
-      let behind = records_behind (Some name) zone in
-      let order : Rises IsBefore (b ∷ bs) = subst (Rises IsBefore) e (rises_behind last zone (rises_from_pairs IsBefore zone lawful.rules.ascending)) in
-      let parts = parted name (b ∷ bs) order (ap is_gt (tied_itself canonical_total name), each_weaker (IsBefore b) (λ y. is_gt (canonical_cmp name y.owner) ≡ false) (λ y f. owners_rise b y f) bs order.0) in
-      let far : records_behind (Some name) (b ∷ bs) ≡ behind = ap (records_behind (Some name)) (sym e) ∙ far_behind last zone b bs e in
-      let here : AllByRecursion (λ r. stands_at name r ≡ true) (records_in sets) = subst (AllByRecursion (λ r. stands_at name r ≡ true)) (sym is) (each_passes (stands_at name) (b ∷ bs)) in
-      let there : AllByRecursion (λ y. is_lt (canonical_cmp name y.owner) ≡ true) behind = each_passes (λ y. is_lt (canonical_cmp name y.owner)) zone in
-      let all : sets_in (records_behind last zone) ≡ sets ++ sets_in behind =
-      ap sets_in (e ∙ parts ∙ (λ i. sym is i ++ far i))
-      ∙ sets_joined (records_in sets) behind (each_weaker (λ r. stands_at name r ≡ true) (λ r. AllByRecursion (λ y. of_one r y ≡ false) behind) (λ r h. each_weaker (λ y. is_lt (canonical_cmp name y.owner) ≡ true) (λ y. of_one r y ≡ false) (λ y k. apart_owners name r y h k) behind there) (records_in sets) here)
-      ∙ ap (λ l. l ++ sets_in behind) (sets_from_whole zone sets whole) in
-      let owners = each_owner name sets (recursion_from_All (λ set. 0 < length set) sets whole.some) here in
-      let way : IsOnTheWay zone (Some name) sets = record { lawful = lawful; own = owners } in
-      subst (λ l. AreNext zone l sets) (sym all) (rest_next zone (Some name) sets (some_set sets b (is ∙ at_first)) way)
-    where
-      at_first : rrsets_of (b ∷ bs) b.owner ≡ b ∷ rrsets_of bs b.owner
-      at_first = ap (λ t. cond t (b ∷ rrsets_of bs b.owner) (rrsets_of bs b.owner)) (is_same_equiv.refl b.owner)
-
-      some_set : (others : List (List Record)) (r : Record) → records_in others ≡ r ∷ rrsets_of bs b.owner → 0 < length others
-      some_set [] r f = cc
-      some_set (set ∷ others) r f = omega arith
-
-  no_sets : (others : List (List Record)) → AllByRecursion (λ set. 0 < length set) others → records_in others ≡ [] → others ≡ []
-  no_sets [] h e = refl
-  no_sets ([] ∷ others) h e = absurd (omega (arith, h.0))
-  no_sets ((r ∷ rs) ∷ others) h e = cc
-
-  next_by : (behind : List Record) → records_behind last zone ≡ behind → records_in sets ≡ rrsets_of behind (owner_of behind) → AreNext zone (sets_in (records_behind last zone)) sets
-  next_by [] e is =
-      let none : sets ≡ [] = no_sets sets (recursion_from_All (λ set. 0 < length set) sets whole.some) is in
-      subst (λ l. AreNext zone (sets_in (records_behind last zone)) l) (sym none) (ap sets_in e)
-  next_by (b ∷ bs) e is = some_next b bs e is
-
-  pub owner_next : records_in sets ≡ rrsets_after last zone → AreNext zone (sets_in (records_behind last zone)) sets
-  owner_next is = next_by (records_behind last zone) refl is
-
-pub none_left : (sets : List (List Record)) → length sets ≡ 0 → sets ≡ []
-none_left [] e = refl
-none_left (set ∷ sets) e = absurd (omega arith)
-
--- a walk begins with the sets of the first owner
-module _ (zone : List Record) where
-  pub first_way : IsZone zone → (sets : List (List Record)) (first : Option (Bor (List Record))) → option_copied first ≡ slice_get sets 0 → AreNext zone (sets_in zone) sets → IsOnTheWay zone (option_map owner_of (option_copied first)) sets
-  first_way lawful [] first e next = record { lawful = lawful; own = tt }
-  first_way lawful (set ∷ sets) first e next =
-      subst (λ (o : Option (List Record)). IsOnTheWay zone (option_map owner_of o) (set ∷ sets)) (sym e)
-      (record { lawful = lawful; own = (tied_itself canonical_total (owner_of set), next.0.own) })
-
-  pub first_left : (sets : List (List Record)) (first : Option (Bor (List Record))) → option_copied first ≡ slice_get sets 0 → AreNext zone (sets_in zone) sets → sets_left zone (option_map owner_of (option_copied first)) sets ≡ sets_in zone
-  first_left [] first e next = ap (λ (o : Option (List Record)). sets_in (records_behind (option_map owner_of o) zone)) e
-  first_left (set ∷ sets) first e next = ap (λ (o : Option (List Record)). sets_left zone (option_map owner_of o) (set ∷ sets)) e ∙ sym next.1
-
-pub some_left : (n : ℕ) → n == 0 ≡ false → 0 < n
-some_left zero e = absurd (true≢false e)
-some_left (suc n) e = omega arith
+-- the sets under a zone's owners are the sets of its records
+pub sets_filed : (pairs : List Filed) → AreFiled pairs → sets_under pairs ≡ sets_in (records_under pairs)
+sets_filed pairs h = sym (sets_from_whole (records_under pairs) (sets_under pairs) (sets_whole (sets_under pairs) h.rising))

@@ -7,7 +7,6 @@ pub mod Filed
 pub mod Patch
 pub mod Sets
 pub mod Version
-pub mod Walk
 pub mod Zone
 pub use Rattle.dns_name.specs.Name
 pub use Rattle.dns_rdata.specs.Numbers

@@ -1,12 +1,12 @@
 -- A zone in pieces: its sets, each the records of one owner and type (RFC 2181, 5).
-use Rattle.std.specs.Prelude.{◌≡◌, ℕ, ◌<◌, ◌≤◌, true, false, ◌&&◌, ◌==◌, if◌then◌else◌, List, [], ◌∷◌, ◌≢◌, Option, Some, None, length, filter, All}
+use Rattle.std.specs.Prelude.{◌≡◌, ℕ, ◌<◌, ◌≤◌, true, false, ◌&&◌, ◌==◌, if◌then◌else◌, List, [], ◌∷◌, ◌≢◌, length, All}
 use Rattle.std.specs.List.{AllPairs, flat_map, slice_index_or}
 use Rattle.std.specs.Ordering.{nat_cmp, ordering_then, is_lt}
 use Rattle.std.specs.declared.cmp.Ordering.{Ordering}
 use Rattle.dns_name.specs.Name.{Name, is_same, is_under, canonical_cmp}
 use Rattle.dns_rdata.specs.Numbers.{type_NS}
 use Rattle.dns_rdata.specs.Record.{Record, IsLawful, owner_of, rtype_of, ttl_of}
-use Rattle.zone_tree.specs.Zone.{IsZone, IsBefore, apex_of, rrset_of, rrsets_of, is_of, is_alone, is_wild}
+use Rattle.zone_tree.specs.Zone.{IsZone, IsBefore, apex_of, rrset_of, is_of, is_alone, is_wild}
 
 -- the records of sets, one set after another
 abbrev pub records_in : List (List Record) → List Record
@@ -70,15 +70,6 @@ pub record AreJudged (sets : List (List Record)) (at : Name) (count : ℕ) : Typ
   pub apex : at ≡ apex_of (records_in sets)
   pub counted : count ≡ length (records_in sets)
   pub lawful : IsZone (records_in sets)
-
--- the records whose owners come behind a name, or all
-abbrev pub records_behind : Option Name → List Record → List Record
-records_behind None zone = zone
-records_behind (Some name) zone = filter (λ r. is_lt (canonical_cmp name r.owner)) zone
-
--- the records of the first owner behind a name, or of the first of all; none where no owner is left
-abbrev pub rrsets_after : Option Name → List Record → List Record
-rrsets_after name zone = rrsets_of (records_behind name zone) (owner_of (records_behind name zone))
 
 -- a record in front of sets: in the first one where it has its owner and type, and else in a set of its own
 abbrev pub in_front : Record → List (List Record) → List (List Record)

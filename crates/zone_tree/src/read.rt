@@ -1,10 +1,9 @@
 //! What a search asks of a zone.
 ghost use Rattle.std.specs.Prelude.{◌≡◌, ◌↔◌, List, [], length, IsNone, IfSome};
 ghost use Rattle.std.specs.List.{flat_map};
-ghost use Rattle.std.specs.Option.{option_copied};
 ghost use Rattle.dns_rdata.specs.Record.{Record};
 ghost use Rattle.zone_tree.specs.Zone.{IsZone, rrset_of, rrsets_of, exists, soa_of, apex_of};
-ghost use Rattle.zone_tree.specs.Sets.{AreWhole, rrsets_after, sets_in};
+ghost use Rattle.zone_tree.specs.Sets.{AreWhole, sets_in};
 
 use crate::walk::Walk;
 use dns_name::Name;
@@ -38,18 +37,8 @@ pub trait ZoneRead {
         ensures one { length result.now ≡ 1 }
         ensures lawful { IsZone (records self.now) };
 
-    /// All sets of the first owner behind a name in canonical order, or of the first of all, each in whole, by type
-    /// number; none where no owner is left (RFC 4034, 6.1). The records are a zone.
-    fn sets_after(&self, name: Option<&Name>) -> &[RRset]
-        ensures records { flat_map (λ set. set) result.now ≡ rrsets_after (option_copied name.entry) (records self.now) }
-        ensures whole { AreWhole (records self.now) result.now }
-        ensures lawful { IsZone (records self.now) };
-
     /// All sets, each in whole, in canonical order (RFC 4034, 6.1). It takes no memory.
-    final fn walk(&self) -> Walk<'_, Self>
+    fn walk(&self) -> Walk<'_>
         ensures sets { result ≡ sets_in (records self.now) }
-        ensures records { flat_map (λ set. set) result ≡ records self.now }
-    {
-        Walk::new(self)
-    }
+        ensures records { flat_map (λ set. set) result ≡ records self.now };
 }

@@ -1,63 +1,48 @@
 //! All sets of a zone in order.
 ghost use Rattle.std.specs.Iterator.{YieldsFirstRef, item_count};
-ghost use Rattle.std.specs.Prelude.{◌≡◌};
-ghost use Rattle.std.specs.List.{flat_map};
-ghost use Rattle.std.specs.Option.{option_copied, option_map};
-ghost use Rattle.dns_rdata.specs.Record.{owner_of};
-ghost use Rattle.zone_tree.specs.Sets.{sets_in};
-ghost use Rattle.zone_tree.specs.Walk.{IsOnTheWay, AreNext, sets_left};
+ghost use Rattle.std.specs.Prelude.{◌≡◌, ◌++◌, []};
+ghost use Rattle.std.specs.List.{AllByRecursion};
+ghost use Rattle.zone_tree.specs.Filed.{IsFiled, sets_under};
 
-use crate::read::ZoneRead;
+use crate::key::OwnerKey;
 use dns_rdata::RRset;
 use std::marker::Model;
 
-/// The sets of a zone that are left, in canonical order (RFC 4034, 6.1). It asks the zone for one owner's sets after
-/// another's, and takes no memory. Contracts see the list of the sets that are left.
-pub struct Walk<'a, Z: ZoneRead> {
-    zone: &'a Z,
+/// The owners of a zone that are left, with their sets.
+type OwnersLeft<'a> = shared_tree::Walk<'a, OwnerKey, Vec<RRset>>;
+
+/// The sets of a zone that are left, in canonical order (RFC 4034, 6.1): one owner's behind another's. It takes no memory.
+/// Contracts see the list of the sets that are left.
+#[derive(Drop)]
+pub struct Walk<'a> {
     rest: &'a [RRset],
-    last: Option<&'a RRset>,
+    owners: OwnersLeft<'a>,
 }
 
-impl<'a, Z: ZoneRead> Model for Walk<'a, Z> {
-    ghost use Rattle.std.specs.Prelude.{List};
-    ghost use Rattle.std.specs.Option.{option_copied, option_map};
-    ghost use Rattle.dns_rdata.specs.Record.{Record, owner_of};
-    ghost use Rattle.zone_tree.specs.Walk.{IsOnTheWay, sets_left};
+impl<'a> Model for Walk<'a> {
+    ghost use Rattle.std.specs.Prelude.{List, ◌++◌};
+    ghost use Rattle.std.specs.List.{AllByRecursion};
+    ghost use Rattle.dns_rdata.specs.Record.{Record};
+    ghost use Rattle.zone_tree.specs.Filed.{IsFiled, sets_under};
 
     ghost Value = { List (List Record) };
 
-    ghost view = { λ walk. sets_left (Z.records walk.zone.now) (option_map owner_of (option_copied walk.last)) walk.rest.now };
+    ghost view = { λ walk. walk.rest.now ++ sets_under walk.owners };
 
-    ghost invariant = { λ walk. IsOnTheWay (Z.records walk.zone.now) (option_map owner_of (option_copied walk.last)) walk.rest.now };
+    ghost invariant = { λ walk. AllByRecursion IsFiled walk.owners };
 }
 
-impl<'a, Z: ZoneRead> Drop for Walk<'a, Z> {
-    fn drop(self) {
-        let Walk {
-            zone: _,
-            rest: _,
-            last: _,
-        } = self;
-    }
-}
-
-impl<'a, Z: ZoneRead> Walk<'a, Z> {
-    /// All sets of a zone.
-    pub(crate) fn new(zone: &'a Z) -> Walk<'a, Z>
-        ensures sets { result ≡ sets_in (Z.records zone.now) }
-        ensures records { flat_map (λ set. set) result ≡ Z.records zone.now }
+impl<'a> Walk<'a> {
+    /// All sets of these owners.
+    pub(crate) fn new(owners: OwnersLeft<'a>) -> Walk<'a>
+        requires { AllByRecursion IsFiled owners }
+        ensures { result ≡ sets_under owners.entry }
     {
-        let rest = zone.sets_after(None);
-        Walk {
-            zone,
-            rest,
-            last: rest.first(),
-        }
+        Walk { rest: &[], owners }
     }
 }
 
-impl<'a, Z: ZoneRead> Iterator for Walk<'a, Z> {
+impl<'a> Iterator for Walk<'a> {
     type Item = &'a RRset;
 
     ghost next_gives = { YieldsFirstRef (λ walk. walk) };
@@ -65,22 +50,24 @@ impl<'a, Z: ZoneRead> Iterator for Walk<'a, Z> {
     ghost remaining = { item_count (λ walk. walk) };
 
     fn next(&mut self) -> Option<&'a RRset> {
-        let (set, rest) = next_sets(self.zone, self.last, self.rest).split_first()?;
+        let (set, rest) = next_sets(self.rest, &mut self.owners).split_first()?;
         self.rest = rest;
-        self.last = Some(set);
         Some(set)
     }
 }
 
-/// The sets that are left of the last owner, or, where none is left, those of the owner after it.
-fn next_sets<'a, Z: ZoneRead>(zone: &'a Z, last: Option<&RRset>, rest: &'a [RRset]) -> &'a [RRset]
-    ensures { IsOnTheWay (Z.records zone.now) (option_map owner_of (option_copied last.entry)) rest.now → AreNext (Z.records zone.now) (sets_left (Z.records zone.now) (option_map owner_of (option_copied last.entry)) rest.now) result.now }
+/// The sets that are left of an owner, or, where none is left, those of the next one.
+fn next_sets<'a>(rest: &'a [RRset], owners: &mut OwnersLeft<'a>) -> &'a [RRset]
+    requires { AllByRecursion IsFiled owners.old }
+    ensures left { result.now ++ sets_under owners.new ≡ rest.now ++ sets_under owners.old }
+    ensures none { result.now ≡ [] → (rest.now ≡ []) × (owners.new ≡ []) }
+    ensures filed { AllByRecursion IsFiled owners.new }
 {
     if !rest.is_empty() {
         return rest;
     }
-    match last {
-        Some(set) => zone.sets_after(Some(&set.owner())),
-        None => zone.sets_after(None),
+    match owners.next() {
+        Some(pair) => pair.1.as_slice(),
+        None => rest,
     }
 }

@@ -4,7 +4,7 @@ ghost use Rattle.std.specs.Result.{IsErrOf};
 ghost use Rattle.std.specs.Option.{option_copied, option_map};
 ghost use Rattle.dns_name.specs.Name.{canonical_cmp};
 ghost use Rattle.dns_rdata.specs.Record.{Record};
-ghost use Rattle.shared_tree.specs.Pairs.{first_pair, pair_after, pairs_behind, value_at};
+ghost use Rattle.shared_tree.specs.Pairs.{first_pair, pair_after, value_at};
 ghost use Rattle.zone_tree.specs.Change.{edited};
 ghost use Rattle.zone_tree.specs.Filed.{items_of};
 ghost use Rattle.zone_tree.specs.Zone.{IsZone, KeepsRules};
@@ -16,6 +16,7 @@ use crate::fault::{NewFault, ZoneFault};
 use crate::look::set_of_type;
 use crate::owners::{Owned, Owners, under_owners};
 use crate::read::ZoneRead;
+use crate::walk::Walk;
 use dns_name::{Name, SoughtName};
 use dns_rdata::{RRset, RType};
 use shared_tree::Tree;
@@ -106,11 +107,8 @@ impl ZoneRead for Zone {
         }
     }
 
-    fn sets_after(&self, owner: Option<&Name>) -> &[RRset] {
-        match next_owner(&self.owners, owner) {
-            Some(pair) => pair.1.as_slice(),
-            None => &[],
-        }
+    fn walk(&self) -> Walk<'_> {
+        Walk::new(self.owners.walk())
     }
 }
 
@@ -157,16 +155,6 @@ fn owner_behind<'a>(owners: &'a Owners, name: &SoughtName) -> Option<&'a Owned>
     ensures { option_copied result ≡ pair_after canonical_cmp name.now owners.now.pairs }
 {
     owners.after(name)
-}
-
-/// The first owner behind a name, or of all, with its sets.
-fn next_owner<'a>(owners: &'a Owners, name: Option<&Name>) -> Option<&'a Owned>
-    ensures { option_copied result ≡ first_pair (pairs_behind canonical_cmp (option_copied name.entry) owners.now.pairs) }
-{
-    match name {
-        Some(name) => owner_behind(owners, &SoughtName::new(name)),
-        None => owners.first(),
-    }
 }
 
 /// The zone that changes make of a zone, one after the other; that zone stays as it is (RFC 2136, 3.4.2). The zones on

@@ -4,7 +4,7 @@ use crate::question::answer;
 use dns_name::Name;
 use dns_rdata::{RRset, RType};
 use std::cell::Cell;
-use zone_tree::{Zone, ZoneRead};
+use zone_tree::{Walk, Zone, ZoneRead};
 
 /// A zone that counts the searches for a name; the SOA is found by none.
 #[derive(Drop)]
@@ -45,8 +45,8 @@ impl ZoneRead for Counted {
         self.zone.soa()
     }
 
-    fn sets_after(&self, name: Option<&Name>) -> &[RRset] {
-        self.zone.sets_after(name)
+    fn walk(&self) -> Walk<'_> {
+        self.zone.walk()
     }
 }
 

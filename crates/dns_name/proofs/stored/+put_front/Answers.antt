@@ -1,4 +1,4 @@
-use Rattle.std.proofs.Common.{◌≡◌, ◌+◌, ◌∙◌, ◌<◌, ◌++◌, ◌∷◌, All, IsTrue, List, ℕ, length, reverse, true, refl, sym, ap, append_assoc, arith, rules}
+use Rattle.std.proofs.Common.{◌≡◌, ◌+◌, ◌∙◌, ◌<◌, ◌++◌, ◌∷◌, All, List, ℕ, length, reverse, refl, sym, ap, append_assoc, arith, rules}
 use Rattle.std.proofs.lemmas.List.{length-append}
 use Rattle.std.proofs.lemmas.List.Elements.{All-same, All-tail}
 use Rattle.dns_name.specs.Gather.{front_of}
@@ -35,14 +35,12 @@ joined new old mid label octets piece rest first e l put =
     let all : new ≡ (old ++ front_of (reverse (labels_stored rest))) ++ length (octets_stored piece) ∷ octets_stored piece = rw (← e, ← l) put in
     all ∙ append_assoc old (front_of (reverse (labels_stored rest))) (length (octets_stored piece) ∷ octets_stored piece) ∙ ap (λ (xs : List ℕ). old ++ xs) (sym front)
 
-pub returns-in-Some : goal.returns-in-Some
-returns-in-Some t c =
-    let first = c.in-Some.ensures in
-    let size = size_at _ _ _ first in
+pub put_piece-requires-clause-room : goal.put_piece-requires-clause-room
+put_piece-requires-clause-room t c =
+    let size = size_at _ _ _ c.in-Some.ensures in
     let mid = ap length c.put_front.ensures in
     let both = length-append c.args.to.now.items (front_of (reverse (labels_stored c.in-Some.behind.now))) in
-    let label = c.as_slice.ensures.value ∙ c.label_of-label.ensures in
-    let len = ap length label in
-    let room : IsTrue c.append_label.result = c.append_label.ensures.room.1 (omega (arith, c.requires.room)) in
-    let is : c.append_label.result ≡ true = room in
-    joined _ _ _ _ _ _ _ first c.put_front.ensures label (rw is at c.append_label.ensures.put)
+    omega (arith, c.requires.room)
+
+pub returns-in-Some : goal.returns-in-Some
+returns-in-Some t c = joined _ _ _ _ _ _ _ c.in-Some.ensures c.put_front.ensures refl c.put_piece.ensures

@@ -5,4 +5,4 @@ use Rattle.transfer_core.proofs.list.next_other.Given as goal
 
 -- the sets that were passed are the SOA's
 abbrev pub invariant-loop-set : goal.invariant-loop-set
-invariant-loop-set g l = beside_soa (records_in l.initial.walk) ≡ beside_soa (records_in l.walk)
+invariant-loop-set l = beside_soa (records_in l.initial.walk) ≡ beside_soa (records_in l.walk)

@@ -9,5 +9,5 @@ abbrev pub invariant-loop-message : goal.invariant-loop-message
 invariant-loop-message l = record {
   read : IsRead l.zone l.initial.progress l.progress (records_of (take l.message-index l.messages));
   kept : IsKept (apex_of l.zone) l.progress;
-  still : l.messages ≡ [] → l.progress ≡ Nothing;
+  still : records_of l.messages ≡ [] → l.progress ≡ Nothing;
 }

@@ -1,0 +1,52 @@
+-- What is left of a way down, as nodes are put on it and taken off it.
+use Rattle.std.proofs.Common.{subst, MatchOption, ◌≡◌, sym, ap, ◌∙◌, ℕ, suc, ◌+◌, ◌<◌, ◌≤◌, List, [], ◌∷◌, ◌++◌, length, append_assoc, append-nil, Option, None, Some, arith}
+use Rattle.std.specs.Borrow.{Bor}
+use Rattle.shared_tree.specs.declared.node.Link.{Link, Leaf, Fork'}
+use Rattle.shared_tree.specs.declared.node.Node.{Node}
+use Rattle.shared_tree.specs.Links.{link_pairs, link_height, IsFormed, AreOnWay, pairs_on_way, IsTaken}
+
+module _ {K V : Type 0} where
+  -- a node put on a way
+  pub way_put : (above : ℕ) (way : List (Option (Bor (Node K V)))) (node : Bor (Node K V)) → AreOnWay above way → IsFormed node.now.right → above + length way + link_height node.now.right < 64 → AreOnWay above (way ++ Some node ∷ [])
+  way_put above [] node h formed room = (formed, omega arith, tt)
+  way_put above (None ∷ way) node h formed room = absurd h
+  way_put above (Some other ∷ way) node h formed room = (h.0, h.1, way_put (suc above) way node h.2 formed (omega arith))
+
+  pub pairs_put : (way : List (Option (Bor (Node K V)))) (node : Bor (Node K V)) → pairs_on_way (way ++ Some node ∷ []) ≡ (node.now.pair.value ∷ link_pairs node.now.right) ++ pairs_on_way way
+  pairs_put [] node = sym (append-nil (node.now.pair.value ∷ link_pairs node.now.right))
+  pairs_put (None ∷ way) node = pairs_put way node
+  pairs_put (Some other ∷ way) node =
+      ap (λ (xs : List (K × V)). xs ++ other.now.pair.value ∷ link_pairs other.now.right) (pairs_put way node)
+      ∙ append_assoc (node.now.pair.value ∷ link_pairs node.now.right) (pairs_on_way way) (other.now.pair.value ∷ link_pairs other.now.right)
+
+  -- what is taken off a way is a node, and what stood above it is a way
+  record IsLowest (above : ℕ) (way : List (Option (Bor (Node K V)))) (node : Bor (Node K V)) : Type 0 where
+    rest : AreOnWay above way
+    formed : IsFormed node.now.right
+    room : above + length way + link_height node.now.right < 64
+
+  lowest : (above : ℕ) (way : List (Option (Bor (Node K V)))) (node : Bor (Node K V)) → AreOnWay above (way ++ Some node ∷ []) → IsLowest above way node
+  lowest above [] node h = record { rest = tt; formed = h.0; room = omega (arith, h.1) }
+  lowest above (None ∷ way) node h = absurd h
+  lowest above (Some other ∷ way) node h =
+      let below = lowest (suc above) way node h.2 in
+      record { rest = (h.0, h.1, below.rest); formed = below.formed; room = omega (arith, below.room) }
+
+  no_blank : (above : ℕ) (way : List (Option (Bor (Node K V)))) → AreOnWay above (way ++ None ∷ []) → ⊥
+  no_blank above [] h = h
+  no_blank above (None ∷ way) h = h
+  no_blank above (Some other ∷ way) h = no_blank (suc above) way h.2
+
+  pub taken : (old new : List (Option (Bor (Node K V)))) (last : Option (Bor (Node K V))) → AreOnWay 0 old → old ≡ new ++ last ∷ [] → MatchOption last ((old ≡ []) × (new ≡ [])) (λ node. IsTaken old new node)
+  taken old new None h e = absurd (no_blank 0 new (subst (AreOnWay 0) e h))
+  taken old new (Some node) h e =
+      let below = lowest 0 new node (subst (AreOnWay 0) e h) in
+      record { is = e; rest = below.rest; formed = below.formed; room = omega (arith, below.room) }
+
+  pub taken_pairs : (old new : List (Option (Bor (Node K V)))) (node : Bor (Node K V)) → IsTaken old new node → pairs_on_way old ≡ node.now.pair.value ∷ link_pairs node.now.right ++ pairs_on_way new
+  taken_pairs old new node h = ap pairs_on_way h.is ∙ pairs_put new node
+
+-- a formed link is no higher than a way has room for
+pub low_enough : {K V : Type 0} (link : Link K V) → IsFormed link → link_height link ≤ 64
+low_enough Leaf h = omega arith
+low_enough (Fork' p left pair right n) h = omega (arith, h.0, h.4)
