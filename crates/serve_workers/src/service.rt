@@ -3,6 +3,7 @@ ghost use Rattle.std.specs.Prelude.{◌≡◌, ◌≤◌};
 
 use crate::allowed::Allowed;
 use crate::gate::{Gate, OpenGate};
+use crate::journal::{JobEnd, Journal};
 use crate::scratch::Scratch;
 use crate::server::Server;
 use crate::stream::Answering;
@@ -48,6 +49,9 @@ pub enum ServeFault {
     /// A socket has failed.
     #[error("a socket has failed")]
     Device,
+    /// No version could be loaded.
+    #[error("no version could be loaded")]
+    Spent,
     /// A growth was refused.
     #[error("no memory")]
     NoMemory,
@@ -63,31 +67,45 @@ enum SocketJob<'a, C> {
 }
 
 impl<C: Clock> SocketJob<'_, C> {
-    /// Whether it ended since its socket failed.
-    fn has_failed(&self) -> bool {
-        match self {
-            SocketJob::Datagrams(job) => job.has_failed(),
-            SocketJob::Connections(job) => job.has_failed(),
+    /// Why it has ended before it had done as much as it may; none where it had.
+    fn fault(&self) -> Option<ServeFault> {
+        let end = match self {
+            SocketJob::Datagrams(job) => job.end(),
+            SocketJob::Connections(job) => job.end(),
+        };
+        match end {
+            Some(JobEnd::Device) => Some(ServeFault::Device),
+            Some(JobEnd::Spent) => Some(ServeFault::Spent),
+            Some(JobEnd::Done(_)) => None,
+            None => None,
         }
     }
 }
 
 impl<C: Clock + Sync> Job for SocketJob<'_, C> {
-    fn run<R: Wait, A: Answering, G: Gate>(&mut self, rt: &R, answering: &mut A, gate: &G) {
+    fn run<R: Wait, A: Answering, G: Gate, L: Journal>(
+        &mut self,
+        rt: &R,
+        answering: &mut A,
+        gate: &G,
+        journal: &L,
+    ) {
         match self {
-            SocketJob::Datagrams(job) => job.run(rt, answering, gate),
-            SocketJob::Connections(job) => job.run(rt, answering, gate),
+            SocketJob::Datagrams(job) => job.run(rt, answering, gate, journal),
+            SocketJob::Connections(job) => job.run(rt, answering, gate, journal),
         }
     }
 }
 
 /// Serves a zone on sockets: its workers answer queries in the version that is published last, and updates, each of which publishes
-/// the next one (RFC 1035, 4.2; RFC 2136, 3). It ends once each worker has done what it may, or where a socket fails.
-pub fn serve_zone<R: Threads + Wait + Clock + Sync, Z: FirstZone + Send + Sync>(
+/// the next one (RFC 1035, 4.2; RFC 2136, 3). It ends once each worker has done what it may, or has failed. The journal is told of each
+/// change, and of each end of a worker.
+pub fn serve_zone<R: Threads + Wait + Clock + Sync, Z: FirstZone + Send + Sync, L: Journal + Sync>(
     rt: &R,
     alloc: Global,
     zone: Zone,
     plan: Plan<'_>,
+    journal: &L,
 ) -> Result<(), ServeFault>
     requires { zone ≡ Z.zone }
 {
@@ -102,17 +120,18 @@ pub fn serve_zone<R: Threads + Wait + Clock + Sync, Z: FirstZone + Send + Sync>(
     else {
         return Err(ServeFault::NoMemory);
     };
-    serve_cell::<R, Z>(rt, alloc, &cell, publisher, readers, plan)
+    serve_cell::<R, Z, L>(rt, alloc, &cell, publisher, readers, plan, journal)
 }
 
 /// Serves the versions of a cell in which the first one alone is published.
-fn serve_cell<R: Threads + Wait + Clock + Sync, Z: FirstZone + Send + Sync>(
+fn serve_cell<R: Threads + Wait + Clock + Sync, Z: FirstZone + Send + Sync, L: Journal + Sync>(
     rt: &R,
     alloc: Global,
     cell: &VersionCell<Z>,
     publisher: VersionPublisher<Z>,
     mut readers: Vec<VersionReader<Z>>,
     plan: Plan<'_>,
+    journal: &L,
 ) -> Result<(), ServeFault>
     requires { publisher.number ≡ 0 }
 {
@@ -123,11 +142,13 @@ fn serve_cell<R: Threads + Wait + Clock + Sync, Z: FirstZone + Send + Sync>(
         return Err(ServeFault::TooMany);
     };
     let pairs = pairs_of(rt, alloc, readers, plan)?;
-    let Ok(pairs) = run_workers(rt, alloc, &server, pairs, &OpenGate) else {
+    let Ok(pairs) = run_workers(rt, alloc, &server, pairs, &OpenGate, journal) else {
         return Err(ServeFault::NotStarted);
     };
-    if pairs.iter().any(|pair| pair.1.has_failed()) {
-        return Err(ServeFault::Device);
+    for pair in pairs.iter() {
+        if let Some(fault) = pair.1.fault() {
+            return Err(fault);
+        }
     }
     Ok(())
 }
@@ -141,14 +162,17 @@ fn pairs_of<'a, R: Clock, Z: FirstZone>(
 ) -> Result<Vec<(VersionReader<Z>, SocketJob<'a, R>)>, ServeFault> {
     let mut pairs = Vec::new(alloc);
     let mut by_datagrams = true;
+    let mut number = 0usize;
     for reader in readers {
+        number = number.saturating_add(1);
         let Ok(scratch) = Scratch::new(alloc) else {
             return Err(ServeFault::NoMemory);
         };
         let job = if by_datagrams {
-            SocketJob::Datagrams(UdpJob::new(plan.datagrams, plan.allowed, plan.most, scratch))
+            let job = UdpJob::new(number, plan.datagrams, plan.allowed, plan.most, scratch);
+            SocketJob::Datagrams(job)
         } else {
-            let job = TcpJob::new(plan.listener, rt, plan.allowed, plan.most, scratch);
+            let job = TcpJob::new(number, plan.listener, rt, plan.allowed, plan.most, scratch);
             SocketJob::Connections(job)
         };
         by_datagrams = !by_datagrams;
