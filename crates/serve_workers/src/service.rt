@@ -1,5 +1,9 @@
 //! A zone served on sockets, by workers.
-ghost use Rattle.std.specs.Prelude.{◌≡◌, ◌≤◌};
+ghost use Rattle.std.specs.Prelude.{◌≡◌, ◌+◌, ◌*◌, ◌<◌, ◌≤◌, ◌⊎◌, ◌↔◌, vec_len, IfErr, IfSome, IsErrOf, OnOk};
+ghost use Rattle.dns_engine.specs.declared.fault.EngineFault.{EngineFault as EngineRefused};
+ghost use Rattle.dns_engine.specs.declared.owners.TheConstants.{KEPT};
+ghost use Rattle.snapshot_cell.specs.declared.cell.TheConstants.{READERS};
+ghost use Rattle.serve_workers.specs.declared.service.ServeFault.{ServeFault as Fault};
 
 use crate::allowed::Allowed;
 use crate::gate::{Gate, OpenGate};
@@ -10,8 +14,8 @@ use crate::stream::Answering;
 use crate::tcp::TcpJob;
 use crate::udp::UdpJob;
 use crate::workers::{Job, run_workers};
-use dns_engine::{FirstZone, VersionCell, VersionPublisher, VersionReader};
-use snapshot_cell::{Cell, Parts};
+use dns_engine::{EngineFault, FirstZone, VersionCell, VersionPublisher, VersionReader};
+use snapshot_cell::{Cell, NewFault, Parts};
 use std::alloc::Global;
 use std::net::{TcpListener, UdpSocket};
 use std::sync::Wait;
@@ -40,7 +44,7 @@ pub struct Plan<'a> {
 /// Why a zone isn't served any more.
 #[derive(Clone, Copy, Debug, PartialEq, Eq, Error)]
 pub enum ServeFault {
-    /// There are more readers, or more versions are to be kept, than there may be.
+    /// There are more workers, or more versions are to be kept, than there may be.
     #[error("too many workers, or versions to keep")]
     TooMany,
     /// A thread was refused.
@@ -68,7 +72,9 @@ enum SocketJob<'a, C> {
 
 impl<C: Clock> SocketJob<'_, C> {
     /// Why it has ended before it had done as much as it may; none where it had.
-    fn fault(&self) -> Option<ServeFault> {
+    fn fault(&self) -> Option<ServeFault>
+        ensures { IfSome result (λ fault. (fault ≡ Fault.Device) ⊎ (fault ≡ Fault.Spent)) }
+    {
         let end = match self {
             SocketJob::Datagrams(job) => job.end(),
             SocketJob::Connections(job) => job.end(),
@@ -108,17 +114,19 @@ pub fn serve_zone<R: Threads + Wait + Clock + Sync, Z: FirstZone + Send + Sync, 
     journal: &L,
 ) -> Result<(), ServeFault>
     requires { zone ≡ Z.zone }
+    ensures kept { OnOk result (plan.entry.keep ≤ KEPT) }
+    ensures workers { READERS < 2 * plan.entry.workers + 1 → IsErrOf result Fault.TooMany }
+    ensures too_many { IsErrOf result Fault.TooMany → (READERS < 2 * plan.entry.workers + 1) ⊎ (KEPT < plan.entry.keep) }
 {
     let readers = plan.workers.saturating_mul(2).saturating_add(1);
-    let Ok(
-        Parts {
-            cell,
-            publisher,
-            readers,
-        },
-    ) = Cell::new(rt, alloc, readers, Version::first(zone))
-    else {
-        return Err(ServeFault::NoMemory);
+    let Parts {
+        cell,
+        publisher,
+        readers,
+    } = match Cell::new(rt, alloc, readers, Version::first(zone)) {
+        Ok(parts) => parts,
+        Err(NewFault::TooManyReaders) => return Err(ServeFault::TooMany),
+        Err(NewFault::NoMemory) => return Err(ServeFault::NoMemory),
     };
     serve_cell::<R, Z, L>(rt, alloc, &cell, publisher, readers, plan, journal)
 }
@@ -133,13 +141,17 @@ fn serve_cell<R: Threads + Wait + Clock + Sync, Z: FirstZone + Send + Sync, L: J
     plan: Plan<'_>,
     journal: &L,
 ) -> Result<(), ServeFault>
-    requires { publisher.number ≡ 0 }
+    requires first { publisher.number ≡ 0 }
+    requires reader { 0 < vec_len readers }
+    ensures kept { OnOk result (plan.entry.keep ≤ KEPT) }
+    ensures too_many { IsErrOf result Fault.TooMany → KEPT < plan.entry.keep }
 {
     let Some(reader) = readers.pop() else {
-        return Err(ServeFault::TooMany);
+        unreachable!()
     };
-    let Ok(server) = Server::new(rt, cell, publisher, reader, plan.keep) else {
-        return Err(ServeFault::TooMany);
+    let server = match Server::new(rt, cell, publisher, reader, plan.keep) {
+        Ok(server) => server,
+        Err(refused) => return Err(fault_of(refused.fault)),
     };
     let pairs = pairs_of(rt, alloc, readers, plan)?;
     let Ok(pairs) = run_workers(rt, alloc, &server, pairs, &OpenGate, journal) else {
@@ -153,13 +165,25 @@ fn serve_cell<R: Threads + Wait + Clock + Sync, Z: FirstZone + Send + Sync, L: J
     Ok(())
 }
 
+/// Why a zone isn't served whose engine isn't made.
+fn fault_of(fault: EngineFault) -> ServeFault
+    ensures { (result ≡ Fault.TooMany) ↔ (fault ≡ EngineRefused.TooGreat) }
+{
+    match fault {
+        EngineFault::TooGreat => ServeFault::TooMany,
+        EngineFault::Spent => ServeFault::Spent,
+    }
+}
+
 /// The readers with their jobs, by turns on the one socket and on the other.
 fn pairs_of<'a, R: Clock, Z: FirstZone>(
     rt: &'a R,
     alloc: Global,
     readers: Vec<VersionReader<Z>>,
     plan: Plan<'a>,
-) -> Result<Vec<(VersionReader<Z>, SocketJob<'a, R>)>, ServeFault> {
+) -> Result<Vec<(VersionReader<Z>, SocketJob<'a, R>)>, ServeFault>
+    ensures { IfErr result (λ fault. fault ≡ Fault.NoMemory) }
+{
     let mut pairs = Vec::new(alloc);
     let mut by_datagrams = true;
     let mut number = 0usize;
