@@ -31,7 +31,7 @@ pub use laws::{
     update_keeps_its_header,
 };
 pub use query::{Head, Parsed, Query, Question};
-pub use read::{HEADER, parse};
+pub use read::{HEADER, OPCODE_UPDATE, parse};
 pub use received::received_records;
 pub use reply::Reply;
 pub use update::{RawRecords, Update, ZoneEntry};

@@ -56,7 +56,7 @@ const SOA_NUMBERS: usize = 20;
 const QUERY: u8 = 0;
 
 /// The OPCODE of a dynamic update (RFC 2136, 1.3).
-const UPDATE: u8 = 5;
+pub const OPCODE_UPDATE: u8 = 5;
 
 /// What octets say: a query; an update; nothing that is answered, where they are fewer than twelve or a reply; or a request
 /// that gets a code alone (RFC 1035, 4.1; RFC 2136, 2).
@@ -78,7 +78,7 @@ pub fn parse(alloc: Global, bytes: &[u8]) -> Parsed
     if head.opcode == QUERY {
         return parse_query(bytes, head);
     }
-    if head.opcode == UPDATE {
+    if head.opcode == OPCODE_UPDATE {
         return parse_update(alloc, bytes, head);
     }
     Parsed::Fault(head, Rcode::NotImp)
@@ -130,7 +130,7 @@ fn header_of(bytes: &[u8]) -> Head
     Head {
         id: u16::from_be_bytes([bytes[0], bytes[1]]),
         opcode,
-        rd: bytes[2] % 2 == 1 && opcode != UPDATE,
+        rd: bytes[2] % 2 == 1 && opcode != OPCODE_UPDATE,
     }
 }
 

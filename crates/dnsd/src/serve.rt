@@ -5,7 +5,7 @@ use commands::{DONE, FAILED, Fault, Source, tell};
 use dns_name::Name;
 use line_io::read_zone_text;
 use master_file::read_zone;
-use serve_workers::{Allowed, Plan, serve_zone};
+use serve_workers::{Allowed, Event, Journal, Plan, serve_zone};
 use std::alloc::{AllocError, Global};
 use std::io::{self, BufReader, ErrorKind};
 use std::marker::Brand;
@@ -143,6 +143,19 @@ fn addresses_of<'a>(alloc: Global, list: &'a str) -> Result<Vec<IpAddr>, Command
     Ok(addresses)
 }
 
+/// A journal on standard error, a line for each event.
+#[derive(Drop)]
+struct ErrorLines<'a, R> {
+    rt: &'a R,
+}
+
+impl<E: Eprint> Journal for ErrorLines<'_, E> {
+    // A line that can't be written ends nothing.
+    fn tell<R: Wait>(&self, _rt: &R, event: Event) {
+        let _ = eprintln!(self.rt; "{event}");
+    }
+}
+
 /// Serves a zone, and gives the program's status: 0 where each worker has done what it may, 1 where the zone is refused, 3 at a
 /// device's fault, a thread that can't be started or want of memory.
 pub fn run_serve<
@@ -216,7 +229,8 @@ fn serve_on<
         most: serve.most,
         allowed: Allowed::new(serve.allowed.as_slice()),
     };
-    match serve_zone::<R, Brand>(rt, rt.alloc(), zone, plan) {
+    let lines = ErrorLines { rt };
+    match serve_zone::<R, Brand, ErrorLines<'_, R>>(rt, rt.alloc(), zone, plan, &lines) {
         Ok(()) => Ok(DONE),
         Err(fault) => {
             eprintln!(rt; "error: {fault}")?;

@@ -244,6 +244,14 @@ limit_by false = lit≤ tt
 pub limit_most : (peer : Peer) → limit_of (transport_of peer) ≤ 65535
 limit_most peer = limit_by peer.stream
 
+-- what comes later and is heard with a code alone is an update
+pub later_update : (first : List Record) (peer : Peer) (request : List ℕ) (heard : Parsed) (head : Head) (code : Rcode) → Tells request heard → heard ≡ Fault head code → IsUpdate request ⊎ IsTransfer first peer request → IsUpdate request
+later_update first peer request heard head code tells is later =
+    elim later [ inl update ↦ update | inr transfer ↦ ⊎_elim (λ (e : heard ≡ reads request). absurd (no_query_fault (reads request) transfer.query transfer.asked (sym e ∙ is))) (λ (want : IsWant request heard). want_asks request heard want) tells ]
+  where
+    no_query_fault : (said : Parsed) (query : QueryAsked) → said ≡ Query query → said ≡ Fault head code → ⊥
+    no_query_fault said query asked is = cc
+
 -- what comes later isn't silent
 pub later_heard : (first : List Record) (peer : Peer) (request : List ℕ) (heard : Parsed) → Tells request heard → IsUpdate request ⊎ IsTransfer first peer request → heard ≡ IsSilent → ⊥
 later_heard first peer request heard tells later is =

@@ -15,6 +15,6 @@ use Rattle.serve_workers.specs.contracts.workers.Worker as worker
 pub server_sync : (a : NamedLft) (T : RattleType) (g : Ghosts T.Denot) → IsSync (server.the_row a T g)
 server_sync a T g = search (version_send, version_sync, engine_send, cell.the_sync, cell.the_field_sync, mutex.the_sync, crossing.crosses, sendable) depth 60 fits 20000
 
-pub worker_send : (a b : NamedLft) (T J G : RattleType) (g : Ghosts T.Denot) → IsSend J → IsSync G → IsSend (worker.the_row a b T J G g)
-worker_send a b T J G g sends shares =
+pub worker_send : (a b : NamedLft) (T J G L : RattleType) (g : Ghosts T.Denot) → IsSend J → IsSync G → IsSync L → IsSend (worker.the_row a b T J G L g)
+worker_send a b T J G L g sends shares hears =
     search (server_sync, reader.the_field_send, global.the_field_send, crossing.crosses, sendable) depth 60 fits 20000

@@ -5,4 +5,5 @@ pub mod Datagrams
 pub mod Exchanged
 pub mod Served
 pub mod Turns
+pub mod Updated
 pub mod Replied

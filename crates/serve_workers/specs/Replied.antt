@@ -16,7 +16,7 @@ use Rattle.serve_core.specs.Transfers.{transport_of, is_permitted, messages_to}
 use Rattle.serve_workers.specs.declared.answer.Now.{Now}
 use Rattle.serve_workers.specs.declared.answer.Now.TheVariants.{Bytes, Silent, Later, Spent}
 use Rattle.serve_workers.specs.declared.answer.Served.{Served}
-use Rattle.serve_workers.specs.declared.answer.Served.TheVariants.{Reply, Transfer, Spent as IsSpent}
+use Rattle.serve_workers.specs.declared.answer.Served.TheVariants.{Reply, Updated, Transfer, Spent as IsSpent}
 
 -- what a query is told of what changed up to a version: it is the list through the versions that were published, from the one of the serial
 -- that the asker holds, where so many are kept (RFC 1995, 4)
@@ -62,9 +62,11 @@ IsNow first peer request out Silent = reads request ≡ IsSilent
 IsNow first peer request out Later = IsUpdate request ⊎ IsTransfer first peer request
 IsNow first peer request out Spent = Unit {0}
 
--- what is answered by the engine or from its versions: a reply in a buffer, or a transfer that is permitted, whose messages are the reply
+-- what is answered by the engine or from its versions: a reply in a buffer, of which more is told where the request is an update; or a transfer
+-- that is permitted, whose messages are the reply
 abbrev pub IsServed : {Z : Type 0} → List Record → Peer → List ℕ → List ℕ → Served Z → Type 0
 IsServed first peer request out (Reply len) = (len ≤ limit_of (transport_of peer)) × IsReplied first peer request (take len out ∷ [])
+IsServed first peer request out (Updated len told) = (len ≤ limit_of (transport_of peer)) × IsReplied first peer request (take len out ∷ []) × IsUpdate request
 IsServed first peer request out (Transfer newest query) =
     (is_permitted newest.last.zone peer query ≡ true) × IsReplied first peer request (messages_to newest.last.zone (changes_in newest query.serial) peer query)
 IsServed first peer request out IsSpent = Unit {0}

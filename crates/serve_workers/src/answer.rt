@@ -7,9 +7,10 @@ ghost use Rattle.serve_core.specs.Transport.{limit_of};
 ghost use Rattle.serve_core.specs.Transfers.{transport_of};
 ghost use Rattle.serve_workers.specs.Replied.{IsReplied, IsUpdate, IsTransfer, IsNow, IsServed};
 
+use crate::journal::Serials;
 use crate::server::Server;
 use dns_engine::{FirstZone, Newest, VersionCell, VersionReader};
-use dns_message::{Parsed, Query, parse};
+use dns_message::{OPCODE_UPDATE, Parsed, Query, parse};
 use dns_rdata::Rcode;
 use serve_core::{Peer, is_permitted, respond_to_peer, write_bare};
 use std::alloc::Global;
@@ -28,19 +29,37 @@ pub enum Now {
     Spent,
 }
 
+/// What is told of an update (RFC 2136, 3).
+#[derive(Clone, Copy)]
+pub struct Told {
+    /// Its code.
+    pub code: Rcode,
+    /// The zone's serials in front of it and behind it; none of an update that can't be read, or for which memory is wanted.
+    pub serials: Option<Serials>,
+}
+
+impl Told {
+    /// A code alone.
+    fn code(code: Rcode) -> Told {
+        Told {
+            code,
+            serials: None,
+        }
+    }
+}
+
 /// What an update or a transfer gets.
 #[derive(Drop)]
 pub enum Served<'s, Z: FirstZone> {
     /// A reply of so many octets.
     Reply(usize),
+    /// An update's reply of so many octets, and what is told in it.
+    Updated(usize, Told),
     /// The messages of a transfer of the last of these versions, which a query asks for.
     Transfer(Newest<'s, Z>, Query),
     /// No version could be owned.
     Spent,
 }
-
-/// The OPCODE of a dynamic update (RFC 2136, 1.3).
-const UPDATE: u8 = 5;
 
 /// Answers a request at once, unless it is an update or a transfer that is permitted: writes the reply in the version that is loaded to
 /// the front of `out`. Only a query loads a version.
@@ -62,7 +81,7 @@ pub fn answer_now<R: Wait, Z: FirstZone>(
         Parsed::Update(_) => return Now::Later,
         Parsed::NoMemory(_) => return Now::Later,
         Parsed::Fault(head, code) => {
-            if head.opcode == UPDATE {
+            if head.opcode == OPCODE_UPDATE {
                 return Now::Later;
             }
             return Now::Bytes(write_bare(head, code, transport, out));
@@ -80,7 +99,7 @@ pub fn answer_now<R: Wait, Z: FirstZone>(
     }
 }
 
-/// Answers an update: hands it to the engine, and writes the code that it gets to the front of `out` (RFC 2136, 3). Of a transfer it
+/// Answers an update: hands it to the engine, writes the code that it gets to the front of `out` (RFC 2136, 3), and tells it. Of a transfer it
 /// gives the versions that its messages are made of, and the query; where no longer permitted, the reply.
 #[tactic(auto, using(crate::proofs::ReplyLemmas::later_heard))]
 pub fn serve_one<'s, R: Wait, Z: FirstZone>(
@@ -99,11 +118,24 @@ pub fn serve_one<'s, R: Wait, Z: FirstZone>(
     let transport = peer.transport();
     match parse(alloc, request) {
         Parsed::Update(update) => {
-            let code = server.update(rt, alloc, &update, peer.may_update);
-            Served::Reply(write_bare(update.head, code, transport, out))
+            let (code, serials) = server.update(rt, alloc, &update, peer.may_update);
+            let len = write_bare(update.head, code, transport, out);
+            Served::Updated(
+                len,
+                Told {
+                    code,
+                    serials: Some(serials),
+                },
+            )
         }
-        Parsed::NoMemory(head) => Served::Reply(write_bare(head, Rcode::ServFail, transport, out)),
-        Parsed::Fault(head, code) => Served::Reply(write_bare(head, code, transport, out)),
+        Parsed::NoMemory(head) => {
+            let len = write_bare(head, Rcode::ServFail, transport, out);
+            Served::Updated(len, Told::code(Rcode::ServFail))
+        }
+        Parsed::Fault(head, code) => {
+            let len = write_bare(head, code, transport, out);
+            Served::Updated(len, Told::code(code))
+        }
         Parsed::Query(query) => {
             let Ok(newest) = server.versions_for(rt, reader, &query) else {
                 return Served::Spent;

@@ -6,8 +6,9 @@ ghost use Rattle.serve_workers.specs.Replied.{IsReplied, IsUpdate, IsTransfer};
 ghost use Rattle.serve_workers.specs.Turns.{Replies, IsBrokenAs};
 ghost use Rattle.serve_workers.specs.declared.turn.Broken.{Broken as BrokenBy};
 
-use crate::answer::{Now, Served, answer_now, serve_one};
+use crate::answer::{Now, Served, Told, answer_now, serve_one};
 use crate::counted::{Counted, Stream};
+use crate::journal::{Event, Journal};
 use crate::server::Server;
 use crate::stream::Answering;
 use crate::transfer::{send_transfer, write_transfer};
@@ -16,30 +17,51 @@ use dns_engine::{FirstZone, VersionReader};
 use serve_core::Peer;
 use snapshot_cell::Spent;
 use std::alloc::Global;
+use std::net::SocketAddr;
 use std::sync::Wait;
 
-/// A server that answers one peer, with a worker's reader.
+/// A server that answers one peer, with a worker's reader. A journal is told of updates.
 #[derive(Drop)]
-pub struct Asked<'a, 's, Z: FirstZone> {
+pub struct Asked<'a, 's, Z: FirstZone, L> {
     server: &'a Server<'s, Z>,
     reader: &'a mut VersionReader<Z>,
+    journal: &'a L,
     alloc: Global,
     peer: Peer,
+    from: SocketAddr,
 }
 
-impl<'a, 's, Z: FirstZone> Asked<'a, 's, Z> {
-    /// A server that answers a peer.
+impl<'a, 's, Z: FirstZone, L: Journal> Asked<'a, 's, Z, L> {
+    /// A server that answers a peer, who asks from an address.
     pub fn new(
         alloc: Global,
         server: &'a Server<'s, Z>,
         reader: &'a mut VersionReader<Z>,
+        journal: &'a L,
         peer: Peer,
-    ) -> Asked<'a, 's, Z> {
+        from: SocketAddr,
+    ) -> Asked<'a, 's, Z, L> {
         Asked {
             server,
             reader,
+            journal,
             alloc,
             peer,
+            from,
+        }
+    }
+
+    /// Tells the journal of an update, where the peer may update: others could fill it.
+    fn tell<R: Wait>(&self, rt: &R, told: Told) {
+        if self.peer.may_update {
+            self.journal.tell(
+                rt,
+                Event::Update {
+                    from: self.from,
+                    code: told.code,
+                    serials: told.serials,
+                },
+            );
         }
     }
 
@@ -66,6 +88,10 @@ impl<'a, 's, Z: FirstZone> Asked<'a, 's, Z> {
         let peer = self.peer;
         match serve_one(rt, self.alloc, self.server, self.reader, peer, request, out) {
             Served::Reply(len) => write_frame(stream, &out[..len], frame),
+            Served::Updated(len, told) => {
+                self.tell(rt, told);
+                write_frame(stream, &out[..len], frame)
+            }
             Served::Transfer(newest, query) => {
                 send_transfer(&newest, &query, peer, stream, out, frame)
             }
@@ -74,7 +100,7 @@ impl<'a, 's, Z: FirstZone> Asked<'a, 's, Z> {
     }
 }
 
-impl<'a, 's, Z: FirstZone> Answering for Asked<'a, 's, Z> {
+impl<'a, 's, Z: FirstZone, L: Journal> Answering for Asked<'a, 's, Z, L> {
     ghost seen = { λ _. [] };
 
     ghost peer = { λ asked. asked.peer };
@@ -82,8 +108,9 @@ impl<'a, 's, Z: FirstZone> Answering for Asked<'a, 's, Z> {
     ghost is_reply = { λ peer _ request messages. IsReplied Z.zone peer request messages };
 
     #[tactic(auto, using(crate::proofs::TurnLemmas::begins_itself))]
-    fn turn_to(&mut self, other: Peer) {
+    fn turn_to(&mut self, other: Peer, from: SocketAddr) {
         self.peer = other;
+        self.from = from;
     }
 
     #[tactic(auto, using(crate::proofs::ReplyLemmas::limit_most, crate::proofs::ReplyLemmas::silent_replied, crate::proofs::TurnLemmas::begins_itself))]
@@ -104,6 +131,10 @@ impl<'a, 's, Z: FirstZone> Answering for Asked<'a, 's, Z> {
             Now::Later => {
                 match serve_one(rt, self.alloc, self.server, self.reader, peer, request, out) {
                     Served::Reply(len) => Ok(Some(len)),
+                    Served::Updated(len, told) => {
+                        self.tell(rt, told);
+                        Ok(Some(len))
+                    }
                     Served::Transfer(newest, query) => {
                         Ok(write_transfer(&newest, &query, peer, out))
                     }

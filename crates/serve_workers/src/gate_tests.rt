@@ -2,7 +2,9 @@
 ghost use Rattle.std.specs.Prelude.{◌≡◌};
 
 use crate::tests::{Tape, octets_of, zone};
-use crate::{Answering, Counted, Gate, Job, Scratch, Server, run_workers, serve_stream};
+use crate::{
+    Answering, Counted, Gate, Job, Journal, NoJournal, Scratch, Server, run_workers, serve_stream,
+};
 use dns_engine::{FirstZone, VersionCell, VersionPublisher, VersionReader};
 use snapshot_cell::{Cell, Parts};
 use std::alloc::Global;
@@ -74,7 +76,13 @@ impl<'a> TapeJob<'a> {
 }
 
 impl Job for TapeJob<'_> {
-    fn run<R: Wait, A: Answering, G: Gate>(&mut self, rt: &R, answering: &mut A, gate: &G) {
+    fn run<R: Wait, A: Answering, G: Gate, L: Journal>(
+        &mut self,
+        rt: &R,
+        answering: &mut A,
+        gate: &G,
+        _journal: &L,
+    ) {
         if self.stream.faults != 0 {
             return;
         }
@@ -112,7 +120,7 @@ fn serve_two<R: Wait + Threads + Sync + Abort, Z: FirstZone + Send + Sync>(
         left: AtomicU64::new(0),
         gave_up: AtomicU64::new(0),
     };
-    let Ok(pairs) = run_workers(rt, alloc, &server, pairs, &gate) else {
+    let Ok(pairs) = run_workers(rt, alloc, &server, pairs, &gate, &NoJournal) else {
         return Err("a thread was refused".into());
     };
     assert_eq!(rt; gate.gave_up.load(Ordering::SeqCst), 0);

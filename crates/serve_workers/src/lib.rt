@@ -3,7 +3,7 @@
 //! [`serve_stream`] answers the requests of a stream one after another; over a stream that tells its octets its contract says what is
 //! written: the frames of the replies, in order, whole or a beginning of them (`EndsAs`). [`answer_now`] answers a query with the
 //! version that it loads, and [`serve_one`] hands an update to the engine, which a [`Server`] keeps behind a lock: each reply is that
-//! of one version, the first zone with updates replayed (`IsReplied`).
+//! of one version, the first zone with updates replayed (`IsReplied`). A [`Journal`] is told of each change, and of each end of a worker.
 #![tactic(auto)]
 
 mod allowed;
@@ -14,6 +14,7 @@ mod counted;
 mod datagrams;
 mod frames;
 mod gate;
+mod journal;
 mod scratch;
 mod server;
 mod service;
@@ -25,11 +26,12 @@ mod udp;
 mod workers;
 
 pub use allowed::Allowed;
-pub use answer::{Now, Served, answer_now, serve_one};
+pub use answer::{Now, Served, Told, answer_now, serve_one};
 pub use asked::Asked;
 pub use counted::{Counted, DeviceFailed, Stream};
 pub use datagrams::{Datagrams, SharedSocket};
 pub use gate::{Gate, OpenGate};
+pub use journal::{Event, JobEnd, Journal, NoJournal, Serials};
 pub use scratch::Scratch;
 pub use server::Server;
 pub use service::{Plan, ServeFault, serve_zone};
@@ -44,4 +46,8 @@ mod connection_tests;
 #[cfg(test)]
 mod gate_tests;
 #[cfg(test)]
+mod journal_tests;
+#[cfg(test)]
 mod tests;
+#[cfg(test)]
+mod udp_tests;

@@ -1,11 +1,10 @@
 //! The server: a cell of versions, and its engine behind a lock.
 ghost use Rattle.std.specs.Prelude.{◌≡◌, ◌↔◌, ◌<◌, ◌≤◌, IfOk, IfErr};
-ghost use Rattle.dns_engine.specs.Held.{Held};
-ghost use Rattle.dns_engine.specs.Told.{IsTold};
-ghost use Rattle.dns_engine.specs.Replayed.{IsReplay};
+ghost use Rattle.serve_workers.specs.Updated.{IsUpdated};
 ghost use Rattle.dns_engine.specs.declared.fault.EngineFault.{EngineFault as Fault};
 ghost use Rattle.dns_engine.specs.declared.owners.TheConstants.{KEPT};
 
+use crate::journal::Serials;
 use dns_engine::{
     Engine, FirstZone, Newest, NoEngine, VersionCell, VersionPublisher, VersionReader,
 };
@@ -49,13 +48,22 @@ impl<'a, Z: FirstZone> Server<'a, Z> {
         self.cell
     }
 
-    /// Hands an update to the engine, behind its lock, and gives the code that is told: that of an engine whose last version is the
-    /// first zone with updates replayed.
-    pub fn update<R: Wait>(&self, rt: &R, alloc: Global, update: &Update, may: bool) -> Rcode
-        ensures { (old new : Held) × IsReplay Z.zone old.last × IsTold old update.now may result new }
+    /// Hands an update to the engine, behind its lock, and gives the code that is told, and the serials of the zone in front of the
+    /// update and behind it: those of an engine whose last version is the first zone with updates replayed.
+    pub fn update<R: Wait>(
+        &self,
+        rt: &R,
+        alloc: Global,
+        update: &Update,
+        may: bool,
+    ) -> (Rcode, Serials)
+        ensures { IsUpdated Z.zone update.now may result.0 result.1 }
     {
         let mut engine = self.engine.lock(rt);
-        engine.update(rt, alloc, self.cell, update, may)
+        let before = engine.last().serial();
+        let code = engine.update(rt, alloc, self.cell, update, may);
+        let after = engine.last().serial();
+        (code, Serials { before, after })
     }
 
     /// The versions that a query for a transfer is answered with: of an IXFR all that the engine keeps, which are copied behind its

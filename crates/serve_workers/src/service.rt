@@ -1,16 +1,21 @@
 //! A zone served on sockets, by workers.
-ghost use Rattle.std.specs.Prelude.{◌≡◌, ◌≤◌};
+ghost use Rattle.std.specs.Prelude.{◌≡◌, ◌+◌, ◌*◌, ◌<◌, ◌≤◌, ◌⊎◌, ◌↔◌, vec_len, IfErr, IfSome, IsErrOf, OnOk};
+ghost use Rattle.dns_engine.specs.declared.fault.EngineFault.{EngineFault as EngineRefused};
+ghost use Rattle.dns_engine.specs.declared.owners.TheConstants.{KEPT};
+ghost use Rattle.snapshot_cell.specs.declared.cell.TheConstants.{READERS};
+ghost use Rattle.serve_workers.specs.declared.service.ServeFault.{ServeFault as Fault};
 
 use crate::allowed::Allowed;
 use crate::gate::{Gate, OpenGate};
+use crate::journal::{JobEnd, Journal};
 use crate::scratch::Scratch;
 use crate::server::Server;
 use crate::stream::Answering;
 use crate::tcp::TcpJob;
 use crate::udp::UdpJob;
 use crate::workers::{Job, run_workers};
-use dns_engine::{FirstZone, VersionCell, VersionPublisher, VersionReader};
-use snapshot_cell::{Cell, Parts};
+use dns_engine::{EngineFault, FirstZone, VersionCell, VersionPublisher, VersionReader};
+use snapshot_cell::{Cell, NewFault, Parts};
 use std::alloc::Global;
 use std::net::{TcpListener, UdpSocket};
 use std::sync::Wait;
@@ -39,7 +44,7 @@ pub struct Plan<'a> {
 /// Why a zone isn't served any more.
 #[derive(Clone, Copy, Debug, PartialEq, Eq, Error)]
 pub enum ServeFault {
-    /// There are more readers, or more versions are to be kept, than there may be.
+    /// There are more workers, or more versions are to be kept, than there may be.
     #[error("too many workers, or versions to keep")]
     TooMany,
     /// A thread was refused.
@@ -48,6 +53,9 @@ pub enum ServeFault {
     /// A socket has failed.
     #[error("a socket has failed")]
     Device,
+    /// No version could be loaded.
+    #[error("no version could be loaded")]
+    Spent,
     /// A growth was refused.
     #[error("no memory")]
     NoMemory,
@@ -63,73 +71,108 @@ enum SocketJob<'a, C> {
 }
 
 impl<C: Clock> SocketJob<'_, C> {
-    /// Whether it ended since its socket failed.
-    fn has_failed(&self) -> bool {
-        match self {
-            SocketJob::Datagrams(job) => job.has_failed(),
-            SocketJob::Connections(job) => job.has_failed(),
+    /// Why it has ended before it had done as much as it may; none where it had.
+    fn fault(&self) -> Option<ServeFault>
+        ensures { IfSome result (λ fault. (fault ≡ Fault.Device) ⊎ (fault ≡ Fault.Spent)) }
+    {
+        let end = match self {
+            SocketJob::Datagrams(job) => job.end(),
+            SocketJob::Connections(job) => job.end(),
+        };
+        match end {
+            Some(JobEnd::Device) => Some(ServeFault::Device),
+            Some(JobEnd::Spent) => Some(ServeFault::Spent),
+            Some(JobEnd::Done(_)) => None,
+            None => None,
         }
     }
 }
 
 impl<C: Clock + Sync> Job for SocketJob<'_, C> {
-    fn run<R: Wait, A: Answering, G: Gate>(&mut self, rt: &R, answering: &mut A, gate: &G) {
+    fn run<R: Wait, A: Answering, G: Gate, L: Journal>(
+        &mut self,
+        rt: &R,
+        answering: &mut A,
+        gate: &G,
+        journal: &L,
+    ) {
         match self {
-            SocketJob::Datagrams(job) => job.run(rt, answering, gate),
-            SocketJob::Connections(job) => job.run(rt, answering, gate),
+            SocketJob::Datagrams(job) => job.run(rt, answering, gate, journal),
+            SocketJob::Connections(job) => job.run(rt, answering, gate, journal),
         }
     }
 }
 
 /// Serves a zone on sockets: its workers answer queries in the version that is published last, and updates, each of which publishes
-/// the next one (RFC 1035, 4.2; RFC 2136, 3). It ends once each worker has done what it may, or where a socket fails.
-pub fn serve_zone<R: Threads + Wait + Clock + Sync, Z: FirstZone + Send + Sync>(
+/// the next one (RFC 1035, 4.2; RFC 2136, 3). It ends once each worker has done what it may, or has failed. The journal is told of each
+/// change, and of each end of a worker.
+pub fn serve_zone<R: Threads + Wait + Clock + Sync, Z: FirstZone + Send + Sync, L: Journal + Sync>(
     rt: &R,
     alloc: Global,
     zone: Zone,
     plan: Plan<'_>,
+    journal: &L,
 ) -> Result<(), ServeFault>
     requires { zone ≡ Z.zone }
+    ensures kept { OnOk result (plan.entry.keep ≤ KEPT) }
+    ensures workers { READERS < 2 * plan.entry.workers + 1 → IsErrOf result Fault.TooMany }
+    ensures too_many { IsErrOf result Fault.TooMany → (READERS < 2 * plan.entry.workers + 1) ⊎ (KEPT < plan.entry.keep) }
 {
     let readers = plan.workers.saturating_mul(2).saturating_add(1);
-    let Ok(
-        Parts {
-            cell,
-            publisher,
-            readers,
-        },
-    ) = Cell::new(rt, alloc, readers, Version::first(zone))
-    else {
-        return Err(ServeFault::NoMemory);
+    let Parts {
+        cell,
+        publisher,
+        readers,
+    } = match Cell::new(rt, alloc, readers, Version::first(zone)) {
+        Ok(parts) => parts,
+        Err(NewFault::TooManyReaders) => return Err(ServeFault::TooMany),
+        Err(NewFault::NoMemory) => return Err(ServeFault::NoMemory),
     };
-    serve_cell::<R, Z>(rt, alloc, &cell, publisher, readers, plan)
+    serve_cell::<R, Z, L>(rt, alloc, &cell, publisher, readers, plan, journal)
 }
 
 /// Serves the versions of a cell in which the first one alone is published.
-fn serve_cell<R: Threads + Wait + Clock + Sync, Z: FirstZone + Send + Sync>(
+fn serve_cell<R: Threads + Wait + Clock + Sync, Z: FirstZone + Send + Sync, L: Journal + Sync>(
     rt: &R,
     alloc: Global,
     cell: &VersionCell<Z>,
     publisher: VersionPublisher<Z>,
     mut readers: Vec<VersionReader<Z>>,
     plan: Plan<'_>,
+    journal: &L,
 ) -> Result<(), ServeFault>
-    requires { publisher.number ≡ 0 }
+    requires first { publisher.number ≡ 0 }
+    requires reader { 0 < vec_len readers }
+    ensures kept { OnOk result (plan.entry.keep ≤ KEPT) }
+    ensures too_many { IsErrOf result Fault.TooMany → KEPT < plan.entry.keep }
 {
     let Some(reader) = readers.pop() else {
-        return Err(ServeFault::TooMany);
+        unreachable!()
     };
-    let Ok(server) = Server::new(rt, cell, publisher, reader, plan.keep) else {
-        return Err(ServeFault::TooMany);
+    let server = match Server::new(rt, cell, publisher, reader, plan.keep) {
+        Ok(server) => server,
+        Err(refused) => return Err(fault_of(refused.fault)),
     };
     let pairs = pairs_of(rt, alloc, readers, plan)?;
-    let Ok(pairs) = run_workers(rt, alloc, &server, pairs, &OpenGate) else {
+    let Ok(pairs) = run_workers(rt, alloc, &server, pairs, &OpenGate, journal) else {
         return Err(ServeFault::NotStarted);
     };
-    if pairs.iter().any(|pair| pair.1.has_failed()) {
-        return Err(ServeFault::Device);
+    for pair in pairs.iter() {
+        if let Some(fault) = pair.1.fault() {
+            return Err(fault);
+        }
     }
     Ok(())
+}
+
+/// Why a zone isn't served whose engine isn't made.
+fn fault_of(fault: EngineFault) -> ServeFault
+    ensures { (result ≡ Fault.TooMany) ↔ (fault ≡ EngineRefused.TooGreat) }
+{
+    match fault {
+        EngineFault::TooGreat => ServeFault::TooMany,
+        EngineFault::Spent => ServeFault::Spent,
+    }
 }
 
 /// The readers with their jobs, by turns on the one socket and on the other.
@@ -138,17 +181,22 @@ fn pairs_of<'a, R: Clock, Z: FirstZone>(
     alloc: Global,
     readers: Vec<VersionReader<Z>>,
     plan: Plan<'a>,
-) -> Result<Vec<(VersionReader<Z>, SocketJob<'a, R>)>, ServeFault> {
+) -> Result<Vec<(VersionReader<Z>, SocketJob<'a, R>)>, ServeFault>
+    ensures { IfErr result (λ fault. fault ≡ Fault.NoMemory) }
+{
     let mut pairs = Vec::new(alloc);
     let mut by_datagrams = true;
+    let mut number = 0usize;
     for reader in readers {
+        number = number.saturating_add(1);
         let Ok(scratch) = Scratch::new(alloc) else {
             return Err(ServeFault::NoMemory);
         };
         let job = if by_datagrams {
-            SocketJob::Datagrams(UdpJob::new(plan.datagrams, plan.allowed, plan.most, scratch))
+            let job = UdpJob::new(number, plan.datagrams, plan.allowed, plan.most, scratch);
+            SocketJob::Datagrams(job)
         } else {
-            let job = TcpJob::new(plan.listener, rt, plan.allowed, plan.most, scratch);
+            let job = TcpJob::new(number, plan.listener, rt, plan.allowed, plan.most, scratch);
             SocketJob::Connections(job)
         };
         by_datagrams = !by_datagrams;

@@ -15,6 +15,7 @@ use crate::gate::Gate;
 use crate::turn::{Broken, turn};
 use serve_core::Peer;
 use snapshot_cell::Spent;
+use std::net::SocketAddr;
 use std::sync::Wait;
 
 /// How the requests of a stream end.
@@ -41,8 +42,8 @@ pub trait Answering {
     /// What the messages of a reply to a request are, by who asks and by such versions.
     ghost is_reply: { PeerAsking → List Version → List ℕ → List (List ℕ) → Type 0 };
 
-    /// Turns to another peer.
-    fn turn_to(&mut self, other: Peer)
+    /// Turns to another peer, who asks from an address.
+    fn turn_to(&mut self, other: Peer, from: SocketAddr)
         ensures other { peer self.new ≡ other }
         ensures grows { BeginsWith (seen self.new) (seen self.old) };
 

@@ -1,11 +1,15 @@
 //! Requests on connections, answered one after another (RFC 1035, 4.2.2).
+ghost use Rattle.std.specs.Prelude.{◌≡◌};
+
 use crate::allowed::Allowed;
 use crate::connection::Connection;
 use crate::counted::Counted;
 use crate::gate::Gate;
+use crate::journal::{Event, JobEnd, Journal};
 use crate::scratch::Scratch;
 use crate::stream::{Answering, serve_stream};
 use crate::workers::Job;
+use serve_core::Transport;
 use std::net::{SocketAddr, TcpListener, TcpStream};
 use std::sync::Wait;
 use std::time::{Clock, Duration};
@@ -40,17 +44,19 @@ pub(crate) fn refusal_of(fault: &io::Error) -> Refusal {
 /// A worker's job on a listener: the connections that come, one after another.
 #[derive(Drop)]
 pub struct TcpJob<'a, C> {
+    number: usize,
     listener: &'a TcpListener,
     clock: &'a C,
     allowed: Allowed<'a>,
     most: u64,
-    has_failed: bool,
+    end: Option<JobEnd>,
     scratch: Scratch,
 }
 
 impl<'a, C: Clock> TcpJob<'a, C> {
-    /// The job of so many connections of a listener that workers share.
+    /// The job of a worker, by its number: to serve so many connections of a listener that workers share.
     pub fn new(
+        number: usize,
         listener: &'a TcpListener,
         clock: &'a C,
         allowed: Allowed<'a>,
@@ -58,23 +64,27 @@ impl<'a, C: Clock> TcpJob<'a, C> {
         scratch: Scratch,
     ) -> TcpJob<'a, C> {
         TcpJob {
+            number,
             listener,
             clock,
             allowed,
             most,
-            has_failed: false,
+            end: None,
             scratch,
         }
     }
 
-    /// Whether it has ended since its listener failed.
-    pub fn has_failed(&self) -> bool {
-        self.has_failed
+    /// How it has ended; none where it hasn't yet.
+    pub fn end(&self) -> Option<JobEnd>
+        ensures { result ≡ self.now.end }
+    {
+        self.end
     }
 
     /// The next connection, and who asks there; none where the listener is broken. One that fails before it is accepted is passed
-    /// over. For want of room nothing is accepted for a while.
-    fn accept<R: Wait>(&self, rt: &R) -> Option<(TcpStream, SocketAddr)> {
+    /// over. For want of room nothing is accepted for a while, which is told once.
+    fn accept<R: Wait, L: Journal>(&self, rt: &R, journal: &L) -> Option<(TcpStream, SocketAddr)> {
+        let mut is_told = false;
         for _ in rt.forever() {
             let fault = match self.listener.accept() {
                 Ok(accepted) => return Some(accepted),
@@ -82,7 +92,18 @@ impl<'a, C: Clock> TcpJob<'a, C> {
             };
             match refusal_of(&fault) {
                 Refusal::Client => {}
-                Refusal::Room => thread::sleep(self.clock, Duration::from_secs(PAUSE)),
+                Refusal::Room => {
+                    if !is_told {
+                        journal.tell(
+                            rt,
+                            Event::NoRoom {
+                                worker: self.number,
+                            },
+                        );
+                    }
+                    is_told = true;
+                    thread::sleep(self.clock, Duration::from_secs(PAUSE));
+                }
                 Refusal::Listener => return None,
             }
         }
@@ -104,7 +125,7 @@ impl<'a, C: Clock> TcpJob<'a, C> {
         let Ok(connection) = Connection::new(stream, self.clock) else {
             return;
         };
-        answering.turn_to(self.allowed.peer(from, true));
+        answering.turn_to(self.allowed.peer(from, true), from);
         let Scratch {
             request,
             reply,
@@ -113,16 +134,43 @@ impl<'a, C: Clock> TcpJob<'a, C> {
         let mut counted = Counted::new(connection);
         let _ = serve_stream(rt, answering, &mut counted, gate, request, reply, frame);
     }
-}
 
-impl<C: Clock + Sync> Job for TcpJob<'_, C> {
-    fn run<R: Wait, A: Answering, G: Gate>(&mut self, rt: &R, answering: &mut A, gate: &G) {
+    /// Serves the connections that come, so many; fewer where the listener is broken.
+    fn serve_all<R: Wait, A: Answering, G: Gate, L: Journal>(
+        &mut self,
+        rt: &R,
+        answering: &mut A,
+        gate: &G,
+        journal: &L,
+    ) -> JobEnd {
         for _ in 0..self.most {
-            let Some(accepted) = self.accept(rt) else {
-                self.has_failed = true;
-                return;
+            let Some(accepted) = self.accept(rt, journal) else {
+                return JobEnd::Device;
             };
             self.serve(rt, answering, accepted, gate);
         }
+        JobEnd::Done(self.most)
+    }
+}
+
+impl<C: Clock + Sync> Job for TcpJob<'_, C> {
+    fn run<R: Wait, A: Answering, G: Gate, L: Journal>(
+        &mut self,
+        rt: &R,
+        answering: &mut A,
+        gate: &G,
+        journal: &L,
+    ) {
+        let end = self.serve_all(rt, answering, gate, journal);
+        self.end = Some(end);
+        let (worker, transport) = (self.number, Transport::Tcp);
+        journal.tell(
+            rt,
+            Event::End {
+                worker,
+                transport,
+                end,
+            },
+        );
     }
 }

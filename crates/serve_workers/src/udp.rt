@@ -7,9 +7,11 @@ ghost use Rattle.serve_workers.specs.Replied.{by_datagram};
 use crate::allowed::Allowed;
 use crate::datagrams::{Datagrams, SharedSocket};
 use crate::gate::Gate;
+use crate::journal::{Event, JobEnd, Journal};
 use crate::scratch::Scratch;
 use crate::stream::Answering;
 use crate::workers::Job;
+use serve_core::Transport;
 use snapshot_cell::Spent;
 use std::net::{SocketAddr, UdpSocket};
 use std::sync::Wait;
@@ -68,7 +70,7 @@ fn turn<R: Wait, A: Answering, D: Datagrams, G: Gate>(
     let Some((len, from)) = datagrams.receive(request) else {
         return Some(DatagramsEnd::Device);
     };
-    answering.turn_to(allowed.peer(from, false));
+    answering.turn_to(allowed.peer(from, false), from);
     gate.enter();
     let replied = reply(rt, answering, datagrams, &request[..len], from, out);
     gate.leave();
@@ -105,41 +107,61 @@ pub fn serve_udp<R: Wait, A: Answering, D: Datagrams, G: Gate>(
     DatagramsEnd::Done
 }
 
+/// How a job has ended that answers so many requests.
+fn job_end_of(end: DatagramsEnd, most: u64) -> JobEnd {
+    match end {
+        DatagramsEnd::Done => JobEnd::Done(most),
+        DatagramsEnd::Device => JobEnd::Device,
+        DatagramsEnd::Spent => JobEnd::Spent,
+    }
+}
+
 /// A worker's job on a socket of datagrams.
 #[derive(Drop)]
 pub struct UdpJob<'a> {
+    number: usize,
     datagrams: SharedSocket<'a>,
     allowed: Allowed<'a>,
     most: u64,
-    has_failed: bool,
+    end: Option<JobEnd>,
     scratch: Scratch,
 }
 
 impl<'a> UdpJob<'a> {
-    /// The job of answering so many requests on a socket that workers share.
+    /// The job of a worker, by its number: to answer so many requests on a socket that workers share.
     pub fn new(
+        number: usize,
         socket: &'a UdpSocket,
         allowed: Allowed<'a>,
         most: u64,
         scratch: Scratch,
     ) -> UdpJob<'a> {
         UdpJob {
+            number,
             datagrams: SharedSocket::new(socket),
             allowed,
             most,
-            has_failed: false,
+            end: None,
             scratch,
         }
     }
 
-    /// Whether it has ended since a receive failed.
-    pub fn has_failed(&self) -> bool {
-        self.has_failed
+    /// How it has ended; none where it hasn't yet.
+    pub fn end(&self) -> Option<JobEnd>
+        ensures { result ≡ self.now.end }
+    {
+        self.end
     }
 }
 
 impl Job for UdpJob<'_> {
-    fn run<R: Wait, A: Answering, G: Gate>(&mut self, rt: &R, answering: &mut A, gate: &G) {
+    fn run<R: Wait, A: Answering, G: Gate, L: Journal>(
+        &mut self,
+        rt: &R,
+        answering: &mut A,
+        gate: &G,
+        journal: &L,
+    ) {
         let Scratch { request, reply, .. } = &mut self.scratch;
         let end = serve_udp(
             rt,
@@ -151,6 +173,16 @@ impl Job for UdpJob<'_> {
             request,
             reply,
         );
-        self.has_failed = end != DatagramsEnd::Done;
+        let end = job_end_of(end, self.most);
+        self.end = Some(end);
+        let (worker, transport) = (self.number, Transport::Udp);
+        journal.tell(
+            rt,
+            Event::End {
+                worker,
+                transport,
+                end,
+            },
+        );
     }
 }

@@ -1,19 +1,28 @@
 //! Workers: jobs, each on a thread of its own.
 use crate::asked::Asked;
 use crate::gate::Gate;
+use crate::journal::Journal;
 use crate::server::Server;
 use crate::stream::Answering;
 use dns_engine::{FirstZone, VersionReader};
 use serve_core::{Peer, Transport};
 use std::alloc::Global;
+use std::net::{Ipv4Addr, SocketAddr, SocketAddrV4};
 use std::sync::Wait;
 use std::sync::atomic::{AtomicBool, Ordering};
 use std::thread::{self, Threads};
 
 /// What a worker does.
 pub trait Job: Send + Drop {
-    /// Does it, by one who answers each peer that it is turned to. Each request goes through the gate.
-    fn run<R: Wait, A: Answering, G: Gate>(&mut self, rt: &R, answering: &mut A, gate: &G);
+    /// Does it, by one who answers each peer that it is turned to. Each request goes through the gate; the journal is told how the job
+    /// ends.
+    fn run<R: Wait, A: Answering, G: Gate, L: Journal>(
+        &mut self,
+        rt: &R,
+        answering: &mut A,
+        gate: &G,
+        journal: &L,
+    );
 }
 
 /// Not all jobs were done, since a thread couldn't be started, or there was no memory to keep track of them: the pairs come back.
@@ -26,25 +35,34 @@ trait Work: Send + Drop {
     fn work<R: Wait>(&mut self, rt: &R);
 }
 
-/// A job, with the reader, the server and the gate that it is done with.
+/// Nobody's address.
+fn nobody() -> SocketAddr {
+    SocketAddr::V4(SocketAddrV4::new(Ipv4Addr::new(0, 0, 0, 0), 0))
+}
+
+/// A job, with the reader, the server, the gate and the journal that it is done with.
 #[derive(Drop)]
-struct Worker<'g, 's, Z: FirstZone, J, G> {
+struct Worker<'g, 's, Z: FirstZone, J, G, L> {
     alloc: Global,
     server: &'g Server<'s, Z>,
     gate: &'g G,
+    journal: &'g L,
     reader: VersionReader<Z>,
     job: J,
 }
 
-impl<'g, 's, Z: FirstZone + Send + Sync, J: Job, G: Gate + Sync> Work for Worker<'g, 's, Z, J, G> {
+impl<'g, 's, Z: FirstZone + Send + Sync, J: Job, G: Gate + Sync, L: Journal + Sync> Work
+    for Worker<'g, 's, Z, J, G, L> {
     fn work<R: Wait>(&mut self, rt: &R) {
         let mut asked = Asked::new(
             self.alloc,
             self.server,
             &mut self.reader,
+            self.journal,
             Peer::over(Transport::Udp, false),
+            nobody(),
         );
-        self.job.run(rt, &mut asked, self.gate);
+        self.job.run(rt, &mut asked, self.gate, self.journal);
     }
 }
 
@@ -100,12 +118,14 @@ pub fn run_workers<
     Z: FirstZone + Send + Sync,
     J: Job,
     G: Gate + Sync,
+    L: Journal + Sync,
 >(
     rt: &R,
     alloc: Global,
     server: &'g Server<'s, Z>,
     pairs: Vec<(VersionReader<Z>, J)>,
     gate: &'g G,
+    journal: &'g L,
 ) -> Result<Vec<(VersionReader<Z>, J)>, NotStarted<Z, J>> {
     let count = pairs.len();
     let (Ok(mut works), Ok(mut done), Ok(mut back)) = (
@@ -120,6 +140,7 @@ pub fn run_workers<
             alloc,
             server,
             gate,
+            journal,
             reader,
             job,
         });

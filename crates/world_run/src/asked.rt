@@ -6,10 +6,9 @@ ghost use Rattle.world_run.specs.World.{answering, ask_said, ask_start, asks_sen
 ghost use Rattle.world_run.specs.declared.step.Answer.TheVariants.{Reply};
 
 use crate::fault::WorldFault;
-use crate::judged::UPDATE;
 use crate::lent::Request;
 use crate::step::{Answer, Octets};
-use dns_message::{Head, Parsed, Query, parse};
+use dns_message::{Head, OPCODE_UPDATE, Parsed, Query, parse};
 use dns_rdata::Rcode;
 use serve_core::{Peer, Transport, UDP_LIMIT, is_permitted, respond_to, write_bare};
 use std::alloc::Global;
@@ -27,7 +26,7 @@ pub(crate) fn answer_in(
 {
     match parse(alloc, request.as_slice()) {
         Parsed::Silent => Ok(Some(Answer::Silent)),
-        Parsed::Fault(head, _) if head.opcode == UPDATE => Ok(None),
+        Parsed::Fault(head, _) if head.opcode == OPCODE_UPDATE => Ok(None),
         Parsed::Fault(head, code) => Ok(Some(reply_with(alloc, head, code)?)),
         Parsed::Query(query) => answer_query(alloc, version, &query),
         Parsed::Update(_update) => Ok(None),

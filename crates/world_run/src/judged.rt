@@ -8,14 +8,11 @@ ghost use Rattle.update_core.specs.Applied.{code_of};
 use crate::fault::WorldFault;
 use crate::lent::Request;
 use crate::published::Published;
-use dns_message::{Head, Parsed, Update, parse};
+use dns_message::{Head, OPCODE_UPDATE, Parsed, Update, parse};
 use dns_rdata::Rcode;
 use std::alloc::Global;
 use update_core::{Outcome, apply};
 use zone_tree::Version;
-
-/// The OPCODE of a dynamic update (RFC 2136, 1.3).
-pub(crate) const UPDATE: u8 = 5;
 
 /// What an update comes to.
 #[derive(Drop)]
@@ -54,7 +51,7 @@ pub(crate) fn judge(
 fn judge_fault(head: Head, code: Rcode) -> Option<Judged>
     ensures { result ≡ (if head.opcode == opcode_UPDATE then Some (Told head code) else None) }
 {
-    if head.opcode == UPDATE {
+    if head.opcode == OPCODE_UPDATE {
         return Some(Judged::Told(head, code));
     }
     None

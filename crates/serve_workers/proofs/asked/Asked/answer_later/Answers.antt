@@ -5,6 +5,9 @@ use Rattle.serve_workers.proofs.asked.Asked.answer_later.Goals as goal
 pub returns-in-Reply-clause-broken : goal.returns-in-Reply-clause-broken
 returns-in-Reply-clause-broken g c = reply_broken _ c.write_frame.result _ _ _ _ _ _ c.in-Reply.ensures.1 c.write_frame.ensures.failed (part_of_one c.write_frame.result _ _ _ c.write_frame.ensures.part)
 
+pub returns-in-Updated-clause-broken : goal.returns-in-Updated-clause-broken
+returns-in-Updated-clause-broken g c = reply_broken _ c.write_frame-in-Updated.result _ _ _ _ _ _ c.in-Updated.ensures.1 c.write_frame-in-Updated.ensures.failed (part_of_one c.write_frame-in-Updated.result _ _ _ c.write_frame-in-Updated.ensures.part)
+
 pub returns-in-Transfer-clause-replied : goal.returns-in-Transfer-clause-replied
 returns-in-Transfer-clause-replied g c = reply_written _ c.send_transfer.result _ _ _ _ _ _ c.in-Transfer.ensures.1 c.send_transfer.ensures.whole
 
