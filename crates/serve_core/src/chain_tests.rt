@@ -1,16 +1,12 @@
 //! Incremental transfers: what is sent of versions that updates make, one after the other, by the octets that RFC 1035, 4.1 and
 //! RFC 1995, 4 and 7 give for it, put together by hand. Zones, updates and what is wanted are tables as text, a row a line.
-ghost use Rattle.std.specs.Prelude.{◌≤◌, length};
-
 use crate::tests::{octets_of, version_of};
 use crate::{Peer, Transport, is_permitted, transfer_reply};
-use dns_message::{Parsed, parse};
+use dns_message::{Parsed, Query, parse};
 use dns_name::Name;
 use dns_rdata::{RType, Serial};
 use std::alloc::Global;
-use std::process::Abort;
-use std::test::Fail;
-use transfer_core::{ChainView, MAX_MESSAGE, VersionList, chain_since, steps};
+use transfer_core::{ChainView, LentRecord, MAX_MESSAGE, VersionList, chain_since, steps};
 use update_core::{Outcome, apply};
 use zone_tree::Version;
 
@@ -67,30 +63,30 @@ const ALONE: &str =
     "123484000001000100000000076578616d706c6504746573740000fb0001c00c0006000100000e100022036e7331c00c0561646d696ec00c0000000200001c2000000384001275000000012c";
 
 /// The version that an update makes.
-fn after(alloc: Global, version: &Version, update: &str) -> Result<Version, Fail> {
+fn after(alloc: Global, version: &Version, update: &str) -> Option<Version> {
     let octets = octets_of(alloc, update)?;
     let Parsed::Update(update) = parse(alloc, &octets) else {
-        return Err(Fail::from("no update"));
+        return None;
     };
     if version.number() > 99 {
-        return Err(Fail::from("too many versions"));
+        return None;
     }
     match apply(alloc, version, &update, true) {
-        Outcome::Next(next) => Ok(next),
-        _ => Err(Fail::from("no next version")),
+        Outcome::Next(next) => Some(next),
+        _ => None,
     }
 }
 
 /// The version of a zone, and those that updates make, one after the other.
-fn versions(alloc: Global, zone: &str, updates: &str) -> Result<Vec<Version>, Fail> {
+fn versions(alloc: Global, zone: &str, updates: &str) -> Option<Vec<Version>> {
     let mut all = Vec::new(alloc);
-    all.push(version_of(alloc, zone)?)?;
+    let first = version_of(alloc, zone)?;
+    all.push(first).ok()?;
     for update in updates.lines() {
-        let last = all.last().ok_or("no version")?;
-        let next = after(alloc, last, update)?;
-        all.push(next)?;
+        let next = after(alloc, all.last()?, update)?;
+        all.push(next).ok()?;
     }
-    Ok(all)
+    Some(all)
 }
 
 /// How many versions are told of since a serial, of those that are kept up to a place, in a window of so many; None where they
@@ -100,85 +96,134 @@ fn told(kept: &Vec<Version>, upto: usize, window: usize, serial: u32) -> Option<
         return None;
     }
     let chain = chain_since(kept, upto, window, Serial(serial));
-    chain.is_whole().then(|| chain.len())
+    if !chain.is_whole() {
+        return None;
+    }
+    Some(chain.len())
 }
 
-/// Wants so many versions in each row's case, a `-` where none is told of. A row is a place, a window, a serial, and what is wanted.
-fn check(rt: &impl Abort, kept: &Vec<Version>, rows: &str) -> Result<(), Fail> {
+/// Whether so many versions are told of as a row says, a `-` where none is: a place, a window, a serial, and what is wanted.
+fn is_told(kept: &Vec<Version>, row: &str) -> Option<bool> {
+    let mut words = row.split(' ');
+    let upto = words.next()?.parse::<usize>().ok()?;
+    let window = words.next()?.parse::<usize>().ok()?;
+    let serial = words.next()?.parse::<u32>().ok()?;
+    let wanted = words.next()?.parse::<usize>().ok();
+    Some(told(kept, upto, window, serial) == wanted)
+}
+
+/// The first row that doesn't hold of the versions that are kept.
+fn first_wrong(kept: &Vec<Version>, rows: &'static str) -> Option<&'static str> {
     for row in rows.lines() {
-        let mut words = row.split(' ');
-        let upto = words.next().unwrap_or("").parse()?;
-        let window = words.next().unwrap_or("").parse()?;
-        let serial = words.next().unwrap_or("").parse()?;
-        let wanted = words.next().and_then(|word| word.parse().ok());
-        assert_eq!(rt; told(kept, upto, window, serial), wanted, "{row}");
+        if is_told(kept, row) != Some(true) {
+            return Some(row);
+        }
     }
-    Ok(())
+    None
+}
+
+/// Whether a record is a row's: its owner, its type's number, and its data in hexadecimal.
+fn is_record(alloc: Global, record: &LentRecord, row: &str) -> Option<bool> {
+    let mut words = row.split(' ');
+    let owner = Name::from_text(words.next()?.as_bytes(), &Name::root()).ok()?;
+    let rtype = RType(words.next()?.parse::<u16>().ok()?);
+    let octets = octets_of(alloc, words.next()?)?;
+    Some(
+        record.owner().to_name() == owner
+            && record.rtype() == rtype
+            && record.rdata().octets() == octets.as_slice(),
+    )
+}
+
+/// Whether the newest two versions of a zone change what rows say since serial 1.
+fn are_changes(alloc: Global, kept: &Vec<Version>, rows: &str) -> Option<bool> {
+    if kept.len() != 2 {
+        return None;
+    }
+    let chain = chain_since(kept, 2, 16, Serial(1));
+    if !chain.is_whole() {
+        return Some(false);
+    }
+    let served = kept.last()?;
+    let mut rows = rows.lines();
+    for record in steps(served.zone(), &chain) {
+        if is_record(alloc, &record, rows.next()?) != Some(true) {
+            return Some(false);
+        }
+    }
+    Some(rows.next().is_none())
 }
 
 // RFC 1995, 7: three versions, of which the first isn't kept.
 #[test]
-fn three_versions(rt: HostRuntime) -> Result<(), Fail> {
-    let alloc = rt.alloc();
-    let mut kept = versions(alloc, JAIN, JAIN_UPDATES)?;
-    if kept.len() != 3 {
-        return Err(Fail::from("three versions"));
-    }
+fn three_versions(rt: HostRuntime) {
+    let mut kept = versions(rt.alloc(), JAIN, JAIN_UPDATES).expect(&rt, "versions");
+    assert_eq!(rt; kept.len(), 3);
     let _first = kept.remove(0);
-    let chain = chain_since(&kept, 2, 16, Serial(1));
-    assert!(rt; chain.is_whole());
-    let served = kept.last().ok_or("no version")?;
-    let mut rows = JAIN_CHANGES.lines();
-    for record in steps(served.zone(), &chain) {
-        let row = rows.next().ok_or("one too many")?;
-        let mut words = row.split(' ');
-        let owner = Name::from_text(words.next().unwrap_or("").as_bytes(), &Name::root())?;
-        assert!(rt; record.owner().to_name() == owner, "{row}");
-        assert!(rt;
-            record.rtype() == RType(words.next().unwrap_or("").parse()?),
-            "{row}"
-        );
-        let octets = octets_of(alloc, words.next().unwrap_or(""))?;
-        assert_eq!(rt; record.rdata().octets(), octets.as_slice(), "{row}");
-    }
-    assert!(rt; rows.next().is_none());
-    Ok(())
+    assert!(rt; are_changes(rt.alloc(), &kept, JAIN_CHANGES) == Some(true));
 }
+
+/// What three versions that are kept tell, and what the last two and the last one tell.
+const WINDOWS: &str = "\
+3 16 1 2\n\
+3 16 2 1\n\
+3 16 3 -\n\
+3 16 4 -\n\
+3 3 1 2\n\
+3 2 1 -\n\
+3 2 2 1\n\
+3 0 2 -\n\
+2 16 1 1\n\
+2 3 1 1\n\
+2 2 1 -\n\
+1 16 0 -\n\
+0 16 1 -\n";
+
+const WINDOWS_OF_TWO: &str = "\
+2 16 1 2\n\
+2 16 2 1\n\
+1 16 1 1\n";
+
+const WINDOWS_OF_ONE: &str = "\
+1 16 1 -\n\
+1 16 2 1\n\
+0 16 2 -\n";
 
 // The window has at most so many of the newest versions, and the asker's is one of them; up to an older version it is a part of
 // the same (own).
 #[test]
-fn windows(rt: HostRuntime) -> Result<(), Fail> {
-    let mut kept = versions(rt.alloc(), JAIN, JAIN_UPDATES)?;
-    check(
-        &rt,
-        &kept,
-        "3 16 1 2\n3 16 2 1\n3 16 3 -\n3 16 4 -\n3 3 1 2\n3 2 1 -\n3 2 2 1\n3 0 2 -\n2 16 1 1\n2 3 1 1\n2 2 1 -\n1 16 0 -\n0 16 1 -\n",
-    )?;
-    if kept.len() == 3 {
-        let _first = kept.remove(0);
-        check(&rt, &kept, "2 16 1 2\n2 16 2 1\n1 16 1 1\n")?;
-    }
-    if kept.len() == 2 {
-        let _second = kept.remove(0);
-        check(&rt, &kept, "1 16 1 -\n1 16 2 1\n0 16 2 -\n")?;
-    }
-    Ok(())
+fn windows(rt: HostRuntime) {
+    let mut kept = versions(rt.alloc(), JAIN, JAIN_UPDATES).expect(&rt, "versions");
+    assert_eq!(rt; first_wrong(&kept, WINDOWS), None);
+    assert_eq!(rt; kept.len(), 3);
+    let _first = kept.remove(0);
+    assert_eq!(rt; first_wrong(&kept, WINDOWS_OF_TWO), None);
+    assert_eq!(rt; kept.len(), 2);
+    let _second = kept.remove(0);
+    assert_eq!(rt; first_wrong(&kept, WINDOWS_OF_ONE), None);
 }
 
 // The serial behind 4294967295 is 0; serials that come round the ring leave the window (RFC 1982, 3.1 and 3.2; own).
 #[test]
-fn ring_of_serials(rt: HostRuntime) -> Result<(), Fail> {
-    let alloc = rt.alloc();
-    let kept = versions(alloc, LAST_SERIAL, NEW)?;
-    check(&rt, &kept, "2 16 4294967295 1\n2 16 0 -\n")?;
-    let kept = versions(alloc, ZONE, ROUND)?;
-    check(
-        &rt,
-        &kept,
-        "4 16 1 -\n4 16 2147483648 -\n4 16 4294967295 1\n4 16 2147483646 -\n2 16 1 -\n",
-    )
+fn ring_of_serials(rt: HostRuntime) {
+    let kept = versions(rt.alloc(), LAST_SERIAL, NEW).expect(&rt, "versions");
+    assert_eq!(rt; first_wrong(&kept, BEHIND_THE_LAST), None);
+    let kept = versions(rt.alloc(), ZONE, ROUND).expect(&rt, "versions");
+    assert_eq!(rt; first_wrong(&kept, ROUND_THE_RING), None);
 }
+
+/// What is told behind the last serial.
+const BEHIND_THE_LAST: &str = "\
+2 16 4294967295 1\n\
+2 16 0 -\n";
+
+/// What is told behind updates that go round the ring.
+const ROUND_THE_RING: &str = "\
+4 16 1 -\n\
+4 16 2147483648 -\n\
+4 16 4294967295 1\n\
+4 16 2147483646 -\n\
+2 16 1 -\n";
 
 /// The small zone, of serial 4294967295.
 const LAST_SERIAL: &str = "\
@@ -192,40 +237,38 @@ const ROUND: &str = "\
 000128000001000000010000076578616d706c6504746573740000060001c00c0006000100000e10003a036e7331076578616d706c650474657374000561646d696e076578616d706c65047465737400ffffffff00001c2000000384001275000000012c\n\
 000128000001000000010000076578616d706c6504746573740000060001c00c0006000100000e10003a036e7331076578616d706c650474657374000561646d696e076578616d706c650474657374007ffffffe00001c2000000384001275000000012c\n";
 
-/// Asks what changed since serial 1 for the last of the versions that are kept, and wants this one message.
-fn check_sent(
-    rt: &impl Abort,
-    alloc: Global,
-    kept: &Vec<Version>,
-    transport: Transport,
-    wanted: &str,
-) -> Result<(), Fail> {
+/// Whether what changed since a query's serial is sent of the last of the versions that are kept, as this one message.
+fn sends(kept: &Vec<Version>, query: &Query, transport: Transport, wanted: &[u8]) -> Option<bool> {
     let peer = Peer::over(transport, true);
-    let request = octets_of(alloc, SINCE_1)?;
-    let Parsed::Query(query) = parse(alloc, &request) else {
-        return Err(Fail::from("no query"));
-    };
-    let version = kept.last().ok_or("no version")?;
-    if !is_permitted(version, &query, peer) {
-        return Err(Fail::from("not permitted"));
+    let version = kept.last()?;
+    if !is_permitted(version, query, peer) {
+        return None;
     }
-    let chain = chain_since(kept, kept.len(), 16, query.serial.unwrap_or(Serial(0)));
-    let mut packer = transfer_reply(version, &chain, &query, peer);
+    let serial = query.serial?;
+    let chain = chain_since(kept, kept.len(), 16, serial);
+    let mut packer = transfer_reply(version, &chain, query, peer);
     let mut out = [0xee; MAX_MESSAGE];
+    if packer.next_message(&mut out) != Some(wanted.len()) || !out.starts_with(wanted) {
+        return Some(false);
+    }
+    Some(packer.next_message(&mut out).is_none())
+}
+
+/// Whether what changed since serial 1 is sent, behind an update of the small zone, as this one message.
+fn is_sent(alloc: Global, update: &str, transport: Transport, wanted: &str) -> Option<bool> {
+    let kept = versions(alloc, ZONE, update)?;
+    let request = octets_of(alloc, SINCE_1)?;
     let wanted = octets_of(alloc, wanted)?;
-    assert_eq!(rt; packer.next_message(&mut out), Some(wanted.len()));
-    assert!(rt; out.starts_with(&wanted));
-    assert_eq!(rt; packer.next_message(&mut out), None);
-    Ok(())
+    match parse(alloc, &request) {
+        Parsed::Query(query) => sends(&kept, &query, transport, &wanted),
+        _ => None,
+    }
 }
 
 // What changed in 204 octets; over UDP the SOA alone where that doesn't fit (RFC 1995, 2 and 4).
 #[test]
-fn changes_are_sent(rt: HostRuntime) -> Result<(), Fail> {
-    let alloc = rt.alloc();
-    let kept = versions(alloc, ZONE, NEW)?;
-    check_sent(&rt, alloc, &kept, Transport::Tcp, CHANGES)?;
-    check_sent(&rt, alloc, &kept, Transport::Udp, CHANGES)?;
-    let kept = versions(alloc, ZONE, TEXT)?;
-    check_sent(&rt, alloc, &kept, Transport::Udp, ALONE)
+fn changes_are_sent(rt: HostRuntime) {
+    assert!(rt; is_sent(rt.alloc(), NEW, Transport::Tcp, CHANGES) == Some(true));
+    assert!(rt; is_sent(rt.alloc(), NEW, Transport::Udp, CHANGES) == Some(true));
+    assert!(rt; is_sent(rt.alloc(), TEXT, Transport::Udp, ALONE) == Some(true));
 }

@@ -1,14 +1,12 @@
 //! Replies in a whole zone, by the octets that RFC 1035, 4.1 gives for them, put together by hand. Zones and replies are
 //! tables as text, a row a line.
-ghost use Rattle.std.specs.Prelude.{◌≡◌, IfOk};
+ghost use Rattle.std.specs.Prelude.{◌≡◌, IfSome};
 
 use crate::{TCP_LIMIT, Transport, UDP_LIMIT, respond};
-use dns_message::parse;
+use dns_message::{Parsed, parse};
 use dns_name::Name;
 use dns_rdata::{RData, RRset, RType, Ttl};
 use std::alloc::Global;
-use std::process::Abort;
-use std::test::Fail;
 use zone_tree::{Version, Zone};
 
 /// A zone with an alias. A row is an owner below `example.test.`, a type's number, and the data's octets in hexadecimal; the last of
@@ -34,107 +32,163 @@ const REPLIES: &str = "\
 123400000001000000000000036e65740000010001 123480050001000000000000036e65740000010001 a name outside\n";
 
 /// The octets that hexadecimal stands for.
-pub(crate) fn octets_of(alloc: Global, text: &str) -> Result<Vec<u8>, Fail> {
+pub(crate) fn octets_of(alloc: Global, text: &str) -> Option<Vec<u8>> {
     let mut octets = Vec::new(alloc);
     for pair in text.as_bytes().chunks(2) {
-        let digits = std::str::from_utf8(pair)?;
-        octets.push(u8::from_str_radix(digits, 16)?)?;
+        let digits = std::str::from_utf8(pair).ok()?;
+        let octet = u8::from_str_radix(digits, 16).ok()?;
+        octets.push(octet).ok()?;
     }
-    Ok(octets)
+    Some(octets)
 }
 
 /// The set of a row, of one record.
-fn set_of(alloc: Global, row: &str) -> Result<RRset, Fail> {
+fn set_of(alloc: Global, row: &str) -> Option<RRset> {
     let mut words = row.split(' ');
-    let origin = Name::from_text(b"example.test.", &Name::root())?;
-    let owner = Name::from_text(words.next().unwrap_or("").as_bytes(), &origin)?;
-    let rtype = RType(words.next().unwrap_or("").parse()?);
-    let octets = octets_of(alloc, words.next().unwrap_or(""))?;
-    let data = RData::from_wire(alloc, rtype, &octets)?;
-    Ok(RRset::new(alloc, &owner, Ttl(3600), data)?)
+    let origin = Name::from_text(b"example.test.", &Name::root()).ok()?;
+    let owner = Name::from_text(words.next()?.as_bytes(), &origin).ok()?;
+    let rtype = RType(words.next()?.parse::<u16>().ok()?);
+    let octets = octets_of(alloc, words.next()?)?;
+    let data = RData::from_wire(alloc, rtype, &octets).ok()?;
+    RRset::new(alloc, &owner, Ttl(3600), data).ok()
 }
 
 /// The first version of the zone of rows in canonical order, each a set.
-pub(crate) fn version_of(alloc: Global, rows: &str) -> Result<Version, Fail>
-    ensures { IfOk result (λ version. version.number ≡ 0) }
+pub(crate) fn version_of(alloc: Global, rows: &str) -> Option<Version>
+    ensures { IfSome result (λ version. version.number ≡ 0) }
 {
-    let mut sets: Vec<RRset> = Vec::new(alloc);
+    let mut sets = Vec::new(alloc);
     for row in rows.lines() {
-        sets.push(set_of(alloc, row)?)?;
+        let set = set_of(alloc, row)?;
+        sets.push(set).ok()?;
     }
-    Ok(Version::first(Zone::new(alloc, sets)?))
+    let zone = Zone::new(alloc, sets).ok()?;
+    Some(Version::first(zone))
 }
 
-/// Sends each row's request over a transport, and wants the reply behind it.
-fn check(rt: &impl Abort, alloc: Global, transport: Transport) -> Result<(), Fail> {
-    let version = version_of(alloc, ZONE)?;
+/// What a request gets in a version of the zone: how many octets the reply has, and whether there is another version behind it.
+pub(crate) fn served(
+    alloc: Global,
+    version: &Version,
+    transport: Transport,
+    may: bool,
+    said: &Parsed,
+    out: &mut [u8; TCP_LIMIT],
+) -> (Option<usize>, bool) {
+    if version.number() > 9 {
+        return (None, true);
+    }
+    let served = respond(alloc, version, transport, may, said, out);
+    (served.len, served.next.is_some())
+}
+
+/// Whether a request gets these octets, or no reply, and makes no version.
+fn gets(
+    alloc: Global,
+    version: &Version,
+    transport: Transport,
+    request: &[u8],
+    reply: Option<&[u8]>,
+) -> bool {
+    let said = parse(alloc, request);
     let mut out = [0; TCP_LIMIT];
-    for row in REPLIES.lines() {
-        let mut words = row.split(' ');
-        let request = octets_of(alloc, words.next().unwrap_or(""))?;
-        let want = words.next().unwrap_or("-");
-        let said = parse(alloc, &request);
-        let served = respond(alloc, &version, transport, true, &said, &mut out);
-        assert!(rt; served.next.is_none(), "{row}");
-        match served.len {
-            None => assert_eq!(rt; want, "-", "{row}"),
-            Some(len) => {
-                let reply = octets_of(alloc, want)?;
-                assert_eq!(rt; len, reply.len(), "{row}");
-                assert!(rt; out.starts_with(&reply), "{row}");
-            }
+    match (
+        served(alloc, version, transport, true, &said, &mut out),
+        reply,
+    ) {
+        ((None, false), None) => true,
+        ((Some(len), false), Some(reply)) => len == reply.len() && out.starts_with(reply),
+        _ => false,
+    }
+}
+
+/// Whether a row's request gets the reply behind it over a transport.
+fn is_answered(alloc: Global, version: &Version, transport: Transport, row: &str) -> Option<bool> {
+    let mut words = row.split(' ');
+    let request = words.next()?;
+    let reply = words.next()?;
+    let request = octets_of(alloc, request)?;
+    if reply == "-" {
+        return Some(gets(alloc, version, transport, &request, None));
+    }
+    let reply = octets_of(alloc, reply)?;
+    Some(gets(alloc, version, transport, &request, Some(&reply)))
+}
+
+/// The first row whose request gets another reply over a transport; None where there is none.
+fn first_wrong(
+    alloc: Global,
+    version: &Version,
+    transport: Transport,
+    rows: &'static str,
+) -> Option<&'static str> {
+    for row in rows.lines() {
+        if is_answered(alloc, version, transport, row) != Some(true) {
+            return Some(row);
         }
     }
-    Ok(())
+    None
 }
 
 #[test]
-fn replies_over_udp(rt: HostRuntime) -> Result<(), Fail> {
-    check(&rt, rt.alloc(), Transport::Udp)
+fn replies_over_udp(rt: HostRuntime) {
+    let version = version_of(rt.alloc(), ZONE).expect(&rt, "a version");
+    assert_eq!(rt;
+        first_wrong(rt.alloc(), &version, Transport::Udp, REPLIES),
+        None
+    );
 }
 
 #[test]
-fn replies_over_tcp(rt: HostRuntime) -> Result<(), Fail> {
-    check(&rt, rt.alloc(), Transport::Tcp)
+fn replies_over_tcp(rt: HostRuntime) {
+    let version = version_of(rt.alloc(), ZONE).expect(&rt, "a version");
+    assert_eq!(rt;
+        first_wrong(rt.alloc(), &version, Transport::Tcp, REPLIES),
+        None
+    );
 }
 
-/// The sets at the apex of a zone.
-const APEX: &str = "\
+/// A zone with a text at `big`, whose reply has 512 octets: header and question have 34, what stands in front of the data 12, the first
+/// two strings 128 each, and the third 210.
+const FITS: &str = "\
 example.test. 2 036e7331076578616d706c65047465737400\n\
-example.test. 6 00000000000100001c2000000384001275000000012c\n";
+example.test. 6 00000000000100001c2000000384001275000000012c\n\
+big 16 7f777777777777777777777777777777777777777777777777777777777777777777777777777777777777777777777777777777777777777777777777777777777777777777777777777777777777777777777777777777777777777777777777777777777777777777777777777777777777777777777777777777777777777f77777777777777777777777777777777777777777777777777777777777777777777777777777777777777777777777777777777777777777777777777777777777777777777777777777777777777777777777777777777777777777777777777777777777777777777777777777777777777777777777777777777777777d17777777777777777777777777777777777777777777777777777777777777777777777777777777777777777777777777777777777777777777777777777777777777777777777777777777777777777777777777777777777777777777777777777777777777777777777777777777777777777777777777777777777777777777777777777777777777777777777777777777777777777777777777777777777777777777777777777777777777777777777777777777777777777777777777777777777777777777777777777777777\n";
+
+/// The same with an octet more.
+const OVER: &str = "\
+example.test. 2 036e7331076578616d706c65047465737400\n\
+example.test. 6 00000000000100001c2000000384001275000000012c\n\
+big 16 7f777777777777777777777777777777777777777777777777777777777777777777777777777777777777777777777777777777777777777777777777777777777777777777777777777777777777777777777777777777777777777777777777777777777777777777777777777777777777777777777777777777777777777f77777777777777777777777777777777777777777777777777777777777777777777777777777777777777777777777777777777777777777777777777777777777777777777777777777777777777777777777777777777777777777777777777777777777777777777777777777777777777777777777777777777777777d2777777777777777777777777777777777777777777777777777777777777777777777777777777777777777777777777777777777777777777777777777777777777777777777777777777777777777777777777777777777777777777777777777777777777777777777777777777777777777777777777777777777777777777777777777777777777777777777777777777777777777777777777777777777777777777777777777777777777777777777777777777777777777777777777777777777777777777777777777777777777\n";
 
 /// The query for `big.example.test.`, type TXT, with RD 1.
 const BIG: &str = "12340100000100000000000003626967076578616d706c6504746573740000100001";
 
-/// Asks for a text whose reply has so many octets; over UDP it is sent whole, or is cut to header and question.
-fn check_limit(rt: &impl Abort, alloc: Global, whole: usize, over_udp: usize) -> Result<(), Fail> {
-    // header and question have 34 octets, what stands in front of the data 12, and each of the first two strings 128
-    let last = whole.saturating_sub(34 + 12 + 2 * 128 + 1);
-    let digits = last.saturating_mul(2);
-    let rows = format!(in alloc;
-        "{APEX}big 16 7f{:7>254}7f{:7>254}{last:02x}{:7>digits$}\n",
-        "", "", ""
-    )?;
-    let version = version_of(alloc, &rows)?;
-    let said = parse(alloc, &octets_of(alloc, BIG)?);
+/// Whether a request's reply of so many octets over TCP has so many over UDP, where it is cut to header and question if it isn't whole.
+fn is_cut(alloc: Global, version: &Version, request: &[u8], whole: usize, over_udp: usize) -> bool {
+    let said = parse(alloc, request);
     let mut out = [0; TCP_LIMIT];
-    let served = respond(alloc, &version, Transport::Tcp, false, &said, &mut out);
-    assert_eq!(rt; served.len, Some(whole));
-    assert!(rt; out.starts_with(b"\x12\x34\x85\x00\x00\x01\x00\x01\x00\x00\x00\x00\x03big"));
-    let served = respond(alloc, &version, Transport::Udp, false, &said, &mut out);
-    assert_eq!(rt; served.len, Some(over_udp));
-    let code: &[u8] = if over_udp == whole {
-        b"\x12\x34\x85\x00"
-    } else {
-        b"\x12\x34\x87\x00"
-    };
-    assert!(rt; out.starts_with(code));
-    Ok(())
+    let (len, _) = served(alloc, version, Transport::Tcp, false, &said, &mut out);
+    let front = b"\x12\x34\x85\x00\x00\x01\x00\x01\x00\x00\x00\x00\x03big";
+    if len != Some(whole) || !out.starts_with(front) {
+        return false;
+    }
+    let (len, _) = served(alloc, version, Transport::Udp, false, &said, &mut out);
+    // the bit TC
+    let flags = if over_udp == whole { 0x85 } else { 0x87 };
+    len == Some(over_udp) && out.starts_with(&[0x12, 0x34, flags, 0])
+}
+
+/// Whether the reply for the text of a zone has so many octets over TCP, and so many over UDP.
+fn is_cut_to(alloc: Global, zone: &str, whole: usize, over_udp: usize) -> Option<bool> {
+    let version = version_of(alloc, zone)?;
+    let request = octets_of(alloc, BIG)?;
+    Some(is_cut(alloc, &version, &request, whole, over_udp))
 }
 
 // RFC 1035, 4.2.1: 512 octets.
 #[test]
-fn limits(rt: HostRuntime) -> Result<(), Fail> {
-    check_limit(&rt, rt.alloc(), UDP_LIMIT, UDP_LIMIT)?;
-    check_limit(&rt, rt.alloc(), UDP_LIMIT + 1, 34)
+fn limits(rt: HostRuntime) {
+    assert!(rt; is_cut_to(rt.alloc(), FITS, UDP_LIMIT, UDP_LIMIT) == Some(true));
+    assert!(rt; is_cut_to(rt.alloc(), OVER, UDP_LIMIT + 1, 34) == Some(true));
 }

@@ -1,144 +1,116 @@
 //! What updates make of a small zone: the forms of RFC 2136, 2.5, each row of the table of effects, and the serial. Tables are
 //! texts, a row a line; a record is its owner, type, class and TTL, and its data in hexadecimal.
-use crate::tests::{FIRST, NS, Row, SOA, name, update, zone_of_soa};
+use crate::tests::{SOA_TEXT, ZONE, name, octets_of, raw, rtype_of, update_of, version_of};
 use crate::{Outcome, apply};
-use dns_message::{Head, RawRecords, Update, ZoneEntry};
-use dns_name::Name;
-use dns_rdata::{Class, RData, RRset, RType, RawRecord, Rcode, Ttl};
+use dns_message::{RawRecords, Update};
+use dns_rdata::{RRset, RType, RawRecord, Ttl};
 use std::alloc::Global;
-use std::process::Abort;
-use std::test::Fail;
-use zone_tree::{Version, Zone, ZoneRead};
-
-/// The types and their words.
-const TYPES: [(&str, RType); 6] = [
-    ("A", RType::A),
-    ("NS", RType::NS),
-    ("CNAME", RType::CNAME),
-    ("SOA", RType::SOA),
-    ("TXT", RType::TXT),
-    ("ANY", RType::ANY),
-];
-
-/// The type of a word.
-fn rtype_of(word: &str) -> Result<RType, Fail> {
-    for (known, rtype) in TYPES {
-        if known == word {
-            return Ok(rtype);
-        }
-    }
-    Err(Fail::from("no type"))
-}
-
-/// The class of a word.
-fn class_of(word: &str) -> Result<Class, Fail> {
-    match word {
-        "IN" => Ok(Class::IN),
-        "ANY" => Ok(Class::ANY),
-        "NONE" => Ok(Class::NONE),
-        _ => Err(Fail::from("no class")),
-    }
-}
-
-/// The octets that hexadecimal stands for.
-fn octets_of(alloc: Global, text: &str) -> Result<Vec<u8>, Fail> {
-    let mut octets = Vec::new(alloc);
-    for pair in text.as_bytes().chunks(2) {
-        let digits = std::str::from_utf8(pair)?;
-        octets.push(u8::from_str_radix(digits, 16)?)?;
-    }
-    Ok(octets)
-}
-
-/// A record as it is sent.
-fn raw(alloc: Global, text: &str) -> Result<RawRecord, Fail> {
-    let mut words = text.split(' ');
-    Ok(RawRecord {
-        owner: name(words.next().unwrap_or(""))?,
-        rtype: rtype_of(words.next().unwrap_or(""))?,
-        class: class_of(words.next().unwrap_or(""))?,
-        ttl: words.next().unwrap_or("").parse()?,
-        octets: octets_of(alloc, words.next().unwrap_or(""))?,
-    })
-}
-
-/// An update of the records of a text.
-fn update_of(alloc: Global, text: &str) -> Result<Update, Fail> {
-    let mut records = Vec::new(alloc);
-    for record in text.split("; ") {
-        records.push(raw(alloc, record)?)?;
-    }
-    let mut asked = update(alloc, &[], &[])?;
-    asked.updates = RawRecords::new(records);
-    Ok(asked)
-}
+use zone_tree::{Version, ZoneRead};
 
 /// What becomes of an update of these records.
-pub(crate) fn applied(alloc: Global, version: &Version, text: &str) -> Result<Outcome, Fail> {
-    let asked = update_of(alloc, text)?;
+pub(crate) fn applied(alloc: Global, version: &Version, records: &str) -> Option<Outcome> {
+    let asked = update_of(alloc, "@ SOA IN", "", records)?;
+    judged(alloc, version, &asked, true)
+}
+
+/// What becomes of an update of a version behind nine others at most.
+fn judged(alloc: Global, version: &Version, asked: &Update, may: bool) -> Option<Outcome> {
     if version.number() > 9 {
-        return Err("too many versions".into());
+        return None;
     }
-    Ok(apply(alloc, version, &asked, true))
+    Some(apply(alloc, version, asked, may))
+}
+
+/// The version that an update of these records makes.
+pub(crate) fn next_of(alloc: Global, version: &Version, records: &str) -> Option<Version> {
+    match applied(alloc, version, records)? {
+        Outcome::Next(next) => Some(next),
+        _ => None,
+    }
 }
 
 /// The first version: the small zone, with a text at the apex and an alias at `www`.
-pub(crate) fn first_version(alloc: Global) -> Result<Version, Fail> {
-    let start = Version::first(zone_of_soa(alloc, SOA)?);
-    match applied(
+pub(crate) fn first_version(alloc: Global) -> Option<Version> {
+    let start = version_of(alloc, ZONE)?;
+    next_of(
         alloc,
         &start,
         "@ TXT IN 3600 0178; www CNAME IN 3600 03776562076578616d706c65047465737400",
-    )? {
-        Outcome::Next(next) => Ok(next),
-        _ => Err("no version".into()),
-    }
+    )
 }
 
-/// A set in a version: its TTL, and its data in hexadecimal; `-` where there is none.
-fn set_in(alloc: Global, version: &Version, asked: &str) -> Result<String, Fail> {
-    let mut words = asked.split(' ');
-    let owner = name(words.next().unwrap_or(""))?;
-    let rtype = rtype_of(words.next().unwrap_or(""))?;
-    let Some(set) = version.zone().rrset(&owner, rtype) else {
-        return Ok(format!(in alloc; "-")?);
-    };
-    let ttl = set.ttl().0;
-    let mut text = format!(in alloc; "{ttl}")?;
+/// Whether a set has this TTL and these data, in hexadecimal with blanks between.
+pub(crate) fn is_set(alloc: Global, set: &RRset, wanted: &str) -> Option<bool> {
+    let mut words = wanted.split(' ');
+    if set.ttl() != Ttl(words.next()?.parse::<u32>().ok()?) {
+        return Some(false);
+    }
     for data in set.data() {
-        text.push_str(" ")?;
-        for octet in data.octets() {
-            let digits = format!(in alloc; "{octet:02x}")?;
-            text.push_str(digits.as_str())?;
+        let octets = octets_of(alloc, words.next()?)?;
+        if data.octets() != octets.as_slice() {
+            return Some(false);
         }
     }
-    Ok(text)
+    Some(words.next().is_none())
 }
 
-/// What is told of an update: of the next version its number, its serial and a set.
-fn told(alloc: Global, outcome: &Outcome, asked: &str) -> Result<String, Fail> {
+/// Whether the set of an owner and a type is as wanted: its TTL and its data; `-` where there is none.
+fn has_set(alloc: Global, version: &Version, asked: &str, wanted: &str) -> Option<bool> {
+    let (owner, rtype) = asked.split_once(' ')?;
+    match version.zone().rrset(&name(owner)?, rtype_of(rtype)) {
+        None => Some(wanted == "-"),
+        Some(set) => is_set(alloc, set, wanted),
+    }
+}
+
+/// Whether an outcome is as wanted: of a refusal its code's number, of the next version its number, its serial and a set.
+fn is_told(alloc: Global, outcome: &Outcome, asked: &str, wanted: &str) -> Option<bool> {
     match outcome {
-        Outcome::Refused(code) => Ok(format!(in alloc; "{code:?}")?),
-        Outcome::Unchanged => Ok(format!(in alloc; "unchanged")?),
-        Outcome::NoMemory => Ok(format!(in alloc; "no memory")?),
+        Outcome::NoMemory => Some(false),
+        Outcome::Refused(code) => Some(code.number() == wanted.parse::<u8>().ok()?),
+        Outcome::Unchanged => Some(wanted == "unchanged"),
         Outcome::Next(next) => {
-            let (number, serial) = (next.number(), next.serial().0);
-            let set = set_in(alloc, next, asked)?;
-            Ok(format!(in alloc; "{number} {serial} {set}")?)
+            let (number, rest) = wanted.split_once(' ')?;
+            let (serial, set) = rest.split_once(' ')?;
+            if next.number() != number.parse::<u64>().ok()? {
+                return Some(false);
+            }
+            if next.serial().0 != serial.parse::<u32>().ok()? {
+                return Some(false);
+            }
+            has_set(alloc, next, asked, set)
         }
     }
 }
 
-/// Tries each row: what it shows, the records, the set that is asked for then, and what is told.
-fn check(rt: &impl Abort, alloc: Global, version: &Version, rows: &str) -> Result<(), Fail> {
+/// Whether a row holds of a version: what it shows, the records, the set that is asked for then, and what is told.
+fn holds(alloc: Global, version: &Version, row: &str) -> Option<bool> {
+    let mut fields = row.split('|');
+    let _what = fields.next()?;
+    let records = fields.next()?;
+    let asked = fields.next()?;
+    let wanted = fields.next()?;
+    let outcome = applied(alloc, version, records)?;
+    is_told(alloc, &outcome, asked, wanted)
+}
+
+/// The first row that doesn't hold of the first version, or that changes it; None where there is none.
+fn first_wrong(alloc: Global, version: &Version, rows: &'static str) -> Option<&'static str> {
     for row in rows.lines() {
-        let mut fields = row.split('|');
-        let what = fields.next().unwrap_or("");
-        let outcome = applied(alloc, version, fields.next().unwrap_or(""))?;
-        let said = told(alloc, &outcome, fields.next().unwrap_or(""))?;
-        assert_eq!(rt; said.as_str(), fields.next().unwrap_or(""), "{what}");
+        if holds(alloc, version, row) != Some(true) {
+            return Some(row);
+        }
+        if !is_first(alloc, version) {
+            return Some(row);
+        }
     }
-    Ok(())
+    None
+}
+
+/// Whether a version is the first one, as it was made.
+fn is_first(alloc: Global, version: &Version) -> bool {
+    let web = has_set(alloc, version, "web A", "3600 c0000201 c0000202");
+    version.number() == 1 && version.serial().0 == 2 && web == Some(true)
 }
 
 /// What changes, and which set then stands.
@@ -160,15 +132,9 @@ an alias is replaced|www CNAME IN 60 036e7331076578616d706c65047465737400|www CN
 
 // RFC 2136, 2.5.1 to 2.5.4 and 3.4.2.2 to 3.4.2.4.
 #[test]
-fn effects(rt: HostRuntime) -> Result<(), Fail> {
-    let version = first_version(rt.alloc())?;
-    check(&rt, rt.alloc(), &version, EFFECTS)?;
-    // The old version stays as it was.
-    assert_eq!(rt; version.number(), 1);
-    assert_eq!(rt; version.serial().0, 2);
-    let set = set_in(rt.alloc(), &version, "web A")?;
-    assert_eq!(rt; set.as_str(), "3600 c0000201 c0000202");
-    Ok(())
+fn effects(rt: HostRuntime) {
+    let version = first_version(rt.alloc()).expect(&rt, "a version");
+    assert_eq!(rt; first_wrong(rt.alloc(), &version, EFFECTS), None);
 }
 
 /// What has no effect, and what is taken back, makes no version.
@@ -186,22 +152,14 @@ the last NS|@ NS NONE 0 036e7331076578616d706c65047465737400|web A|unchanged\n\
 a set that isn't there|web TXT ANY 0 |web A|unchanged\n\
 a record that isn't there|web A NONE 0 c0000203|web A|unchanged\n\
 taken back|new A IN 60 c0000201; new ANY ANY 0 |web A|unchanged\n\
+no record||web A|unchanged\n\
 put back|web A NONE 0 c0000201; web A IN 3600 c0000201|web A|unchanged\n";
 
 // RFC 2136, 3.4.2.2 to 3.4.2.4 and 3.6.
 #[test]
-fn no_effect(rt: HostRuntime) -> Result<(), Fail> {
-    let version = first_version(rt.alloc())?;
-    check(&rt, rt.alloc(), &version, NO_EFFECT)?;
-    let asked = update(rt.alloc(), &[], &[])?;
-    assert!(rt; version.number() < 9);
-    assert!(rt;
-        matches!(
-            apply(rt.alloc(), &version, &asked, true),
-            Outcome::Unchanged
-        )
-    );
-    Ok(())
+fn no_effect(rt: HostRuntime) {
+    let version = first_version(rt.alloc()).expect(&rt, "a version");
+    assert_eq!(rt; first_wrong(rt.alloc(), &version, NO_EFFECT), None);
 }
 
 /// Which SOA replaces, and the serial of the next version: what a row shows, the old SOA's data, and then as above.
@@ -212,130 +170,106 @@ a lesser one|00000000000200001c2000000384001275000000012c|new TXT IN 60 0178; @ 
 round the ring|0000ffffffff00001c2000000384001275000000012c|new TXT IN 60 0178; @ SOA IN 3600 0000ffffffff00001c2000000384001275000000012c|1 0 60 0178\n\
 round the ring by itself|0000ffffffff00001c2000000384001275000000012c|new TXT IN 60 0178; @ SOA IN 3600 00000000000100001c2000000384001275000000012c|1 1 60 0178\n";
 
+/// Whether a row of the serials holds.
+fn is_serial(alloc: Global, row: &str) -> Option<bool> {
+    let mut fields = row.split('|');
+    let _what = fields.next()?;
+    let soa = fields.next()?;
+    let records = fields.next()?;
+    let wanted = fields.next()?;
+    let start = version_of_soa(alloc, soa)?;
+    let outcome = applied(alloc, &start, records)?;
+    is_told(alloc, &outcome, "new TXT", wanted)
+}
+
+/// The first version of the small zone with another SOA's data.
+fn version_of_soa(alloc: Global, soa: &str) -> Option<Version> {
+    let zone = ZONE.replace(alloc, SOA_TEXT, soa).ok()?;
+    version_of(alloc, zone.as_str())
+}
+
+/// The first row of the serials that doesn't hold; None where each does.
+fn wrong_serial(alloc: Global) -> Option<&'static str> {
+    for row in SERIALS.lines() {
+        if is_serial(alloc, row) != Some(true) {
+            return Some(row);
+        }
+    }
+    None
+}
+
 // RFC 1982, 3.2; RFC 2136, 3.6.
 #[test]
-fn serials(rt: HostRuntime) -> Result<(), Fail> {
-    for row in SERIALS.lines() {
-        let mut fields = row.split('|');
-        let what = fields.next().unwrap_or("");
-        let soa = octets_of(rt.alloc(), fields.next().unwrap_or(""))?;
-        let start = Version::first(zone_of_soa(rt.alloc(), &soa)?);
-        let outcome = applied(rt.alloc(), &start, fields.next().unwrap_or(""))?;
-        let said = told(rt.alloc(), &outcome, "new TXT")?;
-        assert_eq!(rt; said.as_str(), fields.next().unwrap_or(""), "{what}");
-    }
-    Ok(())
+fn serials(rt: HostRuntime) {
+    assert_eq!(rt; wrong_serial(rt.alloc()), None);
 }
 
 /// An update of addresses at `many`, and then a text of so many strings of 255 octets at `new`.
-fn update_of_many(alloc: Global, addresses: u16, strings: u8) -> Result<Update, Fail> {
+fn update_of_many(alloc: Global, addresses: u16, strings: u8) -> Option<Update> {
     let mut records = Vec::new(alloc);
     for number in 0..addresses {
         let mut record = raw(alloc, "many A IN 60 0a00")?;
-        record.octets.extend_from_slice(&number.to_be_bytes())?;
-        records.push(record)?;
+        record.octets.extend_from_slice(&number.to_be_bytes()).ok()?;
+        records.push(record).ok()?;
+    }
+    let text = text_of(alloc, strings)?;
+    records.push(text).ok()?;
+    let mut asked = update_of(alloc, "@ SOA IN", "", "")?;
+    asked.updates = RawRecords::new(records);
+    Some(asked)
+}
+
+/// A text of so many strings of 255 octets at `new`; an empty one where there is none.
+fn text_of(alloc: Global, strings: u8) -> Option<RawRecord> {
+    if strings == 0 {
+        return raw(alloc, "new TXT IN 60 00");
     }
     let mut text = raw(alloc, "new TXT IN 60 ")?;
     for _ in 0..strings {
-        text.octets.push(255u8)?;
-        text.octets.extend_from_slice(&[b'a'; 255])?;
+        text.octets.push(255u8).ok()?;
+        text.octets.extend_from_slice(&[b'a'; 255]).ok()?;
     }
-    if strings == 0 {
-        text.octets.push(0)?;
-    }
-    records.push(text)?;
-    let mut asked = update(alloc, &[], &[])?;
-    asked.updates = RawRecords::new(records);
-    Ok(asked)
+    Some(text)
+}
+
+/// Whether an update of so many addresses, and of a text of so many strings, is told as wanted.
+fn is_limited(
+    alloc: Global,
+    version: &Version,
+    addresses: u16,
+    strings: u8,
+    wanted: &str,
+) -> Option<bool> {
+    let asked = update_of_many(alloc, addresses, strings)?;
+    let outcome = judged(alloc, version, &asked, true)?;
+    is_told(alloc, &outcome, "www A", wanted)
 }
 
 // 256 records of a set and 4,096 octets of data are taken; more of either is SERVFAIL, and what came before has no effect
 // (RFC 2136, 3.4.2.7; own).
 #[test]
-fn limits(rt: HostRuntime) -> Result<(), Fail> {
-    let version = first_version(rt.alloc())?;
-    assert!(rt; version.number() < 9);
-    let full = update_of_many(rt.alloc(), 256, 16)?;
-    let said = told(
-        rt.alloc(),
-        &apply(rt.alloc(), &version, &full, true),
-        "www A",
-    )?;
-    assert_eq!(rt; said.as_str(), "2 3 -");
-    let many = update_of_many(rt.alloc(), 257, 0)?;
-    let said = told(
-        rt.alloc(),
-        &apply(rt.alloc(), &version, &many, true),
-        "www A",
-    )?;
-    assert_eq!(rt; said.as_str(), "ServFail");
-    let long = update_of_many(rt.alloc(), 1, 17)?;
-    let said = told(
-        rt.alloc(),
-        &apply(rt.alloc(), &version, &long, true),
-        "www A",
-    )?;
-    assert_eq!(rt; said.as_str(), "ServFail");
-    let set = set_in(rt.alloc(), &version, "many A")?;
-    assert_eq!(rt; set.as_str(), "-");
-    Ok(())
+fn limits(rt: HostRuntime) {
+    let version = first_version(rt.alloc()).expect(&rt, "a version");
+    assert!(rt; is_limited(rt.alloc(), &version, 256, 16, "2 3 -") == Some(true));
+    assert!(rt; is_limited(rt.alloc(), &version, 257, 0, "2") == Some(true));
+    assert!(rt; is_limited(rt.alloc(), &version, 1, 17, "2") == Some(true));
+    assert!(rt; has_set(rt.alloc(), &version, "many A", "-") == Some(true));
+}
+
+/// Whether an update with a record outside the zone is refused with this code, sent by a peer that may update, or may not.
+fn is_refused(alloc: Global, version: &Version, may: bool, code: &str) -> Option<bool> {
+    let records = "new A IN 60 c0000201; test. A IN 60 c0000201";
+    let asked = update_of(alloc, "@ SOA IN", "", records)?;
+    let outcome = judged(alloc, version, &asked, may)?;
+    is_told(alloc, &outcome, "", code)
 }
 
 // RFC 2136, 3: a rule that is broken is told, whatever the update would do.
 #[test]
-fn refusals(rt: HostRuntime) -> Result<(), Fail> {
-    let version = first_version(rt.alloc())?;
-    let asked = update_of(rt.alloc(), "new A IN 60 c0000201; test. A IN 60 c0000201")?;
-    assert!(rt; version.number() < 9);
-    let told = apply(rt.alloc(), &version, &asked, true);
-    assert!(rt; matches!(told, Outcome::Refused(Rcode::NotZone)));
-    let told = apply(rt.alloc(), &version, &asked, false);
-    assert!(rt; matches!(told, Outcome::Refused(Rcode::Refused)));
-    Ok(())
-}
-
-/// The first version of a zone of sets of one record each; None where memory is refused.
-pub(crate) fn made_version(alloc: Global, rows: &[SetRow]) -> Option<Version> {
-    let origin = Name::from_text(b"example.test.", &Name::root()).ok()?;
-    let mut sets = Vec::new(alloc);
-    for (owner, rtype, octets) in rows {
-        let owner = Name::from_text(owner.as_bytes(), &origin).ok()?;
-        let data = RData::from_wire(alloc, *rtype, octets).ok()?;
-        sets.push(RRset::new(alloc, &owner, Ttl(3600), data).ok()?)
-            .ok()?;
-    }
-    Some(Version::first(Zone::new(alloc, sets).ok()?))
-}
-
-/// An update of these records; None where memory is refused.
-fn made_update(alloc: Global, rows: &[Row]) -> Option<Update> {
-    let origin = Name::from_text(b"example.test.", &Name::root()).ok()?;
-    let mut records = Vec::new(alloc);
-    for (owner, rtype, class, ttl, octets) in rows {
-        records
-            .push(RawRecord {
-                owner: Name::from_text(owner.as_bytes(), &origin).ok()?,
-                rtype: *rtype,
-                class: *class,
-                ttl: *ttl,
-                octets: octets.to_vec(alloc).ok()?,
-            })
-            .ok()?;
-    }
-    Some(Update {
-        head: Head {
-            id: 1,
-            opcode: 5,
-            rd: false,
-        },
-        zone: ZoneEntry {
-            name: origin,
-            rtype: RType::SOA,
-            class: Class::IN,
-        },
-        prerequisites: RawRecords::new(Vec::new(alloc)),
-        updates: RawRecords::new(records),
-    })
+fn refusals(rt: HostRuntime) {
+    let version = first_version(rt.alloc()).expect(&rt, "a version");
+    assert!(rt; is_refused(rt.alloc(), &version, true, "10") == Some(true));
+    assert!(rt; is_refused(rt.alloc(), &version, false, "5") == Some(true));
 }
 
 /// What a call gives, or, where memory is refused, what the same call gives anew.
@@ -348,100 +282,77 @@ fn twice<T: Drop, C: Fn() -> Option<T>>(call: C) -> Option<T>
     }
 }
 
-/// Whether a set has one record, with this TTL and these data.
-fn has(
-    version: &Version,
-    owner: &str,
-    rtype: RType,
-    ttl: u32,
-    octets: &[u8],
-) -> Result<bool, Fail> {
-    match version.zone().rrset(&name(owner)?, rtype) {
-        None => Ok(false),
-        Some(set) => Ok(
-            set.ttl().0 == ttl && set.data().len() == 1 && set.data()[0].octets() == octets,
-        ),
-    }
-}
-
-/// A set of one record: its owner, its type and its data.
-type SetRow<'a> = (&'a str, RType, &'a [u8]);
-
-/// Whether a walk of a zone gives these sets, each with a TTL of an hour, and no other.
-fn walks(version: &Version, rows: &[SetRow]) -> Result<bool, Fail> {
-    let mut at = 0usize;
-    for set in version.zone().walk() {
-        let Some((owner, rtype, octets)) = rows.get(at) else {
-            return Ok(false);
-        };
-        if set.owner() != name(owner)? || set.rtype() != *rtype || set.ttl() != Ttl(3600) {
-            return Ok(false);
-        }
-        if set.data().len() != 1 || set.data()[0].octets() != *octets {
-            return Ok(false);
-        }
-        at = at.saturating_add(1);
-    }
-    Ok(at == rows.len())
-}
-
-/// A third address.
-const THIRD: &[u8] = &[192, 0, 2, 3];
-
-/// What becomes of an update, sent anew where memory is refused; the version stays as it was.
-fn sent_anew(
-    rt: &impl Abort,
-    alloc: Global,
-    version: &Version,
-    asked: &Update,
-    sets: &[SetRow],
-) -> Result<Outcome, Fail> {
-    if version.number() > 9 {
-        return Err("too many versions".into());
-    }
-    let outcome = apply(alloc, version, asked, true);
-    assert!(rt; walks(version, sets)?);
-    match outcome {
-        Outcome::NoMemory => Ok(apply(alloc, version, asked, true)),
-        told => Ok(told),
-    }
-}
-
-/// What an update made: the number, the serial, and how many sets went and came.
-fn counts(outcome: &Outcome) -> Option<(u64, u32, usize, usize)> {
-    let Outcome::Next(next) = outcome else {
-        return None;
+/// Whether a zone has a set of one record, with this TTL and this data.
+fn has_one(version: &Version, owner: &str, rtype: RType, ttl: u32, octets: &[u8]) -> bool {
+    let Some(owner) = name(owner) else {
+        return false;
     };
-    let delta = next.delta()?;
-    Some((
-        next.number(),
-        next.serial().0,
-        delta.deletions().len(),
-        delta.additions().len(),
-    ))
+    match version.zone().rrset(&owner, rtype) {
+        None => false,
+        Some(set) => {
+            set.ttl().0 == ttl && set.data().len() == 1 && set.data()[0].octets() == octets
+        }
+    }
+}
+
+/// A zone of three sets, an address at `web` beside those of the apex.
+const THREE_SETS: &str = "\
+@ NS 036e7331076578616d706c65047465737400\n\
+@ SOA 00000000000100001c2000000384001275000000012c\n\
+web A c0000201\n";
+
+/// The data of its NS and of its SOA.
+const NS: &[u8] = b"\x03ns1\x07example\x04test\0";
+
+const SOA: &[u8] = b"\0\0\0\0\0\x01\0\0\x1c\x20\0\0\x03\x84\0\x12\x75\0\0\0\x01\x2c";
+
+/// Whether a version has these three sets, and no other. It takes no memory.
+fn is_of_three_sets(version: &Version) -> bool {
+    let mut sets = 0u64;
+    for _set in version.zone().walk() {
+        sets = sets.saturating_add(1);
+    }
+    sets == 3
+        && has_one(version, "@", RType::NS, 3600, NS)
+        && has_one(version, "@", RType::SOA, 3600, SOA)
+        && has_one(version, "web", RType::A, 3600, &[192, 0, 2, 1])
+}
+
+/// What becomes of an update, sent anew where memory is refused and the version stayed as it was.
+fn sent_anew(alloc: Global, version: &Version, asked: &Update) -> Option<Outcome> {
+    match judged(alloc, version, asked, true)? {
+        Outcome::NoMemory if is_of_three_sets(version) => judged(alloc, version, asked, true),
+        told => Some(told),
+    }
+}
+
+/// How many sets a version deleted and added.
+fn changed_sets(version: &Version) -> Option<(usize, usize)> {
+    let delta = version.delta()?;
+    Some((delta.deletions().len(), delta.additions().len()))
+}
+
+/// Whether an outcome is the second version, of serial 2, with another address at `web`, and tells what it changed.
+fn is_second(outcome: &Outcome) -> bool {
+    match outcome {
+        Outcome::Next(next) => {
+            next.number() == 1
+                && next.serial().0 == 2
+                && changed_sets(next) == Some((1, 1))
+                && has_one(next, "web", RType::A, 60, &[192, 0, 2, 3])
+        }
+        _ => false,
+    }
 }
 
 // With any one growth refused, the version stays as it was, and the same update makes the next one once it is sent anew, which tells
 // what it changed.
 #[test]
-fn refused_growth(rt: HostRuntime) -> Result<(), Fail> {
-    let sets: [SetRow; 3] = [
-        ("@", RType::NS, NS),
-        ("@", RType::SOA, SOA),
-        ("web", RType::A, FIRST),
-    ];
-    let rows: [Row; 2] = [
-        ("web", RType::A, Class::IN, 60, THIRD),
-        ("web", RType::A, Class::NONE, 0, FIRST),
-    ];
-    let version = twice(|| made_version(rt.alloc(), &sets)).ok_or("a version")?;
-    let asked = twice(|| made_update(rt.alloc(), &rows)).ok_or("an update")?;
-    let told = sent_anew(&rt, rt.alloc(), &version, &asked, &sets)?;
-    assert!(rt; counts(&told) == Some((1, 2, 1, 1)));
-    let Outcome::Next(next) = told else {
-        return Err("no version".into());
-    };
-    assert!(rt; has(&next, "web", RType::A, 60, THIRD)?);
-    assert!(rt; walks(&version, &sets)?);
-    Ok(())
+fn refused_growth(rt: HostRuntime) {
+    let records = "web A IN 60 c0000203; web A NONE 0 c0000201";
+    let version = twice(|| version_of(rt.alloc(), THREE_SETS)).expect(&rt, "a version");
+    let asked = twice(|| update_of(rt.alloc(), "@ SOA IN", "", records)).expect(&rt, "an update");
+    let told = sent_anew(rt.alloc(), &version, &asked).expect(&rt, "an outcome");
+    assert!(rt; is_second(&told));
+    assert!(rt; is_of_three_sets(&version));
 }
