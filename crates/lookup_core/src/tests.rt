@@ -331,16 +331,22 @@ fn places(rt: HostRuntime) -> Result<(), Fail> {
     Ok(())
 }
 
-/// An owner keeps the spelling asked, a target that of the alias's data; a negative answer has the lesser TTL
-/// (RFC 2308, 3: MINIMUM is 300, the SOA's own TTL 3600).
+/// A negative answer has the lesser TTL (RFC 2308, 3: MINIMUM is 300, the SOA's own TTL 3600).
 #[test]
-fn owners_and_ttls(rt: HostRuntime) -> Result<(), Fail> {
+fn negative_ttl(rt: HostRuntime) -> Result<(), Fail> {
     let zone = zone_of(rt.alloc(), ZONE)?;
     let asked = name("nope")?;
     let said = answer(&zone, &asked, RType::A);
     let shown = said.authority.as_slice();
     assert_eq!(rt; shown.len(), 1);
     assert_eq!(rt; shown[0].ttl, Some(Ttl(300)));
+    Ok(())
+}
+
+/// A positive answer has the TTLs of the zone.
+#[test]
+fn own_ttl(rt: HostRuntime) -> Result<(), Fail> {
+    let zone = zone_of(rt.alloc(), ZONE)?;
     let asked = name("P.q.dyn")?;
     let said = answer(&zone, &asked, RType::A);
     let shown = said.answer.as_slice();
