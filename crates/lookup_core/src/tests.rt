@@ -293,7 +293,8 @@ fn additional_hosts(alloc: Global) -> Option<usize> {
         .ok()?;
     put_hosts(&mut rows, "", " A c0000201\n").ok()?;
     let zone = zone_of(alloc, rows.as_str())?;
-    Some(answer(&zone, &name(EXAMPLE)?, RType::NS).additional.len())
+    let asked = name(EXAMPLE)?;
+    Some(answer(&zone, &asked, RType::NS).additional.len())
 }
 
 /// An additional section has 32 sets at most (own).
