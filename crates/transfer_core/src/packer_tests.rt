@@ -6,7 +6,6 @@ use dns_message::{Head, Question};
 use dns_name::Name;
 use dns_rdata::{Class, RData, RRset, RType, Ttl};
 use std::alloc::Global;
-use std::test::Fail;
 use zone_tree::{Version, Zone, ZoneRead};
 
 /// The records of a transfer for which no version is asked.
@@ -21,50 +20,55 @@ const NS: &[u8] = b"\x03ns1\x07example\x04test\0";
 const SOA: &[u8] = b"\x03ns1\x07example\x04test\0\x05admin\x07example\x04test\0\
     \0\0\0\x01\0\0\x1c\x20\0\0\x03\x84\0\x12\x75\0\0\0\x01\x2c";
 
-fn name(octets: &[u8]) -> Result<Name, Fail> {
-    let (name, _) = Name::from_wire(octets).ok_or("no name")?;
-    Ok(name)
-}
-
 /// The set of an owner and a type with one record of an hour.
-fn one(alloc: Global, owner: &[u8], rtype: RType, octets: &[u8]) -> Result<RRset, Fail> {
-    let data = RData::from_wire(alloc, rtype, octets)?;
-    Ok(RRset::new(alloc, &name(owner)?, Ttl(3600), data)?)
+fn one(alloc: Global, owner: &[u8], rtype: RType, octets: &[u8]) -> Option<RRset> {
+    let (owner, _) = Name::from_wire(owner)?;
+    let data = RData::from_wire(alloc, rtype, octets).ok()?;
+    RRset::new(alloc, &owner, Ttl(3600), data).ok()
 }
 
 /// So many strings of 255 octets, and one of so many more, each octet the same.
-fn text(alloc: Global, octet: u8, strings: u8, last: u8) -> Result<Vec<u8>, Fail> {
+fn text(alloc: Global, octet: u8, strings: u8, last: u8) -> Option<Vec<u8>> {
     let mut data = Vec::new(alloc);
     for _ in 0..strings {
-        data.extend_from_slice(&[octet; 256])?;
+        data.push(255u8).ok()?;
+        data.extend_from_slice(&[octet; 255]).ok()?;
     }
-    let mut at = 0usize;
-    for place in data.iter_mut() {
-        if at % 256 == 0 {
-            *place = 255;
-        }
-        at = at.wrapping_add(1);
-    }
-    data.push(last)?;
+    data.push(last).ok()?;
     for _ in 0..last {
-        data.push(octet)?;
+        data.push(octet).ok()?;
     }
-    Ok(data)
+    Some(data)
 }
 
-/// A query's header and its question for the apex.
-fn asked(rtype: RType) -> Result<(Head, Question), Fail> {
-    let head = Head {
-        id: 0x1234,
-        opcode: 0,
-        rd: false,
-    };
-    let question = Question {
-        name: name(APEX)?,
+/// An SOA and an NS, and a set behind them where there is one.
+fn zone_of(alloc: Global, behind: Option<RRset>) -> Option<Zone> {
+    let mut sets = Vec::new(alloc);
+    let servers = one(alloc, APEX, RType::NS, NS)?;
+    sets.push(servers).ok()?;
+    let soa = one(alloc, APEX, RType::SOA, SOA)?;
+    sets.push(soa).ok()?;
+    if let Some(set) = behind {
+        sets.push(set).ok()?;
+    }
+    Zone::new(alloc, sets).ok()
+}
+
+/// A query's header.
+const HEAD: Head = Head {
+    id: 0x1234,
+    opcode: 0,
+    rd: false,
+};
+
+/// A question for a name.
+fn asked(name: &[u8], rtype: RType) -> Option<Question> {
+    let (name, _) = Name::from_wire(name)?;
+    Some(Question {
+        name,
         rtype,
         class: Class::IN,
-    };
-    Ok((head, question))
+    })
 }
 
 /// What a zone of an SOA and an NS is sent as.
@@ -75,89 +79,91 @@ const WHOLE: &[u8] = b"\x12\x34\x84\0\0\x01\0\x03\0\0\0\0\x07example\x04test\0\0
     \xc0\x0c\0\x06\0\x01\0\0\x0e\x10\0\x18\xc0\x2a\xc0\x30\
     \0\0\0\x01\0\0\x1c\x20\0\0\x03\x84\0\x12\x75\0\0\0\x01\x2c";
 
+/// Whether a list is sent as a message of so many octets, which begins with these, and as a second one of so many behind it; there is
+/// none of 0 octets.
+fn is_sent(list: Listed, first: usize, front: &[u8], second: usize) -> Option<bool> {
+    let question = asked(APEX, RType::AXFR)?;
+    let mut packer = Packer::new(HEAD, &question, list);
+    let mut out = [0xee; MAX_MESSAGE];
+    if packer.next_message(&mut out)? != first || !out.starts_with(front) {
+        return Some(false);
+    }
+    if second > 0 && (packer.next_message(&mut out)? != second || !out.starts_with(LATER_FRONT)) {
+        return Some(false);
+    }
+    Some(packer.next_message(&mut out).is_none())
+}
+
 // The SOA, the NS and the SOA again: 126 octets, and no second message (RFC 5936, 2.2).
 #[test]
-fn small_zone(rt: HostRuntime) -> Result<(), Fail> {
-    let alloc = rt.alloc();
-    let mut sets = Vec::new(alloc);
-    sets.push(one(alloc, APEX, RType::NS, NS)?)?;
-    sets.push(one(alloc, APEX, RType::SOA, SOA)?)?;
-    let zone = Zone::new(alloc, sets)?;
-    let (head, question) = asked(RType::AXFR)?;
-    let mut packer = Packer::new(head, &question, Listed::Full(full(&zone)));
-    let mut out = [0xee; MAX_MESSAGE];
-    assert_eq!(rt; packer.next_message(&mut out), Some(126));
-    assert!(rt; out.starts_with(WHOLE));
-    assert_eq!(rt; packer.next_message(&mut out), None);
-    Ok(())
+fn small_zone(rt: HostRuntime) {
+    let zone = zone_of(rt.alloc(), None).expect(&rt, "a zone");
+    assert!(rt; is_sent(Listed::Full(full(&zone)), 126, WHOLE, 0) == Some(true));
+}
+
+/// The owner of texts.
+const OWNER: &[u8] = b"\x01t\x07example\x04test\0";
+
+/// Four texts, each of fifteen strings of 255 octets and one of 211, of the fourth of so many.
+fn texts(alloc: Global, last: u8) -> Option<RRset> {
+    let first = text(alloc, b'a', 15, 211)?;
+    let mut texts = one(alloc, OWNER, RType::TXT, &first)?;
+    for (octet, len) in [(b'b', 211), (b'c', 211), (b'd', last)] {
+        let octets = text(alloc, octet, 15, len)?;
+        let data = RData::from_wire(alloc, RType::TXT, &octets).ok()?;
+        if data.rtype() == texts.rtype() {
+            texts.insert(data).ok()?;
+        }
+    }
+    Some(texts)
+}
+
+/// The front of a first message, and of one behind it.
+const FRONT: &[u8] = b"\x12\x34\x84\0\0\x01";
+
+const LATER_FRONT: &[u8] = b"\x12\x34\x84\0\0\0\0\x01\0\0\0\0\x07example\x04test\0\0\x06\0\x01";
+
+/// The zone of four texts, of which the fourth has so many octets in its last string.
+fn zone_of_texts(alloc: Global, last: u8) -> Option<Zone> {
+    let texts = texts(alloc, last)?;
+    zone_of(alloc, Some(texts))
 }
 
 // Four texts fill a message to its last octet; with one octet more the closing SOA goes into a second message, which has
 // the same ID, no question, and its names in full where they stand first (RFC 5936, 2.2).
 #[test]
-fn full_message(rt: HostRuntime) -> Result<(), Fail> {
-    let alloc = rt.alloc();
-    for (last, wanted) in [(211, [16384, 0]), (212, [16349, 70])] {
-        let owner = b"\x01t\x07example\x04test\0";
-        let mut texts = one(alloc, owner, RType::TXT, &text(alloc, b'a', 15, 211)?)?;
-        for (octet, len) in [(b'b', 211), (b'c', 211), (b'd', last)] {
-            let data = RData::from_wire(alloc, RType::TXT, &text(alloc, octet, 15, len)?)?;
-            if data.rtype() == texts.rtype() {
-                texts.insert(data)?;
-            }
-        }
-        let mut sets = Vec::new(alloc);
-        sets.push(one(alloc, APEX, RType::NS, NS)?)?;
-        sets.push(one(alloc, APEX, RType::SOA, SOA)?)?;
-        sets.push(texts)?;
-        let zone = Zone::new(alloc, sets)?;
-        let (head, question) = asked(RType::AXFR)?;
-        let mut packer = Packer::new(head, &question, Listed::Full(full(&zone)));
-        let mut out = [0xee; MAX_MESSAGE];
-        let [first, second] = wanted;
-        assert_eq!(rt; packer.next_message(&mut out), Some(first));
-        assert!(rt; out.starts_with(b"\x12\x34\x84\0\0\x01"));
-        if second > 0 {
-            assert_eq!(rt; packer.next_message(&mut out), Some(second));
-            assert!(rt;
-                out.starts_with(
-                    b"\x12\x34\x84\0\0\0\0\x01\0\0\0\0\x07example\x04test\0\0\x06\0\x01"
-                )
-            );
-        }
-        assert_eq!(rt; packer.next_message(&mut out), None);
+fn full_message(rt: HostRuntime) {
+    let zone = zone_of_texts(rt.alloc(), 211).expect(&rt, "a zone");
+    assert!(rt; is_sent(Listed::Full(full(&zone)), 16384, FRONT, 0) == Some(true));
+    let zone = zone_of_texts(rt.alloc(), 212).expect(&rt, "a zone");
+    assert!(rt; is_sent(Listed::Full(full(&zone)), 16349, FRONT, 70) == Some(true));
+}
+
+/// Whether a list is sent in a datagram as the SOA alone, to a question whose name is spelt otherwise.
+fn is_alone(zone: &Zone, list: Listed) -> Option<bool> {
+    let question = asked(b"\x07Example\x04test\0", RType::IXFR)?;
+    let mut packer = Packer::datagram(HEAD, &question, list, zone.soa());
+    let mut out = [0xee; MAX_MESSAGE];
+    let front =
+        b"\x12\x34\x84\0\0\x01\0\x01\0\0\0\0\x07Example\x04test\0\0\xfb\0\x01\xc0\x0c\0\x06";
+    if packer.next_message(&mut out)? != 84 || !out.starts_with(front) {
+        return Some(false);
     }
-    Ok(())
+    Some(packer.next_message(&mut out).is_none())
+}
+
+/// A zone with a text of two strings of 255 octets and an empty one.
+fn zone_of_text(alloc: Global) -> Option<Zone> {
+    let octets = text(alloc, b'a', 2, 0)?;
+    let text = one(alloc, OWNER, RType::TXT, &octets)?;
+    zone_of(alloc, Some(text))
 }
 
 // Over UDP a list that doesn't fit a datagram is the SOA alone (RFC 1995, 2; own). The owner that was asked for keeps its
 // spelling, so that the names in the data, in lower case, have pointers to `test` alone (RFC 1035, 4.1.4; own).
 #[test]
-fn datagrams(rt: HostRuntime) -> Result<(), Fail> {
-    let alloc = rt.alloc();
-    let mut sets = Vec::new(alloc);
-    sets.push(one(alloc, APEX, RType::NS, NS)?)?;
-    sets.push(one(alloc, APEX, RType::SOA, SOA)?)?;
-    sets.push(one(
-        alloc,
-        b"\x01t\x07example\x04test\0",
-        RType::TXT,
-        &text(alloc, b'a', 2, 0)?,
-    )?)?;
-    let zone = Zone::new(alloc, sets)?;
-    let (head, mut question) = asked(RType::IXFR)?;
-    question.name = name(b"\x07Example\x04test\0")?;
-    let list = Listed::Full(full(&zone));
-    let mut packer = Packer::datagram(head, &question, list, zone.soa());
-    let mut out = [0xee; MAX_MESSAGE];
-    assert_eq!(rt; packer.next_message(&mut out), Some(84));
-    let front =
-        b"\x12\x34\x84\0\0\x01\0\x01\0\0\0\0\x07Example\x04test\0\0\xfb\0\x01\xc0\x0c\0\x06";
-    assert!(rt; out.starts_with(front));
-    assert_eq!(rt; packer.next_message(&mut out), None);
-    let alone = Listed::Set(SetRecords::new(zone.soa()));
-    let mut packer = Packer::datagram(head, &question, alone, zone.soa());
-    assert_eq!(rt; packer.next_message(&mut out), Some(84));
-    assert!(rt; out.starts_with(front));
-    Ok(())
+fn datagrams(rt: HostRuntime) {
+    let zone = zone_of_text(rt.alloc()).expect(&rt, "a zone");
+    assert!(rt; is_alone(&zone, Listed::Full(full(&zone))) == Some(true));
+    assert!(rt; is_alone(&zone, Listed::Set(SetRecords::new(zone.soa()))) == Some(true));
 }
