@@ -43,14 +43,27 @@ questions() {
     }'
 }
 
-# Updates: an address at a name of its own is added, and the one that was added before is deleted.
+# Sends updates for so many seconds, each behind the reply to the one before: an address at a name of its own is added, and then deleted. Prints
+# how many are taken a second.
 updates() {
-    awk 'BEGIN {
-        for (i = 0; i < 50000; i++) {
-            printf "example.test\nadd u%d 3600 A 192.0.2.1\nsend\n", i
-            printf "example.test\ndelete u%d A 192.0.2.1\nsend\n", i
-        }
-    }'
+    python3 - "$1" "$port" <<'PY'
+import socket, sys, time
+seconds, port = float(sys.argv[1]), int(sys.argv[2])
+zone = bytes.fromhex("076578616d706c65047465737400000600") + b"\1"  # example.test. SOA IN
+client = socket.socket(socket.AF_INET, socket.SOCK_DGRAM)
+client.connect(("127.0.0.1", port))
+client.settimeout(5)
+taken, began = 0, time.time()
+while time.time() - began < seconds:
+    label = b"u%d" % (taken // 2)
+    owner = bytes([len(label)]) + label + b"\xc0\x0c"
+    record = owner + (b"\0\1\0\1\0\0\x0e\x10" if taken % 2 == 0 else b"\0\1\0\xfe\0\0\0\0") + b"\0\4\xc0\0\2\1"
+    client.send((taken % 65536).to_bytes(2, "big") + b"\x28\0\0\1\0\0\0\1\0\0" + zone + record)
+    if client.recv(512)[3] != 0:
+        sys.exit("bench: an update is refused")
+    taken += 1
+print(round(taken / (time.time() - began)))
+PY
 }
 
 start_dnsd() {
@@ -161,15 +174,14 @@ measure() {
 # Updates beside queries: WORKERS RECORDS
 measure_updates() {
     local alone beside updated
-    updates >"$work/updates"
     start_dnsd "$1"
     wait_for
     alone=$(dnsperf -v -s 127.0.0.1 -p "$port" -d "$work/questions" -l "$seconds" -c 4 -T 1 -Q 2000 2>/dev/null | percentile)
-    dnsperf -u -s 127.0.0.1 -p "$port" -d "$work/updates" -l "$seconds" -c 1 -T 1 -q 1 >"$work/updated" 2>&1 &
+    updates "$seconds" >"$work/updated" &
     local updater=$!
     beside=$(dnsperf -v -s 127.0.0.1 -p "$port" -d "$work/questions" -l "$seconds" -c 4 -T 1 -Q 2000 2>/dev/null | percentile)
     wait "$updater"
-    updated=$(awk '/[Uu]pdates per second:/ { print $4 }' "$work/updated")
+    updated=$(cat "$work/updated")
     awk -v w="$1" -v n="$2" -v u="$updated" -v a="$alone" -v b="$beside" 'BEGIN {
         printf "dnsd, %d workers, %d records: %d updates a second, one after another; of 2000 queries a second 99 in 100 take at most %s ms without updates and %s ms beside them\n", w, n, u, a, b
     }'
