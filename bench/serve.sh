@@ -197,5 +197,7 @@ for records in "${sizes[@]}"; do
             if command -v $other >/dev/null; then measure $other "$w" "$records"; fi
         done
     done
+    # a zone of a million records is full (a limit of its own): the records that updates add need room
+    [ "$records" -lt 1000000 ] || { records=999000 && zone "$records" >"$work/zone"; }
     measure_updates 4 "$records"
 done
