@@ -12,13 +12,13 @@ use Rattle.dns_rdata.specs.Layout.{layout_of}
 use Rattle.dns_rdata.specs.Record.{Record}
 use Rattle.dns_rdata.proofs.LayoutLemmas.{by_type}
 use Rattle.wire_names.specs.NameAt.{name_at}
-use Rattle.wire_names.specs.Table.{Table}
+use Rattle.wire_names.specs.Table.{Table, keyed}
 use Rattle.wire_names.specs.Written.{written, table_after}
 use Rattle.wire_names.proofs.GrammarLemmas.{computed_spelt}
 use Rattle.wire_names.proofs.WrittenLemmas.{written_spelt}
 use Rattle.dns_message.specs.Again.{IsRecord, Place, behind, data_at, entry_at, entries_at}
 use Rattle.dns_message.specs.Asked.{question_in_full, IsQuestion}
-use Rattle.dns_message.specs.Encoded.{positions_of, IsTrueOf}
+use Rattle.dns_message.specs.Encoded.{IsTrueOf}
 use Rattle.dns_message.specs.Message.{Entry, number_at}
 use Rattle.dns_message.specs.Encoding.{these, named, before, measured, each}
 use Rattle.dns_message.specs.Reads.{question_of, question_at, long_number_at, record_of, record_at, records_at}
@@ -31,7 +31,7 @@ use Rattle.dns_message.proofs.TrueLemmas.{IsTrueOf-nothing}
 name_again_here : (compress : Bool) (msg rest : List ℕ) (table : Table) (name : List (List ℕ)) → IsTrueOf msg table → IsName name → name_at (msg ++ (written compress table name ++ rest)) (length msg) ≡ Ok (name, length msg + length (written compress table name))
 name_again_here compress msg rest table name h lawful =
     let P : Table → Type 0 = λ t. name_at (msg ++ (written compress t name ++ rest)) (length msg) ≡ Ok (name, length msg + length (written compress t name)) in
-    subst P h.names (computed_spelt _ _ _ name (written_spelt compress msg (positions_of table) rest name h.targets lawful) lawful.short)
+    subst P h.names (computed_spelt _ _ _ name (written_spelt compress msg (keyed table) rest name h.targets lawful) lawful.short)
 
 pub name_again : (compress : Bool) (msg rest whole : List ℕ) (table : Table) (n : ℕ) (name : List (List ℕ)) → n ≡ length msg → whole ≡ msg ++ (written compress table name ++ rest) → IsTrueOf msg table → IsName name → name_at whole n ≡ Ok (name, n + length (written compress table name))
 name_again compress msg rest whole table n name at is h lawful =

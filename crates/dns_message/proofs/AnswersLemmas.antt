@@ -5,6 +5,7 @@ use Rattle.std.proofs.lemmas.Bool.{le-leb, lt-leb, leb-true}
 use Rattle.std.proofs.lemmas.List.{append-nil, length-take-le, take_at, drop_at, take-append-drop}
 use Rattle.dns_rdata.specs.Record.{Record}
 use Rattle.wire_names.specs.Table.{Table, IsTable}
+use Rattle.wire_names.specs.declared.table.Entry.{Entry}
 use Rattle.wire_names.proofs.OverwrittenLemmas.{length_stays, octets_are}
 use Rattle.dns_message.specs.Answers.{answers, filled, StopsTaking, PutsFirst, StopsBehind, Fills}
 use Rattle.dns_message.specs.Encoding.{Encoding, these, before, each}
@@ -25,17 +26,17 @@ each-last : (front : List Record) (r : Record) → before (each record_octets fr
 each-last front r = ap (before (each record_octets front)) (sym (each-one record_octets r)) ∙ sym (each-append record_octets front (r ∷ []))
 
 -- records are written one behind another: these are in front, and those are left
-pub record Filling (all left : List Record) (was out : List ℕ) (first : ℕ) (own : List ℕ) (at count : ℕ) (positions : List ℕ) : Type 0 where
+pub record Filling (all left : List Record) (was out : List ℕ) (first : ℕ) (own : List Entry) (at count : ℕ) (positions : List Entry) : Type 0 where
   pub front : List Record
   pub parts : all ≡ front ++ left
   pub counted : count ≡ length front
   pub written : WritesEncoding (each record_octets front) was out first own positions (Some at)
 
-pub Filling-start : (all : List Record) (out : List ℕ) (first : ℕ) (own : List ℕ) → first ≤ length out → IsTable (take first out) own → Filling all all out out first own first 0 own
+pub Filling-start : (all : List Record) (out : List ℕ) (first : ℕ) (own : List Entry) → first ≤ length out → IsTable (take first out) own → Filling all all out out first own first 0 own
 unfolding each
 Filling-start all out first own within table = record { front = []; parts = refl; counted = refl; written = WritesEncoding-nothing out first own within table }
 
-pub Filling-more : (all left : List Record) (was out later : List ℕ) (first : ℕ) (own : List ℕ) (at count : ℕ) (s t : List ℕ) (next : ℕ) → Filling all left was out first own at count s → PutsFirst left out later at s t (Some next) → Filling all (drop 1 left) was later first own next (count + 1) t
+pub Filling-more : (all left : List Record) (was out later : List ℕ) (first : ℕ) (own : List Entry) (at count : ℕ) (s t : List Entry) (next : ℕ) → Filling all left was out first own at count s → PutsFirst left out later at s t (Some next) → Filling all (drop 1 left) was later first own next (count + 1) t
 Filling-more all [] was out later first own at count s t next f put = cc (put.0)
 Filling-more all (r ∷ rs) was out later first own at count s t next f put = record {
   front = f.front ++ r ∷ [];
@@ -47,23 +48,23 @@ Filling-more all (r ∷ rs) was out later first own at count s t next f put = re
 }
 
 -- there are no more of them than octets
-pub Filling-few : (all left : List Record) (was out : List ℕ) (first : ℕ) (own : List ℕ) (at count : ℕ) (s : List ℕ) → Filling all left was out first own at count s → count ≤ length was
+pub Filling-few : (all left : List Record) (was out : List ℕ) (first : ℕ) (own : List Entry) (at count : ℕ) (s : List Entry) → Filling all left was out first own at count s → count ≤ length was
 Filling-few all left was out first own at count s f =
     let within = f.written.octets.within in
     let next_is = f.written.octets.next_is in
     omega (arith, f.counted, records_fill f.front (table_at was first own) first)
 
-pub Filling-within : (all left : List Record) (was out : List ℕ) (first : ℕ) (own : List ℕ) (at count : ℕ) (s : List ℕ) → Filling all left was out first own at count s → at ≤ length out
+pub Filling-within : (all left : List Record) (was out : List ℕ) (first : ℕ) (own : List Entry) (at count : ℕ) (s : List Entry) → Filling all left was out first own at count s → at ≤ length out
 Filling-within all left was out first own at count s f =
     omega (arith, f.written.octets.within, length_stays was out first _ at f.written.octets)
 
 -- one record more is fewer left
-pub fewer_left : (left : List Record) (out later : List ℕ) (at : ℕ) (s t : List ℕ) (next : ℕ) → PutsFirst left out later at s t (Some next) → length (drop 1 left) < length left
+pub fewer_left : (left : List Record) (out later : List ℕ) (at : ℕ) (s t : List Entry) (next : ℕ) → PutsFirst left out later at s t (Some next) → length (drop 1 left) < length left
 fewer_left [] out later at s t next put = cc (put.0)
 fewer_left (r ∷ rs) out later at s t next put = omega arith
 
 -- the first that is left isn't written: none is, or it doesn't fit
-pub Filling-end : (all left : List Record) (was out later : List ℕ) (first : ℕ) (own : List ℕ) (at count : ℕ) (s t : List ℕ) → Filling all left was out first own at count s → PutsFirst left out later at s t None → Fills all left was later first own at count
+pub Filling-end : (all left : List Record) (was out later : List ℕ) (first : ℕ) (own : List Entry) (at count : ℕ) (s t : List Entry) → Filling all left was out first own at count s → PutsFirst left out later at s t None → Fills all left was later first own at count
 Filling-end all [] was out later first own at count s t f put = record {
   front = f.front;
   parts = f.parts;
@@ -161,7 +162,7 @@ filled_is head question limit done (x ∷ xs) left h stops =
     let stopped = subst (λ (t : List Record). StopsTaking head question limit t left) (sym same) stops in
     rw yes (filled_is head question limit (done ++ x ∷ []) xs left whole stopped ∙ ap (λ (t : List Record). (t, left)) same)
 
-stops_taking : (head : Head) (question : Option Question) (front left : List Record) (was one two : List ℕ) (start : ℕ) (names : List ℕ) → length was ≤ 65535 → WritesEncoding (each question_octets (questions question)) was one 12 [] names (Some start) → StopsBehind front left one two start names → StopsTaking head question (length was) front left
+stops_taking : (head : Head) (question : Option Question) (front left : List Record) (was one two : List ℕ) (start : ℕ) (names : List Entry) → length was ≤ 65535 → WritesEncoding (each question_octets (questions question)) was one 12 [] names (Some start) → StopsBehind front left one two start names → StopsTaking head question (length was) front left
 stops_taking head question front [] was one two start names most w stops = tt
 stops_taking head question front (r ∷ rs) was one two start names most w stops =
     let stopped = WritesEncoding-then (each question_octets (questions question)) (each record_octets (front ++ r ∷ [])) was one two 12 start [] names names None w stops in
@@ -192,7 +193,7 @@ pub record HasWritten (head : Head) (question : Option Question) (limit : ℕ) (
   pub rest : left ≡ (filled head question limit [] all).1
   pub most : size ≤ limit
 
-pub wrote : (head : Head) (question : Option Question) (all left : List Record) (was one two three names : List ℕ) (start at count : ℕ) (counts : List ℕ) (r : Option ℕ) → 512 ≤ length was → length was ≤ 65535 → length two ≡ length was → WritesEncoding (each question_octets (questions question)) was one 12 [] names (Some start) → Fills all left one two start names at count → counts ≡ length (questions question) ∷ count ∷ 0 ∷ 0 ∷ [] → WritesParts two three 0 (header_octets (answers head question []) counts) r → HasWritten head question (length was) all left three at
+pub wrote : (head : Head) (question : Option Question) (all left : List Record) (was one two three : List ℕ) (names : List Entry) (start at count : ℕ) (counts : List ℕ) (r : Option ℕ) → 512 ≤ length was → length was ≤ 65535 → length two ≡ length was → WritesEncoding (each question_octets (questions question)) was one 12 [] names (Some start) → Fills all left one two start names at count → counts ≡ length (questions question) ∷ count ∷ 0 ∷ 0 ∷ [] → WritesParts two three 0 (header_octets (answers head question []) counts) r → HasWritten head question (length was) all left three at
 wrote head question all left was one two three names start at count counts r least most same_length w f counts_are put =
     let asked = each question_octets (questions question) in
     let x = (placed question f.front [] 12).0 in

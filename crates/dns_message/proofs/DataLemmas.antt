@@ -8,6 +8,7 @@ use Rattle.dns_name.specs.Name.{wire_of, name_in, IsName}
 use Rattle.dns_name.proofs.ReadLemmas.{wire_some}
 use Rattle.dns_rdata.specs.Layout.{names_in}
 use Rattle.wire_names.specs.Table.{Table, IsTable, position_in}
+use Rattle.wire_names.specs.declared.table.Entry.{Entry}
 use Rattle.wire_names.specs.Written.{IsOverwritten, WritesOctets, name_octets, pointer_to}
 use Rattle.wire_names.proofs.OverwrittenLemmas.{length_stays, octets_are, IsOverwritten-then}
 use Rattle.dns_message.specs.declared.query.Question.{Question}
@@ -37,14 +38,14 @@ length-question q table at lawful =
     omega arith
 
 -- a loop that writes so many names at the front of data is at a name: where the rest is written, the whole is
-pub record IsAmong (compress : Bool) (count : ℕ) (all was : List ℕ) (first : ℕ) (own : List ℕ) (i : ℕ) (rest out : List ℕ) (at : ℕ) (positions : List ℕ) : Type 0 where
+pub record IsAmong (compress : Bool) (count : ℕ) (all was : List ℕ) (first : ℕ) (own : List Entry) (i : ℕ) (rest out : List ℕ) (at : ℕ) (positions : List Entry) : Type 0 where
   pub within : at ≤ length out
   pub lawful : IsTable (take at out) positions
   pub left : ℕ
   pub left_is : left + i ≡ count
-  pub goes : (new : List ℕ) (after : List ℕ) (r : Option ℕ) → WritesEncoding (names_octets compress left rest) out new at positions after r → WritesEncoding (names_octets compress count all) was new first own after r
+  pub goes : (new : List ℕ) (after : List Entry) (r : Option ℕ) → WritesEncoding (names_octets compress left rest) out new at positions after r → WritesEncoding (names_octets compress count all) was new first own after r
 
-pub IsAmong-first : (compress : Bool) (count : ℕ) (all was : List ℕ) (first : ℕ) (own : List ℕ) → first ≤ length was → IsTable (take first was) own → IsAmong compress count all was first own 0 all was first own
+pub IsAmong-first : (compress : Bool) (count : ℕ) (all was : List ℕ) (first : ℕ) (own : List Entry) → first ≤ length was → IsTable (take first was) own → IsAmong compress count all was first own 0 all was first own
 IsAmong-first compress count all was first own within lawful =
     record { within = within; lawful = lawful; left = count; left_is = omega arith; goes = λ new after r h. h }
 
@@ -86,7 +87,7 @@ unfolding names_octets
 names_zero compress octets = no_names compress octets
 
 -- no name is in front
-pub IsAmong-none : (compress : Bool) (count : ℕ) (all was : List ℕ) (first : ℕ) (own : List ℕ) (i : ℕ) (rest out : List ℕ) (at : ℕ) (positions new : List ℕ) (r : Option ℕ) → IsAmong compress count all was first own i rest out at positions → None ≡ name_in rest → WritesOctets out new at rest r → WritesEncoding (names_octets compress count all) was new first own positions r
+pub IsAmong-none : (compress : Bool) (count : ℕ) (all was : List ℕ) (first : ℕ) (own : List Entry) (i : ℕ) (rest out : List ℕ) (at : ℕ) (positions : List Entry) (new : List ℕ) (r : Option ℕ) → IsAmong compress count all was first own i rest out at positions → None ≡ name_in rest → WritesOctets out new at rest r → WritesEncoding (names_octets compress count all) was new first own positions r
 IsAmong-none compress count all was first own i rest out at positions new r h e p =
     h.goes new positions r (subst (λ q. WritesEncoding q out new at positions positions r) (sym (names_none compress h.left rest (sym e))) (WritesEncoding-these rest out new at positions r h.lawful (WritesParts-octets out new at rest r p)))
 
@@ -94,7 +95,7 @@ IsAmong-none compress count all was first own i rest out at positions new r h e 
 left_none : (compress : Bool) (left : ℕ) (octets : List ℕ) → left ≡ 0 → names_octets compress left octets ≡ these octets
 left_none compress left octets e = ap (λ (n : ℕ). names_octets compress n octets) e ∙ names_zero compress octets
 
-pub IsAmong-end : (compress : Bool) (count : ℕ) (all was : List ℕ) (first : ℕ) (own : List ℕ) (i : ℕ) (rest out : List ℕ) (at : ℕ) (positions new : List ℕ) (r : Option ℕ) → IsAmong compress count all was first own i rest out at positions → count ≤ i → WritesOctets out new at rest r → WritesEncoding (names_octets compress count all) was new first own positions r
+pub IsAmong-end : (compress : Bool) (count : ℕ) (all was : List ℕ) (first : ℕ) (own : List Entry) (i : ℕ) (rest out : List ℕ) (at : ℕ) (positions : List Entry) (new : List ℕ) (r : Option ℕ) → IsAmong compress count all was first own i rest out at positions → count ≤ i → WritesOctets out new at rest r → WritesEncoding (names_octets compress count all) was new first own positions r
 IsAmong-end compress count all was first own i rest out at positions new r h e p =
     let left_is = h.left_is in
     let none : h.left ≡ 0 = omega arith in
@@ -110,7 +111,7 @@ next_name : (compress : Bool) (count i left : ℕ) (rest : List ℕ) (name : Lis
 next_name compress count i zero rest name e h n = absurd (omega arith)
 next_name compress count i (suc left) rest name e h n = record { behind = left; behind_is = omega arith; text = names_some compress left rest name n }
 
-more_among : (compress : Bool) (count : ℕ) (all was : List ℕ) (first : ℕ) (own : List ℕ) (i : ℕ) (rest out : List ℕ) (at : ℕ) (positions then : List ℕ) (next len : ℕ) (after : List ℕ) (name : List (List ℕ)) → IsAmong compress count all was first own i rest out at positions → i < count → Some name ≡ name_in rest → len ≡ length (wire_of name) → WritesEncoding (named compress name) out then at positions after (Some next) → IsAmong compress count all was first own (i + 1) (drop len rest) then next after
+more_among : (compress : Bool) (count : ℕ) (all was : List ℕ) (first : ℕ) (own : List Entry) (i : ℕ) (rest out : List ℕ) (at : ℕ) (positions : List Entry) (then : List ℕ) (next len : ℕ) (after : List Entry) (name : List (List ℕ)) → IsAmong compress count all was first own i rest out at positions → i < count → Some name ≡ name_in rest → len ≡ length (wire_of name) → WritesEncoding (named compress name) out then at positions after (Some next) → IsAmong compress count all was first own (i + 1) (drop len rest) then next after
 more_among compress count all was first own i rest out at positions then next len after name h less e l w =
     let more = next_name compress count i h.left rest name h.left_is less (sym e) in
     let there : drop (length (wire_of name)) rest ≡ drop len rest = ap (λ (n : ℕ). drop n rest) (sym l) in
@@ -124,13 +125,13 @@ more_among compress count all was first own i rest out at positions then next le
     }
 
 -- the same of a rest that is cut to its own end
-pub IsAmong-more : (compress : Bool) (count : ℕ) (all was : List ℕ) (first : ℕ) (own : List ℕ) (i : ℕ) (rest out : List ℕ) (at : ℕ) (positions then : List ℕ) (next len : ℕ) (after : List ℕ) (name : List (List ℕ)) → IsAmong compress count all was first own i rest out at positions → i < count → Some name ≡ name_in rest → len ≡ length (wire_of name) → WritesEncoding (named compress name) out then at positions after (Some next) → IsAmong compress count all was first own (i + 1) (take (length rest - len) (drop len rest)) then next after
+pub IsAmong-more : (compress : Bool) (count : ℕ) (all was : List ℕ) (first : ℕ) (own : List Entry) (i : ℕ) (rest out : List ℕ) (at : ℕ) (positions : List Entry) (then : List ℕ) (next len : ℕ) (after : List Entry) (name : List (List ℕ)) → IsAmong compress count all was first own i rest out at positions → i < count → Some name ≡ name_in rest → len ≡ length (wire_of name) → WritesEncoding (named compress name) out then at positions after (Some next) → IsAmong compress count all was first own (i + 1) (take (length rest - len) (drop len rest)) then next after
 IsAmong-more compress count all was first own i rest out at positions then next len after name h less e l w =
     let left = length-drop len rest in
     let whole : take (length rest - len) (drop len rest) ≡ drop len rest = let full = take-length (drop len rest) in cc in
     subst (λ octets. IsAmong compress count all was first own (i + 1) octets then next after) (sym whole) (more_among compress count all was first own i rest out at positions then next len after name h less e l w)
 
-pub IsAmong-stop : (compress : Bool) (count : ℕ) (all was : List ℕ) (first : ℕ) (own : List ℕ) (i : ℕ) (rest out : List ℕ) (at : ℕ) (positions then after : List ℕ) (name : List (List ℕ)) (r : Option ℕ) → IsAmong compress count all was first own i rest out at positions → i < count → Some name ≡ name_in rest → r ≡ None → WritesEncoding (named compress name) out then at positions after None → WritesEncoding (names_octets compress count all) was then first own after r
+pub IsAmong-stop : (compress : Bool) (count : ℕ) (all was : List ℕ) (first : ℕ) (own : List Entry) (i : ℕ) (rest out : List ℕ) (at : ℕ) (positions : List Entry) (then : List ℕ) (after : List Entry) (name : List (List ℕ)) (r : Option ℕ) → IsAmong compress count all was first own i rest out at positions → i < count → Some name ≡ name_in rest → r ≡ None → WritesEncoding (named compress name) out then at positions after None → WritesEncoding (names_octets compress count all) was then first own after r
 IsAmong-stop compress count all was first own i rest out at positions then after name r h less e n short =
     let more = next_name compress count i h.left rest name h.left_is less (sym e) in
     let stopped = h.goes then after None (subst (λ q. WritesEncoding q out then at positions after None) more.text (WritesEncoding-stop (named compress name) (names_octets compress more.behind (drop (length (wire_of name)) rest)) out then at positions after after short)) in
@@ -142,11 +143,11 @@ unfolding measured
 length-measured p table at = length-append (to_be_bytes w16 (length (p table (at + 2)).0)) (p table (at + 2)).0
 
 -- what has no room for its length doesn't fit
-pub measured_short : (p : Encoding) (a b : List ℕ) (at : ℕ) (s t : List ℕ) → WritesOctets a b at (0 ∷ 0 ∷ []) None → WritesEncoding (measured p) a b at s t None
+pub measured_short : (p : Encoding) (a b : List ℕ) (at : ℕ) (s t : List Entry) → WritesOctets a b at (0 ∷ 0 ∷ []) None → WritesEncoding (measured p) a b at s t None
 measured_short p a b at s t h = IsStopped-more a b at 2 _ (omega (arith, length-measured p (table_at a at s) at)) (IsStopped-octets a b at (0 ∷ 0 ∷ []) h)
 
 -- what doesn't fit behind its length doesn't fit with it
-pub measured_stop : (p : Encoding) (a b c : List ℕ) (at n : ℕ) (s t : List ℕ) → IsTable (take at a) s → IsOverwritten a b at (0 ∷ 0 ∷ []) n → WritesEncoding p b c n s t None → WritesEncoding (measured p) a c at s t None
+pub measured_stop : (p : Encoding) (a b c : List ℕ) (at n : ℕ) (s t : List Entry) → IsTable (take at a) s → IsOverwritten a b at (0 ∷ 0 ∷ []) n → WritesEncoding p b c n s t None → WritesEncoding (measured p) a c at s t None
 measured_stop p a b c at n s t table put short =
     let same = stays a b at n s (0 ∷ 0 ∷ []) table put in
     let here = subst (λ (x : Table). IsStopped b c n (length (p x n).0)) same.is short in
@@ -164,7 +165,7 @@ patched front old more bytes back c d at f o whole is =
     is ∙ ap (λ (x : List ℕ). (x ++ bytes) ++ drop (at + 2) c) first ∙ ap (λ (x : List ℕ). (front ++ bytes) ++ x) second ∙ simp append_assoc
 
 -- something was written behind two octets, which then were set to its length
-pub measured_whole : (p : Encoding) (a b c d : List ℕ) (at n next : ℕ) (s t : List ℕ) → Keeps p → at ≤ length a → IsTable (take at a) s → IsOverwritten a b at (0 ∷ 0 ∷ []) n → IsEncoded (p (table_at b n s) n) b c n t next → d ≡ take at c ++ to_be_bytes w16 (next - n) ++ drop (at + 2) c → IsEncoded (measured p (table_at a at s) at) a d at t next
+pub measured_whole : (p : Encoding) (a b c d : List ℕ) (at n next : ℕ) (s t : List Entry) → Keeps p → at ≤ length a → IsTable (take at a) s → IsOverwritten a b at (0 ∷ 0 ∷ []) n → IsEncoded (p (table_at b n s) n) b c n t next → d ≡ take at c ++ to_be_bytes w16 (next - n) ++ drop (at + 2) c → IsEncoded (measured p (table_at a at s) at) a d at t next
 unfolding measured
 measured_whole p a b c d at n next s t keeps within table put w e =
     let own = table_at a at s in

@@ -8,18 +8,19 @@ use Rattle.dns_rdata.specs.declared.layout.Layout.{Layout}
 use Rattle.dns_rdata.specs.declared.layout.Layout.TheVariants.{Fields, Strings}
 use Rattle.dns_rdata.specs.Layout.{layout_of, names_in}
 use Rattle.dns_rdata.specs.Record.{Record}
-use Rattle.wire_names.specs.Table.{Table}
+use Rattle.wire_names.specs.Table.{Table, keyed}
+use Rattle.wire_names.specs.declared.table.Entry.{Entry}
 use Rattle.wire_names.specs.Written.{written, table_after}
 use Rattle.wire_names.proofs.WrittenLemmas.{IsTableOf, after_name}
 use Rattle.dns_message.specs.declared.query.Question.{Question}
-use Rattle.dns_message.specs.Encoded.{positions_of, IsTrueOf}
+use Rattle.dns_message.specs.Encoded.{IsTrueOf}
 use Rattle.dns_message.specs.Encoding.{Encoding, these, named, before, measured, each}
 use Rattle.dns_message.specs.Message.{Message}
 use Rattle.dns_message.specs.Octets.{question_octets, names_octets, octets_by, data_laid, data_octets, fixed_octets, record_octets, questions, sections_octets}
 use Rattle.dns_message.proofs.TrueLemmas.{IsTrueOf-positions, IsTrueOf-more}
 
 -- positions that stand for a table, as wire_names has it
-true_after : (msg positions : List ℕ) (table : Table) → IsTableOf msg positions table → IsTrueOf msg table
+true_after : (msg : List ℕ) (positions : List Entry) (table : Table) → IsTableOf msg positions table → IsTrueOf msg table
 true_after msg positions table h = IsTrueOf-positions msg positions table h.all h.is
 
 -- what is written behind a message of which the table is true leaves one of which the table behind it is true
@@ -52,7 +53,7 @@ unfolding named
 Keeps-named compress name lawful = record {
   kept = λ msg table h.
       subst (λ (t : Table). IsTrueOf (msg ++ written compress t name) (table_after compress t (length msg) name)) h.names
-      (true_after _ _ _ (after_name compress msg (positions_of table) name h.targets lawful));
+      (true_after _ _ _ (after_name compress msg (keyed table) name h.targets lawful));
 }
 
 pub Keeps-before : (p q : Encoding) → Keeps p → Keeps q → Keeps (before p q)

@@ -1,16 +1,18 @@
 -- How long the octets of a reply are, and what they are.
-use Rattle.std.proofs.Common.{◌≡◌, ℕ, ◌+◌, ◌<◌, ◌≤◌, Bool, true, false, not, ◌&&◌, if◌then◌else◌, min, refl, nat_le, List, [], ◌∷◌, ◌++◌, length, take, drop, Some, sym, ap, subst, ◌∙◌, arith, length-append, append_assoc}
+use Rattle.std.proofs.Common.{◌≡◌, ℕ, ◌+◌, ◌<◌, ◌≤◌, Bool, true, false, not, ◌&&◌, if◌then◌else◌, min, refl, nat_le, List, [], ◌∷◌, ◌++◌, length, take, drop, Option, Some, sym, ap, subst, ◌∙◌, arith, length-append, append_assoc}
 use Rattle.std.proofs.lemmas.Bool.{le-leb, lt-leb}
 use Rattle.std.proofs.lemmas.List.{append-nil, length-take-le, take-append-le, drop-append-le, take-append-drop}
 use Rattle.std.specs.Int.{to_be_bytes, w16}
 use Rattle.dns_rdata.specs.Record.{Record}
 use Rattle.wire_names.specs.Table.{Table}
 use Rattle.wire_names.specs.Written.{IsOverwritten}
+use Rattle.wire_names.specs.declared.table.Entry.{Entry}
 use Rattle.wire_names.proofs.OverwrittenLemmas.{length_stays, octets_are, IsOverwritten-then}
 use Rattle.dns_message.specs.Message.{Message}
 use Rattle.dns_message.specs.Encoding.{Encoding, these, before, measured, each}
-use Rattle.dns_message.specs.Encoded.{IsStopped, WritesEncoding}
+use Rattle.dns_message.specs.Encoded.{IsStopped, WritesParts, WritesEncoding}
 use Rattle.dns_message.specs.Octets.{questions, question_octets, record_octets, sections_octets, counts_in, header_octets, reply_octets, truncated, fits, without_additional, fit}
+use Rattle.dns_message.proofs.EncodedLemmas.{WritesParts-then, WritesParts-encoding}
 
 -- the octets of one thing and of another behind it
 pub length-before : (p q : Encoding) (table : Table) (at : ℕ) → length (before p q table at).0 ≡ length (p table at).0 + length (q (p table at).1 (at + length (p table at).0)).0
@@ -67,13 +69,22 @@ unfolding sections_octets before each these
 truncated_octets m = ap (λ octets. header_octets (truncated m) (counts_in (truncated m)) ++ octets) (append-nil (each question_octets (questions m.question) [] 12).0)
 
 -- and they are written so
-pub truncated_put : (m : Message) (a b c after : List ℕ) (at next : ℕ) → IsOverwritten a b 0 (header_octets (truncated m) (counts_in (truncated m))) at → WritesEncoding (each question_octets (questions m.question)) b c at [] after (Some next) → IsOverwritten a c 0 (reply_octets (truncated m)) next
+pub truncated_put : (m : Message) (a b c : List ℕ) (after : List Entry) (at next : ℕ) → IsOverwritten a b 0 (header_octets (truncated m) (counts_in (truncated m))) at → WritesEncoding (each question_octets (questions m.question)) b c at [] after (Some next) → IsOverwritten a c 0 (reply_octets (truncated m)) next
 truncated_put m a b c after at next front back =
     let asked = each question_octets (questions m.question) in
     let next_is = front.next_is in
     let place : at ≡ 12 = omega arith in
     let there = subst (λ (n : ℕ). IsOverwritten b c at (asked [] n).0 next) place back.octets in
     subst (λ (octets : List ℕ). IsOverwritten a c 0 octets next) (sym (truncated_octets m)) (IsOverwritten-then a b c 0 at next _ _ front there)
+
+-- a whole reply is written as its header, and its sections behind it, where no name stands in front of them
+pub message_put : (m : Message) (a b c : List ℕ) (at : ℕ) (names after : List Entry) (r : Option ℕ) → names ≡ [] → IsOverwritten a b 0 (header_octets m (counts_in m)) at → WritesEncoding (sections_octets m) b c at names after r → WritesParts a c 0 (reply_octets m) r
+message_put m a b c at names after r none front back =
+    let next_is = front.next_is in
+    let place : at ≡ 12 = omega arith in
+    let own = subst (λ (s : List Entry). WritesEncoding (sections_octets m) b c at s after r) none back in
+    let there = subst (λ (n : ℕ). WritesParts b c at (sections_octets m [] n).0 r) place (WritesParts-encoding (sections_octets m) b c at [] after r own) in
+    WritesParts-then a b c 0 at (header_octets m (counts_in m)) (sections_octets m [] 12).0 r front there
 
 -- octets that were written to the front of a part of a buffer stand at its front
 pub sent : (old new x rest : List ℕ) (len : ℕ) → IsOverwritten old new 0 x len → take len (new ++ rest) ≡ x

@@ -2,6 +2,7 @@
 use Rattle.std.specs.Prelude.{◌≡◌, ℕ, true, false, List, [], ◌∷◌, ◌++◌, length, take, Option, Some, None, if◌then◌else◌}
 use Rattle.dns_rdata.specs.declared.numbers.Rcode.TheVariants.{NoError}
 use Rattle.dns_rdata.specs.Record.{Record}
+use Rattle.wire_names.specs.declared.table.Entry.{Entry}
 use Rattle.dns_message.specs.Encoded.{WritesEncoding}
 use Rattle.dns_message.specs.Encoding.{each}
 use Rattle.dns_message.specs.Message.{Message}
@@ -38,23 +39,23 @@ StopsTaking head question limit front (r ∷ rs) = fits (answers head question (
 
 -- the first of the records that are left is written into a buffer at a position, as names are; none is where none is left,
 -- or where it doesn't fit, and what is in front of the position stays then
-abbrev pub PutsFirst : List Record → List ℕ → List ℕ → ℕ → List ℕ → List ℕ → Option ℕ → Type 0
+abbrev pub PutsFirst : List Record → List ℕ → List ℕ → ℕ → List Entry → List Entry → Option ℕ → Type 0
 PutsFirst [] old new at before after result = (result ≡ None) × (take at new ≡ take at old)
 PutsFirst (r ∷ rs) old new at before after result = WritesEncoding (record_octets r) old new at before after result
 
 -- behind records that were written at a position, one more doesn't fit: the first of those that are left, if any is
-abbrev pub StopsBehind : List Record → List Record → List ℕ → List ℕ → ℕ → List ℕ → Type 0
+abbrev pub StopsBehind : List Record → List Record → List ℕ → List ℕ → ℕ → List Entry → Type 0
 StopsBehind front [] old new at positions = Unit {0}
 StopsBehind front (r ∷ rs) old new at positions = WritesEncoding (each record_octets (front ++ r ∷ [])) old new at positions positions None
 
 -- as many records from the front of a list as fit were written into a buffer at a position; what is behind them in the buffer
 -- is of no matter
-pub record Fills (all left : List Record) (old new : List ℕ) (at : ℕ) (positions : List ℕ) (next count : ℕ) : Type 0 where
+pub record Fills (all left : List Record) (old new : List ℕ) (at : ℕ) (positions : List Entry) (next count : ℕ) : Type 0 where
   pub front : List Record
   pub parts : all ≡ front ++ left
   pub counted : count ≡ length front
   pub whole : List ℕ
-  pub after : List ℕ
+  pub after : List Entry
   pub written : WritesEncoding (each record_octets front) old whole at positions after (Some next)
   pub same : take next new ≡ take next whole
   pub stops : StopsBehind front left old new at positions

@@ -1,23 +1,20 @@
 -- What a write into a buffer leaves, and what a count of records tells.
-use Rattle.std.specs.Prelude.{◌≡◌, ℕ, ◌+◌, ◌^◌, ◌<◌, ◌≤◌, List, length, take, map, Option, Some, None}
-use Rattle.wire_names.specs.Table.{Table, IsTable, table_of}
+use Rattle.std.specs.Prelude.{◌≡◌, ℕ, ◌+◌, ◌^◌, ◌<◌, ◌≤◌, List, length, take, Option, Some, None}
+use Rattle.wire_names.specs.Table.{Table, IsTable, table_of, keyed}
 use Rattle.wire_names.specs.Written.{IsOverwritten}
+use Rattle.wire_names.specs.declared.table.Entry.{Entry}
 use Rattle.dns_message.specs.Encoding.{Encoding}
-
--- the positions of a table
-abbrev pub positions_of : Table → List ℕ
-positions_of table = map (λ entry. entry.0) table
 
 -- a table is true of a message: at each of its positions, which a pointer can name, its name is read (RFC 1035, 4.1.4)
 pub record IsTrueOf (msg : List ℕ) (table : Table) : Type 0 where
-  pub targets : IsTable msg (positions_of table)
-  pub names : table_of msg (positions_of table) ≡ table
+  pub targets : IsTable msg (keyed table)
+  pub names : table_of msg (keyed table) ≡ table
 
 -- octets and the table behind them were written at a position of a buffer: the octets end before the next position, all
--- else is as it was, and the positions are those of the table, which is true of the message that ends there
-pub record IsEncoded (written : List ℕ × Table) (old new : List ℕ) (at : ℕ) (positions : List ℕ) (next : ℕ) : Type 0 where
+-- else is as it was, and the positions and keys are those of the table, which is true of the message that ends there
+pub record IsEncoded (written : List ℕ × Table) (old new : List ℕ) (at : ℕ) (positions : List Entry) (next : ℕ) : Type 0 where
   pub octets : IsOverwritten old new at written.0 next
-  pub positions_are : positions ≡ positions_of written.1
+  pub positions_are : positions ≡ keyed written.1
   pub true_of : IsTrueOf (take next new) written.1
 
 -- so many octets don't fit a buffer from a position on, and what stands in front of the position is as it was
@@ -33,7 +30,7 @@ WritesParts old new at octets (Some next) = IsOverwritten old new at octets next
 
 -- something is written into a buffer at a position, where names are at the positions before, and then at the positions
 -- after: it gives the position behind it; none where it doesn't fit
-abbrev pub WritesEncoding : Encoding → List ℕ → List ℕ → ℕ → List ℕ → List ℕ → Option ℕ → Type 0
+abbrev pub WritesEncoding : Encoding → List ℕ → List ℕ → ℕ → List Entry → List Entry → Option ℕ → Type 0
 WritesEncoding put old new at before after None = IsStopped old new at (length (put (table_of (take at old) before) at).0)
 WritesEncoding put old new at before after (Some next) = IsEncoded (put (table_of (take at old) before) at) old new at after next
 

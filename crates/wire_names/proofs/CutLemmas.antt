@@ -6,10 +6,11 @@ use Rattle.dns_name.specs.Labels.{labels_in, IsWhole, IsFirstLabel}
 use Rattle.dns_name.specs.Name.{wire_of, IsName}
 use Rattle.dns_name.proofs.LabelLemmas.{wire_of-labels_in, labels_in-wire_of}
 use Rattle.wire_names.specs.Cut.{cut_octets, IsCut}
-use Rattle.wire_names.specs.Table.{Table, position_in, enter, entered}
+use Rattle.wire_names.specs.Table.{Table, position_in, enter, entered, keyed, label_key, name_key}
 use Rattle.wire_names.specs.Written.{name_octets, new_entries, pointer_to, written, entries_of, starts_of, IsOverwritten, WritesOctets}
+use Rattle.wire_names.specs.declared.table.Entry.{Entry}
 use Rattle.wire_names.specs.declared.write.Cut.{Cut}
-use Rattle.wire_names.proofs.EntryLemmas.{places, octets_none, octets_some, entries_none, entries_some}
+use Rattle.wire_names.proofs.EntryLemmas.{octets_none, octets_some, entries_none, entries_some}
 use Rattle.wire_names.proofs.OverwrittenLemmas.{length_stays, IsOverwritten-then}
 
 pub pointer_octets : (target : ℕ) (octets : List ℕ) → target < 16384 → octets ≡ (target / 256 % 256) ∷ (target % 256) ∷ [] → (192 + get_or octets 0 0) ∷ get_or octets 1 0 ∷ [] ≡ pointer_to target
@@ -55,7 +56,7 @@ module _ (table : Table) (octets label rest : List ℕ) (first : IsFirstLabel oc
       let found : position_in table (label ∷ labels_in rest) ≡ Some target = ap (position_in table) (sym first.labels) ∙ e in
       record {
         text = ap (name_octets table) first.labels ∙ octets_some table label (labels_in rest) target found;
-        entries = λ at. ap (λ (name : List (List ℕ)). places (new_entries table at name)) first.labels ∙ ap places (entries_some table at label (labels_in rest) target found);
+        entries = λ at. ap (λ (name : List (List ℕ)). keyed (new_entries table at name)) first.labels ∙ ap keyed (entries_some table at label (labels_in rest) target found);
         within = omega arith;
         few = omega arith;
         low = low;
@@ -75,9 +76,9 @@ module _ (table : Table) (octets label rest : List ℕ) (first : IsFirstLabel oc
             ∙ cut_more cut.len (cut.len + 1 + length label) cut.target (length label ∷ label) rest size
             ∙ ap (λ (x : List ℕ). cut_octets x (cut.len + 1 + length label) cut.target) (sym first.octets_are);
         entries = λ at.
-            ap (λ (name : List (List ℕ)). places (new_entries table at name)) first.labels
-            ∙ ap places (entries_none table at label (labels_in rest) none)
-            ∙ ap (λ (xs : List ℕ). at ∷ xs) (behind.entries (at + 1 + length label))
+            ap (λ (name : List (List ℕ)). keyed (new_entries table at name)) first.labels
+            ∙ ap keyed (entries_none table at label (labels_in rest) none)
+            ∙ ap (λ (xs : List Entry). record { position = at; key = label_key label } ∷ xs) (behind.entries (at + 1 + length label))
             ∙ ap (λ (k : ℕ). starts_of at (take k (label ∷ labels_in rest))) (sym (add-one cut.labels))
             ∙ ap (λ (name : List (List ℕ)). starts_of at (take (cut.labels + 1) name)) (sym first.labels);
         within = omega arith;
@@ -88,25 +89,28 @@ module _ (table : Table) (octets label rest : List ℕ) (first : IsFirstLabel oc
 -- how a name's octets are cut
 pub record IsCutOf (compress : Bool) (table : Table) (name : List (List ℕ)) (octets : List ℕ) (cut : Cut) : Type 0 where
   pub text : written compress table name ≡ cut_octets octets cut.len cut.target
-  pub entries : (at : ℕ) → places (entries_of compress table at name) ≡ starts_of at (take cut.labels (labels_in octets))
+  pub entries : (at : ℕ) → keyed (entries_of compress table at name) ≡ starts_of at (take cut.labels (labels_in octets))
 
 pub IsCutOf-name : (compress : Bool) (table : Table) (name : List (List ℕ)) (octets : List ℕ) (cut : Cut) → octets ≡ wire_of name → IsName name → IsCut compress table octets cut → IsCutOf compress table name octets cut
 IsCutOf-name compress table name octets cut e lawful is =
     let same : labels_in octets ≡ name = ap labels_in e ∙ labels_in-wire_of name lawful.labels in
     record {
       text = ap (written compress table) (sym same) ∙ is.text;
-      entries = λ at. ap (λ (n : List (List ℕ)). places (entries_of compress table at n)) (sym same) ∙ is.entries at;
+      entries = λ at. ap (λ (n : List (List ℕ)). keyed (entries_of compress table at n)) (sym same) ∙ is.entries at;
     }
 
 -- one position is entered of those of labels
-pub entered_step : (xs next whole : List ℕ) (label : List ℕ) (place there count i : ℕ) (names rest : List (List ℕ)) → names ≡ label ∷ rest → i < count → next ≡ enter (λ p. p) xs place → there ≡ place + (1 + length label) → entered (λ p. p) xs (starts_of place (take (count - i) names)) ≡ whole → entered (λ p. p) next (starts_of there (take (count - (i + 1)) rest)) ≡ whole
-entered_step xs next whole label place there count i names rest first within n t so_far =
+pub entered_step : (xs next whole : List Entry) (label : List ℕ) (place key there count i : ℕ) (names rest : List (List ℕ)) → names ≡ label ∷ rest → i < count → next ≡ enter (λ e. e.position) xs (record { position = place; key = key }) → key ≡ name_key names → there ≡ place + (1 + length label) → entered (λ e. e.position) xs (starts_of place (take (count - i) names)) ≡ whole → entered (λ e. e.position) next (starts_of there (take (count - (i + 1)) rest)) ≡ whole
+entered_step xs next whole label place key there count i names rest first within n k t so_far =
     let left : count - i ≡ suc (count - (i + 1)) = omega arith in
     let on : there ≡ place + 1 + length label = omega arith in
-    let front : entered (λ p. p) xs (starts_of place (take (count - i) names)) ≡ entered (λ p. p) (enter (λ p. p) xs place) (starts_of (place + 1 + length label) (take (count - (i + 1)) rest)) =
-    ap (λ (ns : List (List ℕ)). entered (λ p. p) xs (starts_of place (take (count - i) ns))) first
-    ∙ ap (λ (m : ℕ). entered (λ p. p) xs (starts_of place (take m (label ∷ rest)))) left in
-    let behind : entered (λ p. p) next (starts_of there (take (count - (i + 1)) rest)) ≡ entered (λ p. p) (enter (λ p. p) xs place) (starts_of (place + 1 + length label) (take (count - (i + 1)) rest)) =
-    ap (λ (ys : List ℕ). entered (λ p. p) ys (starts_of there (take (count - (i + 1)) rest))) n
-    ∙ ap (λ (p : ℕ). entered (λ q. q) (enter (λ q. q) xs place) (starts_of p (take (count - (i + 1)) rest))) on in
+    let own : key ≡ label_key label = k ∙ ap name_key first in
+    let entry : Entry = record { position = place; key = label_key label } in
+    let front : entered (λ e. e.position) xs (starts_of place (take (count - i) names)) ≡ entered (λ e. e.position) (enter (λ e. e.position) xs entry) (starts_of (place + 1 + length label) (take (count - (i + 1)) rest)) =
+    ap (λ (ns : List (List ℕ)). entered (λ e. e.position) xs (starts_of place (take (count - i) ns))) first
+    ∙ ap (λ (m : ℕ). entered (λ e. e.position) xs (starts_of place (take m (label ∷ rest)))) left in
+    let put : next ≡ enter (λ e. e.position) xs entry = n ∙ ap (λ (x : ℕ). enter (λ e. e.position) xs (record { position = place; key = x })) own in
+    let behind : entered (λ e. e.position) next (starts_of there (take (count - (i + 1)) rest)) ≡ entered (λ e. e.position) (enter (λ e. e.position) xs entry) (starts_of (place + 1 + length label) (take (count - (i + 1)) rest)) =
+    ap (λ (ys : List Entry). entered (λ e. e.position) ys (starts_of there (take (count - (i + 1)) rest))) put
+    ∙ ap (λ (p : ℕ). entered (λ e. e.position) (enter (λ e. e.position) xs entry) (starts_of p (take (count - (i + 1)) rest))) on in
     behind ∙ sym front ∙ so_far

@@ -1,11 +1,7 @@
 -- What is written of a name, and what is entered of it, by whether the table has it.
-use Rattle.std.proofs.Common.{◌≡◌, ℕ, ◌+◌, List, [], ◌∷◌, ◌++◌, length, map, Option, Some, None, ap}
+use Rattle.std.proofs.Common.{◌≡◌, ℕ, ◌+◌, List, [], ◌∷◌, ◌++◌, length, Option, Some, None, ap}
 use Rattle.wire_names.specs.Table.{Table, position_in}
 use Rattle.wire_names.specs.Written.{name_octets, new_entries, pointer_to}
-
--- the positions of entries
-abbrev pub places : Table → List ℕ
-places entries = map (λ entry. entry.0) entries
 
 pub octets_none : (table : Table) (label : List ℕ) (name : List (List ℕ)) → position_in table (label ∷ name) ≡ None → name_octets table (label ∷ name) ≡ length label ∷ label ++ name_octets table name
 octets_none table label name e = ap (λ (o : Option ℕ). elim o [ Some target ↦ pointer_to target | None ↦ length label ∷ label ++ name_octets table name ]) e

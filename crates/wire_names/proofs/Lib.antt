@@ -3,7 +3,6 @@ pub mod CutLemmas
 pub mod EntryLemmas
 pub mod GrammarLemmas
 pub mod LongerLemmas
-pub mod OtherwiseLemmas
 pub mod OverwrittenLemmas
 pub mod ReadLemmas
 pub mod TableLemmas

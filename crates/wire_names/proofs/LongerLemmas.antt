@@ -8,7 +8,8 @@ use Rattle.dns_name.specs.Name.{wire_of}
 use Rattle.wire_names.specs.NameAt.{name_at}
 use Rattle.wire_names.specs.Parts.{part_at, part_of, label_of, pointer_of, label_at}
 use Rattle.wire_names.specs.Spells.{Spells, closing, label, pointer}
-use Rattle.wire_names.specs.Table.{IsTable, IsTarget, spelt_at, table_of}
+use Rattle.wire_names.specs.Table.{IsTable, IsTarget, IsEntry, spelt_at, table_of, name_key}
+use Rattle.wire_names.specs.declared.table.Entry.{Entry}
 use Rattle.wire_names.specs.declared.part.NameReadFault.{NameReadFault}
 use Rattle.wire_names.specs.declared.part.NameReadFault.TheVariants.{Short, BadLength}
 use Rattle.wire_names.specs.declared.part.Part.{Part}
@@ -102,14 +103,21 @@ target_longer msg more at target =
 pub IsTarget-longer : (msg more : List ℕ) (at : ℕ) → IsTarget msg at → IsTarget (msg ++ more) at
 IsTarget-longer msg more at target = record { low = target.low; read = (target_longer msg more at target).read }
 
-pub IsTable-longer : (msg more positions : List ℕ) → IsTable msg positions → IsTable (msg ++ more) positions
-IsTable-longer msg more positions table = λ k d h. IsTarget-longer msg more _ (table k d h)
+IsEntry-longer : (msg more : List ℕ) (entry : Entry) → IsEntry msg entry → IsEntry (msg ++ more) entry
+IsEntry-longer msg more entry is = record {
+  target = IsTarget-longer msg more entry.position is.target;
+  key = is.key ∙ sym (ap name_key (target_longer msg more entry.position is.target).spelt);
+}
+
+pub IsTable-longer : (msg more : List ℕ) (entries : List Entry) → IsTable msg entries → IsTable (msg ++ more) entries
+IsTable-longer msg more entries table = λ k d h. IsEntry-longer msg more _ (table k d h)
 
 -- and the table is the same
-pub table_longer : (msg more positions : List ℕ) → IsTable msg positions → table_of (msg ++ more) positions ≡ table_of msg positions
+pub table_longer : (msg more : List ℕ) (entries : List Entry) → IsTable msg entries → table_of (msg ++ more) entries ≡ table_of msg entries
 table_longer msg more [] table = refl
-table_longer msg more (at ∷ positions) table =
-    let first = (target_longer msg more at (All-head (IsTarget msg) at positions table)).spelt in
-    let rest = table_longer msg more positions (All-tail (IsTarget msg) at positions table) in
-    let pair : (at, spelt_at (msg ++ more) at) ∷ table_of (msg ++ more) positions ≡ (at, spelt_at msg at) ∷ table_of (msg ++ more) positions = ap (λ (n : List (List ℕ)). (at, n) ∷ table_of (msg ++ more) positions) first in
+table_longer msg more (entry ∷ entries) table =
+    let at = entry.position in
+    let first = (target_longer msg more at (All-head (IsEntry msg) entry entries table).target).spelt in
+    let rest = table_longer msg more entries (All-tail (IsEntry msg) entry entries table) in
+    let pair : (at, spelt_at (msg ++ more) at) ∷ table_of (msg ++ more) entries ≡ (at, spelt_at msg at) ∷ table_of (msg ++ more) entries = ap (λ (n : List (List ℕ)). (at, n) ∷ table_of (msg ++ more) entries) first in
     pair ∙ ap (λ (t : List (ℕ × List (List ℕ))). (at, spelt_at msg at) ∷ t) rest

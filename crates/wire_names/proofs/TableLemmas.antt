@@ -1,23 +1,24 @@
 -- The table of positions: what is spelt where, and what is entered.
-use Rattle.std.proofs.Common.{◌≡◌, ℕ, ◌+◌, ◌<◌, ◌≤◌, ◌↔◌, Bool, true, false, not, IsTrue, cond, is_some, List, [], ◌∷◌, length, map, min, All, get_or, drop, ⊎_elim, Option, Some, None, MatchOption, Result, Ok, Err, Bor, refl, sym, ap, subst, ◌∙◌, arith}
+use Rattle.std.proofs.Common.{◌≡◌, ℕ, ◌+◌, ◌-◌, ◌*◌, ◌<◌, ◌≤◌, ◌↔◌, Bool, true, false, not, IsTrue, cond, is_some, List, [], ◌∷◌, length, map, min, All, get_or, drop, ⊎_elim, Option, Some, None, MatchOption, Result, Ok, Err, Bor, refl, sym, ap, subst, ◌∙◌, arith}
 use Rattle.std.specs.Bool.{Decides}
 use Rattle.std.specs.Cmp.Lexicographic.{pointwise_decides}
 use Rattle.std.specs.List.{filter, fold, reduce}
-use Rattle.std.specs.List.Sorted.{IsStrictlyIncreasing}
 use Rattle.std.specs.Result.{IsOk}
 use Rattle.std.proofs.lemmas.Bool.{cases_lt}
-use Rattle.std.proofs.lemmas.List.{drop_more, length-drop, get_or-drop, get_or_default}
+use Rattle.std.proofs.lemmas.List.{drop_more, length-drop, get_or-drop, get_or_default, get_or_append_left}
 use Rattle.std.proofs.lemmas.List.Elements.{All-nil, All-cons, All-head, All-tail, All-map, All-filter}
-use Rattle.std.proofs.lemmas.List.Kept.{AllPairs-from_increasing}
 use Rattle.std.specs.Str.{bytes_eq}
 use Rattle.std.proofs.lemmas.Slice.Eq.{bytes_eq-Decides}
-use Rattle.dns_name.specs.Labels.{labels_in, IsFirstLabel}
+use Rattle.dns_name.specs.Labels.{labels_in, IsWhole, IsFirstLabel}
+use Rattle.dns_name.specs.Name.{wire_of}
+use Rattle.dns_name.proofs.LabelLemmas.{wire_of-labels_in}
 use Rattle.wire_names.specs.Parts.{part_at, label_at}
 use Rattle.wire_names.specs.Spells.{Spells, closing, label, pointer}
 use Rattle.wire_names.specs.declared.part.NameReadFault.{NameReadFault}
 use Rattle.wire_names.specs.declared.part.Part.TheVariants.{Closing, Label, Pointer}
 use Rattle.wire_names.specs.NameAt.{name_at}
-use Rattle.wire_names.specs.Table.{IsTable, IsTarget, table_of, spelt_at, same_spelling, Table, positions_in, position_in}
+use Rattle.wire_names.specs.Table.{IsTable, IsTarget, IsEntry, Ascend, name_key, table_of, spelt_at, same_spelling, Table, positions_in, position_in}
+use Rattle.wire_names.specs.declared.table.Entry.{Entry}
 use Rattle.wire_names.proofs.GrammarLemmas.{once, name_at_spelt}
 
 -- some position behind it ends what a place spells
@@ -167,17 +168,18 @@ first_at : (b : Bool) (at : ℕ) (name : List (List ℕ)) (rest : Table) → map
 first_at true at name rest = refl
 first_at false at name rest = refl
 
-positions_in-step : (msg positions : List ℕ) (at : ℕ) (name : List (List ℕ)) (b : Bool) → IsTarget msg at → Answers msg at name b → positions_in (table_of msg (at ∷ positions)) name ≡ cond b (at ∷ positions_in (table_of msg positions) name) (positions_in (table_of msg positions) name)
-positions_in-step msg positions at name b target answers =
-    let rest = positions_in (table_of msg positions) name in
-    first_at (same_spelling (spelt_at msg at) name) at (spelt_at msg at) (filter (λ entry. same_spelling entry.1 name) (table_of msg positions))
+positions_in-step : (msg : List ℕ) (entries : List Entry) (entry : Entry) (name : List (List ℕ)) (b : Bool) → IsTarget msg entry.position → Answers msg entry.position name b → positions_in (table_of msg (entry ∷ entries)) name ≡ cond b (entry.position ∷ positions_in (table_of msg entries) name) (positions_in (table_of msg entries) name)
+positions_in-step msg entries entry name b target answers =
+    let at = entry.position in
+    let rest = positions_in (table_of msg entries) name in
+    first_at (same_spelling (spelt_at msg at) name) at (spelt_at msg at) (filter (λ entry. same_spelling entry.1 name) (table_of msg entries))
     ∙ ap (λ (x : Bool). cond x (at ∷ rest) rest) (sym (same_spelling-at msg at name b target answers))
 
 -- the positions of a name are some of the table's
-positions_in-all : (P : ℕ → Type 0) (msg positions : List ℕ) (name : List (List ℕ)) → All P positions → All P (positions_in (table_of msg positions) name)
-positions_in-all P msg positions name all =
-    All-map P (λ entry. entry.0) (filter (λ entry. same_spelling entry.1 name) (table_of msg positions))
-    (All-filter (λ entry. same_spelling entry.1 name) (λ entry. P entry.0) (table_of msg positions) (All-map (λ entry. P entry.0) (λ at. (at, spelt_at msg at)) positions all))
+positions_in-all : (P : ℕ → Type 0) (msg : List ℕ) (entries : List Entry) (name : List (List ℕ)) → All (λ entry. P entry.position) entries → All P (positions_in (table_of msg entries) name)
+positions_in-all P msg entries name all =
+    All-map P (λ entry. entry.0) (filter (λ entry. same_spelling entry.1 name) (table_of msg entries))
+    (All-filter (λ entry. same_spelling entry.1 name) (λ entry. P entry.0) (table_of msg entries) (All-map (λ entry. P entry.0) (λ (entry : Entry). (entry.position, spelt_at msg entry.position)) entries all))
 
 -- a number below all others is the least
 least_first : (x : ℕ) (xs : List ℕ) → All (λ y. x < y) xs → fold min x xs ≡ x
@@ -203,43 +205,49 @@ least_some P (x ∷ xs) target all e =
     subst P same (least_all P x xs (All-head P x xs all) (All-tail P x xs all))
 
 -- the same at an index of the positions
-positions_in-at : (msg positions : List ℕ) (i x : ℕ) (name : List (List ℕ)) (b : Bool) → IsTable msg positions → i < length positions → get_or positions i 0 ≡ x → Answers msg x name b → positions_in (table_of msg (drop i positions)) name ≡ cond b (x ∷ positions_in (table_of msg (drop (i + 1) positions)) name) (positions_in (table_of msg (drop (i + 1) positions)) name)
-positions_in-at msg positions i x name b table within here answers =
-    let more = drop_more positions i 0 within in
-    let target : IsTarget msg x = subst (IsTarget msg) here (table i 0 within) in
-    let list : drop i positions ≡ x ∷ drop (i + 1) positions = cc in
-    ap (λ (xs : List ℕ). positions_in (table_of msg xs) name) list ∙ positions_in-step msg (drop (i + 1) positions) x name b target answers
-
--- each of a table's positions is one that a pointer can name
-pub target_at : (msg own items : List ℕ) (i : ℕ) → IsTable msg own → items ≡ own → i < length items → IsTarget msg (get_or items i 0)
-target_at msg own items i table same within = subst (IsTable msg) (sym same) table i 0 within
+positions_in-at : (msg : List ℕ) (entries : List Entry) (i : ℕ) (d x : Entry) (name : List (List ℕ)) (b : Bool) → IsTable msg entries → i < length entries → x ≡ get_or entries i d → Answers msg x.position name b → positions_in (table_of msg (drop i entries)) name ≡ cond b (x.position ∷ positions_in (table_of msg (drop (i + 1) entries)) name) (positions_in (table_of msg (drop (i + 1) entries)) name)
+positions_in-at msg entries i d x name b table within here answers =
+    let more = drop_more entries i d within in
+    let own : IsEntry msg x = subst (IsEntry msg) (sym here) (table i d within) in
+    let list : drop i entries ≡ x ∷ drop (i + 1) entries = cc in
+    ap (λ (xs : List Entry). positions_in (table_of msg xs) name) list ∙ positions_in-step msg (drop (i + 1) entries) x name b own.target answers
 
 -- where positions ascend, those behind an index are above the one there
-above_at : (xs : List ℕ) (i : ℕ) → IsStrictlyIncreasing xs → i < length xs → All (λ y. get_or xs i 0 < y) (drop (i + 1) xs)
-above_at xs i up within k d h =
+above_at : (xs : List Entry) (i : ℕ) (e x : Entry) → Ascend xs → i < length xs → x ≡ get_or xs i e → All (λ y. x.position < y.position) (drop (i + 1) xs)
+above_at xs i e x up within here k d h =
     let len = length-drop (i + 1) xs in
     let there = get_or-drop (i + 1) xs k d in
     let far : i + 1 + k < length xs = omega arith in
-    let below = AllPairs-from_increasing xs up i (i + 1 + k) d (omega arith) far in
-    let own = get_or_default xs i d 0 within in
-    subst (λ (y : ℕ). get_or xs i 0 < y) (sym there) (subst (λ (x : ℕ). x < get_or xs (i + 1 + k) d) own below)
+    let below = up i (i + 1 + k) d (omega arith) far in
+    let own : get_or xs i d ≡ x = get_or_default xs i d e within ∙ sym here in
+    subst (λ (y : Entry). x.position < y.position) (sym there) (subst (λ (y : Entry). y.position < (get_or xs (i + 1 + k) d).position) own below)
 
-pub position_found : (msg own items : List ℕ) (i x : ℕ) (name : List (List ℕ)) (b : Bool) → IsTable msg own → IsStrictlyIncreasing own → items ≡ own → i < length items → x ≡ get_or items i 0 → Answers msg x name b → b ≡ true → position_in (table_of msg own) name ≡ position_in (table_of msg (drop i items)) name → Some (get_or items i 0) ≡ position_in (table_of msg own) name
-position_found msg own items i x name b table up same within here answers is so_far =
+-- a name of another key is another name
+pub other_key : (msg : List ℕ) (entry : Entry) (key : ℕ) (name : List (List ℕ)) → IsEntry msg entry → key ≡ name_key name → (entry.key ≡ key → ⊥) → Answers msg entry.position name false
+other_key msg entry key name is e differs = (
+  λ t. cc,
+  λ s.
+      let own = target_spells msg entry.position is.target in
+      let same : spelt_at msg entry.position ≡ name = (once msg entry.position entry.position own.0 s.0 (spelt_at msg entry.position) name own.1 s.1).0 in
+      absurd (differs (is.key ∙ ap name_key same ∙ sym e)),
+)
+
+pub position_found : (msg : List ℕ) (own items : List Entry) (i : ℕ) (d x : Entry) (name : List (List ℕ)) (b : Bool) → IsTable msg own → Ascend own → items ≡ own → i < length items → x ≡ get_or items i d → Answers msg x.position name b → b ≡ true → position_in (table_of msg own) name ≡ position_in (table_of msg (drop i items)) name → Some x.position ≡ position_in (table_of msg own) name
+position_found msg own items i d x name b table up same within here answers is so_far =
     let all : IsTable msg items = subst (IsTable msg) (sym same) table in
     let rest = positions_in (table_of msg (drop (i + 1) items)) name in
-    let step = positions_in-at msg items i x name b all within (sym here) answers in
-    let first : cond b (x ∷ rest) rest ≡ x ∷ rest = rw is in
-    let above : All (λ (y : ℕ). x < y) (drop (i + 1) items) = rw here (above_at items i (subst IsStrictlyIncreasing (sym same) up) within) in
-    let least = least_first x rest (positions_in-all (λ (y : ℕ). x < y) msg (drop (i + 1) items) name above) in
-    sym (so_far ∙ ap (reduce min) (step ∙ first) ∙ ap Some (least ∙ here))
+    let step = positions_in-at msg items i d x name b all within here answers in
+    let first : cond b (x.position ∷ rest) rest ≡ x.position ∷ rest = rw is in
+    let above : All (λ (y : Entry). x.position < y.position) (drop (i + 1) items) = above_at items i d x (subst Ascend (sym same) up) within here in
+    let least = least_first x.position rest (positions_in-all (λ (y : ℕ). x.position < y) msg (drop (i + 1) items) name above) in
+    sym (so_far ∙ ap (reduce min) (step ∙ first) ∙ ap Some least)
 
-pub position_passed : (msg own items : List ℕ) (i x : ℕ) (name : List (List ℕ)) (b : Bool) → IsTable msg own → items ≡ own → i < length items → x ≡ get_or items i 0 → Answers msg x name b → b ≡ false → position_in (table_of msg own) name ≡ position_in (table_of msg (drop i items)) name → position_in (table_of msg own) name ≡ position_in (table_of msg (drop (i + 1) items)) name
-position_passed msg own items i x name b table same within here answers not_here so_far =
+pub position_passed : (msg : List ℕ) (own items : List Entry) (i : ℕ) (d x : Entry) (name : List (List ℕ)) (b : Bool) → IsTable msg own → items ≡ own → i < length items → x ≡ get_or items i d → Answers msg x.position name b → b ≡ false → position_in (table_of msg own) name ≡ position_in (table_of msg (drop i items)) name → position_in (table_of msg own) name ≡ position_in (table_of msg (drop (i + 1) items)) name
+position_passed msg own items i d x name b table same within here answers not_here so_far =
     let all : IsTable msg items = subst (IsTable msg) (sym same) table in
     let rest = positions_in (table_of msg (drop (i + 1) items)) name in
-    let step = positions_in-at msg items i x name b all within (sym here) answers in
-    so_far ∙ ap (reduce min) (step ∙ ap (λ (t : Bool). cond t (x ∷ rest) rest) not_here)
+    let step = positions_in-at msg items i d x name b all within here answers in
+    so_far ∙ ap (reduce min) (step ∙ ap (λ (t : Bool). cond t (x.position ∷ rest) rest) not_here)
 
 -- a position that is found spells the name
 pub record IsFound (msg : List ℕ) (at : ℕ) (name : List (List ℕ)) : Type 0 where
@@ -253,19 +261,39 @@ found_if msg at name rest true t own all =
     All-cons (λ (x : ℕ). IsFound msg x name) at rest found all
 found_if msg at name rest false t own all = all
 
-positions_in-found : (msg positions : List ℕ) (name : List (List ℕ)) → IsTable msg positions → All (λ x. IsFound msg x name) (positions_in (table_of msg positions) name)
+positions_in-found : (msg : List ℕ) (entries : List Entry) (name : List (List ℕ)) → IsTable msg entries → All (λ x. IsFound msg x name) (positions_in (table_of msg entries) name)
 positions_in-found msg [] name table = All-nil (λ (x : ℕ). IsFound msg x name)
-positions_in-found msg (at ∷ positions) name table =
-    let step = first_at (same_spelling (spelt_at msg at) name) at (spelt_at msg at) (filter (λ entry. same_spelling entry.1 name) (table_of msg positions)) in
+positions_in-found msg (entry ∷ entries) name table =
+    let at = entry.position in
+    let step = first_at (same_spelling (spelt_at msg at) name) at (spelt_at msg at) (filter (λ entry. same_spelling entry.1 name) (table_of msg entries)) in
     subst (All (λ (x : ℕ). IsFound msg x name)) (sym step)
-    (found_if msg at name (positions_in (table_of msg positions) name) (same_spelling (spelt_at msg at) name) refl
-    (All-head (IsTarget msg) at positions table)
-    (positions_in-found msg positions name (All-tail (IsTarget msg) at positions table)))
+    (found_if msg at name (positions_in (table_of msg entries) name) (same_spelling (spelt_at msg at) name) refl
+    (All-head (IsEntry msg) entry entries table).target
+    (positions_in-found msg entries name (All-tail (IsEntry msg) entry entries table)))
 
-pub position_in-found : (msg positions : List ℕ) (target : ℕ) (name : List (List ℕ)) → IsTable msg positions → position_in (table_of msg positions) name ≡ Some target → IsFound msg target name
-position_in-found msg positions target name table e =
-    least_some (λ (x : ℕ). IsFound msg x name) (positions_in (table_of msg positions) name) target (positions_in-found msg positions name table) e
+pub position_in-found : (msg : List ℕ) (entries : List Entry) (target : ℕ) (name : List (List ℕ)) → IsTable msg entries → position_in (table_of msg entries) name ≡ Some target → IsFound msg target name
+position_in-found msg entries target name table e =
+    least_some (λ (x : ℕ). IsFound msg x name) (positions_in (table_of msg entries) name) target (positions_in-found msg entries name table) e
 
 -- the same of equal positions
-pub at_view : (msg own positions : List ℕ) (name : List (List ℕ)) (found : Option ℕ) → own ≡ positions → position_in (table_of msg own) name ≡ found → position_in (table_of msg positions) name ≡ found
-at_view msg own positions name found same e = subst (λ (x : List ℕ). position_in (table_of msg x) name ≡ found) same e
+pub at_view : (msg : List ℕ) (own entries : List Entry) (name : List (List ℕ)) (found : Option ℕ) → own ≡ entries → position_in (table_of msg own) name ≡ found → position_in (table_of msg entries) name ≡ found
+at_view msg own entries name found same e = subst (λ (x : List Entry). position_in (table_of msg x) name ≡ found) same e
+
+-- the key in a name's octets
+key_in-wire : (name : List (List ℕ)) (n : ℕ) → n ≡ get_or (wire_of name) 0 0 → get_or (wire_of name) (n - 1) 0 * 256 + get_or (wire_of name) n 0 ≡ name_key name
+key_in-wire [] n e = ap (λ (m : ℕ). get_or (0 ∷ []) (m - 1) 0 * 256 + get_or (0 ∷ []) m 0) e
+key_in-wire (own ∷ name) n e =
+    let before = get_or_append_left (length own ∷ own) (wire_of name) 0 (length own - 1) (omega arith) in
+    let last = get_or_append_left (length own ∷ own) (wire_of name) 0 (length own) (omega arith) in
+    ap (λ (m : ℕ). get_or (wire_of (own ∷ name)) (m - 1) 0 * 256 + get_or (wire_of (own ∷ name)) m 0) e
+    ∙ ap (λ (x : ℕ). x * 256 + get_or (wire_of (own ∷ name)) (length own) 0) before
+    ∙ ap (λ (x : ℕ). get_or (length own ∷ own) (length own - 1) 0 * 256 + x) last
+
+key_in-octets : (octets : List ℕ) (n : ℕ) → IsWhole octets → n ≡ get_or octets 0 0 → get_or octets (n - 1) 0 * 256 + get_or octets n 0 ≡ name_key (labels_in octets)
+key_in-octets octets n whole =
+    subst (λ (x : List ℕ). n ≡ get_or x 0 0 → get_or x (n - 1) 0 * 256 + get_or x n 0 ≡ name_key (labels_in octets)) (wire_of-labels_in octets whole)
+    (key_in-wire (labels_in octets) n)
+
+pub key_is : (octets : List ℕ) (n before last : ℕ) → IsWhole octets → n ≡ get_or octets 0 0 → before ≡ get_or octets (n - 1) 0 → last ≡ get_or octets n 0 → before * 256 + last ≡ name_key (labels_in octets)
+key_is octets n before last whole e b l =
+    ap (λ (x : ℕ). x * 256 + last) b ∙ ap (λ (x : ℕ). get_or octets (n - 1) 0 * 256 + x) l ∙ key_in-octets octets n whole e

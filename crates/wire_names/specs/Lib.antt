@@ -3,6 +3,5 @@ pub mod Examples
 pub mod NameAt
 pub mod Parts
 pub mod Spells
-pub mod Start
 pub mod Table
 pub mod Written

@@ -1,10 +1,11 @@
 -- The table of a message's names that pointers can name (RFC 1035, 4.1.4).
-use Rattle.std.specs.Prelude.{ℕ, ◌<◌, Bool, ◌&&◌, List, [], ◌∷◌, ◌++◌, length, map, min, All, nat_lt, nat_le, if◌then◌else◌, Option, Ok, Err, bytes_eq}
+use Rattle.std.specs.Prelude.{◌≡◌, ℕ, ◌+◌, ◌-◌, ◌*◌, ◌<◌, Bool, ◌&&◌, List, [], ◌∷◌, ◌++◌, length, map, min, All, AllPairs, slice_index_or, nat_lt, nat_le, if◌then◌else◌, Option, Ok, Err, bytes_eq}
 use Rattle.std.specs.List.{filter, reduce}
 use Rattle.std.specs.Cmp.Lexicographic.{pointwise}
 use Rattle.std.specs.Result.{IsOk}
 use Rattle.dns_name.specs.Name.{Name}
 use Rattle.wire_names.specs.NameAt.{name_at}
+use Rattle.wire_names.specs.declared.table.Entry.{Entry}
 
 -- the table: positions of a message, each with the name that is spelt there, in the order in which they were entered
 abbrev pub Table : Type 0
@@ -35,15 +36,38 @@ entered position xs (y ∷ ys) = entered position (enter position xs y) ys
 abbrev pub spelt_at : List ℕ → ℕ → Name
 spelt_at msg at = elim (name_at msg at) [ Ok read ↦ read.0 | Err fault ↦ [] ]
 
--- the table that positions of a message stand for
-abbrev pub table_of : List ℕ → List ℕ → Table
-table_of msg positions = map (λ at. (at, spelt_at msg at)) positions
+-- the key of a label, its length octet in front of it: its last two octets (own)
+abbrev pub label_key : List ℕ → ℕ
+label_key label =
+    slice_index_or (length label ∷ label) (length label - 1) 0 * 256 + slice_index_or (length label ∷ label) (length label) 0
+
+-- the key of a name: that of its first label; the root's is 0 (own)
+abbrev pub name_key : Name → ℕ
+name_key [] = 0
+name_key (label ∷ name) = label_key label
+
+-- the positions of a table, each with the key of the name that is spelt there
+abbrev pub keyed : Table → List Entry
+keyed table = map (λ entry. record { position = entry.0; key = name_key entry.1 }) table
+
+-- the table that positions of a message stand for, whatever their keys
+abbrev pub table_of : List ℕ → List Entry → Table
+table_of msg entries = map (λ entry. (entry.position, spelt_at msg entry.position)) entries
 
 -- a pointer can name the position, and a name is spelt there
 pub record IsTarget (msg : List ℕ) (at : ℕ) : Type 0 where
   pub low : at < 16384
   pub read : IsOk (name_at msg at)
 
--- positions of a message that make a table
-abbrev pub IsTable : List ℕ → List ℕ → Type 0
-IsTable msg positions = All (IsTarget msg) positions
+-- a position that a pointer can name, with the key of the name that is spelt there
+pub record IsEntry (msg : List ℕ) (entry : Entry) : Type 0 where
+  pub target : IsTarget msg entry.position
+  pub key : entry.key ≡ name_key (spelt_at msg entry.position)
+
+-- positions of a message that make a table, each with its key
+abbrev pub IsTable : List ℕ → List Entry → Type 0
+IsTable msg entries = All (IsEntry msg) entries
+
+-- each position is above those before it
+abbrev pub Ascend : List Entry → Type 0
+Ascend entries = AllPairs (λ entry other. entry.position < other.position) entries

@@ -1,7 +1,8 @@
 -- How a name is written into a message, with pointers to names in front of it (RFC 1035, 4.1.4).
 use Rattle.std.specs.Prelude.{◌≡◌, ℕ, ◌+◌, ◌/◌, ◌%◌, ◌<◌, ◌≤◌, Bool, List, [], ◌∷◌, ◌++◌, length, take, drop, if◌then◌else◌, Option, Some, None}
 use Rattle.dns_name.specs.Name.{Name, wire_of}
-use Rattle.wire_names.specs.Table.{Table, position_in, entered}
+use Rattle.wire_names.specs.Table.{Table, position_in, entered, label_key}
+use Rattle.wire_names.specs.declared.table.Entry.{Entry}
 
 -- the two octets of a pointer to a position below 16384 (RFC 1035, 4.1.4)
 abbrev pub pointer_to : ℕ → List ℕ
@@ -26,10 +27,10 @@ new_entries table at (label ∷ name) =
       | None ↦ (at, label ∷ name) ∷ new_entries table (at + 1 + length label) name
     ]
 
--- the positions of labels that stand one behind another, each behind its length, from a position on
-abbrev pub starts_of : ℕ → Name → List ℕ
+-- the positions of labels that stand one behind another, each behind its length, from a position on, with their keys
+abbrev pub starts_of : ℕ → Name → List Entry
 starts_of at [] = []
-starts_of at (label ∷ name) = at ∷ starts_of (at + 1 + length label) name
+starts_of at (label ∷ name) = record { position = at; key = label_key label } ∷ starts_of (at + 1 + length label) name
 
 -- a name's octets, compressed or in full: a name in the data of an SRV record is never compressed (RFC 2782)
 abbrev pub written : Bool → Table → Name → List ℕ

@@ -2,6 +2,7 @@
 ghost use Rattle.std.specs.Prelude.{◌≡◌, ℕ, ◌+◌, ◌≤◌, ◌↔◌, Bool, List, [], ◌∷◌, ◌++◌, length, codes, All, Some, Ok, Err};
 ghost use Rattle.dns_name.specs.Name.{Name, wire_of, IsLabel, IsName};
 ghost use Rattle.wire_names.specs.declared.part.NameReadFault.{NameReadFault};
+ghost use Rattle.wire_names.specs.declared.table.Entry.{Entry};
 ghost use Rattle.wire_names.specs.declared.part.NameReadFault.TheVariants.{Short, BadLength, BadPointer};
 ghost use Rattle.wire_names.specs.NameAt.{name_at};
 ghost use Rattle.wire_names.specs.Spells.{Spells, Refuses};
@@ -30,12 +31,12 @@ pub fn name_at_is()
 
 /// A name that was written is spelt at its place, whatever follows (RFC 1035, 4.1.4).
 pub fn written_is_spelt()
-    ensures { (compress : Bool) (msg positions behind : List ℕ) (name : Name) → IsTable msg positions → IsName name → Spells (msg ++ (written compress (table_of msg positions) name ++ behind)) (length msg) (length msg) name (length msg + length (written compress (table_of msg positions) name)) }
+    ensures { (compress : Bool) (msg : List ℕ) (entries : List Entry) (behind : List ℕ) (name : Name) → IsTable msg entries → IsName name → Spells (msg ++ (written compress (table_of msg entries) name ++ behind)) (length msg) (length msg) name (length msg + length (written compress (table_of msg entries) name)) }
 {}
 
 /// A table stays what it is while its message goes on.
 pub fn table_stays()
-    ensures { (msg more positions : List ℕ) → IsTable msg positions → IsTable (msg ++ more) positions × (table_of (msg ++ more) positions ≡ table_of msg positions) }
+    ensures { (msg more : List ℕ) (entries : List Entry) → IsTable msg entries → IsTable (msg ++ more) entries × (table_of (msg ++ more) entries ≡ table_of msg entries) }
 {}
 
 /// Worked examples of the definitions: a label before a pointer down to a zero octet, a pointer to its own run's

@@ -13,22 +13,23 @@ use dns_name::Name;
 use std::marker::Model;
 
 /// Writes names into one message, and keeps the positions of those that pointers can name (RFC 1035, 4.1.4). Contracts
-/// see it as the list of the positions, in the order in which they were entered: each is above those before it. It
-/// takes no memory.
+/// see it as the list of the positions, each with the key of its name, in the order in which they were entered: each
+/// is above those before it. It takes no memory.
 #[derive(Drop)]
 pub struct NameWriter {
     positions: Positions,
 }
 
 impl Model for NameWriter {
-    ghost use Rattle.std.specs.Prelude.{List, ℕ};
-    ghost use Rattle.std.specs.List.Sorted.{IsStrictlyIncreasing};
+    ghost use Rattle.std.specs.Prelude.{List};
+    ghost use Rattle.wire_names.specs.Table.{Ascend};
+    ghost use Rattle.wire_names.specs.declared.table.Entry.{Entry};
 
-    ghost Value = { List ℕ };
+    ghost Value = { List Entry };
 
     ghost view = { λ a. a.positions };
 
-    ghost invariant = { λ a. IsStrictlyIncreasing a.positions };
+    ghost invariant = { λ a. Ascend a.positions };
 }
 
 /// How a name is written behind a message: so many labels from the front of its octets, which end behind so many of them, and

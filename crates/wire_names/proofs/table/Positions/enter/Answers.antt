@@ -12,5 +12,5 @@ loop-i-preserved c =
     record {
       whole = first.whole;
       within = omega arith;
-      same = entered_step _ _ _ _ c.loop-i.place _ c.args.count c.loop-i._i _ _ first.labels c.loop-i-test.true c.enter_one.ensures refl c.loop-i.invariant.same;
+      same = entered_step _ _ _ _ c.loop-i.place _ _ c.args.count c.loop-i._i _ _ first.labels c.loop-i-test.true c.enter_one.ensures c.key_of.ensures refl c.loop-i.invariant.same;
     }

@@ -9,5 +9,5 @@ abbrev pub invariant-loop-i : goal.invariant-loop-i
 invariant-loop-i l = record {
   whole : IsWhole l.rest;
   within : l.place + length l.rest < 2 ^ 64;
-  same : entered (λ p. p) l.self (starts_of l.place (take (l.count - l._i) (labels_in l.rest))) ≡ entered (λ p. p) l.initial.self (starts_of l.at (take l.count (labels_in l.octets)));
+  same : entered (λ e. e.position) l.self (starts_of l.place (take (l.count - l._i) (labels_in l.rest))) ≡ entered (λ e. e.position) l.initial.self (starts_of l.at (take l.count (labels_in l.octets)));
 }

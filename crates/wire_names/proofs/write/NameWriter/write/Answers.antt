@@ -3,21 +3,21 @@ use Rattle.dns_name.specs.Labels.{IsWhole}
 use Rattle.dns_name.specs.Name.{wire_of, IsName}
 use Rattle.dns_name.proofs.LabelLemmas.{IsWhole-wire_of}
 use Rattle.wire_names.specs.Cut.{cut_octets}
-use Rattle.wire_names.specs.Table.{table_of, entered}
+use Rattle.wire_names.specs.Table.{table_of, entered, keyed}
+use Rattle.wire_names.specs.declared.table.Entry.{Entry}
 use Rattle.wire_names.specs.Written.{table_after, entries_of, IsOverwritten, WritesOctets}
 use Rattle.wire_names.proofs.AscendLemmas.{positions_ascend}
 use Rattle.wire_names.proofs.CutLemmas.{IsCutOf-name}
-use Rattle.wire_names.proofs.EntryLemmas.{places}
 use Rattle.wire_names.proofs.WrittenLemmas.{IsTableOf, after_put}
 use Rattle.wire_names.proofs.write.NameWriter.write.Goals as goal
 
 whole : (name : List (List ℕ)) (octets : List ℕ) → octets ≡ wire_of name → IsName name → IsWhole octets
 whole name octets e lawful = subst IsWhole (sym e) (IsWhole-wire_of name lawful.labels)
 
-entered_is : (c : goal.After-enter) → c.enter.new.self ≡ entered (λ p. p) c.self.inside.positions (places (entries_of c.args.compress (table_of (take c.args.at c.args.out.now) c.args.self.now) c.args.at c.args.name.now))
+entered_is : (c : goal.After-enter) → c.enter.new.self ≡ entered (λ e. e.position) c.self.inside.positions (keyed (entries_of c.args.compress (table_of (take c.args.at c.args.out.now) c.args.self.now) c.args.at c.args.name.now))
 entered_is c =
     let cut = IsCutOf-name c.args.compress _ c.args.name.now _ c.cut-cut.result c.wire-octets.ensures.octets c.wire-octets.ensures.lawful c.cut-cut.ensures in
-    c.enter.ensures ∙ ap (entered (λ (p : ℕ). p) c.self.inside.positions) (sym (cut.entries c.args.at))
+    c.enter.ensures ∙ ap (entered (λ (e : Entry). e.position) c.self.inside.positions) (sym (cut.entries c.args.at))
 
 after : (c : goal.After-enter) → IsTableOf (take c.in_ok-next.next c.put_cut.new.out) c.enter.new.self (table_after c.args.compress (table_of (take c.args.at c.args.out.now) c.args.self.now) c.args.at c.args.name.now)
 after c =
