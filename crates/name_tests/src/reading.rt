@@ -40,11 +40,6 @@ fn wrong_name(msg: &[u8]) -> Option<usize> {
     None
 }
 
-#[test]
-fn names_of_the_rfc(rt: HostRuntime) {
-    assert_eq!(rt; wrong_name(&rfc_message()), None);
-}
-
 /// A position, octets in hexadecimal, and what is wrong with the name there, as it is told (RFC 1035, 4.1.4).
 const FAULTS: &str = "\
 0  = F1 Short\n\
@@ -102,14 +97,6 @@ fn is_longest() -> bool {
     read_name(&four_labels(61), 0).is_ok()
 }
 
-// RFC 1035, 2.3.4: a name of 255 octets, and one of 256; a cut label is told first.
-#[test]
-fn limits(rt: HostRuntime) {
-    assert!(rt; is_longest());
-    assert!(rt; is_cut(rt.alloc(), 62, 256, "F4 TooLong"));
-    assert!(rt; is_cut(rt.alloc(), 62, 254, "F1 Short"));
-}
-
 /// A zero octet, then 4,000 pointers, each to the one before it.
 fn chain() -> [u8; 8001] {
     let mut msg = [0; 8001];
@@ -121,7 +108,13 @@ fn chain() -> [u8; 8001] {
     msg
 }
 
+// The names of RFC 1035, 4.1.4, a chain of pointers, a name of 255 octets, and one of 256 (RFC 1035, 2.3.4); a cut label is
+// told first.
 #[test]
-fn chain_of_pointers(rt: HostRuntime) {
+fn names(rt: HostRuntime) {
+    assert_eq!(rt; wrong_name(&rfc_message()), None);
     assert!(rt; is_read(&chain(), 7999, b"\x00", 8001));
+    assert!(rt; is_longest());
+    assert!(rt; is_cut(rt.alloc(), 62, 256, "F4 TooLong"));
+    assert!(rt; is_cut(rt.alloc(), 62, 254, "F1 Short"));
 }

@@ -60,12 +60,6 @@ fn are_in_order(alloc: Global) -> Option<bool> {
     Some(order && set.owner().wire() == FOLDED && set.ttl() == Ttl(0x7fff_ffff))
 }
 
-// Sets are in order of their data's octets, and equal records are one (RFC 4034, 6.3; RFC 2181, 5).
-#[test]
-fn sets(rt: HostRuntime) {
-    assert!(rt; are_in_order(rt.alloc()) == Some(true));
-}
-
 /// What is left of the set of 10.0.0.1 and 10.0.0.2 without an address.
 fn two_without(alloc: Global, gone: [u8; 4]) -> Option<RRset> {
     set_with(alloc, b"\0", [10, 0, 0, 1], &[([10, 0, 0, 2], true)])?.without(&gone)
@@ -98,14 +92,6 @@ fn none_is_left(alloc: Global) -> Option<bool> {
     Some(set.without(&[10, 0, 0, 2]).is_none())
 }
 
-// A set without one of its records, without one that it hasn't, and without its last.
-#[test]
-fn one_less(rt: HostRuntime) {
-    assert!(rt; both_are_left(rt.alloc()) == Some(true));
-    assert!(rt; last_is_left(rt.alloc()) == Some(true));
-    assert!(rt; none_is_left(rt.alloc()) == Some(true));
-}
-
 /// A set of 256 addresses; None where one isn't new.
 fn full_set(alloc: Global) -> Option<RRset> {
     let mut set = set_of(alloc, b"\0", [10, 0, 0, 0])?;
@@ -125,9 +111,14 @@ fn takes_no_other(alloc: Global) -> Option<bool> {
     Some(other == Some(Err(SetFault::Limit)) && own == Some(Ok(false)))
 }
 
-// A set has 256 records; one that is there already still is.
+// Sets are in order of their data's octets, and equal records are one (RFC 4034, 6.3; RFC 2181, 5); a set without one of its
+// records, without one that it hasn't, and without its last; and a set has 256 records, and one that is there already still is.
 #[test]
-fn most_records(rt: HostRuntime) {
+fn sets(rt: HostRuntime) {
+    assert!(rt; are_in_order(rt.alloc()) == Some(true));
+    assert!(rt; both_are_left(rt.alloc()) == Some(true));
+    assert!(rt; last_is_left(rt.alloc()) == Some(true));
+    assert!(rt; none_is_left(rt.alloc()) == Some(true));
     assert!(rt; takes_no_other(rt.alloc()) == Some(true));
 }
 
