@@ -37,6 +37,3 @@ pub use reply::Reply;
 pub use update::{RawRecords, Update, ZoneEntry};
 pub use worked::{examples, read_examples, update_examples};
 pub use write::{MAX_LIMIT, MIN_LIMIT, write_reply};
-
-#[cfg(test)]
-mod tests;

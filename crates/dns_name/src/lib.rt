@@ -28,6 +28,3 @@ pub use name::{MAX_BELOW_ASTERISK, MAX_LABEL, MAX_NAME, Name};
 pub use print::MAX_TEXT;
 pub use stored::{MAX_STORED, SoughtName, StoredName};
 pub use text::{NameFault, octet_at};
-
-#[cfg(test)]
-mod tests;

@@ -27,6 +27,3 @@ pub use raw::RawRecord;
 pub use rrset::{MAX_SET, RRset, SetFault};
 pub use serial::{serial_examples, serials_round_the_ring};
 pub use shown::Shown;
-
-#[cfg(test)]
-mod tests;

@@ -14,6 +14,3 @@ pub use laws::{examples, name_at_is, one_fault, one_reading, table_stays, writte
 pub use part::NameReadFault;
 pub use read::read_name;
 pub use write::NameWriter;
-
-#[cfg(test)]
-mod tests;
