@@ -17,6 +17,3 @@ pub use command::{Command, Source};
 pub use fault::{DONE, FAILED, Fault, REFUSED};
 pub use run::{run_text, run_with_zone};
 pub use told::tell;
-
-#[cfg(test)]
-mod tests;

@@ -32,8 +32,3 @@ pub use zone_laws::{
     written_zone_is_read_back, written_zone_is_the_zone,
 };
 pub use zone_text::{write_set, write_zone};
-
-#[cfg(test)]
-mod checked;
-#[cfg(test)]
-mod tests;

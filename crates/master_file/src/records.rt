@@ -129,6 +129,3 @@ fn judge(
     context.ttl = Some(rr.ttl);
     Ok(Some(rr))
 }
-
-#[cfg(test)]
-mod tests;

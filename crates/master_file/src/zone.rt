@@ -52,6 +52,3 @@ pub fn read_zone(alloc: Global, text: &[u8], origin: &Name) -> Result<Zone, File
         None => Err(fault_of(alloc, text, origin)?),
     }
 }
-
-#[cfg(test)]
-mod tests;

@@ -60,6 +60,3 @@ fn write_record(text: &mut String, owner: &Name, ttl: Ttl, rdata: &RData) -> Res
     write_data(text, rdata)?;
     text.push('\n')
 }
-
-#[cfg(test)]
-mod tests;

@@ -25,6 +25,3 @@ pub use mnemonics::{is_class, rtype, type_word};
 pub use names::{name, owner};
 pub use numbers::{is_number, number, ttl};
 pub use text::write_data;
-
-#[cfg(test)]
-mod tests;

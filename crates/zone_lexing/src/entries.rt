@@ -73,6 +73,3 @@ impl<'a> Entries<'a> {
         }
     }
 }
-
-#[cfg(test)]
-mod tests;

@@ -1,7 +1,7 @@
 //! The negative replies of RFC 2308, 2, each as zone text and octets: with the SOA alone in the authority section (its type
 //! 2 of both), and the referrals that they are unlike.
-use super::ask_rows;
-use std::test::Fail;
+use crate::made::Part::Text;
+use crate::rows::{Table, wrong_row};
 
 /// The records of RFC 2308, 2, in one zone, the root's; the data of the SOA and of the TXT are our own.
 const RECORDS: &str = "\
@@ -14,7 +14,7 @@ ANOTHER.EXAMPLE.  IN TXT   text\n\
 NS1.XX.           IN A     127.0.0.2\n\
 NS2.XX.           IN A     127.0.0.3\n";
 
-/// By the sections of RFC 2308: MINIMUM is the lesser, 300 seconds.
+/// By the sections of RFC 2308, 2.1 and 2.2: the reply code is that of the last name. MINIMUM is the lesser, 300 seconds.
 const NEGATIVE: &str = "\
 2.1: a name error behind an alias|\
 12340100000100000000000002414e074558414d504c450000010001|\
@@ -30,40 +30,19 @@ const NEGATIVE: &str = "\
 12348500000100010001000005414c494153074558414d504c450000010001c00c0005000100000e10001107616e6f74686572076578616d706c650000000600010000012c0029036e7331027878000a686f73746d6173746572c0470000000100001c2000000384001275000000012c\n\
 ";
 
-// RFC 2308, 2.1 and 2.2: the reply code is that of the last name.
-#[test]
-fn negative(rt: HostRuntime) -> Result<(), Fail> {
-    let zone = format!(in rt.alloc(); "$TTL 3600\n{RECORDS}")?;
-    ask_rows(&rt, zone.as_str(), NEGATIVE)
-}
-
-/// Where XX is delegated.
+/// Where XX is delegated: nothing is said of the target; the alias in front of the referral is authoritative.
 const BEHIND_ALIAS: &str = "\
 2.1: a referral behind an alias|\
 12340100000100000000000002414e074558414d504c450000010001|\
 12348500000100010002000202414e074558414d504c450000010001c00c0005000100000e10000c0774726970706c6502787800c0300002000100000e100006036e7331c030c0300002000100000e100006036e7332c030c0400001000100000e1000047f000002c0520001000100000e1000047f000003\n\
 ";
 
-// RFC 2308, 2.1: nothing is said of the target; the alias in front of the referral is authoritative.
-#[test]
-fn referral_behind_an_alias(rt: HostRuntime) -> Result<(), Fail> {
-    let zone = format!(in rt.alloc(); "$TTL 3600\n{RECORDS}XX. NS NS1.XX.\nXX. NS NS2.XX.\n")?;
-    ask_rows(&rt, zone.as_str(), BEHIND_ALIAS)
-}
-
-/// Where EXAMPLE is delegated.
+/// Where EXAMPLE is delegated: a referral has NS records and no SOA.
 const REFERRAL: &str = "\
 2.2: a referral|\
 12340100000100000000000007414e4f54484552074558414d504c450000010001|\
 12348100000100000002000207414e4f54484552074558414d504c450000010001076578616d706c65000002000100000e100008036e733102787800c0210002000100000e100006036e7332c038c0340001000100000e1000047f000002c0480001000100000e1000047f000003\n\
 ";
-
-// RFC 2308, 2.2: a referral has NS records and no SOA.
-#[test]
-fn referral(rt: HostRuntime) -> Result<(), Fail> {
-    let zone = format!(in rt.alloc(); "$TTL 3600\n{DELEGATED}")?;
-    ask_rows(&rt, zone.as_str(), REFERRAL)
-}
 
 /// The zone of which EXAMPLE is delegated, with the addresses of its servers.
 const DELEGATED: &str = "\
@@ -74,16 +53,29 @@ EXAMPLE.          IN NS    NS2.XX.\n\
 NS1.XX.           IN A     127.0.0.2\n\
 NS2.XX.           IN A     127.0.0.3\n";
 
-/// Where the SOA lasts 60 seconds.
+/// Where the SOA lasts 60 seconds: a negative reply lasts the lesser of the SOA's TTL and MINIMUM (RFC 2308, 3 and 5).
 const SHORT: &str = "\
 5: the SOA's own TTL is the lesser|\
 12340100000100000000000007414e4f54484552074558414d504c450000010001|\
 12348500000100000001000007414e4f54484552074558414d504c45000001000100000600010000003c0029036e7331027878000a686f73746d6173746572c02c0000000100001c2000000384001275000000012c\n\
 ";
 
-// RFC 2308, 3 and 5: a negative reply lasts the lesser of the SOA's TTL and MINIMUM.
+/// The zones, and what is asked of them.
+const TABLES: [Table; 4] = [
+    (&[Text("$TTL 3600\n"), Text(RECORDS)], NEGATIVE),
+    (
+        &[
+            Text("$TTL 3600\n"),
+            Text(RECORDS),
+            Text("XX. NS NS1.XX.\nXX. NS NS2.XX.\n"),
+        ],
+        BEHIND_ALIAS,
+    ),
+    (&[Text("$TTL 3600\n"), Text(DELEGATED)], REFERRAL),
+    (&[Text("$TTL 60\n"), Text(RECORDS)], SHORT),
+];
+
 #[test]
-fn short_soa(rt: HostRuntime) -> Result<(), Fail> {
-    let zone = format!(in rt.alloc(); "$TTL 60\n{RECORDS}")?;
-    ask_rows(&rt, zone.as_str(), SHORT)
+fn negative(rt: HostRuntime) {
+    assert_eq!(rt; wrong_row(rt.alloc(), &TABLES), None);
 }

@@ -1,33 +1,8 @@
 //! Updates and what is asked behind them, by the octets that RFC 2136 and RFC 1035 give.
-//!
-//! A table of conversations is a text, a row each: what it shows, and then requests and replies in turn, in hexadecimal.
-use super::{ZONE, run};
-use std::alloc::AllocError;
-use std::process::Abort;
-use std::test::Fail;
-
-/// Holds each conversation of a table with a server of its own.
-fn converse(rt: &(impl AllocGlobal + Abort), zone: &str, rows: &str) -> Result<(), Fail> {
-    for row in rows.lines() {
-        let Some((what, asked)) = row.split_once('|') else {
-            return Err(Fail::from("no request"));
-        };
-        let mut requests = String::new(rt.alloc());
-        let mut replies = String::new(rt.alloc());
-        for (at, octets) in asked.split('|').enumerate() {
-            let text = if at % 2 == 0 {
-                &mut requests
-            } else {
-                &mut replies
-            };
-            text.push_str(octets)?;
-            text.push_str("\n")?;
-        }
-        let told = run(rt, zone, requests.as_str())?;
-        told.is(rt, what, 0, replies.as_str(), "");
-    }
-    Ok(())
-}
+use crate::cases::{Case, Want, wrong_case};
+use crate::made::Part::{Each, Text, Times};
+use crate::made::{ADD, TAKEN, UDP, Word, ZONE};
+use crate::rows::{Table, wrong_row};
 
 /// The forms of prerequisites, each in front of an address that is added at `new`, and what is then at `new`.
 const PREREQUISITES: &str = "\
@@ -88,12 +63,6 @@ const PREREQUISITES: &str = "\
 123485030001000000010000036e6577076578616d706c6504746573740000010001c010000600010000012c0022036e7331c0100561646d696ec0100000000100001c2000000384001275000000012c\n\
 ";
 
-// RFC 2136, 2.4.1 to 2.4.5.
-#[test]
-fn prerequisites(rt: HostRuntime) -> Result<(), Fail> {
-    converse(&rt, ZONE, PREREQUISITES)
-}
-
 /// The forms of updates, and what is asked behind them; a change is a greater serial.
 const UPDATES: &str = "\
 2.5.1: an address joins a set|\
@@ -142,12 +111,6 @@ const UPDATES: &str = "\
 123401000001000000000000076578616d706c6504746573740000060001|\
 123485000001000100000000076578616d706c6504746573740000060001c00c0006000100000e100022036e7331c00c0561646d696ec00c0000000100001c2000000384001275000000012c\n\
 ";
-
-// RFC 2136, 2.5.1 to 2.5.4.
-#[test]
-fn updates(rt: HostRuntime) -> Result<(), Fail> {
-    converse(&rt, ZONE, UPDATES)
-}
 
 /// Updates that are taken, refused and without effect, and what is asked behind them.
 const CHANGES: &str = "\
@@ -218,59 +181,39 @@ behind the last serial comes 0|\
 123485000001000100000000076578616d706c6504746573740000060001c00c0006000100000e100022036e7331c00c0561646d696ec00c0000000000001c2000000384001275000000012c\n\
 ";
 
-// RFC 2136, 3.1 to 3.6; RFC 1982, 3.
+/// RFC 2136, 2.4.1 to 2.4.5, 2.5.1 to 2.5.4 and 3.1 to 3.6; RFC 1982, 3.
+const TABLES: [Table; 3] = [
+    (&[Text(ZONE)], PREREQUISITES),
+    (&[Text(ZONE)], UPDATES),
+    (&[Text(ZONE)], CHANGES),
+];
+
 #[test]
-fn changes(rt: HostRuntime) -> Result<(), Fail> {
-    converse(&rt, ZONE, CHANGES)
+fn updates(rt: HostRuntime) {
+    assert_eq!(rt; wrong_row(rt.alloc(), &TABLES), None);
 }
 
-/// An update that adds an address at `new`, all but the address's last octet.
-const ADDS: &str =
-    "432128000001000000010000076578616d706c6504746573740000060001036e6577c00c0001000100000e100004c00002";
+/// Two hundred updates, each on the zone that those before it leave: the SOA's serial is 201; the addresses don't fit a
+/// datagram.
+const MANY: [Case<'static>; 1] = [(
+    "two hundred updates",
+    UDP,
+    &[Text(ZONE)],
+    &[
+        Each(1, 201, &[Word::Plain(ADD), Word::Hex, Word::Plain("\n")]),
+        Text("123401000001000000000000076578616d706c6504746573740000060001\n"),
+        Text("123401000001000000000000036e6577076578616d706c6504746573740000010001\n"),
+    ],
+    Want::Writes(&[
+        Times(TAKEN, 200),
+        Text(
+            "123485000001000100000000076578616d706c6504746573740000060001c00c0006000100000e100022036e7331c00c0561646d696ec00c000000c900001c2000000384001275000000012c\n",
+        ),
+        Text("123487000001000000000000036e6577076578616d706c6504746573740000010001\n"),
+    ]),
+)];
 
-// Two hundred updates, each on the zone that those before it leave.
 #[test]
-fn two_hundred_updates(rt: HostRuntime) -> Result<(), Fail> {
-    let alloc = rt.alloc();
-    let mut requests = String::new(alloc);
-    let mut replies = String::new(alloc);
-    for n in 1..201 {
-        let request = format!(in alloc; "{ADDS}{n:02x}\n")?;
-        requests.push_str(request.as_str())?;
-        replies.push_str("4321a8000000000000000000\n")?;
-    }
-    // The SOA's serial is 201; the addresses don't fit a datagram.
-    requests.push_str("123401000001000000000000076578616d706c6504746573740000060001\n")?;
-    replies.push_str(
-        "123485000001000100000000076578616d706c6504746573740000060001c00c0006000100000e100022036e7331c00c0561646d696ec00c000000c900001c2000000384001275000000012c\n",
-    )?;
-    requests.push_str("123401000001000000000000036e6577076578616d706c6504746573740000010001\n")?;
-    replies.push_str("123487000001000000000000036e6577076578616d706c6504746573740000010001\n")?;
-    let told = run(&rt, ZONE, requests.as_str())?;
-    told.is(&rt, "two hundred updates", 0, replies.as_str(), "");
-    Ok(())
-}
-
-/// Whether an update was taken, or there was no memory for it.
-fn took_or_had_no_memory(rt: &(impl AllocGlobal + Abort)) -> Result<bool, AllocError> {
-    let requests = format!(in rt.alloc();
-        "{ADDS}4d\n123401000001000000000000036e6577076578616d706c6504746573740000010001\n"
-    )?;
-    let told = run(rt, ZONE, requests.as_str())?;
-    let taken =
-        "4321a8000000000000000000\n123485000001000100000000036e6577076578616d706c6504746573740000010001c00c0001000100000e100004c000024d\n";
-    let starved =
-        "4321a8020000000000000000\n123485030001000000010000036e6577076578616d706c6504746573740000010001c010000600010000012c0022036e7331c0100561646d696ec0100000000100001c2000000384001275000000012c\n";
-    if told.status == 0 && told.written.as_str() == starved {
-        return Ok(false);
-    }
-    Ok(told.is_or_lacks_memory(rt, taken, "line 0: M14 NoMemory\n"))
-}
-
-// Under a request for memory that is refused: that update is refused or taken whole, and the other of the two is taken.
-#[test]
-fn refused_growth(rt: HostRuntime) {
-    let first = took_or_had_no_memory(&rt).unwrap_or(false);
-    let second = took_or_had_no_memory(&rt).unwrap_or(false);
-    assert!(rt; first || second);
+fn two_hundred_updates(rt: HostRuntime) {
+    assert_eq!(rt; wrong_case(rt.alloc(), &MANY), None);
 }
