@@ -7,3 +7,4 @@ pub mod Served
 pub mod Turns
 pub mod Updated
 pub mod Replied
+pub mod Refused

@@ -1,4 +1,10 @@
 //! Connections that end where a request, or the taking of a reply, is too long in coming.
+ghost use Rattle.std.specs.Prelude.{◌≡◌, ◌+◌, ◌-◌, ◌*◌, ◌<◌, ◌≤◌, ◌↔◌, [], take, length, true, false, None, IsTrue, IfSome, IfOk, OnErr};
+ghost use Rattle.std.specs.Duration.{as_nanos};
+ghost use Rattle.std.specs.Io.{ReadsAtMost, WritesAtMost};
+ghost use Rattle.serve_workers.specs.Octets.{Gives, Takes, IsAtEnd};
+ghost use Rattle.serve_workers.specs.declared.connection.TheConstants.{PATIENCE};
+
 use crate::counted::Stream;
 use std::io::{self, ErrorKind};
 use std::net::TcpStream;
@@ -25,6 +31,18 @@ impl Timed for TcpStream {
     fn limit_writes(&self, most: Duration) -> io::Result<()> {
         self.set_write_timeout(Some(most))
     }
+}
+
+/// How long what has begun may still take; None where it has taken too long.
+fn left_of(begun: Duration, now: Duration) -> Option<Duration>
+    ensures left { IfSome result (λ left. (0 < as_nanos left) × (as_nanos left + (as_nanos now - as_nanos begun) ≡ PATIENCE * 1_000_000_000)) }
+    ensures over { result ≡ None → PATIENCE * 1_000_000_000 ≤ as_nanos now - as_nanos begun }
+{
+    let left = Duration::from_secs(PATIENCE).saturating_sub(now.saturating_sub(begun));
+    if left.is_zero() {
+        return None;
+    }
+    Some(left)
 }
 
 /// A connection that fails where no whole request has come for too long, or where its peer is too long in taking a message.
@@ -55,12 +73,8 @@ impl<'a, S, C: Clock> Connection<'a, S, C> {
 
     /// How long what is waited for may still take. [`ErrorKind::TimedOut`] where it has taken too long, and the clock's error.
     fn left(&self) -> io::Result<Duration> {
-        let taken = self.clock.monotonic()?.saturating_sub(self.begun);
-        let left = Duration::from_secs(PATIENCE).saturating_sub(taken);
-        if left.is_zero() {
-            return Err(io::Error::from(ErrorKind::TimedOut));
-        }
-        Ok(left)
+        let now = self.clock.monotonic()?;
+        left_of(self.begun, now).ok_or(io::Error::from(ErrorKind::TimedOut))
     }
 }
 
@@ -68,7 +82,13 @@ impl<S: Timed, C: Clock> Stream for Connection<'_, S, C> {
     ghost octets = { λ connection. S.octets connection.stream };
 
     #[tactic(auto, using(crate::proofs::ConnectionLemmas::gives_nothing))]
-    fn read(&mut self, buf: &mut [u8]) -> io::Result<usize> {
+    fn read(&mut self, buf: &mut [u8]) -> io::Result<usize>
+        ensures bound { ReadsAtMost result buf.new }
+        ensures gives { IfOk result (λ n. Gives (S.octets self.old.stream) (S.octets self.new.stream) (take n buf.new)) }
+        ensures end { IfOk result (λ n. n ≡ 0 → 0 < length buf.new → IsAtEnd (S.octets self.new.stream)) }
+        ensures failed { OnErr result (Gives (S.octets self.old.stream) (S.octets self.new.stream) []) }
+        ensures goes_on { self.new.begun ≡ self.old.begun }
+    {
         let left = self.left()?;
         self.stream.limit_reads(left)?;
         self.stream.read(buf)
@@ -76,7 +96,14 @@ impl<S: Timed, C: Clock> Stream for Connection<'_, S, C> {
 
     // A write that takes all that it is given ends a message, and the next one begins one.
     #[tactic(auto, using(crate::proofs::ConnectionLemmas::takes_nothing))]
-    fn write(&mut self, buf: &[u8]) -> io::Result<usize> {
+    fn write(&mut self, buf: &[u8]) -> io::Result<usize>
+        ensures bound { WritesAtMost result buf.now }
+        ensures takes { IfOk result (λ n. Takes (S.octets self.old.stream) (S.octets self.new.stream) (take n buf.now)) }
+        ensures failed { OnErr result (Takes (S.octets self.old.stream) (S.octets self.new.stream) []) }
+        ensures goes_on { self.old.is_writing ≡ true → IfOk result (λ n. n < length buf.now → self.new.begun ≡ self.old.begun) }
+        ensures part { IfOk result (λ n. n < length buf.now → self.new.is_writing ≡ true) }
+        ensures whole { IfOk result (λ n. n ≡ length buf.now → self.new.is_writing ≡ false) }
+    {
         if !self.is_writing {
             self.begun = self.clock.monotonic()?;
             self.is_writing = true;

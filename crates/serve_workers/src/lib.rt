@@ -42,8 +42,6 @@ pub use udp::{DatagramsEnd, UdpJob, serve_udp};
 pub use workers::{Job, NotStarted, run_workers};
 
 #[cfg(test)]
-mod connection_tests;
-#[cfg(test)]
 mod gate_tests;
 #[cfg(test)]
 mod journal_tests;

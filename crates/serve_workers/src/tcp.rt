@@ -1,5 +1,7 @@
 //! Requests on connections, answered one after another (RFC 1035, 4.2.2).
 ghost use Rattle.std.specs.Prelude.{◌≡◌};
+ghost use Rattle.std.specs.IoError.{raw_os_error};
+ghost use Rattle.serve_workers.specs.Refused.{IsRefusedAs};
 
 use crate::allowed::Allowed;
 use crate::connection::Connection;
@@ -20,7 +22,7 @@ const PAUSE: u64 = 1;
 
 /// Why no connection was accepted.
 #[derive(Clone, Copy, Debug, PartialEq, Eq)]
-pub(crate) enum Refusal {
+enum Refusal {
     /// It failed before it was accepted, which is its client's alone.
     Client,
     /// There is no room for it: no descriptor, or no memory.
@@ -31,7 +33,9 @@ pub(crate) enum Refusal {
 
 /// Why no connection was accepted, by the system's error (Linux, accept(2)). One that isn't named there is as want of room, so that
 /// nobody turns on it without end.
-pub(crate) fn refusal_of(fault: &io::Error) -> Refusal {
+fn refusal_of(fault: &io::Error) -> Refusal
+    ensures { IsRefusedAs result (raw_os_error fault.now) }
+{
     match fault.raw_os_error() {
         // EPERM, EINTR, ENONET, EPROTO, ENOPROTOOPT, EOPNOTSUPP, ENETDOWN, ENETUNREACH, ECONNABORTED, EHOSTDOWN, EHOSTUNREACH
         Some(1 | 4 | 64 | 71 | 92 | 95 | 100 | 101 | 103 | 112 | 113) => Refusal::Client,

@@ -1,5 +1,5 @@
 //! One turn of a stream: a request is read and its reply is written (RFC 1035, 4.2.2).
-ghost use Rattle.std.specs.Prelude.{◌≡◌, ◌-◌, ◌^◌, ◌<◌, ◌≤◌, ℕ, List, ◌++◌, length, Some, None, IfErr, IfSome, OnOk, OnErr};
+ghost use Rattle.std.specs.Prelude.{◌≡◌, ◌+◌, ◌-◌, ◌^◌, ◌<◌, ◌≤◌, ℕ, List, ◌++◌, length, take, Some, None, IfErr, IfSome, OnOk, OnErr};
 ghost use Rattle.serve_workers.specs.Octets.{Takes};
 ghost use Rattle.dns_message.specs.Frame.{frame_of};
 ghost use Rattle.serve_workers.specs.Served.{BeginsWith};
@@ -35,6 +35,20 @@ impl Broken {
     }
 }
 
+/// Puts a message's frame to the front of a buffer, and gives how many octets that is.
+fn framed(message: &[u8], frame: &mut [u8]) -> usize
+    requires most { length message.now ≤ 65535 }
+    requires room { 65537 ≤ length frame.old }
+    ensures len { result ≡ length message.now + 2 }
+    ensures bound { result ≤ length frame.new }
+    ensures frame { take result frame.new ≡ frame_of message.now }
+{
+    let Some(len) = put_frame(message, frame) else {
+        unreachable!()
+    };
+    len
+}
+
 /// Writes a message's frame to a stream, through a buffer.
 pub(crate) fn write_frame<S: Stream>(
     stream: &mut Counted<S>,
@@ -50,9 +64,7 @@ pub(crate) fn write_frame<S: Stream>(
     ensures counted { OnErr result (stream.old.faults < stream.new.faults) }
     ensures failed { IfErr result (λ broken. broken ≡ BrokenBy.Failed) }
 {
-    let Some(len) = put_frame(message, frame) else {
-        unreachable!()
-    };
+    let len = framed(message, frame);
     match put(stream, &frame[..len]) {
         Ok(()) => Ok(()),
         Err(_) => Err(Broken::Failed),
