@@ -3,7 +3,7 @@ ghost use Rattle.std.specs.Prelude.{◌≡◌, ◌<◌, ◌↔◌, nat_lt, Optio
 ghost use Rattle.std.specs.List.{slice_get};
 ghost use Rattle.std.specs.Option.{option_copied, option_map};
 ghost use Rattle.std.specs.Result.{IsErrOf};
-ghost use Rattle.cell_core.specs.Words.{State, grants, found_by, found_last, slot_of, given_of, number_in, dead_word, begun, first_slot, free_slot};
+ghost use Rattle.cell_core.specs.Words.{State, grants, found_by, found_last, slot_of, given_of, version_in, number_in, dead_word, begun, first_slot, free_slot};
 ghost use Rattle.cell_core.specs.Cell.{Cell, start};
 ghost use Rattle.cell_core.specs.Shows.{Shows, ShowsStep};
 ghost use Rattle.cell_core.specs.WordSteps.{Makes, HasWordStep, GrowsOwners, with_new_owner, with_owner, with_slot, with_shares, with_version};
@@ -97,16 +97,14 @@ impl<T: Drop> WordMachine<T> {
         let Owner::Holding { number: _, slot } = self.owner(owner)? else {
             return None;
         };
-        let version = self.table.get(slot)?.version.as_ref()?;
-        Some(&version.value)
+        Some(&self.version_in(slot)?.value)
     }
 
     /// The value that lies in the slot in W.
     pub fn last(&self) -> Option<&T>
         ensures { option_copied result ≡ found_last self.now }
     {
-        let version = self.table.get(self.last_slot())?.version.as_ref()?;
-        Some(&version.value)
+        Some(&self.version_in(self.last_slot())?.value)
     }
 
     /// The slot in W.
@@ -120,8 +118,14 @@ impl<T: Drop> WordMachine<T> {
     fn number_in(&self, slot: usize) -> Option<u64>
         ensures { result ≡ number_in self.now slot }
     {
-        let version = self.table.get(slot)?.version.as_ref()?;
-        Some(version.number)
+        Some(self.version_in(slot)?.number)
+    }
+
+    /// The version that lies in a slot.
+    fn version_in(&self, slot: usize) -> Option<&Version<T>>
+        ensures { option_copied result ≡ version_in self.now slot }
+    {
+        self.table.get(slot)?.version.as_ref()
     }
 
     /// How far an owner has come.
