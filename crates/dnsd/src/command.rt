@@ -63,9 +63,18 @@ pub fn parse_words<'a, S: AsStr>(
     words: &'a [S],
 ) -> Result<Task<'a>, CommandFault<'a>> {
     let matches = program(alloc)?.try_get_matches_from(words)?;
-    let Some((name, found)) = matches.subcommand() else {
-        return Err(CommandFault::from(AllocError));
-    };
+    match matches.subcommand() {
+        Some((name, found)) => task_of(alloc, name, found),
+        None => Err(CommandFault::from(AllocError)),
+    }
+}
+
+/// What the command of a name asks for.
+fn task_of<'a>(
+    alloc: Global,
+    name: &str,
+    found: &ArgMatches<'a>,
+) -> Result<Task<'a>, CommandFault<'a>> {
     let text = found.get_str("origin").unwrap_or(".");
     let origin = Name::from_text(text.as_bytes(), &Name::root()).map_err(
         |fault| CommandFault::Origin(text, fault),
@@ -153,61 +162,96 @@ pub fn number_for<'a>(
 
 /// The program's command line.
 fn program<'a>(alloc: Global) -> Result<Parser<'a>, AllocError> {
-    let tcp = Arg::new(alloc, "tcp")
-        .long("tcp")
-        .help("replies as over TCP, of at most 65535 octets; else as over UDP, of at most 512")
-        .action(ArgAction::SetTrue);
-    let keep = Arg::new(alloc, KEEP)
-        .long(KEEP)
-        .value_name("N")
-        .help("how many versions are kept beside the last, at most 8")
-        .default_value("0");
-    let window = Arg::new(alloc, WINDOW)
-        .long(WINDOW)
-        .value_name("N")
-        .help("how many entries the window has at most from which changes are sent, at most 16")
-        .default_value("16");
+    let parser = Parser::new(alloc, "dnsd")
+        .about("an authoritative name server for one zone")
+        .subcommand_required(true)
+        .arg_required_else_help(true);
+    let parser = with_answer(alloc, parser)?;
+    let parser = with_check(alloc, parser)?;
+    let parser = with_apply(alloc, parser)?;
+    let parser = with_steps(alloc, parser)?;
+    with_serve(alloc, parser)
+}
+
+/// The command line with the command `answer`.
+fn with_answer<'a>(alloc: Global, parser: Parser<'a>) -> Result<Parser<'a>, AllocError> {
     let answer = subcommand(
         alloc,
         "answer",
         "replies to requests in hexadecimal, a line each",
         "Example, which asks for www.example.test., type A:\n  echo 12340100000100000000000003777777076578616d706c6504746573740000010001 | dnsd answer zones/example.test.zone",
     )?;
-    let check = subcommand(
+    let answer = answer.arg(
+        Arg::new(alloc, "tcp")
+            .long("tcp")
+            .help("replies as over TCP, of at most 65535 octets; else as over UDP, of at most 512")
+            .action(ArgAction::SetTrue),
+    )?;
+    parser.subcommand(answer)
+}
+
+/// The command line with the command `check`.
+fn with_check<'a>(alloc: Global, parser: Parser<'a>) -> Result<Parser<'a>, AllocError> {
+    parser.subcommand(subcommand(
         alloc,
         "check",
         "prints the zone's text in its written form, one record a line",
         "Example:\n  dnsd check zones/example.test.zone",
-    )?;
-    let apply = subcommand(
+    )?)
+}
+
+/// The command line with the command `apply`.
+fn with_apply<'a>(alloc: Global, parser: Parser<'a>) -> Result<Parser<'a>, AllocError> {
+    parser.subcommand(subcommand(
         alloc,
         "apply",
         "takes a transfer, a message in hexadecimal a line, and prints the zone's text behind it",
         "Example, with the messages of a transfer in a file:\n  dnsd apply zones/example.test.zone < messages",
-    )?;
+    )?)
+}
+
+/// The command line with the command `steps`.
+fn with_steps<'a>(alloc: Global, parser: Parser<'a>) -> Result<Parser<'a>, AllocError> {
     let steps = subcommand(
         alloc,
         "steps",
         "plays a script of steps, a line each; its requests come over UDP, for transfers over TCP",
         "Example, which takes the version that is served into use and gives it up:\n  printf 'load a\\ndrop a\\n' | dnsd steps zones/example.test.zone",
     )?;
+    let steps = steps.arg(option(
+        alloc,
+        KEEP,
+        "N",
+        "how many versions are kept beside the last, at most 8",
+    )
+    .default_value("0"))?;
+    let steps = steps.arg(option(
+        alloc,
+        WINDOW,
+        "N",
+        "how many entries the window has at most from which changes are sent, at most 16",
+    )
+    .default_value("16"))?;
+    parser.subcommand(steps)
+}
+
+/// The command line with the command `serve`.
+fn with_serve<'a>(alloc: Global, parser: Parser<'a>) -> Result<Parser<'a>, AllocError> {
     let serve = subcommand(
         alloc,
         "serve",
         "serves a zone on sockets, by UDP and TCP",
         "Example:\n  dnsd serve --listen 127.0.0.1:5353 zones/example.test.zone\n  dig +noedns @127.0.0.1 -p 5353 www.example.test.",
     )?;
-    Ok(
-        Parser::new(alloc, "dnsd")
-            .about("an authoritative name server for one zone")
-            .subcommand_required(true)
-            .arg_required_else_help(true)
-            .subcommand(answer.arg(tcp)?)?
-            .subcommand(check)?
-            .subcommand(apply)?
-            .subcommand(steps.arg(keep)?.arg(window)?)?
-            .subcommand(serve_options(alloc, serve)?)?,
-    )
+    parser.subcommand(serve_options(alloc, serve)?)
+}
+
+/// An option with a value.
+pub fn option<'a>(alloc: Global, name: &'a str, value: &'a str, help: &'a str) -> Arg<'a> {
+    Arg::new(alloc, name)
+        .long(name)
+        .value_name(value)
+        .help(help)
 }
 
 /// A command over a zone, with an example.
@@ -217,20 +261,18 @@ fn subcommand<'a>(
     about: &'a str,
     example: &'a str,
 ) -> Result<Parser<'a>, AllocError> {
-    let origin = Arg::new(alloc, "origin")
-        .long("origin")
-        .value_name("NAME")
-        .help("the origin at the start of the zone's text")
-        .default_value(".");
-    let zone = Arg::new(alloc, "zone")
-        .value_name("ZONE")
-        .help("the zone's text: a file, or - for standard input up to a line %")
-        .required(true);
-    Ok(
-        Parser::new(alloc, name)
-            .about(about)
-            .after_help(example)
-            .arg(origin)?
-            .arg(zone)?,
+    let parser = Parser::new(alloc, name).about(about).after_help(example);
+    let parser = parser.arg(option(
+        alloc,
+        "origin",
+        "NAME",
+        "the origin at the start of the zone's text",
+    )
+    .default_value("."))?;
+    parser.arg(
+        Arg::new(alloc, "zone")
+            .value_name("ZONE")
+            .help("the zone's text: a file, or - for standard input up to a line %")
+            .required(true),
     )
 }

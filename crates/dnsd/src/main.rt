@@ -124,6 +124,3 @@ fn run_command<R: Files + Print + Eprint + Input + AllocGlobal>(
     rt.eprint(String::from_utf8_lossy(alloc, errors.as_slice())?)?;
     Ok(status)
 }
-
-#[cfg(test)]
-mod tests;

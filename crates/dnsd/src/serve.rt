@@ -1,6 +1,6 @@
 //! Serving a zone on sockets (RFC 1035, 4.2).
-use crate::command::{CommandFault, number_for};
-use clap::{Arg, ArgMatches, Command as Parser};
+use crate::command::{CommandFault, number_for, option};
+use clap::{ArgMatches, Command as Parser};
 use commands::{DONE, FAILED, Fault, Source, tell};
 use dns_name::Name;
 use line_io::read_zone_text;
@@ -59,35 +59,40 @@ const COUNT: &str = "count";
 
 /// The command's options.
 pub fn serve_options<'a>(alloc: Global, parser: Parser<'a>) -> Result<Parser<'a>, AllocError> {
-    let listen = Arg::new(alloc, LISTEN)
-        .long(LISTEN)
-        .value_name("ADDR:PORT")
-        .help("the address and the port to listen on, by UDP and TCP")
-        .required(true);
-    let workers = Arg::new(alloc, WORKERS)
-        .long(WORKERS)
-        .value_name("N")
-        .help("how many workers there are for UDP, and as many for TCP, from 1 to 30")
-        .default_value("4");
-    let keep = Arg::new(alloc, KEEP)
-        .long(KEEP)
-        .value_name("N")
-        .help("how many versions are kept in front of the last, at most 8")
-        .default_value("8");
-    let allow = Arg::new(alloc, ALLOW)
-        .long(ALLOW)
-        .value_name("LIST")
-        .help("the addresses that may update and transfer, with commas between them")
-        .default_value("127.0.0.1");
-    let count = Arg::new(alloc, COUNT).long(COUNT).value_name("N").help(
+    let parser = parser.arg(option(
+        alloc,
+        LISTEN,
+        "ADDR:PORT",
+        "the address and the port to listen on, by UDP and TCP",
+    )
+    .required(true))?;
+    let parser = parser.arg(option(
+        alloc,
+        WORKERS,
+        "N",
+        "how many workers there are for UDP, and as many for TCP, from 1 to 30",
+    )
+    .default_value("4"))?;
+    let parser = parser.arg(option(
+        alloc,
+        KEEP,
+        "N",
+        "how many versions are kept in front of the last, at most 8",
+    )
+    .default_value("8"))?;
+    let parser = parser.arg(option(
+        alloc,
+        ALLOW,
+        "LIST",
+        "the addresses that may update and transfer, with commas between them",
+    )
+    .default_value("127.0.0.1"))?;
+    parser.arg(option(
+        alloc,
+        COUNT,
+        "N",
         "after how many requests or connections a worker ends; else never",
-    );
-    parser
-        .arg(listen)?
-        .arg(workers)?
-        .arg(keep)?
-        .arg(allow)?
-        .arg(count)
+    ))
 }
 
 /// What the options ask for.

@@ -1,0 +1,94 @@
+#!/usr/bin/env bash
+# Tries the command line of dnsd: which words are a command, what each option takes, and the status and the sentence where one is
+# refused. What is expected stands here. It prints a line for each row that fails, nothing else, and its status is 1 where one did.
+# Usage: [DNSD=PROGRAM] tests/command_line.sh. It needs the program that `make dnsd` or `make test` builds.
+set -euo pipefail
+cd "$(dirname "$0")/.."
+program=${DNSD:-$PWD/crates/dnsd/out/dnsd}
+[ -x "$program" ] || { echo "command_line: no program at $program: run make dnsd first" >&2; exit 2; }
+
+zone=zones/example.test.zone
+# www.example.test., type A, and a transfer of the whole zone
+question=12340100000100000000000003777777076578616d706c6504746573740000010001
+transfer=123401000001000000000000076578616d706c6504746573740000fc0001
+# a zone that begins with a name under its origin
+relative='x 300 SOA ns admin 1 7200 900 1209600 300'$'\n''x 300 NS ns'$'\n'
+rows=0
+failed=0
+
+# row STATUS PART WORD..: over the words, the program ends with the status, and PART stands in what it prints on the two outputs
+row() {
+    local status=$1 part=$2 said got=0
+    shift 2
+    rows=$((rows + 1))
+    said=$(printf '%s' "$input" | timeout 10 "$program" "$@" 2>&1) || got=$?
+    if [ "$got" != "$status" ] || [[ $said != *"$part"* ]]; then
+        failed=$((failed + 1))
+        printf 'command_line: dnsd %s: status %s for %s, and it said:\n%s\n' "$*" "$got" "$status" "$said"
+    fi
+}
+
+# which words are a command
+input=$(cat "$zone")$'\n'
+written='www.example.test. 3600 IN CNAME web.example.test.'
+row 0 "$written" check -
+row 0 "$written" check --origin example.test "$zone"
+row 2 "'--tcp'" check --tcp -
+row 2 ZONE check
+row 2 "'--tcp'" steps --tcp -
+row 2 ZONE steps
+row 2 ZONE answer
+row 2 ZONE apply
+row 2 "'1'" answer --tcp=1 -
+row 2 "'--other'" answer --other -
+row 2 other other
+row 2 Usage
+row 0 Usage --help
+row 2 ZONE serve --listen 127.0.0.1:0
+row 2 --listen serve "$zone"
+
+# a question is answered by either transport, and a transfer of the whole zone over TCP alone, wherever the option stands
+answered='123485000001000200000000037777770765'
+input=$(cat "$zone")$'\n%\n'$question$'\n'
+row 0 "$answered" answer -
+row 0 "$answered" answer --tcp -
+input=$question$'\n'
+row 0 "$answered" answer --origin example.test "$zone"
+input=$(cat "$zone")$'\n%\n'$transfer$'\n'
+row 0 123480040001000000000000 answer -
+row 0 12348400000100 answer --tcp -
+row 0 12348400000100 answer - --tcp
+
+# versions that are kept and entries of the window: from 0 to 8, from 0 to 16
+input=$(cat "$zone")$'\n%\nload a\n'
+row 0 '' steps -
+row 0 '' steps --origin example.test -
+for number in 0 8; do row 0 '' steps --keep $number -; done
+for number in 0 3 16; do row 0 '' steps --window $number -; done
+for word in 9 x ''; do row 2 "--keep takes a number from 0 to 8, and '$word' is none" steps --keep "$word" -; done
+row 2 "--window takes a number from 0 to 16, and '17' is none" steps --window 17 -
+
+# the origin is the root unless one is given; one without a final dot is relative to the root
+input=$relative
+row 0 'x. 300 IN NS ns.' check -
+row 0 'x.X.test. 300 IN NS ns.X.test.' check --origin X.test -
+row 0 'x.x.test. 300 IN NS ns.x.test.' check --origin x.test. -
+row 2 "'a..b' is no name for --origin" answer --origin a..b -
+
+# what serve takes
+input=
+row 2 "--listen takes an address and a port, as 127.0.0.1:5353 or [::1]:5353, and 'localhost' is none" serve --listen localhost "$zone"
+row 2 "--workers takes a number from 1 to 30, and '0' is none" serve --listen 127.0.0.1:0 --workers 0 "$zone"
+row 2 "--workers takes a number from 1 to 30, and '31' is none" serve --listen 127.0.0.1:0 --workers 31 "$zone"
+row 2 "--keep takes a number from 0 to 8, and '9' is none" serve --listen 127.0.0.1:0 --keep 9 "$zone"
+row 2 "--count takes a number from 0 to 18446744073709551615, and '-' is none" serve --listen 127.0.0.1:0 --count - "$zone"
+row 2 "--allow takes addresses with commas between them, as 127.0.0.1,192.0.2.7, and 'x' is none" serve --listen 127.0.0.1:0 --allow 127.0.0.1,x "$zone"
+row 0 'listening on 127.0.0.1:' serve --listen 127.0.0.1:0 --count 0 "$zone"
+
+# a file that isn't there is a device's fault; a refused zone is told by its line
+row 3 "the zone's file 'no/such/zone' can't be read" check no/such/zone
+row 3 "the zone's file 'no/such/zone' can't be read" serve --listen 127.0.0.1:0 no/such/zone
+input=$'x 300 SOA ns admin 1 7200 900 1209600 300\n'
+row 1 'line 0: ' check -
+
+[ $failed = 0 ] || { echo "command_line: $failed of $rows rows failed"; exit 1; }
