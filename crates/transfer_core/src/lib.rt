@@ -31,8 +31,3 @@ pub use packer::{MAX_MESSAGE, Packer, TransferRecords};
 pub use windows::{
     examples_of_changes, examples_of_windows, serials_of_a_window_differ, windows_are_longest_runs,
 };
-
-#[cfg(test)]
-mod packer_tests;
-#[cfg(test)]
-mod tests;

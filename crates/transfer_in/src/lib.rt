@@ -16,6 +16,3 @@ mod sizes;
 mod taking;
 
 pub use messages::apply;
-
-#[cfg(test)]
-mod tests;

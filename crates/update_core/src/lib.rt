@@ -29,10 +29,3 @@ pub use laws::{prerequisites_change_nothing, replays_agree, serials_rise, update
 pub use outcome::{Outcome, apply};
 pub use prerequisites::check;
 pub use update_section::prescan;
-
-#[cfg(test)]
-mod delta_tests;
-#[cfg(test)]
-mod effect_tests;
-#[cfg(test)]
-mod tests;

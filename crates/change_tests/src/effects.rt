@@ -1,10 +1,10 @@
 //! What updates make of a small zone: the forms of RFC 2136, 2.5, each row of the table of effects, and the serial. Tables are
 //! texts, a row a line; a record is its owner, type, class and TTL, and its data in hexadecimal.
-use crate::tests::{SOA_TEXT, ZONE, name, octets_of, raw, rtype_of, update_of, version_of};
-use crate::{Outcome, apply};
+use crate::made::{SOA_TEXT, ZONE, name, raw, rtype_of, twice, update_of, version_of};
 use dns_message::{RawRecords, Update};
 use dns_rdata::{RRset, RType, RawRecord, Ttl};
 use std::alloc::Global;
+use update_core::{Outcome, apply};
 use zone_tree::{Version, ZoneRead};
 
 /// What becomes of an update of these records.
@@ -39,15 +39,26 @@ pub(crate) fn first_version(alloc: Global) -> Option<Version> {
     )
 }
 
+/// Whether octets are those that hexadecimal stands for.
+fn are_octets(octets: &[u8], text: &str) -> Option<bool> {
+    let mut pairs = text.as_bytes().chunks(2);
+    for octet in octets {
+        let digits = std::str::from_utf8(pairs.next()?).ok()?;
+        if u8::from_str_radix(digits, 16).ok()? != *octet {
+            return Some(false);
+        }
+    }
+    Some(pairs.next().is_none())
+}
+
 /// Whether a set has this TTL and these data, in hexadecimal with blanks between.
-pub(crate) fn is_set(alloc: Global, set: &RRset, wanted: &str) -> Option<bool> {
+pub(crate) fn is_set(set: &RRset, wanted: &str) -> Option<bool> {
     let mut words = wanted.split(' ');
     if set.ttl() != Ttl(words.next()?.parse::<u32>().ok()?) {
         return Some(false);
     }
     for data in set.data() {
-        let octets = octets_of(alloc, words.next()?)?;
-        if data.octets() != octets.as_slice() {
+        if !are_octets(data.octets(), words.next()?)? {
             return Some(false);
         }
     }
@@ -55,32 +66,61 @@ pub(crate) fn is_set(alloc: Global, set: &RRset, wanted: &str) -> Option<bool> {
 }
 
 /// Whether the set of an owner and a type is as wanted: its TTL and its data; `-` where there is none.
-fn has_set(alloc: Global, version: &Version, asked: &str, wanted: &str) -> Option<bool> {
+fn has_set(version: &Version, asked: &str, wanted: &str) -> Option<bool> {
     let (owner, rtype) = asked.split_once(' ')?;
     match version.zone().rrset(&name(owner)?, rtype_of(rtype)) {
         None => Some(wanted == "-"),
-        Some(set) => is_set(alloc, set, wanted),
+        Some(set) => is_set(set, wanted),
     }
 }
 
+/// Whether a version has the number, the serial and the set that are wanted.
+fn is_next(next: &Version, asked: &str, wanted: &str) -> Option<bool> {
+    let (number, rest) = wanted.split_once(' ')?;
+    let (serial, set) = rest.split_once(' ')?;
+    let number = number.parse::<u64>().ok()?;
+    let serial = serial.parse::<u32>().ok()?;
+    Some(next.number() == number && next.serial().0 == serial && has_set(next, asked, set)?)
+}
+
 /// Whether an outcome is as wanted: of a refusal its code's number, of the next version its number, its serial and a set.
-fn is_told(alloc: Global, outcome: &Outcome, asked: &str, wanted: &str) -> Option<bool> {
+fn is_told(outcome: &Outcome, asked: &str, wanted: &str) -> Option<bool> {
     match outcome {
         Outcome::NoMemory => Some(false),
         Outcome::Refused(code) => Some(code.number() == wanted.parse::<u8>().ok()?),
         Outcome::Unchanged => Some(wanted == "unchanged"),
-        Outcome::Next(next) => {
-            let (number, rest) = wanted.split_once(' ')?;
-            let (serial, set) = rest.split_once(' ')?;
-            if next.number() != number.parse::<u64>().ok()? {
-                return Some(false);
-            }
-            if next.serial().0 != serial.parse::<u32>().ok()? {
-                return Some(false);
-            }
-            has_set(alloc, next, asked, set)
-        }
+        Outcome::Next(next) => is_next(next, asked, wanted),
     }
+}
+
+/// Whether an update is told as wanted.
+fn is_judged(
+    alloc: Global,
+    version: &Version,
+    asked: &Update,
+    may: bool,
+    set: &str,
+    wanted: &str,
+) -> Option<bool> {
+    is_told(&judged(alloc, version, asked, may)?, set, wanted)
+}
+
+/// Whether an update of these records is told as wanted.
+fn is_made(
+    alloc: Global,
+    version: &Version,
+    records: &str,
+    set: &str,
+    wanted: &str,
+) -> Option<bool> {
+    is_judged(
+        alloc,
+        version,
+        &update_of(alloc, "@ SOA IN", "", records)?,
+        true,
+        set,
+        wanted,
+    )
 }
 
 /// Whether a row holds of a version: what it shows, the records, the set that is asked for then, and what is told.
@@ -88,28 +128,29 @@ fn holds(alloc: Global, version: &Version, row: &str) -> Option<bool> {
     let mut fields = row.split('|');
     let _what = fields.next()?;
     let records = fields.next()?;
-    let asked = fields.next()?;
-    let wanted = fields.next()?;
-    let outcome = applied(alloc, version, records)?;
-    is_told(alloc, &outcome, asked, wanted)
+    let set = fields.next()?;
+    is_made(alloc, version, records, set, fields.next()?)
 }
 
-/// The first row that doesn't hold of the first version, or that changes it; None where there is none.
-fn first_wrong(alloc: Global, version: &Version, rows: &'static str) -> Option<&'static str> {
+/// Whether each row holds of a version, which is the first one and stays so; else the first row that doesn't.
+fn check_each(alloc: Global, version: &Version, rows: &'static str) -> Result<(), &'static str> {
     for row in rows.lines() {
-        if holds(alloc, version, row) != Some(true) {
-            return Some(row);
-        }
-        if !is_first(alloc, version) {
-            return Some(row);
+        if holds(alloc, version, row) != Some(true) || !is_first(version) {
+            return Err(row);
         }
     }
-    None
+    Ok(())
+}
+
+/// Whether each row holds of the first version.
+fn check(alloc: Global, rows: &'static str) -> Result<(), &'static str> {
+    let version = first_version(alloc).ok_or("no version")?;
+    check_each(alloc, &version, rows)
 }
 
 /// Whether a version is the first one, as it was made.
-fn is_first(alloc: Global, version: &Version) -> bool {
-    let web = has_set(alloc, version, "web A", "3600 c0000201 c0000202");
+fn is_first(version: &Version) -> bool {
+    let web = has_set(version, "web A", "3600 c0000201 c0000202");
     version.number() == 1 && version.serial().0 == 2 && web == Some(true)
 }
 
@@ -132,9 +173,8 @@ an alias is replaced|www CNAME IN 60 036e7331076578616d706c65047465737400|www CN
 
 // RFC 2136, 2.5.1 to 2.5.4 and 3.4.2.2 to 3.4.2.4.
 #[test]
-fn effects(rt: HostRuntime) {
-    let version = first_version(rt.alloc()).expect(&rt, "a version");
-    assert_eq!(rt; first_wrong(rt.alloc(), &version, EFFECTS), None);
+fn effects(rt: HostRuntime) -> Result<(), &'static str> {
+    check(rt.alloc(), EFFECTS)
 }
 
 /// What has no effect, and what is taken back, makes no version.
@@ -157,9 +197,8 @@ put back|web A NONE 0 c0000201; web A IN 3600 c0000201|web A|unchanged\n";
 
 // RFC 2136, 3.4.2.2 to 3.4.2.4 and 3.6.
 #[test]
-fn no_effect(rt: HostRuntime) {
-    let version = first_version(rt.alloc()).expect(&rt, "a version");
-    assert_eq!(rt; first_wrong(rt.alloc(), &version, NO_EFFECT), None);
+fn no_effect(rt: HostRuntime) -> Result<(), &'static str> {
+    check(rt.alloc(), NO_EFFECT)
 }
 
 /// Which SOA replaces, and the serial of the next version: what a row shows, the old SOA's data, and then as above.
@@ -176,10 +215,18 @@ fn is_serial(alloc: Global, row: &str) -> Option<bool> {
     let _what = fields.next()?;
     let soa = fields.next()?;
     let records = fields.next()?;
-    let wanted = fields.next()?;
-    let start = version_of_soa(alloc, soa)?;
-    let outcome = applied(alloc, &start, records)?;
-    is_told(alloc, &outcome, "new TXT", wanted)
+    is_behind(alloc, soa, records, fields.next()?)
+}
+
+/// Whether an update of the first version with an SOA's data is told as wanted.
+fn is_behind(alloc: Global, soa: &str, records: &str, wanted: &str) -> Option<bool> {
+    is_made(
+        alloc,
+        &version_of_soa(alloc, soa)?,
+        records,
+        "new TXT",
+        wanted,
+    )
 }
 
 /// The first version of the small zone with another SOA's data.
@@ -188,34 +235,38 @@ fn version_of_soa(alloc: Global, soa: &str) -> Option<Version> {
     version_of(alloc, zone.as_str())
 }
 
-/// The first row of the serials that doesn't hold; None where each does.
-fn wrong_serial(alloc: Global) -> Option<&'static str> {
-    for row in SERIALS.lines() {
-        if is_serial(alloc, row) != Some(true) {
-            return Some(row);
-        }
-    }
-    None
-}
-
 // RFC 1982, 3.2; RFC 2136, 3.6.
 #[test]
-fn serials(rt: HostRuntime) {
-    assert_eq!(rt; wrong_serial(rt.alloc()), None);
+fn serials(rt: HostRuntime) -> Result<(), &'static str> {
+    for row in SERIALS.lines() {
+        if is_serial(rt.alloc(), row) != Some(true) {
+            return Err(row);
+        }
+    }
+    Ok(())
 }
 
-/// An update of addresses at `many`, and then a text of so many strings of 255 octets at `new`.
-fn update_of_many(alloc: Global, addresses: u16, strings: u8) -> Option<Update> {
+/// An address at `many`.
+fn address_of(alloc: Global, number: u16) -> Option<RawRecord> {
+    let mut record = raw(alloc, "many A IN 60 0a00")?;
+    record.octets.extend_from_slice(&number.to_be_bytes()).ok()?;
+    Some(record)
+}
+
+/// Addresses at `many`, and then a text of so many strings of 255 octets at `new`.
+fn records_of_many(alloc: Global, addresses: u16, strings: u8) -> Option<Vec<RawRecord>> {
     let mut records = Vec::new(alloc);
     for number in 0..addresses {
-        let mut record = raw(alloc, "many A IN 60 0a00")?;
-        record.octets.extend_from_slice(&number.to_be_bytes()).ok()?;
-        records.push(record).ok()?;
+        records.push(address_of(alloc, number)?).ok()?;
     }
-    let text = text_of(alloc, strings)?;
-    records.push(text).ok()?;
+    records.push(text_of(alloc, strings)?).ok()?;
+    Some(records)
+}
+
+/// An update of these.
+fn update_of_many(alloc: Global, addresses: u16, strings: u8) -> Option<Update> {
     let mut asked = update_of(alloc, "@ SOA IN", "", "")?;
-    asked.updates = RawRecords::new(records);
+    asked.updates = RawRecords::new(records_of_many(alloc, addresses, strings)?);
     Some(asked)
 }
 
@@ -241,45 +292,45 @@ fn is_limited(
     wanted: &str,
 ) -> Option<bool> {
     let asked = update_of_many(alloc, addresses, strings)?;
-    let outcome = judged(alloc, version, &asked, true)?;
-    is_told(alloc, &outcome, "www A", wanted)
+    is_judged(alloc, version, &asked, true, "www A", wanted)
 }
+
+/// How many addresses, strings of the text, and what is told.
+const LIMITS: [(u16, u8, &str); 3] = [(256, 16, "2 3 -"), (257, 0, "2"), (1, 17, "2")];
 
 // 256 records of a set and 4,096 octets of data are taken; more of either is SERVFAIL, and what came before has no effect
 // (RFC 2136, 3.4.2.7; own).
 #[test]
-fn limits(rt: HostRuntime) {
-    let version = first_version(rt.alloc()).expect(&rt, "a version");
-    assert!(rt; is_limited(rt.alloc(), &version, 256, 16, "2 3 -") == Some(true));
-    assert!(rt; is_limited(rt.alloc(), &version, 257, 0, "2") == Some(true));
-    assert!(rt; is_limited(rt.alloc(), &version, 1, 17, "2") == Some(true));
-    assert!(rt; has_set(rt.alloc(), &version, "many A", "-") == Some(true));
+fn limits(rt: HostRuntime) -> Result<(), &'static str> {
+    let version = first_version(rt.alloc()).ok_or("no version")?;
+    for (addresses, strings, wanted) in LIMITS {
+        if is_limited(rt.alloc(), &version, addresses, strings, wanted) != Some(true) {
+            return Err(wanted);
+        }
+    }
+    if has_set(&version, "many A", "-") != Some(true) {
+        return Err("many");
+    }
+    Ok(())
 }
 
 /// Whether an update with a record outside the zone is refused with this code, sent by a peer that may update, or may not.
 fn is_refused(alloc: Global, version: &Version, may: bool, code: &str) -> Option<bool> {
     let records = "new A IN 60 c0000201; test. A IN 60 c0000201";
     let asked = update_of(alloc, "@ SOA IN", "", records)?;
-    let outcome = judged(alloc, version, &asked, may)?;
-    is_told(alloc, &outcome, "", code)
+    is_judged(alloc, version, &asked, may, "", code)
 }
 
 // RFC 2136, 3: a rule that is broken is told, whatever the update would do.
 #[test]
-fn refusals(rt: HostRuntime) {
-    let version = first_version(rt.alloc()).expect(&rt, "a version");
-    assert!(rt; is_refused(rt.alloc(), &version, true, "10") == Some(true));
-    assert!(rt; is_refused(rt.alloc(), &version, false, "5") == Some(true));
-}
-
-/// What a call gives, or, where memory is refused, what the same call gives anew.
-fn twice<T: Drop, C: Fn() -> Option<T>>(call: C) -> Option<T>
-    requires { C.IsAlwaysCallable call }
-{
-    match call() {
-        Some(made) => Some(made),
-        None => call(),
+fn refusals(rt: HostRuntime) -> Result<(), &'static str> {
+    let version = first_version(rt.alloc()).ok_or("no version")?;
+    for (may, code) in [(true, "10"), (false, "5")] {
+        if is_refused(rt.alloc(), &version, may, code) != Some(true) {
+            return Err(code);
+        }
     }
+    Ok(())
 }
 
 /// Whether a zone has a set of one record, with this TTL and this data.
@@ -345,14 +396,26 @@ fn is_second(outcome: &Outcome) -> bool {
     }
 }
 
+/// Whether an update makes the second version of another, which stays as it was.
+fn makes_second(alloc: Global, version: &Version, asked: &Update) -> Option<bool> {
+    let told = sent_anew(alloc, version, asked)?;
+    Some(is_second(&told) && is_of_three_sets(version))
+}
+
+/// Whether an update of these records does.
+fn make_second(alloc: Global, version: &Version, records: &str) -> Option<bool> {
+    let asked = twice(|| update_of(alloc, "@ SOA IN", "", records))?;
+    makes_second(alloc, version, &asked)
+}
+
 // With any one growth refused, the version stays as it was, and the same update makes the next one once it is sent anew, which tells
 // what it changed.
 #[test]
-fn refused_growth(rt: HostRuntime) {
+fn refused_growth(rt: HostRuntime) -> Result<(), &'static str> {
+    let version = twice(|| version_of(rt.alloc(), THREE_SETS)).ok_or("no version")?;
     let records = "web A IN 60 c0000203; web A NONE 0 c0000201";
-    let version = twice(|| version_of(rt.alloc(), THREE_SETS)).expect(&rt, "a version");
-    let asked = twice(|| update_of(rt.alloc(), "@ SOA IN", "", records)).expect(&rt, "an update");
-    let told = sent_anew(rt.alloc(), &version, &asked).expect(&rt, "an outcome");
-    assert!(rt; is_second(&told));
-    assert!(rt; is_of_three_sets(&version));
+    match make_second(rt.alloc(), &version, records) {
+        Some(true) => Ok(()),
+        _ => Err(records),
+    }
 }

@@ -1,10 +1,14 @@
 //! The words of the faults, and the list of a small zone.
-use crate::fault::TransferFault;
-use crate::list::{LentRecord, full};
-use dns_name::Name;
-use dns_rdata::{RData, RRset, RType, Ttl};
-use std::alloc::Global;
+use crate::made::{is_printed, zone_of};
+use dns_rdata::{RType, Ttl};
+use transfer_core::{LentRecord, TransferFault, full};
 use zone_tree::Zone;
+
+/// An SOA, an NS and a host with two addresses.
+const ZONE: &str = "\
+example. NS 0168076578616d706c6500\n\
+example. SOA 00000000000100000002000000030000000400000005\n\
+h.example. A c0000201 c0000202\n";
 
 const EXAMPLE: &[u8] = b"\x07example\0";
 
@@ -16,43 +20,6 @@ const FIRST: &[u8] = &[192, 0, 2, 1];
 
 const SECOND: &[u8] = &[192, 0, 2, 2];
 
-/// The set of an owner and a type with one record.
-fn set_of(alloc: Global, owner: &[u8], rtype: RType, octets: &[u8]) -> Option<RRset> {
-    let (owner, _) = Name::from_wire(owner)?;
-    let data = RData::from_wire(alloc, rtype, octets).ok()?;
-    RRset::new(alloc, &owner, Ttl(3600), data).ok()
-}
-
-/// The host's two addresses.
-fn addresses(alloc: Global) -> Option<RRset> {
-    let mut set = set_of(alloc, HOST, RType::A, FIRST)?;
-    let second = RData::from_wire(alloc, RType::A, SECOND).ok()?;
-    if second.rtype() == set.rtype() {
-        set.insert(second).ok()?;
-    }
-    Some(set)
-}
-
-/// An SOA, an NS and a host with two addresses.
-fn small_zone(alloc: Global) -> Option<Zone> {
-    let mut sets = Vec::new(alloc);
-    let servers = set_of(alloc, EXAMPLE, RType::NS, HOST)?;
-    sets.push(servers).ok()?;
-    let soa = set_of(alloc, EXAMPLE, RType::SOA, SOA)?;
-    sets.push(soa).ok()?;
-    let addresses = addresses(alloc)?;
-    sets.push(addresses).ok()?;
-    Zone::new(alloc, sets).ok()
-}
-
-/// Whether a fault is told in these words.
-fn is_told(alloc: Global, fault: TransferFault, words: &str) -> bool {
-    match format!(in alloc; "{fault}") {
-        Ok(text) => text.as_str() == words,
-        Err(_) => false,
-    }
-}
-
 // The words of the faults.
 #[test]
 fn words(rt: HostRuntime) {
@@ -63,7 +30,7 @@ fn words(rt: HostRuntime) {
         (TransferFault::NoMemory, "X4 NoMemory"),
     ];
     for (fault, words) in cases {
-        assert!(rt; is_told(rt.alloc(), fault, words));
+        assert!(rt; is_printed(rt.alloc(), &fault, words));
     }
 }
 
@@ -98,6 +65,6 @@ fn first_wrong(zone: &Zone) -> Option<usize> {
 // The SOA, the NS and the host's two addresses, the SOA again (RFC 5936, 2.2).
 #[test]
 fn small_zone_in_whole(rt: HostRuntime) {
-    let zone = small_zone(rt.alloc()).expect(&rt, "a zone");
+    let zone = zone_of(rt.alloc(), ZONE).expect(&rt, "a zone");
     assert_eq!(rt; first_wrong(&zone), None);
 }
