@@ -1,7 +1,7 @@
 //! Replies over zones, each as zone text and octets.
 use crate::cases::{Case, Want, wrong_case};
-use crate::made::Part::{Each, Text, Times};
-use crate::made::{Part, TCP, UDP, Word, ZONE};
+use crate::made::Part::{Each, Text, Times, Zone};
+use crate::made::{Part, TCP, UDP, Word};
 use crate::rows::{Table, wrong_row};
 
 /// The octets are put together by hand from RFC 1035, 4.1.
@@ -284,16 +284,16 @@ an alias and the address of its target|\
 
 /// The zones, and what is asked of them.
 const TABLES: [Table; 8] = [
-    (&[Text(ZONE)], REPLIES),
-    (&[Text(ZONE)], LINES),
-    (&[Text(ZONE)], DYN),
-    (&[Text(ZONE), Text("x.e.dyn 3600 IN A 192.0.2.3\n")], BESIDE),
+    (&[Zone], REPLIES),
+    (&[Zone], LINES),
+    (&[Zone], DYN),
+    (&[Zone, Text("x.e.dyn 3600 IN A 192.0.2.3\n")], BESIDE),
     (&[Text(WILDCARDS)], OF_WILDCARDS),
     (&[Text(ROOT)], OF_ROOT),
-    (&[Text(ZONE), Text("s 3600 IN SRV 1 2 53 web\n")], SERVICE),
+    (&[Zone, Text("s 3600 IN SRV 1 2 53 web\n")], SERVICE),
     (
         &[
-            Text(ZONE),
+            Zone,
             Text("new.example.test. 60 IN CNAME web\r\nWEB.example.test. 5 in a 192.0.2.10\n"),
         ],
         NEW_ALIAS,
@@ -312,7 +312,7 @@ const BIG_CUT: &str = "12348700000100000000000003626967076578616d706c65047465737
 
 /// The zone of the examples with two strings at big.example.test., of 255 octets and of 209 or 210.
 const BIG_ZONE: &[Part] = &[
-    Text(ZONE),
+    Zone,
     Text("big.example.test. 3600 IN TXT "),
     Times("x", 255),
     Text(" \""),
@@ -321,7 +321,7 @@ const BIG_ZONE: &[Part] = &[
 ];
 
 const BIGGER_ZONE: &[Part] = &[
-    Text(ZONE),
+    Zone,
     Text("big.example.test. 3600 IN TXT "),
     Times("x", 255),
     Text(" \""),
@@ -359,7 +359,7 @@ const LONGEST_TOLD: &str =
 
 /// The zone of the examples with 28 or 29 mail exchanges at m.example.test.
 const EXCHANGES_28: &[Part] = &[
-    Text(ZONE),
+    Zone,
     Each(
         0,
         28,
@@ -372,7 +372,7 @@ const EXCHANGES_28: &[Part] = &[
 ];
 
 const EXCHANGES_29: &[Part] = &[
-    Text(ZONE),
+    Zone,
     Each(
         0,
         29,
@@ -396,15 +396,15 @@ const CASES: [Case<'static>; 11] = [
     (
         "a last line without its end",
         UDP,
-        &[Text(ZONE)],
+        &[Zone],
         &[Text("xy\n\n12")],
         Want::Writes(&[Text("!\n-\n-\n")]),
     ),
-    ("no line", UDP, &[Text(ZONE)], &[], Want::Writes(&[])),
+    ("no line", UDP, &[Zone], &[], Want::Writes(&[])),
     (
         "more than 2^16 lines",
         UDP,
-        &[Text(ZONE)],
+        &[Zone],
         &[Times("\n", 80_000)],
         Want::Spans(160_000, "-\n", "", "-\n"),
     ),
@@ -432,14 +432,14 @@ const CASES: [Case<'static>; 11] = [
     (
         "the longest request and one more",
         UDP,
-        &[Text(ZONE)],
+        &[Zone],
         LONGEST,
         Want::Writes(&[Text(LONGEST_TOLD)]),
     ),
     (
         "the same over TCP",
         TCP,
-        &[Text(ZONE)],
+        &[Zone],
         LONGEST,
         Want::Writes(&[Text(LONGEST_TOLD)]),
     ),

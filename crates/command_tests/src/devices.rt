@@ -1,6 +1,6 @@
 //! What is told of faults, and of devices that fail.
-use crate::made::Part::Text;
-use crate::made::{Kind, STEPS, UDP, ZONE, command, text_of};
+use crate::made::Part::{Text, Zone};
+use crate::made::{Kind, STEPS, UDP, command, text_of};
 use commands::{Command, DONE, FAILED, Fault, REFUSED, run_text};
 use master_file::{Cause, FileFault};
 use std::alloc::Global;
@@ -82,7 +82,7 @@ fn device_decides(alloc: Global, kind: Kind, text: &[u8], output: &[u8]) -> Opti
 
 /// The same of an input over the zone of the examples.
 fn decides(alloc: Global, kind: Kind, input: &str, output: &str) -> Option<bool> {
-    let text = text_of(alloc, &[Text(ZONE)], input).ok()?;
+    let text = text_of(alloc, &[Zone], input).ok()?;
     device_decides(alloc, kind, text.as_str().as_bytes(), output.as_bytes())
 }
 
@@ -136,8 +136,13 @@ fn is_told(alloc: Global, fault: &Fault, words: &str) -> Option<bool> {
     Some(told.as_str() == words && fault.status() == 1)
 }
 
+/// The same of a fault of a zone's text.
+fn zone_is_told(alloc: Global, line: u64, cause: Cause, words: &str) -> Option<bool> {
+    is_told(alloc, &Fault::Zone(FileFault { line, cause }), words)
+}
+
 /// Faults of a zone's text, and their words.
-const OF_ZONE: [(u64, Cause, &str); 3] = [
+const OF_ZONE: &[(u64, Cause, &str)] = &[
     (0, Cause::Apex, "line 0: M11 Apex"),
     (3, Cause::BadName, "line 3: M2 BadName"),
     (14, Cause::NoMemory, "line 14: M14 NoMemory"),
@@ -146,8 +151,8 @@ const OF_ZONE: [(u64, Cause, &str); 3] = [
 /// The first that is told otherwise.
 fn wrong_words(alloc: Global) -> Option<&'static str> {
     for (line, cause, words) in OF_ZONE {
-        if is_told(alloc, &Fault::Zone(FileFault { line, cause }), words) != Some(true) {
-            return Some(words);
+        if zone_is_told(alloc, *line, *cause, words) != Some(true) {
+            return Some(*words);
         }
     }
     None

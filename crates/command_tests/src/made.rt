@@ -6,7 +6,7 @@ use std::alloc::{AllocError, Global};
 use std::io::{BufWriter, Cursor};
 
 /// The zone that the examples are asked of.
-pub(crate) const ZONE: &str = "\
+const ZONE: &str = "\
 example.test. 3600 IN SOA ns1.example.test. admin.example.test. 1 7200 900 1209600 300\n\
 example.test. 3600 IN NS ns1.example.test.\n\
 a.b.example.test. 3600 IN TXT \"x\"\n\
@@ -37,6 +37,8 @@ pub(crate) const ADD: &str =
 /// A part of a text.
 #[derive(Clone, Copy)]
 pub(crate) enum Part {
+    /// The zone of the examples.
+    Zone,
     /// This text.
     Text(&'static str),
     /// This text so many times.
@@ -88,6 +90,7 @@ fn push_words(
 /// Puts a part behind a text.
 fn push_part(alloc: Global, text: &mut String, part: Part) -> Result<(), AllocError> {
     match part {
+        Part::Zone => text.push_str(ZONE)?,
         Part::Text(part) => text.push_str(part)?,
         Part::Times(part, count) => {
             for _ in 0..count {

@@ -1,6 +1,6 @@
 //! Commands where memory is refused: with one request refused, whichever it is, the run says so, and the other of two is as ever.
-use crate::made::Part::Text;
-use crate::made::{Kind, STEPS, Told, UDP, ZONE, has, tell};
+use crate::made::Part::{Text, Zone};
+use crate::made::{Kind, STEPS, Told, UDP, has, tell};
 use std::alloc::Global;
 
 /// What came of a run.
@@ -31,7 +31,7 @@ fn outcome_of(told: &Told, want: &str, words: &str) -> Outcome {
 
 /// The same of a command over the zone of the examples.
 fn run(alloc: Global, kind: Kind, input: &str, want: &str, words: &str) -> Outcome {
-    match tell(alloc, kind, &[Text(ZONE)], input) {
+    match tell(alloc, kind, &[Zone], input) {
         Some(told) => outcome_of(&told, want, words),
         None => Outcome::Starved,
     }
@@ -87,7 +87,7 @@ fn outcome_of_update(told: &Told) -> Outcome {
 
 /// The same of a run of its own.
 fn update(alloc: Global) -> Outcome {
-    match tell(alloc, UDP, &[Text(ZONE)], UPDATE) {
+    match tell(alloc, UDP, &[Zone], UPDATE) {
         Some(told) => outcome_of_update(&told),
         None => Outcome::Starved,
     }

@@ -1,11 +1,11 @@
 //! Scripts, with queries and updates (RFC 2136); the replies' octets are those of RFC 1035, 4.1, and the words are our own.
 use crate::cases::{Case, Want, holds, wrong_case};
-use crate::made::Part::{Each, Text, Times};
-use crate::made::{ADD, Part, STEPS, TAKEN, WWW, WWW_REPLY, Word, ZONE};
+use crate::made::Part::{Each, Text, Times, Zone};
+use crate::made::{ADD, Part, STEPS, TAKEN, WWW, WWW_REPLY, Word};
 use std::alloc::Global;
 
 /// The zone that scripts are played over.
-const PLAYED: &[Part] = &[Text(ZONE)];
+const PLAYED: &[Part] = &[Zone];
 
 /// Two names in use, and what is told of them.
 const TWO_NAMES: &[Part] = &[
@@ -243,7 +243,7 @@ fn scripts(rt: HostRuntime) {
 }
 
 /// Lines that are no step.
-const BAD_LINES: [&str; 41] = [
+const BAD_LINES: &[&str] = &[
     "",
     "load",
     "load ",
@@ -291,9 +291,9 @@ const BAD_LINES: [&str; 41] = [
 fn good_line(alloc: Global) -> Option<&'static str> {
     let want = Want::Says("line 2: bad\n");
     for line in BAD_LINES {
-        let script = [Text("load a\n"), Text(line), Text("\nbad\n")];
-        if holds(alloc, (line, STEPS, PLAYED, &script, want)) != Some(true) {
-            return Some(line);
+        let script = [Text("load a\n"), Text(*line), Text("\nbad\n")];
+        if holds(alloc, (*line, STEPS, PLAYED, &script, want)) != Some(true) {
+            return Some(*line);
         }
     }
     None

@@ -3,8 +3,8 @@
 //! A row of the table is what it shows, the transport, the serial of a zone of an SOA and an NS, and then requests and replies
 //! in turn, in hexadecimal.
 use crate::cases::{Case, Want, wrong_case};
-use crate::made::Part::{Each, Text, Times};
-use crate::made::{ADD, Kind, Part, TAKEN, TCP, UDP, Word, ZONE};
+use crate::made::Part::{Each, Text, Times, Zone};
+use crate::made::{ADD, Kind, Part, TAKEN, TCP, UDP, Word};
 use crate::rows::converses;
 use std::alloc::Global;
 
@@ -150,8 +150,8 @@ const SINCE_2: &str =
 const TEN: Part = Each(1, 11, &[Word::Plain(ADD), Word::Hex, Word::Plain("\n")]);
 
 /// A message of 16,384 octets, and where the closing SOA doesn't fit, one of 16,349 and one of 70 behind a space, without a
-/// question (RFC 5936, 2.2; own). Of ten updates the IXFR from nine versions back gets what changed, and from ten back the zone in
-/// whole: the newest nine are kept (RFC 1995, 5; own).
+/// question (RFC 5936, 2.2; own). Of ten updates the IXFR from nine versions back gets what changed, and from ten back the
+/// zone in whole: the newest nine are kept (RFC 1995, 5; own).
 const CASES: [Case<'static>; 4] = [
     (
         "one message",
@@ -224,7 +224,7 @@ const IN_SCRIPTS: [Case<'static>; 4] = [
     (
         "what changed",
         Kind::Steps(8, 16),
-        &[Text(ZONE)],
+        &[Zone],
         ONE_UPDATE,
         Want::Spans(
             25 + 4 + 409 + 12,
@@ -236,21 +236,21 @@ const IN_SCRIPTS: [Case<'static>; 4] = [
     (
         "a window of 3",
         Kind::Steps(1, 3),
-        &[Text(ZONE)],
+        &[Zone],
         TWO_UPDATES,
         Want::Begins(ANSWERS_8),
     ),
     (
         "a window of 2",
         Kind::Steps(1, 2),
-        &[Text(ZONE)],
+        &[Zone],
         TWO_UPDATES,
         Want::Begins(ANSWERS_16),
     ),
     (
         "the last alone",
         Kind::Steps(0, 16),
-        &[Text(ZONE)],
+        &[Zone],
         TWO_UPDATES,
         Want::Begins(ANSWERS_16),
     ),

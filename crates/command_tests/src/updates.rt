@@ -1,7 +1,7 @@
 //! Updates and what is asked behind them, by the octets that RFC 2136 and RFC 1035 give.
 use crate::cases::{Case, Want, wrong_case};
-use crate::made::Part::{Each, Text, Times};
-use crate::made::{ADD, TAKEN, UDP, Word, ZONE};
+use crate::made::Part::{Each, Text, Times, Zone};
+use crate::made::{ADD, TAKEN, UDP, Word};
 use crate::rows::{Table, wrong_row};
 
 /// The forms of prerequisites, each in front of an address that is added at `new`, and what is then at `new`.
@@ -183,9 +183,9 @@ behind the last serial comes 0|\
 
 /// RFC 2136, 2.4.1 to 2.4.5, 2.5.1 to 2.5.4 and 3.1 to 3.6; RFC 1982, 3.
 const TABLES: [Table; 3] = [
-    (&[Text(ZONE)], PREREQUISITES),
-    (&[Text(ZONE)], UPDATES),
-    (&[Text(ZONE)], CHANGES),
+    (&[Zone], PREREQUISITES),
+    (&[Zone], UPDATES),
+    (&[Zone], CHANGES),
 ];
 
 #[test]
@@ -198,7 +198,7 @@ fn updates(rt: HostRuntime) {
 const MANY: [Case<'static>; 1] = [(
     "two hundred updates",
     UDP,
-    &[Text(ZONE)],
+    &[Zone],
     &[
         Each(1, 201, &[Word::Plain(ADD), Word::Hex, Word::Plain("\n")]),
         Text("123401000001000000000000076578616d706c6504746573740000060001\n"),

@@ -1,7 +1,7 @@
 //! Zone text as the commands read and print it (RFC 1035, 5).
 use crate::cases::{Case, Want, holds, wrong_case};
-use crate::made::Part::{Each, Text, Times};
-use crate::made::{Kind, Part, UDP, Word, ZONE};
+use crate::made::Part::{Each, Text, Times, Zone};
+use crate::made::{Kind, Part, UDP, Word};
 use std::alloc::Global;
 
 /// The command `check` under two origins.
@@ -73,19 +73,13 @@ const ADDRESSES: &[Word] = &[
 /// a final dot are under the origin, which is relative to the root. Data have at most 4,096 octets: sixteen strings of 255, each
 /// behind its length. A set has at most 256 records.
 const CASES: [Case<'static>; 10] = [
-    (
-        "its own form",
-        AT_ROOT,
-        &[Text(ZONE)],
-        &[],
-        Want::Writes(&[Text(ZONE)]),
-    ),
+    ("its own form", AT_ROOT, &[Zone], &[], Want::Writes(&[Zone])),
     (
         "another form",
         AT_APEX,
         &[Text(OTHER_FORM)],
         &[],
-        Want::Writes(&[Text(ZONE)]),
+        Want::Writes(&[Zone]),
     ),
     (
         "under the root",
@@ -111,35 +105,35 @@ const CASES: [Case<'static>; 10] = [
     (
         "4,096 octets",
         AT_ROOT,
-        &[Text(ZONE), Text(FIFTEEN), Times(STRING, 16), Text("\n")],
+        &[Zone, Text(FIFTEEN), Times(STRING, 16), Text("\n")],
         &[],
         Want::Begins(&[Text("example.test. 3600 IN SOA ")]),
     ),
     (
         "an octet more",
         AT_ROOT,
-        &[Text(ZONE), Text(FIFTEEN), Times(STRING, 16), Text(" x\n")],
+        &[Zone, Text(FIFTEEN), Times(STRING, 16), Text(" x\n")],
         &[],
         Want::SaysFirst("line 14: M13 Limit"),
     ),
     (
         "257 exchanges",
         AT_APEX,
-        &[Text(ZONE), Each(0, 257, EXCHANGES)],
+        &[Zone, Each(0, 257, EXCHANGES)],
         &[],
         Want::SaysFirst("line 270: M13 Limit"),
     ),
     (
         "257 services",
         AT_APEX,
-        &[Text(ZONE), Each(0, 257, SERVICES)],
+        &[Zone, Each(0, 257, SERVICES)],
         &[],
         Want::SaysFirst("line 270: M13 Limit"),
     ),
     (
         "257 addresses",
         AT_APEX,
-        &[Text(ZONE), Each(0, 257, ADDRESSES)],
+        &[Zone, Each(0, 257, ADDRESSES)],
         &[],
         Want::SaysFirst("line 270: M13 Limit"),
     ),
@@ -151,7 +145,7 @@ fn forms(rt: HostRuntime) {
 }
 
 /// Zones that are refused, and the first line of errors.
-const REFUSED: [(&str, &str); 46] = [
+const REFUSED: &[(&str, &str)] = &[
     ("", "line 0: M11 Apex"),
     ("a.test. IN A 192.0.2.1\n", "line 1: M8 NoTtl"),
     ("$ttl 5\n", "line 1: M1 Directive"),
@@ -204,7 +198,7 @@ const REFUSED: [(&str, &str); 46] = [
 ];
 
 /// Records that the zone of the examples may not have, and the first line of errors.
-const REFUSED_RECORDS: [(&str, &str); 9] = [
+const REFUSED_RECORDS: &[(&str, &str)] = &[
     (
         "host.example.net. 3600 IN A 192.0.2.1\n",
         "line 14: M10 Outside",
@@ -247,11 +241,11 @@ const REFUSED_RECORDS: [(&str, &str); 9] = [
 fn wrong_refusal(
     alloc: Global,
     kind: Kind,
-    front: &'static str,
+    front: Part,
     table: &[(&'static str, &'static str)],
 ) -> Option<&'static str> {
     for (text, fault) in table {
-        let zone = [Text(front), Text(*text)];
+        let zone = [front, Text(*text)];
         if holds(alloc, (*text, kind, &zone, &[], Want::SaysFirst(*fault))) != Some(true) {
             return Some(*text);
         }
@@ -261,15 +255,15 @@ fn wrong_refusal(
 
 #[test]
 fn refused_zones(rt: HostRuntime) {
-    assert_eq!(rt; wrong_refusal(rt.alloc(), AT_ROOT, "", &REFUSED), None);
+    assert_eq!(rt; wrong_refusal(rt.alloc(), AT_ROOT, Text(""), REFUSED), None);
     assert_eq!(rt;
-        wrong_refusal(rt.alloc(), AT_APEX, ZONE, &REFUSED_RECORDS),
+        wrong_refusal(rt.alloc(), AT_APEX, Zone, REFUSED_RECORDS),
         None
     );
 }
 
 /// Zones that are refused, and all that is said of it.
-const REASONS: [(&str, &str); 17] = [
+const REASONS: &[(&str, &str)] = &[
     (
         "a.test. IN A 192.0.2.1\n",
         "line 1: M8 NoTtl\na TTL is due, and none is in force: `a.test. IN A 192.0.2.1`\n",
@@ -349,7 +343,7 @@ fn wrong_reason(alloc: Global) -> Option<&'static str> {
             (zone, AT_ROOT, &[Text(zone)], &[], Want::Says(errors)),
         ) != Some(true)
         {
-            return Some(zone);
+            return Some(*zone);
         }
     }
     None
@@ -361,7 +355,7 @@ fn reasons(rt: HostRuntime) {
 }
 
 /// Data as it is written, its type, and its octets behind their count.
-const DATA: [(&str, &str, &str); 7] = [
+const DATA: &[(&str, &str, &str)] = &[
     (
         "AAAA 2001:db8::1",
         "001c",
@@ -395,7 +389,7 @@ fn data_are_told(
     data: &'static str,
 ) -> Option<bool> {
     let zone = [
-        Text(ZONE),
+        Zone,
         Text("new.example.test. 3600 IN "),
         Text(written),
         Text("\n"),
@@ -421,8 +415,8 @@ fn data_are_told(
 /// 2.2.
 fn wrong_data(alloc: Global) -> Option<&'static str> {
     for (written, rtype, data) in DATA {
-        if data_are_told(alloc, written, rtype, data) != Some(true) {
-            return Some(written);
+        if data_are_told(alloc, *written, *rtype, *data) != Some(true) {
+            return Some(*written);
         }
     }
     None
