@@ -37,10 +37,16 @@ const FULL: [u8; 16] = [
 
 /// Each in its three forms, and texts that have none of them (RFC 4291, 2.2).
 const SIXES: &[(Word<'_>, &[u8])] = &[
-    (Word::Plain(b"ABCD:EF01:2345:6789:ABCD:EF01:2345:6789"), &FULL),
+    (
+        Word::Plain(b"ABCD:EF01:2345:6789:ABCD:EF01:2345:6789"),
+        &FULL,
+    ),
     (Word::Plain(b"2001:DB8:0:0:8:800:200C:417A"), &UNICAST),
     (Word::Plain(b"2001:DB8::8:800:200C:417A"), &UNICAST),
-    (Word::Plain(b"2001:0db8:0000:0000:0008:0800:200c:417a"), &UNICAST),
+    (
+        Word::Plain(b"2001:0db8:0000:0000:0008:0800:200c:417a"),
+        &UNICAST,
+    ),
     (Word::Plain(b"FF01:0:0:0:0:0:0:101"), &MULTICAST),
     (Word::Plain(b"FF01::101"), &MULTICAST),
     (Word::Plain(b"0:0:0:0:0:0:0:1"), &LOOPBACK),
