@@ -1,9 +1,9 @@
 //! What questions for a transfer get, by the octets that RFC 1035, 4.1, RFC 1995, 3 and RFC 5936, 2.2 give for them, put together by
 //! hand. Tables are texts, a row a line.
-use crate::tests::{octets_of, served, version_of};
-use crate::{Peer, TCP_LIMIT, Transport, is_permitted, transfer_reply};
+use crate::made::{octets_of, served, version_of};
 use dns_message::{Parsed, parse};
 use dns_rdata::Serial;
+use serve_core::{Peer, TCP_LIMIT, Transport, is_permitted, transfer_reply};
 use std::alloc::Global;
 use transfer_core::{MAX_MESSAGE, chain_since};
 use zone_tree::Version;

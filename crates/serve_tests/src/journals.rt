@@ -1,7 +1,7 @@
 //! The lines of a journal.
-use crate::{Event, JobEnd, Serials};
 use dns_rdata::{Rcode, Serial};
 use serve_core::Transport;
+use serve_workers::{Event, JobEnd, Serials};
 use std::alloc::Global;
 use std::net::SocketAddr;
 use std::test::Fail;

@@ -1,10 +1,10 @@
 //! Incremental transfers: what is sent of versions that updates make, one after the other, by the octets that RFC 1035, 4.1 and
 //! RFC 1995, 4 and 7 give for it, put together by hand. Zones, updates and what is wanted are tables as text, a row a line.
-use crate::tests::{octets_of, version_of};
-use crate::{Peer, Transport, is_permitted, transfer_reply};
+use crate::made::{octets_of, version_of};
 use dns_message::{Parsed, Query, parse};
 use dns_name::Name;
 use dns_rdata::{RType, Serial};
+use serve_core::{Peer, Transport, is_permitted, transfer_reply};
 use std::alloc::Global;
 use transfer_core::{ChainView, LentRecord, MAX_MESSAGE, VersionList, chain_since, steps};
 use update_core::{Outcome, apply};

@@ -1,13 +1,10 @@
 //! Replies in a whole zone, by the octets that RFC 1035, 4.1 gives for them, put together by hand. Zones and replies are
 //! tables as text, a row a line.
-ghost use Rattle.std.specs.Prelude.{◌≡◌, IfSome};
-
-use crate::{TCP_LIMIT, Transport, UDP_LIMIT, respond};
-use dns_message::{Parsed, parse};
-use dns_name::Name;
-use dns_rdata::{RData, RRset, RType, Ttl};
+use crate::made::{octets_of, served, version_of};
+use dns_message::parse;
+use serve_core::{TCP_LIMIT, Transport, UDP_LIMIT};
 use std::alloc::Global;
-use zone_tree::{Version, Zone};
+use zone_tree::Version;
 
 /// A zone with an alias. A row is an owner below `example.test.`, a type's number, and the data's octets in hexadecimal; the last of
 /// the SOA, MINIMUM, is 300.
@@ -30,57 +27,6 @@ const REPLIES: &str = "\
 123400000001000000000000076578616d706c6504746573740000010003 123480050001000000000000076578616d706c6504746573740000010003 class CH\n\
 123429000001000000000000076578616d706c6504746573740000010001 1234a8010000000000000000 OPCODE 5 with a question of type A\n\
 123400000001000000000000036e65740000010001 123480050001000000000000036e65740000010001 a name outside\n";
-
-/// The octets that hexadecimal stands for.
-pub(crate) fn octets_of(alloc: Global, text: &str) -> Option<Vec<u8>> {
-    let mut octets = Vec::new(alloc);
-    for pair in text.as_bytes().chunks(2) {
-        let digits = std::str::from_utf8(pair).ok()?;
-        let octet = u8::from_str_radix(digits, 16).ok()?;
-        octets.push(octet).ok()?;
-    }
-    Some(octets)
-}
-
-/// The set of a row, of one record.
-fn set_of(alloc: Global, row: &str) -> Option<RRset> {
-    let mut words = row.split(' ');
-    let origin = Name::from_text(b"example.test.", &Name::root()).ok()?;
-    let owner = Name::from_text(words.next()?.as_bytes(), &origin).ok()?;
-    let rtype = RType(words.next()?.parse::<u16>().ok()?);
-    let octets = octets_of(alloc, words.next()?)?;
-    let data = RData::from_wire(alloc, rtype, &octets).ok()?;
-    RRset::new(alloc, &owner, Ttl(3600), data).ok()
-}
-
-/// The first version of the zone of rows in canonical order, each a set.
-pub(crate) fn version_of(alloc: Global, rows: &str) -> Option<Version>
-    ensures { IfSome result (λ version. version.number ≡ 0) }
-{
-    let mut sets = Vec::new(alloc);
-    for row in rows.lines() {
-        let set = set_of(alloc, row)?;
-        sets.push(set).ok()?;
-    }
-    let zone = Zone::new(alloc, sets).ok()?;
-    Some(Version::first(zone))
-}
-
-/// What a request gets in a version of the zone: how many octets the reply has, and whether there is another version behind it.
-pub(crate) fn served(
-    alloc: Global,
-    version: &Version,
-    transport: Transport,
-    may: bool,
-    said: &Parsed,
-    out: &mut [u8; TCP_LIMIT],
-) -> (Option<usize>, bool) {
-    if version.number() > 9 {
-        return (None, true);
-    }
-    let served = respond(alloc, version, transport, may, said, out);
-    (served.len, served.next.is_some())
-}
 
 /// Whether a request gets these octets, or no reply, and makes no version.
 fn gets(

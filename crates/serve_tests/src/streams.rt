@@ -2,22 +2,22 @@
 //! hand. A table is a text, a row a line.
 ghost use Rattle.std.specs.Prelude.{◌≡◌, None};
 
-use crate::udp_tests::serve_tray;
-use crate::{Asked, Counted, Event, Journal, OpenGate, Server, Stream, serve_stream};
-use dns_engine::{EngineFault, FirstZone, NoEngine, VersionCell, VersionPublisher, VersionReader};
+use crate::cells::{Play, is_played};
+use crate::made::{octets_of, sets_of};
+use crate::trays::asker;
+use dns_engine::{FirstZone, VersionReader};
 use dns_message::take_frame;
 use dns_name::Name;
 use dns_rdata::{RData, RRset, RType, Ttl};
 use serve_core::Peer;
-use snapshot_cell::{Cell, Parts};
+use serve_workers::{
+    Asked, Counted, Event, Journal, OpenGate, Server, Stream, StreamEnd, serve_stream,
+};
 use std::alloc::Global;
 use std::io::{self, Cursor, Read};
-use std::marker::Brand;
-use std::net::SocketAddr;
-use std::process::Abort;
 use std::sync::{Mutex, Wait};
-use std::test::Fail;
-use zone_tree::{Version, Zone};
+use std::thread::Threads;
+use zone_tree::Zone;
 
 /// A zone of five sets, in canonical order. A row is an owner, a type's number, and the data's octets in hexadecimal.
 const ZONE: &str = "\
@@ -49,90 +49,90 @@ not 9999 Clean 000c432128000001000000000000 000c4321a8010000000000000000 the sam
 const LONG: &str =
     "may 99999 Clean 001e123400000001000000000000076578616d706c6504746573740000fc0001 16349:1:6;70:0:1; a transfer of two messages";
 
-/// The octets that hexadecimal stands for.
-pub(crate) fn octets_of(alloc: Global, text: &str) -> Result<Vec<u8>, Fail> {
-    let mut octets = Vec::new(alloc);
-    for pair in text.as_bytes().chunks(2) {
-        let digits = std::str::from_utf8(pair)?;
-        octets.push(u8::from_str_radix(digits, 16)?)?;
-    }
-    Ok(octets)
-}
-
-/// The first sets of the zone, so many.
-fn sets(alloc: Global, count: usize) -> Result<Vec<RRset>, Fail> {
-    let mut sets = Vec::new(alloc);
-    for row in ZONE.lines().take(count) {
-        let mut words = row.split(' ');
-        let owner = Name::from_text(words.next().unwrap_or("").as_bytes(), &Name::root())?;
-        let rtype = RType(words.next().unwrap_or("").parse()?);
-        let octets = octets_of(alloc, words.next().unwrap_or(""))?;
-        let data = RData::from_wire(alloc, rtype, &octets)?;
-        sets.push(RRset::new(alloc, &owner, Ttl(3600), data)?)?;
-    }
-    Ok(sets)
-}
-
 /// The zone.
-pub(crate) fn zone(alloc: Global) -> Result<Zone, Fail> {
-    Ok(Zone::new(alloc, sets(alloc, 5)?)?)
+pub(crate) fn zone(alloc: Global) -> Option<Zone> {
+    Zone::new(alloc, sets_of(alloc, ZONE, 5)?).ok()
 }
 
 /// A text of fifteen strings of 255 letters, and of one of so many.
-fn text_of(alloc: Global, letter: u8, last: u8) -> Result<RData, Fail> {
-    let mut octets = Vec::new(alloc);
-    for string in 0..16 {
-        let len = if string < 15 { 255 } else { last };
-        octets.push(len)?;
-        for _ in 0..len {
-            octets.push(letter)?;
-        }
+fn text_of(alloc: Global, letter: u8, last: u8) -> Option<RData> {
+    let mut octets = vec![in alloc; letter; 3841 + usize::from(last)].ok()?;
+    for string in 0..16usize {
+        let place = octets.get_mut(256 * string)?;
+        *place = if string < 15 { 255 } else { last };
     }
-    Ok(RData::from_wire(alloc, RType::TXT, &octets)?)
+    RData::from_wire(alloc, RType::TXT, &octets).ok()
 }
 
-/// A zone of an SOA, an NS and four texts at one name, whose AXFR has one octet more than a message.
-fn long_zone(alloc: Global) -> Result<Zone, Fail> {
-    let mut sets = sets(alloc, 2)?;
-    let owner = Name::from_text(b"t.example.test.", &Name::root())?;
-    let mut texts = RRset::new(alloc, &owner, Ttl(3600), text_of(alloc, b'a', 211)?)?;
+/// Four texts at one name.
+fn texts(alloc: Global) -> Option<RRset> {
+    let owner = Name::from_text(b"t.example.test.", &Name::root()).ok()?;
+    let mut texts = RRset::new(alloc, &owner, Ttl(3600), text_of(alloc, b'a', 211)?).ok()?;
     for (letter, last) in [(b'b', 211), (b'c', 211), (b'd', 212)] {
         let text = text_of(alloc, letter, last)?;
         if text.rtype() != texts.rtype() {
-            return Err("no text".into());
+            return None;
         }
-        texts.insert(text)?;
+        texts.insert(text).ok()?;
     }
-    sets.push(texts)?;
-    Ok(Zone::new(alloc, sets)?)
+    Some(texts)
 }
 
-/// Of each message in frames its octets, and how many questions and answers it has.
-fn messages_told(alloc: Global, frames: &[u8]) -> Result<String, Fail> {
-    let mut told = String::new(alloc);
+/// A zone of an SOA, an NS and four texts at one name, whose AXFR has one octet more than a message.
+fn long_zone(alloc: Global) -> Option<Zone> {
+    let mut sets = sets_of(alloc, ZONE, 2)?;
+    sets.push(texts(alloc)?).ok()?;
+    Zone::new(alloc, sets).ok()
+}
+
+/// Whether a message has so many octets, questions and answers.
+fn is_message(message: &[u8], told: &str) -> Option<bool> {
+    let mut numbers = told.split(':');
+    let len = numbers.next()?.parse::<usize>().ok()?;
+    let questions = numbers.next()?.parse::<u8>().ok()?;
+    let answers = numbers.next()?.parse::<u8>().ok()?;
+    Some(
+        message.len() == len
+            && message.get(5).copied() == Some(questions)
+            && message.get(7).copied() == Some(answers),
+    )
+}
+
+/// Whether messages in frames are those that are told.
+fn are_messages(frames: &[u8], told: &str) -> Option<bool> {
     let mut left = frames;
-    for _ in 0..9 {
-        let Some((message, rest)) = take_frame(left) else {
-            break;
-        };
-        let (len, questions, answers) = (message.len(), message.get(5), message.get(7));
-        let text = format!(in alloc;
-            "{len}:{}:{};",
-            questions.copied().unwrap_or(255),
-            answers.copied().unwrap_or(255)
-        )?;
-        told.push_str(text.as_str())?;
+    for words in told.split_terminator(';') {
+        let (message, rest) = take_frame(left)?;
+        if is_message(message, words) != Some(true) {
+            return Some(false);
+        }
         left = rest;
     }
-    Ok(told)
+    Some(left.is_empty())
 }
 
 /// A stream that lies in memory: it gives three octets a read at most, and takes so many in all.
 #[derive(Drop)]
 pub(crate) struct Tape<'a> {
-    pub(crate) input: Cursor<&'a [u8]>,
-    pub(crate) output: Vec<u8>,
-    pub(crate) room: usize,
+    input: Cursor<&'a [u8]>,
+    output: Vec<u8>,
+    room: usize,
+}
+
+impl<'a> Tape<'a> {
+    /// A stream of these octets, which takes so many.
+    pub(crate) fn new(alloc: Global, octets: &'a [u8], room: usize) -> Tape<'a> {
+        Tape {
+            input: Cursor::new(octets),
+            output: Vec::new(alloc),
+            room,
+        }
+    }
+
+    /// The octets that were written.
+    pub(crate) fn output(&self) -> &[u8] {
+        self.output.as_slice()
+    }
 }
 
 impl Stream for Tape<'_> {
@@ -151,15 +151,16 @@ impl Stream for Tape<'_> {
     }
 }
 
-/// A journal that keeps what it is told.
+/// A journal that keeps the lines that it is told, each with a semicolon behind it.
 #[derive(Drop)]
 pub(crate) struct Kept {
-    events: Mutex<Vec<Event>>,
+    lines: Mutex<String>,
 }
 
 impl Journal for Kept {
     fn tell<R: Wait>(&self, rt: &R, event: Event) {
-        let _ = self.events.lock(rt).push(event);
+        let mut lines = self.lines.lock(rt);
+        let _ = write!(lines, "{event};");
     }
 }
 
@@ -167,140 +168,115 @@ impl Kept {
     /// A journal that has been told nothing.
     pub(crate) fn new(alloc: Global) -> Kept {
         Kept {
-            events: Mutex::new(Vec::new(alloc)),
+            lines: Mutex::new(String::new(alloc)),
         }
     }
 
-    /// The lines that it was told, each with a semicolon behind it.
-    pub(crate) fn lines<R: Wait>(&self, rt: &R, alloc: Global) -> Result<String, Fail> {
-        let mut lines = String::new(alloc);
-        for event in self.events.lock(rt).iter() {
-            lines.push_str(format!(in alloc; "{event};")?.as_str())?;
-        }
-        Ok(lines)
+    /// Whether it was told these lines.
+    fn has<R: Wait>(&self, rt: &R, lines: &str) -> bool {
+        self.lines.lock(rt).as_str() == lines
     }
 }
 
-/// Serves the stream of a row, and looks for its end, for what is written, and for what the journal is told.
-fn serve_row<R: Wait + Abort, Z: FirstZone>(
+/// Whether a stream's end has this name.
+fn is_end(end: StreamEnd, name: &str) -> bool {
+    match end {
+        StreamEnd::Clean => name == "Clean",
+        StreamEnd::Torn => name == "Torn",
+        StreamEnd::Device => name == "Device",
+        StreamEnd::Spent => name == "Spent",
+    }
+}
+
+/// Serves a stream, to a peer that may update and transfer or may not.
+fn serve<R: Wait, Z: FirstZone>(
     rt: &R,
     alloc: Global,
     server: &Server<'_, Z>,
     reader: &mut VersionReader<Z>,
-    row: &str,
-) -> Result<(), Fail> {
-    let (row, told) = row.split_once('|').unwrap_or((row, ""));
-    let mut words = row.splitn(6, ' ');
-    let may = words.next() == Some("may");
-    let room: usize = words.next().unwrap_or("").parse()?;
-    let end = words.next().unwrap_or("");
-    let input = octets_of(alloc, words.next().unwrap_or(""))?;
-    let wanted = words.next().unwrap_or("");
-    let what = words.next().unwrap_or("");
+    may: bool,
+    journal: &Kept,
+    stream: &mut Counted<Tape<'_>>,
+) -> StreamEnd
+    requires { stream.old.faults ≡ 0 }
+{
     let peer = Peer {
         may_update: may,
         may_transfer: may,
         stream: true,
     };
-    let journal = Kept::new(alloc);
-    let from = "192.0.2.7:4711".parse::<SocketAddr>()?;
-    let mut asked = Asked::new(alloc, server, reader, &journal, peer, from);
-    let mut stream = Counted::new(Tape {
-        input: Cursor::new(input.as_slice()),
-        output: Vec::new(alloc),
-        room,
-    });
-    let mut request = vec![in alloc; 0u8; 65_535]?;
-    let mut out = vec![in alloc; 0u8; 65_535]?;
-    let mut frame = vec![in alloc; 0u8; 65_537]?;
-    let ended = serve_stream(
+    let mut asked = Asked::new(alloc, server, reader, journal, peer, asker(4711));
+    let mut request = [0u8; 65_535];
+    let mut out = [0u8; 65_535];
+    let mut frame = [0u8; 65_537];
+    serve_stream(
         rt,
         &mut asked,
-        &mut stream,
+        stream,
         &OpenGate,
         &mut request,
         &mut out,
         &mut frame,
-    );
-    let ended = format!(in alloc; "{ended:?}")?;
-    assert_eq!(rt; ended.as_str(), end, "{what}");
-    let lines = journal.lines(rt, alloc)?;
-    assert_eq!(rt; lines.as_str(), told, "{what}");
-    let output = stream.inner.output.as_slice();
-    if wanted.contains(':') {
-        assert_eq!(rt; messages_told(alloc, output)?.as_str(), wanted, "{what}");
-        return Ok(());
-    }
-    assert_eq!(rt; output, octets_of(alloc, wanted)?.as_slice(), "{what}");
-    Ok(())
+    )
 }
 
-/// Serves the stream of a row by a server of its own; nine versions are too many for it.
-fn serve_alone<R: Wait + Abort, Z: FirstZone>(
+/// Whether what is written is a row's: its octets, or its messages where they are told.
+fn is_written(alloc: Global, written: &[u8], wanted: &str) -> Option<bool> {
+    if wanted.contains(':') {
+        return are_messages(written, wanted);
+    }
+    Some(written == octets_of(alloc, wanted)?.as_slice())
+}
+
+/// Whether a row's stream ends as the row says, and what is written and what the journal is told are the row's.
+pub(crate) fn is_served<R: Wait, Z: FirstZone>(
     rt: &R,
     alloc: Global,
-    cell: &VersionCell<Z>,
-    publisher: VersionPublisher<Z>,
-    owned: VersionReader<Z>,
+    server: &Server<'_, Z>,
     reader: &mut VersionReader<Z>,
     row: &str,
-) -> Result<(), Fail>
-    requires { publisher.number ≡ 0 }
-{
-    let NoEngine {
-        fault,
-        publisher,
-        reader: owned,
-    } = match Server::new(rt, cell, publisher, owned, 9) {
-        Ok(_) => return Err("nine versions are too many".into()),
-        Err(refused) => refused,
-    };
-    assert_eq!(rt; fault, EngineFault::TooGreat);
-    let Ok(server) = Server::new(rt, cell, publisher, owned, 8) else {
-        return Err("no server".into());
-    };
-    if row.starts_with("datagrams ") {
-        return serve_tray(rt, alloc, &server, reader, row);
+) -> Option<bool> {
+    let (row, told) = row.split_once('|').unwrap_or((row, ""));
+    let mut words = row.splitn(6, ' ');
+    let may = words.next()? == "may";
+    let room = words.next()?.parse::<usize>().ok()?;
+    let end = words.next()?;
+    let input = octets_of(alloc, words.next()?)?;
+    let mut stream = Counted::new(Tape::new(alloc, &input, room));
+    let journal = Kept::new(alloc);
+    let ended = serve(rt, alloc, server, reader, may, &journal, &mut stream);
+    let is_right = is_end(ended, end) && journal.has(rt, told);
+    let written = is_written(alloc, stream.inner.output(), words.next()?)?;
+    Some(is_right && written)
+}
+
+/// The first row whose stream goes otherwise, over the zone anew; None where there is none.
+fn first_wrong<R: Wait + Threads + Sync>(
+    rt: &R,
+    alloc: Global,
+    rows: &'static str,
+) -> Option<&'static str> {
+    for row in rows.lines() {
+        let Some(zone) = zone(alloc) else {
+            return Some(row);
+        };
+        if is_played(rt, alloc, zone, Play::Stream(row)) != Some(true) {
+            return Some(row);
+        }
     }
-    serve_row(rt, alloc, &server, reader, row)
-}
-
-/// Serves the stream of a row over the zone anew.
-fn play<R: Wait + Abort, Z: FirstZone>(
-    rt: &R,
-    alloc: Global,
-    zone: Zone,
-    row: &[u8],
-) -> Result<(), Fail>
-    requires { zone ≡ Z.zone }
-{
-    let Parts {
-        cell,
-        publisher,
-        mut readers,
-    } = Cell::new(rt, alloc, 2, Version::first(zone))?;
-    let owned = readers.pop().ok_or("no reader")?;
-    let mut reader = readers.pop().ok_or("no reader")?;
-    let row = std::str::from_utf8(row)?;
-    serve_alone::<R, Z>(rt, alloc, &cell, publisher, owned, &mut reader, row)
-}
-
-/// Serves the stream of a row over a zone, by a cell of its own.
-pub(crate) fn serve_anew<R: Wait + Abort>(
-    rt: &R,
-    alloc: Global,
-    zone: Zone,
-    row: &str,
-) -> Result<(), Fail> {
-    play::<R, Brand>(rt, alloc, zone, row.as_bytes())
+    None
 }
 
 // Updates, queries and transfers on a stream, in their order, and how it ends (RFC 1035, 4.2.2; RFC 1995, 4; RFC 2136, 3;
 // RFC 5936, 2.2).
 #[test]
-fn streams(rt: HostRuntime) -> Result<(), Fail> {
-    for row in STREAMS.lines() {
-        serve_anew(&rt, rt.alloc(), zone(rt.alloc())?, row)?;
-    }
-    serve_anew(&rt, rt.alloc(), long_zone(rt.alloc())?, LONG)
+fn streams(rt: HostRuntime) {
+    assert_eq!(rt; first_wrong(&rt, rt.alloc(), STREAMS), None);
+}
+
+// A transfer of two messages (RFC 5936, 2.2).
+#[test]
+fn transfer_of_two_messages(rt: HostRuntime) {
+    let zone = long_zone(rt.alloc()).expect(&rt, "a zone");
+    assert!(rt; is_played(&rt, rt.alloc(), zone, Play::Stream(LONG)) == Some(true));
 }

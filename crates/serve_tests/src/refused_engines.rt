@@ -1,17 +1,16 @@
 //! An engine whose memory is refused: what was published last stays, and the same call made anew succeeds.
 ghost use Rattle.std.specs.Prelude.{◌≡◌};
 
-use crate::fault::NoEngine;
-use crate::tests::{small_zone, update_of};
-use crate::{Engine, FirstZone, VersionCell, VersionPublisher, VersionReader};
+use crate::cells::{Play, is_played};
+use crate::engines::{small_zone, update_of};
+use dns_engine::{Engine, FirstZone, NoEngine, VersionCell, VersionPublisher, VersionReader};
 use dns_message::Update;
 use dns_rdata::{Rcode, Serial};
-use snapshot_cell::{Cell, Parts};
 use std::alloc::Global;
-use std::marker::Brand;
 use std::sync::Wait;
+use std::thread::Threads;
 use transfer_core::ChainView;
-use zone_tree::{Version, Zone};
+use zone_tree::Zone;
 
 /// The zone, made anew where memory is refused.
 fn zone_anew(alloc: Global) -> Option<Zone> {
@@ -57,65 +56,55 @@ fn tells_the_change<'a, Z: FirstZone>(engine: &Engine<'a, Z>, cell: &'a VersionC
     newest.last().number() == 1 && newest.chain(Some(Serial(1))).is_whole()
 }
 
-/// Whether an engine that is made of these publishes the update.
-fn publishes<'a, R: Wait, Z: FirstZone>(
+/// The engine of a cell that keeps two versions, made anew where memory is refused.
+fn engine_anew<'a, R: Wait, Z: FirstZone>(
     rt: &R,
-    alloc: Global,
     cell: &'a VersionCell<Z>,
     publisher: VersionPublisher<Z>,
     reader: VersionReader<Z>,
-) -> bool
+) -> Option<Engine<'a, Z>>
     requires { publisher.number ≡ 0 }
 {
-    let made = match Engine::new(rt, cell, publisher, reader, 2) {
-        Ok(engine) => Ok(engine),
+    match Engine::new(rt, cell, publisher, reader, 2) {
+        Ok(engine) => Some(engine),
         Err(
             NoEngine {
                 publisher,
                 reader,
                 ..
             },
-        ) => Engine::new(rt, cell, publisher, reader, 2),
-    };
-    let (Ok(mut engine), Some(update)) = (made, update_anew(alloc)) else {
-        return false;
-    };
-    sent_anew(rt, alloc, cell, &mut engine, &update) == Rcode::NoError
-        && engine.number() == 1
-        && tells_the_change(&engine, cell)
+        ) => Engine::new(rt, cell, publisher, reader, 2).ok(),
+    }
 }
 
-/// Whether the update is published in a cell that begins with a zone; None where there is no memory for the cell.
-fn plays<R: Wait, Z: FirstZone>(rt: &R, alloc: Global, zone: Zone) -> Option<bool>
-    requires { zone ≡ Z.zone }
+/// Whether an engine that is made of these publishes the update.
+pub(crate) fn is_published<'a, R: Wait, Z: FirstZone>(
+    rt: &R,
+    alloc: Global,
+    cell: &'a VersionCell<Z>,
+    publisher: VersionPublisher<Z>,
+    reader: VersionReader<Z>,
+) -> Option<bool>
+    requires { publisher.number ≡ 0 }
 {
-    let Ok(
-        Parts {
-            cell,
-            publisher,
-            mut readers,
-        },
-    ) = Cell::new(rt, alloc, 2, Version::first(zone))
-    else {
-        return None;
-    };
-    let reader = readers.pop()?;
-    let is_published = publishes::<R, Z>(rt, alloc, &cell, publisher, reader);
-    Some(is_published)
+    let update = update_anew(alloc)?;
+    let mut engine = engine_anew(rt, cell, publisher, reader)?;
+    let code = sent_anew(rt, alloc, cell, &mut engine, &update);
+    Some(code == Rcode::NoError && engine.number() == 1 && tells_the_change(&engine, cell))
 }
 
 /// Whether the update is published in a cell of its own; None where there is no memory for the zone or the cell.
-fn is_published<R: Wait>(rt: &R, alloc: Global) -> Option<bool> {
+fn is_published_anew<R: Wait + Threads + Sync>(rt: &R, alloc: Global) -> Option<bool> {
     let zone = zone_anew(alloc)?;
-    plays::<R, Brand>(rt, alloc, zone)
+    is_played(rt, alloc, zone, Play::UpdateAnew)
 }
 
 // With any one growth refused, the version published last stays, and the same update makes the next one once it is sent anew.
 #[test]
 fn refused_growth(rt: HostRuntime) {
-    let told = match is_published(&rt, rt.alloc()) {
+    let told = match is_published_anew(&rt, rt.alloc()) {
         Some(told) => Some(told),
-        None => is_published(&rt, rt.alloc()),
+        None => is_published_anew(&rt, rt.alloc()),
     };
     assert!(rt; told == Some(true));
 }
