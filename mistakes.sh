@@ -1,6 +1,7 @@
 #!/usr/bin/env bash
 # Tries the edits of crates/NAME/mistakes/, each a believable mistake in the crate's code, which the prover must refuse, and those of
-# crates/NAME/mistakes/by_test/, which no contract meets, so that one of the crate's tests must fail; of the crates given, else of all.
+# crates/NAME/mistakes/by_test/, which no contract meets, so that a test must fail in one of the crates of tests that use the crate;
+# of the crates given, else of all.
 # It works in a copy of the repository, prints a line an edit, and last how many were refused; its status is 1 where one wasn't.
 # Usage: ./mistakes.sh [NAME ..], or make mistakes [CRATE="NAME .."]. It needs python3.
 set -euo pipefail
@@ -36,15 +37,26 @@ open(path, "w", encoding="utf-8").write(text)
 end
 }
 
-# tries an edit of a crate by its tests: one of them must fail, and the edited crate must compile
+# the crates of tests whose line in crates.txt names a crate
+tests_of() {
+    sed -nE "s/^(\w+_tests)( [^:]*)?:(.* )?$1( .*)?\$/\1/p" crates.txt
+}
+
+# tries an edit of a crate by the tests of other crates: one of them must fail, and the edited crate must compile
 try_by_test() {
-    local name=$1 edit=$2 label said=
+    local name=$1 edit=$2 label said='' status='NOT REFUSED' tests
     label="by_test $name/$(basename "$edit")"
     cp -a "crates/$name/src" "$room/src"
-    if (cd "crates/$name" && make_edit "$edit") && said=$(cd "crates/$name" && rt try --test 2>&1 || true) && [[ $said == *'test result: FAILED'* ]]; then
-        echo "$label: refused, as it must be" | tee -a by_test.tried
+    if (cd "crates/$name" && make_edit "$edit"); then
+        for tests in $(tests_of "$name"); do
+            said=$(cd "crates/$tests" && rt try --test 2>&1 || true)
+            [[ $said != *'test result: FAILED'* ]] || { status='refused, as it must be' && break; }
+        done
+    fi
+    if [ "$status" = 'NOT REFUSED' ]; then
+        printf '%s: %s\n%s\n' "$label" "$status" "$(tail -5 <<<"$said")"
     else
-        printf '%s: NOT REFUSED\n%s\n' "$label" "$(tail -5 <<<"$said")"
+        echo "$label: $status" | tee -a by_test.tried
     fi
     rm -rf "crates/$name/src"
     mv "$room/src" "crates/$name/src"

@@ -21,8 +21,3 @@ pub use owners::KEPT;
 pub use versions::{
     FirstZone, VersionCell, VersionOwner, VersionPublisher, VersionReader, ZoneVersions,
 };
-
-#[cfg(test)]
-mod refused_tests;
-#[cfg(test)]
-mod tests;

@@ -20,10 +20,3 @@ pub use reply::write_bare;
 pub use served::{Served, respond};
 pub use transfer::{is_permitted, respond_to, respond_to_peer, transfer_reply};
 pub use transport::{TCP_LIMIT, Transport, UDP_LIMIT};
-
-#[cfg(test)]
-mod chain_tests;
-#[cfg(test)]
-mod tests;
-#[cfg(test)]
-mod transfer_tests;

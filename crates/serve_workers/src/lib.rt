@@ -40,12 +40,3 @@ pub use tcp::TcpJob;
 pub use turn::Broken;
 pub use udp::{DatagramsEnd, UdpJob, serve_udp};
 pub use workers::{Job, NotStarted, run_workers};
-
-#[cfg(test)]
-mod gate_tests;
-#[cfg(test)]
-mod journal_tests;
-#[cfg(test)]
-mod tests;
-#[cfg(test)]
-mod udp_tests;

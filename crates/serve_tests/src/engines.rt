@@ -1,0 +1,135 @@
+//! Updates of a small zone, published (RFC 2136, 3).
+ghost use Rattle.std.specs.Prelude.{◌≡◌};
+
+use crate::cells::{Play, is_played};
+use crate::made::{octets_of, zone_of};
+use dns_engine::{
+    Engine, EngineFault, FirstZone, NoEngine, VersionCell, VersionPublisher, VersionReader,
+};
+use dns_message::{Parsed, Update, parse};
+use dns_rdata::Rcode;
+use std::alloc::Global;
+use std::sync::Wait;
+use zone_tree::Zone;
+
+/// A zone of an SOA of serial 1, and of an NS.
+const ZONE: &str = "\
+example.test. 2 036e7331076578616d706c65047465737400\n\
+example.test. 6 00000000000100001c2000000384001275000000012c\n";
+
+/// An update of `example.test.` (RFC 2136, 2) that adds an address of 192.0.2.0/24 at `new`, but for the address's last octet.
+const UPDATE: &str =
+    "432128000001000000010000076578616d706c6504746573740000060001036e6577c00c0001000100000e100004c00002";
+
+/// The zone; None where memory is refused.
+pub(crate) fn small_zone(alloc: Global) -> Option<Zone> {
+    zone_of(alloc, ZONE)
+}
+
+/// The update that adds the address of this last octet; None where memory is refused.
+pub(crate) fn update_of(alloc: Global, last: u8) -> Option<Update> {
+    let mut octets = octets_of(alloc, UPDATE)?;
+    octets.push(last).ok()?;
+    match parse(alloc, &octets) {
+        Parsed::Update(update) => Some(update),
+        _ => None,
+    }
+}
+
+/// An update by the last octet of its address and by whether the peer may update, and what stands behind it.
+#[derive(Clone, Copy)]
+struct Row {
+    last: u8,
+    may: bool,
+    code: Rcode,
+    number: u64,
+    serial: u32,
+}
+
+/// A row of an update that is permitted.
+const fn taken(last: u8, number: u64, serial: u32) -> Row {
+    Row {
+        last,
+        may: true,
+        code: Rcode::NoError,
+        number,
+        serial,
+    }
+}
+
+/// Whether an update gets its row's code, behind which its row's number and serial stand.
+fn is_told<'a, R: Wait, Z: FirstZone>(
+    rt: &R,
+    alloc: Global,
+    cell: &'a VersionCell<Z>,
+    engine: &mut Engine<'a, Z>,
+    row: Row,
+) -> bool {
+    let Some(update) = update_of(alloc, row.last) else {
+        return false;
+    };
+    engine.update(rt, alloc, cell, &update, row.may) == row.code
+        && engine.number() == row.number
+        && engine.last().serial().0 == row.serial
+}
+
+/// The engine of a cell that keeps two versions. One that should keep nine is refused.
+fn engine_of<'a, R: Wait, Z: FirstZone>(
+    rt: &R,
+    cell: &'a VersionCell<Z>,
+    publisher: VersionPublisher<Z>,
+    reader: VersionReader<Z>,
+) -> Option<Engine<'a, Z>>
+    requires { publisher.number ≡ 0 }
+{
+    match Engine::new(rt, cell, publisher, reader, 9) {
+        Err(
+            NoEngine {
+                fault: EngineFault::TooGreat,
+                publisher,
+                reader,
+            },
+        ) => Engine::new(rt, cell, publisher, reader, 2).ok(),
+        _ => None,
+    }
+}
+
+/// Whether an engine that is made of these publishes updates: one makes a version, is refused, or changes nothing.
+pub(crate) fn are_published<'a, R: Wait, Z: FirstZone>(
+    rt: &R,
+    alloc: Global,
+    cell: &'a VersionCell<Z>,
+    publisher: VersionPublisher<Z>,
+    reader: VersionReader<Z>,
+) -> Option<bool>
+    requires { publisher.number ≡ 0 }
+{
+    let mut engine = engine_of(rt, cell, publisher, reader)?;
+    let refused = Row {
+        last: 78,
+        may: false,
+        code: Rcode::Refused,
+        number: 1,
+        serial: 2,
+    };
+    let rows = [
+        taken(77, 1, 2),
+        taken(77, 1, 2),
+        refused,
+        taken(78, 2, 3),
+        taken(79, 3, 4),
+        taken(80, 4, 5),
+    ];
+    for row in rows {
+        if !is_told(rt, alloc, cell, &mut engine, row) {
+            return Some(false);
+        }
+    }
+    Some(true)
+}
+
+#[test]
+fn updates_are_published(rt: HostRuntime) {
+    let zone = small_zone(rt.alloc()).expect(&rt, "a zone");
+    assert!(rt; is_played(&rt, rt.alloc(), zone, Play::Updates) == Some(true));
+}

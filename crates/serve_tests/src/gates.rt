@@ -1,0 +1,142 @@
+//! Two workers, of which one waits in the gate for the other.
+use crate::cells::{Play, is_played};
+use crate::made::octets_of;
+use crate::streams::{Tape, zone};
+use dns_engine::{FirstZone, VersionReader};
+use serve_workers::{
+    Answering, Counted, Gate, Job, Journal, NoJournal, Server, run_workers, serve_stream,
+};
+use std::alloc::Global;
+use std::sync::Wait;
+use std::sync::atomic::{AtomicU64, Ordering};
+use std::thread::{self, Threads};
+
+/// The query for www.example.test., type A, and its reply, each in a frame.
+const QUERY: &str = "002212340100000100000000000003777777076578616d706c6504746573740000010001";
+
+const REPLY: &str =
+    "004412348500000100020000000003777777076578616d706c6504746573740000010001c00c0005000100000e10000603776562c010c02e0001000100000e100004c000020a";
+
+/// After how many turns the first call gives up.
+const TURNS: u64 = 10_000_000;
+
+/// A gate that holds the call that enters first until another one leaves.
+#[derive(Drop)]
+struct HoldingGate {
+    entered: AtomicU64,
+    left: AtomicU64,
+    gave_up: AtomicU64,
+}
+
+impl Gate for HoldingGate {
+    fn enter(&self) {
+        if self.entered.fetch_add(1, Ordering::SeqCst) != 0 {
+            return;
+        }
+        for _ in 0..TURNS {
+            if self.left.load(Ordering::SeqCst) != 0 {
+                return;
+            }
+            thread::yield_now();
+        }
+        self.gave_up.store(1, Ordering::SeqCst);
+    }
+
+    fn leave(&self) {
+        self.left.fetch_add(1, Ordering::SeqCst);
+    }
+}
+
+impl HoldingGate {
+    /// A gate that nobody has entered.
+    fn new() -> HoldingGate {
+        HoldingGate {
+            entered: AtomicU64::new(0),
+            left: AtomicU64::new(0),
+            gave_up: AtomicU64::new(0),
+        }
+    }
+
+    /// Whether nobody gave up.
+    fn is_well(&self) -> bool {
+        self.gave_up.load(Ordering::SeqCst) == 0
+    }
+}
+
+/// The job of one stream.
+#[derive(Drop)]
+struct TapeJob<'a> {
+    stream: Counted<Tape<'a>>,
+}
+
+impl Job for TapeJob<'_> {
+    fn run<R: Wait, A: Answering, G: Gate, L: Journal>(
+        &mut self,
+        rt: &R,
+        answering: &mut A,
+        gate: &G,
+        _journal: &L,
+    ) {
+        if self.stream.faults != 0 {
+            return;
+        }
+        let mut request = [0u8; 65_535];
+        let mut reply = [0u8; 65_535];
+        let mut frame = [0u8; 65_537];
+        let _ = serve_stream(
+            rt,
+            answering,
+            &mut self.stream,
+            gate,
+            &mut request,
+            &mut reply,
+            &mut frame,
+        );
+    }
+}
+
+/// A job for each reader, on a stream of these octets.
+fn jobs_of<'a, Z: FirstZone>(
+    alloc: Global,
+    readers: Vec<VersionReader<Z>>,
+    octets: &'a [u8],
+) -> Option<Vec<(VersionReader<Z>, TapeJob<'a>)>> {
+    let mut pairs = Vec::new(alloc);
+    for reader in readers {
+        let stream = Counted::new(Tape::new(alloc, octets, 9999));
+        pairs.push((reader, TapeJob { stream })).ok()?;
+    }
+    Some(pairs)
+}
+
+/// Whether two streams were served, each with this written on it.
+fn are_written<Z: FirstZone>(pairs: &[(VersionReader<Z>, TapeJob<'_>)], written: &[u8]) -> bool {
+    for (_, job) in pairs {
+        if job.stream.inner.output() != written {
+            return false;
+        }
+    }
+    pairs.len() == 2
+}
+
+/// Whether two streams are served by two workers, of which the first to be asked waits for the other.
+pub(crate) fn are_served<R: Wait + Threads + Sync, Z: FirstZone + Send + Sync>(
+    rt: &R,
+    alloc: Global,
+    server: &Server<'_, Z>,
+    readers: Vec<VersionReader<Z>>,
+) -> Option<bool> {
+    let query = octets_of(alloc, QUERY)?;
+    let pairs = jobs_of(alloc, readers, &query)?;
+    let gate = HoldingGate::new();
+    let pairs = run_workers(rt, alloc, server, pairs, &gate, &NoJournal).ok()?;
+    let reply = octets_of(alloc, REPLY)?;
+    Some(gate.is_well() && are_written(&pairs, &reply))
+}
+
+// The first call waits in the gate until the second one has been answered, so each worker has a thread of its own.
+#[test]
+fn gate_two_workers(rt: HostRuntime) {
+    let zone = zone(rt.alloc()).expect(&rt, "a zone");
+    assert!(rt; is_played(&rt, rt.alloc(), zone, Play::Workers) == Some(true));
+}

@@ -1,0 +1,110 @@
+//! An engine whose memory is refused: what was published last stays, and the same call made anew succeeds.
+ghost use Rattle.std.specs.Prelude.{◌≡◌};
+
+use crate::cells::{Play, is_played};
+use crate::engines::{small_zone, update_of};
+use dns_engine::{Engine, FirstZone, NoEngine, VersionCell, VersionPublisher, VersionReader};
+use dns_message::Update;
+use dns_rdata::{Rcode, Serial};
+use std::alloc::Global;
+use std::sync::Wait;
+use std::thread::Threads;
+use transfer_core::ChainView;
+use zone_tree::Zone;
+
+/// The zone, made anew where memory is refused.
+fn zone_anew(alloc: Global) -> Option<Zone> {
+    match small_zone(alloc) {
+        Some(zone) => Some(zone),
+        None => small_zone(alloc),
+    }
+}
+
+/// The update, likewise.
+fn update_anew(alloc: Global) -> Option<Update> {
+    match update_of(alloc, 77) {
+        Some(update) => Some(update),
+        None => update_of(alloc, 77),
+    }
+}
+
+/// The code of an update, or, where it is SERVFAIL and the version published last is still the first, that of the same update sent
+/// anew.
+fn sent_anew<'a, R: Wait, Z: FirstZone>(
+    rt: &R,
+    alloc: Global,
+    cell: &'a VersionCell<Z>,
+    engine: &mut Engine<'a, Z>,
+    update: &Update,
+) -> Rcode {
+    let code = engine.update(rt, alloc, cell, update, true);
+    if code == Rcode::ServFail && engine.number() == 0 && engine.last().serial().0 == 1 {
+        return engine.update(rt, alloc, cell, update, true);
+    }
+    code
+}
+
+/// Whether the versions that the engine keeps tell what changed since the first; asked once more where they can't be owned.
+fn tells_the_change<'a, Z: FirstZone>(engine: &Engine<'a, Z>, cell: &'a VersionCell<Z>) -> bool {
+    let newest = match engine.newest(cell) {
+        Ok(newest) => newest,
+        Err(_) => match engine.newest(cell) {
+            Ok(newest) => newest,
+            Err(_) => return false,
+        },
+    };
+    newest.last().number() == 1 && newest.chain(Some(Serial(1))).is_whole()
+}
+
+/// The engine of a cell that keeps two versions, made anew where memory is refused.
+fn engine_anew<'a, R: Wait, Z: FirstZone>(
+    rt: &R,
+    cell: &'a VersionCell<Z>,
+    publisher: VersionPublisher<Z>,
+    reader: VersionReader<Z>,
+) -> Option<Engine<'a, Z>>
+    requires { publisher.number ≡ 0 }
+{
+    match Engine::new(rt, cell, publisher, reader, 2) {
+        Ok(engine) => Some(engine),
+        Err(
+            NoEngine {
+                publisher,
+                reader,
+                ..
+            },
+        ) => Engine::new(rt, cell, publisher, reader, 2).ok(),
+    }
+}
+
+/// Whether an engine that is made of these publishes the update.
+pub(crate) fn is_published<'a, R: Wait, Z: FirstZone>(
+    rt: &R,
+    alloc: Global,
+    cell: &'a VersionCell<Z>,
+    publisher: VersionPublisher<Z>,
+    reader: VersionReader<Z>,
+) -> Option<bool>
+    requires { publisher.number ≡ 0 }
+{
+    let update = update_anew(alloc)?;
+    let mut engine = engine_anew(rt, cell, publisher, reader)?;
+    let code = sent_anew(rt, alloc, cell, &mut engine, &update);
+    Some(code == Rcode::NoError && engine.number() == 1 && tells_the_change(&engine, cell))
+}
+
+/// Whether the update is published in a cell of its own; None where there is no memory for the zone or the cell.
+fn is_published_anew<R: Wait + Threads + Sync>(rt: &R, alloc: Global) -> Option<bool> {
+    let zone = zone_anew(alloc)?;
+    is_played(rt, alloc, zone, Play::UpdateAnew)
+}
+
+// With any one growth refused, the version published last stays, and the same update makes the next one once it is sent anew.
+#[test]
+fn refused_growth(rt: HostRuntime) {
+    let told = match is_published_anew(&rt, rt.alloc()) {
+        Some(told) => Some(told),
+        None => is_published_anew(&rt, rt.alloc()),
+    };
+    assert!(rt; told == Some(true));
+}

@@ -1,0 +1,317 @@
+//! Zones that changes make, beside a plain list of sets that the same changes are made of.
+ghost use Rattle.std.specs.Prelude.{◌≡◌, ◌++◌, filter, IfOk, OnOk, IfSome};
+ghost use Rattle.std.specs.Option.{option_copied, option_to_list};
+ghost use Rattle.std.specs.Ordering.{is_lt, is_gt};
+ghost use Rattle.zone_tree.specs.Change.{changed, edited};
+ghost use Rattle.zone_tree.specs.Edit.{put_at, set_beside};
+ghost use Rattle.zone_tree.specs.Sets.{records_in, IsRRset, AreAscending};
+ghost use Rattle.zone_tree.specs.Zone.{KeepsRules};
+
+use crate::made::{data_of, is_printed, name, set_of, twice, walks};
+use dns_name::Name;
+use dns_rdata::{RRset, RType, Ttl};
+use std::alloc::{AllocError, Global};
+use std::cmp::Ordering;
+use zone_tree::{Change, NewFault, Zone, ZoneFault, ZoneRead, edit};
+
+/// Where a set stands beside an owner and a type.
+fn beside(set: &RRset, owner: &Name, rtype: RType) -> Ordering
+    ensures { result ≡ set_beside owner.now rtype.0 set.now }
+{
+    set.stored_owner()
+        .order(owner)
+        .then(set.rtype().cmp(&rtype))
+}
+
+/// Copies of the sets that come before an owner and a type, behind others.
+fn put_before(
+    alloc: Global,
+    to: &mut Vec<RRset>,
+    sets: &[RRset],
+    owner: &Name,
+    rtype: RType,
+) -> Result<(), AllocError>
+    ensures { OnOk result (to.new.items ≡ to.old.items ++ filter (λ set. is_lt (set_beside owner.now rtype.0 set)) sets.now) }
+{
+    for set in sets {
+        if beside(set, owner, rtype).is_lt() {
+            to.push(set.copy(alloc)?)?;
+        }
+    }
+    Ok(())
+}
+
+/// Copies of the sets that come behind an owner and a type, behind others.
+fn put_after(
+    alloc: Global,
+    to: &mut Vec<RRset>,
+    sets: &[RRset],
+    owner: &Name,
+    rtype: RType,
+) -> Result<(), AllocError>
+    ensures { OnOk result (to.new.items ≡ to.old.items ++ filter (λ set. is_gt (set_beside owner.now rtype.0 set)) sets.now) }
+{
+    for set in sets {
+        if beside(set, owner, rtype).is_gt() {
+            to.push(set.copy(alloc)?)?;
+        }
+    }
+    Ok(())
+}
+
+/// How many records a set has.
+fn len_of(set: &RRset) -> usize
+    ensures { IsRRset set.now }
+{
+    set.data().len()
+}
+
+/// How many records a set has; 0 where there is none.
+fn count_of(set: Option<&RRset>) -> usize
+    ensures { IfSome (option_copied set.entry) IsRRset }
+{
+    match set {
+        Some(set) => len_of(set),
+        None => 0,
+    }
+}
+
+/// A plain list with a set, or none, in place of that of an owner and a type.
+fn put_plainly(
+    alloc: Global,
+    sets: &[RRset],
+    owner: &Name,
+    rtype: RType,
+    new: Option<&RRset>,
+) -> Result<Vec<RRset>, AllocError>
+    ensures lawful { IfSome (option_copied new.entry) IsRRset }
+    ensures sets { IfOk result (λ next. next.items ≡ put_at (set_beside owner.now rtype.0) (option_to_list (option_copied new.entry)) sets.now) }
+{
+    let mut next = Vec::with_capacity(alloc, count_of(new))?;
+    put_before(alloc, &mut next, sets, owner, rtype)?;
+    if let Some(set) = new {
+        next.push(set.copy(alloc)?)?;
+    }
+    put_after(alloc, &mut next, sets, owner, rtype)?;
+    Ok(next)
+}
+
+/// What a change makes of a plain list.
+fn changed_plainly(alloc: Global, sets: &[RRset], change: &Change) -> Result<Vec<RRset>, AllocError>
+    requires { AreAscending sets.now }
+    ensures ascending { IfOk result (λ next. AreAscending next.items) }
+    ensures records { IfOk result (λ next. records_in next.items ≡ changed (records_in sets.now) change.now) }
+{
+    match change {
+        Change::Put(set) => put_plainly(alloc, sets, &set.owner(), set.rtype(), Some(set)),
+        Change::Remove(owner, rtype) => put_plainly(alloc, sets, owner, *rtype, None),
+    }
+}
+
+/// What changes make of a plain list.
+fn edited_plainly(
+    alloc: Global,
+    sets: Vec<RRset>,
+    changes: &[Change],
+) -> Result<Vec<RRset>, AllocError>
+    requires { AreAscending sets.items }
+    ensures ascending { IfOk result (λ next. AreAscending next.items) }
+    ensures records { IfOk result (λ next. records_in next.items ≡ edited (records_in sets.items) changes.now) }
+{
+    let mut sets = sets;
+    for change in changes {
+        sets = changed_plainly(alloc, &sets, change)?;
+    }
+    Ok(sets)
+}
+
+/// What changes make of no set.
+fn listed(alloc: Global, changes: &[Change]) -> Result<Vec<RRset>, AllocError>
+    ensures { IfOk result (λ sets. AreAscending sets.items) }
+{
+    edited_plainly(alloc, Vec::new(alloc), changes)
+}
+
+/// A list of these sets once more.
+fn copies(alloc: Global, sets: &[RRset]) -> Result<Vec<RRset>, AllocError>
+    ensures { IfOk result (λ next. next.items ≡ sets.now) }
+{
+    let mut next = Vec::with_capacity(alloc, sets.len())?;
+    for set in sets {
+        next.push(set.copy(alloc)?)?;
+    }
+    Ok(next)
+}
+
+/// What changes make of a zone, asked for once more where memory is refused.
+fn edit_anew(alloc: Global, zone: &Zone, changes: &[Change]) -> Option<Zone>
+    requires { KeepsRules (edited zone.now changes.now) }
+{
+    match edit(alloc, zone, changes) {
+        Ok(next) => Some(next),
+        Err(_) => edit(alloc, zone, changes).ok(),
+    }
+}
+
+/// That changes make a zone of the plain list of these sets, where they do.
+fn keep_rules(alloc: Global, sets: &[RRset], changes: &[Change]) -> Result<(), NewFault>
+    requires { AreAscending sets.now }
+    ensures { OnOk result (KeepsRules (edited (records_in sets.now) changes.now)) }
+{
+    let plain = edited_plainly(alloc, copies(alloc, sets)?, changes)?;
+    let _ = Zone::new(alloc, plain)?;
+    Ok(())
+}
+
+/// A zone and what changes make of it.
+#[derive(Drop)]
+struct Edited {
+    zone: Zone,
+    new: Zone,
+}
+
+/// The zone of these sets, and what changes make of it, where they make a zone of the plain list.
+fn edit_of(alloc: Global, sets: &[RRset], changes: &[Change]) -> Result<Edited, NewFault>
+    requires { AreAscending sets.now }
+{
+    keep_rules(alloc, sets, changes)?;
+    let zone = Zone::new(alloc, copies(alloc, sets)?)?;
+    let new = edit_anew(alloc, &zone, changes).ok_or(NewFault::NoMemory)?;
+    Ok(Edited { zone, new })
+}
+
+/// The changes of steps, with commas between them: a row held or put, or one removed; None where memory is refused.
+fn changes_of(alloc: Global, steps: &str) -> Option<Vec<Change>> {
+    let mut changes = Vec::new(alloc);
+    for step in steps.split_terminator(", ") {
+        changes.push(change_of(alloc, step)?).ok()?;
+    }
+    Some(changes)
+}
+
+/// The change of a step; None where memory is refused.
+fn change_of(alloc: Global, step: &str) -> Option<Change> {
+    let (verb, row) = step.split_once(' ')?;
+    match verb {
+        "hold" => Some(Change::Put(set_of(alloc, row, Ttl(3600))?)),
+        "put" => Some(Change::Put(set_of(alloc, row, Ttl(60))?)),
+        _ => removal(row),
+    }
+}
+
+/// The change that takes a row away.
+fn removal(row: &str) -> Option<Change> {
+    let (owner, word) = row.split_once(' ')?;
+    let (rtype, _) = data_of(word)?;
+    Some(Change::Remove(name(owner)?, rtype))
+}
+
+/// The zone that all cases begin with, and the steps that make its list.
+const ROWS: &str = "@ NS, @ SOA, a A, a TXT, x.sub TXT";
+
+const HELD: &str = "hold @ NS, hold @ SOA, hold a A, hold a TXT, hold x.sub TXT";
+
+/// Steps, and the rows of the zone that they make: a set of another type between two, of another owner, and in place of one; one of
+/// two sets removed, the last one of an owner, and one that isn't there; an alias that stands beside other data on the way;
+/// and an SOA and an NS that move down.
+const CASES: &str = "\
+put a MX: @ NS, @ SOA, a A, a MX, a TXT, x.sub TXT\n\
+put sub A: @ NS, @ SOA, a A, a TXT, sub A, x.sub TXT\n\
+put a TXT: @ NS, @ SOA, a A, a TXT, x.sub TXT\n\
+remove A.EXAMPLE. A: @ NS, @ SOA, a TXT, x.sub TXT\n\
+remove x.sub TXT: @ NS, @ SOA, a A, a TXT\n\
+remove sub A: @ NS, @ SOA, a A, a TXT, x.sub TXT\n\
+put a CNAME, remove a A, remove a TXT: @ NS, @ SOA, a CNAME, x.sub TXT\n\
+put sub SOA, remove @ SOA, put sub NS, remove @ NS, remove a A, remove a TXT: sub NS, sub SOA, x.sub TXT\n";
+
+/// The zone that cases begin with, and what these changes make of it; None where memory is refused.
+fn edit_held(alloc: Global, changes: &[Change]) -> Option<Edited> {
+    let sets = listed(alloc, &changes_of(alloc, HELD)?).ok()?;
+    edit_of(alloc, &sets, changes).ok()
+}
+
+/// What these steps make of it; None where memory is refused.
+fn edit_by(alloc: Global, steps: &str) -> Option<Edited> {
+    edit_held(alloc, &changes_of(alloc, steps)?)
+}
+
+/// Whether the zone after steps has these rows, with its apex where its SOA stands, and the zone before is as it was.
+fn are_made(edited: &Edited, want: &str) -> Option<bool> {
+    let new = &edited.new;
+    let apex = *new.apex() == new.soa().owner();
+    Some(apex && walks(new, want)? && walks(&edited.zone, ROWS)?)
+}
+
+/// Whether the steps of a row make a zone of the rows behind them.
+fn is_made(alloc: Global, row: &str) -> Option<bool> {
+    let (steps, want) = row.split_once(": ")?;
+    are_made(&edit_by(alloc, steps)?, want)
+}
+
+#[test]
+fn zones_are_changed(rt: HostRuntime) -> Result<(), &'static str> {
+    for row in CASES.lines() {
+        if is_made(rt.alloc(), row) != Some(true) {
+            return Err(row);
+        }
+    }
+    Ok(())
+}
+
+/// Whether a name exists before steps and after them.
+fn exist(edited: &Edited, text: &str) -> Option<(bool, bool)> {
+    let name = name(text)?;
+    Some((edited.zone.exists(&name), edited.new.exists(&name)))
+}
+
+// An owner without sets is gone, and with it the empty name above it; the zone before has both (RFC 4592, 2.2.2).
+#[test]
+fn owner_without_sets_is_gone(rt: HostRuntime) -> Result<(), &'static str> {
+    let edited = edit_by(rt.alloc(), "remove x.sub TXT").ok_or("no memory")?;
+    for (text, after) in [("x.sub", false), ("sub", false), ("a", true)] {
+        if exist(&edited, text) != Some((true, after)) {
+            return Err(text);
+        }
+    }
+    Ok(())
+}
+
+/// Whether the one record of a set is this address, with the TTL of a minute.
+fn is_address(set: &RRset, octets: &[u8]) -> bool {
+    let data = set.data();
+    set.ttl() == Ttl(60) && data.len() == 1 && data[0].octets() == octets
+}
+
+/// Whether the address of `a` after a step has its own data and TTL.
+fn has_address(edited: &Edited) -> Option<bool> {
+    let set = edited.new.rrset(&name("a")?, RType::A)?;
+    Some(is_address(set, &[192, 0, 2, 9]))
+}
+
+// A set that is put has its own data and TTL in place of the old ones.
+#[test]
+fn set_that_is_put_replaces_another(rt: HostRuntime) -> Result<(), &'static str> {
+    let edited = edit_by(rt.alloc(), "put a A9").ok_or("no memory")?;
+    if has_address(&edited) != Some(true) {
+        return Err("another address");
+    }
+    Ok(())
+}
+
+// With one request for memory refused, whichever it is, the zone before is as it was, and the same changes are made anew.
+#[test]
+fn changes_anew_where_memory_is_refused(rt: HostRuntime) -> Result<(), &'static str> {
+    let steps = "put sub TXT, remove x.sub TXT, remove a A";
+    let edited = twice(|| edit_by(rt.alloc(), steps)).ok_or("no zone")?;
+    if are_made(&edited, "@ NS, @ SOA, a TXT, sub TXT") != Some(true) {
+        return Err("another zone");
+    }
+    Ok(())
+}
+
+// The printed text of each fault.
+#[test]
+fn faults_of_changes(rt: HostRuntime) {
+    assert!(rt; is_printed(rt.alloc(), &ZoneFault::NoMemory, "B1 NoMemory"));
+    assert!(rt; is_printed(rt.alloc(), &ZoneFault::Limit, "B2 Limit"));
+}

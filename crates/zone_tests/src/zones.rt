@@ -1,0 +1,162 @@
+//! A small zone through each call, and lists that are no zone.
+use crate::made::{is_printed, name, sets_of, twice, walks, zone_of};
+use dns_rdata::{RType, Serial};
+use std::alloc::Global;
+use zone_tree::{BrokenRule, Delta, NewFault, Version, Zone, ZoneRead, edit};
+
+// With one request for memory refused, whichever it is, the zone is made anew.
+#[test]
+fn is_made_anew_where_memory_is_refused(rt: HostRuntime) -> Result<(), &'static str> {
+    let rows = "@ NS, @ SOA, a TXT, b A";
+    let zone = twice(|| zone_of(rt.alloc(), rows)).ok_or("no zone")?;
+    if walks(&zone, rows) != Some(true) {
+        return Err("other sets");
+    }
+    Ok(())
+}
+
+const NAMES: &str = "@ NS, @ SOA, * MX, * TXT, sub.* TXT, a.host2 A, SUBDEL NS";
+
+/// Names of this zone, and how many sets they own; a minus sign where they don't exist.
+const OWNED: &str = "\
+example. 2\n\
+EXAMPLE. 2\n\
+. 0\n\
+* 2\n\
+sub.* 1\n\
+host1 - 0\n\
+host2 0\n\
+a.host2 1\n\
+b.host2 - 0\n\
+subdel 1\n\
+exampla. - 0\n";
+
+/// Whether a row's name exists and owns as many sets as the row says.
+fn is_owned(zone: &Zone, row: &str) -> Option<bool> {
+    let (text, owned) = row.split_once(' ')?;
+    let count = usize::from_str_radix(owned.trim_start_matches("- "), 10).ok()?;
+    let name = name(text)?;
+    let exists = !owned.starts_with('-');
+    Some(zone.exists(&name) == exists && zone.rrsets_at(&name).len() == count)
+}
+
+// Names that exist and don't, with how many sets they own (RFC 4592, 2.2.1 to 2.2.3).
+#[test]
+fn looks_up(rt: HostRuntime) -> Result<(), &'static str> {
+    let zone = zone_of(rt.alloc(), NAMES).ok_or("no zone")?;
+    for row in OWNED.lines() {
+        if is_owned(&zone, row) != Some(true) {
+            return Err(row);
+        }
+    }
+    if finds(&zone) != Some(true) {
+        return Err("sets");
+    }
+    Ok(())
+}
+
+/// Whether this zone has a wildcard's text and no address of it, its SOA and its apex, and no set that isn't a row's.
+fn finds(zone: &Zone) -> Option<bool> {
+    let wild = name("*")?;
+    let text = zone.rrset(&wild, RType::TXT)?.rtype() == RType::TXT;
+    let address = zone.rrset(&wild, RType::A).is_some();
+    let apex = zone.soa().rtype() == RType::SOA && *zone.apex() == name("example.")?;
+    Some(text && !address && apex && walks(zone, NAMES)?)
+}
+
+/// Rows that are no zone, and the rule that is told. The last breaks several: an owner outside, no NS at the apex, and an
+/// NS at an asterisk.
+const REFUSED: &str = "\
+@ SOA, @ NS: Z2 NotAscending\n\
+@ NS, @ SOA, @ SOA: Z2 NotAscending\n\
+: Z3 NoSoa\n\
+@ NS: Z3 NoSoa\n\
+@ NS, @ SOA, www SOA: Z4 SecondSoa\n\
+. NS, @ NS, @ SOA: Z5 Outside\n\
+@ SOA, www A: Z6 NoNameServer\n\
+@ NS, @ SOA, www A, www CNAME: Z7 AliasNotAlone\n\
+@ NS, @ SOA, @ CNAME: Z2 NotAscending\n\
+@ NS, @ SOA, * NS: Z8 WildCut\n\
+. A, @ SOA, * NS: Z5 Outside\n";
+
+/// Whether a row's sets are refused by the rule that it names.
+fn is_refused(alloc: Global, row: &str) -> Option<bool> {
+    let (rows, word) = row.split_once(": ")?;
+    match Zone::new(alloc, sets_of(alloc, rows)?) {
+        Ok(_zone) => Some(false),
+        Err(fault) => Some(is_printed(alloc, &fault, word)),
+    }
+}
+
+// Each rule broken, and which is told.
+#[test]
+fn refuses(rt: HostRuntime) -> Result<(), &'static str> {
+    for row in REFUSED.lines() {
+        if is_refused(rt.alloc(), row) != Some(true) {
+            return Err(row);
+        }
+    }
+    Ok(())
+}
+
+/// The version behind another, whose zone is the same; None where memory is refused.
+fn version_behind(alloc: Global, version: &Version) -> Option<Version> {
+    if version.number() > 9 {
+        return None;
+    }
+    let _soa = version.zone().soa();
+    let zone = edit(alloc, version.zone(), &[]).ok()?;
+    let delta = Delta::between(alloc, version.zone(), &zone, Vec::new(alloc)).ok()?;
+    Some(version.next(zone, delta))
+}
+
+/// How many sets a version took out and put in, and whether it has the old SOA of another; None of the first version.
+fn changed(version: &Version, before: &Version) -> Option<(usize, usize, bool)> {
+    let delta = version.delta()?;
+    let is_old = delta.old_soa().is_same(before.zone().soa());
+    Some((delta.deletions().len(), delta.additions().len(), is_old))
+}
+
+/// Whether the first version has number 0 and tells of no change, and the one behind it has number 1 and tells what it
+/// changed.
+fn tell_changes(first: &Version, second: &Version) -> bool {
+    let numbers = (first.number(), second.number()) == (0, 1);
+    let serials = first.serial() == Serial(1) && second.serial() == Serial(1);
+    let none = changed(first, first).is_none();
+    numbers && serials && none && changed(second, first) == Some((0, 0, true))
+}
+
+#[test]
+fn versions(rt: HostRuntime) -> Result<(), &'static str> {
+    let first = Version::first(zone_of(rt.alloc(), "@ NS, @ SOA").ok_or("no zone")?);
+    let second = version_behind(rt.alloc(), &first).ok_or("no memory")?;
+    if !tell_changes(&first, &second) {
+        return Err("other changes");
+    }
+    Ok(())
+}
+
+/// The rules and their words.
+const RULES: [(BrokenRule, &str); 8] = [
+    (BrokenRule::TooManyRecords, "Z1 TooManyRecords"),
+    (BrokenRule::NotAscending, "Z2 NotAscending"),
+    (BrokenRule::NoSoa, "Z3 NoSoa"),
+    (BrokenRule::SecondSoa, "Z4 SecondSoa"),
+    (BrokenRule::Outside, "Z5 Outside"),
+    (BrokenRule::NoNameServer, "Z6 NoNameServer"),
+    (BrokenRule::AliasNotAlone, "Z7 AliasNotAlone"),
+    (BrokenRule::WildCut, "Z8 WildCut"),
+];
+
+// The printed text of each fault.
+#[test]
+fn faults(rt: HostRuntime) -> Result<(), &'static str> {
+    let alloc = rt.alloc();
+    for (rule, want) in RULES {
+        if !is_printed(alloc, &rule, want) || !is_printed(alloc, &NewFault::Broken(rule), want) {
+            return Err(want);
+        }
+    }
+    assert!(rt; is_printed(alloc, &NewFault::NoMemory, "NoMemory"));
+    Ok(())
+}
