@@ -34,6 +34,3 @@ pub use word_laws::{
 };
 pub use word_machine::WordMachine;
 pub use words::{GRANTS, Owner, Publisher, SLOTS, Slot, Version, WordEvent, WordStep};
-
-#[cfg(test)]
-mod tests;

@@ -19,6 +19,3 @@ pub use fault::{NewFault, NoSlot, Spent};
 pub use laws::{examples, histories_go_on};
 pub use names::Names;
 pub use owner::{Released, Strong};
-
-#[cfg(test)]
-mod tests;

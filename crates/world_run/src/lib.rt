@@ -32,6 +32,3 @@ pub use lent::{Handle, Request};
 pub use message_list::MessageList;
 pub use step::{Answer, Call, Octets, StepName, WorldReply, WorldStep};
 pub use world::run;
-
-#[cfg(test)]
-mod tests;
