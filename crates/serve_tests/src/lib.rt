@@ -15,6 +15,8 @@ mod journals;
 #[cfg(test)]
 mod made;
 #[cfg(test)]
+mod peers;
+#[cfg(test)]
 mod refused_engines;
 #[cfg(test)]
 mod replies;

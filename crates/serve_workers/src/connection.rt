@@ -12,10 +12,10 @@ use std::time::{Clock, Duration};
 
 /// How many seconds a connection may take from its beginning, or from its last message, until the next request is whole; and as many
 /// until a message is taken in whole (own).
-pub(crate) const PATIENCE: u64 = 10;
+pub const PATIENCE: u64 = 10;
 
 /// A stream whose reads and writes can be bounded in time.
-pub(crate) trait Timed: Stream {
+pub trait Timed: Stream {
     /// From now on a read fails where it takes longer. An error where this can't be had.
     fn limit_reads(&self, most: Duration) -> io::Result<()>;
 
@@ -47,7 +47,7 @@ fn left_of(begun: Duration, now: Duration) -> Option<Duration>
 
 /// A connection that fails where no whole request has come for too long, or where its peer is too long in taking a message.
 #[derive(Drop)]
-pub(crate) struct Connection<'a, S, C> {
+pub struct Connection<'a, S, C> {
     stream: S,
     clock: &'a C,
     /// Since when the request, or the taking of the message, is waited for.
@@ -58,7 +58,7 @@ pub(crate) struct Connection<'a, S, C> {
 
 impl<'a, S, C: Clock> Connection<'a, S, C> {
     /// A connection, whose time begins. An error where the clock can't be read.
-    pub(crate) fn new(stream: S, clock: &'a C) -> io::Result<Connection<'a, S, C>>
+    pub fn new(stream: S, clock: &'a C) -> io::Result<Connection<'a, S, C>>
     where
         S: Drop,
     {

@@ -28,6 +28,7 @@ mod workers;
 pub use allowed::Allowed;
 pub use answer::{Now, Served, Told, answer_now, serve_one};
 pub use asked::Asked;
+pub use connection::{Connection, PATIENCE, Timed};
 pub use counted::{Counted, DeviceFailed, Stream};
 pub use datagrams::{Datagrams, SharedSocket};
 pub use gate::{Gate, OpenGate};

@@ -1,0 +1,119 @@
+//! Peers that give or take little at a time, by a clock that goes on whenever it is read.
+ghost use Rattle.std.specs.Prelude.{None};
+
+use serve_workers::{Connection, Stream, Timed};
+use std::io;
+use std::sync::atomic::{AtomicU64, Ordering};
+use std::test::Fail;
+use std::time::{Clock, Duration};
+
+/// A clock that goes on by so many seconds each time that it is read.
+#[derive(Drop)]
+struct Steps {
+    seconds: AtomicU64,
+    step: u64,
+}
+
+impl Clock for Steps {
+    fn monotonic(&self) -> io::Result<Duration> {
+        let seconds = self.seconds.fetch_add(self.step, Ordering::SeqCst);
+        Ok(Duration::from_secs(seconds))
+    }
+
+    fn since_1970(&self) -> io::Result<Duration> {
+        self.monotonic()
+    }
+}
+
+/// A stream that gives and takes so many octets a time.
+#[derive(Drop)]
+struct Slow {
+    most: usize,
+}
+
+impl Stream for Slow {
+    ghost octets = { λ _. None };
+
+    fn read(&mut self, buf: &mut [u8]) -> io::Result<usize> {
+        Ok(buf.len().min(self.most))
+    }
+
+    fn write(&mut self, buf: &[u8]) -> io::Result<usize> {
+        Ok(buf.len().min(self.most))
+    }
+}
+
+impl Timed for Slow {
+    fn limit_reads(&self, _most: Duration) -> io::Result<()> {
+        Ok(())
+    }
+
+    fn limit_writes(&self, _most: Duration) -> io::Result<()> {
+        Ok(())
+    }
+}
+
+/// How many octets of a message of sixteen are taken, so many a time, where the clock goes on by so many seconds.
+fn taken(most: usize, step: u64) -> io::Result<usize> {
+    let clock = Steps {
+        seconds: AtomicU64::new(0),
+        step,
+    };
+    let mut connection = Connection::new(Slow { most }, &clock)?;
+    let message = [0u8; 16];
+    let mut at = 0usize;
+    for _ in 0..16 {
+        let Some(rest) = message.get(at..) else {
+            break;
+        };
+        match connection.write(rest) {
+            Ok(count) => at = at.saturating_add(count),
+            Err(_) => break,
+        }
+    }
+    Ok(at)
+}
+
+/// How many octets are read, one a time and sixteen at most, where the clock goes on by so many seconds.
+fn given(step: u64) -> io::Result<usize> {
+    let clock = Steps {
+        seconds: AtomicU64::new(0),
+        step,
+    };
+    let mut connection = Connection::new(Slow { most: 1 }, &clock)?;
+    let mut octets = [0u8; 1];
+    let mut at = 0usize;
+    for _ in 0..16 {
+        match connection.read(&mut octets) {
+            Ok(count) => at = at.saturating_add(count),
+            Err(_) => break,
+        }
+    }
+    Ok(at)
+}
+
+// Ten seconds for a message in whole and for a request in whole, however many octets come in between.
+#[test]
+fn slow_peers(rt: HostRuntime) -> Result<(), Fail> {
+    assert_eq!(rt; taken(1, 0)?, 16);
+    assert_eq!(rt; taken(1, 1)?, 9);
+    assert_eq!(rt; taken(1, 3)?, 3);
+    assert_eq!(rt; taken(16, 3)?, 16);
+    assert_eq!(rt; given(0)?, 16);
+    assert_eq!(rt; given(3)?, 3);
+    Ok(())
+}
+
+// A new message has its ten seconds from its first octet, however long the one before took.
+#[test]
+fn messages_of_a_reply(rt: HostRuntime) -> Result<(), Fail> {
+    let clock = Steps {
+        seconds: AtomicU64::new(0),
+        step: 4,
+    };
+    let mut connection = Connection::new(Slow { most: 9 }, &clock)?;
+    for _ in 0..9 {
+        assert_eq!(rt; connection.write(b"message")?, 7);
+    }
+    Ok(())
+}
