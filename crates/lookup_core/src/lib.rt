@@ -29,6 +29,3 @@ pub use matched::Place;
 pub use question::answer;
 pub use sections::Answer;
 pub use walk::place;
-
-#[cfg(test)]
-mod tests;

@@ -23,6 +23,3 @@ pub use laws::{examples, one_key_changes};
 pub use seek::Seek;
 pub use tree::Tree;
 pub use walk::Walk;
-
-#[cfg(test)]
-mod tests;

@@ -36,8 +36,3 @@ pub use rules::has_asterisk;
 pub use version::Version;
 pub use walk::Walk;
 pub use zone::{MAX_RECORDS, Zone, edit};
-
-#[cfg(test)]
-mod edit_tests;
-#[cfg(test)]
-mod tests;

@@ -7,17 +7,12 @@ ghost use Rattle.zone_tree.specs.Edit.{put_at, set_beside};
 ghost use Rattle.zone_tree.specs.Sets.{records_in, IsRRset, AreAscending};
 ghost use Rattle.zone_tree.specs.Zone.{KeepsRules};
 
-use crate::change::Change;
-use crate::check::check;
-use crate::fault::{NewFault, ZoneFault};
-use crate::own::count_of;
-use crate::read::ZoneRead;
-use crate::tests::{data_of, is_printed, name, set_of, sets_of, walks};
-use crate::zone::{Zone, edit};
+use crate::made::{data_of, is_printed, name, set_of, twice, walks};
 use dns_name::Name;
 use dns_rdata::{RRset, RType, Ttl};
 use std::alloc::{AllocError, Global};
 use std::cmp::Ordering;
+use zone_tree::{Change, NewFault, Zone, ZoneFault, ZoneRead, edit};
 
 /// Where a set stands beside an owner and a type.
 fn beside(set: &RRset, owner: &Name, rtype: RType) -> Ordering
@@ -64,6 +59,23 @@ fn put_after(
     Ok(())
 }
 
+/// How many records a set has.
+fn len_of(set: &RRset) -> usize
+    ensures { IsRRset set.now }
+{
+    set.data().len()
+}
+
+/// How many records a set has; 0 where there is none.
+fn count_of(set: Option<&RRset>) -> usize
+    ensures { IfSome (option_copied set.entry) IsRRset }
+{
+    match set {
+        Some(set) => len_of(set),
+        None => 0,
+    }
+}
+
 /// A plain list with a set, or none, in place of that of an owner and a type.
 fn put_plainly(
     alloc: Global,
@@ -103,13 +115,21 @@ fn edited_plainly(
     changes: &[Change],
 ) -> Result<Vec<RRset>, AllocError>
     requires { AreAscending sets.items }
-    ensures { IfOk result (λ next. records_in next.items ≡ edited (records_in sets.items) changes.now) }
+    ensures ascending { IfOk result (λ next. AreAscending next.items) }
+    ensures records { IfOk result (λ next. records_in next.items ≡ edited (records_in sets.items) changes.now) }
 {
     let mut sets = sets;
     for change in changes {
         sets = changed_plainly(alloc, &sets, change)?;
     }
     Ok(sets)
+}
+
+/// What changes make of no set.
+fn listed(alloc: Global, changes: &[Change]) -> Result<Vec<RRset>, AllocError>
+    ensures { IfOk result (λ sets. AreAscending sets.items) }
+{
+    edited_plainly(alloc, Vec::new(alloc), changes)
 }
 
 /// A list of these sets once more.
@@ -124,30 +144,20 @@ fn copies(alloc: Global, sets: &[RRset]) -> Result<Vec<RRset>, AllocError>
 }
 
 /// What changes make of a zone, asked for once more where memory is refused.
-fn edit_anew(alloc: Global, zone: &Zone, changes: &[Change]) -> Result<Zone, ZoneFault>
+fn edit_anew(alloc: Global, zone: &Zone, changes: &[Change]) -> Option<Zone>
     requires { KeepsRules (edited zone.now changes.now) }
 {
     match edit(alloc, zone, changes) {
-        Err(ZoneFault::NoMemory) => edit(alloc, zone, changes),
-        given => given,
-    }
-}
-
-/// That sets are in order, where they are a zone.
-fn ordered(sets: &[RRset]) -> Result<(), NewFault>
-    ensures { OnOk result (AreAscending sets.now) }
-{
-    match check(sets) {
-        Ok(_) => Ok(()),
-        Err(rule) => Err(NewFault::Broken(rule)),
+        Ok(next) => Some(next),
+        Err(_) => edit(alloc, zone, changes).ok(),
     }
 }
 
 /// That changes make a zone of the plain list of these sets, where they do.
 fn keep_rules(alloc: Global, sets: &[RRset], changes: &[Change]) -> Result<(), NewFault>
+    requires { AreAscending sets.now }
     ensures { OnOk result (KeepsRules (edited (records_in sets.now) changes.now)) }
 {
-    ordered(sets)?;
     let plain = edited_plainly(alloc, copies(alloc, sets)?, changes)?;
     let _ = Zone::new(alloc, plain)?;
     Ok(())
@@ -157,18 +167,20 @@ fn keep_rules(alloc: Global, sets: &[RRset], changes: &[Change]) -> Result<(), N
 #[derive(Drop)]
 struct Edited {
     zone: Zone,
-    new: Result<Zone, ZoneFault>,
+    new: Zone,
 }
 
 /// The zone of these sets, and what changes make of it, where they make a zone of the plain list.
-fn edit_of(alloc: Global, sets: &[RRset], changes: &[Change]) -> Result<Edited, NewFault> {
+fn edit_of(alloc: Global, sets: &[RRset], changes: &[Change]) -> Result<Edited, NewFault>
+    requires { AreAscending sets.now }
+{
     keep_rules(alloc, sets, changes)?;
     let zone = Zone::new(alloc, copies(alloc, sets)?)?;
-    let new = edit_anew(alloc, &zone, changes);
+    let new = edit_anew(alloc, &zone, changes).ok_or(NewFault::NoMemory)?;
     Ok(Edited { zone, new })
 }
 
-/// The changes of steps, with commas between them: a row put, or one removed; None where memory is refused.
+/// The changes of steps, with commas between them: a row held or put, or one removed; None where memory is refused.
 fn changes_of(alloc: Global, steps: &str) -> Option<Vec<Change>> {
     let mut changes = Vec::new(alloc);
     for step in steps.split_terminator(", ") {
@@ -180,16 +192,24 @@ fn changes_of(alloc: Global, steps: &str) -> Option<Vec<Change>> {
 /// The change of a step; None where memory is refused.
 fn change_of(alloc: Global, step: &str) -> Option<Change> {
     let (verb, row) = step.split_once(' ')?;
-    if verb == "put" {
-        return Some(Change::Put(set_of(alloc, row, Ttl(60))?));
+    match verb {
+        "hold" => Some(Change::Put(set_of(alloc, row, Ttl(3600))?)),
+        "put" => Some(Change::Put(set_of(alloc, row, Ttl(60))?)),
+        _ => removal(row),
     }
+}
+
+/// The change that takes a row away.
+fn removal(row: &str) -> Option<Change> {
     let (owner, word) = row.split_once(' ')?;
     let (rtype, _) = data_of(word)?;
     Some(Change::Remove(name(owner)?, rtype))
 }
 
-/// The zone that all cases begin with.
+/// The zone that all cases begin with, and the steps that make its list.
 const ROWS: &str = "@ NS, @ SOA, a A, a TXT, x.sub TXT";
+
+const HELD: &str = "hold @ NS, hold @ SOA, hold a A, hold a TXT, hold x.sub TXT";
 
 /// Steps, and the rows of the zone that they make: a set of another type between two, of another owner, and in place of one; one of
 /// two sets removed, the last one of an owner, and one that isn't there; an alias that stands beside other data on the way;
@@ -204,15 +224,20 @@ remove sub A: @ NS, @ SOA, a A, a TXT, x.sub TXT\n\
 put a CNAME, remove a A, remove a TXT: @ NS, @ SOA, a CNAME, x.sub TXT\n\
 put sub SOA, remove @ SOA, put sub NS, remove @ NS, remove a A, remove a TXT: sub NS, sub SOA, x.sub TXT\n";
 
-/// The zone that cases begin with, and what these steps make of it; None where memory is refused.
+/// The zone that cases begin with, and what these changes make of it; None where memory is refused.
+fn edit_held(alloc: Global, changes: &[Change]) -> Option<Edited> {
+    let sets = listed(alloc, &changes_of(alloc, HELD)?).ok()?;
+    edit_of(alloc, &sets, changes).ok()
+}
+
+/// What these steps make of it; None where memory is refused.
 fn edit_by(alloc: Global, steps: &str) -> Option<Edited> {
-    let sets = sets_of(alloc, ROWS)?;
-    edit_of(alloc, &sets, &changes_of(alloc, steps)?).ok()
+    edit_held(alloc, &changes_of(alloc, steps)?)
 }
 
 /// Whether the zone after steps has these rows, with its apex where its SOA stands, and the zone before is as it was.
 fn are_made(edited: &Edited, want: &str) -> Option<bool> {
-    let new = edited.new.as_ref().ok()?;
+    let new = &edited.new;
     let apex = *new.apex() == new.soa().owner();
     Some(apex && walks(new, want)? && walks(&edited.zone, ROWS)?)
 }
@@ -236,8 +261,7 @@ fn zones_are_changed(rt: HostRuntime) -> Result<(), &'static str> {
 /// Whether a name exists before steps and after them.
 fn exist(edited: &Edited, text: &str) -> Option<(bool, bool)> {
     let name = name(text)?;
-    let new = edited.new.as_ref().ok()?;
-    Some((edited.zone.exists(&name), new.exists(&name)))
+    Some((edited.zone.exists(&name), edited.new.exists(&name)))
 }
 
 // An owner without sets is gone, and with it the empty name above it; the zone before has both (RFC 4592, 2.2.2).
@@ -260,7 +284,7 @@ fn is_address(set: &RRset, octets: &[u8]) -> bool {
 
 /// Whether the address of `a` after a step has its own data and TTL.
 fn has_address(edited: &Edited) -> Option<bool> {
-    let set = edited.new.as_ref().ok()?.rrset(&name("a")?, RType::A)?;
+    let set = edited.new.rrset(&name("a")?, RType::A)?;
     Some(is_address(set, &[192, 0, 2, 9]))
 }
 
@@ -274,37 +298,11 @@ fn set_that_is_put_replaces_another(rt: HostRuntime) -> Result<(), &'static str>
     Ok(())
 }
 
-/// The sets that cases begin with, or, where memory is refused, what the same call gives anew.
-fn sets_anew(alloc: Global) -> Option<Vec<RRset>> {
-    match sets_of(alloc, ROWS) {
-        Some(sets) => Some(sets),
-        None => sets_of(alloc, ROWS),
-    }
-}
-
-/// Likewise the changes of steps.
-fn changes_anew(alloc: Global, steps: &str) -> Option<Vec<Change>> {
-    match changes_of(alloc, steps) {
-        Some(changes) => Some(changes),
-        None => changes_of(alloc, steps),
-    }
-}
-
-/// Likewise what these make of the sets.
-fn edited_anew(alloc: Global, steps: &str) -> Option<Edited> {
-    let sets = sets_anew(alloc)?;
-    let changes = changes_anew(alloc, steps)?;
-    match edit_of(alloc, &sets, &changes) {
-        Ok(edited) => Some(edited),
-        Err(_) => edit_of(alloc, &sets, &changes).ok(),
-    }
-}
-
 // With one request for memory refused, whichever it is, the zone before is as it was, and the same changes are made anew.
 #[test]
 fn changes_anew_where_memory_is_refused(rt: HostRuntime) -> Result<(), &'static str> {
     let steps = "put sub TXT, remove x.sub TXT, remove a A";
-    let edited = edited_anew(rt.alloc(), steps).ok_or("no zone")?;
+    let edited = twice(|| edit_by(rt.alloc(), steps)).ok_or("no zone")?;
     if are_made(&edited, "@ NS, @ SOA, a TXT, sub TXT") != Some(true) {
         return Err("another zone");
     }

@@ -5,7 +5,7 @@ use Rattle.std.specs.declared.cmp.Ordering.TheVariants.{Less}
 use Rattle.std.proofs.lemmas.Bool.Decides.{nat_tests}
 use Rattle.shared_tree.specs.Pairs.{IsAscending}
 use Rattle.shared_tree.proofs.PairLemmas.{ascends_append, each_weaker, each_append}
-use Rattle.shared_tree.proofs.tests.numbers.Goals as goal
+use Rattle.zone_tests.proofs.trees.numbers.Goals as goal
 
 less : (x y : ℕ) → x < y → nat_cmp x y ≡ Less
 less x y lt = grind (arith, nat_tests)

@@ -1,25 +1,18 @@
 //! Answers of whole zones: what each section shows, by owner and type. Zones and answers are tables as text, a row a line.
-mod searches;
-
-use crate::matched::Place;
-use crate::question::answer;
-use crate::sections::Answer;
-use crate::walk::place;
+use crate::made::name;
 use dns_name::Name;
 use dns_rdata::{RData, RRset, RType, Rcode, Shown, Ttl};
+use lookup_core::{Answer, Place, answer, place};
 use std::alloc::{AllocError, Global};
 use zone_tree::Zone;
 
-/// Where the examples stand.
-const EXAMPLE: &str = "example.test.";
-
-/// Below `example.test.`: an empty non-terminal `b`, a wildcard below `dyn` with an empty non-terminal `e` beside it,
+/// Below `example.`: an empty non-terminal `b`, a wildcard below `dyn` with an empty non-terminal `e` beside it,
 /// aliases in a loop, out of the zone, into a delegated zone and to `web`, and zone cuts, one below the other. A row is an
 /// owner, a type, the data's octets in hexadecimal, and a name behind them where there is one. An SOA's octets are the root
 /// twice, and five numbers of which the last, MINIMUM, is 300.
-const ZONE: &str = "\
-example.test. NS  ns1\n\
-example.test. SOA 00000000000100001c2000000384001275000000012c\n\
+pub(crate) const ZONE: &str = "\
+example. NS  ns1\n\
+example. SOA 00000000000100001c2000000384001275000000012c\n\
 a.b TXT 0178\n\
 deep CNAME  x.sub\n\
 *.dyn A c0000263\n\
@@ -51,14 +44,8 @@ const TYPES: [(&str, RType); 9] = [
     ("ANY", RType::ANY),
 ];
 
-/// A name below `example.test.`; a whole one where the text ends in a dot.
-fn name(text: &str) -> Option<Name> {
-    let origin = Name::from_text(EXAMPLE.as_bytes(), &Name::root()).ok()?;
-    Name::from_text(text.as_bytes(), &origin).ok()
-}
-
 /// The type of a word.
-fn rtype_of(word: &str) -> Option<RType> {
+pub(crate) fn rtype_of(word: &str) -> Option<RType> {
     for (known, rtype) in TYPES {
         if known == word {
             return Some(rtype);
@@ -119,7 +106,7 @@ fn put_row(alloc: Global, sets: &mut Vec<RRset>, row: &str) -> Option<()> {
 }
 
 /// The zone of rows in canonical order.
-fn zone_of(alloc: Global, rows: &str) -> Option<Zone> {
+pub(crate) fn zone_of(alloc: Global, rows: &str) -> Option<Zone> {
     let mut sets = Vec::new(alloc);
     for row in rows.lines() {
         put_row(alloc, &mut sets, row)?;
@@ -200,19 +187,19 @@ fn check(alloc: Global, zone: &str, rows: &'static str) -> Result<(), &'static s
 /// Names that exist, names that don't, and what a wildcard covers. An owner keeps the spelling asked, a target that of the
 /// alias's data; a negative answer has the lesser TTL (RFC 2308, 3: MINIMUM is 300, the SOA's own TTL 3600).
 const NAMES: &str = "\
-www A NoError aa | www.example.test. CNAME web.example.test. A | |\n\
-WwW A NoError aa | WwW.example.test. CNAME web.example.test. A | |\n\
-www CNAME NoError aa | www.example.test. CNAME | |\n\
-web ANY NoError aa | web.example.test. A web.example.test. AAAA | |\n\
-nope A NxDomain aa | | example.test. SOA 300 |\n\
-b A NoError aa | | example.test. SOA 300 |\n\
-zz.b A NxDomain aa | | example.test. SOA 300 |\n\
-P.q.DYN A NoError aa | P.q.DYN.example.test. A | |\n\
-p.q.dyn MX NoError aa | | example.test. SOA 300 |\n\
-e.dyn A NoError aa | | example.test. SOA 300 |\n\
-f.e.dyn A NxDomain aa | | example.test. SOA 300 |\n\
-f.x.e.dyn A NxDomain aa | | example.test. SOA 300 |\n\
-www MX NoError aa | www.example.test. CNAME | example.test. SOA 300 |\n";
+www A NoError aa | www.example. CNAME web.example. A | |\n\
+WwW A NoError aa | WwW.example. CNAME web.example. A | |\n\
+www CNAME NoError aa | www.example. CNAME | |\n\
+web ANY NoError aa | web.example. A web.example. AAAA | |\n\
+nope A NxDomain aa | | example. SOA 300 |\n\
+b A NoError aa | | example. SOA 300 |\n\
+zz.b A NxDomain aa | | example. SOA 300 |\n\
+P.q.DYN A NoError aa | P.q.DYN.example. A | |\n\
+p.q.dyn MX NoError aa | | example. SOA 300 |\n\
+e.dyn A NoError aa | | example. SOA 300 |\n\
+f.e.dyn A NxDomain aa | | example. SOA 300 |\n\
+f.x.e.dyn A NxDomain aa | | example. SOA 300 |\n\
+www MX NoError aa | www.example. CNAME | example. SOA 300 |\n";
 
 // RFC 1034, 4.3.2; RFC 2308, 2; RFC 4592, 2.2.2.
 #[test]
@@ -222,12 +209,12 @@ fn names_and_wildcards(rt: HostRuntime) -> Result<(), &'static str> {
 
 /// Referrals: at the first zone cut on the way down, with glue, authoritative for the aliases in front of them alone.
 const REFERRALS: &str = "\
-x.sub A NoError cut | | sub.example.test. NS | ns.sub.example.test. A\n\
-sub NS NoError cut | | sub.example.test. NS | ns.sub.example.test. A\n\
-ns.sub A NoError cut | | sub.example.test. NS | ns.sub.example.test. A\n\
-y.z.sub A NoError cut | | sub.example.test. NS | ns.sub.example.test. A\n\
-deep A NoError aa cut | deep.example.test. CNAME | sub.example.test. NS | ns.sub.example.test. A\n\
-example.test. NS NoError aa | example.test. NS | | ns1.example.test. A\n";
+x.sub A NoError cut | | sub.example. NS | ns.sub.example. A\n\
+sub NS NoError cut | | sub.example. NS | ns.sub.example. A\n\
+ns.sub A NoError cut | | sub.example. NS | ns.sub.example. A\n\
+y.z.sub A NoError cut | | sub.example. NS | ns.sub.example. A\n\
+deep A NoError aa cut | deep.example. CNAME | sub.example. NS | ns.sub.example. A\n\
+example. NS NoError aa | example. NS | | ns1.example. A\n";
 
 // RFC 1034, 4.3.2, step 3b; RFC 2181, 6.1.
 #[test]
@@ -237,8 +224,8 @@ fn referrals(rt: HostRuntime) -> Result<(), &'static str> {
 
 /// Chains that stop: at a name already searched, and at one outside the zone.
 const CHAINS: &str = "\
-loop1 A NoError aa | loop1.example.test. CNAME loop2.example.test. CNAME | |\n\
-out A NoError aa | out.example.test. CNAME | |\n";
+loop1 A NoError aa | loop1.example. CNAME loop2.example. CNAME | |\n\
+out A NoError aa | out.example. CNAME | |\n";
 
 // RFC 1034, 3.6.2.
 #[test]
@@ -248,21 +235,21 @@ fn chains(rt: HostRuntime) -> Result<(), &'static str> {
 
 /// Addresses of names in data: A before AAAA, none that a wildcard would give.
 const ADDITIONAL: &str = "\
-mail MX NoError aa | mail.example.test. MX | | web.example.test. A web.example.test. AAAA\n\
-s SRV NoError aa | s.example.test. SRV | | web.example.test. A web.example.test. AAAA\n";
+mail MX NoError aa | mail.example. MX | | web.example. A web.example. AAAA\n\
+s SRV NoError aa | s.example. SRV | | web.example. A web.example. AAAA\n";
 
 /// A zone with a name whose exchange is itself.
 const OWN_EXCHANGE: &str = "\
-example.test. NS  ns1\n\
-example.test. SOA 00000000000100001c2000000384001275000000012c\n\
+example. NS  ns1\n\
+example. SOA 00000000000100001c2000000384001275000000012c\n\
 own A c0000201\n\
 own MX 000a own\n\
 own AAAA 00000000000000000000000000000000\n";
 
 /// Its A and AAAA stand in the answer to ANY, and so not in the additional section.
 const OWN_ADDITIONAL: &str = "\
-own ANY NoError aa | own.example.test. A own.example.test. MX own.example.test. AAAA | |\n\
-own MX NoError aa | own.example.test. MX | | own.example.test. A own.example.test. AAAA\n";
+own ANY NoError aa | own.example. A own.example. MX own.example. AAAA | |\n\
+own MX NoError aa | own.example. MX | | own.example. A own.example. AAAA\n";
 
 // RFC 1034, 4.3.2, step 6; RFC 1035, 3.3.9; RFC 2782.
 #[test]
@@ -285,15 +272,15 @@ fn put_hosts(text: &mut String, front: &str, behind: &str) -> Result<(), AllocEr
     Ok(())
 }
 
-/// How many additional sets the hosts have, where each is a name server of `example.test.` with an address.
+/// How many additional sets the hosts have, where each is a name server of `example.` with an address.
 fn additional_hosts(alloc: Global) -> Option<usize> {
     let mut rows = String::new(alloc);
-    put_hosts(&mut rows, "example.test. NS  ", "\n").ok()?;
-    rows.push_str("example.test. SOA 00000000000100001c2000000384001275000000012c\n")
+    put_hosts(&mut rows, "example. NS  ", "\n").ok()?;
+    rows.push_str("example. SOA 00000000000100001c2000000384001275000000012c\n")
         .ok()?;
     put_hosts(&mut rows, "", " A c0000201\n").ok()?;
     let zone = zone_of(alloc, rows.as_str())?;
-    let asked = name(EXAMPLE)?;
+    let asked = name("@")?;
     Some(answer(&zone, &asked, RType::NS).additional.len())
 }
 
@@ -338,8 +325,8 @@ fn wildcards_of_the_standard(rt: HostRuntime) -> Result<(), &'static str> {
 /// Where names stand.
 const PLACES: &str = "\
 example.net. outside\n\
-test. outside\n\
-EXAMPLE.test. exact\n\
+. outside\n\
+EXAMPLE. exact\n\
 b exact\n\
 zz.b missing\n\
 y.z.SUB cut SUB\n\

@@ -4,7 +4,7 @@ use Rattle.zone_tree.specs.Change.{changed}
 use Rattle.zone_tree.specs.Edit.{put_at, set_beside, IsFor}
 use Rattle.zone_tree.specs.Sets.{records_in, IsRRset, AreAscending}
 use Rattle.zone_tree.proofs.EditLemmas.{put_is, remove_is, put_ascends, one_each, one_rises, weaker_if_ok}
-use Rattle.zone_tree.proofs.edit_tests.changed_plainly.Goals as goal
+use Rattle.zone_tests.proofs.edits.changed_plainly.Goals as goal
 
 pub returns-in-Put-clause-ascending : goal.returns-in-Put-clause-ascending
 returns-in-Put-clause-ascending c =

@@ -2,7 +2,7 @@ use Rattle.std.proofs.Common.{◌<◌}
 use Rattle.std.specs.List.{AllByRecursion}
 use Rattle.std.specs.Ordering.{nat_cmp}
 use Rattle.shared_tree.specs.Pairs.{IsAscending}
-use Rattle.shared_tree.proofs.tests.numbers.Given as goal
+use Rattle.zone_tests.proofs.trees.numbers.Given as goal
 
 -- the numbers so far ascend, and all are less than the next
 abbrev pub invariant-loop-number : goal.invariant-loop-number

@@ -1,8 +1,9 @@
 //! How often an answer searches the zone.
-use super::{ZONE, name, rtype_of, zone_of};
-use crate::question::answer;
+use crate::answers::{ZONE, rtype_of, zone_of};
+use crate::made::name;
 use dns_name::Name;
 use dns_rdata::{RRset, RType};
+use lookup_core::answer;
 use std::cell::Cell;
 use zone_tree::{Walk, Zone, ZoneRead};
 
@@ -56,7 +57,7 @@ impl ZoneRead for Counted {
 /// records, it is asked whether the name exists; of `nope`, which doesn't, whether the source of synthesis does; of `zz.b`
 /// which of the names above it do; of `p.dyn` what the wildcard owns.
 const SEARCHES: &str = "\
-example.test. SOA 1\n\
+example. SOA 1\n\
 web A 1\n\
 web MX 1\n\
 web ANY 1\n\

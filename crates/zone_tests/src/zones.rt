@@ -1,99 +1,8 @@
-//! A small zone through each call, and lists that are no zone. Zones are tables as text: names below `example.` and words
-//! that stand for a type and its data.
-ghost use Rattle.std.specs.Prelude.{◌<◌, ◌^◌};
-
-use crate::delta::Delta;
-use crate::fault::{BrokenRule, NewFault};
-use crate::read::ZoneRead;
-use crate::version::Version;
-use crate::zone::{Zone, edit};
-use dns_name::Name;
-use dns_rdata::{RData, RRset, RType, Serial, Ttl};
+//! A small zone through each call, and lists that are no zone.
+use crate::made::{is_printed, name, sets_of, twice, walks, zone_of};
+use dns_rdata::{RType, Serial};
 use std::alloc::Global;
-use std::fmt::Display;
-
-const SOA: &[u8] = b"\0\0\0\0\0\x01\0\0\0\x02\0\0\0\x03\0\0\0\x04\0\0\0\x05";
-
-const NS: &[u8] = b"\x02ns\x07example\0";
-
-/// Words of rows, with the type and the data octets of each.
-const WORDS: [(&str, RType, &[u8]); 7] = [
-    ("A", RType::A, &[192, 0, 2, 1]),
-    ("A9", RType::A, &[192, 0, 2, 9]),
-    ("NS", RType::NS, NS),
-    ("CNAME", RType::CNAME, NS),
-    ("SOA", RType::SOA, SOA),
-    ("MX", RType::MX, b"\0\x0a\x05host1\x07example\0"),
-    ("TXT", RType::TXT, b"\x02hi"),
-];
-
-/// The type and the data of a word.
-pub(crate) fn data_of(word: &str) -> Option<(RType, &'static [u8])> {
-    for (known, rtype, octets) in WORDS {
-        if known == word {
-            return Some((rtype, octets));
-        }
-    }
-    None
-}
-
-/// A name below `example.`; a whole one where the text ends in a dot.
-pub(crate) fn name(text: &str) -> Option<Name> {
-    let origin = Name::from_text(b"example.", &Name::root()).ok()?;
-    Name::from_text(text.as_bytes(), &origin).ok()
-}
-
-/// The set of a row, of one record: a name and a word; None where memory is refused.
-pub(crate) fn set_of(alloc: Global, row: &str, ttl: Ttl) -> Option<RRset>
-    requires { ttl.0 < 2 ^ 31 }
-{
-    let (owner, word) = row.split_once(' ')?;
-    let (rtype, octets) = data_of(word)?;
-    let data = RData::from_wire(alloc, rtype, octets).ok()?;
-    RRset::new(alloc, &name(owner)?, ttl, data).ok()
-}
-
-/// The sets of rows, with commas between them; none of an empty text. None where memory is refused.
-pub(crate) fn sets_of(alloc: Global, rows: &str) -> Option<Vec<RRset>> {
-    let mut sets = Vec::new(alloc);
-    for row in rows.split_terminator(", ") {
-        sets.push(set_of(alloc, row, Ttl(3600))?).ok()?;
-    }
-    Some(sets)
-}
-
-/// Whether a set has a row's owner and type.
-fn is_row(set: &RRset, row: &str) -> Option<bool> {
-    let (owner, word) = row.split_once(' ')?;
-    let (rtype, _) = data_of(word)?;
-    Some(set.owner() == name(owner)? && set.rtype() == rtype)
-}
-
-/// Whether a walk gives a set of each row, in their order.
-pub(crate) fn walks(zone: &Zone, rows: &str) -> Option<bool> {
-    let mut rows = rows.split_terminator(", ");
-    for set in zone.walk() {
-        if !is_row(set, rows.next()?)? {
-            return Some(false);
-        }
-    }
-    Some(rows.next().is_none())
-}
-
-/// What a call gives, or, where memory is refused, what the same call gives anew.
-fn twice<C: Fn() -> Option<Zone>>(call: C) -> Option<Zone>
-    requires { C.IsAlwaysCallable call }
-{
-    match call() {
-        Some(zone) => Some(zone),
-        None => call(),
-    }
-}
-
-/// The zone of rows; None where memory is refused.
-fn zone_of(alloc: Global, rows: &str) -> Option<Zone> {
-    Zone::new(alloc, sets_of(alloc, rows)?).ok()
-}
+use zone_tree::{BrokenRule, Delta, NewFault, Version, Zone, ZoneRead, edit};
 
 // With one request for memory refused, whichever it is, the zone is made anew.
 #[test]
@@ -169,14 +78,6 @@ const REFUSED: &str = "\
 @ NS, @ SOA, @ CNAME: Z2 NotAscending\n\
 @ NS, @ SOA, * NS: Z8 WildCut\n\
 . A, @ SOA, * NS: Z5 Outside\n";
-
-/// Whether a fault is printed so.
-pub(crate) fn is_printed<D: Display>(alloc: Global, fault: &D, want: &str) -> bool {
-    match format!(in alloc; "{fault}") {
-        Ok(text) => text.as_str() == want,
-        Err(_) => false,
-    }
-}
 
 /// Whether a row's sets are refused by the rule that it names.
 fn is_refused(alloc: Global, row: &str) -> Option<bool> {

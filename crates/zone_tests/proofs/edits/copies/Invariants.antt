@@ -1,5 +1,5 @@
 use Rattle.std.proofs.Common.{◌≡◌, take}
-use Rattle.zone_tree.proofs.edit_tests.copies.Given as goal
+use Rattle.zone_tests.proofs.edits.copies.Given as goal
 
 abbrev pub invariant-loop-set : goal.invariant-loop-set
 invariant-loop-set l = l.next.items ≡ take l.set-index l.sets

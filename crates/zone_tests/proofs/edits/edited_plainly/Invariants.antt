@@ -1,7 +1,7 @@
 use Rattle.std.proofs.Common.{◌≡◌, drop}
 use Rattle.zone_tree.specs.Change.{edited}
 use Rattle.zone_tree.specs.Sets.{records_in, AreAscending}
-use Rattle.zone_tree.proofs.edit_tests.edited_plainly.Given as goal
+use Rattle.zone_tests.proofs.edits.edited_plainly.Given as goal
 
 abbrev pub invariant-loop-change : goal.invariant-loop-change
 invariant-loop-change l = record {
