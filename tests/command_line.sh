@@ -1,7 +1,7 @@
 #!/usr/bin/env bash
 # Tries the command line of dnsd: which words are a command, what each option takes, and the status and the sentence where one is
 # refused. What is expected stands here. It prints a line for each row that fails, nothing else, and its status is 1 where one did.
-# Usage: [DNSD=PROGRAM] tests/command_line.sh. It needs the program that `make dnsd` or `make test` builds.
+# It opens no socket. Usage: [DNSD=PROGRAM] tests/command_line.sh. It needs the program that `make dnsd` or `make test` builds.
 set -euo pipefail
 cd "$(dirname "$0")/.."
 program=${DNSD:-$PWD/crates/dnsd/out/dnsd}
@@ -83,7 +83,6 @@ row 2 "--workers takes a number from 1 to 30, and '31' is none" serve --listen 1
 row 2 "--keep takes a number from 0 to 8, and '9' is none" serve --listen 127.0.0.1:0 --keep 9 "$zone"
 row 2 "--count takes a number from 0 to 18446744073709551615, and '-' is none" serve --listen 127.0.0.1:0 --count - "$zone"
 row 2 "--allow takes addresses with commas between them, as 127.0.0.1,192.0.2.7, and 'x' is none" serve --listen 127.0.0.1:0 --allow 127.0.0.1,x "$zone"
-row 0 'listening on 127.0.0.1:' serve --listen 127.0.0.1:0 --count 0 "$zone"
 
 # a file that isn't there is a device's fault; a refused zone is told by its line
 row 3 "the zone's file 'no/such/zone' can't be read" check no/such/zone
