@@ -47,7 +47,8 @@ row 0 Usage --help
 row 2 ZONE serve --listen 127.0.0.1:0
 row 2 --listen serve "$zone"
 
-# a question is answered by either transport, and a transfer of the whole zone over TCP alone, wherever the option stands
+# a question is answered by either transport, a transfer of the whole zone over TCP alone, in 14 records, wherever the option stands, and
+# over UDP it is FORMERR
 answered='123485000001000200000000037777770765'
 input=$(cat "$zone")$'\n%\n'$question$'\n'
 row 0 "$answered" answer -
@@ -55,9 +56,9 @@ row 0 "$answered" answer --tcp -
 input=$question$'\n'
 row 0 "$answered" answer --origin example.test "$zone"
 input=$(cat "$zone")$'\n%\n'$transfer$'\n'
-row 0 123480040001000000000000 answer -
-row 0 12348400000100 answer --tcp -
-row 0 12348400000100 answer - --tcp
+row 0 123481010000000000000000 answer -
+row 0 123485000001000e answer --tcp -
+row 0 123485000001000e answer - --tcp
 
 # versions that are kept and entries of the window: from 0 to 8, from 0 to 16
 input=$(cat "$zone")$'\n%\nload a\n'
@@ -71,7 +72,7 @@ row 2 "--window takes a number from 0 to 16, and '17' is none" steps --window 17
 # the origin is the root unless one is given; one without a final dot is relative to the root
 input=$relative
 row 0 'x. 300 IN NS ns.' check -
-row 0 'x.X.test. 300 IN NS ns.X.test.' check --origin X.test -
+row 0 'x.x.test. 300 IN NS ns.x.test.' check --origin X.test -
 row 0 'x.x.test. 300 IN NS ns.x.test.' check --origin x.test. -
 row 2 "'a..b' is no name for --origin" answer --origin a..b -
 
