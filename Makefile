@@ -1,5 +1,5 @@
 # `make demo` shows two requests with their replies, from the program as compiled, before any proof; `make dnsd` proves and builds
-# the program; `make test` is the gate, and rows of words for the program that it proved; `make mistakes [CRATE="NAME .."]` tries the edits that the gate leaves out; `make refused
+# the program; `make test` is the gate, and tables of rows for the program that it proved; `make mistakes [CRATE="NAME .."]` tries the edits that the gate leaves out; `make refused
 # [CRATE="NAME .."]` runs tests with each request for memory refused in turn.
 .PHONY: demo dnsd test mistakes refused
 
@@ -12,7 +12,7 @@ dnsd:
 
 test:
 	rt ci
-	@tests/command_line.sh
+	@tests/rows.sh
 
 mistakes:
 	./mistakes.sh $(CRATE)

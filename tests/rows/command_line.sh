@@ -1,33 +1,10 @@
-#!/usr/bin/env bash
-# Tries the command line of dnsd: which words are a command, what each option takes, and the status and the sentence where one is
-# refused. What is expected stands here. It prints a line for each row that fails, nothing else, and its status is 1 where one did.
-# It opens no socket. Usage: [DNSD=PROGRAM] tests/command_line.sh. It needs the program that `make dnsd` or `make test` builds.
-set -euo pipefail
-cd "$(dirname "$0")/.."
-program=${DNSD:-$PWD/crates/dnsd/out/dnsd}
-[ -x "$program" ] || { echo "command_line: no program at $program: run make dnsd first" >&2; exit 2; }
-
+# The command line: which words are a command, what each option takes, and the status and the sentence where one is refused.
 zone=zones/example.test.zone
 # www.example.test., type A, and a transfer of the whole zone
 question=12340100000100000000000003777777076578616d706c6504746573740000010001
 transfer=123401000001000000000000076578616d706c6504746573740000fc0001
 # a zone that begins with a name under its origin
 relative='x 300 SOA ns admin 1 7200 900 1209600 300'$'\n''x 300 NS ns'$'\n'
-rows=0
-failed=0
-
-# row STATUS PART WORD..: over the words, the program ends with the status, and PART stands in what it prints on the two outputs
-row() {
-    local status=$1 part=$2 said got=0
-    shift 2
-    rows=$((rows + 1))
-    said=$(printf '%s' "$input" | timeout 10 "$program" "$@" 2>&1) || got=$?
-    if [ "$got" != "$status" ] || [[ $said != *"$part"* ]]; then
-        failed=$((failed + 1))
-        printf 'command_line: dnsd %s: status %s for %s, and it said:\n%s\n' "$*" "$got" "$status" "$said"
-    fi
-}
-
 # which words are a command
 input=$(cat "$zone")$'\n'
 written='www.example.test. 3600 IN CNAME web.example.test.'
@@ -90,5 +67,3 @@ row 3 "the zone's file 'no/such/zone' can't be read" check no/such/zone
 row 3 "the zone's file 'no/such/zone' can't be read" serve --listen 127.0.0.1:0 no/such/zone
 input=$'x 300 SOA ns admin 1 7200 900 1209600 300\n'
 row 1 'line 0: ' check -
-
-[ $failed = 0 ] || { echo "command_line: $failed of $rows rows failed"; exit 1; }
