@@ -2,8 +2,7 @@
 use Rattle.std.proofs.Common.{◌≡◌, ℕ, ◌+◌, ◌<◌, ◌≤◌, List, [], ◌∷◌, ◌++◌, length, take, drop, get_or, Option, Some, None, IfSome, refl, sym, ap, subst, ◌∙◌, arith, length-append, append_assoc}
 use Rattle.std.proofs.Math.Path.{fun_ext}
 use Rattle.std.proofs.lemmas.List.{append-nil, at_drop_more, at_drop_all, take-append-drop, take-take}
-use Rattle.wire_names.specs.Table.{Table, IsTable, table_of}
-use Rattle.wire_names.specs.declared.table.Entry.{Entry}
+use Rattle.wire_names.specs.Table.{Entry, Table, IsTable, table_of}
 use Rattle.wire_names.specs.Written.{IsOverwritten, WritesOctets}
 use Rattle.wire_names.proofs.LongerLemmas.{IsTable-longer, table_longer}
 use Rattle.wire_names.proofs.OverwrittenLemmas.{length_stays, octets_are, front_stays, IsOverwritten-then}

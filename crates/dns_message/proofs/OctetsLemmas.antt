@@ -4,9 +4,8 @@ use Rattle.std.proofs.lemmas.Bool.{le-leb, lt-leb}
 use Rattle.std.proofs.lemmas.List.{append-nil, length-take-le, take-append-le, drop-append-le, take-append-drop}
 use Rattle.std.specs.Int.{to_be_bytes, w16}
 use Rattle.dns_rdata.specs.Record.{Record}
-use Rattle.wire_names.specs.Table.{Table}
+use Rattle.wire_names.specs.Table.{Entry, Table}
 use Rattle.wire_names.specs.Written.{IsOverwritten}
-use Rattle.wire_names.specs.declared.table.Entry.{Entry}
 use Rattle.wire_names.proofs.OverwrittenLemmas.{length_stays, octets_are, IsOverwritten-then}
 use Rattle.dns_message.specs.Message.{Message}
 use Rattle.dns_message.specs.Encoding.{Encoding, these, before, measured, each}

@@ -1,8 +1,7 @@
 -- Tables that are true of a message.
 use Rattle.std.proofs.Common.{◌≡◌, ℕ, List, [], ◌∷◌, ◌++◌, take, refl, sym, ap, subst, ◌∙◌}
 use Rattle.std.proofs.lemmas.List.Elements.{All-nil, All-head, All-tail}
-use Rattle.wire_names.specs.Table.{Table, IsTable, IsEntry, table_of, keyed, name_key, spelt_at}
-use Rattle.wire_names.specs.declared.table.Entry.{Entry}
+use Rattle.wire_names.specs.Table.{Entry, Table, IsTable, IsEntry, table_of, keyed, name_key, spelt_at}
 use Rattle.wire_names.specs.Written.{IsOverwritten}
 use Rattle.wire_names.proofs.LongerLemmas.{IsTable-longer, table_longer}
 use Rattle.wire_names.proofs.WrittenLemmas.{IsTableOf}

@@ -3,9 +3,8 @@ use Rattle.std.proofs.Common.{◌≡◌, ℕ, suc, zero, ◌+◌, ◌<◌, ◌�
 use Rattle.std.proofs.lemmas.List.{length-take-le, append_assoc, append-nil}
 use Rattle.std.proofs.lemmas.List.Elements.{All-nil, All-cons, All-head, All-tail, All-append}
 use Rattle.std.proofs.lemmas.List.Kept.{AllPairs-cons}
-use Rattle.wire_names.specs.Table.{Table, IsTable, Ascend, label_key, keyed, table_of, position_in, enter, entered}
+use Rattle.wire_names.specs.Table.{Entry, Table, IsTable, Ascend, label_key, keyed, table_of, position_in, enter, entered}
 use Rattle.wire_names.specs.Written.{new_entries, entries_of}
-use Rattle.wire_names.specs.declared.table.Entry.{Entry}
 use Rattle.wire_names.proofs.EntryLemmas.{entries_none, entries_some}
 use Rattle.wire_names.proofs.LongerLemmas.{spells_within}
 use Rattle.wire_names.proofs.TableLemmas.{target_spells}

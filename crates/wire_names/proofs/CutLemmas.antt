@@ -6,9 +6,8 @@ use Rattle.dns_name.specs.Labels.{labels_in, IsWhole, IsFirstLabel}
 use Rattle.dns_name.specs.Name.{wire_of, IsName}
 use Rattle.dns_name.proofs.LabelLemmas.{wire_of-labels_in, labels_in-wire_of}
 use Rattle.wire_names.specs.Cut.{cut_octets, IsCut}
-use Rattle.wire_names.specs.Table.{Table, position_in, enter, entered, keyed, label_key, name_key}
+use Rattle.wire_names.specs.Table.{Entry, Table, position_in, enter, entered, keyed, label_key, name_key}
 use Rattle.wire_names.specs.Written.{name_octets, new_entries, pointer_to, written, entries_of, starts_of, IsOverwritten, WritesOctets}
-use Rattle.wire_names.specs.declared.table.Entry.{Entry}
 use Rattle.wire_names.specs.declared.write.Cut.{Cut}
 use Rattle.wire_names.proofs.EntryLemmas.{octets_none, octets_some, entries_none, entries_some}
 use Rattle.wire_names.proofs.OverwrittenLemmas.{length_stays, IsOverwritten-then}

@@ -2,6 +2,7 @@ pub mod AscendLemmas
 pub mod CutLemmas
 pub mod EntryLemmas
 pub mod GrammarLemmas
+pub mod KeyLemmas
 pub mod LongerLemmas
 pub mod OverwrittenLemmas
 pub mod ReadLemmas

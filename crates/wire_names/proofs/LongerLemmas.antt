@@ -8,8 +8,7 @@ use Rattle.dns_name.specs.Name.{wire_of}
 use Rattle.wire_names.specs.NameAt.{name_at}
 use Rattle.wire_names.specs.Parts.{part_at, part_of, label_of, pointer_of, label_at}
 use Rattle.wire_names.specs.Spells.{Spells, closing, label, pointer}
-use Rattle.wire_names.specs.Table.{IsTable, IsTarget, IsEntry, spelt_at, table_of, name_key}
-use Rattle.wire_names.specs.declared.table.Entry.{Entry}
+use Rattle.wire_names.specs.Table.{Entry, IsTable, IsTarget, IsEntry, spelt_at, table_of, name_key}
 use Rattle.wire_names.specs.declared.part.NameReadFault.{NameReadFault}
 use Rattle.wire_names.specs.declared.part.NameReadFault.TheVariants.{Short, BadLength}
 use Rattle.wire_names.specs.declared.part.Part.{Part}

@@ -17,8 +17,7 @@ use Rattle.wire_names.specs.Spells.{Spells, closing, label, pointer}
 use Rattle.wire_names.specs.declared.part.NameReadFault.{NameReadFault}
 use Rattle.wire_names.specs.declared.part.Part.TheVariants.{Closing, Label, Pointer}
 use Rattle.wire_names.specs.NameAt.{name_at}
-use Rattle.wire_names.specs.Table.{IsTable, IsTarget, IsEntry, Ascend, name_key, table_of, spelt_at, same_spelling, Table, positions_in, position_in}
-use Rattle.wire_names.specs.declared.table.Entry.{Entry}
+use Rattle.wire_names.specs.Table.{Entry, IsTable, IsTarget, IsEntry, Ascend, name_key, octet_before, table_of, spelt_at, same_spelling, Table, positions_in, position_in}
 use Rattle.wire_names.proofs.GrammarLemmas.{once, name_at_spelt}
 
 -- some position behind it ends what a place spells
@@ -232,6 +231,18 @@ other_key msg entry key name is e differs = (
       absurd (differs (is.key ∙ ap name_key same ∙ sym e)),
 )
 
+-- a name whose key no position has is nowhere
+nowhere : (msg : List ℕ) (entries : List Entry) (key : ℕ) (name : List (List ℕ)) → IsTable msg entries → key ≡ name_key name → All (λ entry. entry.key ≡ key → ⊥) entries → positions_in (table_of msg entries) name ≡ []
+nowhere msg [] key name table e others = refl
+nowhere msg (entry ∷ entries) key name table e others =
+    let is = All-head (IsEntry msg) entry entries table in
+    let other = All-head (λ (x : Entry). x.key ≡ key → ⊥) entry entries others in
+    positions_in-step msg entries entry name false is.target (other_key msg entry key name is e other)
+    ∙ nowhere msg entries key name (All-tail (IsEntry msg) entry entries table) e (All-tail (λ (x : Entry). x.key ≡ key → ⊥) entry entries others)
+
+pub position_nowhere : (msg : List ℕ) (entries : List Entry) (key : ℕ) (name : List (List ℕ)) → IsTable msg entries → key ≡ name_key name → All (λ entry. entry.key ≡ key → ⊥) entries → None ≡ position_in (table_of msg entries) name
+position_nowhere msg entries key name table e others = sym (ap (reduce min) (nowhere msg entries key name table e others))
+
 pub position_found : (msg : List ℕ) (own items : List Entry) (i : ℕ) (d x : Entry) (name : List (List ℕ)) (b : Bool) → IsTable msg own → Ascend own → items ≡ own → i < length items → x ≡ get_or items i d → Answers msg x.position name b → b ≡ true → position_in (table_of msg own) name ≡ position_in (table_of msg (drop i items)) name → Some x.position ≡ position_in (table_of msg own) name
 position_found msg own items i d x name b table up same within here answers is so_far =
     let all : IsTable msg items = subst (IsTable msg) (sym same) table in
@@ -279,21 +290,24 @@ position_in-found msg entries target name table e =
 pub at_view : (msg : List ℕ) (own entries : List Entry) (name : List (List ℕ)) (found : Option ℕ) → own ≡ entries → position_in (table_of msg own) name ≡ found → position_in (table_of msg entries) name ≡ found
 at_view msg own entries name found same e = subst (λ (x : List Entry). position_in (table_of msg x) name ≡ found) same e
 
--- the key in a name's octets
-key_in-wire : (name : List (List ℕ)) (n : ℕ) → n ≡ get_or (wire_of name) 0 0 → get_or (wire_of name) (n - 1) 0 * 256 + get_or (wire_of name) n 0 ≡ name_key name
-key_in-wire [] n e = ap (λ (m : ℕ). get_or (0 ∷ []) (m - 1) 0 * 256 + get_or (0 ∷ []) m 0) e
+-- the key in a name's octets, of which the first is its first label's length
+abbrev pub octets_key : List ℕ → ℕ → ℕ
+octets_key octets n = (get_or octets (n - 3) 0 * 256 + get_or octets (n - 2) 0) * 65536 + (get_or octets (n - 1) 0 * 256 + get_or octets n 0)
+
+octet_in-wire : (own : List ℕ) (name : List (List ℕ)) (at back : ℕ) → at ≡ length own - back → get_or (wire_of (own ∷ name)) at 0 ≡ octet_before back own
+octet_in-wire own name at back e =
+    ap (λ (i : ℕ). get_or (wire_of (own ∷ name)) i 0) e ∙ get_or_append_left (length own ∷ own) (wire_of name) 0 (length own - back) (omega arith)
+
+pub four_octets : (a b c d w x y z : ℕ) → a ≡ w → b ≡ x → c ≡ y → d ≡ z → (a * 256 + b) * 65536 + (c * 256 + d) ≡ (w * 256 + x) * 65536 + (y * 256 + z)
+four_octets a b c d w x y z p q r s = omega arith
+
+key_in-wire : (name : List (List ℕ)) (n : ℕ) → n ≡ get_or (wire_of name) 0 0 → octets_key (wire_of name) n ≡ name_key name
+key_in-wire [] n e = ap (octets_key (0 ∷ [])) e
 key_in-wire (own ∷ name) n e =
-    let before = get_or_append_left (length own ∷ own) (wire_of name) 0 (length own - 1) (omega arith) in
-    let last = get_or_append_left (length own ∷ own) (wire_of name) 0 (length own) (omega arith) in
-    ap (λ (m : ℕ). get_or (wire_of (own ∷ name)) (m - 1) 0 * 256 + get_or (wire_of (own ∷ name)) m 0) e
-    ∙ ap (λ (x : ℕ). x * 256 + get_or (wire_of (own ∷ name)) (length own) 0) before
-    ∙ ap (λ (x : ℕ). get_or (length own ∷ own) (length own - 1) 0 * 256 + x) last
+    four_octets _ _ _ _ _ _ _ _ (octet_in-wire own name (n - 3) 3 (omega arith)) (octet_in-wire own name (n - 2) 2 (omega arith))
+    (octet_in-wire own name (n - 1) 1 (omega arith)) (octet_in-wire own name n 0 (omega arith))
 
-key_in-octets : (octets : List ℕ) (n : ℕ) → IsWhole octets → n ≡ get_or octets 0 0 → get_or octets (n - 1) 0 * 256 + get_or octets n 0 ≡ name_key (labels_in octets)
-key_in-octets octets n whole =
-    subst (λ (x : List ℕ). n ≡ get_or x 0 0 → get_or x (n - 1) 0 * 256 + get_or x n 0 ≡ name_key (labels_in octets)) (wire_of-labels_in octets whole)
+pub key_is : (octets : List ℕ) (n : ℕ) → IsWhole octets → n ≡ get_or octets 0 0 → octets_key octets n ≡ name_key (labels_in octets)
+key_is octets n whole =
+    subst (λ (x : List ℕ). n ≡ get_or x 0 0 → octets_key x n ≡ name_key (labels_in octets)) (wire_of-labels_in octets whole)
     (key_in-wire (labels_in octets) n)
-
-pub key_is : (octets : List ℕ) (n before last : ℕ) → IsWhole octets → n ≡ get_or octets 0 0 → before ≡ get_or octets (n - 1) 0 → last ≡ get_or octets n 0 → before * 256 + last ≡ name_key (labels_in octets)
-key_is octets n before last whole e b l =
-    ap (λ (x : ℕ). x * 256 + last) b ∙ ap (λ (x : ℕ). get_or octets (n - 1) 0 * 256 + x) l ∙ key_in-octets octets n whole e

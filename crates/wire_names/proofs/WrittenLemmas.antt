@@ -7,9 +7,8 @@ use Rattle.std.proofs.lemmas.List.Elements.{All-nil, All-cons, All-head, All-tai
 use Rattle.dns_name.specs.Name.{wire_of, IsLabel, IsName}
 use Rattle.wire_names.specs.Parts.{part_at, part_of, label_at}
 use Rattle.wire_names.specs.Spells.{Spells, closing, label, pointer}
-use Rattle.wire_names.specs.Table.{Table, IsTable, IsEntry, keyed, name_key, spelt_at, table_of, position_in, enter, entered}
+use Rattle.wire_names.specs.Table.{Entry, Table, IsTable, IsEntry, keyed, name_key, spelt_at, table_of, position_in, enter, entered}
 use Rattle.wire_names.specs.Written.{pointer_to, name_octets, new_entries, written, entries_of, table_after, IsOverwritten}
-use Rattle.wire_names.specs.declared.table.Entry.{Entry}
 use Rattle.wire_names.specs.declared.part.Part.TheVariants.{Label, Pointer}
 use Rattle.wire_names.proofs.EntryLemmas.{octets_none, octets_some, entries_none, entries_some}
 use Rattle.wire_names.proofs.LongerLemmas.{spells_longer, spells_within, ReadsName, ReadsName-spells, IsTable-longer, table_longer}

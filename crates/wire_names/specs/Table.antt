@@ -5,7 +5,6 @@ use Rattle.std.specs.Cmp.Lexicographic.{pointwise}
 use Rattle.std.specs.Result.{IsOk}
 use Rattle.dns_name.specs.Name.{Name}
 use Rattle.wire_names.specs.NameAt.{name_at}
-use Rattle.wire_names.specs.declared.table.Entry.{Entry}
 
 -- the table: positions of a message, each with the name that is spelt there, in the order in which they were entered
 abbrev pub Table : Type 0
@@ -36,15 +35,29 @@ entered position xs (y ∷ ys) = entered position (enter position xs y) ys
 abbrev pub spelt_at : List ℕ → ℕ → Name
 spelt_at msg at = elim (name_at msg at) [ Ok read ↦ read.0 | Err fault ↦ [] ]
 
--- the key of a label, its length octet in front of it: its last two octets (own)
+-- the octet so far from the end of a label with its length octet in front; the length octet where the label is too short
+abbrev pub octet_before : ℕ → List ℕ → ℕ
+octet_before back label = slice_index_or (length label ∷ label) (length label - back) 0
+
+-- the key of a label, its length octet in front of it: its last four octets (own)
 abbrev pub label_key : List ℕ → ℕ
-label_key label =
-    slice_index_or (length label ∷ label) (length label - 1) 0 * 256 + slice_index_or (length label ∷ label) (length label) 0
+label_key label = (octet_before 3 label * 256 + octet_before 2 label) * 65536 + (octet_before 1 label * 256 + octet_before 0 label)
 
 -- the key of a name: that of its first label; the root's is 0 (own)
 abbrev pub name_key : Name → ℕ
 name_key [] = 0
 name_key (label ∷ name) = label_key label
+
+-- a position of a message, and the key of the name that is spelt there
+pub record Entry : Type 0 where
+  pub position : ℕ
+  pub key : ℕ
+
+-- positions with their keys, each key at its position's index
+abbrev pub with_keys : List ℕ → List ℕ → List Entry
+with_keys [] keys = []
+with_keys (at ∷ positions) [] = []
+with_keys (at ∷ positions) (key ∷ keys) = record { position = at; key = key } ∷ with_keys positions keys
 
 -- the positions of a table, each with the key of the name that is spelt there
 abbrev pub keyed : Table → List Entry

@@ -1,8 +1,7 @@
 -- How a name is written into a message, with pointers to names in front of it (RFC 1035, 4.1.4).
 use Rattle.std.specs.Prelude.{◌≡◌, ℕ, ◌+◌, ◌/◌, ◌%◌, ◌<◌, ◌≤◌, Bool, List, [], ◌∷◌, ◌++◌, length, take, drop, if◌then◌else◌, Option, Some, None}
 use Rattle.dns_name.specs.Name.{Name, wire_of}
-use Rattle.wire_names.specs.Table.{Table, position_in, entered, label_key}
-use Rattle.wire_names.specs.declared.table.Entry.{Entry}
+use Rattle.wire_names.specs.Table.{Entry, Table, position_in, entered, label_key}
 
 -- the two octets of a pointer to a position below 16384 (RFC 1035, 4.1.4)
 abbrev pub pointer_to : ℕ → List ℕ

@@ -2,11 +2,10 @@
 ghost use Rattle.std.specs.Prelude.{◌≡◌, ℕ, ◌+◌, ◌≤◌, ◌↔◌, Bool, List, [], ◌∷◌, ◌++◌, length, codes, All, Some, Ok, Err};
 ghost use Rattle.dns_name.specs.Name.{Name, wire_of, IsLabel, IsName};
 ghost use Rattle.wire_names.specs.declared.part.NameReadFault.{NameReadFault};
-ghost use Rattle.wire_names.specs.declared.table.Entry.{Entry};
 ghost use Rattle.wire_names.specs.declared.part.NameReadFault.TheVariants.{Short, BadLength, BadPointer};
 ghost use Rattle.wire_names.specs.NameAt.{name_at};
 ghost use Rattle.wire_names.specs.Spells.{Spells, Refuses};
-ghost use Rattle.wire_names.specs.Table.{IsTable, table_of, position_in};
+ghost use Rattle.wire_names.specs.Table.{Entry, IsTable, table_of, position_in};
 ghost use Rattle.wire_names.specs.Written.{written, name_octets, new_entries};
 ghost use Rattle.wire_names.specs.Examples.{f_isi_arpa};
 

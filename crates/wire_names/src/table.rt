@@ -1,5 +1,5 @@
 //! The names of a message that pointers can name.
-ghost use Rattle.std.specs.Prelude.{◌≡◌, ℕ, ◌+◌, ◌<◌, ◌^◌, ◌↔◌, [], length, take, IsTrue, slice_index_or};
+ghost use Rattle.std.specs.Prelude.{◌≡◌, ℕ, ◌+◌, ◌<◌, ◌^◌, ◌↔◌, [], length, take, IsTrue, slice_index_or, get_or};
 ghost use Rattle.dns_name.specs.Labels.{labels_in, IsWhole};
 ghost use Rattle.wire_names.specs.Spells.{Spells};
 ghost use Rattle.wire_names.specs.Table.{IsTable, IsEntry, Ascend, name_key, table_of, position_in, enter, entered};
@@ -16,27 +16,24 @@ const MAX_POSITIONS: usize = 256;
 /// The highest position that a pointer can name, of 14 bits (RFC 1035, 4.1.4).
 const MAX_TARGET: usize = 16383;
 
-/// The position of a name in a message, and the name's key, by which most positions are passed over: the last two octets of
-/// its first label, with its length octet in front of it (own).
-#[derive(Clone, Copy, Default)]
-pub(crate) struct Entry {
-    position: u16,
-    key: u16,
-}
-
-/// The positions of names in a message with their keys, in the order in which they were entered.
+/// The positions of names in a message, and the key of each name, in the order in which they were entered. Contracts see a list
+/// of entries, each a position with its key: the last four octets of the name's first label, with its length octet in front of
+/// it (own). A key stands at its position's index, so that one search of the keys alone tells that a name is nowhere.
 #[derive(Drop)]
 pub(crate) struct Positions {
-    own: ArrayVec<Entry, MAX_POSITIONS>,
+    positions: ArrayVec<u16, MAX_POSITIONS>,
+    keys: ArrayVec<u32, MAX_POSITIONS>,
 }
 
 impl Model for Positions {
-    ghost use Rattle.std.specs.Prelude.{List};
-    ghost use Rattle.wire_names.specs.declared.table.Entry.{Entry};
+    ghost use Rattle.std.specs.Prelude.{◌≡◌, List, length};
+    ghost use Rattle.wire_names.specs.Table.{Entry, with_keys};
 
     ghost Value = { List Entry };
 
-    ghost view = { λ a. a.own.items };
+    ghost view = { λ a. with_keys a.positions.items a.keys.items };
+
+    ghost invariant = { λ a. length a.positions.items ≡ length a.keys.items };
 }
 
 impl Positions {
@@ -45,7 +42,8 @@ impl Positions {
         ensures { result ≡ [] }
     {
         Positions {
-            own: ArrayVec::new(),
+            positions: ArrayVec::new(),
+            keys: ArrayVec::new(),
         }
     }
 
@@ -57,12 +55,24 @@ impl Positions {
         ensures { result ≡ position_in (table_of msg.now self.now) (labels_in octets.now) }
     {
         let key = key_of(octets);
-        for entry in self.own.as_slice() {
-            if is_spelt(msg, *entry, key, octets) {
-                return Some(entry.position);
+        if !self.keys.as_slice().contains(&key) {
+            return None;
+        }
+        for i in 0..self.keys.len() {
+            let (position, own) = self.entry(i);
+            if is_spelt(msg, position, own, key, octets) {
+                return Some(position);
             }
         }
         None
+    }
+
+    /// The position at an index, and its key.
+    fn entry(&self, i: usize) -> (u16, u32)
+        requires { i < length self.now }
+        ensures { record { position = result.0; key = result.1 } ≡ get_or self.now i (record { position = 0; key = 0 }) }
+    {
+        (self.positions[i], self.keys[i])
     }
 
     /// Enters the positions of so many labels of a name whose octets stand at a position, with their keys: as long as there is
@@ -85,51 +95,52 @@ impl Positions {
     }
 
     /// Enters a position with its key where there is room, and where a pointer can name it (RFC 1035, 4.1.4).
-    fn enter_one(&mut self, position: usize, key: u16)
+    fn enter_one(&mut self, position: usize, key: u32)
         ensures { self.new ≡ enter (λ entry. entry.position) self.old (record { position = position; key = key }) }
     {
-        if !self.own.is_full() && position <= MAX_TARGET {
-            self.own.push(Entry {
-                position: position as u16,
-                key,
-            });
+        if self.keys.len() < MAX_POSITIONS && position <= MAX_TARGET {
+            self.positions.push(position as u16);
+            self.keys.push(key);
         }
     }
 }
 
-/// The key of the name in these octets: the last two octets of its first label, with its length octet in front of it (own).
-fn key_of(octets: &[u8]) -> u16
+/// The key of the name in these octets: the last four octets of its first label, with its length octet in front of it; the
+/// length octet stands for those that a short label lacks (own).
+fn key_of(octets: &[u8]) -> u32
     requires whole { IsWhole octets.now }
     ensures { result ≡ name_key (labels_in octets.now) }
 {
-    let len = usize::from(octet_at(octets, 0));
-    let before = octet_at(octets, len.saturating_sub(1));
-    let last = octet_at(octets, len);
-    u16::from(before) * 256 + u16::from(last)
+    let len = octet_at(octets, 0) as usize;
+    let high = octet_at(octets, len.saturating_sub(3)) * 256
+        + octet_at(octets, len.saturating_sub(2));
+    let low = octet_at(octets, len.saturating_sub(1)) * 256 + octet_at(octets, len);
+    high * 65536 + low
 }
 
 /// The octet at an index, or 0 behind the end.
-fn octet_at(octets: &[u8], index: usize) -> u8
-    ensures { result ≡ slice_index_or octets.now index 0 }
+fn octet_at(octets: &[u8], index: usize) -> u32
+    ensures octet { result ≡ slice_index_or octets.now index 0 }
+    ensures low { result < 256 }
 {
     match octets.get(index) {
-        Some(octet) => *octet,
+        Some(octet) => u32::from(*octet),
         None => 0,
     }
 }
 
-/// Whether the octets at a position spell the name in these octets, case included. Most positions of a table are passed over
-/// by their key, and the message isn't looked at.
-fn is_spelt(msg: &[u8], entry: Entry, key: u16, octets: &[u8]) -> bool
-    requires entry { IsEntry msg.now entry }
+/// Whether the octets at a position spell the name in these octets, case included. Where the keys differ, the message isn't
+/// looked at.
+fn is_spelt(msg: &[u8], position: u16, own: u32, key: u32, octets: &[u8]) -> bool
+    requires entry { IsEntry msg.now (record { position = position; key = own }) }
     requires whole { IsWhole octets.now }
     requires key { key ≡ name_key (labels_in octets.now) }
-    ensures { IsTrue result ↔ ((next : ℕ) × Spells msg.now entry.position entry.position (labels_in octets.now) next) }
+    ensures { IsTrue result ↔ ((next : ℕ) × Spells msg.now position position (labels_in octets.now) next) }
 {
-    if entry.key != key {
+    if own != key {
         return false;
     }
-    spells(msg, usize::from(entry.position), octets)
+    spells(msg, usize::from(position), octets)
 }
 
 /// Whether the octets at a position spell the name in these octets, label by label.

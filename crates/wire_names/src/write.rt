@@ -23,7 +23,7 @@ pub struct NameWriter {
 impl Model for NameWriter {
     ghost use Rattle.std.specs.Prelude.{List};
     ghost use Rattle.wire_names.specs.Table.{Ascend};
-    ghost use Rattle.wire_names.specs.declared.table.Entry.{Entry};
+    ghost use Rattle.wire_names.specs.Table.{Entry};
 
     ghost Value = { List Entry };
 

@@ -1,6 +1,6 @@
 use Rattle.std.proofs.Common.{◌≡◌, ℕ, List, [], ◌∷◌, length, Option, Some, ap, arith, rules, subst}
 use Rattle.std.specs.Option.{option_copied}
-use Rattle.wire_names.specs.declared.table.Entry.{Entry}
+use Rattle.wire_names.specs.Table.{Entry}
 use Rattle.dns_message.specs.Encoding.{each}
 use Rattle.dns_message.specs.Encoded.{WritesEncoding}
 use Rattle.dns_message.specs.Octets.{questions, question_octets}

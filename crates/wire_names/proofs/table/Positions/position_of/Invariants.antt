@@ -4,7 +4,6 @@ use Rattle.wire_names.specs.Table.{table_of, position_in}
 use Rattle.wire_names.proofs.table.Positions.position_of.Given as goal
 
 -- the positions so far don't spell the name
-abbrev pub invariant-loop-entry : goal.invariant-loop-entry
-invariant-loop-entry l =
-    position_in (table_of l.msg l.self) (labels_in l.octets)
-    ≡ position_in (table_of l.msg (drop l.entry-index l.entry-items)) (labels_in l.octets)
+abbrev pub invariant-loop-i : goal.invariant-loop-i
+invariant-loop-i l =
+    position_in (table_of l.msg l.self) (labels_in l.octets) ≡ position_in (table_of l.msg (drop l.i l.self)) (labels_in l.octets)

@@ -3,8 +3,7 @@ use Rattle.dns_name.specs.Labels.{IsWhole}
 use Rattle.dns_name.specs.Name.{wire_of, IsName}
 use Rattle.dns_name.proofs.LabelLemmas.{IsWhole-wire_of}
 use Rattle.wire_names.specs.Cut.{cut_octets}
-use Rattle.wire_names.specs.Table.{table_of, entered, keyed}
-use Rattle.wire_names.specs.declared.table.Entry.{Entry}
+use Rattle.wire_names.specs.Table.{Entry, table_of, entered, keyed}
 use Rattle.wire_names.specs.Written.{table_after, entries_of, IsOverwritten, WritesOctets}
 use Rattle.wire_names.proofs.AscendLemmas.{positions_ascend}
 use Rattle.wire_names.proofs.CutLemmas.{IsCutOf-name}
