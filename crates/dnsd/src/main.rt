@@ -13,7 +13,7 @@ pub mod serve;
 use command::{BAD_COMMAND, CommandFault, Task, parse_words};
 use commands::{Command, DONE, FAILED, Source, run_text, run_with_zone, tell};
 use serve::run_serve;
-use std::io::{self, BufReader, BufWriter};
+use std::io::{self, BufRead, BufReader, BufWriter, Write};
 use std::net::{Net, TcpListener, TcpStream};
 use std::process::ExitCode;
 use std::rt::{Env, Files};
@@ -51,40 +51,42 @@ fn run_words<
     match parse_words(alloc, words.as_slice()) {
         Ok(Task::Lines(command)) => run_command(rt, &command),
         Ok(Task::Serve(serve)) => run_serve(rt, &serve),
-        Err(CommandFault::Words(fault)) => {
+        Err(fault) => tell_fault(rt, &fault),
+    }
+}
+
+/// Says on standard error why the words are refused, or on standard output what they ask to be told, and gives the status.
+fn tell_fault<R: Print + Eprint>(rt: &R, fault: &CommandFault<'_>) -> io::Result<u8> {
+    match fault {
+        CommandFault::Words(fault) => {
             fault.print(rt)?;
-            Ok(status_of(&fault))
+            return Ok(status_of(fault));
         }
-        Err(CommandFault::Origin(word, fault)) => {
+        CommandFault::Origin(word, fault) => {
             eprintln!(rt; "error: '{word}' is no name for --origin: {fault}")?;
-            Ok(BAD_COMMAND)
         }
-        Err(
-            CommandFault::Number {
-                option,
-                word,
-                least,
-                most,
-            },
-        ) => {
+        CommandFault::Number {
+            option,
+            word,
+            least,
+            most,
+        } => {
             eprintln!(rt;
                 "error: --{option} takes a number from {least} to {most}, and '{word}' is none"
             )?;
-            Ok(BAD_COMMAND)
         }
-        Err(CommandFault::Listen(word)) => {
+        CommandFault::Listen(word) => {
             eprintln!(rt;
                 "error: --listen takes an address and a port, as 127.0.0.1:5353 or [::1]:5353, and '{word}' is none"
             )?;
-            Ok(BAD_COMMAND)
         }
-        Err(CommandFault::Allow(word)) => {
+        CommandFault::Allow(word) => {
             eprintln!(rt;
                 "error: --allow takes addresses with commas between them, as 127.0.0.1,192.0.2.7, and '{word}' is none"
             )?;
-            Ok(BAD_COMMAND)
         }
     }
+    Ok(BAD_COMMAND)
 }
 
 /// The status of a command line that clap refused: want of memory has one of its own.
@@ -98,29 +100,51 @@ fn status_of(fault: &clap::Error) -> u8
     }
 }
 
-/// Does a command over standard input and output.
+/// Does a command over standard input and output, and writes what it says of a failure to standard error.
 fn run_command<R: Files + Print + Eprint + Input + AllocGlobal>(
     rt: &R,
     command: &Command<'_>,
 ) -> io::Result<u8> {
     let alloc = rt.alloc();
-    let mut reader = BufReader::new(alloc, rt.reader())?;
-    let mut writer = BufWriter::new(alloc, io::writer(rt))?;
     let mut errors = Vec::new(alloc);
-    let status = match command.zone() {
-        Source::Input => run_text(alloc, command, &mut reader, &mut writer, &mut errors),
-        Source::File(path) => {
-            let text = match fs::read(rt, path) {
-                Ok(text) => text,
-                Err(fault) => {
-                    eprintln!(rt; "error: the zone's file '{path}' can't be read: {fault}")?;
-                    return Ok(FAILED);
-                }
-            };
-            let done = run_with_zone(alloc, command, text.as_slice(), &mut reader, &mut writer);
-            tell(alloc, done, text.as_slice(), &mut errors)
-        }
-    };
+    let status = run_on_streams(rt, command, &mut errors)?;
     rt.eprint(String::from_utf8_lossy(alloc, errors.as_slice())?)?;
     Ok(status)
+}
+
+/// Does a command over standard input and output; what it says of a failure goes behind `errors`.
+fn run_on_streams<R: Files + Print + Eprint + Input + AllocGlobal>(
+    rt: &R,
+    command: &Command<'_>,
+    errors: &mut Vec<u8>,
+) -> io::Result<u8> {
+    let alloc = rt.alloc();
+    let mut reader = BufReader::new(alloc, rt.reader())?;
+    let mut writer = BufWriter::new(alloc, io::writer(rt))?;
+    match command.zone() {
+        Source::Input => Ok(run_text(alloc, command, &mut reader, &mut writer, errors)),
+        Source::File(path) => run_with_file(rt, command, path, &mut reader, &mut writer, errors),
+    }
+}
+
+/// Does a command over a file's zone, with requests from `input` and replies to `output`.
+fn run_with_file<R: Files + Eprint + AllocGlobal, I: BufRead, O: Write + Drop>(
+    rt: &R,
+    command: &Command<'_>,
+    path: &str,
+    input: &mut I,
+    output: &mut BufWriter<O>,
+    errors: &mut Vec<u8>,
+) -> io::Result<u8> {
+    let alloc = rt.alloc();
+    match fs::read(rt, path) {
+        Ok(text) => {
+            let done = run_with_zone(alloc, command, text.as_slice(), input, output);
+            Ok(tell(alloc, done, text.as_slice(), errors))
+        }
+        Err(fault) => {
+            eprintln!(rt; "error: the zone's file '{path}' can't be read: {fault}")?;
+            Ok(FAILED)
+        }
+    }
 }

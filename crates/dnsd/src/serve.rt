@@ -209,26 +209,53 @@ fn serve_on<
         + Clock
         + Sync,
 >(rt: &R, serve: &Serve<'_>, zone: Zone) -> io::Result<u8> {
-    let (listener, datagrams, address) = match bound_at(rt, serve.listen) {
-        Ok(bound) => bound,
-        Err((transport, fault)) => {
-            let listen = serve.listen;
-            match reason_of(&fault) {
-                Some(reason) => {
-                    eprintln!(rt; "error: {listen} can't be listened on by {transport}: {reason}")?;
-                }
-                None => {
-                    eprintln!(rt; "error: {listen} can't be listened on by {transport}: {fault}")?;
-                }
-            }
-            return Ok(FAILED);
+    match bound_at(rt, serve.listen) {
+        Ok((listener, datagrams, address)) => {
+            serve_bound(rt, serve, zone, (&listener, &datagrams), address)
         }
-    };
-    let (apex, serial, records) = (zone.apex().to_text(), zone.serial().0, records_of(&zone));
-    eprintln!(rt; "listening on {address}: {apex} with serial {serial}, {records} records")?;
+        Err((transport, fault)) => {
+            tell_unbound(rt, serve.listen, transport, &fault)?;
+            Ok(FAILED)
+        }
+    }
+}
+
+/// Says why an address can't be listened on.
+fn tell_unbound<R: Eprint>(
+    rt: &R,
+    listen: SocketAddr,
+    transport: &str,
+    fault: &io::Error,
+) -> io::Result<()> {
+    match reason_of(fault) {
+        Some(reason) => {
+            eprintln!(rt; "error: {listen} can't be listened on by {transport}: {reason}")
+        }
+        None => eprintln!(rt; "error: {listen} can't be listened on by {transport}: {fault}"),
+    }
+}
+
+/// Serves a zone on a listener and a socket of datagrams that stand at an address, once it is told that they do.
+fn serve_bound<
+    R: Eprint
+        + AllocGlobal
+        + Net<Listener = TcpListener, Stream = TcpStream>
+        + Threads
+        + Wait
+        + Clock
+        + Sync,
+>(
+    rt: &R,
+    serve: &Serve<'_>,
+    zone: Zone,
+    sockets: (&TcpListener, &UdpSocket),
+    address: SocketAddr,
+) -> io::Result<u8> {
+    let (listener, datagrams) = sockets;
+    tell_of_zone(rt, &zone, address)?;
     let plan = Plan {
-        datagrams: &datagrams,
-        listener: &listener,
+        datagrams,
+        listener,
         workers: serve.workers,
         keep: serve.keep,
         most: serve.most,
@@ -242,6 +269,12 @@ fn serve_on<
             Ok(FAILED)
         }
     }
+}
+
+/// Says at which address which zone is served.
+fn tell_of_zone<R: Eprint>(rt: &R, zone: &Zone, address: SocketAddr) -> io::Result<()> {
+    let (apex, serial, records) = (zone.apex().to_text(), zone.serial().0, records_of(zone));
+    eprintln!(rt; "listening on {address}: {apex} with serial {serial}, {records} records")
 }
 
 /// A listener at an address, a socket of datagrams beside it, and the address with the port that they have; or what carries the
