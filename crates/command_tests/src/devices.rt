@@ -1,11 +1,8 @@
-//! What is told of faults, and of devices that fail.
-use crate::made::Part::{Text, Zone};
-use crate::made::{Kind, STEPS, UDP, command, text_of};
-use commands::{Command, DONE, FAILED, Fault, REFUSED, run_text};
-use master_file::{Cause, FileFault};
-use std::alloc::Global;
+//! Devices that fail.
+use crate::made::{Kind, ZONE, command};
+use commands::run_text;
+use std::alloc::{AllocError, Global};
 use std::io::{self, BufWriter, Cursor, ErrorKind, Write};
-use world_run::WorldFault;
 
 /// A writer that takes so many octets and no more, and may fail to flush.
 #[derive(Drop)]
@@ -49,7 +46,7 @@ impl Device<'_> {
 /// Whether a command over a text has this status, where the device takes this but for so many octets, and may fail to flush.
 fn ends_with(
     alloc: Global,
-    command: &Command<'_>,
+    kind: Kind,
     text: &[u8],
     output: &[u8],
     over: usize,
@@ -64,26 +61,31 @@ fn ends_with(
     };
     let mut writer = BufWriter::new(alloc, device).ok()?;
     let mut errors = Vec::new(alloc);
-    let status = run_text(alloc, command, &mut reader, &mut writer, &mut errors);
+    let status = run_text(alloc, &command(kind), &mut reader, &mut writer, &mut errors);
     let (device, _) = writer.into_parts();
     let says = errors.is_empty() == (status == 0);
     Some(says && status == want && device.is_full(over))
 }
 
-/// Whether a command is done where its output was flushed: a device that takes it and then fails to flush, or takes a part of
-/// it, ends the program with status 3.
-fn device_decides(alloc: Global, kind: Kind, text: &[u8], output: &[u8]) -> Option<bool> {
-    let command = command(kind)?;
-    let whole = ends_with(alloc, &command, text, output, 0, true, 0)?;
-    let unflushed = ends_with(alloc, &command, text, output, 0, false, 3)?;
-    let part = ends_with(alloc, &command, text, output, 1, true, 3)?;
-    Some(whole && unflushed && part)
+/// The zone of the examples, a line `%`, and an input.
+fn text_of(alloc: Global, input: &str) -> Result<String, AllocError> {
+    let mut text = String::new(alloc);
+    text.push_str(ZONE)?;
+    text.push_str("%\n")?;
+    text.push_str(input)?;
+    Ok(text)
 }
 
-/// The same of an input over the zone of the examples.
+/// Whether a command is done where its output was flushed: a device that takes it and then fails to flush, or takes a part of
+/// it, ends the program with status 3.
 fn decides(alloc: Global, kind: Kind, input: &str, output: &str) -> Option<bool> {
-    let text = text_of(alloc, &[Zone], input).ok()?;
-    device_decides(alloc, kind, text.as_str().as_bytes(), output.as_bytes())
+    let text = text_of(alloc, input).ok()?;
+    let text = text.as_str().as_bytes();
+    let output = output.as_bytes();
+    let whole = ends_with(alloc, kind, text, output, 0, true, 0)?;
+    let unflushed = ends_with(alloc, kind, text, output, 0, false, 3)?;
+    let part = ends_with(alloc, kind, text, output, 1, true, 3)?;
+    Some(whole && unflushed && part)
 }
 
 /// A query and its reply.
@@ -101,8 +103,11 @@ const OF_SCRIPT: &str =
 
 #[test]
 fn devices(rt: HostRuntime) {
-    assert_eq!(rt; decides(rt.alloc(), UDP, QUERY, REPLY), Some(true));
-    assert_eq!(rt; decides(rt.alloc(), STEPS, SCRIPT, OF_SCRIPT), Some(true));
+    assert_eq!(rt; decides(rt.alloc(), Kind::Answer, QUERY, REPLY), Some(true));
+    assert_eq!(rt;
+        decides(rt.alloc(), Kind::Steps, SCRIPT, OF_SCRIPT),
+        Some(true)
+    );
 }
 
 /// What is told of a text without records.
@@ -110,7 +115,6 @@ const NOTHING: &[u8] = b"line 0: M11 Apex\nthe zone has no SOA, or no NS at the 
 
 /// Whether a refusal has this status where the device of errors has so much room.
 fn is_untold(alloc: Global, room: usize, want: u8) -> Option<bool> {
-    let command = command(STEPS)?;
     let mut reader = Cursor::new(b"%\n".as_slice());
     let mut writer = BufWriter::new(alloc, Vec::new(alloc)).ok()?;
     let mut errors = Device {
@@ -118,7 +122,13 @@ fn is_untold(alloc: Global, room: usize, want: u8) -> Option<bool> {
         room,
         flushes: true,
     };
-    let status = run_text(alloc, &command, &mut reader, &mut writer, &mut errors);
+    let status = run_text(
+        alloc,
+        &command(Kind::Steps),
+        &mut reader,
+        &mut writer,
+        &mut errors,
+    );
     Some(status == want && errors.is_full(NOTHING.len().saturating_sub(room)))
 }
 
@@ -128,49 +138,4 @@ fn untold_refusal(rt: HostRuntime) {
     for (room, want) in [(71, 1), (70, 3), (17, 3), (16, 3), (0, 3)] {
         assert_eq!(rt; is_untold(rt.alloc(), room, want), Some(true), "{room}");
     }
-}
-
-/// Whether a fault is told in these words, with the status of a refusal.
-fn is_told(alloc: Global, fault: &Fault, words: &str) -> Option<bool> {
-    let told = format!(in alloc; "{fault}").ok()?;
-    Some(told.as_str() == words && fault.status() == 1)
-}
-
-/// The same of a fault of a zone's text.
-fn zone_is_told(alloc: Global, line: u64, cause: Cause, words: &str) -> Option<bool> {
-    is_told(alloc, &Fault::Zone(FileFault { line, cause }), words)
-}
-
-/// Faults of a zone's text, and their words.
-const OF_ZONE: &[(u64, Cause, &str)] = &[
-    (0, Cause::Apex, "line 0: M11 Apex"),
-    (3, Cause::BadName, "line 3: M2 BadName"),
-    (14, Cause::NoMemory, "line 14: M14 NoMemory"),
-];
-
-/// The first that is told otherwise.
-fn wrong_words(alloc: Global) -> Option<&'static str> {
-    for (line, cause, words) in OF_ZONE {
-        if zone_is_told(alloc, *line, *cause, words) != Some(true) {
-            return Some(*words);
-        }
-    }
-    None
-}
-
-/// Whether the faults of scripts are told in their words.
-fn scripts_are_told(alloc: Global) -> Option<bool> {
-    let memory = is_told(alloc, &Fault::World(WorldFault::NoMemory), "V1 NoMemory")?;
-    let limit = is_told(alloc, &Fault::World(WorldFault::Limit), "V2 Limit")?;
-    let last = "line 18446744073709551615: bad";
-    let line = is_told(alloc, &Fault::Script(18_446_744_073_709_551_615), last)?;
-    Some(memory && limit && line)
-}
-
-// The words of the faults that have a code, and the statuses.
-#[test]
-fn words(rt: HostRuntime) {
-    assert_eq!(rt; wrong_words(rt.alloc()), None);
-    assert_eq!(rt; scripts_are_told(rt.alloc()), Some(true));
-    assert!(rt; DONE == 0 && REFUSED == 1 && FAILED == 3);
 }

@@ -2,9 +2,34 @@
 //!
 //! What is wanted has for each entry its line, a plus sign where that line begins with a blank, its words with a bar before
 //! each, and the line of a fault behind an exclamation mark.
-use crate::made::{behind, behind_number};
 use std::alloc::Global;
 use zone_lexing::{Entries, EntryHead, Word};
+
+/// What of a wanted text is behind its part, which it begins with.
+fn behind<'a>(want: &'a [u8], part: &[u8]) -> Option<&'a [u8]> {
+    if !want.starts_with(part) {
+        return None;
+    }
+    want.get(part.len()..)
+}
+
+/// What of a wanted text is behind a number's digits, which it begins with.
+fn behind_number(want: &[u8], number: u64) -> Option<&[u8]> {
+    let mut len = 0usize;
+    let mut read = 0u64;
+    for octet in want {
+        if !octet.is_ascii_digit() {
+            break;
+        }
+        let digit = u64::from(octet.saturating_sub(b'0'));
+        read = read.saturating_mul(10).saturating_add(digit);
+        len = len.saturating_add(1);
+    }
+    if len == 0 || read != number {
+        return None;
+    }
+    want.get(len..)
+}
 
 /// What of a wanted text is behind a word.
 fn behind_word<'a>(want: &'a [u8], word: Word<'_>) -> Option<&'a [u8]> {
