@@ -1,5 +1,6 @@
 # Updates (RFC 2136) and what is asked behind them, by the octets that RFC 2136 and RFC 1035 give. Each paragraph is a run of its own, over the
-# zone as it is.
+# zone as it is. The reply to an update is a header, in which 4321a8 stands in front of the code (RFC 2136, 2.2): 00 NOERROR, 03 NXDOMAIN,
+# 05 REFUSED, 06 YXDOMAIN, 07 YXRRSET, 08 NXRRSET, 0a NOTZONE.
 
 takes_zone <zones/example.test.zone
 

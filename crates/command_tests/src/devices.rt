@@ -1,71 +1,6 @@
 //! Devices that fail.
-use crate::made::{Kind, ZONE, command};
-use commands::run_text;
+use crate::made::{Device, Kind, ZONE, tell};
 use std::alloc::{AllocError, Global};
-use std::io::{self, BufWriter, Cursor, ErrorKind, Write};
-
-/// A writer that takes so many octets and no more, and may fail to flush.
-#[derive(Drop)]
-struct Device<'a> {
-    /// What it is to be given, of which what it has taken is left out; None where it was given something else.
-    left: Option<&'a [u8]>,
-    room: usize,
-    flushes: bool,
-}
-
-impl Write for Device<'_> {
-    fn write(&mut self, buf: &[u8]) -> io::Result<usize> {
-        let len = buf.len().min(self.room);
-        if len == 0 && !buf.is_empty() {
-            return Err(io::Error::from(ErrorKind::BrokenPipe));
-        }
-        self.room = self.room.saturating_sub(len);
-        self.left = match self.left {
-            Some(left) if left.starts_with(&buf[..len]) => left.get(len..),
-            _ => None,
-        };
-        Ok(len)
-    }
-
-    fn flush(&mut self) -> io::Result<()> {
-        if self.flushes {
-            Ok(())
-        } else {
-            Err(io::Error::from(ErrorKind::BrokenPipe))
-        }
-    }
-}
-
-impl Device<'_> {
-    /// Whether it has no room left, and was given what it was to be given, all but so many octets.
-    fn is_full(&self, over: usize) -> bool {
-        self.room == 0 && self.left.map(|left| left.len()) == Some(over)
-    }
-}
-
-/// Whether a command over a text has this status, where the device takes this but for so many octets, and may fail to flush.
-fn ends_with(
-    alloc: Global,
-    kind: Kind,
-    text: &[u8],
-    output: &[u8],
-    over: usize,
-    flushes: bool,
-    want: u8,
-) -> Option<bool> {
-    let mut reader = Cursor::new(text);
-    let device = Device {
-        left: Some(output),
-        room: output.len().saturating_sub(over),
-        flushes,
-    };
-    let mut writer = BufWriter::new(alloc, device).ok()?;
-    let mut errors = Vec::new(alloc);
-    let status = run_text(alloc, &command(kind), &mut reader, &mut writer, &mut errors);
-    let (device, _) = writer.into_parts();
-    let says = errors.is_empty() == (status == 0);
-    Some(says && status == want && device.is_full(over))
-}
 
 /// The zone of the examples, a line `%`, and an input.
 fn text_of(alloc: Global, input: &str) -> Result<String, AllocError> {
@@ -76,15 +11,31 @@ fn text_of(alloc: Global, input: &str) -> Result<String, AllocError> {
     Ok(text)
 }
 
+/// Whether a command over an input, where the device has so much room and may fail to flush, has this status, and wrote as
+/// much of this output.
+fn ends_with(
+    alloc: Global,
+    kind: Kind,
+    input: &str,
+    output: &str,
+    (room, flushes, status): (usize, bool, u8),
+) -> Option<bool> {
+    let text = text_of(alloc, input).ok()?;
+    let device = Device::new(alloc, room, flushes);
+    let errors = Device::new(alloc, 1000, true);
+    let told = tell(alloc, kind, text.as_str().as_bytes(), device, errors)?;
+    let says = told.errors.is_empty() == (status == 0);
+    let part = output.as_bytes().get(..room)?;
+    Some(says && told.status == status && told.written.as_slice() == part)
+}
+
 /// Whether a command is done where its output was flushed: a device that takes it and then fails to flush, or takes a part of
 /// it, ends the program with status 3.
 fn decides(alloc: Global, kind: Kind, input: &str, output: &str) -> Option<bool> {
-    let text = text_of(alloc, input).ok()?;
-    let text = text.as_str().as_bytes();
-    let output = output.as_bytes();
-    let whole = ends_with(alloc, kind, text, output, 0, true, 0)?;
-    let unflushed = ends_with(alloc, kind, text, output, 0, false, 3)?;
-    let part = ends_with(alloc, kind, text, output, 1, true, 3)?;
+    let len = output.len();
+    let whole = ends_with(alloc, kind, input, output, (len, true, 0))?;
+    let unflushed = ends_with(alloc, kind, input, output, (len, false, 3))?;
+    let part = ends_with(alloc, kind, input, output, (len.saturating_sub(1), true, 3))?;
     Some(whole && unflushed && part)
 }
 
@@ -113,23 +64,13 @@ fn devices(rt: HostRuntime) {
 /// What is told of a text without records.
 const NOTHING: &[u8] = b"line 0: M11 Apex\nthe zone has no SOA, or no NS at the owner of its SOA\n";
 
-/// Whether a refusal has this status where the device of errors has so much room.
+/// Whether a refusal has this status where the device of errors has so much room, of which none is left.
 fn is_untold(alloc: Global, room: usize, want: u8) -> Option<bool> {
-    let mut reader = Cursor::new(b"%\n".as_slice());
-    let mut writer = BufWriter::new(alloc, Vec::new(alloc)).ok()?;
-    let mut errors = Device {
-        left: Some(NOTHING),
-        room,
-        flushes: true,
-    };
-    let status = run_text(
-        alloc,
-        &command(Kind::Steps),
-        &mut reader,
-        &mut writer,
-        &mut errors,
-    );
-    Some(status == want && errors.is_full(NOTHING.len().saturating_sub(room)))
+    let output = Device::new(alloc, 0, true);
+    let errors = Device::new(alloc, room, true);
+    let told = tell(alloc, Kind::Steps, b"%\n", output, errors)?;
+    let part = NOTHING.get(..room)?;
+    Some(told.status == want && told.errors.as_slice() == part)
 }
 
 // A refusal that can't be told is a device's fault.

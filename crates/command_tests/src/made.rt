@@ -1,7 +1,9 @@
-//! What the tests share: the zone of the examples, and commands over it.
-use commands::{Command, Source};
+//! What the tests share: the zone of the examples, commands over it, and what they tell devices that may fail.
+use commands::{Command, Source, run_text};
 use dns_name::Name;
 use serve_core::Transport;
+use std::alloc::Global;
+use std::io::{self, BufWriter, Cursor, ErrorKind, Write};
 
 /// The zone that the examples are asked of.
 pub(crate) const ZONE: &str = "\
@@ -31,7 +33,7 @@ pub(crate) enum Kind {
 }
 
 /// A command of a kind.
-pub(crate) fn command(kind: Kind) -> Command<'static> {
+fn command(kind: Kind) -> Command<'static> {
     let zone = Source::Input;
     let origin = Name::root();
     match kind {
@@ -48,4 +50,72 @@ pub(crate) fn command(kind: Kind) -> Command<'static> {
             window: 16,
         },
     }
+}
+
+/// A writer that takes so many octets and no more, and may fail to flush.
+#[derive(Drop)]
+pub(crate) struct Device {
+    taken: Vec<u8>,
+    room: usize,
+    flushes: bool,
+}
+
+impl Device {
+    /// A device that has taken nothing.
+    pub(crate) fn new(alloc: Global, room: usize, flushes: bool) -> Device {
+        let taken = Vec::new(alloc);
+        Device {
+            taken,
+            room,
+            flushes,
+        }
+    }
+}
+
+impl Write for Device {
+    fn write(&mut self, buf: &[u8]) -> io::Result<usize> {
+        let len = buf.len().min(self.room);
+        if len == 0 && !buf.is_empty() {
+            return Err(io::Error::from(ErrorKind::BrokenPipe));
+        }
+        self.taken.extend_from_slice(&buf[..len])?;
+        self.room = self.room.saturating_sub(len);
+        Ok(len)
+    }
+
+    fn flush(&mut self) -> io::Result<()> {
+        if self.flushes {
+            Ok(())
+        } else {
+            Err(io::Error::from(ErrorKind::BrokenPipe))
+        }
+    }
+}
+
+/// What a command tells: its status, what it writes, and what it says of errors.
+#[derive(Drop)]
+pub(crate) struct Told {
+    pub(crate) status: u8,
+    pub(crate) written: Vec<u8>,
+    pub(crate) errors: Vec<u8>,
+}
+
+/// What a command of a kind over a text tells two devices; None where the test has no memory.
+pub(crate) fn tell(
+    alloc: Global,
+    kind: Kind,
+    text: &[u8],
+    output: Device,
+    errors: Device,
+) -> Option<Told> {
+    let mut reader = Cursor::new(text);
+    let mut writer = BufWriter::new(alloc, output).ok()?;
+    let mut errors = errors;
+    let status = run_text(alloc, &command(kind), &mut reader, &mut writer, &mut errors);
+    let (output, _) = writer.into_parts();
+    Some(Told {
+        status,
+        written: output.taken,
+        errors: errors.taken,
+    })
 }

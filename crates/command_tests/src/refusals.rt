@@ -1,11 +1,9 @@
 //! Runs where memory is refused: with one request refused, whichever it is, the run says so, and the other of two is as ever;
 //! with two in a row refused, one of three.
-use crate::made::{Kind, ZONE, command};
-use commands::run_text;
+use crate::made::{Device, Kind, Told, ZONE, tell};
 use dns_name::Name;
 use master_file::{read_zone, write_zone};
 use std::alloc::{AllocError, Global};
-use std::io::{BufWriter, Cursor};
 
 /// What is wanted of a run.
 #[derive(Clone, Copy)]
@@ -49,18 +47,20 @@ fn text_of(alloc: Global, case: &Case) -> Result<String, AllocError> {
     Ok(text)
 }
 
-/// What came of a run that had this status, wrote this and said this of errors.
-fn outcome_of(status: u8, written: &[u8], errors: &[u8], text: &[u8], want: Want) -> Outcome {
+/// What came of a run that told this of a text.
+fn outcome_of(told: &Told, text: &[u8], want: Want) -> Outcome {
+    let written = told.written.as_slice();
+    let errors = told.errors.as_slice();
     let (wanted, starved) = match want {
         Want::Itself => (text, text),
         Want::Writes(wanted, starved) => (wanted.as_bytes(), starved.as_bytes()),
         Want::Says(_) => (b"".as_slice(), b"".as_slice()),
     };
     let is_told = match want {
-        Want::Says(said) => status == 1 && errors.starts_with(said.as_bytes()),
-        _ => status == 0,
+        Want::Says(said) => told.status == 1 && errors.starts_with(said.as_bytes()),
+        _ => told.status == 0,
     };
-    let says = status == 3
+    let says = told.status == 3
         || errors.starts_with(b"line 0: M14 NoMemory\n")
         || errors.starts_with(b"V1 NoMemory\n");
     if is_told && written == wanted {
@@ -76,13 +76,10 @@ fn outcome_of(status: u8, written: &[u8], errors: &[u8], text: &[u8], want: Want
 fn run(alloc: Global, case: &Case) -> Option<Outcome> {
     let text = text_of(alloc, case).ok()?;
     let text = text.as_str().as_bytes();
-    let mut reader = Cursor::new(text);
-    let mut writer = BufWriter::new(alloc, Vec::new(alloc)).ok()?;
-    let mut errors = Vec::new(alloc);
-    let command = command(case.0);
-    let status = run_text(alloc, &command, &mut reader, &mut writer, &mut errors);
-    let (written, _) = writer.into_parts();
-    Some(outcome_of(status, written.as_slice(), errors.as_slice(), text, case.4))
+    let output = Device::new(alloc, usize::MAX, true);
+    let errors = Device::new(alloc, usize::MAX, true);
+    let told = tell(alloc, case.0, text, output, errors)?;
+    Some(outcome_of(&told, text, case.4))
 }
 
 /// Whether of so many runs one is whole, and none wrong.
