@@ -26,6 +26,8 @@ www.example.test. 3600 IN CNAME web.example.test.\n";
 pub(crate) enum Kind {
     /// `answer` over UDP.
     Answer,
+    /// `apply`.
+    Apply,
     /// `check`.
     Check,
     /// `steps` with the last version alone kept, and a window of 16.
@@ -42,6 +44,7 @@ fn command(kind: Kind) -> Command<'static> {
             origin,
             transport: Transport::Udp,
         },
+        Kind::Apply => Command::Apply { zone, origin },
         Kind::Check => Command::Check { zone, origin },
         Kind::Steps => Command::Steps {
             zone,

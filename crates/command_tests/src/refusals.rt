@@ -62,7 +62,8 @@ fn outcome_of(told: &Told, text: &[u8], want: Want) -> Outcome {
     };
     let says = told.status == 3
         || errors.starts_with(b"line 0: M14 NoMemory\n")
-        || errors.starts_with(b"V1 NoMemory\n");
+        || errors.starts_with(b"V1 NoMemory\n")
+        || errors.starts_with(b"X4 NoMemory\n");
     if is_told && written == wanted {
         Outcome::Whole
     } else if is_told && written == starved || says && wanted.starts_with(written) {
@@ -120,9 +121,21 @@ const SETS: &str = "\
     a.t. 60 IN A 192.0.2.2\n\
     b.t. 60 IN TXT \"x\" \"y\"\n";
 
-/// Requests and a script; a zone; and the faults of an entry, told for want of an SOA or an NS, outside, and sought by halves,
+/// A transfer of another zone in whole, of the next serial (RFC 5936, 2.2), and that zone.
+const TRANSFER: &str = "%\n12348400000100040000000001740000fc0001\
+    c00c000600010000003c001e016101740001620174000000000200000002000000030000000400000005\
+    c00c000200010000003c00050161017400\
+    0161c00c000100010000003c0004c0000201\
+    c00c000600010000003c001e016101740001620174000000000200000002000000030000000400000005\n";
+
+const TRANSFERRED: &str = "\
+    t. 60 IN SOA a.t. b.t. 2 2 3 4 5\n\
+    t. 60 IN NS a.t.\n\
+    a.t. 60 IN A 192.0.2.1\n";
+
+/// Requests, a script and a transfer; a zone; and the faults of an entry, told for want of an SOA or an NS, outside, and sought by halves,
 /// of which the last is a record too many, at the line of the 257th.
-const CASES: [Case; 8] = [
+const CASES: [Case; 9] = [
     (
         Kind::Answer,
         ZONE,
@@ -136,6 +149,13 @@ const CASES: [Case; 8] = [
         0,
         "%\nload a\nask a 00\ndrop a\n",
         Want::Writes("a 0\n-\nleft\n", ""),
+    ),
+    (
+        Kind::Apply,
+        SETS,
+        0,
+        TRANSFER,
+        Want::Writes(TRANSFERRED, ""),
     ),
     (Kind::Check, SETS, 0, "", Want::Itself),
     (
