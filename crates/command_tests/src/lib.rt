@@ -1,28 +1,15 @@
-//! Tests of the crate commands: what each command tells, by the octets that the standards give.
-//!
-//! A case is a command, a zone's text, an input and what is wanted; a table of conversations is a text, a row a line: what it
-//! shows, and then requests and replies in turn, in hexadecimal. Of either the first that isn't so is answered.
+//! Tests of zone text and of commands, of the crates zone_lexing, record_text, master_file and commands: what no run of the
+//! program shows, which the tables of rows try. Devices that fail, memory that is refused, and what calls give beside what is
+//! printed of it.
 #![tactic(auto)]
 
 #[cfg(test)]
-mod answers;
-#[cfg(test)]
-mod cases;
-#[cfg(test)]
 mod devices;
+#[cfg(test)]
+mod entries;
 #[cfg(test)]
 mod made;
 #[cfg(test)]
-mod negative;
-#[cfg(test)]
 mod refusals;
 #[cfg(test)]
-mod rows;
-#[cfg(test)]
-mod scripts;
-#[cfg(test)]
-mod transfers;
-#[cfg(test)]
-mod updates;
-#[cfg(test)]
-mod zones;
+mod values;

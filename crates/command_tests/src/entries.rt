@@ -2,9 +2,34 @@
 //!
 //! What is wanted has for each entry its line, a plus sign where that line begins with a blank, its words with a bar before
 //! each, and the line of a fault behind an exclamation mark.
-use crate::made::{behind, behind_number};
 use std::alloc::Global;
 use zone_lexing::{Entries, EntryHead, Word};
+
+/// What of a wanted text is behind its part, which it begins with.
+fn behind<'a>(want: &'a [u8], part: &[u8]) -> Option<&'a [u8]> {
+    if !want.starts_with(part) {
+        return None;
+    }
+    want.get(part.len()..)
+}
+
+/// What of a wanted text is behind a number's digits, which it begins with.
+fn behind_number(want: &[u8], number: u64) -> Option<&[u8]> {
+    let mut len = 0usize;
+    let mut read = 0u64;
+    for octet in want {
+        if !octet.is_ascii_digit() {
+            break;
+        }
+        let digit = u64::from(octet.saturating_sub(b'0'));
+        read = read.saturating_mul(10).saturating_add(digit);
+        len = len.saturating_add(1);
+    }
+    if len == 0 || read != number {
+        return None;
+    }
+    want.get(len..)
+}
 
 /// What of a wanted text is behind a word.
 fn behind_word<'a>(want: &'a [u8], word: Word<'_>) -> Option<&'a [u8]> {
@@ -31,14 +56,15 @@ fn behind_entry<'a>(want: &'a [u8], head: EntryHead, words: &[Word<'_>]) -> Opti
     behind(want, b"\n")
 }
 
-/// Whether the entries of a text are these.
+/// Whether the entries of a text, whose words are read into room for two, are these, and behind the last one stands none again.
 fn has_entries(alloc: Global, text: &str, want: &str) -> Option<bool> {
     let mut entries = Entries::new(text.as_bytes());
-    let mut words = Vec::new(alloc);
+    let mut words = Vec::with_capacity(alloc, 2).ok()?;
     let mut want = want.as_bytes();
     for _ in 0..100u8 {
         let Some(head) = entries.next(&mut words).ok()? else {
-            return Some(want.is_empty());
+            let again = entries.next(&mut words).ok()?;
+            return Some(want.is_empty() && again.is_none());
         };
         want = behind_entry(want, head, words.as_slice())?;
     }
@@ -61,6 +87,7 @@ const ENTRIES: &[(&str, &str)] = &[
     ("", ""),
     ("\n \n;a\n  ;b\n( ; c\n)\n", ""),
     ("a b", "1|a|b\n"),
+    ("a b\nc\n", "1|a|b\n2|c\n"),
     ("a\r\nb\r\n", "1|a\n2|b\n"),
     ("a\rb \r\rc\n", "1|a\rb|\r\rc\n"),
     ("\ta\tb \n", "1+|a|b\n"),
@@ -90,31 +117,9 @@ const ENTRIES: &[(&str, &str)] = &[
     ("a (b \\) ;)\n \")\"\n", "1|a!1\n"),
 ];
 
-/// The first text whose entries are others.
-fn wrong_entries(alloc: Global) -> Option<&'static str> {
-    for (text, want) in ENTRIES {
-        if has_entries(alloc, text, want) != Some(true) {
-            return Some(*text);
-        }
-    }
-    None
-}
-
-/// Whether a text of two entries is read into room for two words: first both, then one, then none, and none again.
-fn room_suffices(alloc: Global) -> Option<bool> {
-    let mut entries = Entries::new(b"a b\nc\n");
-    let mut words = Vec::with_capacity(alloc, 2).ok()?;
-    let first = entries.next(&mut words).ok()??;
-    let both = first.line == 1 && words.len() == 2;
-    let second = entries.next(&mut words).ok()??;
-    let one = second.line == 2 && words.len() == 1;
-    let third = entries.next(&mut words).ok()?;
-    let fourth = entries.next(&mut words).ok()?;
-    Some(both && one && third.is_none() && fourth.is_none())
-}
-
 #[test]
 fn entries(rt: HostRuntime) {
-    assert_eq!(rt; wrong_entries(rt.alloc()), None);
-    assert!(rt; room_suffices(rt.alloc()) == Some(true));
+    for (at, (text, want)) in ENTRIES.iter().enumerate() {
+        assert_eq!(rt; has_entries(rt.alloc(), text, want), Some(true), "{at}");
+    }
 }

@@ -1,0 +1,160 @@
+# Scripts, with queries and updates (RFC 2136); the replies' octets are those of RFC 1035, 4.1, and the words are our own.
+
+takes_zone <zones/example.test.zone
+# the query for www.example.test., type A, and its reply
+www=12340100000100000000000003777777076578616d706c6504746573740000010001
+www_reply=12348500000100020000000003777777076578616d706c6504746573740000010001c00c0005000100000e10000603776562c010c02e0001000100000e100004c000020a
+# an update that adds an address at new.example.test., but for the last of the address's octets, and its reply where it is taken
+add=432128000001000000010000076578616d706c6504746573740000060001036e6577c00c0001000100000e100004c00002
+taken=4321a8000000000000000000
+
+# no step
+input=$zone_text$'%\n'
+prints '' steps -
+
+# two names in use; the last line wants its end
+plays <<end
+load a => a 0
+ask a $www => $www_reply
+ask b $www => not enabled
+ask a 00 => -
+load a => not enabled
+load b2345678 => b2345678 0
+drop a => left
+drop a => not enabled
+drop b2345678␄ => left
+end
+
+# a call under way reserves the name that it is to put into use, and gives up the one that it drops
+plays <<end
+begin x load a => ok
+ask a $www => not enabled
+load a => not enabled
+load b => b 0
+next x => load a 0
+ask a $www => $www_reply
+begin x drop a => ok
+begin y ask b $www => $www_reply
+begin y drop a => not enabled
+load a => a 0
+next x => release left
+next x => not enabled
+begin x drop c => not enabled
+end
+
+# an owner that is dropped, and an update, a step at a time: behind its swap its version is loaded, and another update isn't enabled before it
+# ends
+plays <<end
+load a => a 0
+update ${add}4d => $taken
+begin x drop a => ok
+next x => release
+next x => bury
+next x => free buried 0
+begin u update ${add}4e => ok
+next u => probe
+next u => prepare
+next u => swap
+load b => b 2
+update ${add}4f => not enabled
+next u => settle
+next u => load
+next u => release
+next u => release
+next u => bury
+next u => free $taken
+end
+
+# a version that is owned stays as it is through 200 others
+plays <<end
+load a => a 0
+$(for number in {1..200}; do printf 'update %s%02x => %s\n' $add "$number" $taken; done)
+ask a $www => $www_reply
+drop a => buried 0
+end
+
+# 64 versions are owned: an update finds no slot, until one of them is buried
+plays <<end
+load h0 => h0 0
+$(for number in {1..63}; do printf 'update %s%02x => %s\nload h%d => h%d %d\n' $add "$number" $taken "$number" "$number" "$number"; done)
+update ${add}40 => 4321a8020000000000000000
+drop h60 => buried 60
+update ${add}40 => $taken
+load a => a 64
+end
+
+# 64 calls are under way: a line that isn't enabled is no 65th, and one that is passes the limit
+begun=$(for number in {1..64}; do printf 'begin x%d load h%d\n' "$number" "$number"; done)
+plays <<end
+${begun//$'\n'/ => ok$'\n'} => ok
+load h1 => not enabled
+next x1 => load h1 0
+load z => z 0
+end
+input=$zone_text$'%\n'$begun$'\nload h1\nnext x1\nload z\nbegin x1 load y\nload v\n'
+says 1 'V2 Limit' steps -
+
+# seventy names are in use at once
+plays <<end
+$(for number in {0..69}; do printf 'load a%d => a%d 0\n' "$number" "$number"; done)
+end
+
+# 65,535 octets are a request, whose reply is a header alone: the query is of OPCODE 0 and has no question; 65,536 are none
+longest=$'load a\nask a '$(repeat 65535 00)
+input=$zone_text$'%\n'$longest
+prints $'a 0\n000080010000000000000000' steps -
+input=$zone_text$'%\n'${longest}00$'\n'
+says 1 'line 2: bad' steps -
+
+# more than 2^16 lines
+input=$zone_text$'%\n'$(repeat 66000 $'drop a\n')$'\n'
+prints "$(repeat 66000 $'not enabled\n')" steps -
+
+# lines that are no step, behind one that says a step, and in front of a bad one, which isn't told
+while IFS= read -r line; do
+    spell "$line"
+    input=$zone_text$'%\nload a\n'$spelt$'\nbad\n'
+    says 1 'line 2: bad' steps -
+done <<'end'
+
+load
+load␠
+load  a
+ load a
+load a␠
+load a␍
+load a b
+load A
+load a-b
+load abcdefghi
+LOAD a
+loada
+drop
+drop a b
+ask a
+ask a␠
+ask a 0
+ask a 0g
+ask a  00
+ask a 00␠
+ask a 00 00
+ask A 00
+ask
+update
+update␠
+update 0g
+update 00 00
+copy a b
+begin
+begin x
+begin x load
+begin X load a
+begin x  load a
+begin x begin y load a
+begin x next y
+next
+next␠
+next x y
+publish
+%
+end

@@ -1,0 +1,202 @@
+# Zones that are refused: the first line of what is told, and what that means. Entries are judged in order, and the words of each from left to
+# right (RFC 1035, 5); the codes are our own.
+
+# each fault as it is printed, here of a third line
+zone_text=
+faults --origin test. <<'end'
+␊␊$INCLUDE x => line 3: M1 Directive
+␊␊a..b 1 A 1.1.1.1 => line 3: M2 BadName
+␊␊$TTL x => line 3: M3 Number
+␊␊a 1 CH A 1.1.1.1 => line 3: M4 BadClass
+␊␊a 1 HINFO b c => line 3: M5 UnknownType
+␊␊a 1 A 1.1.1 => line 3: M6 BadData
+␊␊a 1 A 1.1.1.1 ) => line 3: M7 Unclosed
+␊␊a A 1.1.1.1 => line 3: M8 NoTtl
+␊␊ 1 A 1.1.1.1 => line 3: M9 NoOwner
+@ 9 SOA a b 1 2 3 4 5␊@ 9 NS a␊x. 9 A 1.1.1.1 => line 3: M10 Outside
+@ 9 SOA a b 1 2 3 4 5␊@ 9 NS a␊@ 9 SOA a b 2 2 3 4 5 => line 3: M11 Apex
+@ 9 SOA a b 1 2 3 4 5␊@ 9 NS a␊* 9 NS a => line 3: M12 Conflict
+end
+input=$'\n\na 1 TXT'$(repeat 2049 ' c')
+refuses 1 'line 3: M13 Limit' check --origin test. -
+
+# texts under the root
+faults <<'end'
+ => line 0: M11 Apex
+a.test. IN A 192.0.2.1␊ => line 1: M8 NoTtl
+$ttl 5␊ => line 1: M1 Directive
+␊$INCLUDE a␊ => line 2: M1 Directive
+$ORIGIN␊ => line 1: M1 Directive
+$TTL 5 6␊ => line 1: M6 BadData
+$TTL 1h␊ => line 1: M3 Number
+a..b. 3600 IN A 192.0.2.1␊ => line 1: M2 BadName
+"a." 3600 IN A 192.0.2.1␊ => line 1: M2 BadName
+"@" 3600 IN A 192.0.2.1␊ => line 1: M2 BadName
+$ORIGIN "a."␊ => line 1: M2 BadName
+a. 3600 IN NS b..c.␊ => line 1: M2 BadName
+a. 2147483648 IN A 192.0.2.1␊ => line 1: M3 Number
+a. 3600 IN MX 65536 b.␊ => line 1: M3 Number
+a. 3600 IN MX ten b.␊ => line 1: M3 Number
+a. 3600 IN MX \049 b.␊ => line 1: M3 Number
+a. 3600 IN MX "1" b.␊ => line 1: M3 Number
+a. 3600 IN SOA b. c. 1 2 3 4 4294967296␊ => line 1: M3 Number
+a. 3600 IN SRV 0 0 65536 b.␊ => line 1: M3 Number
+a. 3600 CH A 192.0.2.1␊ => line 1: M4 BadClass
+a. hs 3600 A 192.0.2.1␊ => line 1: M4 BadClass
+a. 3600 IN HINFO b c␊ => line 1: M5 UnknownType
+a. 1h IN A 192.0.2.1␊ => line 1: M5 UnknownType
+a. 5 5 IN A 192.0.2.1␊ => line 1: M5 UnknownType
+a. 5 IN IN A 192.0.2.1␊ => line 1: M5 UnknownType
+a. 5 IN "A" 192.0.2.1␊ => line 1: M5 UnknownType
+a. 5 IN \065 192.0.2.1␊ => line 1: M5 UnknownType
+a. 5 NS b.␊ $TTL 5␊ => line 2: M5 UnknownType
+a. 3600 IN␊ => line 1: M6 BadData
+a. 3600 IN A␊ => line 1: M6 BadData
+a. 3600 IN A 192.0.2.256␊ => line 1: M6 BadData
+a. 3600 IN A 192.0.2.01␊ => line 1: M6 BadData
+a. 3600 IN A 192.0.2.1 b␊ => line 1: M6 BadData
+a. 3600 IN AAAA 1::2::3␊ => line 1: M6 BadData
+a. 3600 IN AAAA 12345::␊ => line 1: M6 BadData
+a. 3600 IN AAAA fe80::1%1␊ => line 1: M6 BadData
+a. 3600 IN TXT␊ => line 1: M6 BadData
+a. 3600 IN TXT \300␊ => line 1: M6 BadData
+a. 3600 IN TXT "b␊"␊ => line 1: M7 Unclosed
+a. 5 (␊IN A 192.0.2.1␊ => line 1: M7 Unclosed
+a. 5 IN A (␊( 192.0.2.1 ) )␊ => line 2: M7 Unclosed
+a. 5 IN A 192.0.2.1 )␊ => line 1: M7 Unclosed
+a..b. 5 IN A 192.0.2.1 )␊ => line 1: M2 BadName
+ 5 IN A 192.0.2.1␊ => line 1: M9 NoOwner
+a. 1 IN NS b.␊ => line 0: M11 Apex
+a. 1 IN SOA b. c. 1 2 3 4 5␊ => line 0: M11 Apex
+end
+
+# what an entry may have wrong, under the origin test.
+faults --origin test. <<'end'
+$INCLUDE x => line 1: M1 Directive
+␊$ttl 5 => line 2: M1 Directive
+$ORIGIN => line 1: M1 Directive
+$TTL ; 5 => line 1: M1 Directive
+$x ) => line 1: M1 Directive
+"a" 1 A 1.1.1.1 => line 1: M2 BadName
+$ORIGIN "@" => line 1: M2 BadName
+$ORIGIN .. x => line 1: M2 BadName
+a..b A x => line 1: M2 BadName
+(␊a 1 NS ..) => line 1: M2 BadName
+$TTL x y => line 1: M3 Number
+$TTL 2147483648 => line 1: M3 Number
+$TTL "5" => line 1: M3 Number
+a 2147483648 CH => line 1: M3 Number
+a 1 MX x => line 1: M3 Number
+a 1 ch A => line 1: M4 BadClass
+a HS => line 1: M4 BadClass
+a 1 2 A 1.1.1.1 => line 1: M5 UnknownType
+a IN in A 1.1.1.1 => line 1: M5 UnknownType
+a IN CH A 1.1.1.1 => line 1: M5 UnknownType
+a 1 "A" 1.1.1.1 => line 1: M5 UnknownType
+a 1h A 1.1.1.1 => line 1: M5 UnknownType
+a 1 \065 1.1.1.1 => line 1: M5 UnknownType
+a x => line 1: M5 UnknownType
+a 1 CLASS1 A 1.1.1.1 => line 1: M5 UnknownType
+a 1 CLASS3 A 1.1.1.1 => line 1: M5 UnknownType
+a 1 ANY A 1.1.1.1 => line 1: M5 UnknownType
+a 1 TYPE1 1.1.1.1 => line 1: M5 UnknownType
+a 1 A \# 4 01010101 => line 1: M6 BadData
+a => line 1: M6 BadData
+a 1 IN => line 1: M6 BadData
+$ORIGIN a b => line 1: M6 BadData
+$TTL 5 6 ) => line 1: M6 BadData
+a 1 A => line 1: M6 BadData
+a 1 A 1.1.1.1 x ) => line 1: M6 BadData
+a 1 A 1.1.1 (␊( => line 1: M6 BadData
+a 1 TXT => line 1: M6 BadData
+"a => line 1: M7 Unclosed
+a ) => line 1: M7 Unclosed
+a 1 IN ) => line 1: M7 Unclosed
+a 1 A "1.1.1.1 => line 1: M7 Unclosed
+a 1 A 1.1.1.1 ) => line 1: M7 Unclosed
+a 1 A 1.1.1.1 (␊␊( => line 3: M7 Unclosed
+a 1 A (␊1.1.1.1 "x␊) => line 2: M7 Unclosed
+a 1 A (x␊1.1.1.1 => line 1: M7 Unclosed
+a 1 TXT b" => line 1: M7 Unclosed
+$TTL ( => line 1: M7 Unclosed
+$ORIGIN a ) => line 1: M7 Unclosed
+a A 1.1.1.1 => line 1: M8 NoTtl
+a IN A ) => line 1: M8 NoTtl
+ 1 A 1.1.1.1 => line 1: M9 NoOwner
+␊␉"a => line 2: M9 NoOwner
+a 1 A 1.1.1.1␊ $TTL 5␊$x => line 2: M5 UnknownType
+ => line 0: M11 Apex
+end
+
+# no SOA, or no NS
+faults --origin test. <<'end'
+$TTL 60␊@ NS a␊ => line 0: M11 Apex
+$TTL 60␊@ SOA a b 1 2 3 4 5␊ => line 0: M11 Apex
+end
+
+# behind a zone
+zone_text=$'$TTL 60\n@ SOA a b 1 2 3 4 5\n@ NS a\n'
+faults --origin test. <<'end'
+@ SOA a b 2 2 3 4 5␊ => line 4: M11 Apex
+w A 1.2.3.4␊x. A 1.2.3.4␊ => line 5: M10 Outside
+w A 1.2.3.4␊w CNAME a␊ => line 5: M12 Conflict
+w CNAME a␊w CNAME a␊w CNAME b␊ => line 6: M12 Conflict
+* NS a␊ => line 4: M12 Conflict
+w CNAME a␊w A 1.2.3.4␊? X␊ => line 6: M5 UnknownType
+end
+
+# records that the zone of the examples may not have
+takes_zone <zones/example.test.zone
+faults --origin example.test <<'end'
+host.example.net. 3600 IN A 192.0.2.1␊ => line 14: M10 Outside
+host.example.net. 3600 IN SRV 0 0 0 web␊ => line 14: M10 Outside
+a.example.test. 3600 IN SOA b. c. 1 2 3 4 5␊ => line 14: M11 Apex
+example.test. 3600 IN SOA b. c. 1 2 3 4 5␊ => line 14: M11 Apex
+www.example.test. 3600 IN A 192.0.2.1␊ => line 14: M12 Conflict
+www.example.test. 3600 IN AAAA 2001:db8::1␊ => line 14: M12 Conflict
+web.example.test. 3600 IN CNAME www␊ => line 14: M12 Conflict
+www.example.test. 3600 IN CNAME www␊ => line 14: M12 Conflict
+*.a.example.test. 3600 IN NS www␊ => line 14: M12 Conflict
+end
+
+# all that is told: below the first line what the fault means, with the word or the owner at fault, where it is known, and the line
+while IFS= read -r line && IFS= read -r reason; do
+    spell "${line% => *}"
+    input=$spelt
+    says 1 "${line##* => }"$'\n'"$reason" check -
+done <<'end'
+a.test. IN A 192.0.2.1␊ => line 1: M8 NoTtl
+a TTL is due, and none is in force: `a.test. IN A 192.0.2.1`
+$INCLUDE more.zone␊ => line 1: M1 Directive
+a directive is due, $ORIGIN or $TTL with its argument: `$INCLUDE`, in `$INCLUDE more.zone`
+a. 5 NS (␊ b..c. )␊ => line 1: M2 BadName
+a name is due, and this is none: `b..c.`, in `a. 5 NS (`
+a. 2147483648 NS a.␊ => line 1: M3 Number
+a number is due, and this is none, or too great for its field: `2147483648`, in `a. 2147483648 NS a.`
+a. 5 MX 65536 a.␊ => line 1: M3 Number
+a number is due, and this is none, or too great for its field: `a. 5 MX 65536 a.`
+a. 5 ch A 192.0.2.1␊ => line 1: M4 BadClass
+the class isn't IN: `ch`, in `a. 5 ch A 192.0.2.1`
+␊␊a.test. 5 IN WKS x␍␊ => line 3: M5 UnknownType
+a type is due, and this is none that is served: `WKS`, in `a.test. 5 IN WKS x`
+a. 5 A 192.0.2.1␊ 5 WKS x␊ => line 2: M5 UnknownType
+a type is due, and this is none that is served: `WKS`, in ` 5 WKS x`
+a. 5 IN W␛S␊ => line 1: M5 UnknownType
+a type is due, and this is none that is served: `W\027S`, in `a. 5 IN W\027S`
+www 3600 IN A 192.0.2.256␊ => line 1: M6 BadData
+the data isn't of its type's form, or a word is missing or too many: `www 3600 IN A 192.0.2.256`
+a. 5 TXT (␊ "x␊ )␊ => line 2: M7 Unclosed
+a quote or a parenthesis has no other one, or stands within parentheses: ` "x`
+ 5 A 192.0.2.1␊ => line 1: M9 NoOwner
+an owner is due, and no record before this one has one: ` 5 A 192.0.2.1`
+$TTL 5␊a. SOA a. a. 1 2 3 4 5␊a. NS a.␊b. A 192.0.2.1␊ A 192.0.2.2␊ => line 4: M10 Outside
+the owner is neither the apex nor below it: `b.`, in `b. A 192.0.2.1`
+$TTL 5␊a. SOA a. a. 1 2 3 4 5␊ NS a.␊ SOA a. a. 2 2 3 4 5␊ => line 4: M11 Apex
+the zone has an SOA already, and this is another: `a.`, in ` SOA a. a. 2 2 3 4 5`
+; nothing␊ => line 0: M11 Apex
+the zone has no SOA, or no NS at the owner of its SOA
+$TTL 5␊a. SOA a. a. 1 2 3 4 5␊ NS a.␊w.a. CNAME a.␊ A 192.0.2.1␊ => line 5: M12 Conflict
+a CNAME stands beside other data or another CNAME, or an NS at a wildcard: `w.a.`, in ` A 192.0.2.1`
+a. 5 TXT ␉␊ => line 1: M6 BadData
+the data isn't of its type's form, or a word is missing or too many: `a. 5 TXT \009`
+end
