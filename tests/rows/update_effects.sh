@@ -73,7 +73,20 @@ an alias is replaced|www CNAME IN 60 $ns1|2 00000003|www CNAME 8500|www CNAME 60
 2.5.4: a record goes|web A NONE 0 c0000201|2 00000003|web A 8500|web A 3600 c0000202
 2.5.4: the only record|a.b A NONE 0 c0000201|2 00000003|a.b A 8503|
 2.5.4: an alias|www CNAME NONE 0 $web|2 00000003|www CNAME 8503|
+a set in place of another|a.b A ANY 0; a.b A IN 60 c0000209|2 00000003|a.b A 8500|a.b A 60 c0000209
 text
+
+# an owner without sets is gone, and with it the empty name above it; the version before, which b owns, has both (RFC 4592, 2.2.2)
+expect 'the version before' 'load b' 'b 0'
+sends 'the only record of a.b' 0 'a.b A ANY 0' 'update '
+expect 'the version behind' 'load a' 'a 1'
+asks 'a.b before' a.b A 8500 'a.b A 3600 c0000201' '' 'ask b '
+asks 'b before' b A 8500 '' 00000001 'ask b '
+asks 'web before' web TXT 8500 '' 00000001 'ask b '
+asks 'a.b behind' a.b A 8503 '' 00000002 'ask a '
+asks 'b behind' b A 8503 '' 00000002 'ask a '
+asks 'web behind' web TXT 8500 '' 00000002 'ask a '
+run_expected "$zone" steps --origin example.test. -
 
 # what has no effect, and what is taken back, makes no version (RFC 2136, 3.4.2.2 to 3.4.2.4 and 3.6)
 soa=$(printf '0000%s%s' 00000002 "${numbers// /}")
