@@ -12,9 +12,8 @@ const SOA: &[u8] = b"\0\0\0\0\0\x01\0\0\0\x02\0\0\0\x03\0\0\0\x04\0\0\0\x05";
 const NS: &[u8] = b"\x02ns\x07example\0";
 
 /// Words of rows, with the type and the data octets of each.
-const WORDS: [(&str, RType, &[u8]); 12] = [
+const WORDS: [(&str, RType, &[u8]); 11] = [
     ("A", RType::A, &[192, 0, 2, 1]),
-    ("A9", RType::A, &[192, 0, 2, 9]),
     ("NS", RType::NS, NS),
     ("NS-sub", RType::NS, b"\x02ns\x03sub\x07example\0"),
     ("CNAME", RType::CNAME, NS),
