@@ -1,17 +1,18 @@
-//! Tests of what changes a zone: updates, and transfers out and in.
+//! Tests of messages, and of what changes a zone, which no output of the program shows: refused memory, limits, and values of calls. What
+//! the program shows of them stands in `tests/rows`.
 #![tactic(auto)]
 
 #[cfg(test)]
-mod deltas;
-#[cfg(test)]
-mod effects;
-#[cfg(test)]
 mod ends;
 #[cfg(test)]
-mod lists;
+mod frames;
 #[cfg(test)]
 mod made;
 #[cfg(test)]
-mod messages;
+mod outcomes;
 #[cfg(test)]
-mod verdicts;
+mod reading;
+#[cfg(test)]
+mod replies;
+#[cfg(test)]
+mod requests;

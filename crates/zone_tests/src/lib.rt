@@ -1,8 +1,7 @@
-//! Tests of zones: the tree that holds one, its sets and their changes, and the answers that are looked up in it.
+//! Tests of zones: the tree that holds one, its sets and their changes, and how an answer looks them up. What answers say stands in
+//! `tests/rows`.
 #![tactic(auto)]
 
-#[cfg(test)]
-mod answers;
 #[cfg(test)]
 mod edits;
 #[cfg(test)]

@@ -12,14 +12,18 @@ const SOA: &[u8] = b"\0\0\0\0\0\x01\0\0\0\x02\0\0\0\x03\0\0\0\x04\0\0\0\x05";
 const NS: &[u8] = b"\x02ns\x07example\0";
 
 /// Words of rows, with the type and the data octets of each.
-const WORDS: [(&str, RType, &[u8]); 7] = [
+const WORDS: [(&str, RType, &[u8]); 11] = [
     ("A", RType::A, &[192, 0, 2, 1]),
-    ("A9", RType::A, &[192, 0, 2, 9]),
     ("NS", RType::NS, NS),
+    ("NS-sub", RType::NS, b"\x02ns\x03sub\x07example\0"),
     ("CNAME", RType::CNAME, NS),
+    ("CNAME-web", RType::CNAME, b"\x03web\x07example\0"),
     ("SOA", RType::SOA, SOA),
     ("MX", RType::MX, b"\0\x0a\x05host1\x07example\0"),
+    ("MX-web", RType::MX, b"\0\x0a\x03web\x07example\0"),
+    ("MX-dyn", RType::MX, b"\0\x14\x01q\x03dyn\x07example\0"),
     ("TXT", RType::TXT, b"\x02hi"),
+    ("AAAA", RType::AAAA, &[0; 16]),
 ];
 
 /// The type and the data of a word.
@@ -75,19 +79,17 @@ pub(crate) fn walks(zone: &Zone, rows: &str) -> Option<bool> {
     Some(rows.next().is_none())
 }
 
-/// What a call gives, or, where memory is refused, what the same call gives anew.
-pub(crate) fn twice<T: Drop, C: Fn() -> Option<T>>(call: C) -> Option<T>
-    requires { C.IsAlwaysCallable call }
-{
-    match call() {
-        Some(made) => Some(made),
-        None => call(),
-    }
+/// The zone of rows; None where memory is refused.
+fn zone_of(alloc: Global, rows: &str) -> Option<Zone> {
+    Zone::new(alloc, sets_of(alloc, rows)?).ok()
 }
 
-/// The zone of rows; None where memory is refused.
-pub(crate) fn zone_of(alloc: Global, rows: &str) -> Option<Zone> {
-    Zone::new(alloc, sets_of(alloc, rows)?).ok()
+/// The zone of rows, made anew where memory is refused.
+pub(crate) fn zone_anew(alloc: Global, rows: &str) -> Option<Zone> {
+    match zone_of(alloc, rows) {
+        Some(zone) => Some(zone),
+        None => zone_of(alloc, rows),
+    }
 }
 
 /// Whether a fault is printed so.

@@ -1,11 +1,36 @@
-//! How often an answer searches the zone.
-use crate::answers::{ZONE, rtype_of, zone_of};
-use crate::made::name;
+//! How often an answer searches the zone, and how the names of places are spelt.
+use crate::made::{data_of, name, set_of, sets_of};
 use dns_name::Name;
-use dns_rdata::{RRset, RType};
-use lookup_core::answer;
+use dns_rdata::{RData, RRset, RType, Ttl};
+use lookup_core::{Place, answer, place};
+use std::alloc::Global;
 use std::cell::Cell;
 use zone_tree::{Walk, Zone, ZoneRead};
+
+/// Sets in front of the exchanges of `mail`, and behind them: an empty non-terminal `b`, a wildcard below `dyn`, zone cuts, one below the other, and
+/// an alias of `web`.
+const FRONT: &str = "@ NS, @ SOA, a.b TXT, *.dyn A, x.e.dyn A";
+
+const BACK: &str = "sub NS-sub, ns.sub A, z.sub NS, web A, web AAAA, www CNAME-web";
+
+/// The exchanges of `mail`: `web`, and a name that the wildcard covers.
+fn exchanges(alloc: Global) -> Option<RRset> {
+    let mut set = set_of(alloc, "mail MX-web", Ttl(3600))?;
+    let (rtype, octets) = data_of("MX-dyn")?;
+    let data = RData::from_wire(alloc, rtype, octets).ok()?;
+    if data.rtype() == set.rtype() {
+        set.insert(data).ok()?;
+    }
+    Some(set)
+}
+
+/// The zone of these sets.
+fn zone_of(alloc: Global) -> Option<Zone> {
+    let mut sets = sets_of(alloc, FRONT)?;
+    sets.push(exchanges(alloc)?).ok()?;
+    sets.append(&mut sets_of(alloc, BACK)?).ok()?;
+    Zone::new(alloc, sets).ok()
+}
 
 /// A zone that counts the searches for a name; the SOA is found by none.
 #[derive(Drop)]
@@ -71,11 +96,19 @@ nope A 3\n\
 zz.b A 5\n\
 p.dyn A 6\n";
 
+/// The type of a word; ANY where it is no word of a row.
+fn rtype_of(word: &str) -> RType {
+    match data_of(word) {
+        Some((rtype, _)) => rtype,
+        None => RType::ANY,
+    }
+}
+
 /// Whether the answer to a row's name and type makes as many searches as the row says.
 fn are_searches(zone: &Counted, row: &str) -> Option<bool> {
     let mut words = row.split(' ');
     let asked = name(words.next()?)?;
-    let rtype = rtype_of(words.next()?)?;
+    let rtype = rtype_of(words.next()?);
     let searches = u64::from_str_radix(words.next()?, 10).ok()?;
     zone.searches.set(0);
     let _ = answer(zone, &asked, rtype);
@@ -85,12 +118,32 @@ fn are_searches(zone: &Counted, row: &str) -> Option<bool> {
 #[test]
 fn searches(rt: HostRuntime) -> Result<(), &'static str> {
     let zone = Counted {
-        zone: zone_of(rt.alloc(), ZONE).ok_or("no zone")?,
+        zone: zone_of(rt.alloc()).ok_or("no zone")?,
         searches: Cell::new(0),
     };
     for row in SEARCHES.lines() {
         if are_searches(&zone, row) != Some(true) {
             return Err(row);
+        }
+    }
+    Ok(())
+}
+
+/// Whether a name stands at or below a cut, or at a source of synthesis, of this name as it is spelt.
+fn is_spelt(zone: &Zone, asked: &str, want: &str) -> Option<bool> {
+    match place(zone, &name(asked)?) {
+        Place::Cut(of) | Place::Wild(of) => Some(of.wire() == name(want)?.wire()),
+        _ => None,
+    }
+}
+
+// The name of a cut is spelt as the name asked, which no reply shows.
+#[test]
+fn places(rt: HostRuntime) -> Result<(), &'static str> {
+    let zone = zone_of(rt.alloc()).ok_or("no zone")?;
+    for (asked, want) in [("y.z.SUB", "SUB"), ("p.q.dyn", "*.dyn")] {
+        if is_spelt(&zone, asked, want) != Some(true) {
+            return Err(asked);
         }
     }
     Ok(())

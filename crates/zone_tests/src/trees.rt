@@ -3,7 +3,6 @@ ghost use Rattle.std.specs.Prelude.{IfOk, ℕ};
 ghost use Rattle.std.specs.Ordering.{nat_cmp};
 ghost use Rattle.shared_tree.specs.Pairs.{IsAscending};
 
-use crate::made::twice;
 use shared_tree::{Tree, Walk};
 use std::alloc::{AllocError, Global};
 
@@ -24,6 +23,14 @@ fn numbers(alloc: Global, count: u32) -> Result<Vec<(u32, u32)>, AllocError>
 /// The same as a tree; None where memory is refused.
 fn built(alloc: Global, count: u32) -> Option<Numbers> {
     Tree::from_sorted(alloc, numbers(alloc, count).ok()?).ok()
+}
+
+/// The same, made anew where memory is refused.
+fn built_anew(alloc: Global, count: u32) -> Option<Numbers> {
+    match built(alloc, count) {
+        Some(tree) => Some(tree),
+        None => built(alloc, count),
+    }
 }
 
 /// No number of these trees.
@@ -161,14 +168,22 @@ const AFTER: [(u32, Option<u32>); 7] = [
     (6, None),
 ];
 
+/// The number of a pair.
+fn number_of(pair: Option<&(u32, u32)>) -> Option<u32> {
+    match pair {
+        Some(pair) => Some(pair.0),
+        None => None,
+    }
+}
+
 /// Whether a tree has these, and 2 first.
 fn come_after(tree: &Numbers) -> bool {
     for (number, want) in AFTER {
-        if tree.after(&number).map(|pair| pair.0) != want {
+        if number_of(tree.after(&number)) != want {
             return false;
         }
     }
-    tree.first().map(|pair| pair.0) == Some(2)
+    number_of(tree.first()) == Some(2)
 }
 
 // The pairs of 2, 4 and 6 by what comes after each number from 0 to 6.
@@ -193,18 +208,24 @@ fn a_million_pairs_are_dropped(rt: HostRuntime) -> Result<(), &'static str> {
 
 /// A tree with a number, made anew where memory is refused.
 fn more_of(alloc: Global, tree: &Numbers, number: u32) -> Option<Numbers> {
-    twice(|| with_number(alloc, tree, number))
+    match with_number(alloc, tree, number) {
+        Some(more) => Some(more),
+        None => with_number(alloc, tree, number),
+    }
 }
 
-/// A tree without a number; None where memory is refused.
+/// A tree without a number, made anew where memory is refused.
 fn less_of(alloc: Global, tree: &Numbers, number: u32) -> Option<Numbers> {
-    let (less, _) = tree.without(alloc, &number).ok()?;
+    let (less, _) = match tree.without(alloc, &number) {
+        Ok(less) => less,
+        Err(_) => tree.without(alloc, &number).ok()?,
+    };
     Some(less)
 }
 
 /// Whether a tree of 13 goes on without 7, and is as it was.
 fn goes_on(alloc: Global, more: &Numbers) -> Option<bool> {
-    let less = twice(|| less_of(alloc, more, 7))?;
+    let less = less_of(alloc, more, 7)?;
     Some(counts_up(more, 13, NONE) && counts_up(&less, 13, 7))
 }
 
@@ -217,7 +238,7 @@ fn go_on(alloc: Global, tree: &Numbers) -> Option<bool> {
 // With one request for memory refused, whichever it is, each call is made anew, and the tree before it is as it was.
 #[test]
 fn goes_on_where_memory_is_refused(rt: HostRuntime) -> Result<(), &'static str> {
-    let tree = twice(|| built(rt.alloc(), 12)).ok_or("no tree")?;
+    let tree = built_anew(rt.alloc(), 12).ok_or("no tree")?;
     if go_on(rt.alloc(), &tree) != Some(true) {
         return Err("another tree");
     }

@@ -1,6 +1,6 @@
 //! A small zone through each call, and lists that are no zone.
-use crate::made::{is_printed, name, sets_of, twice, walks, zone_of};
-use dns_rdata::{RType, Serial};
+use crate::made::{is_printed, sets_of, walks, zone_anew};
+use dns_rdata::Serial;
 use std::alloc::Global;
 use zone_tree::{BrokenRule, Delta, NewFault, Version, Zone, ZoneRead, edit};
 
@@ -8,60 +8,11 @@ use zone_tree::{BrokenRule, Delta, NewFault, Version, Zone, ZoneRead, edit};
 #[test]
 fn is_made_anew_where_memory_is_refused(rt: HostRuntime) -> Result<(), &'static str> {
     let rows = "@ NS, @ SOA, a TXT, b A";
-    let zone = twice(|| zone_of(rt.alloc(), rows)).ok_or("no zone")?;
+    let zone = zone_anew(rt.alloc(), rows).ok_or("no zone")?;
     if walks(&zone, rows) != Some(true) {
         return Err("other sets");
     }
     Ok(())
-}
-
-const NAMES: &str = "@ NS, @ SOA, * MX, * TXT, sub.* TXT, a.host2 A, SUBDEL NS";
-
-/// Names of this zone, and how many sets they own; a minus sign where they don't exist.
-const OWNED: &str = "\
-example. 2\n\
-EXAMPLE. 2\n\
-. 0\n\
-* 2\n\
-sub.* 1\n\
-host1 - 0\n\
-host2 0\n\
-a.host2 1\n\
-b.host2 - 0\n\
-subdel 1\n\
-exampla. - 0\n";
-
-/// Whether a row's name exists and owns as many sets as the row says.
-fn is_owned(zone: &Zone, row: &str) -> Option<bool> {
-    let (text, owned) = row.split_once(' ')?;
-    let count = usize::from_str_radix(owned.trim_start_matches("- "), 10).ok()?;
-    let name = name(text)?;
-    let exists = !owned.starts_with('-');
-    Some(zone.exists(&name) == exists && zone.rrsets_at(&name).len() == count)
-}
-
-// Names that exist and don't, with how many sets they own (RFC 4592, 2.2.1 to 2.2.3).
-#[test]
-fn looks_up(rt: HostRuntime) -> Result<(), &'static str> {
-    let zone = zone_of(rt.alloc(), NAMES).ok_or("no zone")?;
-    for row in OWNED.lines() {
-        if is_owned(&zone, row) != Some(true) {
-            return Err(row);
-        }
-    }
-    if finds(&zone) != Some(true) {
-        return Err("sets");
-    }
-    Ok(())
-}
-
-/// Whether this zone has a wildcard's text and no address of it, its SOA and its apex, and no set that isn't a row's.
-fn finds(zone: &Zone) -> Option<bool> {
-    let wild = name("*")?;
-    let text = zone.rrset(&wild, RType::TXT)?.rtype() == RType::TXT;
-    let address = zone.rrset(&wild, RType::A).is_some();
-    let apex = zone.soa().rtype() == RType::SOA && *zone.apex() == name("example.")?;
-    Some(text && !address && apex && walks(zone, NAMES)?)
 }
 
 /// Rows that are no zone, and the rule that is told. The last breaks several: an owner outside, no NS at the apex, and an
@@ -128,7 +79,7 @@ fn tell_changes(first: &Version, second: &Version) -> bool {
 
 #[test]
 fn versions(rt: HostRuntime) -> Result<(), &'static str> {
-    let first = Version::first(zone_of(rt.alloc(), "@ NS, @ SOA").ok_or("no zone")?);
+    let first = Version::first(zone_anew(rt.alloc(), "@ NS, @ SOA").ok_or("no zone")?);
     let second = version_behind(rt.alloc(), &first).ok_or("no memory")?;
     if !tell_changes(&first, &second) {
         return Err("other changes");

@@ -1,0 +1,129 @@
+# The ends of transfers that are taken in (RFC 1995, 4; RFC 5936, 2.2): each fault in each way, and the zones behind those that are taken. A
+# message is a reply of AA without a question, unless a row says another.
+# shellcheck source=tests/wire.sh
+source tests/wire.sh
+origin=example.
+# the zone that is held: s1, ns and a1
+zone='$TTL 3600
+@ NS h
+@ SOA . . 1 2 3 4 5
+h A 192.0.2.1'
+
+# put_known WORD: puts the record of a word (RFC 1035, 3.3 and 4.1.3); one that is garbled has no octets
+put_known() {
+    local numbers=00000002000000030000000400000005
+    case $1 in
+        s1) put_raw @ SOA IN 3600 000000000001$numbers ;;
+        s2) put_raw @ SOA IN 3600 000000000002$numbers ;;
+        s3) put_raw @ SOA IN 3600 000000000003$numbers ;;
+        outer) put_raw net. SOA IN 3600 000000000001$numbers ;;
+        ns) put_raw @ NS IN 3600 0168076578616d706c6500 ;;
+        a1) put_raw h A IN 3600 c0000201 ;;
+        a2) put_raw h A IN 3600 c0000202 ;;
+        a60) put_raw h A IN 60 c0000201 ;;
+        alias) put_raw h CNAME IN 3600 00 ;;
+        out) put_raw net. A IN 3600 c0000201 ;;
+        short) put_raw h A IN 3600 c00002 ;;
+        chaos) put_raw @ SOA CH 3600 000000000001$numbers ;;
+        unknown) put_raw h UNKNOWN IN 3600 c0000201 ;;
+        garbled) ;;
+    esac
+}
+
+# transfer MESSAGES: makes $input the zone that is held and the messages of records by their words, with `/` between messages; `query` and
+# `refused` make a message a query, or one of RCODE 5
+transfer() {
+    local messages=$1 words word flags count
+    input=$zone$'\n%\n'
+    while [ -n "$messages" ]; do
+        read -ra words <<<"${messages%%/*}"
+        flags=8400 count=0
+        begin 1234 0000 0000 0000 0000 0000
+        for word in "${words[@]}"; do
+            case $word in
+                empty) ;;
+                query) flags=0400 ;;
+                refused) flags=8405 ;;
+                *) put_known "$word" && count=$((count + 1)) ;;
+            esac
+        done
+        count_at 2 $((16#$flags))
+        count_at 6 $count
+        input+=$message$'\n'
+        case $messages in */*) messages=${messages#*/} ;; *) messages= ;; esac
+    done
+}
+
+# which transfers are refused, and how (RFC 5936, 2.2; RFC 1995, 4)
+while IFS='|' read -r fault messages; do
+    transfer "$messages"
+    refuses 1 "$fault" apply --origin example. -
+done <<'text'
+X1 Broken|
+X1 Broken|empty
+X1 Broken|garbled
+X1 Broken|query s1
+X1 Broken|refused s1
+X1 Broken|ns s2
+X1 Broken|chaos
+X1 Broken|s2 chaos
+X1 Broken|s2 unknown
+X1 Broken|s2 short
+X1 Broken|s2 ns a2
+X1 Broken|s2 ns s3
+X1 Broken|s2 ns s2 a1
+X1 Broken|s2 ns s2/garbled
+X1 Broken|s2 s2
+X1 Broken|s2 s1 a1 s2 a2
+X1 Broken|s2 s1 a1 s2 a2 s2 a1
+X1 Broken|s3 s1 s2 s3
+X2 WrongBase|s2
+X2 WrongBase|s3 s2 s3 s3
+X2 WrongBase|s3 s1 s2 s1 s3 s3
+X2 WrongBase|s2 s1 a2 s2 s2
+X2 WrongBase|s2 s1 s2 a1 s2
+X2 WrongBase|s2 s1 a60 s2 s2
+X3 NotInZone|outer
+X3 NotInZone|outer ns
+X3 NotInZone|s2 ns out s2
+X3 NotInZone|s2 a1 s2
+X3 NotInZone|s2 ns a1 alias s2
+X3 NotInZone|s2 ns a1 a60 s2
+X3 NotInZone|s2 s1 ns s2 s2
+text
+
+# which are taken: the serial and the addresses at h of the zone behind them
+while IFS='|' read -r serial addresses messages; do
+    transfer "$messages"
+    text="example. 3600 IN SOA . . $serial 2 3 4 5"$'\n''example. 3600 IN NS h.example.'
+    for address in $addresses; do text+=$'\n'"h.example. 3600 IN A $address"; done
+    prints "$text" apply --origin example. -
+done <<'text'
+1|192.0.2.1|s1
+2|192.0.2.1|s2 ns a1 s2
+2|192.0.2.1 192.0.2.2|s2 ns a1 a2 s2
+2||s2 ns ns s2
+2||s2/empty/ns/s2
+2|192.0.2.2|s2 s1 a1 s2 a2 s2
+2||s2 s1 a1/s2/s2
+3||s3 s1 a1 s2 a2 s2 a2 s3 s3
+text
+
+# a message whose question is `Example.test. IN AXFR`, and whose records point to its name (RFC 1035, 4.1.4), which the zone has in lower
+# case
+origin=Example.test.
+zone='$TTL 3600
+@ NS ns1
+@ SOA . . 1 2 3 4 5'
+soa='@ SOA 3600 . . 00000002 00000002 00000003 00000004 00000005'
+reply 8400 @ AXFR "$soa; @ NS 3600 ns1; @ MX 3600 000a mx; $soa" '' ''
+input=$zone$'\n%\n'$message$'\n'
+prints 'example.test. 3600 IN SOA . . 2 2 3 4 5
+example.test. 3600 IN NS ns1.example.test.
+example.test. 3600 IN MX 10 mx.example.test.' apply --origin example.test. -
+# a request, a refusal, and octets that end inside the last record, inside the header, and in front of it
+for part in "${message/12348400/12340400}" "${message/12348400/12348405}" "${message%??}" "${message:0:22}" ''; do
+    input=$zone$'\n%\n'$part$'\n'
+    refuses 1 'X1 Broken' apply --origin example.test. -
+done
+origin=example.test.
