@@ -120,8 +120,8 @@ pub(crate) fn are_published<'a, R: Wait, Z: FirstZone>(
         taken(79, 3, 4),
         taken(80, 4, 5),
     ];
-    for row in rows {
-        if !is_told(rt, alloc, cell, &mut engine, row) {
+    for row in &rows {
+        if !is_told(rt, alloc, cell, &mut engine, *row) {
             return Some(false);
         }
     }

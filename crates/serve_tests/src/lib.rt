@@ -19,10 +19,6 @@ mod peers;
 #[cfg(test)]
 mod refused_engines;
 #[cfg(test)]
-mod replies;
-#[cfg(test)]
 mod streams;
-#[cfg(test)]
-mod transfers;
 #[cfg(test)]
 mod trays;

@@ -1,10 +1,8 @@
 //! Zones and octets of tables.
 ghost use Rattle.std.specs.Prelude.{◌≡◌, IfSome};
 
-use dns_message::Parsed;
 use dns_name::Name;
 use dns_rdata::{RData, RRset, RType, Ttl};
-use serve_core::{TCP_LIMIT, Transport, respond};
 use std::alloc::Global;
 use zone_tree::{Version, Zone};
 
@@ -13,14 +11,19 @@ pub(crate) fn octets_of(alloc: Global, text: &str) -> Option<Vec<u8>> {
     hex::decode(alloc, text.as_bytes()).ok()
 }
 
+/// Data of a type, by their octets in hexadecimal.
+fn data_of(alloc: Global, rtype: RType, text: &str) -> Option<RData> {
+    let octets = octets_of(alloc, text)?;
+    RData::from_wire(alloc, rtype, &octets).ok()
+}
+
 /// The set of a row, of one record: an owner, in full or below `example.test.`, a type's number, and the data's octets in hexadecimal.
 fn set_of(alloc: Global, row: &str) -> Option<RRset> {
     let mut words = row.split(' ');
     let origin = Name::from_text(b"example.test.", &Name::root()).ok()?;
     let owner = Name::from_text(words.next()?.as_bytes(), &origin).ok()?;
     let rtype = RType(words.next()?.parse::<u16>().ok()?);
-    let octets = octets_of(alloc, words.next()?)?;
-    let data = RData::from_wire(alloc, rtype, &octets).ok()?;
+    let data = data_of(alloc, rtype, words.next()?)?;
     RRset::new(alloc, &owner, Ttl(3600), data).ok()
 }
 
@@ -45,20 +48,4 @@ pub(crate) fn version_of(alloc: Global, rows: &str) -> Option<Version>
 {
     let zone = zone_of(alloc, rows)?;
     Some(Version::first(zone))
-}
-
-/// What a request gets in a version of the zone: how many octets the reply has, and whether there is another version behind it.
-pub(crate) fn served(
-    alloc: Global,
-    version: &Version,
-    transport: Transport,
-    may: bool,
-    said: &Parsed,
-    out: &mut [u8; TCP_LIMIT],
-) -> (Option<usize>, bool) {
-    if version.number() > 9 {
-        return (None, true);
-    }
-    let served = respond(alloc, version, transport, may, said, out);
-    (served.len, served.next.is_some())
 }

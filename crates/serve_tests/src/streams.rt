@@ -6,9 +6,6 @@ use crate::cells::{Play, is_played};
 use crate::made::{octets_of, sets_of};
 use crate::trays::asker;
 use dns_engine::{FirstZone, VersionReader};
-use dns_message::take_frame;
-use dns_name::Name;
-use dns_rdata::{RData, RRset, RType, Ttl};
 use serve_core::Peer;
 use serve_workers::{
     Asked, Counted, Event, Journal, OpenGate, Server, Stream, StreamEnd, serve_stream,
@@ -45,70 +42,9 @@ may 150 Device 001e123400000001000000000000076578616d706c6504746573740000fc0001 
 may 9999 Clean 000c432128000001000000000000 000c4321a8010000000000000000 an update that can't be read|update from 192.0.2.7:4711: FORMERR;\n\
 not 9999 Clean 000c432128000001000000000000 000c4321a8010000000000000000 the same of a peer that may not update\n";
 
-/// A stream over the zone of long texts: of the messages that are written their octets, questions and answers are told.
-const LONG: &str =
-    "may 99999 Clean 001e123400000001000000000000076578616d706c6504746573740000fc0001 16349:1:6;70:0:1; a transfer of two messages";
-
 /// The zone.
 pub(crate) fn zone(alloc: Global) -> Option<Zone> {
     Zone::new(alloc, sets_of(alloc, ZONE, 5)?).ok()
-}
-
-/// A text of fifteen strings of 255 letters, and of one of so many.
-fn text_of(alloc: Global, letter: u8, last: u8) -> Option<RData> {
-    let mut octets = vec![in alloc; letter; 3841 + usize::from(last)].ok()?;
-    for string in 0..16usize {
-        let place = octets.get_mut(256 * string)?;
-        *place = if string < 15 { 255 } else { last };
-    }
-    RData::from_wire(alloc, RType::TXT, &octets).ok()
-}
-
-/// Four texts at one name.
-fn texts(alloc: Global) -> Option<RRset> {
-    let owner = Name::from_text(b"t.example.test.", &Name::root()).ok()?;
-    let mut texts = RRset::new(alloc, &owner, Ttl(3600), text_of(alloc, b'a', 211)?).ok()?;
-    for (letter, last) in [(b'b', 211), (b'c', 211), (b'd', 212)] {
-        let text = text_of(alloc, letter, last)?;
-        if text.rtype() != texts.rtype() {
-            return None;
-        }
-        texts.insert(text).ok()?;
-    }
-    Some(texts)
-}
-
-/// A zone of an SOA, an NS and four texts at one name, whose AXFR has one octet more than a message.
-fn long_zone(alloc: Global) -> Option<Zone> {
-    let mut sets = sets_of(alloc, ZONE, 2)?;
-    sets.push(texts(alloc)?).ok()?;
-    Zone::new(alloc, sets).ok()
-}
-
-/// Whether a message has so many octets, questions and answers.
-fn is_message(message: &[u8], told: &str) -> Option<bool> {
-    let mut numbers = told.split(':');
-    let len = numbers.next()?.parse::<usize>().ok()?;
-    let questions = numbers.next()?.parse::<u8>().ok()?;
-    let answers = numbers.next()?.parse::<u8>().ok()?;
-    Some(
-        message.len() == len
-            && message.get(5).copied() == Some(questions)
-            && message.get(7).copied() == Some(answers),
-    )
-}
-
-/// Whether messages in frames are those that are told.
-fn are_messages(frames: &[u8], told: &str) -> Option<bool> {
-    let mut left = frames;
-    for words in told.split_terminator(';') {
-        let (message, rest) = take_frame(left)?;
-        if is_message(message, words) != Some(true) {
-            return Some(false);
-        }
-        left = rest;
-    }
-    Some(left.is_empty())
 }
 
 /// A stream that lies in memory: it gives three octets a read at most, and takes so many in all.
@@ -220,12 +156,29 @@ fn serve<R: Wait, Z: FirstZone>(
     )
 }
 
-/// Whether what is written is a row's: its octets, or its messages where they are told.
-fn is_written(alloc: Global, written: &[u8], wanted: &str) -> Option<bool> {
-    if wanted.contains(':') {
-        return are_messages(written, wanted);
-    }
-    Some(written == octets_of(alloc, wanted)?.as_slice())
+/// A row of a stream.
+#[derive(Clone, Copy)]
+struct Row<'a> {
+    may: bool,
+    room: usize,
+    end: &'a str,
+    input: &'a str,
+    written: &'a str,
+    told: &'a str,
+}
+
+/// What a row says.
+fn row_of(row: &str) -> Option<Row<'_>> {
+    let (row, told) = row.split_once('|').unwrap_or((row, ""));
+    let mut words = row.splitn(6, ' ');
+    Some(Row {
+        may: words.next()? == "may",
+        room: words.next()?.parse::<usize>().ok()?,
+        end: words.next()?,
+        input: words.next()?,
+        written: words.next()?,
+        told,
+    })
 }
 
 /// Whether a row's stream ends as the row says, and what is written and what the journal is told are the row's.
@@ -236,18 +189,14 @@ pub(crate) fn is_served<R: Wait, Z: FirstZone>(
     reader: &mut VersionReader<Z>,
     row: &str,
 ) -> Option<bool> {
-    let (row, told) = row.split_once('|').unwrap_or((row, ""));
-    let mut words = row.splitn(6, ' ');
-    let may = words.next()? == "may";
-    let room = words.next()?.parse::<usize>().ok()?;
-    let end = words.next()?;
-    let input = octets_of(alloc, words.next()?)?;
-    let mut stream = Counted::new(Tape::new(alloc, &input, room));
+    let row = row_of(row)?;
+    let input = octets_of(alloc, row.input)?;
+    let written = octets_of(alloc, row.written)?;
+    let mut stream = Counted::new(Tape::new(alloc, &input, row.room));
     let journal = Kept::new(alloc);
-    let ended = serve(rt, alloc, server, reader, may, &journal, &mut stream);
-    let is_right = is_end(ended, end) && journal.has(rt, told);
-    let written = is_written(alloc, stream.inner.output(), words.next()?)?;
-    Some(is_right && written)
+    let end = serve(rt, alloc, server, reader, row.may, &journal, &mut stream);
+    let is_right = is_end(end, row.end) && journal.has(rt, row.told);
+    Some(is_right && stream.inner.output() == written.as_slice())
 }
 
 /// The first row whose stream goes otherwise, over the zone anew; None where there is none.
@@ -272,11 +221,4 @@ fn first_wrong<R: Wait + Threads + Sync>(
 #[test]
 fn streams(rt: HostRuntime) {
     assert_eq!(rt; first_wrong(&rt, rt.alloc(), STREAMS), None);
-}
-
-// A transfer of two messages (RFC 5936, 2.2).
-#[test]
-fn transfer_of_two_messages(rt: HostRuntime) {
-    let zone = long_zone(rt.alloc()).expect(&rt, "a zone");
-    assert!(rt; is_played(&rt, rt.alloc(), zone, Play::Stream(LONG)) == Some(true));
 }
