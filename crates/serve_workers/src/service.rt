@@ -42,7 +42,7 @@ pub struct Plan<'a> {
 }
 
 /// Why a zone isn't served any more.
-#[derive(Clone, Copy, Debug, PartialEq, Eq, Error)]
+#[derive(Clone, Copy, Debug, Error)]
 pub enum ServeFault {
     /// There are more workers, or more versions are to be kept, than there may be.
     #[error("too many workers, or versions to keep")]
