@@ -17,33 +17,34 @@ fn data_of(alloc: Global, rtype: RType, text: &str) -> Option<RData> {
     RData::from_wire(alloc, rtype, &octets).ok()
 }
 
-/// The set of a row, of one record: an owner, in full or below `example.test.`, a type's number, and the data's octets in hexadecimal.
-fn set_of(alloc: Global, row: &str) -> Option<RRset> {
-    let mut words = row.split(' ');
+/// A set of one record: its owner, in full or below `example.test.`, its type's number, and the data's octets in hexadecimal.
+pub(crate) type SetRow = (&'static str, u16, &'static str);
+
+/// The set of a row.
+fn set_of(alloc: Global, row: &SetRow) -> Option<RRset> {
     let origin = Name::from_text(b"example.test.", &Name::root()).ok()?;
-    let owner = Name::from_text(words.next()?.as_bytes(), &origin).ok()?;
-    let rtype = RType(words.next()?.parse::<u16>().ok()?);
-    let data = data_of(alloc, rtype, words.next()?)?;
+    let owner = Name::from_text(row.0.as_bytes(), &origin).ok()?;
+    let data = data_of(alloc, RType(row.1), row.2)?;
     RRset::new(alloc, &owner, Ttl(3600), data).ok()
 }
 
-/// The sets of the first rows, so many.
-pub(crate) fn sets_of(alloc: Global, rows: &str, count: usize) -> Option<Vec<RRset>> {
+/// The sets of rows.
+fn sets_of(alloc: Global, rows: &[SetRow]) -> Option<Vec<RRset>> {
     let mut sets = Vec::new(alloc);
-    for row in rows.lines().take(count) {
+    for row in rows {
         sets.push(set_of(alloc, row)?).ok()?;
     }
     Some(sets)
 }
 
 /// The zone of rows in canonical order, each a set.
-pub(crate) fn zone_of(alloc: Global, rows: &str) -> Option<Zone> {
-    let sets = sets_of(alloc, rows, 99)?;
+pub(crate) fn zone_of(alloc: Global, rows: &[SetRow]) -> Option<Zone> {
+    let sets = sets_of(alloc, rows)?;
     Zone::new(alloc, sets).ok()
 }
 
 /// The first version of the zone of rows.
-pub(crate) fn version_of(alloc: Global, rows: &str) -> Option<Version>
+pub(crate) fn version_of(alloc: Global, rows: &[SetRow]) -> Option<Version>
     ensures { IfSome result (λ version. version.number ≡ 0) }
 {
     let zone = zone_of(alloc, rows)?;

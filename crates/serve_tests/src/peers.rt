@@ -108,15 +108,21 @@ fn whole_messages(step: u64) -> Option<usize> {
     Some(whole)
 }
 
+/// How many octets are taken a time, by how many seconds the clock goes on, and how many of sixteen octets are taken.
+const TAKEN: &[(usize, u64, usize)] = &[(1, 0, 16), (1, 1, 9), (1, 3, 3), (16, 3, 16)];
+
+/// By how many seconds the clock goes on, and how many of sixteen octets are read.
+const GIVEN: &[(u64, usize)] = &[(0, 16), (3, 3)];
+
 // Ten seconds for a message in whole and for a request in whole, however many octets come in between.
 #[test]
 fn slow_peers(rt: HostRuntime) {
-    assert_eq!(rt; taken(1, 0), Some(16));
-    assert_eq!(rt; taken(1, 1), Some(9));
-    assert_eq!(rt; taken(1, 3), Some(3));
-    assert_eq!(rt; taken(16, 3), Some(16));
-    assert_eq!(rt; given(0), Some(16));
-    assert_eq!(rt; given(3), Some(3));
+    for row in TAKEN {
+        assert_eq!(rt; taken(row.0, row.1), Some(row.2));
+    }
+    for row in GIVEN {
+        assert_eq!(rt; given(row.0), Some(row.1));
+    }
 }
 
 // A new message has its ten seconds from its first octet, however long the one before took.
