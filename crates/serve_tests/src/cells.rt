@@ -19,9 +19,9 @@ pub(crate) enum Play<'a> {
     /// An update that an engine publishes, sent anew where memory is refused.
     UpdateAnew,
     /// A row's stream.
-    Stream(&'a str),
+    Stream(&'a streams::Row),
     /// A row's datagrams.
-    Datagrams(&'a str),
+    Datagrams(&'a trays::Row),
     /// Two workers, a stream each.
     Workers,
 }

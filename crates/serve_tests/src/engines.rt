@@ -2,7 +2,7 @@
 ghost use Rattle.std.specs.Prelude.{◌≡◌};
 
 use crate::cells::{Play, is_played};
-use crate::made::{octets_of, zone_of};
+use crate::made::{SetRow, octets_of, zone_of};
 use dns_engine::{
     Engine, EngineFault, FirstZone, NoEngine, VersionCell, VersionPublisher, VersionReader,
 };
@@ -13,9 +13,14 @@ use std::sync::Wait;
 use zone_tree::Zone;
 
 /// A zone of an SOA of serial 1, and of an NS.
-const ZONE: &str = "\
-example.test. 2 036e7331076578616d706c65047465737400\n\
-example.test. 6 00000000000100001c2000000384001275000000012c\n";
+const ZONE: &[SetRow] = &[
+    ("example.test.", 2, "036e7331076578616d706c65047465737400"),
+    (
+        "example.test.",
+        6,
+        "00000000000100001c2000000384001275000000012c",
+    ),
+];
 
 /// An update of `example.test.` (RFC 2136, 2) that adds an address of 192.0.2.0/24 at `new`, but for the address's last octet.
 const UPDATE: &str =
@@ -36,26 +41,19 @@ pub(crate) fn update_of(alloc: Global, last: u8) -> Option<Update> {
     }
 }
 
-/// An update by the last octet of its address and by whether the peer may update, and what stands behind it.
-#[derive(Clone, Copy)]
-struct Row {
-    last: u8,
-    may: bool,
-    code: Rcode,
-    number: u64,
-    serial: u32,
-}
+/// An update by the last octet of its address and by whether the peer may update, and what stands behind it: its code, and the number
+/// and the serial of the version published last.
+type Row = (u8, bool, Rcode, u64, u32);
 
-/// A row of an update that is permitted.
-const fn taken(last: u8, number: u64, serial: u32) -> Row {
-    Row {
-        last,
-        may: true,
-        code: Rcode::NoError,
-        number,
-        serial,
-    }
-}
+/// An update that makes a version, the same again, one of a peer that may not update, and three that make versions.
+const ROWS: &[Row] = &[
+    (77, true, Rcode::NoError, 1, 2),
+    (77, true, Rcode::NoError, 1, 2),
+    (78, false, Rcode::Refused, 1, 2),
+    (78, true, Rcode::NoError, 2, 3),
+    (79, true, Rcode::NoError, 3, 4),
+    (80, true, Rcode::NoError, 4, 5),
+];
 
 /// Whether an update gets its row's code, behind which its row's number and serial stand.
 fn is_told<'a, R: Wait, Z: FirstZone>(
@@ -63,14 +61,14 @@ fn is_told<'a, R: Wait, Z: FirstZone>(
     alloc: Global,
     cell: &'a VersionCell<Z>,
     engine: &mut Engine<'a, Z>,
-    row: Row,
+    row: &Row,
 ) -> bool {
-    let Some(update) = update_of(alloc, row.last) else {
+    let Some(update) = update_of(alloc, row.0) else {
         return false;
     };
-    engine.update(rt, alloc, cell, &update, row.may) == row.code
-        && engine.number() == row.number
-        && engine.last().serial().0 == row.serial
+    engine.update(rt, alloc, cell, &update, row.1) == row.2
+        && engine.number() == row.3
+        && engine.last().serial().0 == row.4
 }
 
 /// The engine of a cell that keeps two versions. One that should keep nine is refused.
@@ -105,22 +103,7 @@ pub(crate) fn are_published<'a, R: Wait, Z: FirstZone>(
     requires { publisher.number ≡ 0 }
 {
     let mut engine = engine_of(rt, cell, publisher, reader)?;
-    let refused = Row {
-        last: 78,
-        may: false,
-        code: Rcode::Refused,
-        number: 1,
-        serial: 2,
-    };
-    let rows = [
-        taken(77, 1, 2),
-        taken(77, 1, 2),
-        refused,
-        taken(78, 2, 3),
-        taken(79, 3, 4),
-        taken(80, 4, 5),
-    ];
-    for row in rows {
+    for row in ROWS {
         if !is_told(rt, alloc, cell, &mut engine, row) {
             return Some(false);
         }

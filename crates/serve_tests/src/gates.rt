@@ -1,6 +1,5 @@
 //! Two workers, of which one waits in the gate for the other.
 use crate::cells::{Play, is_played};
-use crate::made::octets_of;
 use crate::streams::{Tape, zone};
 use dns_engine::{FirstZone, VersionReader};
 use serve_workers::{
@@ -12,10 +11,11 @@ use std::sync::atomic::{AtomicU64, Ordering};
 use std::thread::{self, Threads};
 
 /// The query for www.example.test., type A, and its reply, each in a frame.
-const QUERY: &str = "002212340100000100000000000003777777076578616d706c6504746573740000010001";
+const QUERY: &[u8] =
+    b"\x00\x22\x12\x34\x01\x00\x00\x01\x00\x00\x00\x00\x00\x00\x03www\x07example\x04test\x00\x00\x01\x00\x01";
 
-const REPLY: &str =
-    "004412348500000100020000000003777777076578616d706c6504746573740000010001c00c0005000100000e10000603776562c010c02e0001000100000e100004c000020a";
+const REPLY: &[u8] =
+    b"\x00\x44\x12\x34\x85\x00\x00\x01\x00\x02\x00\x00\x00\x00\x03www\x07example\x04test\x00\x00\x01\x00\x01\xc0\x0c\x00\x05\x00\x01\x00\x00\x0e\x10\x00\x06\x03web\xc0\x10\xc0\x2e\x00\x01\x00\x01\x00\x00\x0e\x10\x00\x04\xc0\x00\x02\x0a";
 
 /// After how many turns the first call gives up.
 const TURNS: u64 = 10_000_000;
@@ -126,12 +126,10 @@ pub(crate) fn are_served<R: Wait + Threads + Sync, Z: FirstZone + Send + Sync>(
     server: &Server<'_, Z>,
     readers: Vec<VersionReader<Z>>,
 ) -> Option<bool> {
-    let query = octets_of(alloc, QUERY)?;
-    let pairs = jobs_of(alloc, readers, &query)?;
+    let pairs = jobs_of(alloc, readers, QUERY)?;
     let gate = HoldingGate::new();
     let pairs = run_workers(rt, alloc, server, pairs, &gate, &NoJournal).ok()?;
-    let reply = octets_of(alloc, REPLY)?;
-    Some(gate.is_well() && are_written(&pairs, &reply))
+    Some(gate.is_well() && are_written(&pairs, REPLY))
 }
 
 // The first call waits in the gate until the second one has been answered, so each worker has a thread of its own.

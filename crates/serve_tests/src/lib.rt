@@ -1,5 +1,5 @@
-//! Tests of what a server does with requests: replies and transfers of `serve_core`, updates that the engine of `dns_engine`
-//! publishes, and streams, datagrams, workers and journals of `serve_workers`. Zones, requests and replies are tables as text.
+//! Tests of the running server: how many versions are told of, updates that the engine of `dns_engine` publishes, and streams, datagrams,
+//! workers and journals of `serve_workers`. Zones, requests and replies are tables. What replies and transfers hold, tables of rows show.
 #![tactic(auto)]
 
 #[cfg(test)]
@@ -19,10 +19,6 @@ mod peers;
 #[cfg(test)]
 mod refused_engines;
 #[cfg(test)]
-mod replies;
-#[cfg(test)]
 mod streams;
-#[cfg(test)]
-mod transfers;
 #[cfg(test)]
 mod trays;

@@ -1,10 +1,8 @@
 //! Zones and octets of tables.
 ghost use Rattle.std.specs.Prelude.{◌≡◌, IfSome};
 
-use dns_message::Parsed;
 use dns_name::Name;
 use dns_rdata::{RData, RRset, RType, Ttl};
-use serve_core::{TCP_LIMIT, Transport, respond};
 use std::alloc::Global;
 use zone_tree::{Version, Zone};
 
@@ -13,52 +11,42 @@ pub(crate) fn octets_of(alloc: Global, text: &str) -> Option<Vec<u8>> {
     hex::decode(alloc, text.as_bytes()).ok()
 }
 
-/// The set of a row, of one record: an owner, in full or below `example.test.`, a type's number, and the data's octets in hexadecimal.
-fn set_of(alloc: Global, row: &str) -> Option<RRset> {
-    let mut words = row.split(' ');
+/// Data of a type, by their octets in hexadecimal.
+fn data_of(alloc: Global, rtype: RType, text: &str) -> Option<RData> {
+    let octets = octets_of(alloc, text)?;
+    RData::from_wire(alloc, rtype, &octets).ok()
+}
+
+/// A set of one record: its owner, in full or below `example.test.`, its type's number, and the data's octets in hexadecimal.
+pub(crate) type SetRow = (&'static str, u16, &'static str);
+
+/// The set of a row.
+fn set_of(alloc: Global, row: &SetRow) -> Option<RRset> {
     let origin = Name::from_text(b"example.test.", &Name::root()).ok()?;
-    let owner = Name::from_text(words.next()?.as_bytes(), &origin).ok()?;
-    let rtype = RType(words.next()?.parse::<u16>().ok()?);
-    let octets = octets_of(alloc, words.next()?)?;
-    let data = RData::from_wire(alloc, rtype, &octets).ok()?;
+    let owner = Name::from_text(row.0.as_bytes(), &origin).ok()?;
+    let data = data_of(alloc, RType(row.1), row.2)?;
     RRset::new(alloc, &owner, Ttl(3600), data).ok()
 }
 
-/// The sets of the first rows, so many.
-pub(crate) fn sets_of(alloc: Global, rows: &str, count: usize) -> Option<Vec<RRset>> {
+/// The sets of rows.
+fn sets_of(alloc: Global, rows: &[SetRow]) -> Option<Vec<RRset>> {
     let mut sets = Vec::new(alloc);
-    for row in rows.lines().take(count) {
+    for row in rows {
         sets.push(set_of(alloc, row)?).ok()?;
     }
     Some(sets)
 }
 
 /// The zone of rows in canonical order, each a set.
-pub(crate) fn zone_of(alloc: Global, rows: &str) -> Option<Zone> {
-    let sets = sets_of(alloc, rows, 99)?;
+pub(crate) fn zone_of(alloc: Global, rows: &[SetRow]) -> Option<Zone> {
+    let sets = sets_of(alloc, rows)?;
     Zone::new(alloc, sets).ok()
 }
 
 /// The first version of the zone of rows.
-pub(crate) fn version_of(alloc: Global, rows: &str) -> Option<Version>
+pub(crate) fn version_of(alloc: Global, rows: &[SetRow]) -> Option<Version>
     ensures { IfSome result (λ version. version.number ≡ 0) }
 {
     let zone = zone_of(alloc, rows)?;
     Some(Version::first(zone))
-}
-
-/// What a request gets in a version of the zone: how many octets the reply has, and whether there is another version behind it.
-pub(crate) fn served(
-    alloc: Global,
-    version: &Version,
-    transport: Transport,
-    may: bool,
-    said: &Parsed,
-    out: &mut [u8; TCP_LIMIT],
-) -> (Option<usize>, bool) {
-    if version.number() > 9 {
-        return (None, true);
-    }
-    let served = respond(alloc, version, transport, may, said, out);
-    (served.len, served.next.is_some())
 }

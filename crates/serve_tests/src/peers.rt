@@ -4,7 +4,6 @@ ghost use Rattle.std.specs.Prelude.{None};
 use serve_workers::{Connection, Stream, Timed};
 use std::io;
 use std::sync::atomic::{AtomicU64, Ordering};
-use std::test::Fail;
 use std::time::{Clock, Duration};
 
 /// A clock that goes on by so many seconds each time that it is read.
@@ -12,6 +11,16 @@ use std::time::{Clock, Duration};
 struct Steps {
     seconds: AtomicU64,
     step: u64,
+}
+
+impl Steps {
+    /// A clock that begins at 0.
+    fn by(step: u64) -> Steps {
+        Steps {
+            seconds: AtomicU64::new(0),
+            step,
+        }
+    }
 }
 
 impl Clock for Steps {
@@ -54,12 +63,9 @@ impl Timed for Slow {
 }
 
 /// How many octets of a message of sixteen are taken, so many a time, where the clock goes on by so many seconds.
-fn taken(most: usize, step: u64) -> io::Result<usize> {
-    let clock = Steps {
-        seconds: AtomicU64::new(0),
-        step,
-    };
-    let mut connection = Connection::new(Slow { most }, &clock)?;
+fn taken(most: usize, step: u64) -> Option<usize> {
+    let clock = Steps::by(step);
+    let mut connection = Connection::new(Slow { most }, &clock).ok()?;
     let message = [0u8; 16];
     let mut at = 0usize;
     for _ in 0..16 {
@@ -71,16 +77,13 @@ fn taken(most: usize, step: u64) -> io::Result<usize> {
             Err(_) => break,
         }
     }
-    Ok(at)
+    Some(at)
 }
 
 /// How many octets are read, one a time and sixteen at most, where the clock goes on by so many seconds.
-fn given(step: u64) -> io::Result<usize> {
-    let clock = Steps {
-        seconds: AtomicU64::new(0),
-        step,
-    };
-    let mut connection = Connection::new(Slow { most: 1 }, &clock)?;
+fn given(step: u64) -> Option<usize> {
+    let clock = Steps::by(step);
+    let mut connection = Connection::new(Slow { most: 1 }, &clock).ok()?;
     let mut octets = [0u8; 1];
     let mut at = 0usize;
     for _ in 0..16 {
@@ -89,31 +92,41 @@ fn given(step: u64) -> io::Result<usize> {
             Err(_) => break,
         }
     }
-    Ok(at)
+    Some(at)
 }
+
+/// How many of nine messages of seven octets are taken, each in one write, where the clock goes on by so many seconds.
+fn whole_messages(step: u64) -> Option<usize> {
+    let clock = Steps::by(step);
+    let mut connection = Connection::new(Slow { most: 9 }, &clock).ok()?;
+    let mut whole = 0usize;
+    for _ in 0..9 {
+        if let Ok(7) = connection.write(b"message") {
+            whole = whole.saturating_add(1);
+        }
+    }
+    Some(whole)
+}
+
+/// How many octets are taken a time, by how many seconds the clock goes on, and how many of sixteen octets are taken.
+const TAKEN: &[(usize, u64, usize)] = &[(1, 0, 16), (1, 1, 9), (1, 3, 3), (16, 3, 16)];
+
+/// By how many seconds the clock goes on, and how many of sixteen octets are read.
+const GIVEN: &[(u64, usize)] = &[(0, 16), (3, 3)];
 
 // Ten seconds for a message in whole and for a request in whole, however many octets come in between.
 #[test]
-fn slow_peers(rt: HostRuntime) -> Result<(), Fail> {
-    assert_eq!(rt; taken(1, 0)?, 16);
-    assert_eq!(rt; taken(1, 1)?, 9);
-    assert_eq!(rt; taken(1, 3)?, 3);
-    assert_eq!(rt; taken(16, 3)?, 16);
-    assert_eq!(rt; given(0)?, 16);
-    assert_eq!(rt; given(3)?, 3);
-    Ok(())
+fn slow_peers(rt: HostRuntime) {
+    for row in TAKEN {
+        assert_eq!(rt; taken(row.0, row.1), Some(row.2));
+    }
+    for row in GIVEN {
+        assert_eq!(rt; given(row.0), Some(row.1));
+    }
 }
 
 // A new message has its ten seconds from its first octet, however long the one before took.
 #[test]
-fn messages_of_a_reply(rt: HostRuntime) -> Result<(), Fail> {
-    let clock = Steps {
-        seconds: AtomicU64::new(0),
-        step: 4,
-    };
-    let mut connection = Connection::new(Slow { most: 9 }, &clock)?;
-    for _ in 0..9 {
-        assert_eq!(rt; connection.write(b"message")?, 7);
-    }
-    Ok(())
+fn messages_of_a_reply(rt: HostRuntime) {
+    assert_eq!(rt; whole_messages(4), Some(9));
 }

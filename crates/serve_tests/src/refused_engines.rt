@@ -77,6 +77,18 @@ fn engine_anew<'a, R: Wait, Z: FirstZone>(
     }
 }
 
+/// Whether an engine publishes the update.
+fn publishes<'a, R: Wait, Z: FirstZone>(
+    rt: &R,
+    alloc: Global,
+    cell: &'a VersionCell<Z>,
+    engine: &mut Engine<'a, Z>,
+) -> Option<bool> {
+    let update = update_anew(alloc)?;
+    let code = sent_anew(rt, alloc, cell, engine, &update);
+    Some(code == Rcode::NoError && engine.number() == 1 && tells_the_change(engine, cell))
+}
+
 /// Whether an engine that is made of these publishes the update.
 pub(crate) fn is_published<'a, R: Wait, Z: FirstZone>(
     rt: &R,
@@ -87,10 +99,8 @@ pub(crate) fn is_published<'a, R: Wait, Z: FirstZone>(
 ) -> Option<bool>
     requires { publisher.number ≡ 0 }
 {
-    let update = update_anew(alloc)?;
     let mut engine = engine_anew(rt, cell, publisher, reader)?;
-    let code = sent_anew(rt, alloc, cell, &mut engine, &update);
-    Some(code == Rcode::NoError && engine.number() == 1 && tells_the_change(&engine, cell))
+    publishes(rt, alloc, cell, &mut engine)
 }
 
 /// Whether the update is published in a cell of its own; None where there is no memory for the zone or the cell.

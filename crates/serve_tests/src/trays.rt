@@ -12,24 +12,118 @@ use std::net::{IpAddr, SocketAddr};
 use std::sync::Wait;
 use std::thread::Threads;
 
-/// A query, octets without a reply, an update and a query for what it adds, with their replies; a row a letter.
+/// A query, octets without a reply, an update, a query for what it adds, and an IXFR by who holds serial 1, which is refused to a peer that
+/// may not have the zone (REFUSED is 5), with their replies; a row a letter.
 const REQUESTS: &str = "\
 q 12340100000100000000000003777777076578616d706c6504746573740000010001 12348500000100020000000003777777076578616d706c6504746573740000010001c00c0005000100000e10000603776562c010c02e0001000100000e100004c000020a\n\
 s 1234010000010000000000 \n\
 u 432128000001000000010000076578616d706c6504746573740000060001036e6577c00c0001000100000e100004c000024d 4321a8000000000000000000\n\
-n 123401000001000000000000036e6577076578616d706c6504746573740000010001 123485000001000100000000036e6577076578616d706c6504746573740000010001c00c0001000100000e100004c000024d\n";
+n 123401000001000000000000036e6577076578616d706c6504746573740000010001 123485000001000100000000036e6577076578616d706c6504746573740000010001c00c0001000100000e100004c000024d\n\
+x 123400000001000000010000076578616d706c6504746573740000fb0001c00c0006000100000000001600000000000100000000000000000000000000000000 123480050001000000000000076578616d706c6504746573740000fb0001\n";
 
-/// Datagrams over the zone. A row is how many may be answered, which send fails, counted from 0, the requests' letters, how the answering ends, how
-/// many failures are counted, and what is sent: who gets it, by the place of the request, and the request's letter.
-const DATAGRAMS: &str = "\
-datagrams 4 9 qqqq Done 0 0q1q2q3q\n\
-datagrams 2 9 qqqq Done 0 0q1q\n\
-datagrams 4 9 sqsq Done 0 1q3q\n\
-datagrams 3 9 uqn Done 0 0u1q2n\n\
-datagrams 4 1 qunq Done 1 0q2n3q\n\
-datagrams 4 0 q Device 2 \n\
-datagrams 4 9  Device 1 \n\
-datagrams 0 9 q Done 0 \n";
+/// A row of datagrams.
+#[derive(Clone, Copy)]
+pub(crate) struct Row {
+    /// Whether the peers may update and transfer.
+    may: bool,
+    /// How many datagrams may be answered.
+    most: u64,
+    /// Which send fails, counted from 0.
+    refused: usize,
+    /// The requests' letters.
+    letters: &'static [u8],
+    /// How the answering ends.
+    end: DatagramsEnd,
+    /// How many failures are counted.
+    faults: u64,
+    /// What is sent: who gets it, by the place of the request, and the request's letter.
+    sent: &'static [u8],
+}
+
+/// Datagrams over the zone.
+const DATAGRAMS: &[Row] = &[
+    Row {
+        may: true,
+        most: 4,
+        refused: 9,
+        letters: b"qqqq",
+        end: DatagramsEnd::Done,
+        faults: 0,
+        sent: b"0q1q2q3q",
+    },
+    Row {
+        may: true,
+        most: 2,
+        refused: 9,
+        letters: b"qqqq",
+        end: DatagramsEnd::Done,
+        faults: 0,
+        sent: b"0q1q",
+    },
+    Row {
+        may: true,
+        most: 4,
+        refused: 9,
+        letters: b"sqsq",
+        end: DatagramsEnd::Done,
+        faults: 0,
+        sent: b"1q3q",
+    },
+    Row {
+        may: true,
+        most: 3,
+        refused: 9,
+        letters: b"uqn",
+        end: DatagramsEnd::Done,
+        faults: 0,
+        sent: b"0u1q2n",
+    },
+    Row {
+        may: true,
+        most: 4,
+        refused: 1,
+        letters: b"qunq",
+        end: DatagramsEnd::Done,
+        faults: 1,
+        sent: b"0q2n3q",
+    },
+    Row {
+        may: true,
+        most: 4,
+        refused: 0,
+        letters: b"q",
+        end: DatagramsEnd::Device,
+        faults: 2,
+        sent: b"",
+    },
+    Row {
+        may: true,
+        most: 4,
+        refused: 9,
+        letters: b"",
+        end: DatagramsEnd::Device,
+        faults: 1,
+        sent: b"",
+    },
+    Row {
+        may: true,
+        most: 0,
+        refused: 9,
+        letters: b"q",
+        end: DatagramsEnd::Done,
+        faults: 0,
+        sent: b"",
+    },
+    Row {
+        may: false,
+        most: 2,
+        refused: 9,
+        letters: b"xq",
+        end: DatagramsEnd::Done,
+        faults: 0,
+        sent: b"0x1q",
+    },
+];
 
 /// The request, or the reply, of a letter.
 fn octets_for(alloc: Global, letter: u8, column: usize) -> Option<Vec<u8>> {
@@ -58,7 +152,20 @@ struct Tray<'a> {
     faults: u64,
 }
 
-impl Tray<'_> {
+impl<'a> Tray<'a> {
+    /// Datagrams of these letters, where this send is refused.
+    fn new(alloc: Global, letters: &'a [u8], refused: usize) -> Tray<'a> {
+        Tray {
+            alloc,
+            letters,
+            at: 0,
+            sent: Vec::new(alloc),
+            sends: 0,
+            refused,
+            faults: 0,
+        }
+    }
+
     /// The datagram that comes next.
     fn next(&self) -> Option<Vec<u8>> {
         let letter = self.letters.get(usize::from(self.at))?;
@@ -110,9 +217,9 @@ impl Datagrams for Tray<'_> {
 }
 
 /// The replies of a row, each with the place of who asked in front.
-fn replies_of(alloc: Global, row: &str) -> Option<Vec<u8>> {
+fn replies_of(alloc: Global, row: &[u8]) -> Option<Vec<u8>> {
     let mut replies = Vec::new(alloc);
-    for pair in row.as_bytes().chunks(2) {
+    for pair in row.chunks(2) {
         let [place, letter] = pair else {
             return None;
         };
@@ -123,21 +230,13 @@ fn replies_of(alloc: Global, row: &str) -> Option<Vec<u8>> {
     Some(replies)
 }
 
-/// Whether this is how the answering of datagrams ends.
-fn is_end(end: DatagramsEnd, name: &str) -> bool {
-    match end {
-        DatagramsEnd::Done => name == "Done",
-        DatagramsEnd::Device => name == "Device",
-        DatagramsEnd::Spent => name == "Spent",
-    }
-}
-
-/// Serves datagrams, of which at most so many are answered.
+/// Serves datagrams, of which at most so many are answered, to peers that may update and transfer or may not.
 fn serve<R: Wait, Z: FirstZone>(
     rt: &R,
     alloc: Global,
     server: &Server<'_, Z>,
     reader: &mut VersionReader<Z>,
+    may: bool,
     most: u64,
     tray: &mut Tray<'_>,
 ) -> DatagramsEnd {
@@ -146,12 +245,13 @@ fn serve<R: Wait, Z: FirstZone>(
     let mut asked = Asked::new(alloc, server, reader, &journal, peer, asker(0));
     let mut request = [0u8; 65_535];
     let mut out = [0u8; 65_535];
-    let addresses = [IpAddr::from([192, 0, 2, 7])];
+    let own = [IpAddr::from([192, 0, 2, 7])];
+    let allowed = Allowed::new(if may { &own } else { &[] });
     serve_udp(
         rt,
         &mut asked,
         tray,
-        Allowed::new(&addresses),
+        allowed,
         most,
         &OpenGate,
         &mut request,
@@ -165,46 +265,28 @@ pub(crate) fn is_served<R: Wait, Z: FirstZone>(
     alloc: Global,
     server: &Server<'_, Z>,
     reader: &mut VersionReader<Z>,
-    row: &str,
+    row: &Row,
 ) -> Option<bool> {
-    let mut words = row.split(' ').skip(1);
-    let most = words.next()?.parse::<u64>().ok()?;
-    let refused = words.next()?.parse::<usize>().ok()?;
-    let letters = words.next()?.as_bytes();
-    let mut tray = Tray {
-        alloc,
-        letters,
-        at: 0,
-        sent: Vec::new(alloc),
-        sends: 0,
-        refused,
-        faults: 0,
-    };
-    let end = serve(rt, alloc, server, reader, most, &mut tray);
-    let is_right = is_end(end, words.next()?) && words.next()?.parse::<u64>() == Ok(tray.faults());
-    Some(is_right && replies_of(alloc, words.next()?)? == tray.sent)
+    let replies = replies_of(alloc, row.sent)?;
+    let mut tray = Tray::new(alloc, row.letters, row.refused);
+    let end = serve(rt, alloc, server, reader, row.may, row.most, &mut tray);
+    Some(end == row.end && tray.faults() == row.faults && tray.sent == replies)
 }
 
-/// The first row whose datagrams go otherwise, over the zone anew; None where there is none.
-fn first_wrong<R: Wait + Threads + Sync>(
-    rt: &R,
-    alloc: Global,
-    rows: &'static str,
-) -> Option<&'static str> {
-    for row in rows.lines() {
-        let Some(zone) = zone(alloc) else {
-            return Some(row);
-        };
-        if is_played(rt, alloc, zone, Play::Datagrams(row)) != Some(true) {
-            return Some(row);
-        }
+/// Whether a row's datagrams go as it says, over the zone anew.
+fn is_right<R: Wait + Threads + Sync>(rt: &R, alloc: Global, row: &Row) -> bool {
+    match zone(alloc) {
+        Some(zone) => is_played(rt, alloc, zone, Play::Datagrams(row)) == Some(true),
+        None => false,
     }
-    None
 }
 
 // Replies in the order of their requests, each to who asked; a send that fails is counted, and the next request is answered; a receive
 // that fails ends it.
 #[test]
 fn datagrams(rt: HostRuntime) {
-    assert_eq!(rt; first_wrong(&rt, rt.alloc(), DATAGRAMS), None);
+    let wrong = DATAGRAMS
+        .iter()
+        .position(|row| !is_right(&rt, rt.alloc(), row));
+    assert_eq!(rt; wrong, None);
 }

@@ -1,7 +1,8 @@
 //! A server as one who answers a peer's requests.
-ghost use Rattle.std.specs.Prelude.{◌≡◌, ◌-◌, ◌^◌, ◌<◌, ◌≤◌, ◌⊎◌, [], length, IfErr, OnOk};
+ghost use Rattle.std.specs.Prelude.{◌≡◌, ◌-◌, ◌^◌, ◌<◌, ◌≤◌, ◌⊎◌, false, [], length, IfErr, IfOk, IfSome, OnOk};
 ghost use Rattle.std.specs.Result.{IsErrOf};
 ghost use Rattle.zone_tree.specs.Version.{Version};
+ghost use Rattle.serve_workers.specs.Octets.{messages_in};
 ghost use Rattle.serve_workers.specs.Replied.{IsReplied, IsUpdate, IsTransfer};
 ghost use Rattle.serve_workers.specs.Turns.{Replies, IsBrokenAs};
 ghost use Rattle.serve_workers.specs.declared.turn.Broken.{Broken as BrokenBy};
@@ -98,6 +99,33 @@ impl<'a, 's, Z: FirstZone, L: Journal> Asked<'a, 's, Z, L> {
             Served::Spent => Err(Broken::Spent),
         }
     }
+
+    /// Answers an update, or a transfer that is permitted, that came as a datagram.
+    #[tactic(auto, using(crate::proofs::ReplyLemmas::limit_most))]
+    fn answer_datagram_later<R: Wait>(
+        &mut self,
+        rt: &R,
+        peer: Peer,
+        request: &[u8],
+        out: &mut [u8],
+    ) -> Result<Option<usize>, Spent>
+        requires later { IsUpdate request.now ⊎ IsTransfer Z.zone peer request.now }
+        requires datagram { peer.stream ≡ false }
+        requires reply_room { 65535 ≤ length out.old }
+        ensures peer { self.new.peer ≡ self.old.peer }
+        ensures bound { IfOk result (λ len. IfSome len (λ n. (n < 65536) × (n ≤ length out.new))) }
+        ensures replied { IfOk result (λ len. IsReplied Z.zone peer request.now (messages_in len out.new)) }
+    {
+        match serve_one(rt, self.alloc, self.server, self.reader, peer, request, out) {
+            Served::Reply(len) => Ok(Some(len)),
+            Served::Updated(len, told) => {
+                self.tell(rt, told);
+                Ok(Some(len))
+            }
+            Served::Transfer(newest, query) => Ok(write_transfer(&newest, &query, peer, out)),
+            Served::Spent => Err(Spent),
+        }
+    }
 }
 
 impl<'a, 's, Z: FirstZone, L: Journal> Answering for Asked<'a, 's, Z, L> {
@@ -128,19 +156,7 @@ impl<'a, 's, Z: FirstZone, L: Journal> Answering for Asked<'a, 's, Z, L> {
         match answer_now(rt, self.alloc, cell, self.reader, peer, request, out) {
             Now::Bytes(len) => Ok(Some(len)),
             Now::Silent => Ok(None),
-            Now::Later => {
-                match serve_one(rt, self.alloc, self.server, self.reader, peer, request, out) {
-                    Served::Reply(len) => Ok(Some(len)),
-                    Served::Updated(len, told) => {
-                        self.tell(rt, told);
-                        Ok(Some(len))
-                    }
-                    Served::Transfer(newest, query) => {
-                        Ok(write_transfer(&newest, &query, peer, out))
-                    }
-                    Served::Spent => Err(Spent),
-                }
-            }
+            Now::Later => self.answer_datagram_later(rt, peer, request, out),
             Now::Spent => Err(Spent),
         }
     }

@@ -39,7 +39,7 @@ impl Stream for TcpStream {
 }
 
 /// A read or a write of a stream has failed, and is counted.
-#[derive(Clone, Copy, Debug, PartialEq, Eq)]
+#[derive(Clone, Copy)]
 pub struct DeviceFailed;
 
 /// A stream with the count of its failures.

@@ -57,7 +57,7 @@ pub struct Serials {
 }
 
 /// How a worker's job has ended.
-#[derive(Clone, Copy, PartialEq, Eq)]
+#[derive(Clone, Copy)]
 pub enum JobEnd {
     /// It has done as much as it may: so many requests, or connections.
     Done(u64),

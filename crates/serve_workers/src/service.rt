@@ -1,5 +1,5 @@
 //! A zone served on sockets, by workers.
-ghost use Rattle.std.specs.Prelude.{◌≡◌, ◌+◌, ◌*◌, ◌<◌, ◌≤◌, ◌⊎◌, ◌↔◌, vec_len, IfErr, IfSome, IsErrOf, OnOk};
+ghost use Rattle.std.specs.Prelude.{◌≡◌, ◌≢◌, ◌+◌, ◌*◌, ◌<◌, ◌≤◌, ◌⊎◌, ◌↔◌, vec_len, IfErr, IfSome, IsErrOf, OnOk};
 ghost use Rattle.dns_engine.specs.declared.fault.EngineFault.{EngineFault as EngineRefused};
 ghost use Rattle.dns_engine.specs.declared.owners.TheConstants.{KEPT};
 ghost use Rattle.snapshot_cell.specs.declared.cell.TheConstants.{READERS};
@@ -42,7 +42,7 @@ pub struct Plan<'a> {
 }
 
 /// Why a zone isn't served any more.
-#[derive(Clone, Copy, Debug, PartialEq, Eq, Error)]
+#[derive(Clone, Copy, Debug, Error)]
 pub enum ServeFault {
     /// There are more workers, or more versions are to be kept, than there may be.
     #[error("too many workers, or versions to keep")]
@@ -153,16 +153,42 @@ fn serve_cell<R: Threads + Wait + Clock + Sync, Z: FirstZone + Send + Sync, L: J
         Ok(server) => server,
         Err(refused) => return Err(fault_of(refused.fault)),
     };
+    serve_with(rt, alloc, &server, readers, plan, journal)
+}
+
+/// Serves the versions of a server's cell, with a worker for each reader.
+fn serve_with<R: Threads + Wait + Clock + Sync, Z: FirstZone + Send + Sync, L: Journal + Sync>(
+    rt: &R,
+    alloc: Global,
+    server: &Server<'_, Z>,
+    readers: Vec<VersionReader<Z>>,
+    plan: Plan<'_>,
+    journal: &L,
+) -> Result<(), ServeFault>
+    ensures { IfErr result (λ fault. fault ≢ Fault.TooMany) }
+{
     let pairs = pairs_of(rt, alloc, readers, plan)?;
-    let Ok(pairs) = run_workers(rt, alloc, &server, pairs, &OpenGate, journal) else {
+    let Ok(pairs) = run_workers(rt, alloc, server, pairs, &OpenGate, journal) else {
         return Err(ServeFault::NotStarted);
     };
-    for pair in pairs.iter() {
+    match fault_in(&pairs) {
+        Some(fault) => Err(fault),
+        None => Ok(()),
+    }
+}
+
+/// Why the first of the jobs that have failed has done so; none where none has.
+fn fault_in<Z: FirstZone, C: Clock>(
+    pairs: &[(VersionReader<Z>, SocketJob<'_, C>)],
+) -> Option<ServeFault>
+    ensures { IfSome result (λ fault. (fault ≡ Fault.Device) ⊎ (fault ≡ Fault.Spent)) }
+{
+    for pair in pairs {
         if let Some(fault) = pair.1.fault() {
-            return Err(fault);
+            return Some(fault);
         }
     }
-    Ok(())
+    None
 }
 
 /// Why a zone isn't served whose engine isn't made.

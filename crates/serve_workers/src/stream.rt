@@ -19,7 +19,7 @@ use std::net::SocketAddr;
 use std::sync::Wait;
 
 /// How the requests of a stream end.
-#[derive(Clone, Copy, Debug, PartialEq, Eq)]
+#[derive(Clone, Copy, PartialEq, Eq)]
 pub enum StreamEnd {
     /// Behind the last request's reply, with nothing left to be read.
     Clean,

@@ -21,7 +21,7 @@ use std::{io, thread};
 const PAUSE: u64 = 1;
 
 /// Why no connection was accepted.
-#[derive(Clone, Copy, Debug, PartialEq, Eq)]
+#[derive(Clone, Copy)]
 enum Refusal {
     /// It failed before it was accepted, which is its client's alone.
     Client,

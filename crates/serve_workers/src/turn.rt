@@ -15,7 +15,7 @@ use dns_message::put_frame;
 use std::sync::Wait;
 
 /// Why no whole reply is written.
-#[derive(Clone, Copy, Debug, PartialEq, Eq)]
+#[derive(Clone, Copy)]
 pub enum Broken {
     /// No version could be loaded.
     Spent,

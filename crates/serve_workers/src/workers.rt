@@ -109,6 +109,37 @@ fn do_all<R: Threads + Wait + Sync, W: Work>(
     !refused.load(Ordering::SeqCst)
 }
 
+/// Puts the workers of pairs into `works`, which has room for them.
+fn put_workers<'g, 's, Z: FirstZone, J: Drop, G, L>(
+    alloc: Global,
+    server: &'g Server<'s, Z>,
+    gate: &'g G,
+    journal: &'g L,
+    pairs: Vec<(VersionReader<Z>, J)>,
+    works: &mut Vec<Worker<'g, 's, Z, J, G, L>>,
+) {
+    for (reader, job) in pairs {
+        let _ = works.push(Worker {
+            alloc,
+            server,
+            gate,
+            journal,
+            reader,
+            job,
+        });
+    }
+}
+
+/// Puts the pairs of workers into `back`, which has room for them.
+fn put_pairs<Z: FirstZone, J: Drop, G, L>(
+    done: Vec<Worker<'_, '_, Z, J, G, L>>,
+    back: &mut Vec<(VersionReader<Z>, J)>,
+) {
+    for Worker { reader, job, .. } in done {
+        let _ = back.push((reader, job));
+    }
+}
+
 /// Does each job on a thread of its own, with a reader, and waits for all; then gives the pairs back. [`NotStarted`] gives them back
 /// where a thread was refused, or where there was no memory to keep track of them: no job begins behind the refusal.
 pub fn run_workers<
@@ -128,27 +159,18 @@ pub fn run_workers<
     journal: &'g L,
 ) -> Result<Vec<(VersionReader<Z>, J)>, NotStarted<Z, J>> {
     let count = pairs.len();
-    let (Ok(mut works), Ok(mut done), Ok(mut back)) = (
-        Vec::with_capacity(alloc, count),
-        Vec::with_capacity(alloc, count),
-        Vec::with_capacity(alloc, count),
-    ) else {
+    let Ok(mut works) = Vec::with_capacity(alloc, count) else {
         return Err(NotStarted(pairs));
     };
-    for (reader, job) in pairs {
-        let _ = works.push(Worker {
-            alloc,
-            server,
-            gate,
-            journal,
-            reader,
-            job,
-        });
-    }
+    let Ok(mut done) = Vec::with_capacity(alloc, count) else {
+        return Err(NotStarted(pairs));
+    };
+    let Ok(mut back) = Vec::with_capacity(alloc, count) else {
+        return Err(NotStarted(pairs));
+    };
+    put_workers(alloc, server, gate, journal, pairs, &mut works);
     let started = do_all(rt, alloc, works, &mut done);
-    for Worker { reader, job, .. } in done {
-        let _ = back.push((reader, job));
-    }
+    put_pairs(done, &mut back);
     if started {
         Ok(back)
     } else {
