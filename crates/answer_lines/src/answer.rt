@@ -74,8 +74,25 @@ pub fn run_answer<R: BufRead, W: Write>(
         BeginsToAnswer transport (begun zone) input (W.contents writer.old) (W.contents writer.new))) }
 {
     let mut buffers = Buffers::new(alloc)?;
+    answer_first(alloc, zone, transport, reader, writer, &mut buffers)
+}
+
+/// Answers each line of the input, the first one in the first version of a zone.
+fn answer_first<R: BufRead, W: Write>(
+    alloc: Global,
+    zone: Zone,
+    transport: Transport,
+    reader: &mut R,
+    writer: &mut W,
+    buffers: &mut Buffers,
+) -> io::Result<()>
+    ensures ok { OnOk result (IfSome (R.remaining reader.old) (λ input.
+        Answers transport (begun zone) input (W.contents writer.old) (W.contents writer.new))) }
+    ensures err { OnErr result (IfSome (R.remaining reader.old) (λ input.
+        BeginsToAnswer transport (begun zone) input (W.contents writer.old) (W.contents writer.new))) }
+{
     let mut kept = Kept::new(alloc, zone)?;
-    answer_lines(alloc, &mut kept, transport, reader, writer, &mut buffers)
+    answer_lines(alloc, &mut kept, transport, reader, writer, buffers)
 }
 
 /// Answers each line of the input, the first one in the newest version.

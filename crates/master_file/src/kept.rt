@@ -1,13 +1,15 @@
 //! A record of a text as it is kept until the text is read.
 ghost use Rattle.std.specs.Cmp.{partial_equiv_from_equiv, partial_order_from_agreeing_total};
 ghost use Rattle.std.specs.Ordering.{as_partial_cmp, eq_by_cmp};
-ghost use Rattle.std.specs.Prelude.{◌≡◌, ◌<◌, ◌^◌, IfOk, refl};
+ghost use Rattle.std.specs.Prelude.{◌≡◌, ◌<◌, ◌^◌, IfOk, true, refl};
 ghost use Rattle.dns_name.specs.Name.{fold_name, is_under};
-ghost use Rattle.master_file.specs.SetOrder.{set_order, set_order_total, set_order_equiv};
+ghost use Rattle.dns_rdata.specs.Record.{owner_of};
+ghost use Rattle.master_file.specs.SetOrder.{is_set_of, set_order, set_order_total, set_order_equiv};
+ghost use Rattle.master_file.specs.ZoneText.{record_in};
 
 use crate::record_entry::RecordEntry;
 use dns_name::{Name, StoredName};
-use dns_rdata::{RData, Ttl};
+use dns_rdata::{RData, RRset, Ttl};
 use std::alloc::{AllocError, Global};
 use std::cmp::Ordering;
 use std::marker::Model;
@@ -65,6 +67,14 @@ impl KeptRecord {
         ensures { result ≡ is_under self.now.owner name.now }
     {
         self.owner.is_under(name)
+    }
+
+    /// Whether it is of a set: of its owner and type.
+    pub(crate) fn is_of(&self, set: &RRset) -> bool
+        ensures of { result ≡ is_set_of (record_in self.now) set.now }
+        ensures owner { result ≡ true → owner_of set.now ≡ fold_name self.now.owner }
+    {
+        *set.stored_owner() == self.owner && set.rtype() == self.rdata.rtype()
     }
 
     /// The record's owner, which is in lower case, its TTL and its data.

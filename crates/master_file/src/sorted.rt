@@ -1,17 +1,16 @@
 //! The sets of a zone, put together from the records of a text.
-ghost use Rattle.std.specs.Prelude.{◌≡◌, ◌&&◌, ◌==◌, [], true, None, IfOk, IfSome};
+ghost use Rattle.std.specs.Prelude.{◌≡◌, ◌++◌, ◌∷◌, [], true, None, IfOk, OnOk, IfSome};
 ghost use Rattle.std.specs.Bool.{OnFalse, OnTrue};
 ghost use Rattle.std.specs.List.{list_any, AllPairs};
 ghost use Rattle.std.specs.Option.{IfNone};
-ghost use Rattle.dns_name.specs.Name.{is_same, fold_name};
-ghost use Rattle.dns_rdata.specs.Record.{owner_of, rtype_of};
+ghost use Rattle.dns_name.specs.Name.{fold_name};
+ghost use Rattle.dns_rdata.specs.Record.{owner_of};
 ghost use Rattle.zone_tree.specs.Sets.{records_in, AreUnsplit, IsSetBefore};
-ghost use Rattle.master_file.specs.SetOrder.{put_last, sets_with, is_over, HasOver};
+ghost use Rattle.master_file.specs.SetOrder.{is_set_of, put_last, sets_with, is_over, HasOver};
 ghost use Rattle.master_file.specs.ZoneText.{record_in, in_lower, first_line, is_too_many, zone_records};
 
 use crate::kept::KeptRecord;
-use dns_name::StoredName;
-use dns_rdata::{RData, RRset, SetFault};
+use dns_rdata::{RRset, SetFault};
 use std::alloc::{AllocError, Global};
 
 /// The sets of records, which are sorted by owner and type first; None where a set would have too many.
@@ -49,31 +48,41 @@ fn put(alloc: Global, sets: &mut Vec<RRset>, kept: KeptRecord) -> Result<bool, A
     ensures put { IfOk result (λ room. OnTrue room (sets.new.items ≡ put_last sets.old.items (in_lower (record_in kept)))) }
     ensures full { IfOk result (λ room. OnFalse room (list_any is_over (put_last sets.old.items (in_lower (record_in kept))) ≡ true)) }
 {
-    let (owner, ttl, rdata) = kept.into_parts();
-    match sets.pop() {
-        Some(mut last) => {
-            if is_of(&last, &owner, &rdata) {
-                match last.insert(rdata) {
-                    Ok(_) => {}
-                    Err(SetFault::Limit) => return Ok(false),
-                    Err(SetFault::NoMemory) => return Err(AllocError),
-                }
-                last.set_ttl(ttl);
-                sets.push(last)?;
-                return Ok(true);
-            }
-            sets.push(last)?;
-        }
-        None => {}
+    let Some(last) = sets.pop() else {
+        put_alone(alloc, sets, kept)?;
+        return Ok(true);
+    };
+    if kept.is_of(&last) {
+        return put_in(sets, last, kept);
     }
-    sets.push(RRset::with_owner(alloc, owner, ttl, rdata)?)?;
+    sets.push(last)?;
+    put_alone(alloc, sets, kept)?;
     Ok(true)
 }
 
-/// Whether data belongs to a set: of its owner and type.
-fn is_of(set: &RRset, owner: &StoredName, rdata: &RData) -> bool
-    ensures of { result ≡ (is_same (owner_of set.now) owner.now && rtype_of set.now == rdata.now.rtype) }
-    ensures owner { result ≡ true → owner_of set.now ≡ fold_name owner.now }
+/// Puts the set of a record alone behind all others.
+fn put_alone(alloc: Global, sets: &mut Vec<RRset>, kept: KeptRecord) -> Result<(), AllocError>
+    ensures { OnOk result (sets.new.items ≡ sets.old.items ++ (in_lower (record_in kept) ∷ []) ∷ []) }
 {
-    set.stored_owner() == owner && set.rtype() == rdata.rtype()
+    let (owner, ttl, rdata) = kept.into_parts();
+    sets.push(RRset::with_owner(alloc, owner, ttl, rdata)?)?;
+    Ok(())
+}
+
+/// Puts a record into its set, and that behind all others. Whether there was room for it.
+fn put_in(sets: &mut Vec<RRset>, mut last: RRset, kept: KeptRecord) -> Result<bool, AllocError>
+    requires of { is_set_of (record_in kept) last ≡ true }
+    requires owner { owner_of last ≡ fold_name kept.owner }
+    ensures put { IfOk result (λ room. OnTrue room (sets.new.items ≡ put_last (sets.old.items ++ last ∷ []) (in_lower (record_in kept)))) }
+    ensures full { IfOk result (λ room. OnFalse room (list_any is_over (put_last (sets.old.items ++ last ∷ []) (in_lower (record_in kept))) ≡ true)) }
+{
+    let (_, ttl, rdata) = kept.into_parts();
+    match last.insert(rdata) {
+        Ok(_) => {}
+        Err(SetFault::Limit) => return Ok(false),
+        Err(SetFault::NoMemory) => return Err(AllocError),
+    }
+    last.set_ttl(ttl);
+    sets.push(last)?;
+    Ok(true)
 }

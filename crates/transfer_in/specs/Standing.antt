@@ -7,8 +7,9 @@ use Rattle.dns_rdata.specs.Record.{Record, IsLawful}
 use Rattle.zone_tree.specs.Zone.{rrset_of, soa_of}
 use Rattle.transfer_core.specs.declared.fault.TransferFault.{TransferFault}
 use Rattle.transfer_core.specs.declared.fault.TransferFault.TheVariants.{NoMemory}
-use Rattle.transfer_in.specs.declared.reading.Stage.{Stage as Standing}
+use Rattle.transfer_in.specs.declared.reading.Stage.{Stage as Phase}
 use Rattle.transfer_in.specs.declared.reading.Stage.TheVariants.{Gathering, Deleting, Adding, Closed}
+use Rattle.transfer_in.specs.declared.reading.Standing.{Standing}
 use Rattle.transfer_core.specs.Take.{Stage, gathering, deleting, adding, closed, Reading, held_cmp}
 
 -- what is told of an outcome: it itself, or that a growth was refused
@@ -16,23 +17,27 @@ abbrev pub Tells : {A B : Type 0} → Result A TransferFault → (B → A) → R
 Tells outcome view told = MatchResult told (λ next. outcome ≡ Ok (view next)) (λ fault. (fault ≡ NoMemory) ⊎ (outcome ≡ Err fault))
 
 -- where a holder stands
-abbrev pub stage_of : Standing → Stage
+abbrev pub stage_of : Phase → Stage
 stage_of Gathering = gathering
 stage_of Deleting = deleting
 stage_of (Adding soa) = adding
 stage_of Closed = closed
 
 -- the SOAs that are held where a holder stands: none among deletions, that of the step among additions
-abbrev pub HasSoa : Standing → List Record → Type 0
+abbrev pub HasSoa : Phase → List Record → Type 0
 HasSoa Gathering records = Unit {0}
 HasSoa Deleting records = soa_of records ≡ []
 HasSoa (Adding soa) records = soa_of records ≡ soa ∷ []
 HasSoa Closed records = Unit {0}
 
+-- where a holder stands and what it holds there, as the definitions have it
+abbrev pub standing_of : Standing → Reading
+standing_of standing = record { stage = stage_of standing.stage; records = standing.records }
+
 -- what a holder holds within a list
 pub record Within : Type 0 where
   pub first : Record
-  pub stage : Standing
+  pub stage : Phase
   pub records : List Record
 
 -- and as the definitions have it

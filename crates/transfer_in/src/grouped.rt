@@ -1,5 +1,5 @@
 //! The sets of the records that are held (RFC 2181, 5).
-ghost use Rattle.std.specs.Prelude.{◌≡◌, ◌<◌, ◌≤◌, ◌++◌, ◌∷◌, [], length, true, false, IfOk, IfSome};
+ghost use Rattle.std.specs.Prelude.{◌≡◌, ◌<◌, ◌≤◌, ◌++◌, ◌∷◌, [], length, true, false, IfOk, OnOk, IfSome};
 ghost use Rattle.std.specs.Bool.{OnFalse, OnTrue};
 ghost use Rattle.std.specs.List.{AllByRecursion, list_all};
 ghost use Rattle.std.specs.Option.{IfNone};
@@ -46,14 +46,46 @@ fn put(alloc: Global, sets: &mut Vec<RRset>, held: HeldRecord) -> Result<bool, A
     ensures other { IfOk result (λ shares. OnFalse shares (list_all (λ r. share_ttl r held) (records_in sets.old.items) ≡ false)) }
 {
     let Some(last) = sets.pop() else {
-        sets.push(held.into_set(alloc)?)?;
+        put_alone(alloc, sets, held)?;
         return Ok(true);
     };
-    if !held.is_of(&last) {
-        sets.push(last)?;
-        sets.push(held.into_set(alloc)?)?;
-        return Ok(true);
+    if held.is_of(&last) {
+        return put_in(alloc, sets, last, &held);
     }
+    // That the set has a record is known of it from here on.
+    let _data = last.data();
+    sets.push(last)?;
+    put_alone(alloc, sets, held)?;
+    Ok(true)
+}
+
+/// Puts the set of a record alone behind all others. An `Err` only where a growth was refused.
+fn put_alone(alloc: Global, sets: &mut Vec<RRset>, held: HeldRecord) -> Result<(), AllocError>
+    requires { length held.rdata ≤ 4096 }
+    ensures { OnOk result (sets.new.items ≡ sets.old.items ++ (held ∷ []) ∷ []) }
+{
+    sets.push(held.into_set(alloc)?)?;
+    Ok(())
+}
+
+/// Puts a record that comes behind all others into its set, the last one, where it has that one's TTL. Whether it has. An `Err`
+/// only where a growth was refused.
+fn put_in(
+    alloc: Global,
+    sets: &mut Vec<RRset>,
+    last: RRset,
+    held: &HeldRecord,
+) -> Result<bool, AllocError>
+    requires owner { held.now.owner ≡ owner_of last }
+    requires rtype { held.now.rtype ≡ rtype_of last }
+    requires behind { IsBehindAll held.now (records_in (sets.old.items ++ last ∷ [])) }
+    requires rising { AreInOrder (sets.old.items ++ last ∷ []) }
+    requires short { length held.now.rdata ≤ 4096 }
+    requires room { length (rrset_of (records_in (sets.old.items ++ last ∷ []) ++ held.now ∷ []) held.now.owner held.now.rtype) ≤ 256 }
+    ensures records { IfOk result (λ shares. OnTrue shares (records_in sets.new.items ≡ records_in (sets.old.items ++ last ∷ []) ++ held.now ∷ [])) }
+    ensures rising { IfOk result (λ shares. OnTrue shares (AreInOrder sets.new.items)) }
+    ensures other { IfOk result (λ shares. OnFalse shares (list_all (λ r. share_ttl r held.now) (records_in (sets.old.items ++ last ∷ [])) ≡ false)) }
+{
     if held.ttl().0 != last.ttl().0 {
         return Ok(false);
     }

@@ -1,10 +1,11 @@
 //! What one record makes of the records that are held (RFC 1995, 4; RFC 5936, 2.2).
 ghost use Rattle.std.specs.Prelude.{◌≡◌, ◌&&◌, [], ◌∷◌, true, false, length, nat_le, if◌then◌else◌, Ok, Err, IfOk};
 ghost use Rattle.dns_name.specs.Name.{fold_name};
+ghost use Rattle.dns_rdata.specs.Record.{Record};
 ghost use Rattle.zone_tree.specs.Zone.{IsZone, soa_of, apex_of};
 ghost use Rattle.transfer_core.specs.Lists.{beside_soa};
-ghost use Rattle.transfer_core.specs.Take.{Stage as Stands, opened, gathering, deleting, adding, held, old_soa, step, is_soa, is_among, inserted, removed, joined, ended};
-ghost use Rattle.transfer_in.specs.Standing.{Tells, AreHeld, reading_of, stage_of};
+ghost use Rattle.transfer_core.specs.Take.{Stage as Stands, opened, gathering, deleting, adding, held, old_soa, step, is_soa, is_among, inserted, removed, joined, closing, ended};
+ghost use Rattle.transfer_in.specs.Standing.{Tells, AreHeld, HasSoa, reading_of, stage_of, standing_of};
 
 use crate::ended::zone_of;
 use crate::held::HeldRecord;
@@ -29,12 +30,18 @@ pub(crate) enum Stage {
     Closed,
 }
 
+/// Where a holder stands, and what it holds there.
+#[derive(Drop)]
+pub(crate) struct Standing {
+    stage: Stage,
+    records: Holding,
+}
+
 /// What is held within a list, behind its second record.
 #[derive(Drop)]
 pub(crate) struct Reading {
     first: HeldRecord,
-    stage: Stage,
-    records: Holding,
+    standing: Standing,
 }
 
 impl Model for Reading {
@@ -42,9 +49,9 @@ impl Model for Reading {
 
     ghost Value = { Within };
 
-    ghost view = { λ a. record { first = a.first; stage = a.stage; records = a.records } };
+    ghost view = { λ a. record { first = a.first; stage = a.standing.stage; records = a.standing.records } };
 
-    ghost invariant = { λ a. HasSoa a.stage a.records };
+    ghost invariant = { λ a. HasSoa a.standing.stage a.standing.records };
 }
 
 /// That records are within the limits, where the record that was read is in the zone and no longer than a record may be, and
@@ -123,65 +130,63 @@ fn take_out(
 fn gather(
     alloc: Global,
     apex: &Name,
-    first: HeldRecord,
+    first: &HeldRecord,
     records: Holding,
     one: HeldRecord,
-) -> Result<Reading, TransferFault>
-    ensures told { Tells (step apex.now first gathering records one) reading_of result }
-    ensures first { IfOk result (λ next. next.first ≡ first) }
+) -> Result<Standing, TransferFault>
+    ensures told { Tells (step apex.now first.now gathering records one) standing_of result }
+    ensures soa { IfOk result (λ next. HasSoa next.stage next.records) }
 {
     if !one.is_soa() {
         let records = join(alloc, apex, records, one)?;
         let stage = Stage::Gathering;
-        return Ok(Reading {
-            first,
-            stage,
-            records,
-        });
+        return Ok(Standing { stage, records });
     }
     if !first.is_same(&one) {
         return Err(TransferFault::Broken);
     }
     let stage = Stage::Closed;
-    Ok(Reading {
-        first,
-        stage,
-        records,
-    })
+    Ok(Standing { stage, records })
 }
 
 /// What a record makes of records of which some go: an SOA ends the deletions.
 fn delete(
     alloc: Global,
     apex: &Name,
-    first: HeldRecord,
     records: Holding,
     one: HeldRecord,
-) -> Result<Reading, TransferFault>
+) -> Result<Standing, TransferFault>
     requires { soa_of records ≡ [] }
-    ensures told { Tells (step apex.now first deleting records one) reading_of result }
-    ensures first { IfOk result (λ next. next.first ≡ first) }
+    ensures told { (first : Record) → Tells (step apex.now first deleting records one) standing_of result }
+    ensures soa { IfOk result (λ next. HasSoa next.stage next.records) }
 {
     if one.is_soa() {
-        let soa = one.copy(alloc)?;
-        let records = put(alloc, apex, records, one)?;
-        let stage = Stage::Adding(soa);
-        return Ok(Reading {
-            first,
-            stage,
-            records,
-        });
+        return end_deletions(alloc, apex, records, one);
     }
     if !records.has(&one) {
         return Err(TransferFault::WrongBase);
     }
     let records = take_out(alloc, apex, records, &one)?;
     let stage = Stage::Deleting;
-    Ok(Reading {
-        first,
-        stage,
-        records,
-    })
+    Ok(Standing { stage, records })
+}
+
+/// What the next SOA of a step makes of the records that its deletions left (RFC 1995, 4).
+fn end_deletions(
+    alloc: Global,
+    apex: &Name,
+    records: Holding,
+    one: HeldRecord,
+) -> Result<Standing, TransferFault>
+    requires left { soa_of records ≡ [] }
+    requires next { is_soa one ≡ true }
+    ensures told { Tells (held apex.now adding one (inserted one records)) standing_of result }
+    ensures soa { IfOk result (λ next. HasSoa next.stage next.records) }
+{
+    let soa = one.copy(alloc)?;
+    let records = put(alloc, apex, records, one)?;
+    let stage = Stage::Adding(soa);
+    Ok(Standing { stage, records })
 }
 
 /// What a record makes of records to which some come, behind this SOA: the first SOA again closes the list, another one
@@ -189,66 +194,77 @@ fn delete(
 fn add(
     alloc: Global,
     apex: &Name,
-    first: HeldRecord,
+    first: &HeldRecord,
     soa: HeldRecord,
     records: Holding,
     one: HeldRecord,
-) -> Result<Reading, TransferFault>
+) -> Result<Standing, TransferFault>
     requires { soa_of records ≡ soa ∷ [] }
-    ensures told { Tells (step apex.now first adding records one) reading_of result }
-    ensures first { IfOk result (λ next. next.first ≡ first) }
+    ensures told { Tells (step apex.now first.now adding records one) standing_of result }
+    ensures soa { IfOk result (λ next. HasSoa next.stage next.records) }
 {
     if !one.is_soa() {
-        if records.has(&one) {
-            return Err(TransferFault::WrongBase);
-        }
-        let records = put(alloc, apex, records, one)?;
-        let stage = Stage::Adding(soa);
-        return Ok(Reading {
-            first,
-            stage,
-            records,
-        });
+        return add_one(alloc, apex, soa, records, one);
     }
     if !first.is_same(&one) {
-        return begin_step(alloc, apex, first, soa, records, one);
+        return begin_step(alloc, apex, &soa, records, &one);
     }
-    if !records.has(&one) {
+    close(records, &one)
+}
+
+/// What a record that isn't an SOA makes of records to which it comes, behind this SOA.
+fn add_one(
+    alloc: Global,
+    apex: &Name,
+    soa: HeldRecord,
+    records: Holding,
+    one: HeldRecord,
+) -> Result<Standing, TransferFault>
+    requires soa { soa_of records ≡ soa ∷ [] }
+    requires plain { is_soa one ≡ false }
+    ensures told { (first : Record) → Tells (step apex.now first adding records one) standing_of result }
+    ensures soa { IfOk result (λ next. HasSoa next.stage next.records) }
+{
+    if records.has(&one) {
+        return Err(TransferFault::WrongBase);
+    }
+    let records = put(alloc, apex, records, one)?;
+    let stage = Stage::Adding(soa);
+    Ok(Standing { stage, records })
+}
+
+/// What the first SOA again makes of records to which some came (RFC 1995, 4).
+fn close(records: Holding, one: &HeldRecord) -> Result<Standing, TransferFault>
+    ensures told { Tells (if is_among records one.now then closing records else Err TransferFault.Broken) standing_of result }
+    ensures soa { IfOk result (λ next. HasSoa next.stage next.records) }
+{
+    if !records.has(one) {
         return Err(TransferFault::Broken);
     }
     let stage = Stage::Closed;
-    Ok(Reading {
-        first,
-        stage,
-        records,
-    })
+    Ok(Standing { stage, records })
 }
 
 /// What an old SOA makes of records with the SOA of the step before it, which it takes out (RFC 1995, 4).
 fn begin_step(
     alloc: Global,
     apex: &Name,
-    first: HeldRecord,
-    soa: HeldRecord,
+    soa: &HeldRecord,
     records: Holding,
-    one: HeldRecord,
-) -> Result<Reading, TransferFault>
-    requires soa { soa_of records ≡ soa ∷ [] }
-    requires old { is_soa one ≡ true }
-    ensures told { Tells (old_soa apex.now records one) reading_of result }
-    ensures first { IfOk result (λ next. next.first ≡ first) }
+    one: &HeldRecord,
+) -> Result<Standing, TransferFault>
+    requires soa { soa_of records ≡ soa.now ∷ [] }
+    requires old { is_soa one.now ≡ true }
+    ensures told { Tells (old_soa apex.now records one.now) standing_of result }
+    ensures soa { IfOk result (λ next. HasSoa next.stage next.records) }
 {
     if one.serial() != soa.serial() {
         return Err(TransferFault::WrongBase);
     }
-    let left = without_soa(alloc, &soa, records)?;
-    let records = check_held(alloc, apex, &one, left)?;
+    let left = without_soa(alloc, soa, records)?;
+    let records = check_held(alloc, apex, one, left)?;
     let stage = Stage::Deleting;
-    Ok(Reading {
-        first,
-        stage,
-        records,
-    })
+    Ok(Standing { stage, records })
 }
 
 /// The records beside their one SOA, which is this.
@@ -284,6 +300,79 @@ fn alone(alloc: Global, one: &HeldRecord) -> Result<Holding, AllocError>
     Ok(records)
 }
 
+/// What the second record of a list makes of a zone, behind this SOA: an SOA makes it an incremental list, another record a full
+/// one (RFC 1995, 4).
+fn begin_list(
+    alloc: Global,
+    zone: &Zone,
+    first: &HeldRecord,
+    one: HeldRecord,
+) -> Result<Standing, TransferFault>
+    ensures told { Tells (step (apex_of zone.now) first.now opened zone.now one) standing_of result }
+    ensures soa { IfOk result (λ next. HasSoa next.stage next.records) }
+{
+    if !one.is_soa() {
+        return begin_full(alloc, zone, first, one);
+    }
+    if first.is_same(&one) {
+        return Err(TransferFault::Broken);
+    }
+    begin_changes(alloc, zone, &one)
+}
+
+/// What a record that isn't an SOA makes of the SOA that opens a full list (RFC 5936, 2.2).
+fn begin_full(
+    alloc: Global,
+    zone: &Zone,
+    first: &HeldRecord,
+    one: HeldRecord,
+) -> Result<Standing, TransferFault>
+    requires { is_soa one ≡ false }
+    ensures told { Tells (step (apex_of zone.now) first.now opened zone.now one) standing_of result }
+    ensures soa { IfOk result (λ next. HasSoa next.stage next.records) }
+{
+    let alone = alone(alloc, first)?;
+    let records = join(alloc, zone.apex(), alone, one)?;
+    let stage = Stage::Gathering;
+    Ok(Standing { stage, records })
+}
+
+/// What the old SOA of the first step makes of a zone, out of which its SOA goes (RFC 1995, 4).
+fn begin_changes(alloc: Global, zone: &Zone, one: &HeldRecord) -> Result<Standing, TransferFault>
+    requires { is_soa one.now ≡ true }
+    ensures told { Tells (old_soa (apex_of zone.now) zone.now one.now) standing_of result }
+    ensures soa { IfOk result (λ next. HasSoa next.stage next.records) }
+{
+    if one.serial() != zone.serial() {
+        return Err(TransferFault::WrongBase);
+    }
+    let left = beside_soa(alloc, zone)?;
+    let records = check_held(alloc, zone.apex(), one, left)?;
+    let stage = Stage::Deleting;
+    Ok(Standing { stage, records })
+}
+
+/// What a further record makes of records that are held, where a holder stands so.
+fn go_on(
+    alloc: Global,
+    apex: &Name,
+    first: &HeldRecord,
+    standing: Standing,
+    one: HeldRecord,
+) -> Result<Standing, TransferFault>
+    requires { HasSoa standing.stage standing.records }
+    ensures told { Tells (step apex.now first.now (stage_of standing.stage) standing.records one) standing_of result }
+    ensures soa { IfOk result (λ next. HasSoa next.stage next.records) }
+{
+    let Standing { stage, records } = standing;
+    match stage {
+        Stage::Gathering => gather(alloc, apex, first, records, one),
+        Stage::Deleting => delete(alloc, apex, records, one),
+        Stage::Adding(soa) => add(alloc, apex, first, soa, records, one),
+        Stage::Closed => Err(TransferFault::Broken),
+    }
+}
+
 impl Reading {
     /// What the second record of a list makes of a zone, behind the SOA that opens the list: an SOA makes it an incremental
     /// list, another record a full one (RFC 1995, 4).
@@ -296,31 +385,8 @@ impl Reading {
         ensures told { Tells (step (apex_of zone.now) first opened zone.now one) reading_of result }
         ensures first { IfOk result (λ next. next.first ≡ first) }
     {
-        let apex = zone.apex();
-        if !one.is_soa() {
-            let alone = alone(alloc, &first)?;
-            let records = join(alloc, apex, alone, one)?;
-            let stage = Stage::Gathering;
-            return Ok(Reading {
-                first,
-                stage,
-                records,
-            });
-        }
-        if first.is_same(&one) {
-            return Err(TransferFault::Broken);
-        }
-        if one.serial() != zone.serial() {
-            return Err(TransferFault::WrongBase);
-        }
-        let left = beside_soa(alloc, zone)?;
-        let records = check_held(alloc, apex, &one, left)?;
-        let stage = Stage::Deleting;
-        Ok(Reading {
-            first,
-            stage,
-            records,
-        })
+        let standing = begin_list(alloc, zone, &first, one)?;
+        Ok(Reading { first, standing })
     }
 
     /// What a further record makes of what is held, in a zone of this apex.
@@ -333,17 +399,9 @@ impl Reading {
         ensures told { Tells (step apex.now self.first (stage_of self.stage) self.records one) reading_of result }
         ensures first { IfOk result (λ next. next.first ≡ self.first) }
     {
-        let Reading {
-            first,
-            stage,
-            records,
-        } = self;
-        match stage {
-            Stage::Gathering => gather(alloc, apex, first, records, one),
-            Stage::Deleting => delete(alloc, apex, first, records, one),
-            Stage::Adding(soa) => add(alloc, apex, first, soa, records, one),
-            Stage::Closed => Err(TransferFault::Broken),
-        }
+        let Reading { first, standing } = self;
+        let standing = go_on(alloc, apex, &first, standing, one)?;
+        Ok(Reading { first, standing })
     }
 
     /// What is held where no record is left, as the zone of an apex, which is in lower case: `Broken` where the list isn't
@@ -354,7 +412,7 @@ impl Reading {
         ensures told { Tells (ended apex.now (stage_of self.stage) self.records) (λ next. next) result }
         ensures lawful { IfOk result IsZone }
     {
-        let Reading { stage, records, .. } = self;
+        let Standing { stage, records } = self.standing;
         match stage {
             Stage::Closed => zone_of(alloc, apex, records),
             Stage::Gathering | Stage::Deleting | Stage::Adding(_) => Err(TransferFault::Broken),

@@ -34,6 +34,27 @@ next_played lines i line replies given first world after lt is told so_far =
     ∙ ap (λ t. behind replies (option_and_then (λ told. onto_replies told.0 (play told.1 (drop (i + 1) lines))) t)) told
     ∙ behind-one replies given (play after (drop (i + 1) lines))
 
+-- a reply behind those of the lines before it
+abbrev told_behind : List WorldReply → Option (WorldReply × World) → Option (List WorldReply × World)
+told_behind replies told = option_map (λ told. (replies ++ told.0 ∷ [], told.1)) told
+
+some_is : (told other : List WorldReply × World) → Some told ≡ Some other → told ≡ other
+some_is told other e = cc
+
+none_is : (told : Option (List WorldReply × World)) (other : List WorldReply × World) → told ≡ None → told ≡ Some other → ⊥
+none_is told other none e = cc
+
+-- one line more is played, whatever its reply is
+pub line_played : (lines : List WorldStep) (i : ℕ) (line : WorldStep) (replies now : List WorldReply) (first world after : World) → i < length lines → line ≡ get_or lines i line → told_behind replies (turn world line) ≡ Some (now, after)
+    → play first lines ≡ behind replies (play world (drop i lines)) → play first lines ≡ behind now (play after (drop (i + 1) lines))
+line_played lines i line replies now first world after lt is told so_far = by (turn world line) refl
+  where
+    by : (t : Option (WorldReply × World)) → turn world line ≡ t → play first lines ≡ behind now (play after (drop (i + 1) lines))
+    by None e = absurd (none_is (told_behind replies (turn world line)) (now, after) (ap (told_behind replies) e) told)
+    by (Some (given, next)) e =
+        let same = some_is (replies ++ given ∷ [], next) (now, after) (sym (ap (told_behind replies) e) ∙ told) in
+        next_played lines i line replies given first world next lt is e so_far ∙ (λ j. behind (same j).0 (play (same j).1 (drop (i + 1) lines)))
+
 -- all lines are played
 pub all_played : (zone : List Record) (keep window : ℕ) (lines : List WorldStep) (i : ℕ) (replies : List WorldReply) (world : World) → length lines ≤ i → play (started zone keep window) lines ≡ behind replies (play world (drop i lines)) → replies_of zone keep window lines ≡ Some replies
 all_played zone keep window lines i replies world end so_far =

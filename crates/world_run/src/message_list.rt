@@ -1,5 +1,5 @@
 //! The messages of a transfer (RFC 5936, 2.2).
-ghost use Rattle.std.specs.Prelude.{◌≡◌, IfOk, IfErr};
+ghost use Rattle.std.specs.Prelude.{◌≡◌, ◌++◌, ◌∷◌, [], IfOk, OnOk, IfErr};
 
 use crate::fault::WorldFault;
 use crate::step::Octets;
@@ -44,12 +44,21 @@ pub(crate) fn all_messages<C: ChainView>(
     let mut left = packer;
     let mut items = Vec::new(alloc);
     while let Some(len) = left.next_message(&mut out) {
-        let Ok(octets) = out[..len].to_vec(alloc) else {
-            return Err(WorldFault::NoMemory);
-        };
-        let Ok(()) = items.push(Octets::new(octets)) else {
-            return Err(WorldFault::NoMemory);
-        };
+        put_message(alloc, &mut items, &out[..len])?;
     }
     Ok(MessageList { items })
+}
+
+/// One message more, of these octets.
+fn put_message(alloc: Global, items: &mut Vec<Octets>, octets: &[u8]) -> Result<(), WorldFault>
+    ensures ok { OnOk result (items.new.items ≡ items.old.items ++ octets.now ∷ []) }
+    ensures refused { IfErr result (λ fault. fault ≡ WorldFault.NoMemory) }
+{
+    let Ok(octets) = octets.to_vec(alloc) else {
+        return Err(WorldFault::NoMemory);
+    };
+    match items.push(Octets::new(octets)) {
+        Ok(()) => Ok(()),
+        Err(_) => Err(WorldFault::NoMemory),
+    }
 }

@@ -6,10 +6,16 @@ ghost use Rattle.std.specs.Option.{option_copied, option_map, option_and_then};
 ghost use Rattle.cell_core.specs.Words.{found_last};
 ghost use Rattle.world_run.specs.Judgements.{judged as says_judged};
 ghost use Rattle.world_run.specs.Phases.{reserves as says_reserves, updates as says_updates};
-ghost use Rattle.world_run.specs.World.{World, loaded_once as says_loaded_once, started, most_steps, owner_of, without_name, call_of, without_call, is_taken as says_taken, version_of, kept_versions, answering, transfer_asked, transfer_start, code_reply, oldest_kept, is_held as says_held, update_start, start as says_start, given_up, names_at, kept_at, answer_at, step_once as says_step_once, steps_up_to, is_full as says_full, all_made as says_all_made, whole as says_whole, begin_under, stepped as says_stepped, next as says_next, turn as says_turn};
+ghost use Rattle.world_run.specs.World.{World, loaded_once as says_loaded_once, started, most_steps, owner_of, without_name, call_of, without_call, is_taken as says_taken, version_of, kept_versions, answering, transfer_asked, transfer_start, changes_told, drop_start, ask_start, zone_of, code_reply, oldest_kept, is_held as says_held, update_start, start as says_start, given_up, names_at, kept_at, answer_at, step_once as says_step_once, steps_up_to, is_full as says_full, all_made as says_all_made, whole as says_whole, begin as says_begin, begin_under, stepped as says_stepped, next as says_next, turn as says_turn};
+ghost use Rattle.serve_core.specs.declared.transport.Transport.TheVariants.{Tcp};
+ghost use Rattle.serve_core.specs.Transfers.{peer_over, is_permitted, messages_to};
 ghost use Rattle.world_run.specs.declared.judged.Judged.TheVariants.{Makes};
 ghost use Rattle.world_run.specs.declared.play.Named.{Named as NamedRow};
 ghost use Rattle.world_run.specs.declared.play.UnderWay.{UnderWay as UnderWayRow};
+ghost use Rattle.world_run.specs.declared.start.Start.TheVariants.{Takes};
+ghost use Rattle.world_run.specs.declared.step.Answer.TheVariants.{Messages};
+ghost use Rattle.world_run.specs.declared.step.Call.TheVariants.{Load};
+ghost use Rattle.world_run.specs.declared.step.WorldReply.TheVariants.{Answered};
 
 use crate::asked::{answer_in, reply_with};
 use crate::fault::WorldFault;
@@ -123,15 +129,33 @@ impl<'a> Play<'a> {
     {
         match self.start(alloc, call)? {
             Start::Refused => Ok(WorldReply::NotEnabled),
-            Start::Answers(answer) => {
-                self.room()?;
-                Ok(WorldReply::Answered(answer))
-            }
-            Start::Takes(phase) => {
-                self.room()?;
-                self.take_all(alloc, call, phase)
-            }
+            Start::Answers(answer) => self.answered(answer),
+            Start::Takes(phase) => self.take_in_room(alloc, call, phase),
         }
+    }
+
+    /// What a call gives that takes no step, where there is room for one more.
+    fn answered(&self, answer: Answer) -> Result<WorldReply, WorldFault>
+        ensures ok { IfOk result (λ reply. reply ≡ Answered answer) }
+        ensures room { OnOk result (IsFalse (says_full self.now)) }
+        ensures full { IfErr result (λ fault. IsTrue (says_full self.now)) }
+    {
+        self.room()?;
+        Ok(WorldReply::Answered(answer))
+    }
+
+    /// Takes the steps of a call, where there is room for one more.
+    fn take_in_room(
+        &mut self,
+        alloc: Global,
+        call: &Call<'a>,
+        phase: Phase<'a>,
+    ) -> Result<WorldReply, WorldFault>
+        ensures ok { IfOk result (λ reply. says_whole self.old call.now (Takes phase.entry) ≡ Some (reply, self.new)) }
+        ensures limit { IfErr result (λ fault. fault ≡ WorldFault.Limit → says_whole self.old call.now (Takes phase.entry) ≡ None) }
+    {
+        self.room()?;
+        self.take_all(alloc, call, phase)
     }
 
     /// Puts a call under way.
@@ -149,17 +173,25 @@ impl<'a> Play<'a> {
         }
         match self.start(alloc, call)? {
             Start::Refused => Ok(WorldReply::NotEnabled),
-            Start::Answers(answer) => {
-                self.room()?;
-                Ok(WorldReply::Answered(answer))
-            }
-            Start::Takes(phase) => {
-                self.room()?;
-                give_up(&mut self.names, call);
-                put_under_way(&mut self.calls, name, phase)?;
-                Ok(WorldReply::Begun)
-            }
+            Start::Answers(answer) => self.answered(answer),
+            Start::Takes(phase) => self.begin_in_room(name, call, phase),
         }
+    }
+
+    /// Puts a call under way that takes a step, where there is room for one more.
+    fn begin_in_room(
+        &mut self,
+        name: &Handle<'a>,
+        call: &Call<'a>,
+        phase: Phase<'a>,
+    ) -> Result<WorldReply, WorldFault>
+        ensures ok { IfOk result (λ reply. says_begin self.old name.now call.now (Takes phase.entry) ≡ Some (reply, self.new)) }
+        ensures limit { IfErr result (λ fault. fault ≡ WorldFault.Limit → says_begin self.old name.now call.now (Takes phase.entry) ≡ None) }
+    {
+        self.room()?;
+        give_up(&mut self.names, call);
+        put_under_way(&mut self.calls, name, phase)?;
+        Ok(WorldReply::Begun)
     }
 
     /// Takes one step of a call under way.
@@ -193,22 +225,64 @@ impl<'a> Play<'a> {
         ensures refused { IfErr result (λ fault. fault ≡ WorldFault.NoMemory) }
     {
         match call {
-            Call::Load(name) if self.is_taken(name) => Ok(Start::Refused),
-            Call::Load(name) => Ok(Start::Takes(Phase::Load(name.copy()))),
-            Call::Drop(name) => match owner_under(&self.names, name) {
-                None => Ok(Start::Refused),
-                Some(owner) => Ok(Start::Takes(Phase::Release(owner, Purpose::Drop))),
-            },
-            Call::Ask(name, request) => match self.version_under(name) {
-                None => Ok(Start::Refused),
-                Some(version) => Ok(Start::answering(answer_in(alloc, version, request)?)),
-            },
-            Call::Transfer(name, request) => match self.version_under(name) {
-                None => Ok(Start::Refused),
-                Some(version) => Ok(Start::answering(self.transfer(alloc, version, request)?)),
-            },
+            Call::Load(name) => Ok(self.load(name)),
+            Call::Drop(name) => Ok(self.release(name)),
+            Call::Ask(name, request) => self.ask(alloc, name, request),
+            Call::Transfer(name, request) => self.ask_transfer(alloc, name, request),
             Call::Update(_) if is_updating(&self.calls) => Ok(Start::Refused),
             Call::Update(request) => self.update(alloc, request),
+        }
+    }
+
+    /// How a load begins.
+    fn load(&self, name: &Handle<'a>) -> Start<'a>
+        ensures { result ≡ says_start self.now (Load name.now) }
+    {
+        if self.is_taken(name) {
+            return Start::Refused;
+        }
+        Start::Takes(Phase::Load(name.copy()))
+    }
+
+    /// How a drop begins.
+    fn release(&self, name: &Handle<'_>) -> Start<'a>
+        ensures { result ≡ drop_start (owner_of name.now self.now.names) }
+    {
+        match owner_under(&self.names, name) {
+            None => Start::Refused,
+            Some(owner) => Start::Takes(Phase::Release(owner, Purpose::Drop)),
+        }
+    }
+
+    /// How a request begins that is asked in the version of a name.
+    fn ask(
+        &self,
+        alloc: Global,
+        name: &Handle<'_>,
+        request: &Request<'_>,
+    ) -> Result<Start<'a>, WorldFault>
+        ensures ok { IfOk result (λ how. how ≡ ask_start (zone_of name.now self.now) request.now) }
+        ensures refused { IfErr result (λ fault. fault ≡ WorldFault.NoMemory) }
+    {
+        match self.version_under(name) {
+            None => Ok(Start::Refused),
+            Some(version) => Ok(Start::answering(answer_in(alloc, version, request)?)),
+        }
+    }
+
+    /// How a question for a transfer of the version of a name begins.
+    fn ask_transfer(
+        &self,
+        alloc: Global,
+        name: &Handle<'_>,
+        request: &Request<'_>,
+    ) -> Result<Start<'a>, WorldFault>
+        ensures ok { IfOk result (λ how. how ≡ transfer_start self.now (version_of name.now self.now) request.now) }
+        ensures refused { IfErr result (λ fault. fault ≡ WorldFault.NoMemory) }
+    {
+        match self.version_under(name) {
+            None => Ok(Start::Refused),
+            Some(version) => Ok(Start::answering(self.transfer(alloc, version, request)?)),
         }
     }
 
@@ -300,17 +374,32 @@ impl<'a> Play<'a> {
         ensures ok { IfOk result (λ answer. answering answer ≡ transfer_asked self.now version.now query.now) }
         ensures refused { IfErr result (λ fault. fault ≡ WorldFault.NoMemory) }
     {
-        let peer = Peer::over(Transport::Tcp, true);
-        if !is_permitted(version, query, peer) {
+        if !is_permitted(version, query, Peer::over(Transport::Tcp, true)) {
             return Ok(None);
         }
         if query.question.rtype == RType::IXFR && is_updating(&self.calls) {
             return Ok(None);
         }
+        Ok(Some(self.transfer_messages(alloc, version, query)?))
+    }
+
+    /// The messages of a transfer over TCP of a version that is served.
+    fn transfer_messages(
+        &self,
+        alloc: Global,
+        version: &Version,
+        query: &Query,
+    ) -> Result<Answer, WorldFault>
+        requires { is_permitted version.now.zone (peer_over Tcp true) query.now ≡ true }
+        ensures ok { IfOk result (λ answer. answer
+            ≡ Messages (messages_to version.now.zone (changes_told self.now.window (kept_versions self.now) version.now query.now.serial) (peer_over Tcp true) query.now)) }
+        ensures refused { IfErr result (λ fault. fault ≡ WorldFault.NoMemory) }
+    {
         let kept = self.kept_versions(alloc)?;
         let chain = chain_to(&kept, version, self.window, query.serial);
+        let peer = Peer::over(Transport::Tcp, true);
         let messages = all_messages(alloc, transfer_reply(version, &chain, query, peer))?;
-        Ok(Some(Answer::Messages(messages)))
+        Ok(Answer::Messages(messages))
     }
 
     /// Room for one call more.

@@ -1,6 +1,8 @@
 //! The lines of a script, played in turn.
-ghost use Rattle.std.specs.Prelude.{◌≡◌, Some, None, IfOk, IfErr};
-ghost use Rattle.world_run.specs.World.{replies_of};
+ghost use Rattle.std.specs.Prelude.{◌≡◌, ◌++◌, ◌∷◌, List, [], Some, None, IfOk, OnOk, IfErr};
+ghost use Rattle.std.specs.Option.{option_map};
+ghost use Rattle.world_run.specs.World.{World, replies_of, turn};
+ghost use Rattle.world_run.specs.declared.step.WorldReply.{WorldReply as Reply};
 
 use crate::fault::WorldFault;
 use crate::play::Play;
@@ -25,13 +27,24 @@ pub fn run<'a>(
     let mut play = Play::new(alloc, zone, keep, window)?;
     let mut replies = Vec::new(alloc);
     for line in lines {
-        let reply = match play.turn(alloc, line) {
-            Ok(reply) => reply,
-            Err(fault) => return Err(fault),
-        };
-        let Ok(()) = replies.push(reply) else {
-            return Err(WorldFault::NoMemory);
-        };
+        play_line(alloc, &mut play, line, &mut replies)?;
     }
     Ok(replies)
+}
+
+/// Plays a line, and puts its reply behind those of the lines before it.
+fn play_line<'a>(
+    alloc: Global,
+    play: &mut Play<'a>,
+    line: &WorldStep<'a>,
+    replies: &mut Vec<WorldReply>,
+) -> Result<(), WorldFault>
+    ensures ok { OnOk result (option_map {U = List Reply × World} (λ told. (replies.old.items ++ told.0 ∷ [], told.1)) (turn play.old line.now) ≡ Some (replies.new.items, play.new)) }
+    ensures limit { IfErr result (λ fault. fault ≡ WorldFault.Limit → turn play.old line.now ≡ None) }
+{
+    let reply = play.turn(alloc, line)?;
+    match replies.push(reply) {
+        Ok(()) => Ok(()),
+        Err(_) => Err(WorldFault::NoMemory),
+    }
 }

@@ -1,8 +1,6 @@
-use Rattle.std.proofs.Common.{◌≡◌, ◌⊎◌, ◌∙◌, ℕ, List, [], Ok, Err, ap, subst}
+use Rattle.std.proofs.Common.{◌≡◌, ◌⊎◌, ◌∙◌, ℕ, List, [], ap, subst}
 use Rattle.std.proofs.lemmas.Result.{err_from_is_err_and}
-use Rattle.transfer_core.specs.declared.fault.TransferFault.{TransferFault}
 use Rattle.transfer_core.specs.declared.fault.TransferFault.TheVariants.{NoMemory}
-use Rattle.transfer_in.specs.declared.taking.Progress.{Progress}
 use Rattle.transfer_in.specs.declared.taking.Progress.TheVariants.{Nothing}
 use Rattle.transfer_in.specs.Taking.{behind, records_of_message, IsRead, IsRefused}
 use Rattle.transfer_in.proofs.MessageLemmas.{records_of, read_at, none_at, refused_at, read_all, told_zone, told_fault}
