@@ -1,5 +1,6 @@
--- The messages of what changed.
-use Rattle.std.proofs.Common.{◌≡◌, ℕ, Bool, true, false, List, [], ◌∷◌, Option, Some, ap, ◌∙◌}
+-- The messages of what changed, and which requests are for no transfer.
+use Rattle.std.proofs.Common.{◌≡◌, refl, ℕ, Bool, true, false, not, ◌==◌, List, [], ◌∷◌, Option, Some, ap, ◌∙◌}
+use Rattle.dns_rdata.specs.Numbers.{class_IN}
 use Rattle.dns_rdata.specs.Record.{Record}
 use Rattle.dns_message.specs.declared.query.Query.{Query as QueryAsked}
 use Rattle.zone_tree.specs.Zone.{soa_of}
@@ -9,7 +10,8 @@ use Rattle.transfer_core.specs.Lists.{incremental}
 use Rattle.transfer_core.specs.Packed.{packed, octets_of, datagram}
 use Rattle.transfer_core.proofs.VersionLemmas.{list_told}
 use Rattle.serve_core.specs.declared.peer.Peer.{Peer}
-use Rattle.serve_core.specs.Transfers.{list_for, messages_to}
+use Rattle.serve_core.specs.Reply.{asks_transfer, reply_to}
+use Rattle.serve_core.specs.Transfers.{list_for, messages_to, reply_to_peer}
 
 -- a whole chain that leads to the served zone tells of what changed
 pub told_whole : (zone : List Record) (versions : List Version) (served : List Record) (whole : Bool) → whole ≡ true → LeadTo zone versions served → told_changes whole (soa_of served) versions ≡ Some (incremental zone (zones_of versions))
@@ -25,3 +27,10 @@ pub sent_by_datagram : (zone : List Record) (changes told : Option (List Record)
     → octets ≡ datagram query.head query.question list soa ∷ [] → octets ≡ messages_to zone changes peer query
 sent_by_datagram zone changes told peer query list soa octets e f g k h =
     rw e (h ∙ ap (λ l. datagram query.head query.question l soa ∷ []) (g ∙ ap (λ o. list_for zone o query) f) ∙ ap (λ s. datagram query.head query.question (list_for zone changes query) s ∷ []) k)
+
+-- a question of another class than IN, and one that asks for no transfer, get the reply to a query
+pub of_other_class : (zone : List Record) (peer : Peer) (query : QueryAsked) → not (query.question.class.0 == class_IN) ≡ true → reply_to_peer zone peer query ≡ reply_to zone query
+of_other_class zone peer query e = rw e refl
+
+pub of_no_transfer : (zone : List Record) (peer : Peer) (query : QueryAsked) → not (query.question.class.0 == class_IN) ≡ false → asks_transfer query.question ≡ false → reply_to_peer zone peer query ≡ reply_to zone query
+of_no_transfer zone peer query e f = rw (e, f) refl

@@ -1,11 +1,13 @@
 //! What a question for a transfer gets (RFC 1995, 2 and 4; RFC 5936, 2.2).
 ghost use Rattle.std.specs.Prelude.{◌≡◌, ◌≤◌, true, List, length, take, Some};
 ghost use Rattle.dns_message.specs.Octets.{fit};
+ghost use Rattle.dns_rdata.specs.Numbers.{class_IN};
 ghost use Rattle.dns_rdata.specs.Record.{Record};
 ghost use Rattle.zone_tree.specs.Zone.{soa_of};
 ghost use Rattle.transfer_core.specs.Chain.{zones_of, LeadTo, told_changes};
 ghost use Rattle.transfer_core.specs.Lists.{incremental};
 ghost use Rattle.transfer_core.specs.Packed.{listed};
+ghost use Rattle.serve_core.specs.Reply.{asks_transfer};
 ghost use Rattle.serve_core.specs.Transfers.{peer_over, transport_of, is_unfit, is_permitted, reply_to_peer, is_current, list_for, messages_to};
 ghost use Rattle.serve_core.specs.Transport.{limit_of};
 
@@ -104,14 +106,23 @@ pub fn respond_to_peer<Z: ZoneRead>(zone: &Z, query: &Query, peer: Peer, out: &m
     ensures octets { take result out.new ≡ fit (reply_to_peer (Z.records zone.now) peer query.now) (limit_of (transport_of peer)) }
     ensures len { result ≤ limit_of (transport_of peer) }
 {
+    let question = &query.question;
+    if question.class != Class::IN || !asks_transfer(question) {
+        return respond_to_query(zone, query, peer.transport(), out);
+    }
+    refuse_transfer(zone, query, peer, out)
+}
+
+/// `respond_to_peer` of a question for a transfer: which refusal it gets (RFC 1995, 2; RFC 5936, 2.2.1; own).
+fn refuse_transfer<Z: ZoneRead>(zone: &Z, query: &Query, peer: Peer, out: &mut [u8]) -> usize
+    requires room { limit_of (transport_of peer) ≤ length out.old }
+    requires class { query.now.question.class.0 ≡ class_IN }
+    requires transfer { asks_transfer query.now.question ≡ true }
+    ensures octets { take result out.new ≡ fit (reply_to_peer (Z.records zone.now) peer query.now) (limit_of (transport_of peer)) }
+    ensures len { result ≤ limit_of (transport_of peer) }
+{
     let transport = peer.transport();
     let question = &query.question;
-    if question.class != Class::IN {
-        return respond_to_query(zone, query, transport, out);
-    }
-    if !asks_transfer(question) {
-        return respond_to_query(zone, query, transport, out);
-    }
     if is_unfit(peer, query) {
         return write_bare(query.head, Rcode::FormErr, transport, out);
     }

@@ -34,6 +34,38 @@ impl Maker {
         self.fork(left, pair, right)
     }
 
+    /// `join` of a left side with a node's pair and right side, which stay with the node, and get one owner more.
+    /// `NoMemory` also where one of them can't be shared.
+    pub(crate) fn with_left<K: Drop, V: Drop>(
+        &mut self,
+        left: Link<K, V>,
+        node: &Node<K, V>,
+    ) -> Result<Link<K, V>, NoMemory>
+        ensures pairs { IfOk result (λ link. link_pairs link ≡ link_pairs left ++ node.now.pair.value ∷ link_pairs node.now.right) }
+        ensures formed { AreJoinable left node.now.right → IfOk result (λ link. IsFormed link) }
+        ensures height { AreJoinable left node.now.right → IfOk result (λ link. IsJoined left node.now.right link) }
+        ensures counted { IfOk result (λ _. self.old.made < self.new.made) }
+        ensures at_most_three { self.new.made ≤ self.old.made + 3 }
+    {
+        self.join(left, share_pair(&node.pair)?, node.right.share()?)
+    }
+
+    /// `join` of a node's left side and pair, which stay with the node, and get one owner more, with a right side.
+    /// `NoMemory` also where one of them can't be shared.
+    pub(crate) fn with_right<K: Drop, V: Drop>(
+        &mut self,
+        node: &Node<K, V>,
+        right: Link<K, V>,
+    ) -> Result<Link<K, V>, NoMemory>
+        ensures pairs { IfOk result (λ link. link_pairs link ≡ link_pairs node.now.left ++ node.now.pair.value ∷ link_pairs right) }
+        ensures formed { AreJoinable node.now.left right → IfOk result (λ link. IsFormed link) }
+        ensures height { AreJoinable node.now.left right → IfOk result (λ link. IsJoined node.now.left right link) }
+        ensures counted { IfOk result (λ _. self.old.made < self.new.made) }
+        ensures at_most_three { self.new.made ≤ self.old.made + 3 }
+    {
+        self.join(node.left.share()?, share_pair(&node.pair)?, right)
+    }
+
     /// `fork` where the pair and both sides stay with their owners, and get one more. `NoMemory` also where one of them can't be
     /// shared.
     fn fork_shared<K: Drop, V: Drop>(

@@ -27,12 +27,12 @@ impl Maker {
             Link::Fork(node) => match pair.0.cmp(&node.pair.0) {
                 Ordering::Less => {
                     let left = self.with(&node.left, pair)?;
-                    self.join(left, share_pair(&node.pair)?, node.right.share()?)
+                    self.with_left(left, node)
                 }
                 Ordering::Equal => self.fork(node.left.share()?, pair, node.right.share()?),
                 Ordering::Greater => {
                     let right = self.with(&node.right, pair)?;
-                    self.join(node.left.share()?, share_pair(&node.pair)?, right)
+                    self.with_right(node, right)
                 }
             },
         }
@@ -54,12 +54,12 @@ impl Maker {
             Link::Fork(node) => match sought.cmp_key(&node.pair.0) {
                 Ordering::Less => {
                     let left = self.without(&node.left, sought)?;
-                    self.join(left, share_pair(&node.pair)?, node.right.share()?)
+                    self.with_left(left, node)
                 }
                 Ordering::Equal => self.without_top(node),
                 Ordering::Greater => {
                     let right = self.without(&node.right, sought)?;
-                    self.join(node.left.share()?, share_pair(&node.pair)?, right)
+                    self.with_right(node, right)
                 }
             },
         }
@@ -97,7 +97,7 @@ impl Maker {
             Link::Leaf => Ok((share_pair(&node.pair)?, node.right.share()?)),
             Link::Fork(left) => {
                 let (first, rest) = self.parted(left)?;
-                let link = self.join(rest, share_pair(&node.pair)?, node.right.share()?)?;
+                let link = self.with_left(rest, node)?;
                 Ok((first, link))
             }
         }

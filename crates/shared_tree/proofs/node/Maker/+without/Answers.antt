@@ -6,8 +6,8 @@ use Rattle.shared_tree.proofs.PairLemmas.{less_here, equal_here, greater_here, l
 use Rattle.shared_tree.proofs.node.Maker.+without.Goals as goal
 
 -- the key is less than the node's: its pair goes from the left
-pub returns-in_ok-share-in-Less-clause-pairs : goal.returns-in_ok-share-in-Less-clause-pairs
-returns-in_ok-share-in-Less-clause-pairs g t c q =
+pub returns-in_ok-left-in-Less-clause-pairs : goal.returns-in_ok-left-in-Less-clause-pairs
+returns-in_ok-left-in-Less-clause-pairs g t c q =
     let n = c.in-Fork.node.value in
     let key = g.Q.Seek.key c.args.sought.now in
     let whole = rw c.in-Fork.is at q in
@@ -15,11 +15,8 @@ returns-in_ok-share-in-Less-clause-pairs g t c q =
     let here = less_here g.met.K.Ord.total key (link_pairs n.left) n.pair.value (link_pairs n.right) whole e in
     let side = left_ascends g.met.K.Ord.total key (link_pairs n.left) n.pair.value (link_pairs n.right) whole in
     let rest : link_pairs c.in_ok-left-in-Less.left ≡ pairs_without g.K.Ord.cmp key (link_pairs n.left) = (rw c.deref-in-Less.ensures at c.in_ok-left-in-Less.ensures.pairs) side in
-    let own : c.in_ok-share_pair-in-Less.field-0.value ≡ n.pair.value = rw c.deref-in-Less-2.ensures at c.in_ok-share_pair-in-Less.ensures in
-    let other : link_pairs c.in_ok-share-in-Less.field-0 ≡ link_pairs n.right = rw c.deref-in-Less-3.ensures at c.in_ok-share-in-Less.ensures.pairs in
-    let all : pairs_without g.K.Ord.cmp key (link_pairs c.args.link.now) ≡ link_pairs c.in_ok-left-in-Less.left ++ c.in_ok-share_pair-in-Less.field-0.value ∷ link_pairs c.in_ok-share-in-Less.field-0 =
-    rw (c.in-Fork.is, rest, own, other) here.gone in
-    rw all c.join.ensures.pairs
+    let all : pairs_without g.K.Ord.cmp key (link_pairs c.args.link.now) ≡ link_pairs c.in_ok-left-in-Less.left ++ n.pair.value ∷ link_pairs n.right = rw (c.in-Fork.is, rest) here.gone in
+    rw all (rw c.deref-in-Less-2.ensures at c.with_left.ensures.pairs)
 
 -- the key is the node's: both sides are left
 pub returns-in-Equal-clause-pairs : goal.returns-in-Equal-clause-pairs
@@ -33,8 +30,8 @@ returns-in-Equal-clause-pairs g t c q =
     rw all (rw c.deref-in-Equal.ensures at c.without_top.ensures.pairs)
 
 -- the key is greater than the node's: its pair goes from the right
-pub returns-in_ok-share_pair-in-Greater-clause-pairs : goal.returns-in_ok-share_pair-in-Greater-clause-pairs
-returns-in_ok-share_pair-in-Greater-clause-pairs g t c q =
+pub returns-in_ok-right-in-Greater-clause-pairs : goal.returns-in_ok-right-in-Greater-clause-pairs
+returns-in_ok-right-in-Greater-clause-pairs g t c q =
     let n = c.in-Fork.node.value in
     let key = g.Q.Seek.key c.args.sought.now in
     let whole = rw c.in-Fork.is at q in
@@ -42,8 +39,5 @@ returns-in_ok-share_pair-in-Greater-clause-pairs g t c q =
     let here = greater_here g.met.K.Ord.total key (link_pairs n.left) n.pair.value (link_pairs n.right) whole e in
     let side = right_ascends g.met.K.Ord.total key (link_pairs n.left) n.pair.value (link_pairs n.right) whole in
     let rest : link_pairs c.in_ok-right-in-Greater.right ≡ pairs_without g.K.Ord.cmp key (link_pairs n.right) = (rw c.deref-in-Greater.ensures at c.in_ok-right-in-Greater.ensures.pairs) side in
-    let other : link_pairs c.in_ok-share-in-Greater.field-0 ≡ link_pairs n.left = rw c.deref-in-Greater-2.ensures at c.in_ok-share-in-Greater.ensures.pairs in
-    let own : c.in_ok-share_pair-in-Greater.field-0.value ≡ n.pair.value = rw c.deref-in-Greater-3.ensures at c.in_ok-share_pair-in-Greater.ensures in
-    let all : pairs_without g.K.Ord.cmp key (link_pairs c.args.link.now) ≡ link_pairs c.in_ok-share-in-Greater.field-0 ++ c.in_ok-share_pair-in-Greater.field-0.value ∷ link_pairs c.in_ok-right-in-Greater.right =
-    rw (c.in-Fork.is, rest, own, other) here.gone in
-    rw all c.join-in-Greater.ensures.pairs
+    let all : pairs_without g.K.Ord.cmp key (link_pairs c.args.link.now) ≡ link_pairs n.left ++ n.pair.value ∷ link_pairs c.in_ok-right-in-Greater.right = rw (c.in-Fork.is, rest) here.gone in
+    rw all (rw c.deref-in-Greater-2.ensures at c.with_right.ensures.pairs)
