@@ -39,7 +39,7 @@ pub struct Slot<T> {
 }
 
 /// How far a publication has come.
-#[derive(Clone, Copy, Debug, PartialEq, Eq)]
+#[derive(Clone, Copy)]
 pub enum Publisher {
     /// So many slots were seen that aren't free; with 0 no publication is under way.
     Probing(usize),
@@ -60,7 +60,7 @@ pub enum Publisher {
 }
 
 /// How far an owner has come.
-#[derive(Clone, Copy, Debug, PartialEq, Eq)]
+#[derive(Clone, Copy)]
 pub enum Owner {
     /// It owns a version.
     Holding {
