@@ -121,6 +121,11 @@ const SETS: &str = "\
     a.t. 60 IN A 192.0.2.2\n\
     b.t. 60 IN TXT \"x\" \"y\"\n";
 
+/// A script, and what is written for it.
+const SCRIPT: &str = "%\nload a\nask a 00\ndrop a\n";
+
+const OF_SCRIPT: &str = "a 0\n-\nleft\n";
+
 /// A transfer of another zone in whole, of the next serial (RFC 5936, 2.2), and that zone.
 const TRANSFER: &str = "%\n12348400000100040000000001740000fc0001\
     c00c000600010000003c001e016101740001620174000000000200000002000000030000000400000005\
@@ -147,15 +152,15 @@ const CASES: [Case; 9] = [
         Kind::Steps,
         ZONE,
         0,
-        "%\nload a\nask a 00\ndrop a\n",
-        Want::Writes("a 0\n-\nleft\n", ""),
+        SCRIPT,
+        Want::Writes(OF_SCRIPT, OF_SCRIPT),
     ),
     (
         Kind::Apply,
         SETS,
         0,
         TRANSFER,
-        Want::Writes(TRANSFERRED, ""),
+        Want::Writes(TRANSFERRED, TRANSFERRED),
     ),
     (Kind::Check, SETS, 0, "", Want::Itself),
     (

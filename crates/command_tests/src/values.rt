@@ -1,5 +1,6 @@
 //! What calls give that no output shows: words that no text has, names as they are spelt, the lines of records, and the words
 //! for faults that no input has.
+use crate::made::ZONE;
 use commands::{DONE, FAILED, Fault, REFUSED};
 use dns_name::Name;
 use dns_rdata::RType;
@@ -66,6 +67,12 @@ const LINES: &[(&str, &[u64])] = &[
         "a (1\nIN\n) A ( 1.1.1.1 ) ; c\n( b 2 A 2.2.2.2\n)\n A 3.3.3.3",
         &[1, 4, 6],
     ),
+    (
+        "\\$TTL 1 A 1.1.1.1\n1 2 A 2.2.2.2\nIN 3 in a 3.3.3.3\n\\@ A 4.4.4.4\n",
+        &[1, 2, 3, 4],
+    ),
+    ("a 2147483647 TXT b\"c\"d\n", &[1]),
+    (ZONE, &[1, 2, 3, 4, 5, 6, 7, 8, 9, 10, 11, 12, 13]),
 ];
 
 /// Whether the records of a text stand on these lines.
