@@ -8,6 +8,14 @@ declare -A type_numbers=([A]=0001 [NS]=0002 [CNAME]=0005 [SOA]=0006 [PTR]=000c [
     [IXFR]=00fb [AXFR]=00fc [ANY]=00ff)
 declare -A class_numbers=([IN]=0001 [CH]=0003 [NONE]=00fe [ANY]=00ff)
 
+# the small zone that tables send updates to
+updated_zone='$TTL 3600
+@ NS ns1
+@ SOA . . 1 7200 900 1209600 300
+a.b A 192.0.2.1
+web A 192.0.2.1
+web A 192.0.2.2'
+
 # the message under way, and where each name in it stands that can be pointed to
 message=
 declare -A places=()

@@ -2,12 +2,7 @@
 # their changes (RFC 1995, 4). Updates are as in update_rules.sh, replies as in lookups.sh.
 # shellcheck source=tests/wire.sh
 source tests/wire.sh
-zone='$TTL 3600
-@ NS ns1
-@ SOA . . 1 7200 900 1209600 300
-a.b A 192.0.2.1
-web A 192.0.2.1
-web A 192.0.2.2'
+zone=$updated_zone
 # the SOA's data behind its serial, and the octets of three names' data
 numbers='00001c20 00000384 00127500 0000012c'
 ns1=036e7331076578616d706c65047465737400

@@ -3,12 +3,7 @@
 # between them. A record is its owner, type, class and TTL, and its data in hexadecimal. Each row is sent to the zone itself.
 # shellcheck source=tests/wire.sh
 source tests/wire.sh
-zone='$TTL 3600
-@ NS ns1
-@ SOA . . 1 7200 900 1209600 300
-a.b A 192.0.2.1
-web A 192.0.2.1
-web A 192.0.2.2'
+zone=$updated_zone
 
 # rules: rows, on standard input, over the zone; a row whose update changes it is the last of its run
 rules() {
