@@ -1,5 +1,6 @@
 //! The numbers of record types, classes and reply codes, and the numbers that a record and an SOA carry.
-ghost use Rattle.std.specs.Prelude.{◌≡◌};
+ghost use Rattle.std.specs.Prelude.{◌≡◌, ◌<◌, ◌^◌};
+ghost use Rattle.dns_rdata.specs.Raw.{ttl_in_zone};
 
 /// A record type, or a type that only a question may have (RFC 1035, 3.2.2 and 3.2.3).
 #[derive(Clone, Copy, Debug, PartialEq, Eq, PartialOrd, Ord)]
@@ -58,6 +59,14 @@ pub struct Ttl(pub u32);
 impl Ttl {
     /// The greatest TTL, in seconds (RFC 2181, 8).
     pub const MAX: Ttl = Ttl(0x7fff_ffff);
+
+    /// The TTL for a number of seconds that was received, of 32 bits: 0 where its top bit is set (RFC 2181, 8).
+    pub fn received(seconds: u32) -> Ttl
+        ensures ttl { result.0 ≡ ttl_in_zone seconds }
+        ensures lasts { result.0 < 2 ^ 31 }
+    {
+        if seconds <= Ttl::MAX.0 { Ttl(seconds) } else { Ttl(0) }
+    }
 }
 
 /// A zone's serial (RFC 1982).

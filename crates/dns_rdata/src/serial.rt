@@ -4,19 +4,19 @@ ghost use Rattle.dns_rdata.specs.SerialOrder.{less_by, sum_by, serial_less, seri
 
 use crate::numbers::Serial;
 
-/// Half of the ring: neither of two serials so far apart is less than the other (RFC 1982, 3.2).
-const HALF: u32 = 0x8000_0000;
-
 impl Serial {
+    /// Half of the ring: neither of two serials so far apart is less than the other (RFC 1982, 3.2).
+    pub const HALF_RING: u32 = 0x8000_0000;
+
     /// Whether the serial is less than the other: by less than half the ring below it, or more than that above it
     /// (RFC 1982, 3.2).
     pub fn less(self, other: Serial) -> bool
         ensures { result ≡ serial_less self.0 other.0 }
     {
         if self.0 < other.0 {
-            other.0 - self.0 < HALF
+            other.0 - self.0 < Serial::HALF_RING
         } else {
-            self.0 - other.0 > HALF
+            self.0 - other.0 > Serial::HALF_RING
         }
     }
 

@@ -7,11 +7,12 @@ use Rattle.std.proofs.lemmas.List.Sums.{length-filter, count_by-le-length}
 use Rattle.dns_name.specs.Name.{is_under}
 use Rattle.dns_rdata.specs.Numbers.{type_NS, type_SOA}
 use Rattle.dns_rdata.specs.Record.{Record, IsLawful}
+use Rattle.dns_rdata.specs.Raw.{ttl_in_zone}
 use Rattle.zone_tree.specs.Zone.{IsZone, IsBefore, apex_of, soa_of, rrset_of, is_of, share_ttl, is_alone, is_wild}
 use Rattle.zone_tree.proofs.LawLemmas.{soa_is_at_apex}
 use Rattle.zone_tree.proofs.Rising.{Rises, rises_from_pairs}
 use Rattle.transfer_core.specs.Lists.{as_sent}
-use Rattle.transfer_core.specs.Take.{Stage, held, entered, ttl_in_zone, is_zone}
+use Rattle.transfer_core.specs.Take.{Stage, held, entered, is_zone}
 use Rattle.transfer_core.proofs.RecordLemmas.{IsIn, each_in}
 
 -- a lawful record that is sent enters as it was

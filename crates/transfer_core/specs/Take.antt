@@ -1,6 +1,6 @@
 -- What a holder of a zone holds behind a list of records that a transfer sent: a zone, or the fault of the first record that has one
 -- (RFC 1995, 4; RFC 5936, 2.2).
-use Rattle.std.specs.Prelude.{◌≡◌, ◌++◌, ℕ, ◌^◌, Bool, ◌&&◌, not, ◌==◌, nat_lt, nat_le, List, [], ◌∷◌, length, filter, if◌then◌else◌, Option, Some, None, Result, Ok, Err}
+use Rattle.std.specs.Prelude.{◌≡◌, ◌++◌, Bool, ◌&&◌, not, ◌==◌, nat_le, List, [], ◌∷◌, length, filter, if◌then◌else◌, Option, Some, None, Result, Ok, Err}
 use Rattle.std.specs.Option.{option_map}
 use Rattle.std.specs.List.{list_any, list_all}
 use Rattle.std.specs.Ordering.{nat_cmp, ordering_then, is_lt}
@@ -9,17 +9,13 @@ use Rattle.dns_name.specs.Name.{Name, fold_name, is_under}
 use Rattle.dns_rdata.specs.Numbers.{type_NS, type_SOA, class_IN}
 use Rattle.dns_rdata.specs.Data.{data_of, serial_of}
 use Rattle.dns_rdata.specs.Record.{Record, record_cmp}
-use Rattle.dns_rdata.specs.Raw.{RawRecord}
+use Rattle.dns_rdata.specs.Raw.{RawRecord, ttl_in_zone}
 use Rattle.zone_tree.specs.Zone.{apex_of, soa_of, rrset_of, share_ttl, is_alone, is_wild}
 use Rattle.zone_tree.specs.Change.{is_same_record}
 use Rattle.zone_tree.specs.Version.{zone_serial}
 use Rattle.transfer_core.specs.Lists.{beside_soa}
 use Rattle.transfer_core.specs.declared.fault.TransferFault.{TransferFault}
 use Rattle.transfer_core.specs.declared.fault.TransferFault.TheVariants.{Broken, WrongBase, NotInZone}
-
--- a TTL as it enters a zone: one with its top bit set counts as 0 (RFC 2181, 8; own)
-abbrev pub ttl_in_zone : ℕ → ℕ
-ttl_in_zone ttl = if nat_lt ttl (2 ^ 31) then ttl else 0
 
 -- a sent record as it enters a zone: its owner and the names in its data in lower case; none where it isn't of class IN, its type isn't
 -- served or its data haven't that type's form (RFC 1035, 3.3; RFC 4343, 3; own)

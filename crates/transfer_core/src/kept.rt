@@ -16,9 +16,6 @@ use crate::chain::{ChainView, VersionList, VersionsLeft};
 use dns_rdata::{RRset, Serial};
 use zone_tree::Version;
 
-/// Half of the ring of serials (RFC 1982, 3.2).
-const HALF_RING: u64 = 0x8000_0000;
-
 /// The versions of a list behind the one that the asker of an IXFR holds, or that they aren't all there.
 pub struct KeptChain<'a, K: VersionList> {
     kept: &'a K,
@@ -157,7 +154,7 @@ fn spans_less_than_half<K: VersionList>(kept: &K, at: usize, before: Serial) -> 
     let mut sum = 0u64;
     while let Some(version) = left.next_version() {
         sum += u64::from(last.distance(version.serial()));
-        if sum >= HALF_RING {
+        if sum >= u64::from(Serial::HALF_RING) {
             return false;
         }
         last = version.serial();

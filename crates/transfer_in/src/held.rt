@@ -2,14 +2,14 @@
 ghost use Rattle.std.specs.Cmp.{partial_equiv_from_equiv, partial_order_from_agreeing_total};
 ghost use Rattle.std.specs.Ordering.{as_partial_cmp, eq_by_cmp, nat_cmp, ordering_then};
 ghost use Rattle.std.specs.Cmp.Lexicographic.{slice_cmp};
-ghost use Rattle.std.specs.Prelude.{◌≡◌, ◌&&◌, ◌<◌, ◌≤◌, ◌^◌, [], ◌∷◌, length, nat_le, true, All, IfOk, IfSome, Some, option_map, refl};
+ghost use Rattle.std.specs.Prelude.{◌≡◌, ◌&&◌, ◌<◌, ◌≤◌, [], ◌∷◌, length, nat_le, true, All, IfOk, IfSome, Some, option_map, refl};
 ghost use Rattle.dns_name.specs.Name.{Name, is_under};
 ghost use Rattle.dns_rdata.specs.Data.{data_of, serial_of};
 ghost use Rattle.dns_rdata.specs.Record.{Record, IsLawful, owner_of, rtype_of};
 ghost use Rattle.zone_tree.specs.Zone.{is_of};
 ghost use Rattle.dns_rdata.specs.Raw.{RawRecord};
 ghost use Rattle.zone_tree.specs.Change.{is_same_record};
-ghost use Rattle.transfer_core.specs.Take.{held_cmp, entered, ttl_in_zone, is_soa};
+ghost use Rattle.transfer_core.specs.Take.{held_cmp, entered, is_soa};
 ghost use Rattle.transfer_in.specs.Held.{held_total, held_equiv};
 
 use crate::sizes::SetKey;
@@ -42,14 +42,6 @@ impl Model for HeldRecord {
     ghost invariant = { λ a. IsLawful (record { owner = a.owner; rtype = a.rtype.0; ttl = a.ttl.0; rdata = a.octets.items }) };
 }
 
-/// A TTL as it enters a zone: one with its top bit set counts as 0 (RFC 2181, 8; own).
-fn ttl_in_zone(ttl: u32) -> Ttl
-    ensures of { result.0 ≡ ttl_in_zone ttl }
-    ensures lasts { result.0 < 2 ^ 31 }
-{
-    if ttl <= Ttl::MAX.0 { Ttl(ttl) } else { Ttl(0) }
-}
-
 /// The octets of data as it enters a zone, as [`RType::data_octets`] gives them.
 fn octets_in_zone(alloc: Global, rtype: RType, octets: &[u8]) -> Result<Option<Vec<u8>>, AllocError>
     ensures of { IfOk result (λ found. option_map (λ own. own.items) found ≡ data_of rtype.0 octets.now) }
@@ -78,7 +70,7 @@ impl HeldRecord {
         Ok(Some(HeldRecord {
             owner: StoredName::new(alloc, &sent.owner)?,
             rtype: sent.rtype,
-            ttl: ttl_in_zone(sent.ttl),
+            ttl: Ttl::received(sent.ttl),
             octets,
         }))
     }

@@ -8,7 +8,7 @@ use Rattle.dns_name.specs.Order.{is_same_equiv}
 use Rattle.dns_rdata.specs.Numbers.{type_NS, type_CNAME, type_SOA}
 use Rattle.dns_rdata.specs.Data.{serial_of}
 use Rattle.dns_rdata.specs.Record.{Record, owner_of}
-use Rattle.dns_rdata.specs.Raw.{RawRecord}
+use Rattle.dns_rdata.specs.Raw.{RawRecord, ttl_in_zone}
 use Rattle.dns_rdata.specs.SerialOrder.{serial_less}
 use Rattle.zone_tree.specs.Zone.{KeepsRules, stands_at, is_of, rrset_of, soa_of, apex_of}
 use Rattle.zone_tree.specs.Change.{without_rrset}
@@ -16,7 +16,7 @@ use Rattle.zone_tree.proofs.NameOrder.{folds_from_same}
 use Rattle.zone_tree.proofs.Rising.{place_from_any}
 use Rattle.zone_tree.proofs.RuleLemmas.{none_passes}
 use Rattle.update_core.specs.Verdict.{prescan_of, has_rrset}
-use Rattle.update_core.specs.Act.{entered, with_ttl, record_with_ttl, ttl_in_zone, has_other_than_alias, has_lesser_soa, IsSent}
+use Rattle.update_core.specs.Act.{entered, with_ttl, record_with_ttl, has_other_than_alias, has_lesser_soa, IsSent}
 use Rattle.update_core.proofs.ListLemmas.{and_left, and_right, is_not, is_so, both_fail, left_fails, right_fails}
 use Rattle.update_core.proofs.SoaKept.{is_soa}
 use Rattle.update_core.proofs.OneMore.{filter-with_one_not, filter-with_one_alone, tied}

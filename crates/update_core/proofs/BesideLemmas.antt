@@ -8,11 +8,11 @@ use Rattle.dns_name.specs.Order.{is_same_Decides, is_same_equiv}
 use Rattle.dns_rdata.proofs.NameLemmas.{fold_name-fold_name}
 use Rattle.dns_rdata.specs.Numbers.{type_CNAME, type_SOA, type_ANY, class_IN, class_NONE, class_ANY}
 use Rattle.dns_rdata.specs.Record.{Record, record_cmp}
-use Rattle.dns_rdata.specs.Raw.{RawRecord}
+use Rattle.dns_rdata.specs.Raw.{RawRecord, ttl_in_zone}
 use Rattle.zone_tree.specs.Zone.{is_of, stands_at, rrset_of}
 use Rattle.zone_tree.specs.Change.{without_rrset}
 use Rattle.update_core.specs.Verdict.{has_rrset}
-use Rattle.update_core.specs.Act.{entered, with_one, with_ttl, ttl_in_zone, has_other_than_alias, has_lesser_soa, within_limits, is_apex_set, is_last_apex_record, effect, effects}
+use Rattle.update_core.specs.Act.{entered, with_one, with_ttl, has_other_than_alias, has_lesser_soa, within_limits, is_apex_set, is_last_apex_record, effect, effects}
 use Rattle.update_core.proofs.ListLemmas.{by_test, and_left}
 
 -- the records whose owners pass a test

@@ -2,11 +2,11 @@
 use Rattle.std.proofs.Common.{◌≡◌, true, false, not, ◌&&◌, ◌||◌, ◌==◌, List, filter, bytes_eq}
 use Rattle.dns_rdata.specs.Numbers.{type_CNAME, type_SOA, class_IN}
 use Rattle.dns_rdata.specs.Record.{Record}
-use Rattle.dns_rdata.specs.Raw.{RawRecord}
+use Rattle.dns_rdata.specs.Raw.{RawRecord, ttl_in_zone}
 use Rattle.zone_tree.specs.Zone.{KeepsRules, is_of, stands_at, apex_of}
 use Rattle.zone_tree.specs.Change.{without_rrset}
 use Rattle.update_core.specs.Verdict.{has_rrset}
-use Rattle.update_core.specs.Act.{entered, with_one, with_ttl, ttl_in_zone, has_other_than_alias, has_lesser_soa, is_apex_set, is_last_apex_record}
+use Rattle.update_core.specs.Act.{entered, with_one, with_ttl, has_other_than_alias, has_lesser_soa, is_apex_set, is_last_apex_record}
 
 -- a record in the place of those of its owner and type
 abbrev pub put_in : List Record → RawRecord → List Record

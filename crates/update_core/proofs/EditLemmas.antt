@@ -7,11 +7,11 @@ use Rattle.std.proofs.lemmas.Bool.{eqb-true}
 use Rattle.std.proofs.lemmas.List.{map-append}
 use Rattle.dns_name.specs.Name.{is_same}
 use Rattle.dns_rdata.specs.Record.{Record, with_record, owner_of, rtype_of}
-use Rattle.dns_rdata.specs.Raw.{RawRecord}
+use Rattle.dns_rdata.specs.Raw.{RawRecord, ttl_in_zone}
 use Rattle.zone_tree.specs.Zone.{IsBefore, is_of, rrset_of}
 use Rattle.zone_tree.specs.Change.{with_rrset, without_rrset}
 use Rattle.zone_tree.proofs.Rising.{Rises, rises_from_pairs, each_weaker, filter_alike}
-use Rattle.update_core.specs.Act.{entered, with_one, with_ttl, record_with_ttl, ttl_in_zone}
+use Rattle.update_core.specs.Act.{entered, with_one, with_ttl, record_with_ttl}
 use Rattle.update_core.proofs.ListLemmas.{and_left, and_right}
 use Rattle.update_core.proofs.SentLemmas.{same_lower}
 use Rattle.update_core.proofs.Candidates.{put_in, added_to}

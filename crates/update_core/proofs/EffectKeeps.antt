@@ -7,11 +7,11 @@ use Rattle.dns_rdata.specs.declared.numbers.Rcode.{Rcode}
 use Rattle.dns_rdata.specs.declared.numbers.Rcode.TheVariants.{FormErr, Refused, NotZone}
 use Rattle.dns_rdata.specs.Numbers.{type_NS, type_CNAME, type_SOA, type_ANY, class_IN, class_NONE, class_ANY}
 use Rattle.dns_rdata.specs.Record.{Record}
-use Rattle.dns_rdata.specs.Raw.{RawRecord}
+use Rattle.dns_rdata.specs.Raw.{RawRecord, ttl_in_zone}
 use Rattle.zone_tree.specs.Zone.{IsZone, KeepsLimits, is_of, stands_at, apex_of, is_wild}
 use Rattle.zone_tree.specs.Change.{without_rrset}
 use Rattle.update_core.specs.Verdict.{has_rrset, is_empty, is_recognised, has_form, prescan_of, prescan}
-use Rattle.update_core.specs.Act.{with_ttl, ttl_in_zone, has_other_than_alias, has_lesser_soa, within_limits, is_apex_set, is_last_apex_record, effect, effects, IsSent}
+use Rattle.update_core.specs.Act.{with_ttl, has_other_than_alias, has_lesser_soa, within_limits, is_apex_set, is_last_apex_record, effect, effects, IsSent}
 use Rattle.update_core.proofs.ListLemmas.{by_test, and_left, and_right, both_fail, right_fails}
 use Rattle.update_core.proofs.SentLemmas.{no_first, passed, entered_lawful}
 use Rattle.update_core.proofs.Candidates.{put_in, added_to, without_all, without_set, without_record, Keeps, IsPut, IsAdded}

@@ -18,7 +18,7 @@ use Rattle.dns_rdata.specs.Layout.{layout_of}
 use Rattle.dns_rdata.specs.Data.{names_then, data_of, serial_of}
 use Rattle.dns_rdata.specs.declared.numbers.RType.{RType}
 use Rattle.dns_rdata.specs.Record.{Record, IsLawful, with_record, owner_of, rtype_of, without_data}
-use Rattle.dns_rdata.specs.Raw.{RawRecord}
+use Rattle.dns_rdata.specs.Raw.{RawRecord, ttl_in_zone}
 use Rattle.dns_rdata.specs.SerialOrder.{serial_less}
 use Rattle.zone_tree.specs.Zone.{IsZone, KeepsRules, is_of, rrset_of, rrsets_of, soa_of, apex_of}
 use Rattle.zone_tree.specs.Sets.{AreWhole}
@@ -29,7 +29,7 @@ use Rattle.zone_tree.specs.declared.change.Change.TheVariants.{Put, Remove}
 use Rattle.zone_tree.proofs.Rising.{filter_alike, each_weaker, each_map}
 use Rattle.zone_tree.proofs.LawLemmas.{soa_is_at_apex}
 use Rattle.update_core.specs.Verdict.{has_rrset, prescan_of}
-use Rattle.update_core.specs.Act.{entered, ttl_in_zone, has_other_than_alias, has_lesser_soa, within_limits, is_apex_set, is_last_apex_record, effect, at_serial, IsSent}
+use Rattle.update_core.specs.Act.{entered, has_other_than_alias, has_lesser_soa, within_limits, is_apex_set, is_last_apex_record, effect, at_serial, IsSent}
 use Rattle.update_core.specs.Applied.{held, AreOf, is_beside_alias, joined, set_behind, may_go, removals}
 use Rattle.update_core.proofs.ListLemmas.{by_test, and_left, and_right}
 use Rattle.update_core.proofs.VerdictLemmas.{rrset_of-same}

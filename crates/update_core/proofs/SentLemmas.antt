@@ -12,13 +12,13 @@ use Rattle.dns_rdata.specs.declared.numbers.Rcode.{Rcode}
 use Rattle.dns_rdata.specs.Numbers.{type_NS, class_IN}
 use Rattle.dns_rdata.specs.Data.{data_of}
 use Rattle.dns_rdata.specs.Record.{Record, IsLawful}
-use Rattle.dns_rdata.specs.Raw.{RawRecord}
+use Rattle.dns_rdata.specs.Raw.{RawRecord, ttl_in_zone}
 use Rattle.dns_rdata.proofs.DataLemmas.{IsRead-data, data_octets}
 use Rattle.dns_rdata.proofs.NameLemmas.{fold_name-fold_name}
 use Rattle.zone_tree.specs.Zone.{apex_of, is_wild, is_of, stands_at}
 use Rattle.zone_tree.proofs.NameOrder.{same_from_folds}
 use Rattle.update_core.specs.Verdict.{prescan_of, has_form}
-use Rattle.update_core.specs.Act.{entered, ttl_in_zone, IsSent}
+use Rattle.update_core.specs.Act.{entered, IsSent}
 use Rattle.update_core.proofs.ListLemmas.{by_test, is_so}
 
 -- a rule that gives no code, and those behind it

@@ -15,11 +15,11 @@ use Rattle.dns_rdata.specs.Numbers.{type_CNAME, type_SOA, type_ANY, class_IN, cl
 use Rattle.dns_rdata.specs.Data.{data_of}
 use Rattle.dns_rdata.proofs.DataLemmas.{IsRead-data}
 use Rattle.dns_rdata.specs.Record.{Record, record_cmp, owner_of}
-use Rattle.dns_rdata.specs.Raw.{RawRecord}
+use Rattle.dns_rdata.specs.Raw.{RawRecord, ttl_in_zone}
 use Rattle.zone_tree.specs.Zone.{is_of, stands_at, rrset_of, soa_of, apex_of}
 use Rattle.update_core.specs.Verdict.{has_rrset}
 use Rattle.zone_tree.specs.Change.{without_rrset}
-use Rattle.update_core.specs.Act.{entered, with_one, record_with_ttl, with_ttl, ttl_in_zone, has_other_than_alias, has_lesser_soa, within_limits, is_apex_set, is_last_apex_record, effect, effects}
+use Rattle.update_core.specs.Act.{entered, with_one, record_with_ttl, with_ttl, has_other_than_alias, has_lesser_soa, within_limits, is_apex_set, is_last_apex_record, effect, effects}
 use Rattle.update_core.proofs.ListLemmas.{by_test, and_left, either_right}
 
 abbrev pub is_soa : Record → Bool

@@ -1,6 +1,6 @@
 -- What an update does to a zone: its records in order, each on the zone that those before it leave (RFC 2136, 3.4.2), and
 -- then the serial (RFC 2136, 3.6).
-use Rattle.std.specs.Prelude.{◌≡◌, ℕ, ◌^◌, ◌<◌, Bool, true, ◌&&◌, ◌||◌, not, ◌==◌, nat_lt, List, [], ◌∷◌, length, filter, map, All, bytes_eq, if◌then◌else◌, Option, None, Some, unwrap_or}
+use Rattle.std.specs.Prelude.{◌≡◌, ℕ, ◌<◌, Bool, true, ◌&&◌, ◌||◌, not, ◌==◌, nat_lt, List, [], ◌∷◌, length, filter, map, All, bytes_eq, if◌then◌else◌, Option, None, Some, unwrap_or}
 use Rattle.std.specs.Option.{option_map, option_and_then}
 use Rattle.std.specs.List.{list_any}
 use Rattle.std.specs.Ordering.{is_lt, is_eq}
@@ -9,17 +9,13 @@ use Rattle.dns_name.specs.Name.{Name, IsName, fold_name, is_same}
 use Rattle.dns_rdata.specs.Numbers.{type_NS, type_CNAME, type_SOA, type_ANY, class_IN, class_NONE, class_ANY}
 use Rattle.dns_rdata.specs.Data.{data_of, serial_of, with_serial}
 use Rattle.dns_rdata.specs.Record.{Record, record_cmp}
-use Rattle.dns_rdata.specs.Raw.{RawRecord}
+use Rattle.dns_rdata.specs.Raw.{RawRecord, ttl_in_zone}
 use Rattle.dns_rdata.specs.SerialOrder.{serial_less, serial_next}
 use Rattle.zone_tree.specs.Zone.{is_of, stands_at, rrset_of, apex_of}
 use Rattle.zone_tree.specs.Change.{without_rrset, is_same_record}
 use Rattle.zone_tree.specs.Version.{zone_serial}
 use Rattle.dns_message.specs.declared.update.Update.{Update}
 use Rattle.update_core.specs.Verdict.{has_rrset, verdict}
-
--- a TTL as it enters a zone: one with its top bit set counts as 0 (RFC 2181, 8; own)
-abbrev pub ttl_in_zone : ℕ → ℕ
-ttl_in_zone ttl = if nat_lt ttl (2 ^ 31) then ttl else 0
 
 -- a sent record as it enters a zone: its owner and the names in its data in lower case (RFC 4343, 3; own)
 abbrev pub entered : RawRecord → Record

@@ -7,7 +7,7 @@ use Rattle.dns_rdata.specs.Numbers.{type_CNAME, type_SOA}
 use Rattle.dns_rdata.specs.declared.numbers.Rcode.{Rcode}
 use Rattle.dns_rdata.specs.declared.numbers.Rcode.TheVariants.{ServFail}
 use Rattle.dns_rdata.specs.Record.{Record, with_record, owner_of, rtype_of}
-use Rattle.dns_rdata.specs.Raw.{RawRecord}
+use Rattle.dns_rdata.specs.Raw.{RawRecord, ttl_in_zone}
 use Rattle.dns_message.specs.declared.update.Update.{Update}
 use Rattle.zone_tree.specs.Zone.{KeepsRules, apex_of, rrset_of}
 use Rattle.zone_tree.specs.Change.{edited}
@@ -17,7 +17,7 @@ use Rattle.zone_tree.specs.declared.change.Change.TheVariants.{Remove}
 use Rattle.update_core.specs.declared.outcome.Outcome.{Outcome}
 use Rattle.update_core.specs.declared.outcome.Outcome.TheVariants.{Refused, Unchanged, Next, NoMemory}
 use Rattle.update_core.specs.Verdict.{has_rrset, verdict}
-use Rattle.update_core.specs.Act.{entered, ttl_in_zone, has_other_than_alias, is_apex_set, effect, act}
+use Rattle.update_core.specs.Act.{entered, has_other_than_alias, is_apex_set, effect, act}
 
 -- a zone of at most 1,000,000 records; none of more (own)
 abbrev pub held : List Record → Option (List Record)

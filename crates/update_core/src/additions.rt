@@ -10,7 +10,7 @@ ghost use Rattle.dns_rdata.specs.SerialOrder.{serial_less};
 ghost use Rattle.zone_tree.specs.Zone.{IsZone, apex_of};
 ghost use Rattle.zone_tree.specs.Version.{zone_serial};
 ghost use Rattle.update_core.specs.Verdict.{prescan_of, has_form, has_rrset};
-ghost use Rattle.update_core.specs.Act.{effect, entered, ttl_in_zone, has_other_than_alias, has_lesser_soa, IsSent};
+ghost use Rattle.update_core.specs.Act.{effect, entered, has_other_than_alias, has_lesser_soa, IsSent};
 ghost use Rattle.update_core.specs.Applied.{AreOf, is_beside_alias, joined, set_behind};
 
 use crate::prerequisites::is_in_use;
@@ -117,13 +117,6 @@ fn are_octets(octets: &[u8])
     let _len = octets.len();
 }
 
-/// A TTL as it enters a zone, in seconds: one with its top bit set counts as 0 (RFC 2181, 8; own).
-fn ttl_in_zone(ttl: u32) -> Ttl
-    ensures { result.0 ≡ ttl_in_zone ttl }
-{
-    if ttl <= Ttl::MAX.0 { Ttl(ttl) } else { Ttl(0) }
-}
-
 /// The set that stands where a record is added: an alias and an SOA replace what stood there, any other record joins it.
 fn set_with(alloc: Global, zone: &Zone, raw: &RawRecord, rdata: RData) -> Result<RRset, ActFault>
     requires lawful { IsZone zone.now }
@@ -132,7 +125,7 @@ fn set_with(alloc: Global, zone: &Zone, raw: &RawRecord, rdata: RData) -> Result
     ensures set { IfOk result (λ set. set ≡ set_behind zone.now raw.now) }
     ensures limit { IsErrOf result ActFault.Limit → 256 < length (set_behind zone.now raw.now) }
 {
-    let ttl = ttl_in_zone(raw.ttl);
+    let ttl = Ttl::received(raw.ttl);
     if raw.rtype != RType::CNAME && raw.rtype != RType::SOA {
         if let Some(own) = zone.rrset(&raw.owner, raw.rtype) {
             return joined(alloc, own, ttl, rdata);

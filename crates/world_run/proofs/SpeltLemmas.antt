@@ -6,7 +6,7 @@ use Rattle.std.proofs.lemmas.Slice.Eq.{bytes_eq-Decides, slice_eq-Decides}
 use Rattle.std.specs.Cmp.Lexicographic.{pointwise}
 use Rattle.dns_name.specs.Name.{Name, fold_name, is_same}
 use Rattle.dns_rdata.specs.Record.{Record}
-use Rattle.dns_rdata.specs.Raw.{RawRecord}
+use Rattle.dns_rdata.specs.Raw.{RawRecord, ttl_in_zone}
 use Rattle.transfer_core.specs.declared.fault.TransferFault.{TransferFault}
 use Rattle.transfer_core.specs.declared.fault.TransferFault.TheVariants.{Broken, NotInZone}
 use Rattle.transfer_core.specs.Lists.{as_sent}
@@ -16,7 +16,7 @@ use Rattle.std.specs.Option.{option_map}
 use Rattle.zone_tree.specs.Zone.{apex_of}
 use Rattle.dns_name.specs.Name.{is_under}
 use Rattle.transfer_core.specs.Take.Stage.{opened}
-use Rattle.transfer_core.specs.Take.{Reading, ttl_in_zone, ended, entered, is_soa, step, steps_through, behind_first, take as taken_by}
+use Rattle.transfer_core.specs.Take.{Reading, ended, entered, is_soa, step, steps_through, behind_first, take as taken_by}
 
 -- what enters a zone, under a name
 abbrev entered_as : Name → Record → Option Record
