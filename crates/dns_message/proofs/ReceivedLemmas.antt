@@ -2,8 +2,8 @@
 use Rattle.std.proofs.Common.{◌≡◌, ◌||◌, ◌==◌, not, nat_lt, cond, true, false, length, ℕ, zero, suc, ◌+◌, ◌-◌, ◌<◌, ◌≤◌, Bool, List, [], ◌∷◌, ◌++◌, map, append_assoc, Option, Some, None, refl, sym, ap, ◌∙◌, arith, option_map, option_and_then}
 use Rattle.std.proofs.lemmas.List.{append-nil, length-map}
 use Rattle.dns_rdata.specs.Raw.{RawRecord}
-use Rattle.dns_message.specs.Message.{Entry, Body, number_at}
-use Rattle.dns_message.specs.Reads.{question_at, questions_at, record_at, records_at, body_in, has_opt, is_reply}
+use Rattle.dns_message.specs.Message.{Entry, number_at}
+use Rattle.dns_message.specs.Reads.{question_at, questions_at, record_at, records_at, body_in, is_reply}
 use Rattle.dns_message.specs.Received.{received, rcode_of, received_records, HasAnswerAt}
 use Rattle.dns_message.specs.declared.query.Question.{Question}
 use Rattle.dns_message.proofs.ReadLemmas.{sight}

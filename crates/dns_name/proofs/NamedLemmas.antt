@@ -1,10 +1,10 @@
 -- What a text names is a name.
-use Rattle.std.proofs.Common.{◌≡◌, refl, sym, ap, ◌∙◌, subst, ℕ, zero, suc, ◌+◌, ◌-◌, ◌*◌, ◌<◌, ◌≤◌, Bool, true, false, cond, ◌&&◌, ◌||◌, ◌==◌, nat_lt, nat_le, bytes_eq, List, [], ◌∷◌, length, All, Option, Some, None, Result, Ok, Err, option_map, option_and_then, arith, true≢false}
+use Rattle.std.proofs.Common.{◌≡◌, refl, sym, ap, subst, ℕ, zero, suc, ◌+◌, ◌-◌, ◌*◌, ◌<◌, ◌≤◌, Bool, true, false, cond, ◌&&◌, ◌||◌, ◌==◌, nat_lt, nat_le, bytes_eq, List, [], ◌∷◌, length, All, Option, Some, None, Result, Ok, Err, option_map, option_and_then, arith, true≢false}
 use Rattle.std.specs.Char.{is_ascii_digit}
 use Rattle.std.specs.List.{list_any, AllByRecursion}
 use Rattle.std.proofs.lemmas.Bool.Decides.{nat_tests}
 use Rattle.std.proofs.lemmas.List.Elements.{All-nil, All-cons, All-head, All-tail}
-use Rattle.dns_name.specs.Name.{Name, wire_of, IsLabel, IsName}
+use Rattle.dns_name.specs.Name.{wire_of, IsLabel, IsName}
 use Rattle.dns_name.specs.Text.{numbered, escaped, mark_at, octet_of, octet_at, marks, onto_first, pieces_of, completed, lawful, labels_of, name_of_text}
 use Rattle.dns_name.specs.declared.text.Mark.{Mark}
 use Rattle.dns_name.specs.declared.text.Mark.TheVariants.{Dot, Octet}

@@ -1,6 +1,6 @@
 -- How a zone keeps a name: in lower case and from the rightmost label on, in octets that compare from the front as the
 -- names do in canonical order (RFC 4034, 6.1; own).
-use Rattle.std.specs.Prelude.{◌≡◌, ℕ, zero, suc, ◌-◌, ◌<◌, ◌≤◌, List, [], ◌∷◌, ◌++◌, length, map, reverse, flat_map, All}
+use Rattle.std.specs.Prelude.{◌≡◌, ℕ, zero, suc, ◌-◌, ◌<◌, List, [], ◌∷◌, ◌++◌, length, map, reverse, flat_map, All}
 use Rattle.dns_name.specs.Name.{Name, IsName, fold_name}
 use Rattle.dns_name.specs.Text.{onto_first}
 

@@ -65,7 +65,11 @@ impl Ttl {
         ensures ttl { result.0 ≡ ttl_in_zone seconds }
         ensures lasts { result.0 < 2 ^ 31 }
     {
-        if seconds <= Ttl::MAX.0 { Ttl(seconds) } else { Ttl(0) }
+        if seconds <= Ttl::MAX.0 {
+            Ttl(seconds)
+        } else {
+            Ttl(0)
+        }
     }
 }
 

@@ -1,7 +1,7 @@
 -- The apex and the names above it: they exist, and none of them is a zone cut.
-use Rattle.std.proofs.Common.{◌≡◌, ℕ, ◌<◌, Bool, true, false, ◌&&◌, ◌==◌, List, [], ◌∷◌, ◌++◌, length, map, reverse, drop, filter, get_or, Option, None, Some, cond, All, refl, sym, ap, ◌∙◌, arith, append_assoc, length-append, append-nil, true≢false, not}
+use Rattle.std.proofs.Common.{◌≡◌, ℕ, Bool, true, false, ◌&&◌, ◌==◌, List, [], ◌∷◌, ◌++◌, length, map, reverse, drop, filter, get_or, None, Some, cond, All, refl, sym, ap, ◌∙◌, arith, append_assoc, length-append, append-nil, true≢false, not}
 use Rattle.std.specs.Char.{to_ascii_lowercase}
-use Rattle.std.specs.List.{list_any, find}
+use Rattle.std.specs.List.{find}
 use Rattle.std.specs.Option.{option_or}
 use Rattle.std.proofs.lemmas.List.{reverse-append}
 use Rattle.std.proofs.lemmas.List.Elements.{All-tail}

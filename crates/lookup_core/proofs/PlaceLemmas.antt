@@ -7,7 +7,7 @@ use Rattle.dns_rdata.specs.Record.{Record}
 use Rattle.zone_tree.specs.Zone.{exists}
 use Rattle.lookup_core.specs.declared.matched.Place.{Place}
 use Rattle.lookup_core.specs.declared.matched.Place.TheVariants as place
-use Rattle.lookup_core.specs.Place.{is_cut, cut_of, source_of, place_below}
+use Rattle.lookup_core.specs.Place.{is_cut, source_of, place_below}
 use Rattle.lookup_core.proofs.LawLemmas.{by_source, by_name}
 use Rattle.lookup_core.proofs.ApexLemmas.{cut_of-step}
 

@@ -4,15 +4,14 @@ use Rattle.std.specs.Prelude.{◌↔◌, IsNone, IfSome, is_some}
 use Rattle.std.specs.Option.{option_copied}
 use Rattle.std.specs.List.{list_any, find, flat_map}
 use Rattle.std.proofs.lemmas.List.Elements.{All-tail, All-cons, All-nil, All-head, filter_passes, filter-append}
-use Rattle.std.proofs.lemmas.List.Folds.{list_any_at}
 use Rattle.dns_name.specs.Name.{is_same, is_under}
 use Rattle.dns_name.specs.Order.{is_same_Decides, is_same_equiv}
 use Rattle.dns_name.proofs.LawLemmas.{under_from_ending}
 use Rattle.dns_rdata.specs.Record.{Record, owner_of, rtype_of}
-use Rattle.zone_tree.specs.Zone.{exists, is_of, stands_at, rrset_of, rrsets_of}
+use Rattle.zone_tree.specs.Zone.{exists, is_of, stands_at, rrset_of}
 use Rattle.lookup_core.specs.Place.{is_none_of}
 use Rattle.lookup_core.specs.Shown.{AreAllAt}
-use Rattle.lookup_core.proofs.LawLemmas.{and_left, and_right}
+use Rattle.lookup_core.proofs.LawLemmas.{and_right}
 use Rattle.lookup_core.proofs.ApexLemmas.{filter_none}
 
 -- what holds of each element of lists in a row

@@ -1,5 +1,5 @@
 -- All that a request gets, by cases.
-use Rattle.std.proofs.Common.{◌≡◌, ℕ, Bool, true, false, List, [], ◌∷◌, Option, refl, if◌then◌else◌}
+use Rattle.std.proofs.Common.{◌≡◌, Bool, true, false, List, Option, refl}
 use Rattle.std.specs.Option.{option_to_list}
 use Rattle.dns_rdata.specs.Record.{Record}
 use Rattle.dns_message.specs.declared.query.Query.{Query as QueryAsked}

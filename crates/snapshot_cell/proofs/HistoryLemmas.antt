@@ -1,7 +1,6 @@
 -- A history goes on with what may follow its last value.
-use Rattle.std.proofs.Common.{rules, ◌≡◌, refl, ap, sym, ◌∙◌, subst, ℕ, ◌+◌, List, [], ◌∷◌, ◌++◌, length}
+use Rattle.std.proofs.Common.{ap, sym, ◌∙◌, subst, ◌+◌, List, [], ◌∷◌, ◌++◌}
 use Rattle.std.proofs.lemmas.List.{append_assoc, length_push}
-use Rattle.cell_core.specs.Cell.{EachFollows}
 use Rattle.cell_core.proofs.LawLemmas.{each_one_more}
 use Rattle.snapshot_cell.specs.History.{Numbered, IsHistory, IsPublished, next}
 

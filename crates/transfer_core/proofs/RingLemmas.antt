@@ -1,11 +1,11 @@
 -- Serials that rise by less than half the ring in all differ.
-use Rattle.std.proofs.Common.{◌≡◌, ◌≢◌, ℕ, ◌+◌, ◌-◌, ◌%◌, ◌^◌, ◌<◌, ◌≤◌, ◌&&◌, true, nat_lt, List, [], ◌∷◌, length, All, ⊎_elim, sym, ap, ◌∙◌, subst, arith}
+use Rattle.std.proofs.Common.{◌≡◌, ◌≢◌, ℕ, ◌+◌, ◌-◌, ◌^◌, ◌<◌, ◌≤◌, true, List, [], ◌∷◌, All, ⊎_elim, sym, ap, arith}
 use Rattle.std.specs.List.{AllPairs}
 use Rattle.std.proofs.lemmas.Bool.{cases_lt}
 use Rattle.std.proofs.lemmas.Bool.Decides.{nat_tests}
 use Rattle.std.proofs.lemmas.List.Elements.{All-nil, All-cons}
 use Rattle.std.proofs.lemmas.List.Kept.{AllPairs-cons}
-use Rattle.dns_rdata.specs.SerialOrder.{serial_less, serial_distance}
+use Rattle.dns_rdata.specs.SerialOrder.{serial_distance}
 use Rattle.dns_rdata.proofs.SerialLemmas.{less-ahead}
 use Rattle.transfer_core.specs.Window.{span, fits, AreRising}
 

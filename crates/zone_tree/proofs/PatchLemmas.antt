@@ -1,9 +1,9 @@
 -- Changes put on the zone that they were made of.
-use Rattle.std.proofs.Common.{◌≡◌, refl, sym, ap, ◌∙◌, subst, ℕ, ◌<◌, Bool, true, false, ◌&&◌, ◌||◌, cond, List, [], ◌∷◌, length, get_or, arith, true≢false, eqb-true}
-use Rattle.std.specs.Prelude.{◌==◌, not, Contains, bytes_eq}
+use Rattle.std.proofs.Common.{◌≡◌, refl, sym, ap, ◌∙◌, subst, Bool, true, false, ◌&&◌, ◌||◌, cond, List, [], ◌∷◌, get_or, arith, true≢false, eqb-true}
+use Rattle.std.specs.Prelude.{◌==◌, not, Contains}
 use Rattle.std.specs.declared.cmp.Ordering.{Ordering}
 use Rattle.std.specs.declared.cmp.Ordering.TheVariants.{Less, Equal, Greater}
-use Rattle.std.specs.List.{filter, list_any, All, AllByRecursion}
+use Rattle.std.specs.List.{filter, list_any, AllByRecursion}
 use Rattle.std.specs.Ordering.{nat_cmp, ordering_reverse, is_lt, is_eq}
 use Rattle.std.specs.Cmp.{first_so, second_so}
 use Rattle.std.specs.Cmp.Lexicographic.{slice_cmp}
@@ -14,11 +14,11 @@ use Rattle.std.proofs.lemmas.Map.Views.{any-filter_same}
 use Rattle.std.proofs.lemmas.Slice.Eq.{bytes_eq-Decides}
 use Rattle.std.proofs.lemmas.List.Folds.{list_any_at}
 use Rattle.std.proofs.lemmas.List.Elements.{All-from_recursion, recursion_from_All}
-use Rattle.dns_name.specs.Name.{is_same, canonical_cmp}
+use Rattle.dns_name.specs.Name.{canonical_cmp}
 use Rattle.dns_rdata.specs.Numbers.{type_SOA}
 use Rattle.dns_rdata.specs.Record.{Record, IsLawful, record_cmp}
 use Rattle.shared_tree.proofs.PairLemmas.{filter_all, each_passes}
-use Rattle.zone_tree.specs.Zone.{IsZone, IsBefore, is_of, soa_of}
+use Rattle.zone_tree.specs.Zone.{IsZone, IsBefore, soa_of}
 use Rattle.zone_tree.specs.Change.{is_same_record, left_out}
 use Rattle.zone_tree.specs.Delta.{other_than_soa}
 use Rattle.zone_tree.specs.Patch.{is_among, inserted, with_all, put}

@@ -1,5 +1,5 @@
 -- The type of a zone's SOA.
-use Rattle.std.proofs.Common.{◌≡◌, ℕ, ◌<◌, ◌==◌, true, All, List, [], ◌∷◌, length, sym, subst, arith}
+use Rattle.std.proofs.Common.{◌≡◌, ◌<◌, ◌==◌, true, All, List, [], ◌∷◌, length, sym, subst, arith}
 use Rattle.std.proofs.lemmas.Bool.{eqb-true}
 use Rattle.std.proofs.lemmas.List.Elements.{All-head, filter_passes}
 use Rattle.dns_rdata.specs.Numbers.{type_SOA}

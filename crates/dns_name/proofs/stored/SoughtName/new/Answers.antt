@@ -1,6 +1,6 @@
-use Rattle.std.proofs.Common.{◌≡◌, ◌∙◌, ap, sym, subst}
+use Rattle.std.proofs.Common.{◌∙◌, ap}
 use Rattle.dns_name.specs.Name.{canonical_cmp, is_under}
-use Rattle.dns_name.specs.Stored.{IsStored, name_stored}
+use Rattle.dns_name.specs.Stored.{name_stored}
 use Rattle.dns_name.proofs.StoredLemmas.{made, name_back, IsStored-of, cmp_folded, under_folded}
 use Rattle.dns_name.proofs.stored.SoughtName.new.Goals as goal
 

@@ -1,5 +1,5 @@
 -- A value that may follow was published last.
-use Rattle.std.proofs.Common.{rules, ◌≡◌, subst, sym}
+use Rattle.std.proofs.Common.{◌≡◌, subst, sym}
 use Rattle.snapshot_cell.proofs.HistoryLemmas.{published_next}
 use Rattle.snapshot_cell.proofs.owner.Version.next.Goals as goal
 
