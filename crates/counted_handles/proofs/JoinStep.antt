@@ -1,0 +1,83 @@
+-- A reader's seat that the publisher's takes in keeps the rule.
+use Rattle.std.proofs.Common.{◌≡◌, ◌≢◌, refl, sym, ap, ◌∙◌, subst, ℕ, ◌-◌, ⊎_elim, List, map, set, arith, Option, Some, None}
+use Rattle.std.specs.List.{slice_get}
+use mathlib.Core.Option.{some}
+use lib.ListN.{get_elem?}
+use Rattle.atomic_table.specs.Table.{Joins}
+use Rattle.atomic_table.proofs.Lists.{at_set, set_here, set_else}
+use Rattle.cell_core.proofs.SeatLemmas.{set_there}
+use Rattle.cell_core.specs.Shows.{Shows}
+use Rattle.cell_core.specs.Words.{State, grants}
+use Rattle.cell_core.specs.declared.words.Owner.TheVariants.{Spent}
+use Rattle.counted_handles.specs.declared.view.Mark.{Mark}
+use Rattle.counted_handles.specs.declared.view.Reading.{Reading}
+use Rattle.counted_handles.specs.declared.view.Publishing.{Publishing}
+use Rattle.counted_handles.specs.declared.view.View.{View}
+use Rattle.counted_handles.specs.declared.view.View.TheVariants.{Publishes, Reads, Gone}
+use Rattle.counted_handles.specs.Shown.{Board, holder, owner_of, publisher_in, left_of, read_of, lefts, shown}
+use Rattle.counted_handles.specs.Ruled.{RoomSpot, HomeIs, Knows, Holds}
+use Rattle.counted_handles.specs.Cuts.{with_guest}
+use Rattle.counted_handles.proofs.Lists.{got_map, got_within, map_set, sum_set, sum_has}
+use Rattle.counted_handles.proofs.Frames.{publisher_here, publisher_else, publisher_is, knows_publisher, state_is}
+
+module _ {T : Type 0} (begins : T → Type 0) (follows : T → T → Type 0) (spots : List (RoomSpot T)) where
+  joined : (s : Board T) (h : Holds begins follows spots s) (p : Publishing T) (other : ℕ) (r : Reading T) → r.share ≡ None → get_elem? s.views 0 ≡ some (Publishes p) → other ≢ 0 → get_elem? s.views other ≡ some (Reads r)
+      → Holds begins follows spots (record { words = s.words; homes = s.homes; views = set (set s.views 0 (Publishes (with_guest p r.left))) other Gone })
+  joined s h p other r whole at apart there =
+      let st : State T = shown s in
+      let both : View T = Publishes (with_guest p r.left) in
+      let middle : List (View T) = set s.views 0 both in
+      let views : List (View T) = set middle other Gone in
+      let in_middle : get_elem? middle other ≡ some (Reads r) = set_else s.views 0 other both apart ∙ there in
+      let known = h.knows 0 (Publishes p) at in
+      let counts = knows_publisher begins follows spots s h p at in
+      let one = sum_set left_of s.views 0 (Publishes p) both at in
+      let two = sum_set left_of middle other (Reads r) Gone in_middle in
+      let three = sum_set read_of s.views 0 (Publishes p) both at in
+      let four = sum_set read_of middle other (Reads r) Gone in_middle in
+      let some_reader = sum_has read_of s.views other (Reads r) there in
+      let same_lefts : lefts views ≡ lefts s.views = omega (arith, one, two) in
+      let middle_owners : map owner_of middle ≡ st.owners = map_set owner_of s.views 0 both ∙ sym (set_there st.owners 0 (holder p.share) (got_map owner_of s.views 0 (Publishes p) at)) in
+      let spent : slice_get (map owner_of middle) other ≡ Some Spent = got_map owner_of middle other (Reads r) in_middle ∙ ap (λ (x : Option (Mark T)). Some (holder x)) whole in
+      let owners : map owner_of views ≡ st.owners = map_set owner_of middle other Gone ∙ sym (set_there (map owner_of middle) other Spent spent) ∙ middle_owners in
+      let publisher : publisher_in views ≡ st.publisher = publisher_else middle other Gone apart ∙ publisher_here s.views (Publishes p) both at ∙ sym (publisher_is s.views (Publishes p) at) in
+      let same : shown (record { words = s.words; homes = s.homes; views = views }) ≡ st = state_is _ _ refl refl publisher owners (ap (λ k. grants - k) same_lefts) in
+      record {
+        cell = h.cell;
+        shows = subst (λ x. Shows x h.cell) (sym same) h.shows;
+        history = h.history;
+        name = h.name;
+        few = omega (arith, same_lefts, h.few);
+        homes = λ place home e. subst (λ x. HomeIs spots h.name x place home) (sym same) (h.homes place home e);
+        knows = λ j view e. ⊎_elim
+            (λ (t : (j ≡ other) × (Gone ≡ view)). subst (Knows spots h.name h.cell.published s.homes) t.1 tt)
+            (λ (t : (j ≢ other) × (get_elem? middle j ≡ some view)). ⊎_elim
+            (λ (u : (j ≡ 0) × (both ≡ view)). subst (Knows spots h.name h.cell.published s.homes) u.1 (known.0, known.1, known.2, known.3))
+            (λ (u : (j ≢ 0) × (get_elem? s.views j ≡ some view)). h.knows j view u.1)
+            (at_set s.views 0 j both view t.1))
+            (at_set middle other j Gone view e);
+        first = (
+          with_guest p r.left,
+          set_else middle other 0 Gone (λ e. apart (sym e)) ∙ set_here s.views 0 both (got_within s.views 0 (Publishes p) at),
+          record {
+            readers = omega (arith, three, four, counts.readers, some_reader.1);
+            fixed = λ w e. absurd (omega (arith, (counts.fixed w e).0, counts.readers, some_reader.1));
+          },
+        );
+        only = λ j q e. ⊎_elim
+            (λ (t : (j ≡ other) × (Gone ≡ Publishes q)). absurd (let wrong = t.1 in cc))
+            (λ (t : (j ≢ other) × (get_elem? middle j ≡ some (Publishes q))). ⊎_elim
+            (λ (u : (j ≡ 0) × (both ≡ Publishes q)). u.0)
+            (λ (u : (j ≢ 0) × (get_elem? s.views j ≡ some (Publishes q))). h.only j q u.1)
+            (at_set s.views 0 j both (Publishes q) t.1))
+            (at_set middle other j Gone (Publishes q) e);
+      }
+
+  pub joins : (id other : ℕ) (p : Publishing T) (r : Reading T) → r.share ≡ None → Joins (Holds begins follows spots) id (Publishes p) other (Reads r) (Publishes (with_guest p r.left)) Gone
+  joins id other p r whole s h at apart there =
+      let first : id ≡ 0 = h.only id p at in
+      let both : View T = Publishes (with_guest p r.left) in
+      let here : get_elem? s.views 0 ≡ some (Publishes p) = ap (get_elem? s.views) (sym first) ∙ at in
+      let other_apart : other ≢ 0 = λ e. apart (e ∙ sym first) in
+      let before : get_elem? s.views other ≡ some (Reads r) = sym (set_else s.views id other both apart) ∙ there in
+      subst (λ k. Holds begins follows spots (record { words = s.words; homes = s.homes; views = set (set s.views k both) other Gone })) (sym first) (joined s h p other r whole here other_apart before)

@@ -1,0 +1,176 @@
+-- A seat that is cut in two keeps the rule.
+use Rattle.std.proofs.Common.{◌≡◌, ◌≢◌, refl, sym, ap, ◌∙◌, subst, ℕ, zero, suc, ◌+◌, ◌-◌, ◌≤◌, ⊎_elim, List, [], ◌∷◌, ◌++◌, map, set, arith, Option, Some, None, append-nil}
+use Rattle.std.specs.List.{slice_get, slice_set}
+use Rattle.std.proofs.lemmas.List.Sums.{sum_by_push}
+use mathlib.Core.Option.{some, some-injective, some-ne-none}
+use lib.ListN.{get_elem?}
+use Rattle.atomic_table.specs.Table.{Splits}
+use Rattle.atomic_table.proofs.Lists.{at_set, at_snoc, at_longer, set_here, set_else}
+use Rattle.cell_core.proofs.SeatLemmas.{get_push_old}
+use Rattle.cell_core.proofs.FrameLemmas.{seat_stays}
+use Rattle.cell_core.specs.Shows.{Shows}
+use Rattle.cell_core.specs.Words.{State, grants}
+use Rattle.cell_core.specs.declared.words.Owner.TheVariants.{Holding, Burying, Freeing, Spent}
+use Rattle.counted_handles.specs.declared.view.Mark.{Mark}
+use Rattle.counted_handles.specs.declared.view.Reading.{Reading}
+use Rattle.counted_handles.specs.declared.view.Publishing.{Publishing}
+use Rattle.counted_handles.specs.declared.view.View.{View}
+use Rattle.counted_handles.specs.declared.view.View.TheVariants.{Publishes, Reads, Has}
+use Rattle.counted_handles.specs.Shown.{Board, holder, owner_of, how_of, publisher_in, left_of, read_of, lefts, reads, shown}
+use Rattle.counted_handles.specs.Ruled.{RoomSpot, ShareIs, Knows, Counts, Holds}
+use Rattle.counted_handles.specs.Cuts.{reader_of, with_reader}
+use Rattle.counted_handles.proofs.Lists.{got_map, got_within, map_set, map_push, sum_set}
+use Rattle.counted_handles.proofs.Owners.{passed}
+use Rattle.counted_handles.proofs.Frames.{home_stays, not_first, knows_publisher, state_is}
+
+publisher_split : {T : Type 0} (views : List (View T)) (id : ℕ) (old left right : View T) → get_elem? views id ≡ some old → how_of left ≡ how_of old → publisher_in (set views id left ++ right ∷ []) ≡ publisher_in views
+publisher_split [] id old left right at how = absurd (some-ne-none old (sym at))
+publisher_split {T} (v ∷ views) zero old left right at how = how ∙ ap (λ (x : View T). how_of x) (sym (some-injective v old at))
+publisher_split (v ∷ views) (suc id) old left right at how = refl
+
+module _ {T : Type 0} (begins : T → Type 0) (follows : T → T → Type 0) (spots : List (RoomSpot T)) where
+  -- what a cut owes
+  pub record Cut (s : Board T) (h : Holds begins follows spots s) (id : ℕ) (old left right : View T) : Type 0 where
+    pub at : get_elem? s.views id ≡ some old
+    pub how : how_of left ≡ how_of old
+    pub grants_are : left_of left + left_of right ≡ left_of old
+    pub left_owner : owner_of left ≡ Spent
+    pub right_owner : owner_of right ≡ owner_of old
+    pub not_burying : (slot : ℕ) → owner_of old ≡ Burying slot → ⊥
+    pub not_freeing : (slot : ℕ) → owner_of old ≡ Freeing slot → ⊥
+    pub left_knows : Knows spots h.name h.cell.published s.homes left
+    pub right_knows : Knows spots h.name h.cell.published s.homes right
+    pub first : (p : Publishing T) × (get_elem? (set s.views id left ++ right ∷ []) 0 ≡ some (Publishes p)) × Counts (record { words = s.words; homes = s.homes; views = set s.views id left ++ right ∷ [] }) p
+    pub only_left : (p : Publishing T) → left ≡ Publishes p → id ≡ 0
+    pub only_right : (p : Publishing T) → right ≡ Publishes p → ⊥
+
+  pub cut : (s : Board T) (h : Holds begins follows spots s) (id : ℕ) (old left right : View T) → Cut s h id old left right → Holds begins follows spots (record { words = s.words; homes = s.homes; views = set s.views id left ++ right ∷ [] })
+  cut s h id old left right o =
+      let st : State T = shown s in
+      let sums = sum_set left_of s.views id old left o.at in
+      let pushed = sum_by_push left_of (set s.views id left) right in
+      let seat : slice_get st.owners id ≡ Some (owner_of old) = got_map owner_of s.views id old o.at in
+      let owners : map owner_of (set s.views id left ++ right ∷ []) ≡ slice_set st.owners id Spent ++ owner_of old ∷ [] =
+      map_push owner_of (set s.views id left) right ∙ ap (λ l. l ++ owner_of right ∷ []) (map_set owner_of s.views id left)
+      ∙ ap (λ x. slice_set st.owners id x ++ owner_of right ∷ []) o.left_owner ∙ ap (λ x. slice_set st.owners id Spent ++ x ∷ []) o.right_owner in
+      let after : State T = shown (record { words = s.words; homes = s.homes; views = set s.views id left ++ right ∷ [] }) in
+      let same_lefts : lefts (set s.views id left ++ right ∷ []) ≡ lefts s.views = omega (arith, sums, pushed, o.grants_are) in
+      let same : after ≡ record st { owners = slice_set st.owners id Spent ++ owner_of old ∷ [] } = state_is _ _ refl refl (publisher_split s.views id old left right o.at o.how) owners (ap (λ k. grants - k) same_lefts) in
+      record {
+        cell = h.cell;
+        shows = subst (λ x. Shows x h.cell) (sym same) (passed st h.cell id (owner_of old) seat o.not_burying o.not_freeing h.shows);
+        history = h.history;
+        name = h.name;
+        few = omega (arith, same_lefts, h.few);
+        homes = λ place home e. home_stays spots h.name st after place home
+            (λ q. ap (λ (x : State T). x.publisher) same ∙ q)
+            (λ i q. ap (λ (x : State T). slice_get x.owners i) same ∙ get_push_old (slice_set st.owners id Spent) (owner_of old) (Freeing place) i (seat_stays st.owners id (owner_of old) Spent (Freeing place) seat (o.not_freeing place) i q))
+            (h.homes place home e);
+        knows = λ j view e. ⊎_elim
+            (λ (t : get_elem? (set s.views id left) j ≡ some view). ⊎_elim
+            (λ (u : (j ≡ id) × (left ≡ view)). subst (Knows spots h.name h.cell.published s.homes) u.1 o.left_knows)
+            (λ (u : (j ≢ id) × (get_elem? s.views j ≡ some view)). h.knows j view u.1)
+            (at_set s.views id j left view t))
+            (λ (t : right ≡ view). subst (Knows spots h.name h.cell.published s.homes) t o.right_knows)
+            (at_snoc (set s.views id left) right view j e);
+        first = o.first;
+        only = λ j p e. ⊎_elim
+            (λ (t : get_elem? (set s.views id left) j ≡ some (Publishes p)). ⊎_elim
+            (λ (u : (j ≡ id) × (left ≡ Publishes p)). u.0 ∙ o.only_left p u.1)
+            (λ (u : (j ≢ id) × (get_elem? s.views j ≡ some (Publishes p))). h.only j p u.1)
+            (at_set s.views id j left (Publishes p) t))
+            (λ (t : right ≡ Publishes p). absurd (o.only_right p t))
+            (at_snoc (set s.views id left) right (Publishes p) j e);
+      }
+
+  -- how many readers there are behind a cut
+  readers_cut : (s : Board T) (id : ℕ) (old left right : View T) → get_elem? s.views id ≡ some old → reads (set s.views id left ++ right ∷ []) + read_of old ≡ reads s.views + read_of left + read_of right
+  readers_cut s id old left right at =
+      let sums = sum_set read_of s.views id old left at in
+      let pushed = sum_by_push read_of (set s.views id left) right in
+      omega (arith, sums, pushed)
+
+  -- a share goes off a reader
+  pub splits_reader : (id : ℕ) (r : Reading T) (mark : Mark T) → r.share ≡ Some mark → Splits (Holds begins follows spots) id (Reads r) (Reads (record r { share = None })) (Has mark)
+  splits_reader id r mark is s h at =
+      let known = h.knows id (Reads r) at in
+      let first = not_first s h id (Reads r) at (λ p e. cc) in
+      let readers = readers_cut s id (Reads r) (Reads (record r { share = None })) (Has mark) at in
+      let counts = h.first.2 in
+      let owner : owner_of (Reads r) ≡ Holding mark.number mark.slot = ap (λ (x : Option (Mark T)). holder x) is in
+      cut s h id (Reads r) (Reads (record r { share = None })) (Has mark) (record {
+        at = at;
+        how = refl;
+        grants_are = omega arith;
+        left_owner = refl;
+        right_owner = sym owner;
+        not_burying = λ slot e. let wrong : Holding mark.number mark.slot ≡ Burying slot = sym owner ∙ e in cc;
+        not_freeing = λ slot e. let wrong : Holding mark.number mark.slot ≡ Freeing slot = sym owner ∙ e in cc;
+        left_knows = (known.0, known.1, tt);
+        right_knows = subst (ShareIs s.homes h.name) is known.2;
+        first = (
+          h.first.0,
+          at_longer (set s.views id (Reads (record r { share = None }))) (Has mark ∷ []) 0 (Publishes h.first.0) (set_else s.views id 0 (Reads (record r { share = None })) (λ e. first (sym e)) ∙ h.first.1),
+          record { readers = omega (arith, readers, counts.readers); fixed = counts.fixed },
+        );
+        only_left = λ p e. absurd (let wrong = e in cc);
+        only_right = λ p e. cc;
+      })
+
+  -- a share goes off the publisher
+  pub splits_publisher : (id : ℕ) (p : Publishing T) (mark : Mark T) → p.share ≡ Some mark → Splits (Holds begins follows spots) id (Publishes p) (Publishes (record p { share = None })) (Has mark)
+  splits_publisher id p mark is s h at =
+      let known = h.knows id (Publishes p) at in
+      let first : id ≡ 0 = h.only id p at in
+      let here : get_elem? s.views 0 ≡ some (Publishes p) = ap (get_elem? s.views) (sym first) ∙ at in
+      let counts = knows_publisher begins follows spots s h p here in
+      let left : View T = Publishes (record p { share = None }) in
+      let readers = readers_cut s id (Publishes p) left (Has mark) at in
+      let owner : owner_of (Publishes p) ≡ Holding mark.number mark.slot = ap (λ (x : Option (Mark T)). holder x) is in
+      cut s h id (Publishes p) left (Has mark) (record {
+        at = at;
+        how = refl;
+        grants_are = omega arith;
+        left_owner = refl;
+        right_owner = sym owner;
+        not_burying = λ slot e. let wrong : Holding mark.number mark.slot ≡ Burying slot = sym owner ∙ e in cc;
+        not_freeing = λ slot e. let wrong : Holding mark.number mark.slot ≡ Freeing slot = sym owner ∙ e in cc;
+        left_knows = (known.0, known.1, tt, known.3);
+        right_knows = subst (ShareIs s.homes h.name) is known.2;
+        first = (
+          record p { share = None },
+          at_longer (set s.views id left) (Has mark ∷ []) 0 left (ap (get_elem? (set s.views id left)) (sym first) ∙ set_here s.views id left (got_within s.views id (Publishes p) at)),
+          record { readers = omega (arith, readers, counts.readers); fixed = counts.fixed },
+        );
+        only_left = λ q e. first;
+        only_right = λ q e. cc;
+      })
+
+  -- a reader with some of the publisher's grants goes off it
+  pub splits_reading : (id n : ℕ) (p : Publishing T) → p.share ≡ None → n ≤ p.left → Splits (Holds begins follows spots) id (Publishes p) (Publishes (with_reader p n)) (reader_of p n)
+  splits_reading id n p whole few s h at =
+      let known = h.knows id (Publishes p) at in
+      let first : id ≡ 0 = h.only id p at in
+      let here : get_elem? s.views 0 ≡ some (Publishes p) = ap (get_elem? s.views) (sym first) ∙ at in
+      let counts = knows_publisher begins follows spots s h p here in
+      let left : View T = Publishes (with_reader p n) in
+      let readers = readers_cut s id (Publishes p) left (reader_of p n) at in
+      let owner : owner_of (Publishes p) ≡ Spent = ap (λ (x : Option (Mark T)). holder x) whole in
+      cut s h id (Publishes p) left (reader_of p n) (record {
+        at = at;
+        how = refl;
+        grants_are = omega (arith, few);
+        left_owner = owner;
+        right_owner = sym owner;
+        not_burying = λ slot e. let wrong : Spent ≡ Burying slot = sym owner ∙ e in cc;
+        not_freeing = λ slot e. let wrong : Spent ≡ Freeing slot = sym owner ∙ e in cc;
+        left_knows = (known.0, known.1, known.2, known.3);
+        right_knows = (known.0, ([], append-nil p.published ∙ known.1), tt);
+        first = (
+          with_reader p n,
+          at_longer (set s.views id left) (reader_of p n ∷ []) 0 left (ap (get_elem? (set s.views id left)) (sym first) ∙ set_here s.views id left (got_within s.views id (Publishes p) at)),
+          record { readers = omega (arith, readers, counts.readers); fixed = λ w e. absurd (let wrong = e in cc) },
+        );
+        only_left = λ q e. first;
+        only_right = λ q e. cc;
+      })

@@ -1,0 +1,134 @@
+-- What the calls ask and give (own).
+use Rattle.std.specs.Prelude.{◌≡◌, ℕ, ◌+◌, ◌-◌, ◌^◌, ◌<◌, List, [], ◌∷◌, ◌++◌, length, Option, None, Some}
+use Rattle.std.specs.List.{slice_get}
+use Rattle.atomic_table.specs.Seated.{TableId}
+use Rattle.cell_core.specs.Words.{slots}
+use Rattle.cell_core.specs.declared.words.Publisher.TheVariants.{Probing, Preparing, Swapping, Settling}
+use Rattle.counted_handles.specs.declared.view.Mark.{Mark}
+use Rattle.counted_handles.specs.declared.view.Publishing.{Publishing}
+use Rattle.counted_handles.specs.declared.view.Reading.{Reading}
+use Rattle.counted_handles.specs.declared.view.View.{View}
+use Rattle.counted_handles.specs.declared.view.View.TheVariants.{Began, Publishes, Reads, Has, Frees}
+use Rattle.raw_slots.specs.Places.{Stake}
+use Rattle.cell_core.specs.declared.words.Version.{Version}
+use Rattle.counted_handles.specs.History.{IsHistory}
+use Rattle.counted_handles.specs.Shown.{Room}
+use Rattle.counted_handles.specs.Ruled.{RoomSpot, Begins, stake_of, mark_of, version_of, first_version}
+use Rattle.counted_handles.specs.Cuts.{reader_of}
+use Rattle.counted_handles.specs.Tells.{Sat, IsLastMark}
+
+-- a table of the cell's size: W, with two words a slot (own)
+abbrev pub Fits : TableId → Type 0
+Fits id = (id.words ≡ 129) × (id.slots ≡ slots)
+
+-- a reader that may load: it has no share that isn't split off, and a grant (own)
+abbrev pub CanRead : {T : Type 0} → Reading T → List (View T) → Type 0
+CanRead reading views = (views ≡ Reads reading ∷ []) × (reading.share ≡ None) × (0 < reading.left)
+
+-- what a load leaves the reader, and the owner's seat with its share (own)
+pub record Drawn {T : Type 0} (begins : T → Type 0) (follows : T → T → Type 0) (reading : Reading T) (found : ℕ) (views : List (View T)) (share : Sat T) : Type 0 where
+  pub published : List T
+  pub mark : Mark T
+  pub begun : Begins reading.seen published
+  pub last : IsLastMark begins follows published reading.name found mark
+  pub views_are : views ≡ Reads (record reading { seen = published; left = reading.left - 1 }) ∷ []
+  pub share_is : share ≡ (Has mark, [])
+
+-- the publisher's seat as it probes a slot (own)
+abbrev pub IsProbing : {T : Type 0} → Publishing T → ℕ → Sat T → Type 0
+IsProbing p slot me = (me ≡ (Publishes p, [])) × (p.how ≡ Probing slot)
+
+-- the publisher has the slot's place, with the next version in it, shared: it is to be given back (own)
+pub record IsReady {T : Type 0} (slot : ℕ) (p : Publishing T) (value : T) (room : Room T) (me : Sat T) : Type 0 where
+  pub me_is : me ≡ (Publishes p, (slot, room) ∷ [])
+  pub within : slot < slots
+  pub how : p.how ≡ Preparing slot
+  pub lies : room.at ≡ p.spot.at
+  pub version : room.value ≡ Some (record { number = length p.published; value = value })
+  pub life : ℕ
+  pub tally : ℕ
+  pub stake : room.stake ≡ stake_of (mark_of p.name slot (record { number = length p.published; value = value }) life tally) ∷ []
+
+-- the publisher's version lies in its slot, and its value may follow those published (own)
+pub record IsSwapping {T : Type 0} (begins : T → Type 0) (follows : T → T → Type 0) (slot : ℕ) (p : Publishing T) (value : T) (me : Sat T) : Type 0 where
+  pub me_is : me ≡ (Publishes p, [])
+  pub within : slot < slots
+  pub how : p.how ≡ Swapping slot
+  pub next : p.next ≡ Some value
+  pub history : IsHistory begins follows (p.published ++ value ∷ [])
+
+-- the publisher is to settle a version, of which so many shares were given out (own)
+pub record IsSettling {T : Type 0} (slot given : ℕ) (p : Publishing T) (number : ℕ) (me : Sat T) : Type 0 where
+  pub me_is : me ≡ (Publishes p, [])
+  pub within : slot < slots
+  pub few : given < 2 ^ 48
+  pub how : p.how ≡ Settling number slot given
+  pub share : p.share ≡ None
+
+-- a publication's end: the value is published, and the seat of the old version's share has it (own)
+pub record IsSwappedIn {T : Type 0} (p : Publishing T) (value : T) (me share : Sat T) : Type 0 where
+  pub mark : Mark T
+  pub last : length p.published ≡ mark.number + 1
+  pub value_is : slice_get p.published mark.number ≡ Some mark.value
+  pub name_is : mark.name ≡ p.name
+  pub within : mark.slot < slots
+  pub me_is : me ≡ (Publishes (record p { published = p.published ++ value ∷ []; how = Probing 0; next = None; fixed = None }), [])
+  pub share_is : share ≡ (Has mark, [])
+
+-- the publisher between two calls: no share that isn't split off, and no grant of its own (own)
+abbrev pub IsIdle : {T : Type 0} → Publishing T → Sat T → Type 0
+IsIdle p me = (me ≡ (Publishes p, [])) × (p.share ≡ None) × (p.left ≡ 0)
+
+-- a reader's seat with a grant (own)
+abbrev pub IsGuest : {T : Type 0} → Reading T → Sat T → Type 0
+IsGuest r me = (me ≡ (Reads r, [])) × (r.share ≡ None) × (0 < r.left)
+
+-- the publisher that took a reader in and has given all grants to a reader again (own)
+abbrev pub gave_back : {T : Type 0} → Publishing T → Publishing T
+gave_back p = record p { left = 0; readers = p.readers - 1 + 1; fixed = None }
+
+-- what a load by the publisher leaves: its own seat, the one of the share, and a reader's with the rest of the grants, which has
+-- seen all that is published (own)
+pub record IsNewest {T : Type 0} (begins : T → Type 0) (follows : T → T → Type 0) (p : Publishing T) (r : Reading T) (found : ℕ) (me share reader : Sat T) : Type 0 where
+  pub mark : Mark T
+  pub last : IsLastMark begins follows p.published p.name found mark
+  pub me_is : me ≡ (Publishes (gave_back p), [])
+  pub share_is : share ≡ (Has mark, [])
+  pub reader_is : reader ≡ (reader_of p (r.left - 1), [])
+
+-- the first seat has slot 0's place, with the first version in it, shared: it is to be given back (own)
+pub record IsOffering {T : Type 0} (begins : T → Type 0) (value : T) (name : ℕ) (spot : RoomSpot T) (me : Sat T) : Type 0 where
+  pub room : Room T
+  pub me_is : me ≡ (Began spot, (0, room) ∷ [])
+  pub begun : begins value
+  pub lies : room.at ≡ spot.at
+  pub version : room.value ≡ Some (first_version value)
+  pub life : ℕ
+  pub tally : ℕ
+  pub stake : room.stake ≡ stake_of (mark_of name 0 (first_version value) life tally) ∷ []
+
+-- the seat has the slot's place, whole, with a version that is buried in it (own)
+pub record IsOut {T : Type 0} (slot : ℕ) (me : Sat T) : Type 0 where
+  pub spot : RoomSpot T
+  pub room : Room T
+  pub mark : Mark T
+  pub me_is : me ≡ (Frees slot spot, (slot, room) ∷ [])
+  pub lies : room.at ≡ spot.at
+  pub version : room.value ≡ Some (version_of mark)
+  pub whole : room.stake ≡ []
+
+-- what a load gives: the version published last is held, for the share of this slot, and the reader has seen all that is
+-- published (own)
+pub record IsLoaded {T : Type 0} (begins : T → Type 0) (follows : T → T → Type 0) (reading : Reading T) (views : List (View T)) (stake : Stake (View T)) (value : Option (Version T)) (slot : ℕ) : Type 0 where
+  pub published : List T
+  pub mark : Mark T
+  pub begun : Begins reading.seen published
+  pub history : IsHistory begins follows published
+  pub last : length published ≡ mark.number + 1
+  pub value_is : slice_get published mark.number ≡ Some mark.value
+  pub views_are : views ≡ Reads (record reading { seen = published; left = reading.left - 1 }) ∷ []
+  pub stake_is : stake ≡ stake_of mark
+  pub held_is : value ≡ Some (version_of mark)
+  pub slot_is : mark.slot ≡ slot
+  pub within : slot < slots
+  pub name_is : mark.name ≡ reading.name

@@ -1,0 +1,61 @@
+-- How views are cut in two, and made one (own).
+use Rattle.std.specs.Prelude.{ℕ, ◌+◌, ◌-◌, ◌^◌, Option, None, Some}
+use Rattle.counted_handles.specs.declared.view.Mark.{Mark}
+use Rattle.counted_handles.specs.declared.view.Publishing.{Publishing}
+use Rattle.counted_handles.specs.declared.view.View.{View}
+use Rattle.counted_handles.specs.declared.view.View.TheVariants.{Publishes, Reads, Has, Gone}
+use Rattle.counted_handles.specs.Shown.{left_of}
+
+-- the owner of a share; none is spent (own)
+abbrev pub owner_view : {T : Type 0} → Option (Mark T) → View T
+owner_view None = Gone
+owner_view (Some mark) = Has mark
+
+-- a share goes to a seat of its own: what the reader or the publisher keeps, and what the new seat has (own)
+abbrev pub kept_share : {T : Type 0} → View T → View T
+kept_share (Reads r) = Reads (record r { share = None })
+kept_share (Publishes p) = Publishes (record p { share = None })
+kept_share view = view
+
+abbrev pub given_share : {T : Type 0} → View T → View T
+given_share (Reads r) = owner_view r.share
+given_share (Publishes p) = owner_view p.share
+given_share view = Gone
+
+-- a reader with so many of the publisher's grants, which has seen all that is published (own)
+abbrev pub reader_of : {T : Type 0} → Publishing T → ℕ → View T
+reader_of p n = Reads (record { seen = p.published; share = None; left = n; name = p.name })
+
+-- the publisher without these grants, and with one reader more (own)
+abbrev pub with_reader : {T : Type 0} → Publishing T → ℕ → Publishing T
+with_reader p n = record p { left = p.left - n; readers = p.readers + 1; fixed = None }
+
+-- a reader's seat is taken in by the publisher's, with its grants (own)
+abbrev pub with_guest : {T : Type 0} → Publishing T → ℕ → Publishing T
+with_guest p n = record p { left = p.left + n; readers = p.readers - 1 }
+
+-- all grants go to a reader: what the publisher keeps, and what the reader has (own)
+abbrev pub kept_back : {T : Type 0} → View T → View T
+kept_back (Publishes p) = Publishes (with_reader p p.left)
+kept_back view = view
+
+abbrev pub handed_back : {T : Type 0} → View T → View T
+handed_back (Publishes p) = reader_of p p.left
+handed_back view = Gone
+
+-- the grants of one of the readers of a new cell (own)
+abbrev pub dealt_grants : ℕ
+dealt_grants = 2 ^ 40
+
+abbrev pub kept_dealt : {T : Type 0} → View T → View T
+kept_dealt (Publishes p) = Publishes (with_reader p dealt_grants)
+kept_dealt view = view
+
+abbrev pub dealt : {T : Type 0} → View T → View T
+dealt (Publishes p) = reader_of p dealt_grants
+dealt view = Gone
+
+-- the publisher with a guest (own)
+abbrev pub guested : {T : Type 0} → View T → View T → View T
+guested (Publishes p) guest = Publishes (with_guest p (left_of guest))
+guested view guest = view

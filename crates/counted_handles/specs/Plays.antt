@@ -1,0 +1,83 @@
+-- What each step tells, by the view of the seat that makes it; nothing is told of a step that the seat doesn't make (own).
+use Rattle.std.specs.Prelude.{◌≡◌, ℕ, [], ◌∷◌, length, Some}
+use Rattle.cell_core.specs.declared.words.Publisher.{Publisher}
+use Rattle.cell_core.specs.declared.words.Publisher.TheVariants.{Probing, Preparing, Swapping, Settling}
+use Rattle.counted_handles.specs.declared.view.Publishing.{Publishing}
+use Rattle.counted_handles.specs.declared.view.View.{View}
+use Rattle.counted_handles.specs.declared.view.View.TheVariants.{Begin, Began, Publishes, Reads, Has, Buries, Frees}
+use Rattle.counted_handles.specs.Ruled.{stake_of, mark_of, first_version}
+use Rattle.counted_handles.specs.Tells.{Sat, Loaded, Newest, Released, Tried, Freed, Probed, Prepared, Swapped, IsSettled, Looked, IsOpened, Offered}
+
+-- load (own)
+abbrev pub LoadTells : {T : Type 0} → (T → Type 0) → (T → T → Type 0) → View T → ℕ → Sat T → Type 0
+LoadTells begins follows (Reads r) found me = Loaded begins follows r found me
+LoadTells begins follows view found me = ⊥
+
+-- newest (own)
+abbrev pub NewestTells : {T : Type 0} → (T → Type 0) → (T → T → Type 0) → View T → ℕ → Sat T → Type 0
+NewestTells begins follows (Publishes p) found me = Newest begins follows p found me
+NewestTells begins follows view found me = ⊥
+
+-- release (own)
+abbrev pub ReleaseTells : {T : Type 0} → View T → ℕ → Sat T → Type 0
+ReleaseTells (Has mark) found me = Released mark found me
+ReleaseTells view found me = ⊥
+
+-- bury (own)
+abbrev pub BuryTells : {T : Type 0} → View T → ℕ → Sat T → Type 0
+BuryTells (Buries slot name) found me = Tried slot name found me
+BuryTells view found me = ⊥
+
+-- free (own)
+abbrev pub FreeTells : {T : Type 0} → View T → Sat T → Type 0
+FreeTells (Frees slot spot) me = Freed me
+FreeTells view me = ⊥
+
+-- probe, of the slot that is due (own)
+abbrev pub ProbeAt : {T : Type 0} → Publishing T → Publisher → ℕ → Sat T → Type 0
+ProbeAt p (Probing slot) found me = Probed p slot found me
+ProbeAt p (Preparing slot) found me = ⊥
+ProbeAt p (Swapping slot) found me = ⊥
+ProbeAt p (Settling number slot given) found me = ⊥
+
+abbrev pub ProbeTells : {T : Type 0} → View T → ℕ → Sat T → Type 0
+ProbeTells (Publishes p) found me = ProbeAt p p.how found me
+ProbeTells view found me = ⊥
+
+-- prepare, of the slot whose place the publisher gives back (own)
+abbrev pub PrepareTells : {T : Type 0} → Sat T → Sat T → Type 0
+PrepareTells {T} (Publishes p, (slot, room) ∷ []) me = (value : T) × (room.value ≡ Some (record { number = length p.published; value = value })) × Prepared p slot value me
+PrepareTells before me = ⊥
+
+-- swap, of the value that the publisher has prepared (own)
+abbrev pub SwapTells : {T : Type 0} → View T → ℕ → Sat T → Type 0
+SwapTells {T} (Publishes p) found me = (value : T) × (p.next ≡ Some value) × Swapped p value found me
+SwapTells view found me = ⊥
+
+-- settle, of the version that the publisher is to settle (own)
+abbrev pub SettleAt : {T : Type 0} → Publishing T → Publisher → Sat T → Type 0
+SettleAt p (Settling number slot given) me = IsSettled p number slot me
+SettleAt p (Probing slot) me = ⊥
+SettleAt p (Preparing slot) me = ⊥
+SettleAt p (Swapping slot) me = ⊥
+
+abbrev pub SettleTells : {T : Type 0} → View T → Sat T → Type 0
+SettleTells (Publishes p) me = SettleAt p p.how me
+SettleTells view me = ⊥
+
+-- the publisher's look at W (own)
+abbrev pub LookTells : {T : Type 0} → View T → ℕ → Sat T → Type 0
+LookTells (Publishes p) found me = Looked p found me
+LookTells view found me = ⊥
+
+-- the first look at W (own)
+abbrev pub OpenTells : {T : Type 0} → View T → Sat T → Type 0
+OpenTells (Begin value) me = IsOpened value me
+OpenTells view me = ⊥
+
+-- the second look at W, by what the first seat gives back (own)
+abbrev pub OfferTells : {T : Type 0} → Sat T → Sat T → Type 0
+OfferTells {T} (Began spot, (slot, room) ∷ []) me =
+    (value : T) × (name : ℕ) × (life : ℕ) × (tally : ℕ) × (room.value ≡ Some (first_version value))
+    × (room.stake ≡ stake_of (mark_of name 0 (first_version value) life tally) ∷ []) × Offered value name spot me
+OfferTells before me = ⊥

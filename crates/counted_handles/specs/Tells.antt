@@ -1,0 +1,137 @@
+-- What each step tells the seat that makes it (own).
+use Rattle.std.specs.Prelude.{◌≡◌, ℕ, ◌+◌, ◌-◌, ◌<◌, List, [], ◌∷◌, length, ◌==◌, Some, None, MatchBool, if◌then◌else◌, ◌++◌, Option}
+use Rattle.std.specs.List.{slice_get}
+use Rattle.atomic_table.specs.Table.{Me}
+use Rattle.cell_core.specs.Words.{slots, grants, slot_of, given_of, free_word}
+use Rattle.cell_core.specs.declared.words.Version.{Version}
+use Rattle.cell_core.specs.declared.words.Publisher.TheVariants.{Probing, Preparing, Swapping, Settling}
+use Rattle.counted_handles.specs.declared.view.Mark.{Mark}
+use Rattle.counted_handles.specs.declared.view.Reading.{Reading}
+use Rattle.counted_handles.specs.declared.view.Publishing.{Publishing}
+use Rattle.counted_handles.specs.declared.view.View.{View}
+use Rattle.counted_handles.specs.declared.view.View.TheVariants.{Begin, Began, Publishes, Reads, Has, Buries, Frees, Gone}
+use Rattle.raw_slots.specs.Places.{Stake}
+use Rattle.counted_handles.specs.History.{IsHistory}
+use Rattle.counted_handles.specs.Shown.{Room}
+use Rattle.counted_handles.specs.Ruled.{RoomSpot, Begins, version_of, stake_of, first_version}
+
+-- a seat at the table: its view, and the places that it has taken (own)
+abbrev pub Sat : Type 0 → Type 0
+Sat T = Me (Room T) (View T)
+
+-- a share is of the value published last, in the slot that W told (own)
+pub record IsLastMark {T : Type 0} (begins : T → Type 0) (follows : T → T → Type 0) (published : List T) (name found : ℕ) (mark : Mark T) : Type 0 where
+  pub history : IsHistory begins follows published
+  pub last : length published ≡ mark.number + 1
+  pub value : slice_get published mark.number ≡ Some mark.value
+  pub slot : mark.slot ≡ slot_of found
+  pub within : mark.slot < slots
+  pub name_is : mark.name ≡ name
+
+-- load: the reader has a share of the value published last, and has seen all that is published (own)
+abbrev pub Loaded : {T : Type 0} → (T → Type 0) → (T → T → Type 0) → Reading T → ℕ → Sat T → Type 0
+Loaded {T} begins follows reading found me =
+    (published : List T) × (mark : Mark T)
+    × (me ≡ (Reads (record reading { seen = published; share = Some mark; left = reading.left - 1 }), []))
+    × Begins reading.seen published × IsLastMark begins follows published reading.name found mark
+
+-- release: S was 1, and a bury is due, or the owner has made all its steps (own)
+abbrev pub Released : {T : Type 0} → Mark T → ℕ → Sat T → Type 0
+Released mark found me = MatchBool (found == 1) (me ≡ (Buries mark.slot mark.name, [])) (me ≡ (Gone, []))
+
+-- a bury that won: the owner has the slot's place, with the version that lay there and is to free the slot (own)
+pub record IsWon {T : Type 0} (slot name : ℕ) (me : Sat T) : Type 0 where
+  pub spot : RoomSpot T
+  pub room : Room T
+  pub mark : Mark T
+  pub me_is : me ≡ (Frees slot spot, (slot, room) ∷ [])
+  pub lies : room.at ≡ spot.at
+  pub version : room.value ≡ Some (version_of mark)
+  pub stake : room.stake ≡ stake_of mark ∷ []
+  pub name_is : mark.name ≡ name
+  pub slot_is : mark.slot ≡ slot
+
+-- bury: it wins where S was 0 (own)
+abbrev pub Tried : {T : Type 0} → ℕ → ℕ → ℕ → Sat T → Type 0
+Tried slot name found me = MatchBool (found == 0) (IsWon slot name me) (me ≡ (Gone, []))
+
+-- free: the owner has made all its steps (own)
+abbrev pub Freed : {T : Type 0} → Sat T → Type 0
+Freed me = me ≡ (Gone, [])
+
+-- a probe that saw FREE: the publisher has the slot's place, whole and empty (own)
+pub record IsTaken {T : Type 0} (p : Publishing T) (slot : ℕ) (me : Sat T) : Type 0 where
+  pub spot : RoomSpot T
+  pub room : Room T
+  pub me_is : me ≡ (Publishes (record p { how = Preparing slot; spot = spot }), (slot, room) ∷ [])
+  pub lies : room.at ≡ spot.at
+  pub empty : room.value ≡ None
+  pub whole : room.stake ≡ []
+
+-- the slot that a publication probes behind this one; behind the last one the publication ends (own)
+abbrev pub beyond : ℕ → ℕ
+beyond slot = if slot + 1 == slots then 0 else slot + 1
+
+-- probe: the slot is the publisher's where S was FREE, else the next one is due (own)
+abbrev pub Probed : {T : Type 0} → Publishing T → ℕ → ℕ → Sat T → Type 0
+Probed p slot found me = MatchBool (found == free_word) (IsTaken p slot me) (me ≡ (Publishes (record p { how = Probing (beyond slot) }), []))
+
+-- prepare: the version lies in the publisher's slot (own)
+abbrev pub Prepared : {T : Type 0} → Publishing T → ℕ → T → Sat T → Type 0
+Prepared p slot value me = me ≡ (Publishes (record p { how = Swapping slot; next = Some value }), [])
+
+-- swap: the value is published, and the publisher is to settle the version that was in W (own)
+abbrev pub Swapped : {T : Type 0} → Publishing T → T → ℕ → Sat T → Type 0
+Swapped p value found me =
+    (number : ℕ) × (length p.published ≡ number + 1) × (slot_of found < slots)
+    × (me ≡ (Publishes (record p { published = p.published ++ value ∷ []; how = Settling number (slot_of found) (given_of found); next = None; fixed = None }), []))
+
+-- settle: the publisher has a share of the version before (own)
+pub record IsSettled {T : Type 0} (p : Publishing T) (number slot : ℕ) (me : Sat T) : Type 0 where
+  pub mark : Mark T
+  pub me_is : me ≡ (Publishes (record p { how = Probing 0; share = Some mark }), [])
+  pub number_is : mark.number ≡ number
+  pub slot_is : mark.slot ≡ slot
+  pub within : slot < slots
+  pub value : slice_get p.published number ≡ Some mark.value
+  pub name_is : mark.name ≡ p.name
+
+-- newest: the publisher has a share of its own last version (own)
+abbrev pub Newest : {T : Type 0} → (T → Type 0) → (T → T → Type 0) → Publishing T → ℕ → Sat T → Type 0
+Newest {T} begins follows p found me =
+    (mark : Mark T)
+    × (me ≡ (Publishes (record p { share = Some mark; left = p.left - 1; fixed = None }), []))
+    × IsLastMark begins follows p.published p.name found mark
+
+-- a look at W while no reader is about (own)
+abbrev pub Looked : {T : Type 0} → Publishing T → ℕ → Sat T → Type 0
+Looked p found me = me ≡ (Publishes (record p { fixed = Some found }), [])
+
+-- the first look at W: the first seat has slot 0's place, with the first version in it, whole (own)
+pub record IsOpened {T : Type 0} (value : T) (me : Sat T) : Type 0 where
+  pub spot : RoomSpot T
+  pub room : Room T
+  pub me_is : me ≡ (Began spot, (0, room) ∷ [])
+  pub lies : room.at ≡ spot.at
+  pub version : room.value ≡ Some (first_version value)
+  pub whole : room.stake ≡ []
+
+-- the publisher of a new cell, with all grants (own)
+abbrev pub opener : {T : Type 0} → T → ℕ → RoomSpot T → Publishing T
+opener value name spot =
+    record { published = value ∷ []; how = Probing 0; next = None; share = None; left = grants; readers = 0; fixed = None; name = name; spot = spot }
+
+-- the second look at W: the first value is published (own)
+abbrev pub Offered : {T : Type 0} → T → ℕ → RoomSpot T → Sat T → Type 0
+Offered value name spot me = me ≡ (Publishes (opener value name spot), [])
+
+-- what a claim tells: an owner reads the version of its share (own)
+abbrev pub IsClaimed : {T : Type 0} → View T → Stake (View T) → Option (Version T) → Type 0
+IsClaimed (Has mark) stake value = (stake ≡ stake_of mark) × (value ≡ Some (version_of mark))
+IsClaimed (Begin first) stake value = ⊥
+IsClaimed (Began spot) stake value = ⊥
+IsClaimed (Publishes p) stake value = ⊥
+IsClaimed (Reads r) stake value = ⊥
+IsClaimed (Buries slot name) stake value = ⊥
+IsClaimed (Frees slot spot) stake value = ⊥
+IsClaimed Gone stake value = ⊥

@@ -1,0 +1,144 @@
+//! The steps by name: what each tells, and how seats are cut and made one.
+ghost use Rattle.counted_handles.specs.Plays.{LoadTells, NewestTells, ReleaseTells, BuryTells, FreeTells, ProbeTells, PrepareTells, SwapTells, SettleTells, LookTells, OpenTells, OfferTells};
+ghost use Rattle.counted_handles.specs.Tells.{IsClaimed};
+ghost use Rattle.counted_handles.specs.Cuts.{kept_share, given_share, kept_back, handed_back, kept_dealt, dealt, guested};
+ghost use Rattle.counted_handles.specs.declared.view.View.TheVariants.{Gone};
+
+use crate::names::Names;
+use crate::rule::Room;
+use crate::view::View;
+use atomic_table::{Join, Play, Split};
+use cell_core::Version;
+use raw_slots::Tells;
+use std::marker::PhantomData;
+
+/// A reader's load of W.
+pub struct Loads<C> {
+    names: PhantomData<C>,
+}
+
+impl<T, C: Names<T>> Play<Room<T>, View<T>> for Loads<C> {
+    ghost then = { λ _ me found new. LoadTells C.begins C.follows me.0 found new };
+}
+
+/// The publisher's load of W.
+pub struct Newests<C> {
+    names: PhantomData<C>,
+}
+
+impl<T, C: Names<T>> Play<Room<T>, View<T>> for Newests<C> {
+    ghost then = { λ _ me found new. NewestTells C.begins C.follows me.0 found new };
+}
+
+/// A release.
+pub struct Releases;
+
+impl<T> Play<Room<T>, View<T>> for Releases {
+    ghost then = { λ _ me found new. ReleaseTells me.0 found new };
+}
+
+/// A bury.
+pub struct Buries;
+
+impl<T> Play<Room<T>, View<T>> for Buries {
+    ghost then = { λ _ me found new. BuryTells me.0 found new };
+}
+
+/// A free.
+pub struct Frees;
+
+impl<T> Play<Room<T>, View<T>> for Frees {
+    ghost then = { λ _ me _ new. FreeTells me.0 new };
+}
+
+/// A probe.
+pub struct Probes;
+
+impl<T> Play<Room<T>, View<T>> for Probes {
+    ghost then = { λ _ me found new. ProbeTells me.0 found new };
+}
+
+/// A prepare.
+pub struct Prepares;
+
+impl<T> Play<Room<T>, View<T>> for Prepares {
+    ghost then = { λ _ me _ new. PrepareTells me new };
+}
+
+/// A swap.
+pub struct Swaps;
+
+impl<T> Play<Room<T>, View<T>> for Swaps {
+    ghost then = { λ _ me found new. SwapTells me.0 found new };
+}
+
+/// A settle.
+pub struct Settles;
+
+impl<T> Play<Room<T>, View<T>> for Settles {
+    ghost then = { λ _ me _ new. SettleTells me.0 new };
+}
+
+/// The publisher's look at W.
+pub struct Looks;
+
+impl<T> Play<Room<T>, View<T>> for Looks {
+    ghost then = { λ _ me found new. LookTells me.0 found new };
+}
+
+/// The first look at W, which takes the first slot's place.
+pub struct Opens;
+
+impl<T> Play<Room<T>, View<T>> for Opens {
+    ghost then = { λ _ me _ new. OpenTells me.0 new };
+}
+
+/// The second look at W, which gives it back.
+pub struct Offers;
+
+impl<T> Play<Room<T>, View<T>> for Offers {
+    ghost then = { λ _ me _ new. OfferTells me new };
+}
+
+/// A share goes to a seat of its own.
+pub struct Shares;
+
+impl<T> Split<View<T>> for Shares {
+    ghost left = { kept_share };
+
+    ghost right = { given_share };
+}
+
+/// The publisher gives all its grants to a reader.
+pub struct Rests;
+
+impl<T> Split<View<T>> for Rests {
+    ghost left = { kept_back };
+
+    ghost right = { handed_back };
+}
+
+/// The publisher gives a reader of a new cell its grants.
+pub struct Deals;
+
+impl<T> Split<View<T>> for Deals {
+    ghost left = { kept_dealt };
+
+    ghost right = { dealt };
+}
+
+/// The publisher takes a reader in.
+pub struct Guests;
+
+impl<T> Join<View<T>> for Guests {
+    ghost both = { guested };
+
+    ghost spent = { Gone };
+}
+
+/// A claim.
+pub struct Claims;
+
+impl<T> Tells<Option<Version<T>>, View<T>> for Claims {
+    ghost tells = { IsClaimed };
+}

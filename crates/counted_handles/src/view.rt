@@ -1,0 +1,74 @@
+//! What a seat at the table knows. No value of these types is made.
+use cell_core::{Publisher, Version};
+use raw_slots::Spot;
+use std::collections::LinkedList;
+
+/// A share of a version: who has it may read the version.
+pub struct Mark<T> {
+    /// The version's number.
+    pub number: u64,
+    /// Its slot.
+    pub slot: usize,
+    /// Its value.
+    pub value: T,
+    /// The name of the views.
+    pub name: u64,
+    /// The lifetime for which the slot's place is shared.
+    pub life: u64,
+    /// The tally of the slot's place.
+    pub tally: u64,
+}
+
+/// What a reader knows.
+pub struct Reading<T> {
+    /// The values that it has seen published, the first one first.
+    pub seen: LinkedList<T>,
+    /// A share that isn't split off yet.
+    pub share: Option<Mark<T>>,
+    /// So many grants are left.
+    pub left: u64,
+    /// The name of the views.
+    pub name: u64,
+}
+
+/// What the publisher knows.
+pub struct Publishing<T> {
+    /// The values that are published, the first one first.
+    pub published: LinkedList<T>,
+    /// How far its publication has come.
+    pub how: Publisher,
+    /// The value that its publication is of, from prepare to swap.
+    pub next: Option<T>,
+    /// A share that isn't split off yet.
+    pub share: Option<Mark<T>>,
+    /// So many grants are left.
+    pub left: u64,
+    /// So many readers are about.
+    pub readers: u64,
+    /// The word W, where it was seen and nobody can change it.
+    pub fixed: Option<u64>,
+    /// The name of the views.
+    pub name: u64,
+    /// Where the place lies that it has taken.
+    pub spot: Spot<Option<Version<T>>>,
+}
+
+/// What a seat knows.
+pub enum View<T> {
+    /// The first seat, before anything is published: the first value.
+    Begin(T),
+    /// The first seat, which has taken the first slot's place: where it lies.
+    Began(Spot<Option<Version<T>>>),
+    /// The publisher, which has the first seat.
+    Publishes(Publishing<T>),
+    /// A reader.
+    Reads(Reading<T>),
+    /// An owner.
+    Has(Mark<T>),
+    /// An owner that has given its share back, and S was then 0: a slot, and the name of the views.
+    Buries(usize, u64),
+    /// An owner whose bury has won: a slot, and where its place lies.
+    Frees(usize, Spot<Option<Version<T>>>),
+    /// A seat that is spent.
+    Gone,
+}

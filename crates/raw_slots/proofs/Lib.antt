@@ -1,0 +1,10 @@
+pub mod BareFields
+pub mod Beside
+pub mod Chained
+pub mod Claiming
+pub mod Fields
+pub mod Grants
+pub mod Holding
+pub mod Lying
+pub mod RowSteps
+pub mod Sent

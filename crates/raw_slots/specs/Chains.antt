@@ -1,0 +1,24 @@
+-- Places in the order in which they lie in one row.
+use Rattle.std.specs.Prelude.{◌≡◌, ℕ, zero, suc, List, length, slice_get, Some}
+use denote.RattleType.{RattleType}
+use denote.RawPtr.{Ptr}
+use Rattle.raw_slots.specs.Rows.{next_to}
+use mathlib.Core.List.{[]}
+use Rattle.raw_slots.specs.declared.place.Place.{Place}
+use Rattle.raw_slots.specs.declared.place.Spot.{Spot}
+
+-- the place of the number k of a row from p on
+abbrev pub after : RattleType → Ptr → ℕ → Ptr
+after R p zero = p
+after R p (suc n) = next_to R (after R p n)
+
+module _ (R : RattleType) {V : Type 0} where
+  -- whole places side by side from p on
+  pub record IsChain (p : Ptr) (places : List (Place R.Denot V)) : Type 0 where
+    pub each : (k : ℕ) (x : Place R.Denot V) → slice_get places k ≡ Some x → (x.at ≡ after R p k) × (x.stake ≡ [])
+
+  -- the row from p on, with these values, is cut into places, and spots say where each lies
+  pub record IsCut (p : Ptr) (values : List R.Denot) (places : List (Place R.Denot V)) (spots : List (Spot R.Denot)) : Type 0 where
+    pub size : length spots ≡ length places
+    pub each : (k : ℕ) (x : Place R.Denot V) → slice_get places k ≡ Some x → (x.at ≡ after R p k) × (x.stake ≡ []) × (slice_get values k ≡ Some x.value)
+    pub where_each : (k : ℕ) (s : Spot R.Denot) → slice_get spots k ≡ Some s → s.at ≡ after R p k
