@@ -284,7 +284,7 @@ prerequisites() {
     failing YXDOMAIN "prereq nxdomain web.$d"
     # the first that fails decides
     failing YXRRSET "prereq yxdomain web.$d"$'\n'"prereq nxrrset web.$d A"$'\n'"prereq yxdomain nope.$d"
-    check "$tool $over, the serial behind them" 7 "$(serial "$port")"
+    check "$tool $over, the serial after them" 7 "$(serial "$port")"
 }
 
 # Each effect (RFC 2136, 2.5 and 3.4.2).
@@ -327,7 +327,7 @@ effects() {
     change NOTZONE "update add three.$d 3600 A 192.0.2.3"$'\n'"update add host.example.net. 3600 A 192.0.2.3"
     holds "three.$d" A NXDOMAIN
     # each update above made one version, or none where it changed nothing; a greater serial is taken, a lesser isn't
-    check "$tool $over, the serial behind them" 18 "$(serial "$port")"
+    check "$tool $over, the serial after them" 18 "$(serial "$port")"
     change NOERROR "update add $d 3600 SOA ns1.$d admin.$d 100 2 2 1209600 300"
     check "$tool $over, then the serial" 100 "$(serial "$port")"
     change NOERROR "update add $d 3600 SOA ns1.$d admin.$d 50 2 2 1209600 300"
@@ -528,7 +528,7 @@ secondaries() {
     want=$({ zone_with <<<"$(soa_at 2)" | grep -v '^big\.'; rr new A 192.0.2.77; } | LC_ALL=C sort)
     for name in $names; do
         reaches "${ports[$name]}" 2
-        check "$name, behind a change" "$want" "$(held "${ports[$name]}")"
+        check "$name, after a change" "$want" "$(held "${ports[$name]}")"
         check "$name, how it came" incremental "$(taken "$name")"
     done
     for i in 1 2 3; do change NOERROR "update add n$i.$d 3600 TXT \"number $i\""; done
@@ -537,7 +537,7 @@ secondaries() {
         for i in 1 2 3; do rr n$i TXT "\"number $i\""; done; } | LC_ALL=C sort)
     for name in $names; do
         reaches "${ports[$name]}" 6
-        check "$name, behind four more" "$want" "$(held "${ports[$name]}")"
+        check "$name, after four more" "$want" "$(held "${ports[$name]}")"
         check "$name, how they came" incremental "$(taken "$name")"
     done
     check "the server itself" "$want" "$(held "$port")"

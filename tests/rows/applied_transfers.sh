@@ -73,6 +73,10 @@ X1 Broken|s2 ns a2
 X1 Broken|s2 ns s3
 X1 Broken|s2 ns s2 a1
 X1 Broken|s2 ns s2/garbled
+X1 Broken|garbled/s2 ns s2
+X1 Broken|s2/garbled/ns s2
+X1 Broken|s2 ns/garbled/s2
+X1 Broken|outer ns garbled
 X1 Broken|s2 s2
 X1 Broken|s2 s1 a1 s2 a2
 X1 Broken|s2 s1 a1 s2 a2 s2 a1
@@ -85,6 +89,7 @@ X2 WrongBase|s2 s1 s2 a1 s2
 X2 WrongBase|s2 s1 a60 s2 s2
 X3 NotInZone|outer
 X3 NotInZone|outer ns
+X3 NotInZone|outer ns/garbled
 X3 NotInZone|s2 ns out s2
 X3 NotInZone|s2 a1 s2
 X3 NotInZone|s2 ns a1 alias s2
@@ -108,6 +113,67 @@ done <<'text'
 2||s2 s1 a1/s2/s2
 3||s3 s1 a1 s2 a2 s2 a2 s3 s3
 text
+
+# put_addresses FROM COUNT: puts so many addresses at h, from 192.0.2.0 and so many on, and counts them
+put_addresses() {
+    local at hex
+    for ((at = $1; at < $1 + $2; at++)); do
+        digits $((0x200 + at))
+        put_raw h A IN 3600 "c000$hex"
+    done
+    count=$((count + $2))
+}
+
+# put_text COUNT [HEX]: puts a text at h of so many strings of 255 letters, and these octets, and counts it
+printf -v string '%0510d' 0
+string=ff${string//0/6}
+put_text() {
+    local text
+    printf -v text "%.0s$string" $(seq "$1")
+    put_raw h TXT IN 3600 "$text${2-}"
+    count=$((count + 1))
+}
+
+# one_message WORD.. -- COMMAND..: makes $input the zone that is held, and one message of the records of the words, of those that the command
+# puts behind them, and of s2
+one_message() {
+    local count=0
+    begin 1234 8400 0000 0000 0000 0000
+    while [ "$1" != -- ]; do
+        put_known "$1"
+        count=$((count + 1))
+        shift
+    done
+    "${@:2}"
+    put_known s2
+    count_at 6 $((count + 1))
+    input=$zone$'\n%\n'$message$'\n'
+}
+
+# 256 records of a set, in a message of 259 records or of 260, are a zone, and 257 none, whether the zone is sent in whole or 255 or 256 of them
+# come to the one that is held (own)
+text=$'example. 3600 IN SOA . . 2 2 3 4 5\nexample. 3600 IN NS h.example.'
+addresses=
+for number in {0..255}; do addresses+=$'\n'"h.example. 3600 IN A 192.0.2.$number"; done
+one_message s2 ns -- put_addresses 0 256
+prints "$text$addresses" apply --origin example. -
+one_message s2 ns -- put_addresses 0 257
+refuses 1 'X3 NotInZone' apply --origin example. -
+addresses=${addresses/$'\n'h.example. 3600 IN A 192.0.2.0$'\n'/$'\n'}$'\n'"h.example. 3600 IN A 192.0.3.0"
+one_message s2 s1 s2 -- put_addresses 2 255
+prints "$text$addresses" apply --origin example. -
+one_message s2 s1 s2 -- put_addresses 2 256
+refuses 1 'X3 NotInZone' apply --origin example. -
+
+# data of 4,096 octets, sixteen strings of 255 with their lengths, is a zone's, and one octet more, of an empty string, none's (own)
+one_message s2 ns -- put_text 16
+prints "$text"$'\n''h.example. 3600 IN TXT'"$(repeat 16 " \"$(repeat 255 f)\"")" apply --origin example. -
+one_message s2 ns -- put_text 16 00
+refuses 1 'X3 NotInZone' apply --origin example. -
+one_message s2 s1 s2 -- put_text 16
+prints "$text"$'\n''h.example. 3600 IN A 192.0.2.1'$'\n''h.example. 3600 IN TXT'"$(repeat 16 " \"$(repeat 255 f)\"")" apply --origin example. -
+one_message s2 s1 s2 -- put_text 16 00
+refuses 1 'X3 NotInZone' apply --origin example. -
 
 # a message whose question is `Example.test. IN AXFR`, and whose records point to its name (RFC 1035, 4.1.4), which the zone has in lower
 # case

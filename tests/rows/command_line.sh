@@ -21,6 +21,7 @@ row 2 "'--other'" answer --other -
 row 2 other other
 row 2 Usage
 row 0 Usage --help
+row 0 'dnsd 0.1.0' --version
 row 2 ZONE serve --listen 127.0.0.1:0
 row 2 --listen serve "$zone"
 

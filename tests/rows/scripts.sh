@@ -7,6 +7,8 @@ www_reply=12348500000100020000000003777777076578616d706c6504746573740000010001c0
 # an update that adds an address at new.example.test., but for the last of the address's octets, and its reply where it is taken
 add=432128000001000000010000076578616d706c6504746573740000060001036e6577c00c0001000100000e100004c00002
 taken=4321a8000000000000000000
+# the question for what changed since serial 1 (RFC 1995, 3)
+since_1=123400000001000000010000076578616d706c6504746573740000fb0001c00c0006000100000000001600000000000100000000000000000000000000000000
 
 # no step
 input=$zone_text$'%\n'
@@ -93,6 +95,16 @@ load z => z 0
 end
 input=$zone_text$'%\n'$begun$'\nload h1\nnext x1\nload z\nbegin x1 load y\nload v\n'
 says 1 'V2 Limit' steps -
+# and so does each line that is a 65th call: one that takes steps, one that takes none, and one that is put under way
+for line in 'load v' 'drop a' "ask a $www" 'ask a 00' "ixfr a $since_1" "update ${add}4d" 'begin y load v' 'begin y drop a' "begin y ask a $www" "begin y ixfr a $since_1" "begin y update ${add}4d"; do
+    input=$zone_text$'%\nload a\n'$begun$'\n'$line$'\n'
+    says 1 'V2 Limit' steps -
+done
+# one that isn't enabled is none
+for line in 'load a' 'drop v' "ask v $www" "ixfr v $since_1" "ixfr a $www" 'update 00' 'begin x1 drop a' 'begin y load h2' 'next y'; do
+    input=$zone_text$'%\nload a\n'$begun$'\n'$line$'\n'
+    prints $'a 0\n'"$(repeat 64 $'ok\n')"$'\nnot enabled' steps -
+done
 
 # seventy names are in use at once
 plays <<end

@@ -67,6 +67,10 @@ input=$zone_text$texts$last$'\n%\n'$whole$'\n'
 spans $((2 * 16384 + 1)) '123484000001000700000000*012c' answer --tcp -
 input=$zone_text$texts${last}d$'\n%\n'$whole$'\n'
 spans $((2 * 16349 + 1 + 2 * 70 + 1)) '123484000001000600000000* 123484000000000100000000*012c' answer --tcp -
+# and so they are to a script's question by who holds serial 0, which no version has (RFC 1995, 4)
+since_0=123400000001000000010000076578616d706c6504746573740000fb0001c00c0006000100000000001600000000000000000000000000000000000000000000
+input=$zone_text$texts${last}d$'\n%\nload b\nixfr b '$since_0$'\n'
+spans $((4 + 2 * 16349 + 1 + 2 * 70 + 1)) $'b 0\n123484000001000600000000* 123484000000000100000000*012c' steps -
 
 # of ten updates the IXFR from nine versions back gets what changed, and from ten back the zone in whole: the newest nine are kept (RFC 1995, 5;
 # our own). The questions are those of one who holds serial 1 or 2 (RFC 1995, 3).
@@ -80,6 +84,9 @@ input=$zone_text$'%\n'$ten$since_2$'\n'
 spans '*' "$(repeat 10 $taken$'\n')"$'\n123484000001001d00000000*' answer --tcp -
 input=$zone_text$'%\n'$ten$since_1$'\n'
 spans '*' "$(repeat 10 $taken$'\n')"$'\n123484000001000d00000000*' answer --tcp -
+# and in a script that keeps eight versions beside the last: 908 octets of what changed, and 290 of the zone in whole
+input=$zone_text$'%\n'${ten//$add/update $add}$'load b\nixfr b '$since_2$'\nixfr b '$since_1$'\n'
+spans $((10 * 25 + 5 + 2 * 908 + 1 + 2 * 290 + 1)) "$(repeat 10 $taken$'\n')"$'\nb 10\n123484000001001d00000000*\n123484000001000d00000000*' steps --keep 8 -
 
 # a script's transfers. Behind one update the list is SOA 2, SOA 1, SOA 2, the address, SOA 2; it has 204 octets. Over UDP the question isn't
 # enabled.

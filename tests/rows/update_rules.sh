@@ -51,6 +51,15 @@ a set behind another rule|6|@ SOA IN|web ANY NONE 0; web A IN 0 c0000201|
 none|0|@ SOA IN||
 text
 
+# the same of more than eight records, which are put in order before they are compared (RFC 2136, 3.2.3; own)
+rules <<'text'
+nine records of two sets|0|@ SOA IN|web A IN 0 c0000202; a.b A IN 0 c0000201; WEB A IN 0 c0000201; A.b A IN 0 c0000201; web A IN 0 c0000202; a.B A IN 0 c0000201; Web A IN 0 c0000202; wEb A IN 0 c0000201; a.b A IN 0 c0000201|
+nine, a set in part|8|@ SOA IN|web A IN 0 c0000202; a.b A IN 0 c0000201; WEB A IN 0 c0000202; A.b A IN 0 c0000201; web A IN 0 c0000202; a.B A IN 0 c0000201; Web A IN 0 c0000202; wEb A IN 0 c0000202; a.b A IN 0 c0000201|
+nine, other data|8|@ SOA IN|web A IN 0 c0000202; a.b A IN 0 c0000201; WEB A IN 0 c0000201; A.b A IN 0 c0000201; web A IN 0 c0000203; a.B A IN 0 c0000201; Web A IN 0 c0000202; wEb A IN 0 c0000201; a.b A IN 0 c0000201|
+nine, another name|8|@ SOA IN|web A IN 0 c0000202; a.b A IN 0 c0000201; WEB A IN 0 c0000201; A.b A IN 0 c0000201; b A IN 0 c0000201; a.B A IN 0 c0000201; Web A IN 0 c0000202; wEb A IN 0 c0000201; a.b A IN 0 c0000201|
+nine, another type|8|@ SOA IN|web A IN 0 c0000202; a.b A IN 0 c0000201; WEB A IN 0 c0000201; A.b A IN 0 c0000201; web TXT IN 0 0161; a.B A IN 0 c0000201; Web A IN 0 c0000202; wEb A IN 0 c0000201; a.b A IN 0 c0000201|
+text
+
 # which zone an update is of (RFC 2136, 2.3 and 3.1)
 rules <<'text'
 the zone|0|@ SOA IN||

@@ -15,6 +15,7 @@ pub mod BeginShows
 pub mod RunShows
 pub mod TableLemmas
 pub mod UserLemmas
+pub mod RestLemmas
 pub mod GoesOn
 pub mod MadeLemmas
 pub mod OwnerLemmas

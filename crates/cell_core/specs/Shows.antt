@@ -164,7 +164,9 @@ abbrev pub WordRuns : {T : Type 0} → State T → List (WordStep T × WordEvent
 WordRuns before [] after = after ≡ before
 WordRuns {T} before ((step, event) ∷ more) after = (between : State T) × Makes before step event between × WordRuns between more after
 
--- no call is under way, and nobody owns anything but this number (own)
-pub record AtRest {T : Type 0} (state : State T) (number : ℕ) : Type 0 where
+-- no call is under way, and of the numbers before the last those from one on are owned, and no others (own)
+pub record AtRest {T : Type 0} (state : State T) (from last : ℕ) : Type 0 where
   pub publisher : state.publisher ≡ Probing 0
-  pub owners : (owner : ℕ) (how : Owner) → slice_get state.owners owner ≡ Some how → (how ≡ Spent) ⊎ ((place : ℕ) × (how ≡ Holding number place))
+  pub within : from ≤ last
+  pub owners : (owner : ℕ) (how : Owner) → slice_get state.owners owner ≡ Some how → (how ≡ Spent) ⊎ ((number : ℕ) × (place : ℕ) × (from ≤ number) × (how ≡ Holding number place))
+  pub owned : (number : ℕ) → from ≤ number → number < last → (owner : ℕ) × (place : ℕ) × (slice_get state.owners owner ≡ Some (Holding number place))

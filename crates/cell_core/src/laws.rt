@@ -49,7 +49,7 @@ pub fn up_gives_that_number<T>()
         → (given ≡ Some k) ⊎ ((given ≡ None) × (cell.buried k ≡ true)) }
 {}
 
-/// A handle that a load gave owns the number that was last at that load, whatever is done behind it, and its value is the
+/// A handle that a load gave owns the number that was last at that load, whatever is done after it, and its value is the
 /// one that was last then.
 pub fn load_gives_the_last<T>()
     ensures { (before after : Cell T) (run : List (CellStep T × Option ℕ)) (place : ℕ) → Runs before run after → IsLoad run place

@@ -52,14 +52,14 @@ pub fn burials_are_final<T>()
         → (held after.owners number ≡ 0) × (owned_by after.publisher number ≡ 0) × (number + 1 < length (published_by first run)) }
 {}
 
-/// When no call is under way and nobody owns anything but the last number, each number before it was buried, and 63 slots are
-/// free.
+/// When no call is under way and, of the numbers before the last, those from one on are owned, exactly those before it were buried, and
+/// all slots are free but one for each of the others.
 pub fn rest_was_buried<T>()
-    ensures buried { (first : T) (after : State T) (run : List (WordStep T × WordEvent)) (last : ℕ) → WordRuns (begun first) run after
-        → length (published_by first run) ≡ last + 1 → AtRest after last → (number : ℕ) → number < last → IsBuriedBy run number }
-    ensures free { (first : T) (after : State T) (run : List (WordStep T × WordEvent)) (last : ℕ) → WordRuns (begun first) run after
-        → length (published_by first run) ≡ last + 1 → AtRest after last
-        → count_by (λ there. there.shares == free_word) after.table ≡ 63 }
+    ensures buried { (first : T) (after : State T) (run : List (WordStep T × WordEvent)) (from last : ℕ) → WordRuns (begun first) run after
+        → length (published_by first run) ≡ last + 1 → AtRest after from last → (number : ℕ) → IsBuriedBy run number ↔ (number < from) }
+    ensures free { (first : T) (after : State T) (run : List (WordStep T × WordEvent)) (from last : ℕ) → WordRuns (begun first) run after
+        → length (published_by first run) ≡ last + 1 → AtRest after from last
+        → count_by (λ there. there.shares == free_word) after.table + (last - from) ≡ 63 }
 {}
 
 /// A run that goes on publishes more behind what was published, and what was buried stays so.

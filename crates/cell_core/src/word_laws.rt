@@ -1,5 +1,5 @@
 //! Laws of the steps on words, each the contract of a function that does nothing.
-ghost use Rattle.std.specs.Prelude.{◌≡◌, ◌≢◌, ℕ, ◌+◌, ◌-◌, ◌<◌, ◌≤◌, ◌==◌, ◌^◌, true, List, ◌++◌, length, take, count_by, Option, Some, None};
+ghost use Rattle.std.specs.Prelude.{◌≡◌, ◌≢◌, ◌↔◌, ℕ, ◌+◌, ◌-◌, ◌<◌, ◌≤◌, ◌==◌, ◌^◌, true, List, ◌++◌, length, take, count_by, Option, Some, None};
 ghost use Rattle.std.specs.List.{slice_get};
 ghost use Rattle.cell_core.specs.Cell.{Cell, CellStep, IsLast, Runs};
 ghost use Rattle.cell_core.specs.Words.{State, found_by, found_last, grants, free_word, slot_of, number_in, version_in, word_of, given_of, fetch_add, fetch_sub, bulk, dead_word, begun, first_slot};
@@ -56,12 +56,13 @@ pub fn buried_once<T>()
         → one ≡ two }
 {}
 
-/// When no call is under way and nobody owns anything but the last number, all others are buried and 63 slots are free.
+/// When no call is under way and, of the numbers before the last, those from one on are owned, exactly those before it are buried, and
+/// all slots are free but one for each of the others.
 pub fn rest_is_buried_and_free<T>()
-    ensures buried { (state : State T) (cell : Cell T) (last : ℕ) → Shows state cell → IsLast cell last → AtRest state last
-        → (j : ℕ) → j < last → cell.buried j ≡ true }
-    ensures free { (state : State T) (cell : Cell T) (last : ℕ) → Shows state cell → IsLast cell last → AtRest state last
-        → count_by (λ there. there.shares == free_word) state.table ≡ 63 }
+    ensures buried { (state : State T) (cell : Cell T) (from last : ℕ) → Shows state cell → IsLast cell last → AtRest state from last
+        → (j : ℕ) → (cell.buried j ≡ true) ↔ (j < from) }
+    ensures free { (state : State T) (cell : Cell T) (from last : ℕ) → Shows state cell → IsLast cell last → AtRest state from last
+        → count_by (λ there. there.shares == free_word) state.table + (last - from) ≡ 63 }
 {}
 
 /// No call under way is stuck: whatever cell the words show, the next step of each owner and of the publisher can be made; a
@@ -84,7 +85,7 @@ pub fn calls_go_on<T>()
         → state.publisher ≡ Settling number place given → HasWordStep {T = T} state Settle }
 {}
 
-/// A load of a run gives the number that was in W then, and its owner has no other number, whatever is done behind it.
+/// A load of a run gives the number that was in W then, and its owner has no other number, whatever is done after it.
 pub fn load_gives_what_was_in_w<T>()
     ensures was_last { (before after : State T) (run : List (WordStep T × WordEvent)) (place owner number : ℕ) → WordRuns before run after
         → slice_get run place ≡ Some (Load, Loaded owner number)

@@ -2,7 +2,9 @@
 use dns_name::Name;
 use dns_rdata::{RData, RRset, RType, Ttl};
 use std::alloc::Global;
-use world_run::{Answer, Call, Handle, Request, StepName, WorldFault, WorldReply, WorldStep, run};
+use world_run::{
+    Answer, Call, Handle, Options, Request, StepName, WorldFault, WorldReply, WorldStep, run,
+};
 use zone_tree::Zone;
 
 /// The data of an SOA: the root twice, and five numbers of which the last, MINIMUM, is 300.
@@ -194,7 +196,7 @@ fn played(
     lines: &[WorldStep<'_>],
     rows: &str,
 ) -> Option<Outcome> {
-    match run(alloc, zone, keep, 0, lines) {
+    match run(alloc, zone, Options { keep, window: 0 }, lines) {
         Ok(replies) if are_replies(&replies, rows) => Some(Outcome::AsTold),
         Ok(_) => Some(Outcome::Otherwise),
         Err(WorldFault::Limit) => Some(Outcome::ToLimit),

@@ -67,7 +67,7 @@ fn keeps<R: Wait>(
     }
 }
 
-// An owner keeps its version whatever is published behind it, and a load after a publish gives the new one.
+// An owner keeps its version whatever is published after it, and a load after a publish gives the new one.
 #[test]
 fn loads_and_publishes(rt: HostRuntime) {
     let Parts {

@@ -98,7 +98,7 @@ fn end_anew(alloc: Global, zone: &Zone, transfer: &[&[&[u8]]]) -> Option<End> {
     }
 }
 
-// With any one growth refused, the zone that is held stays as it was, and the same messages give the zone behind them, or their fault, once
+// With any one growth refused, the zone that is held stays as it was, and the same messages give the zone after them, or their fault, once
 // they are taken anew.
 #[test]
 fn refused_growth(rt: HostRuntime) {

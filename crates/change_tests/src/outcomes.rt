@@ -22,7 +22,7 @@ fn first_version(alloc: Global) -> Option<Version> {
     Some(Version::first(zone_anew(alloc, &ZONE)?))
 }
 
-/// What becomes of an update of a version behind nine others at most.
+/// What becomes of an update of a version after nine others at most.
 fn judged(alloc: Global, version: &Version, asked: &Update, may: bool) -> Option<Outcome> {
     if version.number() > 9 {
         return None;

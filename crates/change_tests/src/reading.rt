@@ -11,9 +11,9 @@ const UPDATE: &[u8; 81] =
       \xc0\x0c\x00\x10\x00\xff\x00\x00\x00\x00\x00\x00";
 
 /// The update that octets are read as, read once more where memory is refused.
-fn update_anew(alloc: Global, bytes: &[u8]) -> Option<Update> {
-    let parsed = match parse(alloc, bytes) {
-        Parsed::NoMemory(head) if head.id == 0x1234 => parse(alloc, bytes),
+fn update_anew(alloc: Global, octets: &[u8]) -> Option<Update> {
+    let parsed = match parse(alloc, octets) {
+        Parsed::NoMemory(head) if head.id == 0x1234 => parse(alloc, octets),
         parsed => parsed,
     };
     match parsed {

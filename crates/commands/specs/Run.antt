@@ -11,13 +11,13 @@ use Rattle.commands.specs.declared.command.Command.{Command}
 use Rattle.commands.specs.declared.command.Command.TheVariants.{Answer, Check, Apply, Steps}
 use Rattle.commands.specs.declared.fault.Fault.{Fault}
 use Rattle.commands.specs.declared.fault.Fault.TheVariants.{Zone, Script, World, Transfer, Device}
-use Rattle.script_text.specs.declared.fault.StepsFault.{StepsFault}
-use Rattle.script_text.specs.declared.fault.StepsFault.TheVariants as script
+use Rattle.command_steps.specs.declared.fault.StepsFault.{StepsFault}
+use Rattle.command_steps.specs.declared.fault.StepsFault.TheVariants as script
 use Rattle.commands.specs.Apply.{taken, taken_text, TellsTransfer}
 use Rattle.line_io.specs.Input.{zone_text_of, behind_zone_text}
-use Rattle.answer_lines.specs.Answers.{output_of}
+use Rattle.command_answer.specs.Answers.{output_of}
 use Rattle.line_io.specs.Lines.{Begins}
-use Rattle.script_text.specs.Script.{script_of, script_output}
+use Rattle.command_steps.specs.Script.{script_of, script_output}
 use Rattle.commands.specs.Told.{IsTold}
 
 -- the status with which the program ends at a fault: 1 where the zone, the script or the transfer is refused, 3 at a device's fault

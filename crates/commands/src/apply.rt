@@ -2,13 +2,14 @@
 ghost use Rattle.std.specs.Prelude.{◌≡◌, map, Ok, OnOk, IfOk, IfErr, IfSome};
 ghost use Rattle.std.specs.Io.KnownBytes.{Appends};
 ghost use Rattle.commands.specs.Apply.{message_on, messages_on, taken, taken_text, IsOfTransfer, TellsTransfer};
-ghost use Rattle.line_io.specs.Lines.{Begins};
+ghost use Rattle.line_io.specs.Lines.{Begins, Writes};
+ghost use Rattle.master_file.specs.WrittenZone.{zone_text};
 ghost use Rattle.commands.specs.Run.{status_of, AtRefusedZone, AtDevice};
 
-use crate::check::run_check;
 use crate::fault::Fault;
 use hex::FromHexError;
-use line_io::{MAX_READS, MAX_REQUEST, endless, without_lf};
+use line_io::{MAX_READS, MAX_REQUEST, endless, without_lf, write_whole};
+use master_file::write_zone;
 use std::alloc::{AllocError, Global};
 use std::io::{self, BufRead, Write};
 use transfer_in::apply;
@@ -18,7 +19,7 @@ use zone_tree::Zone;
 /// behind it (RFC 1995, 4; RFC 5936, 2.2). A line that isn't hexadecimal of at most 65,535 octets counts as a message that
 /// can't be read.
 ///
-/// All messages are read, and the transfer is taken, before anything is written. `Transfer` is the fault of the first record
+/// All messages are read, the transfer is taken, and the text is put together before anything is written. `Transfer` is the fault of the first record
 /// that has one, or want of memory while it is taken; `Device` a device's fault or want of memory beside: then what was written
 /// is a beginning of the text.
 pub fn run_apply<R: BufRead, W: Write>(
@@ -37,11 +38,19 @@ pub fn run_apply<R: BufRead, W: Write>(
         Begins (W.contents writer.old) (W.contents writer.new) (taken_text zone.now input)))) }
 {
     let next = next_zone(alloc, zone, reader)?;
-    run_check(alloc, &next, writer)?;
+    write_text(alloc, &next, writer)?;
     Ok(())
 }
 
-/// The zone behind the transfer that the reader gives.
+/// Writes a zone as text, which is put together first: where memory is wanted for it, nothing is written (RFC 1035, 5.1).
+fn write_text<W: Write>(alloc: Global, zone: &Zone, writer: &mut W) -> io::Result<()>
+    ensures { Writes result (W.contents writer.old) (W.contents writer.new) (zone_text zone.now) }
+{
+    let text = write_zone(alloc, zone)?;
+    write_whole(writer, text.as_bytes())
+}
+
+/// The zone after the transfer that the reader gives.
 fn next_zone<R: BufRead>(alloc: Global, zone: &Zone, reader: &mut R) -> Result<Zone, Fault>
     ensures zone { IfOk result (λ next. IfSome (R.remaining reader.old) (λ input. taken zone.now input ≡ Ok next)) }
     ensures fault { IfErr result (λ fault. IfSome (R.remaining reader.old) (λ input. IsOfTransfer (taken zone.now input) fault)) }

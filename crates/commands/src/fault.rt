@@ -4,8 +4,8 @@ ghost use Rattle.commands.specs.declared.fault.Fault.TheVariants.{Zone, Transfer
 ghost use Rattle.commands.specs.Run.{status_of, fault_of};
 ghost use Rattle.commands.specs.Told.{told};
 
+use command_steps::StepsFault;
 use master_file::FileFault;
-use script_text::StepsFault;
 use std::error::Error;
 use std::{fmt, io};
 use transfer_core::TransferFault;

@@ -1,13 +1,14 @@
 -- What is told of the newest versions is what changed through all that were published.
 use Rattle.std.proofs.Common.{◌≡◌, refl, ℕ, ◌+◌, min, List, [], ◌∷◌, ◌++◌, length, take, drop, Option, None, Some, is_some, unwrap_or, option_map, arith, sym, ap, ◌∙◌, subst, append_assoc, append-nil}
 use Rattle.std.proofs.lemmas.List.{length_push, drop_all, take_all}
+use Rattle.std.specs.Option.{option_and_then}
 use Rattle.dns_rdata.specs.Record.{Record}
 use Rattle.dns_rdata.specs.declared.numbers.Serial.{Serial}
 use Rattle.zone_tree.specs.Zone.{soa_of}
 use Rattle.zone_tree.specs.Version.{Version}
 use Rattle.transfer_core.specs.Lists.{newest as newest_zone}
 use Rattle.transfer_core.specs.Chain.{zones_of, AreBehind, told, told_changes}
-use Rattle.transfer_core.specs.Window.{AreKept, changes_since, kept_since}
+use Rattle.transfer_core.specs.Window.{AreKept, changes_since, kept_since, kept_for}
 use Rattle.transfer_core.proofs.WindowLemmas.{told_kept}
 use Rattle.cell_core.specs.Cell.{EachFollows}
 use Rattle.snapshot_cell.specs.History.{Numbered, IsHistory, IsPublished}
@@ -70,6 +71,14 @@ taken versions = take_all (length versions) versions (omega arith)
 
 dropped : (versions : List Version) → drop (length versions) versions ≡ []
 dropped versions = drop_all (length versions) versions (omega arith)
+
+-- what is found of all versions up to the last
+pub all_found : (soa : List Record) (all : List Version) (upto : ℕ) (held : Option Serial) → upto ≡ length all
+    → option_map (told soa) (kept_for 16 upto all held) ≡ option_map (told soa) (option_and_then (λ serial. kept_since 16 [] serial.0 all) held)
+all_found soa all upto held is =
+    ap (λ (n : ℕ). option_map (told soa) (kept_for 16 n all held)) is
+    ∙ ap (λ (rest : List Version). option_map (told soa) (option_and_then (λ serial. kept_since 16 rest serial.0 (take (length all) all)) held)) (dropped all)
+    ∙ ap (λ (front : List Version). option_map (told soa) (option_and_then (λ serial. kept_since 16 [] serial.0 front) held)) (taken all)
 
 module _ (first : List Record) (held : Held) (p : IsNewest first held) where
   abbrev all : List Version

@@ -1,13 +1,17 @@
 -- What becomes of an update that is taken.
-use Rattle.std.proofs.Common.{◌≡◌, List, Bool, true, false, Option, None, Some}
+use Rattle.std.proofs.Common.{◌≡◌, List, Bool, true, false, Option, None, Some, refl, subst}
 use Rattle.std.specs.Option.{option_or}
 use Rattle.dns_rdata.specs.Record.{Record}
 use Rattle.dns_rdata.specs.declared.numbers.Rcode.{Rcode}
+use Rattle.dns_rdata.specs.declared.numbers.Rcode.TheVariants.{NoError}
 use Rattle.dns_message.specs.declared.update.Update.{Update}
 use Rattle.zone_tree.specs.Version.{Version}
-use Rattle.update_core.specs.declared.outcome.Outcome.TheVariants.{Next}
+use Rattle.update_core.specs.declared.outcome.Outcome.{Outcome}
+use Rattle.update_core.specs.declared.outcome.Outcome.TheVariants.{Refused, Unchanged, Next, NoMemory}
 use Rattle.update_core.specs.Verdict.{verdict, permission, check, prescan}
-use Rattle.update_core.specs.Applied.{IsTold}
+use Rattle.update_core.specs.Applied.{IsTold, code_told, next_of}
+use Rattle.dns_engine.specs.Held.{Held}
+use Rattle.dns_engine.specs.Told.{IsTold as IsToldOf, refused, unchanged, starved}
 use Rattle.dns_engine.specs.Versions.{Makes}
 
 permitted : (front behind : Option Rcode) (may : Bool) → option_or front (option_or (permission may) behind) ≡ None → option_or front (option_or (permission true) behind) ≡ None
@@ -22,3 +26,26 @@ taken_may zone update may h = permitted (check zone update) (prescan zone update
 -- the version that is told of is made by the update
 pub made_of : (version next : Version) (update : Update) (may : Bool) → IsTold version update may (Next next) → Makes update version next
 made_of version next update may told = record { taken = taken_may version.zone update may told.0; zone = told.1; changed = told.2; number = told.3; changes = told.4 }
+
+-- what becomes of an update that makes a version is that version, and its code is NOERROR
+pub next_told : (version next : Version) (update : Update) (may : Bool) (outcome : Outcome) → IsTold version update may outcome → next_of outcome ≡ Some next → IsTold version update may (Next next)
+next_told version next update may (Refused code) told is = cc
+next_told version next update may Unchanged told is = cc
+next_told version next update may (Next own) told is = subst (λ (v : Version). IsTold version update may (Next v)) (some_same own next is) told
+  where
+    some_same : (a b : Version) → Some a ≡ Some b → a ≡ b
+    some_same a b e = cc
+next_told version next update may NoMemory told is = cc
+
+pub next_code : (next : Version) (outcome : Outcome) → next_of outcome ≡ Some next → code_told outcome ≡ NoError
+next_code next (Refused code) is = cc
+next_code next Unchanged is = cc
+next_code next (Next own) is = refl
+next_code next NoMemory is = cc
+
+-- an update that makes no version changes nothing that is held
+pub none_told : (held : Held) (update : Update) (may : Bool) (outcome : Outcome) → IsTold held.last update may outcome → next_of outcome ≡ None → IsToldOf held update may (code_told outcome) held
+none_told held update may (Refused code) told is = refused told refl
+none_told held update may Unchanged told is = unchanged told.0 told.1 refl refl
+none_told held update may (Next own) told is = cc
+none_told held update may NoMemory told is = starved told refl refl

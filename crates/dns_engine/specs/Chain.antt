@@ -7,19 +7,16 @@ use Rattle.zone_tree.specs.Zone.{soa_of}
 use Rattle.zone_tree.specs.Version.{Version}
 use Rattle.transfer_core.specs.Chain.{zones_of, told as told_by}
 use Rattle.transfer_core.specs.Window.{changes_since, kept_since}
+use Rattle.transfer_core.specs.declared.kept.TheConstants.{WINDOW}
 use Rattle.snapshot_cell.specs.History.{IsHistory}
 use Rattle.dns_engine.specs.Versions.{IsFirst, IsNext}
 use Rattle.dns_engine.specs.Held.{Held}
 
--- how many versions the window has (own)
-abbrev pub WINDOW_SIZE : ℕ
-WINDOW_SIZE = 16
-
 -- what changed since the version of a serial that an asker holds, up to the last of published versions, the first one first, where at most
--- so many in front of the last are kept: none where the asker tells no serial, where it isn't in the window, or where a version behind the
+-- so many older than the last are kept: none where the asker tells no serial, where it isn't in the window, or where a version after the
 -- asker's isn't kept (RFC 1995, 4 and 5; own)
 abbrev pub changes_told : ℕ → List Version → Option Serial → Option (List Record)
-changes_told keep versions held = option_and_then (λ serial. changes_since WINDOW_SIZE [] (min (keep + 1) (length versions)) serial.0 (zones_of versions)) held
+changes_told keep versions held = option_and_then (λ serial. changes_since WINDOW [] (min (keep + 1) (length versions)) serial.0 (zones_of versions)) held
 
 -- what is told to an asker of what changed up to a version: it was published, behind others, and this is what changed through them, where so
 -- many are kept
@@ -31,4 +28,4 @@ pub record TellsSince (first : List Record) (keep : ℕ) (version : Version) (he
 -- what changed since the version of a serial, by the versions that are held: the steps of those behind it, where all of them are held
 abbrev pub changes_in : Held → Option Serial → Option (List Record)
 changes_in held serial =
-    option_and_then (λ asked. option_map (told_by (soa_of held.last.zone)) (kept_since WINDOW_SIZE [] asked.0 (held.older ++ held.last ∷ []))) serial
+    option_map (told_by (soa_of held.last.zone)) (option_and_then (λ asked. kept_since WINDOW [] asked.0 (held.older ++ held.last ∷ [])) serial)

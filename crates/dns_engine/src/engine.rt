@@ -7,8 +7,9 @@ ghost use Rattle.dns_engine.specs.Told.{IsTold};
 ghost use Rattle.dns_engine.specs.declared.fault.EngineFault.{EngineFault as Fault};
 
 use crate::fault::{EngineFault, NoEngine};
+use crate::learn::learn_last;
 use crate::newest::Newest;
-use crate::owners::{KEPT, Owners};
+use crate::owners::Owners;
 use crate::versions::{FirstZone, VersionCell, VersionPublisher, VersionReader};
 use dns_message::Update;
 use dns_rdata::Rcode;
@@ -16,11 +17,12 @@ use snapshot_cell::Spent;
 use std::alloc::Global;
 use std::marker::Model;
 use std::sync::Wait;
-use update_core::{Outcome, apply};
+use transfer_core::KEPT;
+use update_core::apply;
 use zone_tree::Version;
 
-/// The one who publishes in a cell of versions, with the newest of them: the last, and at most so many in front of it as it was
-/// made to keep. Contracts see these, and know that they are the newest that were published.
+/// The one who publishes in a cell of versions, with the newest of them: the last, and at most so many older ones as it was made
+/// to keep. Contracts see these, and know that they are the newest that were published.
 #[derive(Drop)]
 pub struct Engine<'a, Z: FirstZone> {
     publisher: VersionPublisher<Z>,
@@ -31,17 +33,18 @@ pub struct Engine<'a, Z: FirstZone> {
 
 impl<'a, Z: FirstZone> Model for Engine<'a, Z> {
     ghost use Rattle.std.specs.Prelude.{◌≡◌, ◌≤◌};
+    ghost use Rattle.transfer_core.specs.declared.kept.TheConstants.{KEPT};
     ghost use Rattle.dns_engine.specs.Held.{Held, IsNewest};
 
     ghost Value = { Held };
 
     ghost view = { λ a. record { last = a.publisher.value; keep = a.keep; older = a.older } };
 
-    ghost invariant = { λ a. (a.keep ≤ 8) × (a.publisher.number ≡ a.publisher.value.number) × IsNewest Z.zone (record { last = a.publisher.value; keep = a.keep; older = a.older }) };
+    ghost invariant = { λ a. (a.keep ≤ KEPT) × (a.publisher.number ≡ a.publisher.value.number) × IsNewest Z.zone (record { last = a.publisher.value; keep = a.keep; older = a.older }) };
 }
 
 impl<'a, Z: FirstZone> Engine<'a, Z> {
-    /// The engine of a cell in which the first version alone is published, to keep so many versions in front of the last.
+    /// The engine of a cell in which the first version alone is published, to keep so many older versions beside the last.
     /// [`EngineFault::TooGreat`] exactly where these would be more than [`KEPT`]; [`EngineFault::Spent`] where the reader can't
     /// load. Both give the publisher and the reader back.
     pub fn new<R: Wait>(
@@ -57,7 +60,7 @@ impl<'a, Z: FirstZone> Engine<'a, Z> {
         ensures refused { IfErr result (λ refused. (refused.fault ≡ Fault.TooGreat) ↔ (KEPT < keep)) }
         ensures given_back { IfErr result (λ refused. refused.publisher ≡ publisher) }
     {
-        prove_eq!(publisher.last(), 0);
+        learn_last(&publisher);
         if keep > KEPT {
             return Err(NoEngine {
                 fault: EngineFault::TooGreat,
@@ -89,7 +92,7 @@ impl<'a, Z: FirstZone> Engine<'a, Z> {
     }
 
     /// The version published last.
-    pub fn last(&self) -> &Version
+    pub fn last_version(&self) -> &Version
         ensures { result.now ≡ self.now.last }
     {
         self.publisher.value()
@@ -115,26 +118,26 @@ impl<'a, Z: FirstZone> Engine<'a, Z> {
         may: bool,
     ) -> Rcode
         ensures told { IsTold self.old update.now may result self.new }
+        // Where no number is left, no rule is asked.
+        ensures last { 2 ^ 64 ≤ self.old.last.number + 1 → result ≡ Rcode.ServFail }
         ensures replayed { IsReplay Z.zone self.old.last }
     {
         if self.number() == u64::MAX {
             return Rcode::ServFail;
         }
-        match apply(alloc, self.last(), update, may) {
-            Outcome::Refused(code) => code,
-            Outcome::Unchanged => Rcode::NoError,
-            Outcome::NoMemory => Rcode::ServFail,
-            Outcome::Next(version) => {
-                if self.publish(rt, cell, version) {
-                    Rcode::NoError
-                } else {
-                    Rcode::ServFail
-                }
-            }
+        let outcome = apply(alloc, self.last_version(), update, may);
+        let code = outcome.code();
+        let Some(version) = outcome.next() else {
+            return code;
+        };
+        if self.publish(rt, cell, version) {
+            code
+        } else {
+            Rcode::ServFail
         }
     }
 
-    /// Publishes a version behind the last one, and keeps that one in front of it. False where there was no memory for it:
+    /// Publishes the version after the last one, and keeps that one beside it. False where there was no memory for it:
     /// nothing has then changed.
     fn publish<R: Wait>(&mut self, rt: &R, cell: &'a VersionCell<Z>, version: Version) -> bool
         requires room { self.old.last.number + 1 < 2 ^ 64 }

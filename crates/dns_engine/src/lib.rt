@@ -1,14 +1,15 @@
 //! The engine that publishes updates of a zone (RFC 2136): it makes of the version published last the next one, and keeps the newest.
 //!
-//! The values of its cell are versions of a zone. Contracts say which may be published behind which (`IsNext`): some update makes
+//! The values of its cell are versions of a zone. Contracts say which may be published after which (`IsNext`): some update makes
 //! the one of the other. So each published version is the first zone with updates replayed (`IsReplay`), as many as its number.
-//! An [`Engine`] is seen as the version published last and the newest in front of it (`Held`), and what it tells of an update is
+//! An [`Engine`] is seen as the version published last and the newest older ones (`Held`), and what it tells of an update is
 //! `IsTold`. Answering queries, transfers and the lock round the engine aren't here.
 #![tactic(auto)]
 
 mod engine;
 mod fault;
 mod laws;
+mod learn;
 mod newest;
 mod owners;
 mod versions;
@@ -17,7 +18,7 @@ pub use engine::Engine;
 pub use fault::{EngineFault, NoEngine};
 pub use laws::published_versions_are_replays;
 pub use newest::Newest;
-pub use owners::KEPT;
+pub use transfer_core::KEPT;
 pub use versions::{
     FirstZone, VersionCell, VersionOwner, VersionPublisher, VersionReader, ZoneVersions,
 };

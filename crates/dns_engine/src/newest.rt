@@ -7,17 +7,15 @@ ghost use Rattle.dns_engine.specs.Held.{IsNewest};
 ghost use Rattle.dns_engine.specs.Replayed.{IsReplay};
 ghost use Rattle.dns_engine.specs.Chain.{TellsSince, changes_in};
 
+use crate::learn::learn_owned;
 use crate::owners::Owners;
 use crate::versions::{FirstZone, VersionOwner};
 use dns_rdata::Serial;
 use std::marker::Model;
-use transfer_core::{KeptChain, VersionList, chain_since};
+use transfer_core::{KeptChain, Reach, VersionList, WINDOW, chain_since};
 use zone_tree::Version;
 
-/// How many versions the window has of those whose changes are told (own).
-const WINDOW: usize = 16;
-
-/// Owners of a published version and of the newest in front of it, which stay whatever is published behind them. Contracts see these
+/// Owners of a published version and of the newest older ones, which stay whatever is published after them. Contracts see these
 /// versions, and know that they are the newest that were published up to that version.
 #[derive(Drop)]
 pub struct Newest<'a, Z: FirstZone> {
@@ -41,7 +39,7 @@ impl<'a, Z: FirstZone> Newest<'a, Z> {
     pub fn alone(last: VersionOwner<'a, Z>) -> Newest<'a, Z>
         ensures { result ≡ record { last = last.entry.value; keep = 0; older = [] } }
     {
-        let _ = last.number();
+        learn_owned(&last);
         Newest {
             last,
             keep: 0,
@@ -58,7 +56,7 @@ impl<'a, Z: FirstZone> Newest<'a, Z> {
     }
 
     /// The last of them.
-    pub fn last(&self) -> &Version
+    pub fn last_version(&self) -> &Version
         ensures last { result.now ≡ self.now.last }
         ensures replayed { IsReplay Z.zone self.now.last }
         ensures told { (held : Option SerialAsked) → TellsSince Z.zone self.now.keep self.now.last held (changes_in self.now held) }
@@ -66,15 +64,16 @@ impl<'a, Z: FirstZone> Newest<'a, Z> {
         self.last.get()
     }
 
-    /// The versions behind the one of the serial that an asker holds, up to the last: whole exactly where that serial is in the window
-    /// and each version behind the asker's is owned; of an asker that tells no serial none (RFC 1995, 4 and 5; own).
+    /// The versions after the one of the serial that an asker holds, up to the last: whole exactly where that serial is in the window
+    /// and each version after the asker's is owned; of an asker that tells no serial none (RFC 1995, 4 and 5; own).
     pub fn chain<'b>(&'b self, held: Option<Serial>) -> KeptChain<'b, Newest<'a, Z>>
         ensures { told_changes result.whole (soa_of self.now.last.zone) (⟦<KeptChain<'b, Newest<'a, Z>> as VersionList>⟧.versions result) ≡ changes_in self.now held }
     {
-        match held {
-            None => chain_since(self, 0, WINDOW, Serial(0)),
-            Some(serial) => chain_since(self, self.len(), WINDOW, serial),
-        }
+        let reach = Reach {
+            upto: self.len(),
+            window: WINDOW,
+        };
+        chain_since(self, reach, held)
     }
 }
 

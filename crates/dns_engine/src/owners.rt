@@ -8,10 +8,8 @@ use crate::versions::{FirstZone, VersionOwner};
 use arrayvec::ArrayVec;
 use snapshot_cell::Spent;
 use std::marker::Model;
+use transfer_core::KEPT;
 use zone_tree::Version;
-
-/// How many versions in front of the last an engine may keep (own).
-pub const KEPT: usize = 8;
 
 /// Owners of versions, the oldest first. Contracts see the versions.
 #[derive(Drop)]
@@ -73,7 +71,7 @@ impl<'a, Z: FirstZone> Owners<'a, Z> {
         Ok(Owners { places })
     }
 
-    /// Puts an owner behind the others, of which the newest stay, so many in all.
+    /// Puts an owner of the next version after the others, of which the newest stay, so many in all.
     pub(crate) fn keep_newest(&mut self, keep: usize, owner: VersionOwner<'a, Z>)
         requires most { keep ≤ KEPT }
         requires kept { length self.old ≤ keep }

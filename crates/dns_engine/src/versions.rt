@@ -18,7 +18,7 @@ impl FirstZone for Brand {
     ghost zone = { [] };
 }
 
-/// What names a cell of versions: it begins with the first zone, and each version behind another is what some update makes of it
+/// What names a cell of versions: it begins with the first zone, and each next version is what some update makes of the one before
 /// (RFC 2136, 3).
 pub struct ZoneVersions<Z: FirstZone> {
     first: PhantomData<Z>,

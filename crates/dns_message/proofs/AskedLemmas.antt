@@ -21,7 +21,7 @@ use Rattle.dns_message.proofs.AgainLemmas.{none_more}
 use Rattle.dns_message.proofs.ReadLemmas.{none_held}
 use Rattle.dns_message.proofs.TrueLemmas.{IsTrueOf-nothing}
 use Rattle.dns_message.proofs.KeepsLemmas.{Stands}
-use Rattle.dns_message.proofs.SectionLemmas.{asked_again, question_part, answer_part, authority_part, additional_part, sections_parts, body_parts}
+use Rattle.dns_message.proofs.SectionLemmas.{asked_again, one_question, question_part, answer_part, authority_part, additional_part, sections_parts, body_parts}
 
 -- a header of these parts
 abbrev head_with : ℕ → Bool → (opcode : ℕ) → opcode < 16 → Head
@@ -88,8 +88,8 @@ question_stands m = record { at = refl; is = ap (λ t. request_header m.head ++ 
 body_in_of : (m : Message) (q : Question) → IsAnswerTo m q → body_in (request_of m) ≡ Some (record { questions = q ∷ []; answer = []; authority = []; additional = [] })
 unfolding question_part
 body_in_of m q h =
-    body_parts (request_of m) q 0 0 0 _ _ _ _ [] [] [] refl refl refl refl
-    (asked_again m.question q _ _ _ _ _ h.asked h.lawful (question_stands m))
+    body_parts (request_of m) (q ∷ []) 1 0 0 0 _ _ _ _ [] [] [] refl refl refl refl
+    (one_question _ _ _ q (asked_again m.question q _ _ _ _ _ h.asked h.lawful (question_stands m)))
     (none_more _ _) (none_more _ _) (none_more _ _)
 
 -- the question that a reply repeats is read as itself

@@ -154,14 +154,14 @@ measured_stop p a b c at n s t table put short =
     (length-measured p (table_at a at s) at ∙ ap (λ (k : ℕ). 2 + length (p (table_at a at s) k).0) (sym put.next_is)) put here
 
 -- two octets of a buffer are set, and all else stays
-patched : (front old more bytes back c d : List ℕ) (at : ℕ) → length front ≡ at → length old ≡ 2 → c ≡ (front ++ (old ++ more)) ++ back → d ≡ (take at c ++ bytes) ++ drop (at + 2) c → d ≡ (front ++ (bytes ++ more)) ++ back
-patched front old more bytes back c d at f o whole is =
+patched : (front old more octets back c d : List ℕ) (at : ℕ) → length front ≡ at → length old ≡ 2 → c ≡ (front ++ (old ++ more)) ++ back → d ≡ (take at c ++ octets) ++ drop (at + 2) c → d ≡ (front ++ (octets ++ more)) ++ back
+patched front old more octets back c d at f o whole is =
     let one : c ≡ front ++ (old ++ (more ++ back)) = whole ∙ simp append_assoc in
     let two : c ≡ (front ++ old) ++ (more ++ back) = one ∙ sym (append_assoc front old (more ++ back)) in
     let both = length-append front old in
     let first : take at c ≡ front = ap (take at) one ∙ take_at front (old ++ (more ++ back)) at f in
     let second : drop (at + 2) c ≡ more ++ back = ap (drop (at + 2)) two ∙ drop_at (front ++ old) (more ++ back) (at + 2) (omega arith) in
-    is ∙ ap (λ (x : List ℕ). (x ++ bytes) ++ drop (at + 2) c) first ∙ ap (λ (x : List ℕ). (front ++ bytes) ++ x) second ∙ simp append_assoc
+    is ∙ ap (λ (x : List ℕ). (x ++ octets) ++ drop (at + 2) c) first ∙ ap (λ (x : List ℕ). (front ++ octets) ++ x) second ∙ simp append_assoc
 
 -- something was written behind two octets, which then were set to its length
 pub measured_whole : (p : Encoding) (a b c d : List ℕ) (at n next : ℕ) (s t : List Entry) → Keeps p → at ≤ length a → IsTable (take at a) s → IsOverwritten a b at (0 ∷ 0 ∷ []) n → IsEncoded (p (table_at b n s) n) b c n t next → d ≡ take at c ++ to_be_bytes w16 (next - n) ++ drop (at + 2) c → IsEncoded (measured p (table_at a at s) at) a d at t next

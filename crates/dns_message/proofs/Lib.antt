@@ -1,4 +1,5 @@
 pub mod AgainLemmas
+pub mod AnsweredLemmas
 pub mod AnswersLemmas
 pub mod AskedLemmas
 pub mod CountLemmas

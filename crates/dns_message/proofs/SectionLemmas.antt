@@ -1,6 +1,7 @@
 -- The sections of a written reply are read again.
-use Rattle.std.proofs.Common.{◌≡◌, ℕ, ◌+◌, ◌<◌, ◌≤◌, ◌^◌, All, List, [], ◌∷◌, ◌++◌, length, Option, Some, refl, sym, ap, subst, ◌∙◌, arith, option_map, option_and_then, length-append}
+use Rattle.std.proofs.Common.{◌≡◌, ℕ, ◌+◌, ◌<◌, ◌≤◌, ◌^◌, All, List, [], ◌∷◌, ◌++◌, length, Option, Some, None, refl, sym, ap, ◌∙◌, arith, option_map, option_and_then, length-append}
 use Rattle.std.proofs.lemmas.List.{append-nil}
+use Rattle.std.proofs.lemmas.List.Elements.{All-head}
 use Rattle.std.proofs.lemmas.Nat.{from_be_bytes-to_be_bytes_2}
 use Rattle.std.specs.Int.{to_be_bytes, from_be_bytes, w16}
 use Rattle.dns_name.specs.Name.{IsName}
@@ -16,15 +17,11 @@ use Rattle.dns_message.specs.declared.query.Question.{Question}
 use Rattle.dns_message.proofs.AgainLemmas.{question_again, records_again, few_records}
 use Rattle.dns_message.proofs.TrueLemmas.{IsTrueOf-nothing}
 use Rattle.dns_message.proofs.ExpandedLemmas.{records_data}
-use Rattle.dns_message.proofs.KeepsLemmas.{Stands, Stands-behind, Keeps, Keeps-these, Keeps-before, Keeps-question, Keeps-records}
+use Rattle.dns_message.proofs.KeepsLemmas.{Stands, Stands-behind, Keeps, Keeps-each, Keeps-question, Keeps-records}
 
--- one question
-Keeps-one : (q : Question) → IsName q.name → Keeps (each question_octets (q ∷ []))
-unfolding each
-Keeps-one q lawful = Keeps-before (question_octets q) (these []) (Keeps-question q lawful) (Keeps-these [])
-
-Keeps-asked : (o : Option Question) (q : Question) → o ≡ Some q → IsName q.name → Keeps (each question_octets (questions o))
-Keeps-asked o q e lawful = let P : Option Question → Type 0 = λ a. Keeps (each question_octets (questions a)) in subst P (sym e) (Keeps-one q lawful)
+-- the question, where there is one
+Keeps-asked : (o : Option Question) → All IsQuestion (questions o) → Keeps (each question_octets (questions o))
+Keeps-asked o all = Keeps-each question_octets (questions o) (λ k d h. Keeps-question _ (all k d h).name)
 
 one_octets : (q : Question) (table : Table) (n : ℕ) → (each question_octets (q ∷ []) table n).0 ≡ (question_octets q table n).0
 unfolding each before these
@@ -38,6 +35,24 @@ asked_again o q whole front rest table n e lawful s =
     let octets = asked_octets o q table n e in
     question_again front rest whole table n q s.at (s.is ∙ ap (λ t. front ++ (t ++ rest)) octets) s.holds lawful
     ∙ ap (λ t. Some (q, n + length t)) (sym octets)
+
+-- one question
+pub one_question : (msg : List ℕ) (n next : ℕ) (q : Question) → question_at msg n ≡ Some (q, next) → questions_at 1 msg n ≡ Some (q ∷ [], next)
+unfolding questions_at
+one_question msg n next q e = ap (option_and_then (λ p. option_map (λ rest. (p.0 ∷ rest.0, rest.1)) (questions_at 0 msg p.1))) e
+
+no_question : (msg : List ℕ) (n : ℕ) → questions_at 0 msg n ≡ Some ([], n)
+unfolding questions_at
+no_question msg n = refl
+
+no_octets : (table : Table) (n : ℕ) → length (each question_octets [] table n).0 ≡ 0
+unfolding each these
+no_octets table n = refl
+
+-- the question is read where there is one, and none where there is none
+questions_again : (o : Option Question) (whole front rest : List ℕ) (table : Table) (n : ℕ) → All IsQuestion (questions o) → Stands whole front ((each question_octets (questions o) table n).0 ++ rest) table n → questions_at (length (questions o)) whole n ≡ Some (questions o, n + length (each question_octets (questions o) table n).0)
+questions_again None whole front rest table n all s = no_question whole n ∙ ap (λ k. Some ([], k)) (omega (arith, no_octets table n))
+questions_again (Some q) whole front rest table n all s = one_question whole n _ q (asked_again (Some q) q whole front rest table n refl (All-head IsQuestion q [] all) s)
 
 -- records of a section
 section_again : (rs : List Record) (whole front rest : List ℕ) (table : Table) (n : ℕ) → All IsRecord rs → length whole < 2 ^ 16 → Stands whole front ((each record_octets rs table n).0 ++ rest) table n → records_at (length rs) whole n ≡ Some (entries_at rs (table, n), n + length (each record_octets rs table n).0)
@@ -73,41 +88,36 @@ at_question : (m : Message) → Stands (reply_octets m) (header m) (question_par
 unfolding header
 at_question m = record { at = refl; is = ap (λ t. header m ++ t) (sections_parts m); holds = IsTrueOf-nothing (header m) }
 
-at_answer : (m : Message) (q : Question) → IsReply m q → Stands (reply_octets m) (header m ++ question_part m) (answer_part m ++ (authority_part m ++ additional_part m)) (question_end m).0 (question_end m).1
+at_answer : (m : Message) → IsReply m → Stands (reply_octets m) (header m ++ question_part m) (answer_part m ++ (authority_part m ++ additional_part m)) (question_end m).0 (question_end m).1
 unfolding question_part
-at_answer m q h = Stands-behind _ _ _ _ _ _ (Keeps-asked m.question q h.asked h.lawful.name) (at_question m)
+at_answer m h = Stands-behind _ _ _ _ _ _ (Keeps-asked m.question h.question) (at_question m)
 
-at_authority : (m : Message) (q : Question) → IsReply m q → Stands (reply_octets m) ((header m ++ question_part m) ++ answer_part m) (authority_part m ++ additional_part m) (answer_end m).0 (answer_end m).1
+at_authority : (m : Message) → IsReply m → Stands (reply_octets m) ((header m ++ question_part m) ++ answer_part m) (authority_part m ++ additional_part m) (answer_end m).0 (answer_end m).1
 unfolding answer_part
-at_authority m q h = Stands-behind _ _ _ _ _ _ (Keeps-records m.answer (owners m.answer h.answer)) (at_answer m q h)
+at_authority m h = Stands-behind _ _ _ _ _ _ (Keeps-records m.answer (owners m.answer h.answer)) (at_answer m h)
 
-at_additional : (m : Message) (q : Question) → IsReply m q → Stands (reply_octets m) (((header m ++ question_part m) ++ answer_part m) ++ authority_part m) (additional_part m ++ []) (authority_end m).0 (authority_end m).1
+at_additional : (m : Message) → IsReply m → Stands (reply_octets m) (((header m ++ question_part m) ++ answer_part m) ++ authority_part m) (additional_part m ++ []) (authority_end m).0 (authority_end m).1
 unfolding authority_part
-at_additional m q h =
-    let there = Stands-behind _ _ _ _ _ _ (Keeps-records m.authority (owners m.authority h.authority)) (at_authority m q h) in
+at_additional m h =
+    let there = Stands-behind _ _ _ _ _ _ (Keeps-records m.authority (owners m.authority h.authority)) (at_authority m h) in
     record { at = there.at; is = there.is ∙ ap (λ t. (((header m ++ question_part m) ++ answer_part m) ++ authority_part m) ++ t) (sym (append-nil (additional_part m))); holds = there.holds }
 
-at_end : (m : Message) (q : Question) → IsReply m q → Stands (reply_octets m) ((((header m ++ question_part m) ++ answer_part m) ++ authority_part m) ++ additional_part m) [] (additional_end m).0 (additional_end m).1
+at_end : (m : Message) → IsReply m → Stands (reply_octets m) ((((header m ++ question_part m) ++ answer_part m) ++ authority_part m) ++ additional_part m) [] (additional_end m).0 (additional_end m).1
 unfolding additional_part
-at_end m q h = Stands-behind _ _ _ _ _ _ (Keeps-records m.additional (owners m.additional h.additional)) (at_additional m q h)
+at_end m h = Stands-behind _ _ _ _ _ _ (Keeps-records m.additional (owners m.additional h.additional)) (at_additional m h)
 
-pub sections_again : (m : Message) (q : Question) → IsReply m q → IsReadAgain m q
+pub sections_again : (m : Message) → IsReply m → IsReadAgain m
 unfolding question_part answer_part authority_part additional_part
-sections_again m q h = record {
-  question = asked_again m.question q _ _ _ _ _ h.asked h.lawful (at_question m);
-  answer = section_again m.answer _ _ _ _ _ h.answer h.carried (at_answer m q h);
-  authority = section_again m.authority _ _ _ _ _ h.authority h.carried (at_authority m q h);
-  additional = section_again m.additional _ _ _ _ _ h.additional h.carried (at_additional m q h);
-  answer_data = records_data m.answer _ _ _ _ _ h.answer (at_answer m q h);
-  authority_data = records_data m.authority _ _ _ _ _ h.authority (at_authority m q h);
-  additional_data = records_data m.additional _ _ _ _ _ h.additional (at_additional m q h);
-  whole = (at_end m q h).at ∙ ap length (sym ((at_end m q h).is ∙ append-nil _));
+sections_again m h = record {
+  question = questions_again m.question _ _ _ _ _ h.question (at_question m);
+  answer = section_again m.answer _ _ _ _ _ h.answer h.carried (at_answer m h);
+  authority = section_again m.authority _ _ _ _ _ h.authority h.carried (at_authority m h);
+  additional = section_again m.additional _ _ _ _ _ h.additional h.carried (at_additional m h);
+  answer_data = records_data m.answer _ _ _ _ _ h.answer (at_answer m h);
+  authority_data = records_data m.authority _ _ _ _ _ h.authority (at_authority m h);
+  additional_data = records_data m.additional _ _ _ _ _ h.additional (at_additional m h);
+  whole = (at_end m h).at ∙ ap length (sym ((at_end m h).is ∙ append-nil _));
 }
-
--- one question
-pub one_question : (msg : List ℕ) (n next : ℕ) (q : Question) → question_at msg n ≡ Some (q, next) → questions_at 1 msg n ≡ Some (q ∷ [], next)
-unfolding questions_at
-one_question msg n next q e = ap (option_and_then (λ p. option_map (λ rest. (p.0 ∷ rest.0, rest.1)) (questions_at 0 msg p.1))) e
 
 -- what stands behind a header, where its questions are read
 abbrev body_from : List ℕ → ℕ → ℕ → ℕ → Option (List Question × ℕ) → Option Body
@@ -121,31 +131,31 @@ body_from msg answers authorities additions o =
     (records_at answers msg questions.1))
     o
 
-body_numbers : (msg : List ℕ) (answers authorities additions : ℕ) → number_at msg 4 ≡ 1 → number_at msg 6 ≡ answers → number_at msg 8 ≡ authorities → number_at msg 10 ≡ additions → body_in msg ≡ body_from msg answers authorities additions (questions_at 1 msg 12)
+body_numbers : (msg : List ℕ) (asked answers authorities additions : ℕ) → number_at msg 4 ≡ asked → number_at msg 6 ≡ answers → number_at msg 8 ≡ authorities → number_at msg 10 ≡ additions → body_in msg ≡ body_from msg answers authorities additions (questions_at asked msg 12)
 unfolding body_in
-body_numbers msg answers authorities additions one e1 e2 e3 =
-    ap (λ k. body_from msg (number_at msg 6) (number_at msg 8) (number_at msg 10) (questions_at k msg 12)) one
-    ∙ ap (λ k. body_from msg k (number_at msg 8) (number_at msg 10) (questions_at 1 msg 12)) e1
-    ∙ ap (λ k. body_from msg answers k (number_at msg 10) (questions_at 1 msg 12)) e2
-    ∙ ap (λ k. body_from msg answers authorities k (questions_at 1 msg 12)) e3
+body_numbers msg asked answers authorities additions e0 e1 e2 e3 =
+    ap (λ k. body_from msg (number_at msg 6) (number_at msg 8) (number_at msg 10) (questions_at k msg 12)) e0
+    ∙ ap (λ k. body_from msg k (number_at msg 8) (number_at msg 10) (questions_at asked msg 12)) e1
+    ∙ ap (λ k. body_from msg answers k (number_at msg 10) (questions_at asked msg 12)) e2
+    ∙ ap (λ k. body_from msg answers authorities k (questions_at asked msg 12)) e3
 
--- what stands behind a question, and so on
-abbrev after_authority : Question → List Entry → List Entry → Option (List Entry × ℕ) → Option Body
-after_authority q answer authority o = option_map (λ additional. record { questions = q ∷ []; answer = answer; authority = authority; additional = additional.0 }) o
+-- what stands behind questions, and so on
+abbrev pub after_authority : List Question → List Entry → List Entry → Option (List Entry × ℕ) → Option Body
+after_authority qs answer authority o = option_map (λ additional. record { questions = qs; answer = answer; authority = authority; additional = additional.0 }) o
 
-abbrev after_answer : List ℕ → ℕ → Question → List Entry → Option (List Entry × ℕ) → Option Body
-after_answer msg additions q answer o = option_and_then (λ authority. after_authority q answer authority.0 (records_at additions msg authority.1)) o
+abbrev pub after_answer : List ℕ → ℕ → List Question → List Entry → Option (List Entry × ℕ) → Option Body
+after_answer msg additions qs answer o = option_and_then (λ authority. after_authority qs answer authority.0 (records_at additions msg authority.1)) o
 
-abbrev after_question : List ℕ → ℕ → ℕ → Question → Option (List Entry × ℕ) → Option Body
-after_question msg authorities additions q o = option_and_then (λ answer. after_answer msg additions q answer.0 (records_at authorities msg answer.1)) o
+abbrev pub after_questions : List ℕ → ℕ → ℕ → List Question → Option (List Entry × ℕ) → Option Body
+after_questions msg authorities additions qs o = option_and_then (λ answer. after_answer msg additions qs answer.0 (records_at authorities msg answer.1)) o
 
-pub body_parts : (msg : List ℕ) (q : Question) (answers authorities additions n1 n2 n3 n4 : ℕ) (answer authority additional : List Entry) → number_at msg 4 ≡ 1 → number_at msg 6 ≡ answers → number_at msg 8 ≡ authorities → number_at msg 10 ≡ additions → question_at msg 12 ≡ Some (q, n1) → records_at answers msg n1 ≡ Some (answer, n2) → records_at authorities msg n2 ≡ Some (authority, n3) → records_at additions msg n3 ≡ Some (additional, n4) → body_in msg ≡ Some (record { questions = q ∷ []; answer = answer; authority = authority; additional = additional })
-body_parts msg q answers authorities additions n1 n2 n3 n4 answer authority additional one e1 e2 e3 f0 f1 f2 f3 =
-    body_numbers msg answers authorities additions one e1 e2 e3
-    ∙ ap (body_from msg answers authorities additions) (one_question msg 12 n1 q f0)
-    ∙ ap (after_question msg authorities additions q) f1
-    ∙ ap (after_answer msg additions q answer) f2
-    ∙ ap (after_authority q answer authority) f3
+pub body_parts : (msg : List ℕ) (qs : List Question) (asked answers authorities additions n1 n2 n3 n4 : ℕ) (answer authority additional : List Entry) → number_at msg 4 ≡ asked → number_at msg 6 ≡ answers → number_at msg 8 ≡ authorities → number_at msg 10 ≡ additions → questions_at asked msg 12 ≡ Some (qs, n1) → records_at answers msg n1 ≡ Some (answer, n2) → records_at authorities msg n2 ≡ Some (authority, n3) → records_at additions msg n3 ≡ Some (additional, n4) → body_in msg ≡ Some (record { questions = qs; answer = answer; authority = authority; additional = additional })
+body_parts msg qs asked answers authorities additions n1 n2 n3 n4 answer authority additional e0 e1 e2 e3 f0 f1 f2 f3 =
+    body_numbers msg asked answers authorities additions e0 e1 e2 e3
+    ∙ ap (body_from msg answers authorities additions) f0
+    ∙ ap (after_questions msg authorities additions qs) f1
+    ∙ ap (after_answer msg additions qs answer) f2
+    ∙ ap (after_authority qs answer authority) f3
 
 -- the counts of a reply's header are read
 count_again : (m : Message) (rs : List Record) (front rest : List ℕ) (table : Table) (n : ℕ) → length (reply_octets m) < 2 ^ 16 → Stands (reply_octets m) front ((each record_octets rs table n).0 ++ rest) table n → from_be_bytes w16 (to_be_bytes w16 (length rs)) ≡ length rs
@@ -153,16 +163,17 @@ count_again m rs front rest table n short s =
     let octets = (each record_octets rs table n).0 in
     from_be_bytes-to_be_bytes_2 (length rs) (omega (arith, few_records rs table n, ap length s.is, length-append front (octets ++ rest), length-append octets rest))
 
-one_asked : (o : Option Question) (q : Question) → o ≡ Some q → from_be_bytes w16 (to_be_bytes w16 (length (questions o))) ≡ 1
-one_asked o q e = ap (λ a. from_be_bytes w16 (to_be_bytes w16 (length (questions a)))) e
+questions_counted : (o : Option Question) → from_be_bytes w16 (to_be_bytes w16 (length (questions o))) ≡ length (questions o)
+questions_counted None = refl
+questions_counted (Some q) = refl
 
-pub body_again : (m : Message) (q : Question) → IsReply m q → body_in (reply_octets m) ≡ Some (body_written m q)
+pub body_again : (m : Message) → IsReply m → body_in (reply_octets m) ≡ Some (body_written m)
 unfolding answer_part authority_part additional_part
-body_again m q h =
-    let again = sections_again m q h in
-    body_parts (reply_octets m) q (length m.answer) (length m.authority) (length m.additional) _ _ _ _ _ _ _
-    (one_asked m.question q h.asked)
-    (count_again m m.answer _ _ _ _ h.carried (at_answer m q h))
-    (count_again m m.authority _ _ _ _ h.carried (at_authority m q h))
-    (count_again m m.additional _ _ _ _ h.carried (at_additional m q h))
+body_again m h =
+    let again = sections_again m h in
+    body_parts (reply_octets m) (questions m.question) (length (questions m.question)) (length m.answer) (length m.authority) (length m.additional) _ _ _ _ _ _ _
+    (questions_counted m.question)
+    (count_again m m.answer _ _ _ _ h.carried (at_answer m h))
+    (count_again m m.authority _ _ _ _ h.carried (at_authority m h))
+    (count_again m m.additional _ _ _ _ h.carried (at_additional m h))
     again.question again.answer again.authority again.additional

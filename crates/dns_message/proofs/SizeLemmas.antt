@@ -13,10 +13,11 @@ use Rattle.wire_names.specs.Table.{Table}
 use Rattle.wire_names.specs.Written.{written, table_after}
 use Rattle.dns_message.specs.Answers.{answers}
 use Rattle.dns_message.specs.Encoding.{these, named, before, measured, each}
-use Rattle.dns_message.specs.Octets.{names_octets, octets_by, data_laid, data_octets, fixed_octets, record_octets, fits}
+use Rattle.dns_message.specs.Octets.{names_octets, octets_by, data_laid, data_octets, fixed_octets, question_octets, record_octets, fits}
 use Rattle.dns_message.specs.declared.query.Head.{Head}
+use Rattle.dns_message.specs.declared.query.Question.{Question}
 use Rattle.dns_message.proofs.AnswersLemmas.{length-answers}
-use Rattle.dns_message.proofs.DataLemmas.{length-name_octets, length-measured}
+use Rattle.dns_message.proofs.DataLemmas.{length-name_octets, length-question, length-measured}
 use Rattle.dns_message.proofs.EncodedLemmas.{each-one}
 use Rattle.dns_message.proofs.OctetsLemmas.{length-before}
 
@@ -112,4 +113,14 @@ one_fits head r lawful short =
     let both = length-before (these []) (each record_octets (r ∷ [])) [] 12 in
     let alone : length (each record_octets (r ∷ []) [] 12).0 ≡ length (record_octets r [] 12).0 = ap (λ e. length (e [] 12).0) (each-one record_octets r) in
     let most = record_short r [] 12 lawful in
+    le-leb _ _ (omega arith)
+
+-- a question whose name is a name fits by itself
+pub question_fits : (head : Head) (q : Question) → IsName q.name → fits (answers head (Some q) []) 16384 ≡ true
+unfolding each these
+question_fits head q lawful =
+    let size = length-answers head (Some q) [] in
+    let both = length-before (each question_octets (q ∷ [])) (these []) [] 12 in
+    let alone : length (each question_octets (q ∷ []) [] 12).0 ≡ length (question_octets q [] 12).0 = ap (λ e. length (e [] 12).0) (each-one question_octets q) in
+    let most = length-question q [] 12 lawful in
     le-leb _ _ (omega arith)

@@ -10,8 +10,7 @@ use Rattle.dns_message.specs.Encoding.{Encoding, named, each}
 use Rattle.dns_message.specs.Expanded.{expanded_data}
 use Rattle.dns_message.specs.Message.{Entry, Body, Message}
 use Rattle.dns_message.specs.Octets.{data_octets, question_octets, questions, record_octets, reply_octets}
-use Rattle.dns_message.specs.Reads.{question_at, records_at}
-use Rattle.dns_message.specs.declared.query.Question.{Question}
+use Rattle.dns_message.specs.Reads.{questions_at, records_at}
 
 -- a record that a message can carry: its owner is a name, its TTL has 32 bits, and its data has its type's form, as that
 -- of a zone's record has (RFC 1035, 3.3 and 4.1.3)
@@ -20,10 +19,10 @@ pub record IsRecord (r : Record) : Type 0 where
   pub ttl : r.ttl < 2 ^ 32
   pub form : data_of r.rtype r.rdata ≡ Some r.rdata
 
--- a reply of a question and lawful records, of at most 65535 octets, as TCP carries it (RFC 1035, 4.2.2)
-pub record IsReply (m : Message) (question : Question) : Type 0 where
-  pub asked : m.question ≡ Some question
-  pub lawful : IsQuestion question
+-- a reply of lawful records, with a lawful question or without one, of at most 65535 octets, as TCP carries it
+-- (RFC 1035, 4.2.2; RFC 5936, 2.2)
+pub record IsReply (m : Message) : Type 0 where
+  pub question : All IsQuestion (questions m.question)
   pub answer : All IsRecord m.answer
   pub authority : All IsRecord m.authority
   pub additional : All IsRecord m.additional
@@ -75,8 +74,8 @@ additional_end m = behind (each record_octets m.additional) (authority_end m)
 
 -- the sections that are read where a reply was written are those that were written, with their expanded data, and reading
 -- ends with the octets
-pub record IsReadAgain (m : Message) (q : Question) : Type 0 where
-  pub question : question_at (reply_octets m) 12 ≡ Some (q, (question_end m).1)
+pub record IsReadAgain (m : Message) : Type 0 where
+  pub question : questions_at (length (questions m.question)) (reply_octets m) 12 ≡ Some (questions m.question, (question_end m).1)
   pub answer : records_at (length m.answer) (reply_octets m) (question_end m).1 ≡ Some (entries_at m.answer (question_end m), (answer_end m).1)
   pub answer_data : map (expanded_data (reply_octets m)) (entries_at m.answer (question_end m)) ≡ map (λ r. Some r.rdata) m.answer
   pub authority : records_at (length m.authority) (reply_octets m) (answer_end m).1 ≡ Some (entries_at m.authority (answer_end m), (authority_end m).1)
@@ -86,9 +85,9 @@ pub record IsReadAgain (m : Message) (q : Question) : Type 0 where
   pub whole : (additional_end m).1 ≡ length (reply_octets m)
 
 -- what stands behind a reply's header
-abbrev pub body_written : Message → Question → Body
-body_written m question = record {
-  questions = question ∷ [];
+abbrev pub body_written : Message → Body
+body_written m = record {
+  questions = questions m.question;
   answer = entries_at m.answer (question_end m);
   authority = entries_at m.authority (answer_end m);
   additional = entries_at m.additional (authority_end m);

@@ -20,6 +20,10 @@ opcode_QUERY = 0
 abbrev pub opcode_UPDATE : ℕ
 opcode_UPDATE = 5
 
+-- the most octets of a message, which the length of 16 bits in front of it can tell (RFC 1035, 4.2.2)
+abbrev pub message_limit : ℕ
+message_limit = 65535
+
 -- the number of 16 bits at a position (RFC 1035, 2.3.2)
 abbrev pub number_at : List ℕ → ℕ → ℕ
 number_at msg at = from_be_bytes w16 (take 2 (drop at msg))

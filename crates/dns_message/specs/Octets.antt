@@ -8,7 +8,7 @@ use Rattle.dns_rdata.specs.declared.layout.Layout.TheVariants.{Fields, Strings}
 use Rattle.dns_rdata.specs.Layout.{layout_of, names_in}
 use Rattle.dns_rdata.specs.Numbers.{class_IN, rcode_number}
 use Rattle.dns_rdata.specs.Record.{Record}
-use Rattle.dns_message.specs.Message.{Message}
+use Rattle.dns_message.specs.Message.{Message, message_limit}
 use Rattle.dns_message.specs.Encoding.{Encoding, these, named, before, measured, each}
 use Rattle.dns_message.specs.declared.query.Question.{Question}
 
@@ -83,9 +83,9 @@ reply_octets m = header_octets m (counts_in m) ++ (sections_octets m [] 12).0
 abbrev pub truncated : Message → Message
 truncated m = record m { tc = true; answer = []; authority = []; additional = [] }
 
--- how many octets a reply may have under a limit: no message has over 65535 (RFC 1035, 4.2.2)
+-- how many octets a reply may have under a limit, which no message passes (RFC 1035, 4.2.2)
 abbrev pub room_under : ℕ → ℕ
-room_under limit = min limit 65535
+room_under limit = min limit message_limit
 
 -- whether the whole reply fits a limit
 abbrev pub fits : Message → ℕ → Bool

@@ -1,6 +1,9 @@
 -- The messages of a transfer as they are received: the records of their answer sections (RFC 5936, 2.2; RFC 1995, 4).
 use Rattle.std.specs.Prelude.{◌≡◌, ℕ, ◌%◌, ◌||◌, not, ◌==◌, List, [], length, map, nat_lt, slice_index, Option, Some, None, option_map, unwrap_or, if◌then◌else◌}
+use Rattle.dns_name.specs.Name.{fold_name}
+use Rattle.dns_rdata.specs.Numbers.{class_IN}
 use Rattle.dns_rdata.specs.Raw.{RawRecord}
+use Rattle.dns_rdata.specs.Record.{Record}
 use Rattle.dns_message.specs.Expanded.{expanded_data}
 use Rattle.dns_message.specs.Message.{Entry, Body, number_at}
 use Rattle.dns_message.specs.Reads.{is_reply, body_in, records_at}
@@ -21,6 +24,10 @@ abbrev pub received_records : List ℕ → Option (List RawRecord)
 received_records msg =
     if nat_lt (length msg) 12 || not (is_reply msg) || not (rcode_of msg == 0) then None
     else option_map (λ body. map (received msg) body.answer) (body_in msg)
+
+-- a record that was written as it is received: its owner in lower case (RFC 4343, 3)
+abbrev pub as_received : Record → RawRecord
+as_received r = record { owner = fold_name r.owner; rtype = r.rtype; class = class_IN; ttl = r.ttl; octets = r.rdata }
 
 -- the answer section of a message that can be read in whole begins at a position
 pub record HasAnswerAt (msg : List ℕ) (at : ℕ) : Type 0 where

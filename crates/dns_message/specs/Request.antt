@@ -1,5 +1,5 @@
 -- What a request says (RFC 1035, 4.1 and 4.2; RFC 2136, 2; the order of the refusals is our own choice).
-use Rattle.std.specs.Prelude.{◌≡◌, ℕ, ◌≤◌, ◌⊎◌, Bool, false, ◌||◌, ◌==◌, List, length, nat_lt, Option, Some, None, option_and_then, if◌then◌else◌}
+use Rattle.std.specs.Prelude.{◌≡◌, ℕ, ◌≤◌, ◌⊎◌, Bool, false, ◌&&◌, ◌||◌, not, ◌==◌, List, length, nat_lt, Option, Some, None, option_and_then, if◌then◌else◌}
 use Rattle.dns_rdata.specs.declared.numbers.Rcode.TheVariants.{FormErr, NotImp}
 use Rattle.dns_rdata.specs.declared.numbers.Serial.{Serial}
 use Rattle.dns_message.specs.Message.{opcode_QUERY, opcode_UPDATE}
@@ -21,6 +21,11 @@ query_of head (Some r) = if r.2 then Fault head FormErr else Query (record { hea
 abbrev pub update_of : Head → Option DynamicUpdate → Parsed
 update_of head None = Fault head FormErr
 update_of head (Some update) = Update update
+
+-- whether octets ask for an update, by their header alone, whether they can be read as one or not: twelve or more, which are no reply, of
+-- OPCODE UPDATE (RFC 1035, 4.1.1; RFC 2136, 1.3 and 2.2)
+abbrev pub is_update : List ℕ → Bool
+is_update msg = not (nat_lt (length msg) 12) && not (is_reply msg) && opcode_of msg == opcode_UPDATE
 
 -- how octets are read: fewer than twelve, or a reply, are silent; an OPCODE other than QUERY and UPDATE is NOTIMP; else it is
 -- as the header and what stands behind it say (RFC 1035, 4.1.1; RFC 2136, 2; own)

@@ -43,19 +43,19 @@ impl Model for Entry {
 
 /// The record at a position, its owner through pointers, and the position behind it; None where it can't be read
 /// (RFC 1035, 4.1.3).
-pub(crate) fn entry_at(bytes: &[u8], at: usize) -> Option<(Entry, usize)>
-    ensures read { result ≡ record_at bytes.now at }
-    ensures within { IfSome result (λ r. r.0.at + r.0.size ≤ length bytes.now) }
+pub(crate) fn entry_at(octets: &[u8], at: usize) -> Option<(Entry, usize)>
+    ensures read { result ≡ record_at octets.now at }
+    ensures within { IfSome result (λ r. r.0.at + r.0.size ≤ length octets.now) }
 {
-    let Ok((owner, at)) = read_name(bytes, at) else {
+    let Ok((owner, at)) = read_name(octets, at) else {
         return None;
     };
-    let rtype = RType(number_at(bytes, at)?);
-    let class = Class(number_at(bytes, at + 2)?);
-    let ttl = long_number_at(bytes, at + 4)?;
-    let size = usize::from(number_at(bytes, at + 8)?);
+    let rtype = RType(number_at(octets, at)?);
+    let class = Class(number_at(octets, at + 2)?);
+    let ttl = long_number_at(octets, at + 4)?;
+    let size = usize::from(number_at(octets, at + 8)?);
     let next = at + 10 + size;
-    if next > bytes.len() {
+    if next > octets.len() {
         return None;
     }
     let entry = Entry {
@@ -70,25 +70,25 @@ pub(crate) fn entry_at(bytes: &[u8], at: usize) -> Option<(Entry, usize)>
 }
 
 /// The number of 16 bits at a position; None where the octets end before its end (RFC 1035, 2.3.2).
-pub(crate) fn number_at(bytes: &[u8], at: usize) -> Option<u16>
-    ensures { result ≡ (if nat_le (at + 2) (length bytes.now) then Some (number_at bytes.now at) else None) }
+pub(crate) fn number_at(octets: &[u8], at: usize) -> Option<u16>
+    ensures { result ≡ (if nat_le (at + 2) (length octets.now) then Some (number_at octets.now at) else None) }
 {
-    let pair = bytes.get(at..)?.first_chunk::<2>()?;
+    let pair = octets.get(at..)?.first_chunk::<2>()?;
     Some(u16::from_be_bytes(*pair))
 }
 
 /// The number of 32 bits at a position; None where the octets end before its end (RFC 1035, 2.3.2).
-pub(crate) fn long_number_at(bytes: &[u8], at: usize) -> Option<u32>
-    ensures { result ≡ (if nat_le (at + 4) (length bytes.now) then Some (long_number_at bytes.now at) else None) }
+pub(crate) fn long_number_at(octets: &[u8], at: usize) -> Option<u32>
+    ensures { result ≡ (if nat_le (at + 4) (length octets.now) then Some (long_number_at octets.now at) else None) }
 {
-    let four = bytes.get(at..)?.first_chunk::<4>()?;
+    let four = octets.get(at..)?.first_chunk::<4>()?;
     Some(u32::from_be_bytes(*four))
 }
 
 /// So many octets from a position on; fewer where the message ends before.
-pub(crate) fn octets_from(bytes: &[u8], at: usize, size: usize) -> &[u8]
-    ensures { result.now ≡ octets_from bytes.now at size }
+pub(crate) fn octets_from(octets: &[u8], at: usize, size: usize) -> &[u8]
+    ensures { result.now ≡ octets_from octets.now at size }
 {
-    let rest = bytes.get(at..).unwrap_or(&[]);
+    let rest = octets.get(at..).unwrap_or(&[]);
     rest.get(..size).unwrap_or(rest)
 }

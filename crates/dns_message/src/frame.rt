@@ -7,10 +7,10 @@ const LENGTH: usize = 2;
 
 /// The message of the frame that the octets begin with, and the octets behind that frame; None where fewer than two
 /// octets are there, or fewer than the frame's length says. It takes no memory (RFC 1035, 4.2.2).
-pub fn take_frame(bytes: &[u8]) -> Option<(&[u8], &[u8])>
-    ensures { option_map (λ r. (r.0.now, r.1.now)) result ≡ frame_in bytes.now }
+pub fn take_frame(octets: &[u8]) -> Option<(&[u8], &[u8])>
+    ensures { option_map (λ r. (r.0.now, r.1.now)) result ≡ frame_in octets.now }
 {
-    let (front, rest) = bytes.split_first_chunk::<LENGTH>()?;
+    let (front, rest) = octets.split_first_chunk::<LENGTH>()?;
     rest.split_at_checked(usize::from(u16::from_be_bytes(*front)))
 }
 

@@ -1,18 +1,21 @@
 //! Laws of how requests are read and replies are written.
-ghost use Rattle.std.specs.Prelude.{◌≡◌, ◌≢◌, ◌↔◌, ◌⊎◌, ℕ, ◌+◌, ◌^◌, ◌<◌, ◌≤◌, List, [], ◌∷◌, ◌++◌, length, slice_index, true, Option, Some, None};
+ghost use Rattle.std.specs.Prelude.{◌≡◌, ◌≢◌, ◌↔◌, ◌⊎◌, ℕ, ◌+◌, ◌^◌, ◌<◌, ◌≤◌, List, [], ◌∷◌, ◌++◌, length, map, slice_index, true, Option, Some, None};
+ghost use Rattle.dns_rdata.specs.Limits.{max_data};
 ghost use Rattle.dns_name.specs.Name.{IsName};
 ghost use Rattle.dns_rdata.specs.Record.{Record};
+ghost use Rattle.dns_rdata.specs.declared.numbers.Rcode.TheVariants.{NoError};
 ghost use Rattle.wire_names.specs.Table.{Table};
 ghost use Rattle.dns_message.specs.Again.{IsRecord, IsReply, IsReadAgain, behind, octets_at, data_at, entry_at, body_written};
 ghost use Rattle.dns_message.specs.Encoded.{IsTrueOf};
 ghost use Rattle.dns_message.specs.Expanded.{expanded_data};
 ghost use Rattle.dns_message.specs.Answers.{answers, filled, StopsTaking};
 ghost use Rattle.dns_message.specs.Asked.{request_of, question_in_full, IsQuestion, IsAnswerTo};
-ghost use Rattle.dns_message.specs.Message.{Message};
+ghost use Rattle.dns_message.specs.Message.{Message, message_limit};
 ghost use Rattle.dns_message.specs.Octets.{record_octets, reply_octets, fits};
 ghost use Rattle.dns_message.specs.declared.query.Question.{Question};
 ghost use Rattle.dns_message.specs.Frame.{frame_of, frame_in};
 ghost use Rattle.dns_message.specs.Reads.{question_at, record_at, body_in};
+ghost use Rattle.dns_message.specs.Received.{as_received, received_records};
 ghost use Rattle.dns_message.specs.Request.{reads};
 ghost use Rattle.dns_message.specs.Updates.{update_in};
 ghost use Rattle.dns_message.specs.declared.query.Head.{Head};
@@ -35,7 +38,7 @@ pub fn silent_is_short_or_reply()
 
 /// Octets that begin with the frame of a message give that message and the octets behind the frame (RFC 1035, 4.2.2).
 pub fn frame_is_taken_again()
-    ensures { (message rest : List ℕ) → length message ≤ 65535 → frame_in (frame_of message ++ rest) ≡ Some (message, rest) }
+    ensures { (message rest : List ℕ) → length message ≤ message_limit → frame_in (frame_of message ++ rest) ≡ Some (message, rest) }
 {}
 
 /// A question whose name is in full is read as itself, whatever stands in front of it and behind it (RFC 1035, 4.1.2).
@@ -68,10 +71,17 @@ pub fn data_is_read_again()
 {}
 
 /// The sections of a reply that is written are read as those that were written, with their expanded data, one after
-/// another to its end, and so they are by the counts of its header (RFC 1035, 4.1).
+/// another to its end, and so they are by the counts of its header, whether it has a question or none (RFC 1035, 4.1;
+/// RFC 5936, 2.2).
 pub fn sections_are_read_again()
-    ensures sections { (m : Message) (question : Question) → IsReply m question → IsReadAgain m question }
-    ensures counted { (m : Message) (question : Question) → IsReply m question → body_in (reply_octets m) ≡ Some (body_written m question) }
+    ensures sections { (m : Message) → IsReply m → IsReadAgain m }
+    ensures counted { (m : Message) → IsReply m → body_in (reply_octets m) ≡ Some (body_written m) }
+{}
+
+/// The answer section of a reply that is written is received as its records, each with its owner in lower case, whether
+/// the reply has a question or none (RFC 1035, 4.1; RFC 5936, 2.2; RFC 4343, 3).
+pub fn answers_are_received()
+    ensures { (m : Message) → IsReply m → m.rcode ≡ NoError → received_records (reply_octets m) ≡ Some (map as_received m.answer) }
 {}
 
 /// An update has the header that it was read with, so its reply has what that header says (RFC 2136, 2.2 and 3.8).
@@ -82,7 +92,7 @@ pub fn update_keeps_its_header()
 /// A record whose owner is a name and whose data has at most 4,096 octets fits into a message of answers of 16,384 octets by
 /// itself (RFC 1035, 2.3.4 and 4.1.3; own).
 pub fn one_record_fits()
-    ensures { (head : Head) (r : Record) → IsName r.owner → length r.rdata ≤ 4096 → fits (answers head None (r ∷ [])) 16384 ≡ true }
+    ensures { (head : Head) (r : Record) → IsName r.owner → length r.rdata ≤ max_data → fits (answers head None (r ∷ [])) 16384 ≡ true }
 {}
 
 /// Of the records of a list a message takes those from the front that fit together with it, in order, and the others are left

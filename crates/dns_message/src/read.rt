@@ -1,8 +1,8 @@
 //! How a request is read (RFC 1035, 4.1 and 4.2).
-ghost use Rattle.std.specs.Prelude.{◌≡◌, ◌⊎◌, ◌+◌, ◌≤◌, ◌∷◌, [], length, option_map, option_and_then};
+ghost use Rattle.std.specs.Prelude.{◌≡◌, ◌⊎◌, ◌+◌, ◌≤◌, ◌∷◌, [], false, length, option_map, option_and_then};
 ghost use Rattle.dns_message.specs.Message.{number_at};
 ghost use Rattle.dns_message.specs.Reads.{header_of, is_reply, question_at, record_at, records_at, body_in, has_opt, seen, serial_held, serial_in, serial_at};
-ghost use Rattle.dns_message.specs.Request.{query_of, update_of, Tells};
+ghost use Rattle.dns_message.specs.Request.{is_update, query_of, update_of, reads, Tells};
 ghost use Rattle.dns_message.specs.Updates.{update_in};
 
 use crate::entry::{Entry, entry_at, long_number_at, number_at};
@@ -68,28 +68,44 @@ pub const OPCODE_UPDATE: u8 = 5;
 /// of a query's records only an IXFR's SOA has its data looked at, and octets behind the last record are ignored.
 ///
 /// Only an update takes memory: `NoMemory` is told only of one, where a growth was refused.
-pub fn parse(alloc: Global, bytes: &[u8]) -> Parsed
-    ensures { Tells bytes.now result }
+pub fn parse(alloc: Global, octets: &[u8]) -> Parsed
+    ensures { Tells octets.now result }
 {
-    if bytes.len() < HEADER || is_reply(bytes) {
+    if is_update(octets) {
+        return parse_update(alloc, octets, header_of(octets));
+    }
+    parse_other(octets)
+}
+
+/// Whether octets ask for an update, by their header alone, whether they can be read as one or not: twelve or more, which are no reply,
+/// of OPCODE UPDATE (RFC 1035, 4.1.1; RFC 2136, 1.3 and 2.2).
+pub fn is_update(octets: &[u8]) -> bool
+    ensures { result ≡ is_update octets.now }
+{
+    octets.len() >= HEADER && !is_reply(octets) && header_of(octets).opcode == OPCODE_UPDATE
+}
+
+/// What octets say that don't ask for an update, as [`parse`] tells it. It takes no memory.
+pub fn parse_other(octets: &[u8]) -> Parsed
+    requires { is_update octets.now ≡ false }
+    ensures { result ≡ reads octets.now }
+{
+    if octets.len() < HEADER || is_reply(octets) {
         return Parsed::Silent;
     }
-    let head = header_of(bytes);
+    let head = header_of(octets);
     if head.opcode == QUERY {
-        return parse_query(bytes, head);
-    }
-    if head.opcode == OPCODE_UPDATE {
-        return parse_update(alloc, bytes, head);
+        return parse_query(octets, head);
     }
     Parsed::Fault(head, Rcode::NotImp)
 }
 
 /// What a header of a query and what stands behind it say (RFC 1035, 4.1; RFC 6891, 7; own).
-fn parse_query(bytes: &[u8], head: Head) -> Parsed
-    requires { HEADER ≤ length bytes.now }
-    ensures { result ≡ query_of head (option_and_then (seen bytes.now) (body_in bytes.now)) }
+fn parse_query(octets: &[u8], head: Head) -> Parsed
+    requires { HEADER ≤ length octets.now }
+    ensures { result ≡ query_of head (option_and_then (seen octets.now) (body_in octets.now)) }
 {
-    match one_question(bytes) {
+    match one_question(octets) {
         None => Parsed::Fault(head, Rcode::FormErr),
         Some((_, _, true)) => Parsed::Fault(head, Rcode::FormErr),
         Some((question, serial, false)) => Parsed::Query(Query {
@@ -101,11 +117,11 @@ fn parse_query(bytes: &[u8], head: Head) -> Parsed
 }
 
 /// What a header of an update and what stands behind it say, or that a growth was refused (RFC 2136, 2).
-fn parse_update(alloc: Global, bytes: &[u8], head: Head) -> Parsed
-    requires { HEADER ≤ length bytes.now }
-    ensures { (result ≡ update_of head (update_in head bytes.now)) ⊎ (result ≡ Parsed.NoMemory head) }
+fn parse_update(alloc: Global, octets: &[u8], head: Head) -> Parsed
+    requires { HEADER ≤ length octets.now }
+    ensures { (result ≡ update_of head (update_in head octets.now)) ⊎ (result ≡ Parsed.NoMemory head) }
 {
-    match read_update(alloc, bytes, head) {
+    match read_update(alloc, octets, head) {
         Ok(Some(update)) => Parsed::Update(update),
         Ok(None) => Parsed::Fault(head, Rcode::FormErr),
         Err(_) => Parsed::NoMemory(head),
@@ -113,125 +129,125 @@ fn parse_update(alloc: Global, bytes: &[u8], head: Head) -> Parsed
 }
 
 /// Whether a header is of a reply (RFC 1035, 4.1.1).
-pub(crate) fn is_reply(bytes: &[u8]) -> bool
-    requires { HEADER ≤ length bytes.now }
-    ensures { result ≡ is_reply bytes.now }
+pub(crate) fn is_reply(octets: &[u8]) -> bool
+    requires { HEADER ≤ length octets.now }
+    ensures { result ≡ is_reply octets.now }
 {
-    bytes[2] >= QR
+    octets[2] >= QR
 }
 
 /// What a reply copies from a header: ID, OPCODE, and RD but for an UPDATE, where that bit has no meaning
 /// (RFC 1035, 4.1.1; RFC 2136, 2.2; own).
-fn header_of(bytes: &[u8]) -> Head
-    requires { HEADER ≤ length bytes.now }
-    ensures { result ≡ header_of bytes.now }
+fn header_of(octets: &[u8]) -> Head
+    requires { HEADER ≤ length octets.now }
+    ensures { result ≡ header_of octets.now }
 {
-    let opcode = bytes[2] / OPCODE % OPCODES;
+    let opcode = octets[2] / OPCODE % OPCODES;
     Head {
-        id: u16::from_be_bytes([bytes[0], bytes[1]]),
+        id: u16::from_be_bytes([octets[0], octets[1]]),
         opcode,
-        rd: bytes[2] % 2 == 1 && opcode != OPCODE_UPDATE,
+        rd: octets[2] % 2 == 1 && opcode != OPCODE_UPDATE,
     }
 }
 
 /// The count at a position of a header (RFC 1035, 4.1.1).
-pub(crate) fn count_at(bytes: &[u8], at: usize) -> u16
-    requires { at + 2 ≤ length bytes.now }
-    ensures { result ≡ number_at bytes.now at }
+pub(crate) fn count_at(octets: &[u8], at: usize) -> u16
+    requires { at + 2 ≤ length octets.now }
+    ensures { result ≡ number_at octets.now at }
 {
-    u16::from_be_bytes([bytes[at], bytes[at + 1]])
+    u16::from_be_bytes([octets[at], octets[at + 1]])
 }
 
 /// The question behind a header, the serial of the zone that one who asks for an IXFR holds, and whether there is an OPT
 /// among the additional records; None of another QDCOUNT than one, and where the question or a record can't be read
 /// (RFC 1035, 4.1; RFC 1995, 3; RFC 6891, 6.1.1; own).
-fn one_question(bytes: &[u8]) -> Option<(Question, Option<Serial>, bool)>
-    requires { HEADER ≤ length bytes.now }
-    ensures { result ≡ option_and_then (seen bytes.now) (body_in bytes.now) }
+fn one_question(octets: &[u8]) -> Option<(Question, Option<Serial>, bool)>
+    requires { HEADER ≤ length octets.now }
+    ensures { result ≡ option_and_then (seen octets.now) (body_in octets.now) }
 {
-    if count_at(bytes, QDCOUNT) != 1 {
+    if count_at(octets, QDCOUNT) != 1 {
         return None;
     }
-    let (question, at) = question_at(bytes, HEADER)?;
-    let (_, at) = records_at(bytes, at, count_at(bytes, ANCOUNT))?;
-    let (serial, at) = authority_at(bytes, &question, at, count_at(bytes, NSCOUNT))?;
-    let (opt, _) = records_at(bytes, at, count_at(bytes, ARCOUNT))?;
+    let (question, at) = question_at(octets, HEADER)?;
+    let (_, at) = records_at(octets, at, count_at(octets, ANCOUNT))?;
+    let (serial, at) = authority_at(octets, &question, at, count_at(octets, NSCOUNT))?;
+    let (opt, _) = records_at(octets, at, count_at(octets, ARCOUNT))?;
     Some((question, serial, opt))
 }
 
 /// The serial of the zone that one who asks for an IXFR holds, by the so many records of the authority section at a
 /// position, and the position behind the last; None where one of them can't be read (RFC 1995, 3).
 fn authority_at(
-    bytes: &[u8],
+    octets: &[u8],
     question: &Question,
     at: usize,
     count: u16,
 ) -> Option<(Option<Serial>, usize)>
-    ensures { result ≡ option_map (λ r. (serial_held bytes.now question.now r.0, r.1)) (records_at count bytes.now at) }
+    ensures { result ≡ option_map (λ r. (serial_held octets.now question.now r.0, r.1)) (records_at count octets.now at) }
 {
-    let (_, next) = records_at(bytes, at, count)?;
+    let (_, next) = records_at(octets, at, count)?;
     if question.rtype != RType::IXFR {
         return Some((None, next));
     }
     if count != 1 {
         return Some((None, next));
     }
-    Some((serial_of_first(bytes, &question.name, at), next))
+    Some((serial_of_first(octets, &question.name, at), next))
 }
 
 /// The serial of the record at a position, where it is an SOA at a name; None of any other, and where its data haven't
 /// the form of an SOA's (RFC 1995, 3).
-fn serial_of_first(bytes: &[u8], name: &Name, at: usize) -> Option<Serial>
-    ensures { result ≡ option_and_then (λ r. serial_in bytes.now name.now (r.0 ∷ [])) (record_at bytes.now at) }
+fn serial_of_first(octets: &[u8], name: &Name, at: usize) -> Option<Serial>
+    ensures { result ≡ option_and_then (λ r. serial_in octets.now name.now (r.0 ∷ [])) (record_at octets.now at) }
 {
-    let (entry, _) = entry_at(bytes, at)?;
+    let (entry, _) = entry_at(octets, at)?;
     if entry.rtype != RType::SOA || entry.class != Class::IN || entry.owner != *name {
         return None;
     }
-    serial_at(bytes, &entry)
+    serial_at(octets, &entry)
 }
 
 /// The serial in the data of an SOA; None where these haven't its form (RFC 1035, 3.3.13).
 #[tactic(auto, unfolding(crate::specs::Expanded::names_at))]
-fn serial_at(bytes: &[u8], entry: &Entry) -> Option<Serial>
-    requires { entry.now.at + entry.now.size ≤ length bytes.now }
-    ensures { result ≡ serial_at bytes.now entry.now }
+fn serial_at(octets: &[u8], entry: &Entry) -> Option<Serial>
+    requires { entry.now.at + entry.now.size ≤ length octets.now }
+    ensures { result ≡ serial_at octets.now entry.now }
 {
-    let Ok((_, at)) = read_name(bytes, entry.at) else {
+    let Ok((_, at)) = read_name(octets, entry.at) else {
         return None;
     };
-    let Ok((_, at)) = read_name(bytes, at) else {
+    let Ok((_, at)) = read_name(octets, at) else {
         return None;
     };
     let end = entry.at + entry.size;
     if at > end || end - at != SOA_NUMBERS {
         return None;
     }
-    Some(Serial(long_number_at(bytes, at)?))
+    Some(Serial(long_number_at(octets, at)?))
 }
 
 /// The question at a position, and the position behind it; None where it can't be read (RFC 1035, 4.1.2).
-pub(crate) fn question_at(bytes: &[u8], at: usize) -> Option<(Question, usize)>
-    ensures { result ≡ question_at bytes.now at }
+pub(crate) fn question_at(octets: &[u8], at: usize) -> Option<(Question, usize)>
+    ensures { result ≡ question_at octets.now at }
 {
-    let Ok((name, at)) = read_name(bytes, at) else {
+    let Ok((name, at)) = read_name(octets, at) else {
         return None;
     };
-    let rtype = RType(number_at(bytes, at)?);
-    let class = Class(number_at(bytes, at + 2)?);
+    let rtype = RType(number_at(octets, at)?);
+    let class = Class(number_at(octets, at + 2)?);
     let question = Question { name, rtype, class };
     Some((question, at + 4))
 }
 
 /// Whether an OPT is among so many records, and the position behind the last; None where one of them can't be read
 /// (RFC 1035, 4.1.3; RFC 6891, 6.1.1).
-pub(crate) fn records_at(bytes: &[u8], at: usize, count: u16) -> Option<(bool, usize)>
-    ensures { result ≡ option_map (λ r. (has_opt r.0, r.1)) (records_at count bytes.now at) }
+pub(crate) fn records_at(octets: &[u8], at: usize, count: u16) -> Option<(bool, usize)>
+    ensures { result ≡ option_map (λ r. (has_opt r.0, r.1)) (records_at count octets.now at) }
 {
     let mut place = at;
     let mut opt = false;
     for _ in 0..count {
-        let (rtype, next) = record_at(bytes, place)?;
+        let (rtype, next) = record_at(octets, place)?;
         opt |= rtype == RType::OPT;
         place = next;
     }
@@ -240,9 +256,9 @@ pub(crate) fn records_at(bytes: &[u8], at: usize, count: u16) -> Option<(bool, u
 
 /// The type of the record at a position, and the position behind its data; None where it can't be read
 /// (RFC 1035, 4.1.3).
-fn record_at(bytes: &[u8], at: usize) -> Option<(RType, usize)>
-    ensures { result ≡ option_map (λ r. (record { 0 = r.0.rtype }, r.1)) (record_at bytes.now at) }
+fn record_at(octets: &[u8], at: usize) -> Option<(RType, usize)>
+    ensures { result ≡ option_map (λ r. (record { 0 = r.0.rtype }, r.1)) (record_at octets.now at) }
 {
-    let (entry, next) = entry_at(bytes, at)?;
+    let (entry, next) = entry_at(octets, at)?;
     Some((entry.rtype, next))
 }

@@ -22,46 +22,46 @@ const RCODES: u8 = 16;
 /// None where the octets are no reply of RCODE NOERROR, or a question or a record of any section can't be read; octets behind
 /// the last record are ignored (RFC 1035, 4.1; RFC 5936, 2.2; own). An `Err` only where a growth was refused; none is asked for
 /// where there is no such record.
-pub fn received_records(alloc: Global, bytes: &[u8]) -> Result<Option<RawRecords>, AllocError>
-    ensures found { IfOk result (λ found. found ≡ received_records bytes.now) }
-    ensures some { OnErr result (received_records bytes.now ≢ Some []) }
+pub fn received_records(alloc: Global, octets: &[u8]) -> Result<Option<RawRecords>, AllocError>
+    ensures found { IfOk result (λ found. found ≡ received_records octets.now) }
+    ensures some { OnErr result (received_records octets.now ≢ Some []) }
 {
-    if bytes.len() < HEADER || !is_reply(bytes) || rcode_of(bytes) != 0 {
+    if octets.len() < HEADER || !is_reply(octets) || rcode_of(octets) != 0 {
         return Ok(None);
     }
-    match answer_at(bytes) {
+    match answer_at(octets) {
         None => Ok(None),
-        Some(at) => all_received(alloc, bytes, at, count_at(bytes, ANCOUNT)),
+        Some(at) => all_received(alloc, octets, at, count_at(octets, ANCOUNT)),
     }
 }
 
 /// The RCODE of a header (RFC 1035, 4.1.1).
-fn rcode_of(bytes: &[u8]) -> u8
-    requires { HEADER ≤ length bytes.now }
-    ensures { result ≡ rcode_of bytes.now }
+fn rcode_of(octets: &[u8]) -> u8
+    requires { HEADER ≤ length octets.now }
+    ensures { result ≡ rcode_of octets.now }
 {
-    bytes[3] % RCODES
+    octets[3] % RCODES
 }
 
 /// Where the answer section of a message begins; None where a question or a record of any section can't be read.
-fn answer_at(bytes: &[u8]) -> Option<usize>
-    requires { HEADER ≤ length bytes.now }
-    ensures { MatchOption result (body_in bytes.now ≡ None) (HasAnswerAt bytes.now) }
+fn answer_at(octets: &[u8]) -> Option<usize>
+    requires { HEADER ≤ length octets.now }
+    ensures { MatchOption result (body_in octets.now ≡ None) (HasAnswerAt octets.now) }
 {
-    let answer = behind_questions(bytes, HEADER, count_at(bytes, QDCOUNT))?;
-    let (_, authority) = records_at(bytes, answer, count_at(bytes, ANCOUNT))?;
-    let (_, additional) = records_at(bytes, authority, count_at(bytes, NSCOUNT))?;
-    let _ = records_at(bytes, additional, count_at(bytes, ARCOUNT))?;
+    let answer = behind_questions(octets, HEADER, count_at(octets, QDCOUNT))?;
+    let (_, authority) = records_at(octets, answer, count_at(octets, ANCOUNT))?;
+    let (_, additional) = records_at(octets, authority, count_at(octets, NSCOUNT))?;
+    let _ = records_at(octets, additional, count_at(octets, ARCOUNT))?;
     Some(answer)
 }
 
 /// The position behind so many questions; None where one of them can't be read (RFC 1035, 4.1.2).
-fn behind_questions(bytes: &[u8], at: usize, count: u16) -> Option<usize>
-    ensures { result ≡ option_map (λ r. r.1) (questions_at count bytes.now at) }
+fn behind_questions(octets: &[u8], at: usize, count: u16) -> Option<usize>
+    ensures { result ≡ option_map (λ r. r.1) (questions_at count octets.now at) }
 {
     let mut place = at;
     for _ in 0..count {
-        let (_, next) = question_at(bytes, place)?;
+        let (_, next) = question_at(octets, place)?;
         place = next;
     }
     Some(place)
@@ -70,31 +70,31 @@ fn behind_questions(bytes: &[u8], at: usize, count: u16) -> Option<usize>
 /// So many records from a position on as they are received; None where one of them can't be read.
 fn all_received(
     alloc: Global,
-    bytes: &[u8],
+    octets: &[u8],
     at: usize,
     count: u16,
 ) -> Result<Option<RawRecords>, AllocError>
-    ensures found { IfOk result (λ found. found ≡ option_map (λ r. map (received bytes.now) r.0) (records_at count bytes.now at)) }
+    ensures found { IfOk result (λ found. found ≡ option_map (λ r. map (received octets.now) r.0) (records_at count octets.now at)) }
     ensures some { OnErr result (0 < count) }
 {
     let mut records = Vec::new(alloc);
     let mut place = at;
     for _ in 0..count {
-        let Some((entry, next)) = entry_at(bytes, place) else {
+        let Some((entry, next)) = entry_at(octets, place) else {
             return Ok(None);
         };
-        records.push(one_received(alloc, bytes, &entry)?)?;
+        records.push(one_received(alloc, octets, &entry)?)?;
         place = next;
     }
     Ok(Some(RawRecords::new(records)))
 }
 
 /// A record as it is received.
-fn one_received(alloc: Global, bytes: &[u8], entry: &Entry) -> Result<RawRecord, AllocError>
-    requires { entry.now.at + entry.now.size ≤ length bytes.now }
-    ensures { IfOk result (λ own. own ≡ received bytes.now entry.now) }
+fn one_received(alloc: Global, octets: &[u8], entry: &Entry) -> Result<RawRecord, AllocError>
+    requires { entry.now.at + entry.now.size ≤ length octets.now }
+    ensures { IfOk result (λ own. own ≡ received octets.now entry.now) }
 {
-    let octets = expanded(alloc, bytes, entry)?.unwrap_or(Vec::new(alloc));
+    let octets = expanded(alloc, octets, entry)?.unwrap_or(Vec::new(alloc));
     Ok(RawRecord {
         owner: entry.owner.fold(),
         rtype: entry.rtype,

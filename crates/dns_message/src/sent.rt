@@ -15,17 +15,17 @@ use wire_names::read_name;
 /// type's form (RFC 2136, 2.4 and 2.5). An `Err` only where a growth was refused.
 pub(crate) fn raw_records(
     alloc: Global,
-    bytes: &[u8],
+    octets: &[u8],
     section: Section,
     at: usize,
     count: u16,
 ) -> Result<Option<(RawRecords, usize)>, AllocError>
-    ensures { IfOk result (λ found. found ≡ raws_at section count bytes.now at) }
+    ensures { IfOk result (λ found. found ≡ raws_at section count octets.now at) }
 {
     let mut records = Vec::new(alloc);
     let mut place = at;
     for _ in 0..count {
-        let Some((record, next)) = raw_record(alloc, bytes, section, place)? else {
+        let Some((record, next)) = raw_record(alloc, octets, section, place)? else {
             return Ok(None);
         };
         records.push(record)?;
@@ -37,16 +37,16 @@ pub(crate) fn raw_records(
 /// The record of a section at a position, and the position behind it, as [`raw_records`] gives them.
 fn raw_record(
     alloc: Global,
-    bytes: &[u8],
+    octets: &[u8],
     section: Section,
     at: usize,
 ) -> Result<Option<(RawRecord, usize)>, AllocError>
-    ensures { IfOk result (λ found. found ≡ raw_at section bytes.now at) }
+    ensures { IfOk result (λ found. found ≡ raw_at section octets.now at) }
 {
-    let Some((entry, next)) = entry_at(bytes, at) else {
+    let Some((entry, next)) = entry_at(octets, at) else {
         return Ok(None);
     };
-    let Some(octets) = data_octets(alloc, bytes, section, &entry)? else {
+    let Some(octets) = data_octets(alloc, octets, section, &entry)? else {
         return Ok(None);
     };
     let record = RawRecord {
@@ -63,17 +63,17 @@ fn raw_record(
 /// they haven't their type's form (RFC 1035, 3.3 and 4.1.4; RFC 3597, 4; RFC 4343, 3).
 fn data_octets(
     alloc: Global,
-    bytes: &[u8],
+    octets: &[u8],
     section: Section,
     entry: &Entry,
 ) -> Result<Option<Vec<u8>>, AllocError>
-    requires { entry.now.at + entry.now.size ≤ length bytes.now }
-    ensures { IfOk result (λ found. option_map (λ own. own.items) found ≡ octets_of section bytes.now entry.now) }
+    requires { entry.now.at + entry.now.size ≤ length octets.now }
+    ensures { IfOk result (λ found. option_map (λ own. own.items) found ≡ octets_of section octets.now entry.now) }
 {
     if !is_looked_at(section, entry) {
-        return as_it_stands(alloc, bytes, entry);
+        return as_it_stands(alloc, octets, entry);
     }
-    match expanded(alloc, bytes, entry)? {
+    match expanded(alloc, octets, entry)? {
         None => Ok(None),
         Some(octets) => entry.rtype.data_octets(alloc, &octets),
     }
@@ -99,14 +99,14 @@ fn is_looked_at(section: Section, entry: &Entry) -> bool
 /// the data (RFC 1035, 4.1.4).
 pub(crate) fn expanded(
     alloc: Global,
-    bytes: &[u8],
+    octets: &[u8],
     entry: &Entry,
 ) -> Result<Option<Vec<u8>>, AllocError>
-    requires { entry.now.at + entry.now.size ≤ length bytes.now }
-    ensures { IfOk result (λ found. option_map (λ own. own.items) found ≡ expanded_data bytes.now entry.now) }
+    requires { entry.now.at + entry.now.size ≤ length octets.now }
+    ensures { IfOk result (λ found. option_map (λ own. own.items) found ≡ expanded_data octets.now entry.now) }
 {
     let Some(layout) = entry.rtype.layout() else {
-        return as_it_stands(alloc, bytes, entry);
+        return as_it_stands(alloc, octets, entry);
     };
     match layout {
         Layout::Fields {
@@ -114,37 +114,37 @@ pub(crate) fn expanded(
             names,
             back,
             ..
-        } => expanded_fields(alloc, bytes, entry, front, names, back),
-        Layout::Strings => as_it_stands(alloc, bytes, entry),
+        } => expanded_fields(alloc, octets, entry, front, names, back),
+        Layout::Strings => as_it_stands(alloc, octets, entry),
     }
 }
 
 /// A record's data as they stand.
-fn as_it_stands(alloc: Global, bytes: &[u8], entry: &Entry) -> Result<Option<Vec<u8>>, AllocError>
-    ensures { IfOk result (λ found. option_map (λ own. own.items) found ≡ Some (octets_from bytes.now entry.now.at entry.now.size)) }
+fn as_it_stands(alloc: Global, octets: &[u8], entry: &Entry) -> Result<Option<Vec<u8>>, AllocError>
+    ensures { IfOk result (λ found. option_map (λ own. own.items) found ≡ Some (octets_from octets.now entry.now.at entry.now.size)) }
 {
-    let own = octets_from(bytes, entry.at, entry.size).to_vec(alloc)?;
+    let own = octets_from(octets, entry.at, entry.size).to_vec(alloc)?;
     Ok(Some(own))
 }
 
 /// Data of so many octets in front, so many names and so many octets behind, with the names in full, as [`expanded`] gives it.
 fn expanded_fields(
     alloc: Global,
-    bytes: &[u8],
+    octets: &[u8],
     entry: &Entry,
     front: usize,
     names: usize,
     back: usize,
 ) -> Result<Option<Vec<u8>>, AllocError>
-    requires within { entry.now.at + entry.now.size ≤ length bytes.now }
+    requires within { entry.now.at + entry.now.size ≤ length octets.now }
     requires short { front < 2 ^ 16 }
     ensures { IfOk result (λ found. option_map (λ own. own.items) found
-        ≡ expanded_by (Layout.Fields front names back true) bytes.now entry.now.at entry.now.size) }
+        ≡ expanded_by (Layout.Fields front names back true) octets.now entry.now.at entry.now.size) }
 {
-    let mut own = octets_from(bytes, entry.at, front).to_vec(alloc)?;
+    let mut own = octets_from(octets, entry.at, front).to_vec(alloc)?;
     let mut place = entry.at + front;
     for _ in 0..names {
-        let Ok((name, next)) = read_name(bytes, place) else {
+        let Ok((name, next)) = read_name(octets, place) else {
             return Ok(None);
         };
         own.extend_from_slice(name.wire())?;
@@ -154,6 +154,6 @@ fn expanded_fields(
     if place > end || end - place != back {
         return Ok(None);
     }
-    own.extend_from_slice(octets_from(bytes, place, back))?;
+    own.extend_from_slice(octets_from(octets, place, back))?;
     Ok(Some(own))
 }

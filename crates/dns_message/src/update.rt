@@ -87,32 +87,32 @@ pub struct Update {
 /// where a growth was refused.
 pub(crate) fn read_update(
     alloc: Global,
-    bytes: &[u8],
+    octets: &[u8],
     head: Head,
 ) -> Result<Option<Update>, AllocError>
-    requires { HEADER ≤ length bytes.now }
-    ensures { IfOk result (λ found. found ≡ update_in head bytes.now) }
+    requires { HEADER ≤ length octets.now }
+    ensures { IfOk result (λ found. found ≡ update_in head octets.now) }
 {
-    let Some((zone, at)) = zone_at(bytes) else {
+    let Some((zone, at)) = zone_at(octets) else {
         return Ok(None);
     };
     let section = Section::Prerequisites;
     let Some((prerequisites, at)) = raw_records(
         alloc,
-        bytes,
+        octets,
         section,
         at,
-        count_at(bytes, PRCOUNT),
+        count_at(octets, PRCOUNT),
     )?
     else {
         return Ok(None);
     };
     let section = Section::Updates;
-    let Some((updates, at)) = raw_records(alloc, bytes, section, at, count_at(bytes, UPCOUNT))?
+    let Some((updates, at)) = raw_records(alloc, octets, section, at, count_at(octets, UPCOUNT))?
     else {
         return Ok(None);
     };
-    let Some((opt, _)) = records_at(bytes, at, count_at(bytes, ADCOUNT)) else {
+    let Some((opt, _)) = records_at(octets, at, count_at(octets, ADCOUNT)) else {
         return Ok(None);
     };
     if opt {
@@ -128,14 +128,14 @@ pub(crate) fn read_update(
 
 /// The entry of the zone section, and the position behind it; None of another number of entries than one, of one of another
 /// type than SOA, and where it can't be read (RFC 2136, 2.3).
-fn zone_at(bytes: &[u8]) -> Option<(ZoneEntry, usize)>
-    requires { HEADER ≤ length bytes.now }
-    ensures { result ≡ zone_at bytes.now }
+fn zone_at(octets: &[u8]) -> Option<(ZoneEntry, usize)>
+    requires { HEADER ≤ length octets.now }
+    ensures { result ≡ zone_at octets.now }
 {
-    if count_at(bytes, ZOCOUNT) != 1 {
+    if count_at(octets, ZOCOUNT) != 1 {
         return None;
     }
-    let (entry, at) = question_at(bytes, HEADER)?;
+    let (entry, at) = question_at(octets, HEADER)?;
     if entry.rtype != RType::SOA {
         return None;
     }

@@ -25,6 +25,7 @@ pub use laws::{
     text_is_read_back, under_ancestors,
 };
 pub use name::{MAX_BELOW_ASTERISK, MAX_LABEL, MAX_NAME, Name};
+pub use octets::first_label;
 pub use print::MAX_TEXT;
 pub use stored::{MAX_STORED, SoughtName, StoredName};
 pub use text::{NameFault, octet_at};

@@ -8,7 +8,7 @@ use crate::name::{MAX_LABEL, MAX_NAME};
 use arrayvec::ArrayVec;
 
 /// The first label, and the octets behind it; None at the zero octet.
-pub(crate) fn first_label(octets: &[u8]) -> Option<(&[u8], &[u8])>
+pub fn first_label(octets: &[u8]) -> Option<(&[u8], &[u8])>
     requires { IsWhole octets.now }
     ensures { MatchOption result (labels_in octets.now ≡ []) (λ parts. IsFirstLabel octets.now parts.0.now parts.1.now) }
 {

@@ -3,6 +3,7 @@
 use Rattle.std.specs.Prelude.{◌≡◌, ℕ, zero, suc, ◌*◌, ◌-◌, ◌<◌, ◌≤◌, Bool, true, false, ◌&&◌, ◌==◌, List, [], ◌∷◌, ◌++◌, length, take, drop, nat_lt, nat_le, if◌then◌else◌, Option, Some, None, All}
 use Rattle.std.specs.Option.{option_map, option_and_then}
 use Rattle.std.specs.Int.{from_be_bytes, to_be_bytes, w32}
+use Rattle.dns_rdata.specs.Limits.{max_data}
 use Rattle.dns_name.specs.Name.{Name, wire_of, fold_name, name_in}
 use Rattle.dns_rdata.specs.declared.layout.Layout.{Layout}
 use Rattle.dns_rdata.specs.declared.layout.Layout.TheVariants.{Fields, Strings}
@@ -52,7 +53,7 @@ pub record Data : Type 0 where
 -- what a record's data keeps: the form of its type, names in lower case, and at most 4,096 octets (RFC 1035, 3.3; own)
 pub record IsData (d : Data) : Type 0 where
   pub form : data_of d.rtype d.octets ≡ Some d.octets
-  pub short : length d.octets ≤ 4096
+  pub short : length d.octets ≤ max_data
   pub bytes : All (λ octet. octet < 256) d.octets
 
 -- the name that an alias stands for (RFC 1035, 3.3.1)

@@ -1,4 +1,5 @@
 pub mod Numbers
+pub mod Limits
 pub mod Layout
 pub mod Data
 pub mod Record

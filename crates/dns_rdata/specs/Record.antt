@@ -4,6 +4,7 @@ use Rattle.std.specs.List.{AllPairs, list_any}
 use Rattle.std.specs.Ordering.{nat_cmp, ordering_then, is_lt, is_eq}
 use Rattle.std.specs.declared.cmp.Ordering.{Ordering}
 use Rattle.std.specs.Cmp.Lexicographic.{slice_cmp}
+use Rattle.dns_rdata.specs.Limits.{max_set}
 use Rattle.dns_name.specs.Name.{Name, IsName, canonical_cmp, fold_name}
 use Rattle.dns_rdata.specs.Data.{Data, IsData, data_of}
 
@@ -62,7 +63,7 @@ pub record IsSet (owner : Name) (rtype ttl : ℕ) (ds : List Data) : Type 0 wher
   pub folded : owner ≡ fold_name owner
   pub lasts : ttl < 2 ^ 31
   pub some : 0 < length ds
-  pub few : length ds ≤ 256
+  pub few : length ds ≤ max_set
   pub typed : All (λ d. d.rtype ≡ rtype) ds
   pub lawful : All IsData ds
   pub ascending : AllPairs IsBefore ds

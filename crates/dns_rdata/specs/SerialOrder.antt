@@ -15,7 +15,7 @@ sum_by bits a n = (a + n) % 2 ^ bits
 abbrev pub serial_less : ℕ → ℕ → Bool
 serial_less a b = less_by 32 a b
 
--- the serial behind a zone's serial (RFC 1982, 3.1 and 7)
+-- the serial after a zone's serial (RFC 1982, 3.1 and 7)
 abbrev pub serial_next : ℕ → ℕ
 serial_next a = sum_by 32 a 1
 

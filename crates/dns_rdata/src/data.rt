@@ -2,6 +2,7 @@
 ghost use Rattle.std.specs.Prelude.{◌≡◌, ◌-◌, ◌<◌, ◌≤◌, ◌↔◌, ◌==◌, if◌then◌else◌, length, take, drop, IfOk, IfSome, Some, None, IsSome};
 ghost use Rattle.std.specs.Int.{from_be_bytes, w32};
 ghost use Rattle.std.specs.Result.{IsErrOf};
+ghost use Rattle.dns_rdata.specs.Limits.{max_data};
 ghost use Rattle.dns_rdata.specs.Data.{IsData, data_of, target_of, serial_of, refresh_of, retry_of, expire_of, minimum_of, with_serial};
 ghost use Rattle.dns_rdata.specs.Numbers.{type_CNAME, type_SOA};
 
@@ -70,7 +71,7 @@ impl RData {
     pub fn from_wire(alloc: Global, rtype: RType, octets: &[u8]) -> Result<RData, DataFault>
         ensures data { IfOk result (λ d. (d.rtype ≡ rtype.0)
             × (data_of rtype.0 octets.now ≡ Some d.octets)
-            × (length d.octets ≤ 4096)) }
+            × (length d.octets ≤ max_data)) }
 
         // The form decides first, and neither judgement takes memory.
         ensures bad_length { IsErrOf result DataFault.BadLength → data_of rtype.0 octets.now ≡ None }
@@ -78,8 +79,8 @@ impl RData {
 
         // Folding keeps the length.
         ensures too_long { IsErrOf result DataFault.TooLong
-            → IsSome (data_of rtype.0 octets.now) × (4096 < length octets.now) }
-        ensures long_form { IsSome (data_of rtype.0 octets.now) → 4096 < length octets.now
+            → IsSome (data_of rtype.0 octets.now) × (max_data < length octets.now) }
+        ensures long_form { IsSome (data_of rtype.0 octets.now) → max_data < length octets.now
             → IsErrOf result DataFault.TooLong }
     {
         if !has_form(rtype, octets) {

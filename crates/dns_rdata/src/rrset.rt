@@ -1,6 +1,7 @@
 //! The records that share an owner and a type (RFC 2181, 5).
 ghost use Rattle.std.specs.Prelude.{◌≡◌, ◌≢◌, ◌↔◌, ◌<◌, ◌≤◌, ◌^◌, false, not, [], ◌∷◌, length, map, filter, insert, bytes_eq, All, IfOk, IfSome, IsNone, OnOk, OnErr, MatchBool, MatchResult};
 ghost use Rattle.std.specs.Result.{IsErrOf};
+ghost use Rattle.dns_rdata.specs.Limits.{max_data, max_set};
 ghost use Rattle.dns_name.specs.Name.{fold_name};
 ghost use Rattle.dns_rdata.specs.Data.{IsData};
 ghost use Rattle.dns_rdata.specs.Record.{Record, IsLawful, records_with, owner_of, rtype_of, ttl_of, IsSet, with_data, with_record, has_data, without_data};
@@ -124,7 +125,7 @@ impl RRset {
             ≡ records_with (owner_of self.now) (rtype_of self.now) (ttl_of self.now) result.now }
         ensures lawful { IsSet (owner_of self.now) (rtype_of self.now) (ttl_of self.now) result.now }
         ensures each { All IsLawful self.now }
-        ensures short { All (λ r. length r.rdata ≤ 4096) self.now }
+        ensures short { All (λ r. length r.rdata ≤ max_data) self.now }
     {
         self.rdata.as_slice()
     }
@@ -153,10 +154,10 @@ impl RRset {
             self.old) }
         ensures fresh { IfOk result (λ is_new. is_new ≡ not (has_data self.old rdata.octets)) }
         ensures limit { IsErrOf result SetFault.Limit
-            ↔ ((length self.old ≡ 256) × (has_data self.old rdata.octets ≡ false)) }
+            ↔ ((length self.old ≡ max_set) × (has_data self.old rdata.octets ≡ false)) }
         // Data that is there already wants no memory.
         ensures no_memory { IsErrOf result SetFault.NoMemory
-            → (has_data self.old rdata.octets ≡ false) × (length self.old < 256) }
+            → (has_data self.old rdata.octets ≡ false) × (length self.old < max_set) }
         ensures err { OnErr result (self.new ≡ self.old) }
     {
         let Err(place) = place_of(&self.rdata, &rdata) else {

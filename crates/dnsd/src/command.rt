@@ -123,17 +123,17 @@ fn command_of<'a>(
     })
 }
 
-/// The option for how many versions are kept beside the last.
-const KEEP: &str = "keep";
+/// The option for how many older versions are kept beside the newest.
+pub const KEEP: &str = "keep";
 
-/// The most versions that are kept beside the last.
-const MAX_KEEP: usize = 8;
+/// The most older versions that are kept.
+pub const MAX_KEEP: usize = transfer_core::KEPT;
 
 /// The option for how many entries the window has.
 const WINDOW: &str = "window";
 
 /// The most entries of the window.
-const MAX_WINDOW: usize = 16;
+const MAX_WINDOW: usize = transfer_core::WINDOW;
 
 /// The number that a word gives an option, from the least to the greatest that it takes; where there is no word, the option's own.
 pub fn number_for<'a>(
@@ -160,9 +160,16 @@ pub fn number_for<'a>(
     }
 }
 
+/// The program's name.
+const PROGRAM: &str = "dnsd";
+
+/// The program's version, which `--version` prints after its name.
+const VERSION: &str = "0.1.0";
+
 /// The program's command line.
 fn program<'a>(alloc: Global) -> Result<Parser<'a>, AllocError> {
-    let parser = Parser::new(alloc, "dnsd")
+    let parser = Parser::new(alloc, PROGRAM)
+        .version(VERSION)
         .about("an authoritative name server for one zone")
         .subcommand_required(true)
         .arg_required_else_help(true);
@@ -205,7 +212,7 @@ fn with_apply<'a>(alloc: Global, parser: Parser<'a>) -> Result<Parser<'a>, Alloc
     parser.subcommand(subcommand(
         alloc,
         "apply",
-        "takes a transfer, a message in hexadecimal a line, and prints the zone's text behind it",
+        "takes a transfer, a message in hexadecimal a line, and prints the zone's text after it",
         "Example, with the messages of a transfer in a file:\n  dnsd apply zones/example.test.zone < messages",
     )?)
 }
@@ -222,7 +229,7 @@ fn with_steps<'a>(alloc: Global, parser: Parser<'a>) -> Result<Parser<'a>, Alloc
         alloc,
         KEEP,
         "N",
-        "how many versions are kept beside the last, at most 8",
+        "how many older versions are kept beside the newest, at most 8",
     )
     .default_value("0"))?;
     let steps = steps.arg(option(

@@ -2,17 +2,20 @@
 //!
 //! The command line is parsed by `command`. What a command does over a zone's text, standard input and standard output is
 //! `commands`': `answer` replies to each request that it reads, `check` prints the zone's written text, `apply` that of the zone
-//! behind a transfer's messages, and `steps` plays a script. `serve` answers on sockets, by the workers of `serve_workers`.
+//! after a transfer's messages, and `steps` plays a script. `serve` answers on sockets, by the workers of `serve_workers`.
 #![tactic(auto)]
 
 ghost use Rattle.std.specs.Prelude.{◌≡◌, ◌⊎◌};
 
 pub mod command;
+pub mod log;
 pub mod serve;
+pub mod zone_file;
 
 use command::{BAD_COMMAND, CommandFault, Task, parse_words};
 use commands::{Command, DONE, FAILED, Source, run_text, run_with_zone, tell};
 use serve::run_serve;
+use std::env;
 use std::io::{self, BufRead, BufReader, BufWriter, Write};
 use std::net::{Net, TcpListener, TcpStream};
 use std::process::ExitCode;
@@ -20,7 +23,7 @@ use std::rt::{Env, Files};
 use std::sync::Wait;
 use std::thread::Threads;
 use std::time::Clock;
-use std::{env, fs};
+use zone_file::read_zone_file;
 
 fn main(rt: HostRuntime) -> ExitCode {
     match run_words(&rt) {
@@ -44,7 +47,11 @@ fn run_words<
         + Threads
         + Wait
         + Clock
-        + Sync,
+        + Copy
+        + Send
+        + Sync
+        + Drop
+        + 'static,
 >(rt: &R) -> io::Result<u8> {
     let alloc = rt.alloc();
     let words: Vec<String> = env::args(rt)?.collect(alloc)?;
@@ -112,7 +119,7 @@ fn run_command<R: Files + Print + Eprint + Input + AllocGlobal>(
     Ok(status)
 }
 
-/// Does a command over standard input and output; what it says of a failure goes behind `errors`.
+/// Does a command over standard input and output; what it says of a failure goes to the end of `errors`.
 fn run_on_streams<R: Files + Print + Eprint + Input + AllocGlobal>(
     rt: &R,
     command: &Command<'_>,
@@ -137,14 +144,9 @@ fn run_with_file<R: Files + Eprint + AllocGlobal, I: BufRead, O: Write + Drop>(
     errors: &mut Vec<u8>,
 ) -> io::Result<u8> {
     let alloc = rt.alloc();
-    match fs::read(rt, path) {
-        Ok(text) => {
-            let done = run_with_zone(alloc, command, text.as_slice(), input, output);
-            Ok(tell(alloc, done, text.as_slice(), errors))
-        }
-        Err(fault) => {
-            eprintln!(rt; "error: the zone's file '{path}' can't be read: {fault}")?;
-            Ok(FAILED)
-        }
-    }
+    let Some(text) = read_zone_file(rt, path)? else {
+        return Ok(FAILED);
+    };
+    let done = run_with_zone(alloc, command, text.as_slice(), input, output);
+    Ok(tell(alloc, done, text.as_slice(), errors))
 }

@@ -1,20 +1,23 @@
 //! Serving a zone on sockets (RFC 1035, 4.2).
-use crate::command::{CommandFault, number_for, option};
+use crate::command::{CommandFault, KEEP, MAX_KEEP, number_for, option};
+use crate::log::{Log, LogLine};
+use crate::zone_file::read_zone_file;
 use clap::{ArgMatches, Command as Parser};
 use commands::{DONE, FAILED, Fault, Source, tell};
+use conversation::Allowed;
 use dns_name::Name;
 use line_io::read_zone_text;
 use master_file::read_zone;
-use serve_workers::{Allowed, Event, Journal, Plan, serve_zone};
+use serve_workers::{Plan, serve_zone};
 use std::alloc::{AllocError, Global};
 use std::io::{self, BufReader, ErrorKind};
 use std::marker::Brand;
+use std::mem;
 use std::net::{IpAddr, Net, SocketAddr, TcpListener, TcpStream, UdpSocket};
 use std::rt::Files;
 use std::sync::Wait;
 use std::thread::Threads;
 use std::time::Clock;
-use std::{fs, mem};
 use zone_tree::{Zone, ZoneRead};
 
 /// A zone to be served, and how.
@@ -28,7 +31,7 @@ pub struct Serve<'a> {
     pub listen: SocketAddr,
     /// How many workers there are for datagrams, and as many for connections; at most [`MAX_WORKERS`].
     pub workers: usize,
-    /// How many versions are kept in front of the last; at most [`MAX_KEEP`].
+    /// How many older versions are kept beside the newest; at most [`MAX_KEEP`].
     pub keep: usize,
     /// After how many requests or connections a worker ends.
     pub most: u64,
@@ -44,12 +47,6 @@ const WORKERS: &str = "workers";
 
 /// The most workers for datagrams, and for connections.
 const MAX_WORKERS: usize = 30;
-
-/// The option for how many versions are kept in front of the last.
-const KEEP: &str = "keep";
-
-/// The most versions that are kept in front of the last.
-const MAX_KEEP: usize = 8;
 
 /// The option for who may update and transfer.
 const ALLOW: &str = "allow";
@@ -77,7 +74,7 @@ pub fn serve_options<'a>(alloc: Global, parser: Parser<'a>) -> Result<Parser<'a>
         alloc,
         KEEP,
         "N",
-        "how many versions are kept in front of the last, at most 8",
+        "how many older versions are kept beside the newest, at most 8",
     )
     .default_value("8"))?;
     let parser = parser.arg(option(
@@ -148,19 +145,6 @@ fn addresses_of<'a>(alloc: Global, list: &'a str) -> Result<Vec<IpAddr>, Command
     Ok(addresses)
 }
 
-/// A journal on standard error, a line for each event.
-#[derive(Drop)]
-struct ErrorLines<'a, R> {
-    rt: &'a R,
-}
-
-impl<E: Eprint> Journal for ErrorLines<'_, E> {
-    // A line that can't be written ends nothing.
-    fn tell<R: Wait>(&self, _rt: &R, event: Event) {
-        let _ = eprintln!(self.rt; "{event}");
-    }
-}
-
 /// Serves a zone, and gives the program's status: 0 where each worker has done what it may, 1 where the zone is refused, 3 at a
 /// device's fault, a thread that can't be started or want of memory.
 pub fn run_serve<
@@ -172,18 +156,21 @@ pub fn run_serve<
         + Threads
         + Wait
         + Clock
-        + Sync,
+        + Copy
+        + Send
+        + Sync
+        + Drop
+        + 'static,
 >(rt: &R, serve: &Serve<'_>) -> io::Result<u8> {
     let alloc = rt.alloc();
     let text = match serve.zone {
         Source::Input => read_zone_text(alloc, &mut BufReader::new(alloc, rt.reader())?)?,
-        Source::File(path) => match fs::read(rt, path) {
-            Ok(text) => text,
-            Err(fault) => {
-                eprintln!(rt; "error: the zone's file '{path}' can't be read: {fault}")?;
+        Source::File(path) => {
+            let Some(text) = read_zone_file(rt, path)? else {
                 return Ok(FAILED);
-            }
-        },
+            };
+            text
+        }
     };
     match read_zone(alloc, text.as_slice(), &serve.origin) {
         Ok(zone) => {
@@ -207,7 +194,11 @@ fn serve_on<
         + Threads
         + Wait
         + Clock
-        + Sync,
+        + Copy
+        + Send
+        + Sync
+        + Drop
+        + 'static,
 >(rt: &R, serve: &Serve<'_>, zone: Zone) -> io::Result<u8> {
     match bound_at(rt, serve.listen) {
         Ok((listener, datagrams, address)) => {
@@ -243,7 +234,11 @@ fn serve_bound<
         + Threads
         + Wait
         + Clock
-        + Sync,
+        + Copy
+        + Send
+        + Sync
+        + Drop
+        + 'static,
 >(
     rt: &R,
     serve: &Serve<'_>,
@@ -252,7 +247,8 @@ fn serve_bound<
     address: SocketAddr,
 ) -> io::Result<u8> {
     let (listener, datagrams) = sockets;
-    tell_of_zone(rt, &zone, address)?;
+    let log = Log::start(rt, zone.apex().copy())?;
+    log.add(rt, listening_line(&zone, address));
     let plan = Plan {
         datagrams,
         listener,
@@ -261,20 +257,25 @@ fn serve_bound<
         most: serve.most,
         allowed: Allowed::new(serve.allowed.as_slice()),
     };
-    let lines = ErrorLines { rt };
-    match serve_zone::<R, Brand, ErrorLines<'_, R>>(rt, rt.alloc(), zone, plan, &lines) {
-        Ok(()) => Ok(DONE),
+    let served = serve_zone::<R, Brand, Log>(rt, rt.alloc(), zone, plan, &log);
+    let status = match served {
+        Ok(()) => DONE,
         Err(fault) => {
-            eprintln!(rt; "error: {fault}")?;
-            Ok(FAILED)
+            log.add(rt, LogLine::Fault(fault));
+            FAILED
         }
-    }
+    };
+    log.end(rt);
+    Ok(status)
 }
 
-/// Says at which address which zone is served.
-fn tell_of_zone<R: Eprint>(rt: &R, zone: &Zone, address: SocketAddr) -> io::Result<()> {
-    let (apex, serial, records) = (zone.apex().to_text(), zone.serial().0, records_of(zone));
-    eprintln!(rt; "listening on {address}: {apex} with serial {serial}, {records} records")
+/// The line that says at which address which zone is served.
+fn listening_line(zone: &Zone, address: SocketAddr) -> LogLine {
+    LogLine::Listening {
+        address,
+        serial: zone.serial(),
+        records: records_of(zone),
+    }
 }
 
 /// A listener at an address, a socket of datagrams beside it, and the address with the port that they have; or what carries the

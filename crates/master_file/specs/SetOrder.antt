@@ -5,6 +5,7 @@ use Rattle.std.specs.Cmp.{IsTotalOrder, IsEquivalence, eq_by_cmp_equiv}
 use Rattle.std.specs.Ordering.{nat_cmp, ordering_then, eq_by_cmp}
 use Rattle.std.specs.declared.cmp.Ordering.{Ordering}
 use Rattle.std.proofs.lemmas.Cmp.{on_total, then_total, nat_cmp_total}
+use Rattle.dns_rdata.specs.Limits.{max_set}
 use Rattle.dns_name.specs.Name.{is_same, canonical_cmp}
 use Rattle.dns_name.specs.Order.{canonical_total}
 use Rattle.dns_rdata.specs.Record.{Record, owner_of, rtype_of, with_record}
@@ -44,7 +45,7 @@ sets_with sets (rr ∷ rest) = sets_with (put_last sets (in_lower (record_in rr)
 
 -- whether a set has more records than a set may have (own)
 abbrev pub is_over : List Record → Bool
-is_over set = nat_lt 256 (length set)
+is_over set = nat_lt max_set (length set)
 
 -- the first of the records, put one after another, make a set of too many
 pub record HasOver (all : List RecordEntry) : Type 0 where

@@ -3,6 +3,8 @@ use Rattle.std.specs.Prelude.{ℕ, Bool, true, false, ◌&&◌, ◌||◌, not, �
 use Rattle.std.specs.BTreeSet.{insert_key}
 use Rattle.std.specs.List.{list_any}
 use Rattle.std.specs.Ordering.{is_eq}
+use Rattle.dns_rdata.specs.Limits.{max_set}
+use Rattle.zone_tree.specs.Limits.{max_records}
 use Rattle.dns_name.specs.Name.{Name, is_under, fold_name}
 use Rattle.dns_rdata.specs.Numbers.{type_NS, type_CNAME, type_SOA}
 use Rattle.dns_rdata.specs.Record.{Record, record_cmp}
@@ -38,7 +40,7 @@ is_new kept rr = not (list_any (λ r. is_eq (record_cmp (record_in rr) r)) kept)
 -- whether a record is one too many: of its owner and type, or in all (own)
 abbrev pub is_too_many : List Record → RecordEntry → Bool
 is_too_many kept rr = is_new kept rr
-    && (length (rrset_of kept rr.owner rr.rdata.rtype) == 256 || length kept == 1000000)
+    && (length (rrset_of kept rr.owner rr.rdata.rtype) == max_set || length kept == max_records)
 
 -- whether a record is an SOA beside another (RFC 1035, 5.2)
 abbrev pub is_second_soa : List Record → RecordEntry → Bool

@@ -3,6 +3,7 @@ ghost use Rattle.std.specs.Prelude.{◌≡◌, ◌≢◌, ◌<◌, ◌≤◌, �
 ghost use Rattle.std.specs.Bool.{OnFalse, OnTrue};
 ghost use Rattle.std.specs.List.{list_any};
 ghost use Rattle.std.specs.Option.{IfNone};
+ghost use Rattle.zone_tree.specs.Limits.{max_records};
 ghost use Rattle.dns_rdata.specs.Numbers.{type_NS};
 ghost use Rattle.dns_rdata.specs.Record.{Record};
 ghost use Rattle.zone_tree.specs.Sets.{records_in, AreAscending};
@@ -84,7 +85,7 @@ fn read_first(
 fn within_limits(alloc: Global, records: Vec<KeptRecord>) -> Result<Option<Vec<RRset>>, AllocError>
     ensures sets { IfOk result (λ found. IfSome found (λ sets. records_in sets.items ≡ zone_records records.items)) }
     ensures rising { IfOk result (λ found. IfSome found (λ sets. AreAscending sets.items)) }
-    ensures small { IfOk result (λ found. IfSome found (λ sets. length (records_in sets.items) ≤ 1000000)) }
+    ensures small { IfOk result (λ found. IfSome found (λ sets. length (records_in sets.items) ≤ max_records)) }
     ensures few { IfOk result (λ found. IfSome found (λ sets. first_line is_too_many [] records.items ≡ None)) }
     ensures many { IfOk result (λ found. IfNone found (first_line is_too_many [] records.items ≡ None → ⊥)) }
 {
@@ -101,7 +102,7 @@ fn within_limits(alloc: Global, records: Vec<KeptRecord>) -> Result<Option<Vec<R
 /// Whether sets have more than one SOA.
 fn has_second_soa(sets: &[RRset]) -> bool
     requires rising { AreAscending sets.now }
-    requires small { length (records_in sets.now) ≤ 1000000 }
+    requires small { length (records_in sets.now) ≤ max_records }
     ensures { result ≡ nat_lt 1 (length (soa_of (records_in sets.now))) }
 {
     let Err(rule) = find_apex(sets) else {
@@ -113,7 +114,7 @@ fn has_second_soa(sets: &[RRset]) -> bool
 /// Whether an alias stands beside another record of sets, or an NS at an owner whose first label is `*`.
 fn is_crowded(sets: &[RRset]) -> bool
     requires rising { AreAscending sets.now }
-    requires small { length (records_in sets.now) ≤ 1000000 }
+    requires small { length (records_in sets.now) ≤ max_records }
     ensures { result ≡ (list_any (λ r. not (is_alone (records_in sets.now) r)) (records_in sets.now)
         || list_any (λ r. is_wild r.owner && r.rtype == type_NS) (records_in sets.now)) }
 {
@@ -229,7 +230,7 @@ fn judge(
     requires few { first_line is_too_many [] (records_of origin.now text.now).rrs ≡ None }
     requires sets { records_in sets.now ≡ zone_records (records_of origin.now text.now).rrs }
     requires rising { AreAscending sets.now }
-    requires small { length (records_in sets.now) ≤ 1000000 }
+    requires small { length (records_in sets.now) ≤ max_records }
     ensures { IfOk result (λ fault. zone_of_text origin.now text.now ≡ Err fault) }
 {
     if has_second_soa(sets) {

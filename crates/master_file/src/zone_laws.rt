@@ -1,5 +1,6 @@
 //! Laws of a zone's text: each is the contract of a function that does nothing.
 ghost use Rattle.std.specs.Prelude.{◌≡◌, ◌≢◌, ◌<◌, ◌≤◌, ℕ, length, false, List, Some, None, map, All, Ok, Err};
+ghost use Rattle.dns_rdata.specs.Limits.{max_data};
 ghost use Rattle.dns_name.specs.Name.{IsName};
 ghost use Rattle.dns_rdata.specs.Record.{Record, IsLawful};
 ghost use Rattle.zone_tree.specs.Zone.{IsZone};
@@ -22,9 +23,9 @@ pub fn written_zone_has_an_entry_a_record()
 /// What is written of a zone is read as the zone's records, the SOA first, each on the line of its place, whatever the
 /// origin is and whatever is in force (RFC 1035, 5.1).
 pub fn written_zone_is_read_back()
-    ensures record { (context : Context) (line : ℕ) (r : Record) → IsLawful r → length r.rdata ≤ 4096
+    ensures record { (context : Context) (line : ℕ) (r : Record) → IsLawful r → length r.rdata ≤ max_data
         → judged context line false (line_words r) ≡ Ok (behind context (rr_at line r), Some (rr_at line r)) }
-    ensures records { (zone : List Record) (origin : List (List ℕ)) → All IsLawful zone → All (λ r. length r.rdata ≤ 4096) zone
+    ensures records { (zone : List Record) (origin : List (List ℕ)) → All IsLawful zone → All (λ r. length r.rdata ≤ max_data) zone
         → records_of origin (zone_text zone) ≡ record { rrs = rrs_from 1 (soa_first zone); fault = None } }
 {}
 

@@ -1,6 +1,7 @@
 -- The data of a record as words (RFC 1035, 3.3, 3.4.1 and 5.1; RFC 2782; RFC 3596).
 use Rattle.std.specs.Prelude.{ℕ, ◌≡◌, ◌⊎◌, List, [], ◌∷◌, ◌++◌, length, nat_lt, ◌==◌, if◌then◌else◌, Option, Some, None, Result, Ok, Err}
 use Rattle.std.specs.Int.{to_be_bytes, w16, w32}
+use Rattle.dns_rdata.specs.Limits.{max_data}
 use Rattle.dns_name.specs.Name.{Name, wire_of}
 use Rattle.dns_rdata.specs.Numbers.{type_A, type_NS, type_CNAME, type_SOA, type_PTR, type_MX, type_TXT, type_AAAA, type_SRV}
 use Rattle.dns_rdata.specs.Data.{data_of}
@@ -66,7 +67,7 @@ octets_of_words rtype origin words =
 -- octets as data of a type: names in lower case, at most 4,096 octets
 unfoldable pub as_data : ℕ → List ℕ → Result (List ℕ) Cause
 as_data rtype octets =
-    elim (data_of rtype octets) [ None ↦ Err BadData | Some own ↦ if nat_lt 4096 (length octets) then Err Limit else Ok own ]
+    elim (data_of rtype octets) [ None ↦ Err BadData | Some own ↦ if nat_lt max_data (length octets) then Err Limit else Ok own ]
 
 -- the data of a type that words spell relative to an origin; the first fault in reading order is told, and the limit
 -- of octets last

@@ -2,6 +2,7 @@
 ghost use Rattle.std.specs.Prelude.{◌≡◌, ◌↔◌, ◌<◌, ◌≤◌, ℕ, List, All, length, Some, Ok};
 ghost use Rattle.std.specs.Net.Addr.{octets_of};
 ghost use Rattle.std.specs.Net.Grammar.{IsDotted, IsColonHex};
+ghost use Rattle.dns_rdata.specs.Limits.{max_data};
 ghost use Rattle.dns_rdata.specs.Data.{data_of};
 ghost use Rattle.record_text.specs.Address.{dotted, colon_hex};
 ghost use Rattle.record_text.specs.Data.{data_of_words};
@@ -19,7 +20,7 @@ pub fn addresses_are_spelt()
 
 /// The words that are written of data are read as the same data, whatever the origin is (RFC 1035, 5.1).
 pub fn written_data_is_read_back()
-    ensures { (rtype : ℕ) (octets : List ℕ) (origin : List (List ℕ)) → data_of rtype octets ≡ Some octets → length octets ≤ 4096
+    ensures { (rtype : ℕ) (octets : List ℕ) (origin : List (List ℕ)) → data_of rtype octets ≡ Some octets → length octets ≤ max_data
         → All (λ octet. octet < 256) octets → data_of_words rtype origin (words_of rtype octets) ≡ Ok octets }
 {}
 
@@ -29,5 +30,5 @@ pub fn what_is_read_is_data()
     ensures form { (rtype : ℕ) (origin : List (List ℕ)) (words : List Written) (octets : List ℕ)
         → data_of_words rtype origin words ≡ Ok octets → data_of rtype octets ≡ Some octets }
     ensures short { (rtype : ℕ) (origin : List (List ℕ)) (words : List Written) (octets : List ℕ)
-        → data_of_words rtype origin words ≡ Ok octets → length octets ≤ 4096 }
+        → data_of_words rtype origin words ≡ Ok octets → length octets ≤ max_data }
 {}

@@ -11,6 +11,7 @@ use Rattle.transfer_core.specs.Packed.{packed, octets_of, datagram}
 use Rattle.transfer_core.proofs.VersionLemmas.{list_told}
 use Rattle.serve_core.specs.declared.peer.Peer.{Peer}
 use Rattle.serve_core.specs.Reply.{asks_transfer, reply_to}
+use Rattle.serve_core.specs.Transport.{is_stream}
 use Rattle.serve_core.specs.Transfers.{list_for, messages_to, reply_to_peer}
 
 -- a whole chain that leads to the served zone tells of what changed
@@ -18,12 +19,12 @@ pub told_whole : (zone : List Record) (versions : List Version) (served : List R
 told_whole zone versions served whole e h = rw e (ap Some (list_told zone versions served h.behind h.last))
 
 -- over a stream, and over UDP
-pub sent_by_stream : (zone : List Record) (changes told : Option (List Record)) (peer : Peer) (query : QueryAsked) (list : List Record) (octets : List (List ℕ)) → peer.stream ≡ true → told ≡ changes → list ≡ list_for zone told query
+pub sent_by_stream : (zone : List Record) (changes told : Option (List Record)) (peer : Peer) (query : QueryAsked) (list : List Record) (octets : List (List ℕ)) → is_stream peer.transport ≡ true → told ≡ changes → list ≡ list_for zone told query
     → octets ≡ octets_of (packed query.head query.question list) → octets ≡ messages_to zone changes peer query
 sent_by_stream zone changes told peer query list octets e f g h =
     rw e (h ∙ ap (λ l. octets_of (packed query.head query.question l)) (g ∙ ap (λ o. list_for zone o query) f))
 
-pub sent_by_datagram : (zone : List Record) (changes told : Option (List Record)) (peer : Peer) (query : QueryAsked) (list soa : List Record) (octets : List (List ℕ)) → peer.stream ≡ false → told ≡ changes → list ≡ list_for zone told query → soa ≡ soa_of zone
+pub sent_by_datagram : (zone : List Record) (changes told : Option (List Record)) (peer : Peer) (query : QueryAsked) (list soa : List Record) (octets : List (List ℕ)) → is_stream peer.transport ≡ false → told ≡ changes → list ≡ list_for zone told query → soa ≡ soa_of zone
     → octets ≡ datagram query.head query.question list soa ∷ [] → octets ≡ messages_to zone changes peer query
 sent_by_datagram zone changes told peer query list soa octets e f g k h =
     rw e (h ∙ ap (λ l. datagram query.head query.question l soa ∷ []) (g ∙ ap (λ o. list_for zone o query) f) ∙ ap (λ s. datagram query.head query.question (list_for zone changes query) s ∷ []) k)

@@ -8,12 +8,12 @@ use Rattle.dns_message.specs.declared.query.Parsed.TheVariants.{Silent, Fault, Q
 use Rattle.dns_message.specs.Octets.{fit}
 use Rattle.serve_core.specs.declared.peer.Peer.{Peer}
 use Rattle.serve_core.specs.Served.{got_of}
-use Rattle.serve_core.specs.Transfers.{transport_of, is_permitted, reply_to_peer, messages_to}
+use Rattle.serve_core.specs.Transfers.{is_permitted, reply_to_peer, messages_to}
 use Rattle.serve_core.specs.Transport.{limit_of}
 
 -- the one reply of a request that isn't a query, or none
 abbrev pub told_to : List Record → Peer → Bool → Parsed → List (List ℕ)
-told_to zone peer starved said = option_to_list (got_of (transport_of peer) peer.may_update starved zone said).reply
+told_to zone peer starved said = option_to_list (got_of peer.transport peer.may_update starved zone said).reply
 
 -- what is sent for what a request says, in a zone, by the list of what changed since the zone that an asker of an IXFR holds, where it is
 -- told: the messages of a transfer that is permitted, else one reply, or none; where memory is wanted and where it isn't
@@ -22,7 +22,7 @@ replies_to zone changes peer starved Silent = told_to zone peer starved Silent
 replies_to zone changes peer starved (Fault head code) = told_to zone peer starved (Fault head code)
 replies_to zone changes peer starved (Query query) =
     if is_permitted zone peer query then messages_to zone changes peer query
-    else fit (reply_to_peer zone peer query) (limit_of (transport_of peer)) ∷ []
+    else fit (reply_to_peer zone peer query) (limit_of peer.transport) ∷ []
 replies_to zone changes peer starved (Update update) = told_to zone peer starved (Update update)
 replies_to zone changes peer starved (NoMemory head) = told_to zone peer starved (NoMemory head)
 

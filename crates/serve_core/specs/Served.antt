@@ -1,4 +1,4 @@
--- What a request comes to in a zone: its reply, and the zone behind it (RFC 1034, 4.3.2; RFC 2136, 3).
+-- What a request comes to in a zone: its reply, and the zone after it (RFC 1034, 4.3.2; RFC 2136, 3).
 use Rattle.std.specs.Prelude.{◌≡◌, ℕ, ◌+◌, ◌≤◌, Bool, true, false, ◌==◌, List, take, Option, Some, None, unwrap_or, if◌then◌else◌}
 use Rattle.dns_rdata.specs.declared.numbers.Rcode.{Rcode}
 use Rattle.dns_rdata.specs.declared.numbers.Rcode.TheVariants.{NoError, ServFail}
@@ -10,15 +10,16 @@ use Rattle.dns_message.specs.Message.{opcode_UPDATE}
 use Rattle.dns_message.specs.Request.{reads}
 use Rattle.dns_message.specs.Octets.{fit}
 use Rattle.zone_tree.specs.Version.{Version}
+use Rattle.update_core.specs.Verdict.{verdict}
 use Rattle.update_core.specs.Act.{act}
 use Rattle.update_core.specs.Applied.{code_of}
-use Rattle.serve_core.specs.declared.served.Served.{Served}
+use Rattle.serve_core.specs.declared.served.Responded.{Responded}
 use Rattle.serve_core.specs.declared.transport.Transport.{Transport}
 use Rattle.serve_core.specs.Reply.{bare}
 use Rattle.serve_core.specs.Transfers.{peer_over, reply_to_peer}
 use Rattle.serve_core.specs.Transport.{limit_of}
 
--- what a request gets: the reply's octets, none where there is no reply, and the zone behind it
+-- what a request gets: the reply's octets, none where there is no reply, and the zone after it
 pub record Got : Type 0 where
   pub reply : Option (List ℕ)
   pub zone : List Record
@@ -31,7 +32,7 @@ asks_update (Query query) = false
 asks_update (Update update) = true
 asks_update (NoMemory head) = true
 
--- a header alone with a code, and a zone behind it
+-- a header alone with a code, and a zone after it
 abbrev pub told : Transport → Head → Rcode → List Record → Got
 told transport head code zone = record { reply = Some (fit (bare head code) (limit_of transport)); zone = zone }
 
@@ -62,7 +63,7 @@ abbrev pub got_of : Transport → Bool → Bool → List Record → Parsed → G
 got_of transport may starved zone said = got_for transport may zone (if starved then without_memory said else said)
 
 -- what a request gets in a zone, over a transport, from a server that memory is wanted of, or isn't: the reply's octets, and the
--- zone behind it (RFC 1035, 4.2.1 and 4.2.2; RFC 2136, 3)
+-- zone after it (RFC 1035, 4.2.1 and 4.2.2; RFC 2136, 3)
 unfoldable pub got : Transport → Bool → Bool → List Record → List ℕ → Got
 got transport may starved zone request = got_of transport may starved zone (reads request)
 
@@ -71,19 +72,29 @@ abbrev pub StandsIn : Option ℕ → ℕ → List ℕ → Option (List ℕ) → 
 StandsIn None limit out reply = reply ≡ None
 StandsIn (Some len) limit out reply = (len ≤ limit) × (reply ≡ Some (take len out))
 
--- a version behind another one has this zone: one of the next number where the zone is another, and else none
+-- a version after another one has this zone: one of the next number where the zone is another, and else none
 abbrev pub IsBehind : Option Version → Version → List Record → Type 0
 IsBehind None version zone = zone ≡ version.zone
 IsBehind (Some next) version zone = (next.zone ≡ zone) × (next.zone ≡ version.zone → ⊥) × (next.number ≡ version.number + 1)
 
--- what was served is what is got of what a request says: the reply stands in a buffer, and the next version has the zone behind it
-pub record ServesSaid (served : Served) (transport : Transport) (may : Bool) (version : Version) (said : Parsed) (out : List ℕ) : Type 0 where
+-- what was served is what is got of what a request says: the reply stands in a buffer, and the next version has the zone after it
+pub record ServesSaid (served : Responded) (transport : Transport) (may : Bool) (version : Version) (said : Parsed) (out : List ℕ) : Type 0 where
   pub starved : Bool
   pub reply : StandsIn served.len (limit_of transport) out (got_of transport may starved version.zone said).reply
   pub zone : IsBehind served.next version (got_of transport may starved version.zone said).zone
 
 -- what was served is what a request gets in a version's zone, whether memory was wanted or not
-pub record Serves (served : Served) (transport : Transport) (may : Bool) (version : Version) (request out : List ℕ) : Type 0 where
+pub record Serves (served : Responded) (transport : Transport) (may : Bool) (version : Version) (request out : List ℕ) : Type 0 where
   pub starved : Bool
   pub reply : StandsIn served.len (limit_of transport) out (got transport may starved version.zone request).reply
   pub zone : IsBehind served.next version (got transport may starved version.zone request).zone
+
+-- what is told where no memory is wanted for it: a request that can't be read its code, and an update that breaks a rule the rule's
+-- (RFC 2136, 3; own)
+abbrev pub IsToldAtOnce : List Record → Bool → Transport → Parsed → Option ℕ → List ℕ → Type 0
+IsToldAtOnce zone may transport Silent len out = Unit {0}
+IsToldAtOnce zone may transport (Fault head code) len out = StandsIn len (limit_of transport) out (Some (fit (bare head code) (limit_of transport)))
+IsToldAtOnce zone may transport (Query query) len out = Unit {0}
+IsToldAtOnce zone may transport (Update update) len out =
+    (code : Rcode) → verdict zone update may ≡ Some code → StandsIn len (limit_of transport) out (Some (fit (bare update.head code) (limit_of transport)))
+IsToldAtOnce zone may transport (NoMemory head) len out = Unit {0}

@@ -1,5 +1,5 @@
 -- What a question for a transfer gets (RFC 1995, 2 and 4; RFC 5936, 2.2; the order of the refusals is our own choice).
-use Rattle.std.specs.Prelude.{ℕ, Bool, true, false, not, ◌&&◌, ◌||◌, ◌==◌, List, [], ◌∷◌, Option, Some, None, is_some, unwrap_or, if◌then◌else◌}
+use Rattle.std.specs.Prelude.{ℕ, Bool, false, not, ◌&&◌, ◌||◌, ◌==◌, List, [], ◌∷◌, Option, Some, None, is_some, unwrap_or, if◌then◌else◌}
 use Rattle.dns_name.specs.Name.{is_same}
 use Rattle.dns_rdata.specs.declared.numbers.Rcode.TheVariants.{FormErr, NotImp, NotAuth}
 use Rattle.dns_rdata.specs.declared.numbers.Serial.{Serial}
@@ -14,23 +14,18 @@ use Rattle.transfer_core.specs.Lists.{full}
 use Rattle.transfer_core.specs.Packed.{packed, octets_of, datagram}
 use Rattle.serve_core.specs.declared.peer.Peer.{Peer}
 use Rattle.serve_core.specs.declared.transport.Transport.{Transport}
-use Rattle.serve_core.specs.declared.transport.Transport.TheVariants.{Udp, Tcp}
 use Rattle.serve_core.specs.Reply.{bare, refused, asks_transfer, reply_to}
+use Rattle.serve_core.specs.Transport.{is_stream}
 
 -- a peer that asks over a transport, and may do all or nothing
 abbrev pub peer_over : Transport → Bool → Peer
-peer_over Udp may = record { may_update = may; may_transfer = may; stream = false }
-peer_over Tcp may = record { may_update = may; may_transfer = may; stream = true }
-
--- what carries a peer's requests (RFC 1035, 4.2)
-abbrev pub transport_of : Peer → Transport
-transport_of peer = if peer.stream then Tcp else Udp
+peer_over transport may = record { may_update = may; may_transfer = may; transport = transport }
 
 -- whether a question for a transfer is none: an AXFR over UDP; an IXFR that doesn't tell by one SOA what is held
 -- (RFC 5936, 4.2; RFC 1995, 3)
 abbrev pub is_unfit : Peer → QueryAsked → Bool
 is_unfit peer query =
-    (query.question.rtype.0 == type_AXFR && not peer.stream) || (query.question.rtype.0 == type_IXFR && not (is_some query.serial))
+    (query.question.rtype.0 == type_AXFR && not (is_stream peer.transport)) || (query.question.rtype.0 == type_IXFR && not (is_some query.serial))
 
 -- whether a transfer is sent: what is asked for is one, of the zone, by a peer that may have it
 abbrev pub is_permitted : List Record → Peer → QueryAsked → Bool
@@ -67,5 +62,5 @@ list_for zone changes query =
 -- the octets of the messages of a transfer (RFC 1995, 2; RFC 5936, 2.2)
 abbrev pub messages_to : List Record → Option (List Record) → Peer → QueryAsked → List (List ℕ)
 messages_to zone changes peer query =
-    if peer.stream then octets_of (packed query.head query.question (list_for zone changes query))
+    if is_stream peer.transport then octets_of (packed query.head query.question (list_for zone changes query))
     else datagram query.head query.question (list_for zone changes query) (soa_of zone) ∷ []

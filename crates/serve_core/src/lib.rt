@@ -2,7 +2,7 @@
 //!
 //! Contracts see a zone as the list of its records, a request and its reply as octets, and the reply as one function of
 //! them (`got`): what the request says, the first refusal that holds, the sections of the zone's answer, and what fits
-//! into the limit of the [`Transport`]. An update gets a code and makes the zone behind it. Only an update takes memory. A
+//! into the limit of the [`Transport`]. An update gets a code and makes the next zone. Only an update takes memory. A
 //! question for a transfer that is permitted gets its messages by [`transfer_reply`]. Frames on a connection aren't here; each
 //! OPCODE but 0 and 5 gets NOTIMP.
 #![tactic(auto)]
@@ -17,6 +17,6 @@ mod transport;
 pub use peer::Peer;
 pub use replies::replies_by_cases;
 pub use reply::write_bare;
-pub use served::{Served, respond};
+pub use served::{Responded, respond};
 pub use transfer::{is_permitted, respond_to, respond_to_peer, transfer_reply};
 pub use transport::{TCP_LIMIT, Transport, UDP_LIMIT};

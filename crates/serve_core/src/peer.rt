@@ -1,6 +1,6 @@
 //! Who asks, and what of it is allowed (RFC 2136, 3.3; RFC 5936, 5).
 ghost use Rattle.std.specs.Prelude.{◌≡◌};
-ghost use Rattle.serve_core.specs.Transfers.{peer_over, transport_of};
+ghost use Rattle.serve_core.specs.Transfers.{peer_over};
 
 use crate::transport::Transport;
 
@@ -11,35 +11,20 @@ pub struct Peer {
     pub may_update: bool,
     /// Whether it may have the zone sent (RFC 5936, 5).
     pub may_transfer: bool,
-    /// Whether it asks over a stream (RFC 1035, 4.2.2), or else by a datagram (RFC 1035, 4.2.1).
-    pub stream: bool,
+    /// What carries its requests and their replies (RFC 1035, 4.2).
+    pub transport: Transport,
 }
 
 impl Peer {
     /// One that asks over a transport, and may do all or nothing.
     pub fn over(transport: Transport, may: bool) -> Peer
         ensures peer { result ≡ peer_over transport may }
-        ensures carried { transport_of result ≡ transport }
+        ensures carried { result.transport ≡ transport }
     {
-        let stream = match transport {
-            Transport::Udp => false,
-            Transport::Tcp => true,
-        };
         Peer {
             may_update: may,
             may_transfer: may,
-            stream,
-        }
-    }
-
-    /// What carries its requests and their replies (RFC 1035, 4.2).
-    pub fn transport(self) -> Transport
-        ensures { result ≡ transport_of self }
-    {
-        if self.stream {
-            Transport::Tcp
-        } else {
-            Transport::Udp
+            transport,
         }
     }
 }

@@ -1,5 +1,6 @@
 //! The reply to a request (RFC 1034, 4.3.2; RFC 1035, 4.1).
-ghost use Rattle.std.specs.Prelude.{◌≡◌, ◌≤◌, length, take};
+ghost use Rattle.std.specs.Prelude.{◌≡◌, ◌≤◌, false, length, take};
+ghost use Rattle.dns_rdata.specs.Numbers.{class_IN};
 ghost use Rattle.dns_message.specs.Message.{message_of};
 ghost use Rattle.dns_message.specs.Octets.{fit};
 ghost use Rattle.serve_core.specs.Reply.{asks_transfer, reply_to, answered_in, bare as bare_message};
@@ -11,24 +12,22 @@ use dns_rdata::{Class, RType, Rcode};
 use lookup_core::answer;
 use zone_tree::ZoneRead;
 
-/// Writes the reply to a query over a transport to the front of `out`, and gives how many octets it has: the first refusal that
-/// holds, else the zone's answer (RFC 1034, 4.3.2; own).
+/// Writes the reply to a query that asks for no transfer, or not in class IN, over a transport to the front of `out`, and gives how
+/// many octets it has: the first refusal that holds, else the zone's answer (RFC 1034, 4.3.2; own).
 pub(crate) fn respond_to_query<Z: ZoneRead>(
     zone: &Z,
     query: &Query,
     transport: Transport,
     out: &mut [u8],
 ) -> usize
-    requires { limit_of transport ≤ length out.old }
+    requires room { limit_of transport ≤ length out.old }
+    requires no_transfer { query.now.question.class.0 ≡ class_IN → asks_transfer query.now.question ≡ false }
     ensures octets { take result out.new ≡ fit (reply_to (Z.records zone.now) query.now) (limit_of transport) }
     ensures len { result ≤ limit_of transport }
 {
     let Query { head, question, .. } = query;
     if question.class != Class::IN {
         return write_refused(*head, Rcode::Refused, question, transport, out);
-    }
-    if asks_transfer(question) {
-        return write_bare(*head, Rcode::NotImp, transport, out);
     }
     if question.rtype == RType::MAILB || question.rtype == RType::MAILA {
         return write_bare(*head, Rcode::NotImp, transport, out);

@@ -1,14 +1,19 @@
-//! What a request gets in a version of the zone: a reply, and from an update the version behind it (RFC 1034, 4.3.2; RFC 2136, 3).
+//! What a request gets in a version of the zone: a reply, and from an update the next version (RFC 1034, 4.3.2; RFC 2136, 3).
 ghost use Rattle.std.specs.Prelude.{◌≡◌, ◌≤◌, ◌+◌, ◌<◌, ◌^◌, length, Some, None, IfSome};
 ghost use Rattle.dns_message.specs.declared.query.Parsed.TheVariants.{Update as SaysUpdate};
+ghost use Rattle.dns_message.specs.Octets.{fit};
 ghost use Rattle.zone_tree.specs.Version.{KnowsChanges};
-ghost use Rattle.serve_core.specs.Served.{ServesSaid};
+ghost use Rattle.update_core.specs.Applied.{code_told, next_of};
+ghost use Rattle.serve_core.specs.Reply.{bare};
+ghost use Rattle.serve_core.specs.Served.{ServesSaid, IsToldAtOnce, StandsIn};
+ghost use Rattle.serve_core.specs.Replies.{IsNoTransfer};
+ghost use Rattle.serve_core.specs.Transfers.{peer_over};
 ghost use Rattle.serve_core.specs.Transport.{limit_of};
 
 use crate::reply::write_bare;
 use crate::transfer::respond_to;
 use crate::transport::Transport;
-use dns_message::{Parsed, Update};
+use dns_message::{Head, Parsed, Update};
 use dns_rdata::Rcode;
 use std::alloc::Global;
 use update_core::{Outcome, apply};
@@ -16,17 +21,17 @@ use zone_tree::Version;
 
 /// What a request gets.
 #[derive(Drop)]
-pub struct Served {
+pub struct Responded {
     /// How many octets the reply has; None where there is no reply.
     pub len: Option<usize>,
-    /// The version behind the request, where it is an update that changes the zone.
+    /// The next version, where the request is an update that changes the zone.
     pub next: Option<Version>,
 }
 
 /// Serves what a request says in a version of the zone, from a peer that may update it or may not: writes the reply over a
-/// transport to the front of `out`, and gives the version behind the request where it is another one. Only an update takes
-/// memory; where that is wanted it gets SERVFAIL, and changes nothing (RFC 1034, 4.3.2; RFC 1035, 4.1 and 4.2; RFC 2136, 3). The
-/// version behind the request knows what it changed (RFC 1995, 4).
+/// transport to the front of `out`, and gives the next version where the request makes one. A transfer that is sent isn't served
+/// here. Only an update takes memory; where that is wanted it gets SERVFAIL, and changes nothing (RFC 1034, 4.3.2; RFC 1035, 4.1
+/// and 4.2; RFC 2136, 3). The next version knows what it changed (RFC 1995, 4).
 pub fn respond(
     alloc: Global,
     version: &Version,
@@ -34,14 +39,16 @@ pub fn respond(
     may: bool,
     said: &Parsed,
     out: &mut [u8],
-) -> Served
+) -> Responded
     requires room { limit_of transport ≤ length out.old }
     requires counted { version.now.number + 1 < 2 ^ 64 }
+    requires no_transfer { IsNoTransfer version.now.zone (peer_over transport may) said.now }
     ensures served { ServesSaid result transport may version.now said.now out.new }
+    ensures at_once { IsToldAtOnce version.now.zone may transport said.now result.len out.new }
     ensures changes { IfSome result.next (λ next. KnowsChanges version.now.zone next) }
 {
     match said {
-        Parsed::Silent => Served {
+        Parsed::Silent => Responded {
             len: None,
             next: None,
         },
@@ -63,30 +70,36 @@ fn respond_to_update(
     transport: Transport,
     may: bool,
     out: &mut [u8],
-) -> Served
+) -> Responded
     requires room { limit_of transport ≤ length out.old }
     requires counted { version.now.number + 1 < 2 ^ 64 }
     ensures served { ServesSaid result transport may version.now (SaysUpdate update.now) out.new }
+    ensures at_once { IsToldAtOnce version.now.zone may transport (SaysUpdate update.now) result.len out.new }
     ensures changes { IfSome result.next (λ next. KnowsChanges version.now.zone next) }
 {
-    let head = update.head;
-    match apply(alloc, version, update, may) {
-        Outcome::Refused(code) => unchanged(write_bare(head, code, transport, out)),
-        Outcome::Unchanged => unchanged(write_bare(head, Rcode::NoError, transport, out)),
-        Outcome::Next(next) => Served {
-            len: Some(write_bare(head, Rcode::NoError, transport, out)),
-            next: Some(next),
-        },
-        Outcome::NoMemory => unchanged(write_bare(head, Rcode::ServFail, transport, out)),
+    let outcome = apply(alloc, version, update, may);
+    told(outcome, update.head, transport, out)
+}
+
+/// The reply to an update by what becomes of it, and the version that it makes (RFC 2136, 3; own).
+fn told(outcome: Outcome, head: Head, transport: Transport, out: &mut [u8]) -> Responded
+    requires { limit_of transport ≤ length out.old }
+    ensures reply { StandsIn result.len (limit_of transport) out.new (Some (fit (bare head (code_told outcome)) (limit_of transport))) }
+    ensures next { result.next ≡ next_of outcome }
+{
+    let len = write_bare(head, outcome.code(), transport, out);
+    Responded {
+        len: Some(len),
+        next: outcome.next(),
     }
 }
 
-/// A reply of so many octets, behind which the version stays.
-fn unchanged(len: usize) -> Served
+/// A reply of so many octets, after which the version stays.
+fn unchanged(len: usize) -> Responded
     ensures len { result.len ≡ Some len }
     ensures next { result.next ≡ None }
 {
-    Served {
+    Responded {
         len: Some(len),
         next: None,
     }

@@ -1,5 +1,5 @@
 //! What a question for a transfer gets (RFC 1995, 2 and 4; RFC 5936, 2.2).
-ghost use Rattle.std.specs.Prelude.{◌≡◌, ◌≤◌, true, List, length, take, Some};
+ghost use Rattle.std.specs.Prelude.{◌≡◌, ◌≤◌, true, false, List, length, take, Some};
 ghost use Rattle.dns_message.specs.Octets.{fit};
 ghost use Rattle.dns_rdata.specs.Numbers.{class_IN};
 ghost use Rattle.dns_rdata.specs.Record.{Record};
@@ -8,7 +8,7 @@ ghost use Rattle.transfer_core.specs.Chain.{zones_of, LeadTo, told_changes};
 ghost use Rattle.transfer_core.specs.Lists.{incremental};
 ghost use Rattle.transfer_core.specs.Packed.{listed};
 ghost use Rattle.serve_core.specs.Reply.{asks_transfer};
-ghost use Rattle.serve_core.specs.Transfers.{peer_over, transport_of, is_unfit, is_permitted, reply_to_peer, is_current, list_for, messages_to};
+ghost use Rattle.serve_core.specs.Transfers.{peer_over, is_unfit, is_permitted, reply_to_peer, is_current, list_for, messages_to};
 ghost use Rattle.serve_core.specs.Transport.{limit_of};
 
 use crate::peer::Peer;
@@ -21,7 +21,7 @@ use zone_tree::{Version, ZoneRead};
 
 /// The messages of a transfer of a version's zone that a query asks for: of an IXFR from a serial that isn't less than the
 /// version's the SOA alone, else what changed where the chain is whole; else the zone in whole; over UDP one message (RFC 1995, 2
-/// and 4; RFC 5936, 2.2). The chain is of the versions behind the one of the IXFR's serial up to this one. It takes no memory.
+/// and 4; RFC 5936, 2.2). The chain is of the versions after the one of the IXFR's serial up to this one. It takes no memory.
 pub fn transfer_reply<'a, C: ChainView>(
     version: &'a Version,
     chain: &'a C,
@@ -34,7 +34,7 @@ pub fn transfer_reply<'a, C: ChainView>(
         → result ≡ messages_to version.now.zone (Some (incremental zone (zones_of (C.versions chain.now)))) peer query.now }
 {
     let list = list_for(version, chain, query);
-    if peer.stream {
+    if peer.transport.is_stream() {
         return Packer::new(query.head, &query.question, list);
     }
     Packer::datagram(query.head, &query.question, list, version.zone().soa())
@@ -83,7 +83,7 @@ fn is_current(version: &Version, held: Option<Serial>) -> bool
     }
 }
 
-/// Writes the reply to a query that isn't the messages of a transfer, over a transport, from a peer that may do all or nothing
+/// Writes the reply to a query that isn't for a transfer that is sent, over a transport, from a peer that may do all or nothing
 /// (RFC 1034, 4.3.2; RFC 1995, 2; RFC 5936, 2.2.1).
 pub fn respond_to<Z: ZoneRead>(
     zone: &Z,
@@ -92,45 +92,45 @@ pub fn respond_to<Z: ZoneRead>(
     may: bool,
     out: &mut [u8],
 ) -> usize
-    requires { limit_of transport ≤ length out.old }
+    requires room { limit_of transport ≤ length out.old }
+    requires no_transfer { is_permitted (Z.records zone.now) (peer_over transport may) query.now ≡ false }
     ensures octets { take result out.new ≡ fit (reply_to_peer (Z.records zone.now) (peer_over transport may) query.now) (limit_of transport) }
     ensures len { result ≤ limit_of transport }
 {
     respond_to_peer(zone, query, Peer::over(transport, may), out)
 }
 
-/// Writes the reply to a query that isn't the messages of a transfer, in the order of the refusals (RFC 1034, 4.3.2;
+/// Writes the reply to a query that isn't for a transfer that is sent, in the order of the refusals (RFC 1034, 4.3.2;
 /// RFC 1995, 2; RFC 5936, 2.2.1; own).
 pub fn respond_to_peer<Z: ZoneRead>(zone: &Z, query: &Query, peer: Peer, out: &mut [u8]) -> usize
-    requires { limit_of (transport_of peer) ≤ length out.old }
-    ensures octets { take result out.new ≡ fit (reply_to_peer (Z.records zone.now) peer query.now) (limit_of (transport_of peer)) }
-    ensures len { result ≤ limit_of (transport_of peer) }
+    requires room { limit_of peer.transport ≤ length out.old }
+    requires no_transfer { is_permitted (Z.records zone.now) peer query.now ≡ false }
+    ensures octets { take result out.new ≡ fit (reply_to_peer (Z.records zone.now) peer query.now) (limit_of peer.transport) }
+    ensures len { result ≤ limit_of peer.transport }
 {
     let question = &query.question;
     if question.class != Class::IN || !asks_transfer(question) {
-        return respond_to_query(zone, query, peer.transport(), out);
+        return respond_to_query(zone, query, peer.transport, out);
     }
     refuse_transfer(zone, query, peer, out)
 }
 
 /// `respond_to_peer` of a question for a transfer: which refusal it gets (RFC 1995, 2; RFC 5936, 2.2.1; own).
 fn refuse_transfer<Z: ZoneRead>(zone: &Z, query: &Query, peer: Peer, out: &mut [u8]) -> usize
-    requires room { limit_of (transport_of peer) ≤ length out.old }
+    requires room { limit_of peer.transport ≤ length out.old }
     requires class { query.now.question.class.0 ≡ class_IN }
     requires transfer { asks_transfer query.now.question ≡ true }
-    ensures octets { take result out.new ≡ fit (reply_to_peer (Z.records zone.now) peer query.now) (limit_of (transport_of peer)) }
-    ensures len { result ≤ limit_of (transport_of peer) }
+    requires refused { is_permitted (Z.records zone.now) peer query.now ≡ false }
+    ensures octets { take result out.new ≡ fit (reply_to_peer (Z.records zone.now) peer query.now) (limit_of peer.transport) }
+    ensures len { result ≤ limit_of peer.transport }
 {
-    let transport = peer.transport();
+    let transport = peer.transport;
     let question = &query.question;
     if is_unfit(peer, query) {
         return write_bare(query.head, Rcode::FormErr, transport, out);
     }
     if question.name != *zone.apex() {
         return write_refused(query.head, Rcode::NotAuth, question, transport, out);
-    }
-    if peer.may_transfer {
-        return write_bare(query.head, Rcode::NotImp, transport, out);
     }
     write_refused(query.head, Rcode::Refused, question, transport, out)
 }
@@ -141,5 +141,6 @@ fn is_unfit(peer: Peer, query: &Query) -> bool
     ensures { result ≡ is_unfit peer query.now }
 {
     let rtype = query.question.rtype;
-    (rtype == RType::AXFR && !peer.stream) || (rtype == RType::IXFR && query.serial.is_none())
+    (rtype == RType::AXFR && !peer.transport.is_stream())
+        || (rtype == RType::IXFR && query.serial.is_none())
 }

@@ -1,6 +1,6 @@
 //! What carries requests and replies (RFC 1035, 4.2).
 ghost use Rattle.std.specs.Prelude.{◌≡◌, ◌≤◌};
-ghost use Rattle.serve_core.specs.Transport.{limit_of};
+ghost use Rattle.serve_core.specs.Transport.{limit_of, is_stream};
 
 use dns_message::{MAX_LIMIT, MIN_LIMIT};
 
@@ -20,6 +20,16 @@ pub enum Transport {
 }
 
 impl Transport {
+    /// Whether it is a stream, and not a datagram for each message (RFC 1035, 4.2.1 and 4.2.2).
+    pub fn is_stream(self) -> bool
+        ensures { result ≡ is_stream self }
+    {
+        match self {
+            Transport::Udp => false,
+            Transport::Tcp => true,
+        }
+    }
+
     /// The most octets of a reply (RFC 1035, 4.2.1 and 4.2.2).
     pub fn limit(self) -> usize
         ensures limit { result ≡ limit_of self }

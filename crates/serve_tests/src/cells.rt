@@ -3,12 +3,12 @@ ghost use Rattle.std.specs.Prelude.{◌≡◌};
 
 use crate::{engines, gates, refused_engines, streams, trays};
 use dns_engine::{EngineFault, FirstZone, NoEngine, VersionCell, VersionPublisher, VersionReader};
-use serve_workers::Server;
 use snapshot_cell::{Cell, Parts};
 use std::alloc::Global;
 use std::marker::Brand;
 use std::sync::Wait;
 use std::thread::Threads;
+use zone_service::Server;
 use zone_tree::{Version, Zone};
 
 /// What is played in a cell.

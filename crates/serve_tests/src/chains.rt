@@ -4,7 +4,7 @@ use crate::made::{SetRow, octets_of, version_of};
 use dns_message::{Parsed, parse};
 use dns_rdata::Serial;
 use std::alloc::Global;
-use transfer_core::{ChainView, VersionList, chain_since};
+use transfer_core::{ChainView, Reach, VersionList, chain_since};
 use update_core::{Outcome, apply};
 use zone_tree::Version;
 
@@ -82,7 +82,7 @@ fn told(kept: &Vec<Version>, upto: usize, window: usize, serial: u32) -> Option<
     if upto > kept.len() {
         return None;
     }
-    let chain = chain_since(kept, upto, window, Serial(serial));
+    let chain = chain_since(kept, Reach { upto, window }, Some(Serial(serial)));
     if !chain.is_whole() {
         return None;
     }
@@ -150,7 +150,7 @@ fn windows(rt: HostRuntime) {
     assert!(rt; first_wrong(alloc, JAIN, JAIN_UPDATES, 2, WINDOWS_OF_ONE).is_none());
 }
 
-// The serial behind 4294967295 is 0; serials that come round the ring leave the window (RFC 1982, 3.1 and 3.2; own).
+// The serial after 4294967295 is 0; serials that come round the ring leave the window (RFC 1982, 3.1 and 3.2; own).
 #[test]
 fn ring_of_serials(rt: HostRuntime) {
     let alloc = rt.alloc();

@@ -4,7 +4,7 @@ ghost use Rattle.std.specs.Prelude.{◌≡◌};
 use crate::cells::{Play, is_played};
 use crate::made::{SetRow, octets_of, zone_of};
 use dns_engine::{
-    Engine, EngineFault, FirstZone, NoEngine, VersionCell, VersionPublisher, VersionReader,
+    Engine, EngineFault, FirstZone, KEPT, NoEngine, VersionCell, VersionPublisher, VersionReader,
 };
 use dns_message::{Parsed, Update, parse};
 use dns_rdata::Rcode;
@@ -45,7 +45,7 @@ pub(crate) fn update_of(alloc: Global, last: u8) -> Option<Update> {
 /// and the serial of the version published last.
 type Row = (u8, bool, Rcode, u64, u32);
 
-/// An update that makes a version, the same again, one of a peer that may not update, and three that make versions.
+/// An update that makes a version, the same again, one of a peer that may not update, and more that make versions than an engine keeps.
 const ROWS: &[Row] = &[
     (77, true, Rcode::NoError, 1, 2),
     (77, true, Rcode::NoError, 1, 2),
@@ -53,6 +53,14 @@ const ROWS: &[Row] = &[
     (78, true, Rcode::NoError, 2, 3),
     (79, true, Rcode::NoError, 3, 4),
     (80, true, Rcode::NoError, 4, 5),
+    (81, true, Rcode::NoError, 5, 6),
+    (82, true, Rcode::NoError, 6, 7),
+    (83, true, Rcode::NoError, 7, 8),
+    (84, true, Rcode::NoError, 8, 9),
+    (85, true, Rcode::NoError, 9, 10),
+    (86, true, Rcode::NoError, 10, 11),
+    (87, true, Rcode::NoError, 11, 12),
+    (88, true, Rcode::NoError, 12, 13),
 ];
 
 /// Whether an update gets its row's code, behind which its row's number and serial stand.
@@ -68,10 +76,10 @@ fn is_told<'a, R: Wait, Z: FirstZone>(
     };
     engine.update(rt, alloc, cell, &update, row.1) == row.2
         && engine.number() == row.3
-        && engine.last().serial().0 == row.4
+        && engine.last_version().serial().0 == row.4
 }
 
-/// The engine of a cell that keeps two versions. One that should keep nine is refused.
+/// The engine of a cell that keeps as many versions as an engine may. One that should keep one more is refused.
 fn engine_of<'a, R: Wait, Z: FirstZone>(
     rt: &R,
     cell: &'a VersionCell<Z>,
@@ -80,14 +88,14 @@ fn engine_of<'a, R: Wait, Z: FirstZone>(
 ) -> Option<Engine<'a, Z>>
     requires { publisher.number ≡ 0 }
 {
-    match Engine::new(rt, cell, publisher, reader, 9) {
+    match Engine::new(rt, cell, publisher, reader, KEPT + 1) {
         Err(
             NoEngine {
                 fault: EngineFault::TooGreat,
                 publisher,
                 reader,
             },
-        ) => Engine::new(rt, cell, publisher, reader, 2).ok(),
+        ) => Engine::new(rt, cell, publisher, reader, KEPT).ok(),
         _ => None,
     }
 }

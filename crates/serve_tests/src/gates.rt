@@ -1,14 +1,15 @@
 //! Two workers, of which one waits in the gate for the other.
 use crate::cells::{Play, is_played};
-use crate::streams::{Tape, zone};
+use crate::streams::zone;
+use conversation::{Answering, Gate};
 use dns_engine::{FirstZone, VersionReader};
-use serve_workers::{
-    Answering, Counted, Gate, Job, Journal, NoJournal, Server, run_workers, serve_stream,
-};
+use serve_workers::{Job, run_workers};
 use std::alloc::Global;
 use std::sync::Wait;
 use std::sync::atomic::{AtomicU64, Ordering};
 use std::thread::{self, Threads};
+use told_streams::{Tape, answer_tape};
+use zone_service::{NoLog, Server, ServiceLog};
 
 /// The query for www.example.test., type A, and its reply, each in a frame.
 const QUERY: &[u8] =
@@ -65,54 +66,58 @@ impl HoldingGate {
 
 /// The job of one stream.
 #[derive(Drop)]
-struct TapeJob<'a> {
-    stream: Counted<Tape<'a>>,
+struct TapeJob {
+    tape: Option<Tape>,
 }
 
-impl Job for TapeJob<'_> {
-    fn run<R: Wait, A: Answering, G: Gate, L: Journal>(
+impl Job for TapeJob {
+    fn run<R: Wait, A: Answering, G: Gate, L: ServiceLog>(
         &mut self,
         rt: &R,
         answering: &mut A,
         gate: &G,
-        _journal: &L,
+        _log: &L,
     ) {
-        if self.stream.faults != 0 {
+        let Some(tape) = self.tape.take() else {
             return;
-        }
+        };
         let mut request = [0u8; 65_535];
         let mut reply = [0u8; 65_535];
         let mut frame = [0u8; 65_537];
-        let _ = serve_stream(
+        let (_end, tape) = answer_tape(
             rt,
             answering,
-            &mut self.stream,
+            tape,
             gate,
             &mut request,
             &mut reply,
             &mut frame,
         );
+        self.tape = Some(tape);
     }
 }
 
 /// A job for each reader, on a stream of these octets.
-fn jobs_of<'a, Z: FirstZone>(
+fn jobs_of<Z: FirstZone>(
     alloc: Global,
     readers: Vec<VersionReader<Z>>,
-    octets: &'a [u8],
-) -> Option<Vec<(VersionReader<Z>, TapeJob<'a>)>> {
+    octets: &[u8],
+) -> Option<Vec<(VersionReader<Z>, TapeJob)>> {
     let mut pairs = Vec::new(alloc);
     for reader in readers {
-        let stream = Counted::new(Tape::new(alloc, octets, 9999));
-        pairs.push((reader, TapeJob { stream })).ok()?;
+        let tape = Tape::new(alloc, octets.to_vec(alloc).ok()?, 9999, 3).ok()?;
+        pairs.push((reader, TapeJob { tape: Some(tape) })).ok()?;
     }
     Some(pairs)
 }
 
 /// Whether two streams were served, each with this written on it.
-fn are_written<Z: FirstZone>(pairs: &[(VersionReader<Z>, TapeJob<'_>)], written: &[u8]) -> bool {
+fn are_written<Z: FirstZone>(pairs: &[(VersionReader<Z>, TapeJob)], written: &[u8]) -> bool {
     for (_, job) in pairs {
-        if job.stream.inner.output() != written {
+        let Some(tape) = &job.tape else {
+            return false;
+        };
+        if tape.written() != written {
             return false;
         }
     }
@@ -128,7 +133,7 @@ pub(crate) fn are_served<R: Wait + Threads + Sync, Z: FirstZone + Send + Sync>(
 ) -> Option<bool> {
     let pairs = jobs_of(alloc, readers, QUERY)?;
     let gate = HoldingGate::new();
-    let pairs = run_workers(rt, alloc, server, pairs, &gate, &NoJournal).ok()?;
+    let pairs = run_workers(rt, alloc, server, pairs, &gate, &NoLog).ok()?;
     Some(gate.is_well() && are_written(&pairs, REPLY))
 }
 

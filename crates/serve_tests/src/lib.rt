@@ -1,5 +1,5 @@
 //! Tests of the running server: how many versions are told of, updates that the engine of `dns_engine` publishes, and streams, datagrams,
-//! workers and journals of `serve_workers`. Zones, requests and replies are tables. What replies and transfers hold, tables of rows show.
+//! workers and logs of `serve_workers`. Zones, requests and replies are tables. What replies and transfers hold, tables of rows show.
 #![tactic(auto)]
 
 #[cfg(test)]
@@ -11,13 +11,15 @@ mod engines;
 #[cfg(test)]
 mod gates;
 #[cfg(test)]
-mod journals;
-#[cfg(test)]
 mod made;
+#[cfg(test)]
+mod orders;
 #[cfg(test)]
 mod peers;
 #[cfg(test)]
 mod refused_engines;
+#[cfg(test)]
+mod service_logs;
 #[cfg(test)]
 mod streams;
 #[cfg(test)]

@@ -1,9 +1,10 @@
 //! Peers that give or take little at a time, by a clock that goes on whenever it is read.
 ghost use Rattle.std.specs.Prelude.{None};
 
-use serve_workers::{Connection, Stream, Timed};
-use std::io;
-use std::sync::atomic::{AtomicU64, Ordering};
+use conversation::Stream;
+use serve_workers::{Connection, Timed};
+use std::io::{self, ErrorKind};
+use std::sync::atomic::{AtomicBool, AtomicU64, Ordering};
 use std::time::{Clock, Duration};
 
 /// A clock that goes on by so many seconds each time that it is read.
@@ -129,4 +130,77 @@ fn slow_peers(rt: HostRuntime) {
 #[test]
 fn messages_of_a_reply(rt: HostRuntime) {
     assert_eq!(rt; whole_messages(4), Some(9));
+}
+
+/// A stream whose reads and writes fail, each but one that was bounded to ten seconds at most since the one before.
+#[derive(Drop)]
+struct Bounded {
+    reads: AtomicBool,
+    writes: AtomicBool,
+}
+
+/// Whether ten seconds at most is a bound.
+fn is_bound(most: Duration) -> bool {
+    !most.is_zero() && most <= Duration::from_secs(10)
+}
+
+/// Takes a bound away. An error where there is none.
+fn take_bound(bound: &AtomicBool) -> io::Result<()> {
+    if !bound.swap(false, Ordering::SeqCst) {
+        return Err(io::Error::from(ErrorKind::WouldBlock));
+    }
+    Ok(())
+}
+
+impl Stream for Bounded {
+    ghost octets = { λ _. None };
+
+    fn read(&mut self, buf: &mut [u8]) -> io::Result<usize> {
+        take_bound(&self.reads)?;
+        Ok(buf.len().min(2))
+    }
+
+    fn write(&mut self, buf: &[u8]) -> io::Result<usize> {
+        take_bound(&self.writes)?;
+        Ok(buf.len().min(2))
+    }
+}
+
+impl Timed for Bounded {
+    fn limit_reads(&self, most: Duration) -> io::Result<()> {
+        self.reads.store(is_bound(most), Ordering::SeqCst);
+        Ok(())
+    }
+
+    fn limit_writes(&self, most: Duration) -> io::Result<()> {
+        self.writes.store(is_bound(most), Ordering::SeqCst);
+        Ok(())
+    }
+}
+
+/// How many of three reads and of three writes, by turns, are bounded.
+fn bounded_calls() -> Option<(usize, usize)> {
+    let clock = Steps::by(1);
+    let stream = Bounded {
+        reads: AtomicBool::new(false),
+        writes: AtomicBool::new(false),
+    };
+    let mut connection = Connection::new(stream, &clock).ok()?;
+    let mut octets = [0u8; 4];
+    let mut told = (0usize, 0usize);
+    for _ in 0..3 {
+        if let Ok(2) = connection.read(&mut octets) {
+            told.0 = told.0.saturating_add(1);
+        }
+        if let Ok(2) = connection.write(&octets) {
+            told.1 = told.1.saturating_add(1);
+        }
+    }
+    Some(told)
+}
+
+// A read is bounded by what is left of its ten seconds, and so is a write, each anew.
+#[test]
+fn a_read_is_bounded_in_time(rt: HostRuntime) {
+    assert_eq!(rt; bounded_calls(), Some((3, 3)));
 }

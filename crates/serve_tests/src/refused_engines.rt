@@ -38,7 +38,7 @@ fn sent_anew<'a, R: Wait, Z: FirstZone>(
     update: &Update,
 ) -> Rcode {
     let code = engine.update(rt, alloc, cell, update, true);
-    if code == Rcode::ServFail && engine.number() == 0 && engine.last().serial().0 == 1 {
+    if code == Rcode::ServFail && engine.number() == 0 && engine.last_version().serial().0 == 1 {
         return engine.update(rt, alloc, cell, update, true);
     }
     code
@@ -53,7 +53,7 @@ fn tells_the_change<'a, Z: FirstZone>(engine: &Engine<'a, Z>, cell: &'a VersionC
             Err(_) => return false,
         },
     };
-    newest.last().number() == 1 && newest.chain(Some(Serial(1))).is_whole()
+    newest.last_version().number() == 1 && newest.chain(Some(Serial(1))).is_whole()
 }
 
 /// The engine of a cell that keeps two versions, made anew where memory is refused.

@@ -1,19 +1,16 @@
 //! Streams of requests and what is written on them, by the octets that RFC 1035, 4 and RFC 2136, 2 give for them, put together by
 //! hand.
-ghost use Rattle.std.specs.Prelude.{◌≡◌, None};
-
 use crate::cells::{Play, is_played};
 use crate::made::{SetRow, octets_of, zone_of};
 use crate::trays::asker;
+use conversation::{OpenGate, StreamEnd};
 use dns_engine::{FirstZone, VersionReader};
-use serve_core::Peer;
-use serve_workers::{
-    Asked, Counted, Event, Journal, OpenGate, Server, Stream, StreamEnd, serve_stream,
-};
+use serve_core::{Peer, Transport};
 use std::alloc::Global;
-use std::io::{self, Cursor, Read};
 use std::sync::{Mutex, Wait};
 use std::thread::Threads;
+use told_streams::{Tape, answer_tape};
+use zone_service::{Asked, Event, Server, ServiceLog};
 use zone_tree::Zone;
 
 /// A zone of five sets, in canonical order.
@@ -33,6 +30,9 @@ const ZONE: &[SetRow] = &[
     ),
 ];
 
+/// All reads and writes.
+const ALL: u64 = u64::MAX;
+
 /// A row of a stream.
 #[derive(Clone, Copy)]
 pub(crate) struct Row {
@@ -40,6 +40,10 @@ pub(crate) struct Row {
     may: bool,
     /// How many octets can be written.
     room: usize,
+    /// How many octets a read gives and a write takes at most.
+    step: usize,
+    /// How many reads and writes go well.
+    calls: u64,
     /// How the stream ends.
     end: StreamEnd,
     /// The octets that are read, and those that are written, in hexadecimal.
@@ -55,6 +59,8 @@ const STREAMS: &[Row] = &[
     Row {
         may: true,
         room: 9999,
+        step: 3,
+        calls: ALL,
         end: StreamEnd::Clean,
         input: "003e432128000001000100010000076578616d706c6504746573740000060001036e6577c00c00ff00fe000000000000c01e0001000100000e100004c000024d003e432128000001000100010000076578616d706c6504746573740000060001036e6577c00c00ff00fe000000000000c01e0001000100000e100004c000024d0022123401000001000000000000036e6577076578616d706c6504746573740000010001001e123401000001000000000000076578616d706c6504746573740000060001",
         written: "000c4321a8000000000000000000000c4321a80600000000000000000032123485000001000100000000036e6577076578616d706c6504746573740000010001c00c0001000100000e100004c000024d004c123485000001000100000000076578616d706c6504746573740000060001c00c0006000100000e100022036e7331c00c0561646d696ec00c0000000200001c2000000384001275000000012c",
@@ -64,6 +70,8 @@ const STREAMS: &[Row] = &[
     Row {
         may: false,
         room: 9999,
+        step: 3,
+        calls: ALL,
         end: StreamEnd::Clean,
         input: "0032432128000001000000010000076578616d706c6504746573740000060001036e6577c00c0001000100000e100004c000024d003e432128000001000100010000076578616d706c6504746573740000060001036e6577c00c00ff00fe000000000000c01e0001000100000e100004c000024d001e123401000001000000000000076578616d706c6504746573740000060001",
         written: "000c4321a8050000000000000000000c4321a8050000000000000000004c123485000001000100000000076578616d706c6504746573740000060001c00c0006000100000e100022036e7331c00c0561646d696ec00c0000000100001c2000000384001275000000012c",
@@ -73,6 +81,8 @@ const STREAMS: &[Row] = &[
     Row {
         may: true,
         room: 9999,
+        step: 3,
+        calls: ALL,
         end: StreamEnd::Clean,
         input: "003e432128000001000000020000076578616d706c650474657374000006000103777777c00c0001000100000e100004c0000207c01e000500ff000000000000001e123401000001000000000000076578616d706c6504746573740000060001002212340100000100000000000003777777076578616d706c6504746573740000010001003e432128000001000000020000076578616d706c650474657374000006000103777777c00c0001000100000e100004c0000207c01e000500ff000000000000001e123401000001000000000000076578616d706c6504746573740000060001002212340100000100000000000003777777076578616d706c6504746573740000010001",
         written: "000c4321a8000000000000000000004c123485000001000100000000076578616d706c6504746573740000060001c00c0006000100000e100022036e7331c00c0561646d696ec00c0000000200001c2000000384001275000000012c005012348503000100000001000003777777076578616d706c6504746573740000010001c010000600010000012c0022036e7331c0100561646d696ec0100000000200001c2000000384001275000000012c000c4321a8000000000000000000004c123485000001000100000000076578616d706c6504746573740000060001c00c0006000100000e100022036e7331c00c0561646d696ec00c0000000300001c2000000384001275000000012c003212348500000100010000000003777777076578616d706c6504746573740000010001c00c0001000100000e100004c0000207",
@@ -82,6 +92,8 @@ const STREAMS: &[Row] = &[
     Row {
         may: true,
         room: 9999,
+        step: 3,
+        calls: ALL,
         end: StreamEnd::Torn,
         input: "002212340100000100000000000003777777076578616d706c6504746573740000010001002212340100000100000000000003777777076578616d706c65047465737400000100",
         written: "004412348500000100020000000003777777076578616d706c6504746573740000010001c00c0005000100000e10000603776562c010c02e0001000100000e100004c000020a",
@@ -91,6 +103,8 @@ const STREAMS: &[Row] = &[
     Row {
         may: true,
         room: 9999,
+        step: 3,
+        calls: ALL,
         end: StreamEnd::Torn,
         input: "00",
         written: "",
@@ -100,6 +114,8 @@ const STREAMS: &[Row] = &[
     Row {
         may: true,
         room: 9999,
+        step: 3,
+        calls: ALL,
         end: StreamEnd::Clean,
         input: "000b12340100000100000000000000002212340100000100000000000003777777076578616d706c6504746573740000010001",
         written: "004412348500000100020000000003777777076578616d706c6504746573740000010001c00c0005000100000e10000603776562c010c02e0001000100000e100004c000020a",
@@ -109,6 +125,8 @@ const STREAMS: &[Row] = &[
     Row {
         may: true,
         room: 9999,
+        step: 3,
+        calls: ALL,
         end: StreamEnd::Clean,
         input: "",
         written: "",
@@ -118,6 +136,8 @@ const STREAMS: &[Row] = &[
     Row {
         may: true,
         room: 68,
+        step: 3,
+        calls: ALL,
         end: StreamEnd::Device,
         input: "002212340100000100000000000003777777076578616d706c6504746573740000010001002212340100000100000000000003777777076578616d706c6504746573740000010001",
         written: "004412348500000100020000000003777777076578616d706c6504746573740000010001c00c0005000100000e10000603776562c010c02e0001000100000e100004c000",
@@ -127,6 +147,8 @@ const STREAMS: &[Row] = &[
     Row {
         may: true,
         room: 9999,
+        step: 3,
+        calls: ALL,
         end: StreamEnd::Clean,
         input: "003e432128000001000100010000076578616d706c6504746573740000060001036e6577c00c00ff00fe000000000000c01e0001000100000e100004c000024d0040123400000001000000010000076578616d706c6504746573740000fb0001c00c00060001000000000016000000000001000000000000000000000000000000000040123400000001000000010000076578616d706c6504746573740000fb0001c00c0006000100000000001600000000000200000000000000000000000000000000001e123400000001000000000000076578616d706c6504746573740000fc0001",
         written: "000c4321a800000000000000000000cc123484000001000500000000076578616d706c6504746573740000fb0001c00c0006000100000e100022036e7331c00c0561646d696ec00c0000000200001c2000000384001275000000012cc00c0006000100000e100018c02ac0300000000100001c2000000384001275000000012cc00c0006000100000e100018c02ac0300000000200001c2000000384001275000000012c036e6577c00c0001000100000e100004c000024dc00c0006000100000e100018c02ac0300000000200001c2000000384001275000000012c004c123484000001000100000000076578616d706c6504746573740000fb0001c00c0006000100000e100022036e7331c00c0561646d696ec00c0000000200001c2000000384001275000000012c00c8123484000001000700000000076578616d706c6504746573740000fc0001c00c0006000100000e100022036e7331c00c0561646d696ec00c0000000200001c2000000384001275000000012cc00c0002000100000e100002c02a036e6577c00c0001000100000e100004c000024dc02a0001000100000e100004c000020103776562c00c0001000100000e100004c000020a03777777c00c0005000100000e100002c07ec00c0006000100000e100018c02ac0300000000200001c2000000384001275000000012c",
@@ -136,6 +158,8 @@ const STREAMS: &[Row] = &[
     Row {
         may: true,
         room: 9999,
+        step: 3,
+        calls: ALL,
         end: StreamEnd::Clean,
         input: "0032432128000001000000010000076578616d706c6504746573740000060001036e6577c00c0001000100000e100004c000024d0032432128000001000000010000076578616d706c6504746573740000060001036e6577c00c0001000100000e100004c000024e0040123400000001000000010000076578616d706c6504746573740000fb0001c00c0006000100000000001600000000000100000000000000000000000000000000",
         written: "000c4321a8000000000000000000000c4321a80000000000000000000124123484000001000800000000076578616d706c6504746573740000fb0001c00c0006000100000e100022036e7331c00c0561646d696ec00c0000000300001c2000000384001275000000012cc00c0006000100000e100018c02ac0300000000100001c2000000384001275000000012cc00c0006000100000e100018c02ac0300000000200001c2000000384001275000000012c036e6577c00c0001000100000e100004c000024dc00c0006000100000e100018c02ac0300000000200001c2000000384001275000000012cc00c0006000100000e100018c02ac0300000000300001c2000000384001275000000012cc0940001000100000e100004c000024ec00c0006000100000e100018c02ac0300000000300001c2000000384001275000000012c",
@@ -145,6 +169,8 @@ const STREAMS: &[Row] = &[
     Row {
         may: false,
         room: 9999,
+        step: 3,
+        calls: ALL,
         end: StreamEnd::Clean,
         input: "001e123400000001000000000000076578616d706c6504746573740000fc00010040123400000001000000010000076578616d706c6504746573740000fb0001c00c0006000100000000001600000000000100000000000000000000000000000000",
         written: "001e123480050001000000000000076578616d706c6504746573740000fc0001001e123480050001000000000000076578616d706c6504746573740000fb0001",
@@ -154,6 +180,8 @@ const STREAMS: &[Row] = &[
     Row {
         may: true,
         room: 150,
+        step: 3,
+        calls: ALL,
         end: StreamEnd::Device,
         input: "001e123400000001000000000000076578616d706c6504746573740000fc0001",
         written: "00b4123484000001000600000000076578616d706c6504746573740000fc0001c00c0006000100000e100022036e7331c00c0561646d696ec00c0000000100001c2000000384001275000000012cc00c0002000100000e100002c02ac02a0001000100000e100004c000020103776562c00c0001000100000e100004c000020a03777777c00c0005000100000e100002c06ac00c0006",
@@ -163,6 +191,8 @@ const STREAMS: &[Row] = &[
     Row {
         may: true,
         room: 9999,
+        step: 3,
+        calls: ALL,
         end: StreamEnd::Clean,
         input: "000c432128000001000000000000",
         written: "000c4321a8010000000000000000",
@@ -172,6 +202,8 @@ const STREAMS: &[Row] = &[
     Row {
         may: false,
         room: 9999,
+        step: 3,
+        calls: ALL,
         end: StreamEnd::Clean,
         input: "000c432128000001000000000000",
         written: "000c4321a8010000000000000000",
@@ -184,53 +216,13 @@ pub(crate) fn zone(alloc: Global) -> Option<Zone> {
     zone_of(alloc, ZONE)
 }
 
-/// A stream that lies in memory: it gives three octets a read at most, and takes so many in all.
-#[derive(Drop)]
-pub(crate) struct Tape<'a> {
-    input: Cursor<&'a [u8]>,
-    output: Vec<u8>,
-    room: usize,
-}
-
-impl<'a> Tape<'a> {
-    /// A stream of these octets, which takes so many.
-    pub(crate) fn new(alloc: Global, octets: &'a [u8], room: usize) -> Tape<'a> {
-        Tape {
-            input: Cursor::new(octets),
-            output: Vec::new(alloc),
-            room,
-        }
-    }
-
-    /// The octets that were written.
-    pub(crate) fn output(&self) -> &[u8] {
-        self.output.as_slice()
-    }
-}
-
-impl Stream for Tape<'_> {
-    ghost octets = { λ _. None };
-
-    fn read(&mut self, buf: &mut [u8]) -> io::Result<usize> {
-        let most = buf.len().min(3);
-        Read::read(&mut self.input, &mut buf[..most])
-    }
-
-    fn write(&mut self, buf: &[u8]) -> io::Result<usize> {
-        let len = buf.len().min(self.room);
-        self.output.extend_from_slice(&buf[..len])?;
-        self.room -= len;
-        Ok(len)
-    }
-}
-
-/// A journal that keeps the lines that it is told, each with a semicolon behind it.
+/// A log that keeps the lines that it is told, each with a semicolon behind it.
 #[derive(Drop)]
 pub(crate) struct Kept {
     lines: Mutex<String>,
 }
 
-impl Journal for Kept {
+impl ServiceLog for Kept {
     fn tell<R: Wait>(&self, rt: &R, event: Event) {
         let mut lines = self.lines.lock(rt);
         let _ = write!(lines, "{event};");
@@ -238,7 +230,7 @@ impl Journal for Kept {
 }
 
 impl Kept {
-    /// A journal that has been told nothing.
+    /// A log that has been told nothing.
     pub(crate) fn new(alloc: Global) -> Kept {
         Kept {
             lines: Mutex::new(String::new(alloc)),
@@ -251,31 +243,29 @@ impl Kept {
     }
 }
 
-/// Serves a stream, to a peer that may update and transfer or may not.
+/// Serves a tape, to a peer that may update and transfer or may not.
 fn serve<R: Wait, Z: FirstZone>(
     rt: &R,
     alloc: Global,
     server: &Server<'_, Z>,
     reader: &mut VersionReader<Z>,
     may: bool,
-    journal: &Kept,
-    stream: &mut Counted<Tape<'_>>,
-) -> StreamEnd
-    requires { stream.old.faults ≡ 0 }
-{
+    log: &Kept,
+    tape: Tape,
+) -> (StreamEnd, Tape) {
     let peer = Peer {
         may_update: may,
         may_transfer: may,
-        stream: true,
+        transport: Transport::Tcp,
     };
-    let mut asked = Asked::new(alloc, server, reader, journal, peer, asker(4711));
+    let mut asked = Asked::new(alloc, server, reader, log, peer, asker(4711));
     let mut request = [0u8; 65_535];
     let mut out = [0u8; 65_535];
     let mut frame = [0u8; 65_537];
-    serve_stream(
+    answer_tape(
         rt,
         &mut asked,
-        stream,
+        tape,
         &OpenGate,
         &mut request,
         &mut out,
@@ -283,7 +273,16 @@ fn serve<R: Wait, Z: FirstZone>(
     )
 }
 
-/// Whether a row's stream ends as the row says, and what is written and what the journal is told are the row's.
+/// The tape of a row; None where a read or a write of it would give or take nothing, or there is no memory for it.
+fn tape_of(alloc: Global, row: &Row) -> Option<Tape> {
+    if row.step == 0 {
+        return None;
+    }
+    let tape = Tape::new(alloc, octets_of(alloc, row.input)?, row.room, row.step).ok()?;
+    Some(tape.failing_after(row.calls))
+}
+
+/// Whether a row's stream ends as the row says, and what is written and what the log is told are the row's.
 pub(crate) fn is_served<R: Wait, Z: FirstZone>(
     rt: &R,
     alloc: Global,
@@ -291,13 +290,12 @@ pub(crate) fn is_served<R: Wait, Z: FirstZone>(
     reader: &mut VersionReader<Z>,
     row: &Row,
 ) -> Option<bool> {
-    let input = octets_of(alloc, row.input)?;
+    let tape = tape_of(alloc, row)?;
     let written = octets_of(alloc, row.written)?;
-    let mut stream = Counted::new(Tape::new(alloc, &input, row.room));
-    let journal = Kept::new(alloc);
-    let end = serve(rt, alloc, server, reader, row.may, &journal, &mut stream);
-    let is_right = end == row.end && journal.has(rt, row.told);
-    Some(is_right && stream.inner.output() == written.as_slice())
+    let log = Kept::new(alloc);
+    let (end, tape) = serve(rt, alloc, server, reader, row.may, &log, tape);
+    let is_right = end == row.end && log.has(rt, row.told);
+    Some(is_right && tape.written() == written.as_slice())
 }
 
 /// Whether a row's stream goes as it says, over the zone anew.
@@ -316,4 +314,87 @@ fn streams(rt: HostRuntime) {
         .iter()
         .position(|row| !is_right(&rt, rt.alloc(), row));
     assert_eq!(rt; wrong, None);
+}
+
+/// A query for the address of web.example.test., and one for that of nope.example.test., which doesn't exist: ID, RD, one question (RFC
+/// 1035, 4.1.1 and 4.1.2), an octet at a time. The reply to the first has QR, AA and RD, the question, and the address, whose owner is a pointer to
+/// the question's name (RFC 1035, 4.1.3 and 4.1.4); that to the second has RCODE 3, and the SOA with the TTL of its MINIMUM (RFC 2308, 3).
+const TWO_QUERIES: Row = Row {
+    may: false,
+    room: 9999,
+    step: 1,
+    calls: ALL,
+    end: StreamEnd::Clean,
+    input: "\
+0022000101000001000000000000\
+03776562076578616d706c6504746573740000010001\
+0023000201000001000000000000\
+046e6f7065076578616d706c6504746573740000010001",
+    written: "\
+0032000185000001000100000000\
+03776562076578616d706c6504746573740000010001\
+c00c0001000100000e100004c000020a\
+0051000285030001000000010000\
+046e6f7065076578616d706c6504746573740000010001\
+c011000600010000012c0022036e7331c0110561646d696ec0110000000100001c2000000384001275000000012c",
+    told: "",
+};
+
+// Two requests that come in pieces, and both replies, by the octets that RFC 1035, 4 gives for them.
+#[test]
+fn two_requests_in_pieces(rt: HostRuntime) {
+    assert!(rt; is_right(&rt, rt.alloc(), &TWO_QUERIES));
+}
+
+/// The same queries, whose stream fails at a read or a write, and the beginning of the replies that is written till then: nothing, where a
+/// read of the first request fails; a part of the first reply; the first reply in whole, where a read of the second request fails.
+const FAILING: &[Row] = &[
+    Row {
+        calls: 35,
+        end: StreamEnd::Device,
+        written: "",
+        ..TWO_QUERIES
+    },
+    Row {
+        calls: 40,
+        end: StreamEnd::Device,
+        written: "00320001",
+        ..TWO_QUERIES
+    },
+    Row {
+        calls: 90,
+        end: StreamEnd::Device,
+        written: "003200018500000100010000000003776562076578616d706c6504746573740000010001c00c0001000100000e100004c000020a",
+        ..TWO_QUERIES
+    },
+];
+
+// Where a read or a write fails the stream ends by its device, with a beginning of the replies written.
+#[test]
+fn streams_that_fail(rt: HostRuntime) {
+    let wrong = FAILING
+        .iter()
+        .position(|row| !is_right(&rt, rt.alloc(), row));
+    assert_eq!(rt; wrong, None);
+}
+
+/// A header that says that there is a question, with none behind it, and a query. The first is answered with RCODE 1 and a header alone (RFC
+/// 1035, 4.1.1).
+const MALFORMED: Row = Row {
+    input: "\
+000c123401000001000000000000\
+0022000101000001000000000000\
+03776562076578616d706c6504746573740000010001",
+    written: "\
+000c123481010000000000000000\
+0032000185000001000100000000\
+03776562076578616d706c6504746573740000010001\
+c00c0001000100000e100004c000020a",
+    ..TWO_QUERIES
+};
+
+// A query that can't be read gets FORMERR, and the request behind it its reply.
+#[test]
+fn a_malformed_query_ends_no_stream(rt: HostRuntime) {
+    assert!(rt; is_right(&rt, rt.alloc(), &MALFORMED));
 }

@@ -1,25 +1,28 @@
 //! Requests as datagrams, by a device that lies in memory (RFC 1035, 4.2.1).
-ghost use Rattle.std.specs.Prelude.{None};
-
 use crate::cells::{Play, is_played};
 use crate::made::octets_of;
 use crate::streams::{Kept, zone};
+use conversation::{Allowed, Datagrams, DatagramsEnd, OpenGate};
 use dns_engine::{FirstZone, VersionReader};
 use serve_core::{Peer, Transport};
-use serve_workers::{Allowed, Asked, Datagrams, DatagramsEnd, OpenGate, Server, serve_udp};
 use std::alloc::Global;
 use std::net::{IpAddr, SocketAddr};
 use std::sync::Wait;
 use std::thread::Threads;
+use told_streams::{Datagram, Tray, answer_tray};
+use zone_service::{Asked, Server};
 
 /// A query, octets without a reply, an update, a query for what it adds, and an IXFR by who holds serial 1, which is refused to a peer that
-/// may not have the zone (REFUSED is 5), with their replies; a row a letter.
+/// may not have the zone (REFUSED is 5), with their replies; a row a letter. The last two are a query for an address, and one for a name that
+/// doesn't exist, whose reply has RCODE 3 and the SOA with the TTL of its MINIMUM (RFC 1035, 4.1; RFC 2308, 3).
 const REQUESTS: &str = "\
 q 12340100000100000000000003777777076578616d706c6504746573740000010001 12348500000100020000000003777777076578616d706c6504746573740000010001c00c0005000100000e10000603776562c010c02e0001000100000e100004c000020a\n\
 s 1234010000010000000000 \n\
 u 432128000001000000010000076578616d706c6504746573740000060001036e6577c00c0001000100000e100004c000024d 4321a8000000000000000000\n\
 n 123401000001000000000000036e6577076578616d706c6504746573740000010001 123485000001000100000000036e6577076578616d706c6504746573740000010001c00c0001000100000e100004c000024d\n\
-x 123400000001000000010000076578616d706c6504746573740000fb0001c00c0006000100000000001600000000000100000000000000000000000000000000 123480050001000000000000076578616d706c6504746573740000fb0001\n";
+x 123400000001000000010000076578616d706c6504746573740000fb0001c00c0006000100000000001600000000000100000000000000000000000000000000 123480050001000000000000076578616d706c6504746573740000fb0001\n\
+w 00010100000100000000000003776562076578616d706c6504746573740000010001 00018500000100010000000003776562076578616d706c6504746573740000010001c00c0001000100000e100004c000020a\n\
+e 000201000001000000000000046e6f7065076578616d706c6504746573740000010001 000285030001000000010000046e6f7065076578616d706c6504746573740000010001c011000600010000012c0022036e7331c0110561646d696ec0110000000100001c2000000384001275000000012c\n";
 
 /// A row of datagrams.
 #[derive(Clone, Copy)]
@@ -28,8 +31,8 @@ pub(crate) struct Row {
     may: bool,
     /// How many datagrams may be answered.
     most: u64,
-    /// Which send fails, counted from 0.
-    refused: usize,
+    /// Which sends fail, counted from 0.
+    refused: &'static [u64],
     /// The requests' letters.
     letters: &'static [u8],
     /// How the answering ends.
@@ -45,7 +48,7 @@ const DATAGRAMS: &[Row] = &[
     Row {
         may: true,
         most: 4,
-        refused: 9,
+        refused: &[],
         letters: b"qqqq",
         end: DatagramsEnd::Done,
         faults: 0,
@@ -54,7 +57,7 @@ const DATAGRAMS: &[Row] = &[
     Row {
         may: true,
         most: 2,
-        refused: 9,
+        refused: &[],
         letters: b"qqqq",
         end: DatagramsEnd::Done,
         faults: 0,
@@ -63,7 +66,7 @@ const DATAGRAMS: &[Row] = &[
     Row {
         may: true,
         most: 4,
-        refused: 9,
+        refused: &[],
         letters: b"sqsq",
         end: DatagramsEnd::Done,
         faults: 0,
@@ -72,7 +75,7 @@ const DATAGRAMS: &[Row] = &[
     Row {
         may: true,
         most: 3,
-        refused: 9,
+        refused: &[],
         letters: b"uqn",
         end: DatagramsEnd::Done,
         faults: 0,
@@ -81,7 +84,7 @@ const DATAGRAMS: &[Row] = &[
     Row {
         may: true,
         most: 4,
-        refused: 1,
+        refused: &[1],
         letters: b"qunq",
         end: DatagramsEnd::Done,
         faults: 1,
@@ -90,7 +93,7 @@ const DATAGRAMS: &[Row] = &[
     Row {
         may: true,
         most: 4,
-        refused: 0,
+        refused: &[0],
         letters: b"q",
         end: DatagramsEnd::Device,
         faults: 2,
@@ -99,7 +102,7 @@ const DATAGRAMS: &[Row] = &[
     Row {
         may: true,
         most: 4,
-        refused: 9,
+        refused: &[],
         letters: b"",
         end: DatagramsEnd::Device,
         faults: 1,
@@ -108,7 +111,7 @@ const DATAGRAMS: &[Row] = &[
     Row {
         may: true,
         most: 0,
-        refused: 9,
+        refused: &[],
         letters: b"q",
         end: DatagramsEnd::Done,
         faults: 0,
@@ -117,7 +120,7 @@ const DATAGRAMS: &[Row] = &[
     Row {
         may: false,
         most: 2,
-        refused: 9,
+        refused: &[],
         letters: b"xq",
         end: DatagramsEnd::Done,
         faults: 0,
@@ -140,97 +143,47 @@ pub(crate) fn asker(port: u16) -> SocketAddr {
     SocketAddr::new(IpAddr::from([192, 0, 2, 7]), port)
 }
 
-/// Datagrams that lie in memory: those that come, by their letters, and those that were sent, each with its place in front.
-#[derive(Drop)]
-struct Tray<'a> {
-    alloc: Global,
-    letters: &'a [u8],
-    at: u8,
-    sent: Vec<u8>,
-    sends: usize,
-    refused: usize,
-    faults: u64,
+/// The datagram of a letter's request, from who asks at a place.
+fn datagram_of(alloc: Global, letter: u8, place: u16) -> Option<Datagram> {
+    let octets = octets_for(alloc, letter, 1)?;
+    if octets.len() > 65_535 {
+        return None;
+    }
+    Some(Datagram::new(octets, asker(place)))
 }
 
-impl<'a> Tray<'a> {
-    /// Datagrams of these letters, where this send is refused.
-    fn new(alloc: Global, letters: &'a [u8], refused: usize) -> Tray<'a> {
-        Tray {
-            alloc,
-            letters,
-            at: 0,
-            sent: Vec::new(alloc),
-            sends: 0,
-            refused,
-            faults: 0,
-        }
+/// The tray of a row: a datagram for each letter.
+fn tray_of(alloc: Global, row: &Row) -> Option<Tray> {
+    let mut datagrams = Vec::new(alloc);
+    let mut place = 0u16;
+    for letter in row.letters {
+        let datagram = datagram_of(alloc, *letter, place)?;
+        datagrams.push(datagram).ok()?;
+        place = place.saturating_add(1);
     }
-
-    /// The datagram that comes next.
-    fn next(&self) -> Option<Vec<u8>> {
-        let letter = self.letters.get(usize::from(self.at))?;
-        octets_for(self.alloc, *letter, 1)
-    }
+    let refused = row.refused.to_vec(alloc).ok()?;
+    Some(Tray::new(alloc, datagrams, refused))
 }
 
-/// Keeps a datagram that is sent, its place in front.
-fn keep(sent: &mut Vec<u8>, octets: &[u8], to: SocketAddr) {
-    let place = if to == asker(to.port()) {
-        to.port() % 256
-    } else {
-        255
-    };
-    let _ = sent.push(place as u8);
-    let _ = sent.extend_from_slice(octets);
-}
-
-impl Datagrams for Tray<'_> {
-    ghost datagrams = { λ _. None };
-
-    ghost failed = { λ tray. tray.faults };
-
-    fn receive(&mut self, buf: &mut [u8]) -> Option<(usize, SocketAddr)> {
-        let Some(octets) = self.next() else {
-            self.faults = self.faults.saturating_add(1);
-            return None;
-        };
-        let len = octets.len().min(buf.len());
-        buf[..len].copy_from_slice(&octets[..len]);
-        let from = asker(u16::from(self.at));
-        self.at = self.at.saturating_add(1);
-        Some((len, from))
+/// Whether what was sent are the replies of a row, each to who asked.
+fn is_sent(alloc: Global, sent: &[Datagram], row: &[u8]) -> Option<bool> {
+    if row.len() / 2 != sent.len() {
+        return Some(false);
     }
-
-    fn send(&mut self, octets: &[u8], to: SocketAddr) {
-        let place = self.sends;
-        self.sends = place.saturating_add(1);
-        if place == self.refused {
-            self.faults = self.faults.saturating_add(1);
-            return;
-        }
-        keep(&mut self.sent, octets, to);
-    }
-
-    fn faults(&self) -> u64 {
-        self.faults
-    }
-}
-
-/// The replies of a row, each with the place of who asked in front.
-fn replies_of(alloc: Global, row: &[u8]) -> Option<Vec<u8>> {
-    let mut replies = Vec::new(alloc);
-    for pair in row.chunks(2) {
+    for (pair, datagram) in row.chunks(2).zip(sent.iter()) {
         let [place, letter] = pair else {
             return None;
         };
-        replies.push(place.wrapping_sub(b'0')).ok()?;
         let reply = octets_for(alloc, *letter, 2)?;
-        replies.extend_from_slice(&reply).ok()?;
+        let to = asker(u16::from(place.wrapping_sub(b'0')));
+        if datagram.octets() != reply.as_slice() || datagram.address() != to {
+            return Some(false);
+        }
     }
-    Some(replies)
+    Some(true)
 }
 
-/// Serves datagrams, of which at most so many are answered, to peers that may update and transfer or may not.
+/// Serves a tray, of which at most so many datagrams are answered, to peers that may update and transfer or may not.
 fn serve<R: Wait, Z: FirstZone>(
     rt: &R,
     alloc: Global,
@@ -238,16 +191,16 @@ fn serve<R: Wait, Z: FirstZone>(
     reader: &mut VersionReader<Z>,
     may: bool,
     most: u64,
-    tray: &mut Tray<'_>,
-) -> DatagramsEnd {
-    let journal = Kept::new(alloc);
+    log: &Kept,
+    tray: Tray,
+) -> (DatagramsEnd, Tray) {
     let peer = Peer::over(Transport::Udp, false);
-    let mut asked = Asked::new(alloc, server, reader, &journal, peer, asker(0));
+    let mut asked = Asked::new(alloc, server, reader, log, peer, asker(0));
     let mut request = [0u8; 65_535];
     let mut out = [0u8; 65_535];
     let own = [IpAddr::from([192, 0, 2, 7])];
     let allowed = Allowed::new(if may { &own } else { &[] });
-    serve_udp(
+    answer_tray(
         rt,
         &mut asked,
         tray,
@@ -267,10 +220,11 @@ pub(crate) fn is_served<R: Wait, Z: FirstZone>(
     reader: &mut VersionReader<Z>,
     row: &Row,
 ) -> Option<bool> {
-    let replies = replies_of(alloc, row.sent)?;
-    let mut tray = Tray::new(alloc, row.letters, row.refused);
-    let end = serve(rt, alloc, server, reader, row.may, row.most, &mut tray);
-    Some(end == row.end && tray.faults() == row.faults && tray.sent == replies)
+    let tray = tray_of(alloc, row)?;
+    let log = Kept::new(alloc);
+    let (end, tray) = serve(rt, alloc, server, reader, row.may, row.most, &log, tray);
+    let is_right = end == row.end && tray.faults() == row.faults;
+    Some(is_right && is_sent(alloc, tray.sent(), row.sent)?)
 }
 
 /// Whether a row's datagrams go as it says, over the zone anew.
@@ -289,4 +243,21 @@ fn datagrams(rt: HostRuntime) {
         .iter()
         .position(|row| !is_right(&rt, rt.alloc(), row));
     assert_eq!(rt; wrong, None);
+}
+
+/// Two queries, and their replies, each to who asked.
+const TWO_QUERIES: Row = Row {
+    may: false,
+    most: 2,
+    refused: &[],
+    letters: b"we",
+    end: DatagramsEnd::Done,
+    faults: 0,
+    sent: b"0w1e",
+};
+
+// Two requests as datagrams, and both replies, by the octets that RFC 1035, 4 gives for them.
+#[test]
+fn two_requests_by_datagrams(rt: HostRuntime) {
+    assert!(rt; is_right(&rt, rt.alloc(), &TWO_QUERIES));
 }

@@ -1,10 +1,4 @@
-pub mod Octets
-pub mod Cut
-pub mod Allowed
-pub mod Datagrams
-pub mod Exchanged
-pub mod Served
-pub mod Turns
-pub mod Updated
-pub mod Replied
 pub mod Refused
+pub mod GivenBack
+pub mod Ended
+pub mod ServedFor

@@ -1,5 +1,6 @@
 -- Why no connection was accepted, by the number of the system's error (Linux, accept(2); own).
-use Rattle.std.specs.Prelude.{◌≡◌, ℕ, ℤ, pos, List, [], ◌∷◌, All, Option, Some}
+use Rattle.std.specs.Prelude.{◌≡◌, ◌==◌, ℕ, ℤ, pos, negsuc, Bool, false, if◌then◌else◌, List, [], ◌∷◌, Option, None, Some}
+use Rattle.std.specs.List.{list_any}
 use Rattle.serve_workers.specs.declared.tcp.Refusal.{Refusal}
 use Rattle.serve_workers.specs.declared.tcp.Refusal.TheVariants.{Client, Room, Listener}
 
@@ -12,14 +13,12 @@ client_errors = 1 ∷ 4 ∷ 64 ∷ 71 ∷ 92 ∷ 95 ∷ 100 ∷ 101 ∷ 103 ∷ 
 abbrev pub listener_errors : List ℕ
 listener_errors = 9 ∷ 14 ∷ 22 ∷ 88 ∷ []
 
--- errors that are want of room: EIO, which accept(2) doesn't name, ENOMEM, ENFILE, EMFILE and ENOBUFS
-abbrev pub room_errors : List ℕ
-room_errors = 5 ∷ 12 ∷ 23 ∷ 24 ∷ 105 ∷ []
+-- whether an error has one of these numbers
+abbrev pub is_one_of : List ℕ → Option ℤ → Bool
+is_one_of numbers None = false
+is_one_of numbers (Some (pos n)) = list_any (λ m. n == m) numbers
+is_one_of numbers (Some (negsuc n)) = false
 
--- an error with one of these numbers is told as this
-abbrev pub AllToldAs : Refusal → List ℕ → Refusal → Option ℤ → Type 0
-AllToldAs wanted numbers told code = All (λ n. code ≡ Some (pos n) → told ≡ wanted) numbers
-
--- the errors that are listed are told as they are listed
-abbrev pub IsRefusedAs : Refusal → Option ℤ → Type 0
-IsRefusedAs told code = AllToldAs Client client_errors told code × AllToldAs Listener listener_errors told code × AllToldAs Room room_errors told code
+-- an error that is listed is told as it is listed, and any other, or one with no number, as want of room
+abbrev pub refused_as : Option ℤ → Refusal
+refused_as code = if is_one_of client_errors code then Client else (if is_one_of listener_errors code then Listener else Room)

@@ -1,12 +1,14 @@
 //! Connections that end where a request, or the taking of a reply, is too long in coming.
-ghost use Rattle.std.specs.Prelude.{◌≡◌, ◌+◌, ◌-◌, ◌*◌, ◌<◌, ◌≤◌, ◌↔◌, [], take, length, true, false, None, IsTrue, IfSome, IfOk, OnErr};
+ghost use Rattle.std.specs.Prelude.{◌≡◌, ◌≢◌, ◌+◌, ◌-◌, ◌*◌, ◌<◌, ◌≤◌, ◌↔◌, [], take, length, true, false, None, IsTrue, IfSome, IfOk, IfErr, OnErr};
 ghost use Rattle.std.specs.Duration.{as_nanos};
 ghost use Rattle.std.specs.Io.{ReadsAtMost, WritesAtMost};
-ghost use Rattle.serve_workers.specs.Octets.{Gives, Takes, IsAtEnd};
+ghost use Rattle.std.specs.IoError.{error_kind};
+ghost use Rattle.conversation.specs.Octets.{Gives, Takes, IsAtEnd};
 ghost use Rattle.serve_workers.specs.declared.connection.TheConstants.{PATIENCE};
 
-use crate::counted::Stream;
-use std::io::{self, ErrorKind};
+use crate::interrupted::is_interrupted;
+use conversation::Stream;
+use std::io::{self, ErrorKind, Read, Write};
 use std::net::TcpStream;
 use std::time::{Clock, Duration};
 
@@ -23,13 +25,32 @@ pub trait Timed: Stream {
     fn limit_writes(&self, most: Duration) -> io::Result<()>;
 }
 
-impl Timed for TcpStream {
+/// A connection of TCP, as a stream of which contracts know no octets.
+#[derive(Drop)]
+pub struct TcpDevice {
+    /// The connection.
+    pub inner: TcpStream,
+}
+
+impl Stream for TcpDevice {
+    ghost octets = { λ _. None };
+
+    fn read(&mut self, buf: &mut [u8]) -> io::Result<usize> {
+        self.inner.read(buf)
+    }
+
+    fn write(&mut self, buf: &[u8]) -> io::Result<usize> {
+        self.inner.write(buf)
+    }
+}
+
+impl Timed for TcpDevice {
     fn limit_reads(&self, most: Duration) -> io::Result<()> {
-        self.set_read_timeout(Some(most))
+        self.inner.set_read_timeout(Some(most))
     }
 
     fn limit_writes(&self, most: Duration) -> io::Result<()> {
-        self.set_write_timeout(Some(most))
+        self.inner.set_write_timeout(Some(most))
     }
 }
 
@@ -78,11 +99,10 @@ impl<'a, S, C: Clock> Connection<'a, S, C> {
     }
 }
 
-impl<S: Timed, C: Clock> Stream for Connection<'_, S, C> {
-    ghost octets = { λ connection. S.octets connection.stream };
-
+impl<S: Timed, C: Clock> Connection<'_, S, C> {
+    /// Reads some octets in the time that is left.
     #[tactic(auto, using(crate::proofs::ConnectionLemmas::gives_nothing))]
-    fn read(&mut self, buf: &mut [u8]) -> io::Result<usize>
+    fn read_once(&mut self, buf: &mut [u8]) -> io::Result<usize>
         ensures bound { ReadsAtMost result buf.new }
         ensures gives { IfOk result (λ n. Gives (S.octets self.old.stream) (S.octets self.new.stream) (take n buf.new)) }
         ensures end { IfOk result (λ n. n ≡ 0 → 0 < length buf.new → IsAtEnd (S.octets self.new.stream)) }
@@ -94,13 +114,16 @@ impl<S: Timed, C: Clock> Stream for Connection<'_, S, C> {
         self.stream.read(buf)
     }
 
-    // A write that takes all that it is given ends a message, and the next one begins one.
+    /// Writes some octets in the time that is left. A write that takes all that it is given ends a message, and the next one begins
+    /// one.
     #[tactic(auto, using(crate::proofs::ConnectionLemmas::takes_nothing))]
-    fn write(&mut self, buf: &[u8]) -> io::Result<usize>
+    fn write_once(&mut self, buf: &[u8]) -> io::Result<usize>
         ensures bound { WritesAtMost result buf.now }
         ensures takes { IfOk result (λ n. Takes (S.octets self.old.stream) (S.octets self.new.stream) (take n buf.now)) }
         ensures failed { OnErr result (Takes (S.octets self.old.stream) (S.octets self.new.stream) []) }
         ensures goes_on { self.old.is_writing ≡ true → IfOk result (λ n. n < length buf.now → self.new.begun ≡ self.old.begun) }
+        ensures waits { self.old.is_writing ≡ true → OnErr result (self.new.begun ≡ self.old.begun) }
+        ensures stays { self.old.is_writing ≡ true → OnErr result (self.new.is_writing ≡ true) }
         ensures part { IfOk result (λ n. n < length buf.now → self.new.is_writing ≡ true) }
         ensures whole { IfOk result (λ n. n ≡ length buf.now → self.new.is_writing ≡ false) }
     {
@@ -116,5 +139,54 @@ impl<S: Timed, C: Clock> Stream for Connection<'_, S, C> {
             self.begun = self.clock.monotonic().unwrap_or(self.begun);
         }
         Ok(len)
+    }
+}
+
+impl<S: Timed, C: Clock> Stream for Connection<'_, S, C> {
+    ghost octets = { λ connection. S.octets connection.stream };
+
+    // A read that a signal interrupts is made again, in the time that is left then.
+    fn read(&mut self, buf: &mut [u8]) -> io::Result<usize>
+        ensures bound { ReadsAtMost result buf.new }
+        ensures gives { IfOk result (λ n. Gives (S.octets self.old.stream) (S.octets self.new.stream) (take n buf.new)) }
+        ensures end { IfOk result (λ n. n ≡ 0 → 0 < length buf.new → IsAtEnd (S.octets self.new.stream)) }
+        ensures failed { OnErr result (Gives (S.octets self.old.stream) (S.octets self.new.stream) []) }
+        ensures goes_on { self.new.begun ≡ self.old.begun }
+        ensures again { IfErr result (λ fault. error_kind fault ≢ ErrorKind.Interrupted) }
+    {
+        for _ in 0..u64::MAX {
+            match self.read_once(buf) {
+                Ok(count) => return Ok(count),
+                Err(fault) => {
+                    if !is_interrupted(&fault) {
+                        return Err(fault);
+                    }
+                }
+            }
+        }
+        Err(io::Error::from(ErrorKind::TimedOut))
+    }
+
+    // A write that a signal interrupts is made again, in the time that is left then.
+    fn write(&mut self, buf: &[u8]) -> io::Result<usize>
+        ensures bound { WritesAtMost result buf.now }
+        ensures takes { IfOk result (λ n. Takes (S.octets self.old.stream) (S.octets self.new.stream) (take n buf.now)) }
+        ensures failed { OnErr result (Takes (S.octets self.old.stream) (S.octets self.new.stream) []) }
+        ensures goes_on { self.old.is_writing ≡ true → IfOk result (λ n. n < length buf.now → self.new.begun ≡ self.old.begun) }
+        ensures part { IfOk result (λ n. n < length buf.now → self.new.is_writing ≡ true) }
+        ensures whole { IfOk result (λ n. n ≡ length buf.now → self.new.is_writing ≡ false) }
+        ensures again { IfErr result (λ fault. error_kind fault ≢ ErrorKind.Interrupted) }
+    {
+        for _ in 0..u64::MAX {
+            match self.write_once(buf) {
+                Ok(count) => return Ok(count),
+                Err(fault) => {
+                    if !is_interrupted(&fault) {
+                        return Err(fault);
+                    }
+                }
+            }
+        }
+        Err(io::Error::from(ErrorKind::TimedOut))
     }
 }

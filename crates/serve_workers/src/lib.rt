@@ -1,43 +1,23 @@
-//! The running server: streams, datagrams and workers over a cell of versions.
+//! The running server: workers on sockets, each on a thread of its own.
 //!
-//! [`serve_stream`] answers the requests of a stream one after another; over a stream that tells its octets its contract says what is
-//! written: the frames of the replies, in order, whole or a beginning of them (`EndsAs`). [`answer_now`] answers a query with the
-//! version that it loads, and [`serve_one`] hands an update to the engine, which a [`Server`] keeps behind a lock: each reply is that
-//! of one version, the first zone with updates replayed (`IsReplied`). A [`Journal`] is told of each change, and of each end of a worker.
+//! [`serve_zone`] serves a zone by workers on a socket of datagrams and on a listener. [`run_workers`] does each worker's job on a thread
+//! of its own; a [`Connection`] ends where its peer takes too long. What is answered, and what is written then, `conversation` and
+//! `zone_service` have.
 #![tactic(auto)]
 
-mod allowed;
-mod answer;
-mod asked;
 mod connection;
-mod counted;
-mod datagrams;
-mod frames;
-mod gate;
-mod journal;
+mod interrupted;
 mod scratch;
-mod server;
 mod service;
-mod stream;
+mod shared_socket;
 mod tcp;
-mod transfer;
-mod turn;
-mod udp;
+mod udp_job;
 mod workers;
 
-pub use allowed::Allowed;
-pub use answer::{Now, Served, Told, answer_now, serve_one};
-pub use asked::Asked;
-pub use connection::{Connection, PATIENCE, Timed};
-pub use counted::{Counted, DeviceFailed, Stream};
-pub use datagrams::{Datagrams, SharedSocket};
-pub use gate::{Gate, OpenGate};
-pub use journal::{Event, JobEnd, Journal, NoJournal, Serials};
+pub use connection::{Connection, PATIENCE, TcpDevice, Timed};
 pub use scratch::Scratch;
-pub use server::Server;
 pub use service::{Plan, ServeFault, serve_zone};
-pub use stream::{Answering, StreamEnd, serve_stream};
+pub use shared_socket::SharedSocket;
 pub use tcp::TcpJob;
-pub use turn::Broken;
-pub use udp::{DatagramsEnd, UdpJob, serve_udp};
+pub use udp_job::UdpJob;
 pub use workers::{Job, NotStarted, run_workers};

@@ -1,19 +1,16 @@
 //! A zone served on sockets, by workers.
 ghost use Rattle.std.specs.Prelude.{◌≡◌, ◌≢◌, ◌+◌, ◌*◌, ◌<◌, ◌≤◌, ◌⊎◌, ◌↔◌, vec_len, IfErr, IfSome, IsErrOf, OnOk};
 ghost use Rattle.dns_engine.specs.declared.fault.EngineFault.{EngineFault as EngineRefused};
-ghost use Rattle.dns_engine.specs.declared.owners.TheConstants.{KEPT};
+ghost use Rattle.dns_engine.specs.Held.{KEPT};
 ghost use Rattle.snapshot_cell.specs.declared.cell.TheConstants.{READERS};
 ghost use Rattle.serve_workers.specs.declared.service.ServeFault.{ServeFault as Fault};
 
-use crate::allowed::Allowed;
-use crate::gate::{Gate, OpenGate};
-use crate::journal::{JobEnd, Journal};
 use crate::scratch::Scratch;
-use crate::server::Server;
-use crate::stream::Answering;
+use crate::shared_socket::SharedSocket;
 use crate::tcp::TcpJob;
-use crate::udp::UdpJob;
+use crate::udp_job::UdpJob;
 use crate::workers::{Job, run_workers};
+use conversation::{Allowed, Answering, Gate, OpenGate};
 use dns_engine::{EngineFault, FirstZone, VersionCell, VersionPublisher, VersionReader};
 use snapshot_cell::{Cell, NewFault, Parts};
 use std::alloc::Global;
@@ -22,6 +19,7 @@ use std::sync::Wait;
 use std::thread::Threads;
 use std::time::Clock;
 use thiserror::Error;
+use zone_service::{JobEnd, Server, ServiceLog};
 use zone_tree::{Version, Zone};
 
 /// How a zone is served.
@@ -33,7 +31,7 @@ pub struct Plan<'a> {
     pub listener: &'a TcpListener,
     /// How many workers there are for each of them.
     pub workers: usize,
-    /// How many versions are kept in front of the last.
+    /// How many versions are kept older than the last.
     pub keep: usize,
     /// How many requests a worker answers by datagrams, or connections it serves.
     pub most: u64,
@@ -65,7 +63,7 @@ pub enum ServeFault {
 #[derive(Drop)]
 enum SocketJob<'a, C> {
     /// Requests by datagrams.
-    Datagrams(UdpJob<'a>),
+    Datagrams(UdpJob<'a, SharedSocket<'a>>),
     /// Connections.
     Connections(TcpJob<'a, C>),
 }
@@ -89,30 +87,28 @@ impl<C: Clock> SocketJob<'_, C> {
 }
 
 impl<C: Clock + Sync> Job for SocketJob<'_, C> {
-    fn run<R: Wait, A: Answering, G: Gate, L: Journal>(
+    fn run<R: Wait, A: Answering, G: Gate, L: ServiceLog>(
         &mut self,
         rt: &R,
         answering: &mut A,
         gate: &G,
-        journal: &L,
+        log: &L,
     ) {
         match self {
-            SocketJob::Datagrams(job) => job.run(rt, answering, gate, journal),
-            SocketJob::Connections(job) => job.run(rt, answering, gate, journal),
+            SocketJob::Datagrams(job) => job.run(rt, answering, gate, log),
+            SocketJob::Connections(job) => job.run(rt, answering, gate, log),
         }
     }
 }
 
 /// Serves a zone on sockets: its workers answer queries in the version that is published last, and updates, each of which publishes
-/// the next one (RFC 1035, 4.2; RFC 2136, 3). It ends once each worker has done what it may, or has failed. The journal is told of each
+/// the next one (RFC 1035, 4.2; RFC 2136, 3). It ends once each worker has done what it may, or has failed. The log is told of each
 /// change, and of each end of a worker.
-pub fn serve_zone<R: Threads + Wait + Clock + Sync, Z: FirstZone + Send + Sync, L: Journal + Sync>(
-    rt: &R,
-    alloc: Global,
-    zone: Zone,
-    plan: Plan<'_>,
-    journal: &L,
-) -> Result<(), ServeFault>
+pub fn serve_zone<
+    R: Threads + Wait + Clock + Sync,
+    Z: FirstZone + Send + Sync,
+    L: ServiceLog + Sync,
+>(rt: &R, alloc: Global, zone: Zone, plan: Plan<'_>, log: &L) -> Result<(), ServeFault>
     requires { zone ≡ Z.zone }
     ensures kept { OnOk result (plan.entry.keep ≤ KEPT) }
     ensures workers { READERS < 2 * plan.entry.workers + 1 → IsErrOf result Fault.TooMany }
@@ -128,18 +124,18 @@ pub fn serve_zone<R: Threads + Wait + Clock + Sync, Z: FirstZone + Send + Sync, 
         Err(NewFault::TooManyReaders) => return Err(ServeFault::TooMany),
         Err(NewFault::NoMemory) => return Err(ServeFault::NoMemory),
     };
-    serve_cell::<R, Z, L>(rt, alloc, &cell, publisher, readers, plan, journal)
+    serve_cell::<R, Z, L>(rt, alloc, &cell, publisher, readers, plan, log)
 }
 
 /// Serves the versions of a cell in which the first one alone is published.
-fn serve_cell<R: Threads + Wait + Clock + Sync, Z: FirstZone + Send + Sync, L: Journal + Sync>(
+fn serve_cell<R: Threads + Wait + Clock + Sync, Z: FirstZone + Send + Sync, L: ServiceLog + Sync>(
     rt: &R,
     alloc: Global,
     cell: &VersionCell<Z>,
     publisher: VersionPublisher<Z>,
     mut readers: Vec<VersionReader<Z>>,
     plan: Plan<'_>,
-    journal: &L,
+    log: &L,
 ) -> Result<(), ServeFault>
     requires first { publisher.number ≡ 0 }
     requires reader { 0 < vec_len readers }
@@ -153,22 +149,22 @@ fn serve_cell<R: Threads + Wait + Clock + Sync, Z: FirstZone + Send + Sync, L: J
         Ok(server) => server,
         Err(refused) => return Err(fault_of(refused.fault)),
     };
-    serve_with(rt, alloc, &server, readers, plan, journal)
+    serve_with(rt, alloc, &server, readers, plan, log)
 }
 
 /// Serves the versions of a server's cell, with a worker for each reader.
-fn serve_with<R: Threads + Wait + Clock + Sync, Z: FirstZone + Send + Sync, L: Journal + Sync>(
+fn serve_with<R: Threads + Wait + Clock + Sync, Z: FirstZone + Send + Sync, L: ServiceLog + Sync>(
     rt: &R,
     alloc: Global,
     server: &Server<'_, Z>,
     readers: Vec<VersionReader<Z>>,
     plan: Plan<'_>,
-    journal: &L,
+    log: &L,
 ) -> Result<(), ServeFault>
     ensures { IfErr result (λ fault. fault ≢ Fault.TooMany) }
 {
     let pairs = pairs_of(rt, alloc, readers, plan)?;
-    let Ok(pairs) = run_workers(rt, alloc, server, pairs, &OpenGate, journal) else {
+    let Ok(pairs) = run_workers(rt, alloc, server, pairs, &OpenGate, log) else {
         return Err(ServeFault::NotStarted);
     };
     match fault_in(&pairs) {
@@ -219,7 +215,13 @@ fn pairs_of<'a, R: Clock, Z: FirstZone>(
             return Err(ServeFault::NoMemory);
         };
         let job = if by_datagrams {
-            let job = UdpJob::new(number, plan.datagrams, plan.allowed, plan.most, scratch);
+            let job = UdpJob::new(
+                number,
+                SharedSocket::new(plan.datagrams),
+                plan.allowed,
+                plan.most,
+                scratch,
+            );
             SocketJob::Datagrams(job)
         } else {
             let job = TcpJob::new(number, plan.listener, rt, plan.allowed, plan.most, scratch);

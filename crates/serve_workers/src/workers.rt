@@ -1,38 +1,47 @@
 //! Workers: jobs, each on a thread of its own.
-use crate::asked::Asked;
-use crate::gate::Gate;
-use crate::journal::Journal;
-use crate::server::Server;
-use crate::stream::Answering;
+ghost use Rattle.std.specs.Prelude.{◌≡◌, ℕ, ◌≤◌, false, [], All, map, vec_len, vec_capacity, IfOk, IfErr, MatchResult};
+ghost use Rattle.serve_workers.specs.GivenBack.{Each, IsReturned};
+
+use conversation::{Answering, Gate};
 use dns_engine::{FirstZone, VersionReader};
 use serve_core::{Peer, Transport};
 use std::alloc::Global;
 use std::net::{Ipv4Addr, SocketAddr, SocketAddrV4};
-use std::sync::Wait;
-use std::sync::atomic::{AtomicBool, Ordering};
-use std::thread::{self, Threads};
+use std::snapshot::Snapshot;
+use std::sync::{OnceLock, OnceToken, Wait};
+use std::thread::{self, Promise, PromisedHandle, Scope, Threads};
+use zone_service::{Asked, Server, ServiceLog};
 
 /// What a worker does.
 pub trait Job: Send + Drop {
-    /// Does it, by one who answers each peer that it is turned to. Each request goes through the gate; the journal is told how the job
+    /// The job's number, which stays.
+    ghost number: { Self → ℕ } = { λ _. 0 };
+
+    /// Does it, by one who answers each peer that it is turned to. Each request goes through the gate; the log is told how the job
     /// ends.
-    fn run<R: Wait, A: Answering, G: Gate, L: Journal>(
+    fn run<R: Wait, A: Answering, G: Gate, L: ServiceLog>(
         &mut self,
         rt: &R,
         answering: &mut A,
         gate: &G,
-        journal: &L,
-    );
+        log: &L,
+    )
+        ensures { number self.new ≡ number self.old };
 }
 
-/// Not all jobs were done, since a thread couldn't be started, or there was no memory to keep track of them: the pairs come back.
+/// Not all jobs could be started, since a thread was refused, or there was no memory to keep track of them: the pairs come back, and
+/// none of the jobs has begun.
 #[derive(Drop)]
 pub struct NotStarted<Z: FirstZone, J>(pub Vec<(VersionReader<Z>, J)>);
 
 /// What is done on a thread.
 trait Work: Send + Drop {
+    /// The work's number, which stays.
+    ghost number: { Self → ℕ };
+
     /// Does it.
-    fn work<R: Wait>(&mut self, rt: &R);
+    fn work<R: Wait>(&mut self, rt: &R)
+        ensures { number self.new ≡ number self.old };
 }
 
 /// Nobody's address.
@@ -40,73 +49,205 @@ fn nobody() -> SocketAddr {
     SocketAddr::V4(SocketAddrV4::new(Ipv4Addr::new(0, 0, 0, 0), 0))
 }
 
-/// A job, with the reader, the server, the gate and the journal that it is done with.
+/// A job with its reader, and the server, the gate and the log that it is done with.
 #[derive(Drop)]
 struct Worker<'g, 's, Z: FirstZone, J, G, L> {
     alloc: Global,
     server: &'g Server<'s, Z>,
     gate: &'g G,
-    journal: &'g L,
-    reader: VersionReader<Z>,
-    job: J,
+    log: &'g L,
+    pair: (VersionReader<Z>, J),
 }
 
-impl<'g, 's, Z: FirstZone + Send + Sync, J: Job, G: Gate + Sync, L: Journal + Sync> Work
+impl<'g, 's, Z: FirstZone + Send + Sync, J: Job, G: Gate + Sync, L: ServiceLog + Sync> Work
     for Worker<'g, 's, Z, J, G, L> {
+    ghost number = { λ worker. J.number worker.pair.1 };
+
     fn work<R: Wait>(&mut self, rt: &R) {
         let mut asked = Asked::new(
             self.alloc,
             self.server,
-            &mut self.reader,
-            self.journal,
+            &mut self.pair.0,
+            self.log,
             Peer::over(Transport::Udp, false),
             nobody(),
         );
-        self.job.run(rt, &mut asked, self.gate, self.journal);
+        self.pair.1.run(rt, &mut asked, self.gate, self.log);
     }
 }
 
-/// Does a work, unless a thread was refused.
-fn do_one<R: Wait, W: Work>(rt: &R, refused: &AtomicBool, mut work: W) -> W {
-    if !refused.load(Ordering::SeqCst) {
+/// A work that its thread gives back, and what the thread was told: whether the works may be done.
+#[derive(Drop)]
+struct Returned<'m, W> {
+    work: W,
+    told: OnceToken<'m, bool>,
+}
+
+/// A work that is given to a thread, and what tells the thread whether the works may be done.
+#[derive(Drop)]
+struct Given<'m, W> {
+    may: &'m OnceLock<bool>,
+    work: Snapshot<W>,
+}
+
+impl<'m, W: Work> Promise<Returned<'m, W>> for Given<'m, W> {
+    ghost kept_by = { λ given back. IsReturned W.number given.may.now.id given.work.value back.told.of back.told.value back.work };
+}
+
+/// Does a work once all threads have been started; not at all where one was refused.
+fn do_one<'m, R: Wait, W: Work>(rt: &R, may: &'m OnceLock<bool>, mut work: W) -> Returned<'m, W>
+    ensures { IsReturned W.number may.entry.now.id work result.told.of result.told.value result.work }
+{
+    may.wait(rt);
+    let told = may.init(rt, || false);
+    if *may.value(&told) {
         work.work(rt);
     }
-    work
+    Returned { work, told }
 }
 
-/// Does each work on a thread of its own, waits for all, and puts them into `done`, which has room for them. False where a thread was
-/// refused, or where there is no memory to keep track of them: nothing begins behind the refusal.
-fn do_all<R: Threads + Wait + Sync, W: Work>(
-    rt: &R,
-    alloc: Global,
-    works: Vec<W>,
-    done: &mut Vec<W>,
-) -> bool {
-    let refused = &AtomicBool::new(false);
-    let Ok(mut handles) = Vec::with_capacity(alloc, works.len()) else {
-        for work in works {
-            let _ = done.push(work);
-        }
-        return false;
+/// A work whose thread is started, or that is given back since its thread was refused.
+type Begun<'m, W> = Result<PromisedHandle<Returned<'m, W>, Given<'m, W>>, Returned<'m, W>>;
+
+/// Starts a thread for a work. Where it is refused, no work may be done from then on.
+fn begin<'s, E, R: Threads + Wait + Sync, W: Work + 's>(
+    rt: &'s R,
+    scope: &'s Scope<'s, E>,
+    may: &'s OnceLock<bool>,
+    work: W,
+) -> Begun<'s, W>
+    ensures { MatchResult result
+        (λ handle. (handle.promise.may.now.id ≡ may.entry.now.id) × (handle.promise.work.value ≡ work))
+        (λ back. IsReturned W.number may.entry.now.id work back.told.of back.told.value back.work) }
+{
+    let given = Given {
+        may,
+        work: Snapshot::of(&work),
     };
+    match scope.spawn_with(given, move || do_one(rt, may, work)) {
+        Ok(handle) => Ok(handle),
+        Err(refused) => {
+            let _ = may.init(rt, || false);
+            let again = refused.value;
+            Err(again())
+        }
+    }
+}
+
+/// Starts a thread for each work, and puts what has begun into `begun`, which has room for it.
+fn begin_all<'s, E, R: Threads + Wait + Sync, W: Work + 's>(
+    rt: &'s R,
+    scope: &'s Scope<'s, E>,
+    may: &'s OnceLock<bool>,
+    works: Vec<W>,
+    mut begun: Vec<Begun<'s, W>>,
+) -> Vec<Begun<'s, W>>
+    requires room { vec_len works ≤ vec_capacity begun }
+    requires empty { begun.items ≡ [] }
+    requires len { vec_len begun ≡ 0 }
+    ensures count { vec_len result ≡ vec_len works }
+    ensures begun { Each (λ given one. MatchResult one
+        (λ handle. (handle.promise.may.now.id ≡ may.entry.now.id) × (handle.promise.work.value ≡ given))
+        (λ back. IsReturned W.number may.entry.now.id given back.told.of back.told.value back.work)) works.items result.items }
+{
+    for work in works {
+        begun.push_reserved(begin(rt, scope, may, work));
+    }
+    begun
+}
+
+/// Waits for a work.
+fn end<'s, R: Threads, W: Work>(rt: &R, begun: Begun<'s, W>) -> Returned<'s, W>
+    ensures { MatchResult begun.entry
+        (λ handle. IsReturned W.number handle.promise.may.now.id handle.promise.work.value result.told.of result.told.value result.work)
+        (λ back. result ≡ back) }
+{
+    match begun {
+        Ok(handle) => handle.join(rt),
+        Err(returned) => returned,
+    }
+}
+
+/// Waits for each work, and puts what comes back into `returned`, which has room for it.
+fn end_all<'s, R: Threads, W: Work>(
+    rt: &R,
+    begun: Vec<Begun<'s, W>>,
+    mut returned: Vec<Returned<'s, W>>,
+) -> Vec<Returned<'s, W>>
+    requires room { vec_len begun ≤ vec_capacity returned }
+    requires empty { returned.items ≡ [] }
+    requires len { vec_len returned ≡ 0 }
+    ensures count { vec_len result ≡ vec_len begun.entry }
+    ensures ended { Each (λ one back. MatchResult one
+        (λ handle. IsReturned W.number handle.promise.may.now.id handle.promise.work.value back.told.of back.told.value back.work)
+        (λ given. back ≡ given)) begun.entry.items result.items }
+{
+    for one in begun {
+        returned.push_reserved(end(rt, one));
+    }
+    returned
+}
+
+/// Puts the works that came back into `done`, which has room for them.
+fn works_of<'s, W: Work>(
+    told: &OnceToken<'s, bool>,
+    returned: Vec<Returned<'s, W>>,
+    mut done: Vec<W>,
+) -> Vec<W>
+    requires room { vec_len returned ≤ vec_capacity done }
+    requires empty { done.items ≡ [] }
+    requires len { vec_len done ≡ 0 }
+    requires told { All (λ back. back.told.of ≡ told.now.of) returned.items }
+    ensures { Each (λ back work. (back.told.value ≡ told.now.value) × (work ≡ back.work)) returned.entry.items result.items }
+{
+    for back in returned {
+        let Returned { work, told: own } = back;
+        own.agrees(told);
+        done.push_reserved(work);
+    }
+    done
+}
+
+/// Does each work on a thread of a scope, and waits for all; then gives the works back in their order. The threads are told by a lock
+/// whether the works may be done. False where a thread was refused, or where there is no memory to keep track of them: none of the
+/// works has then begun.
+fn do_in<'s, E, R: Threads + Wait + Sync, W: Work + 's>(
+    rt: &'s R,
+    alloc: Global,
+    scope: &'s Scope<'s, E>,
+    may: &'s OnceLock<bool>,
+    works: Vec<W>,
+) -> (bool, Vec<W>)
+    ensures numbers { map W.number result.1.items ≡ map W.number works.items }
+    ensures none { result.0 ≡ false → result.1.items ≡ works.items }
+{
+    let count = works.len();
+    let Ok(begun) = Vec::with_capacity(alloc, count) else {
+        return (false, works);
+    };
+    let Ok(returned) = Vec::with_capacity(alloc, count) else {
+        return (false, works);
+    };
+    let Ok(done) = Vec::with_capacity(alloc, count) else {
+        return (false, works);
+    };
+    let begun = begin_all(rt, scope, may, works, begun);
+    let told = may.init(rt, || true);
+    let returned = end_all(rt, begun, returned);
+    let done = works_of(&told, returned, done);
+    (*may.value(&told), done)
+}
+
+/// Does each work on a thread of its own, and waits for all; then gives the works back in their order. False where a thread was
+/// refused, or where there is no memory to keep track of them: none of the works has then begun.
+fn do_all<R: Threads + Wait + Sync, W: Work>(rt: &R, alloc: Global, works: Vec<W>) -> (bool, Vec<W>)
+    ensures numbers { map W.number result.1.items ≡ map W.number works.items }
+    ensures none { result.0 ≡ false → result.1.items ≡ works.items }
+{
+    let may = &OnceLock::new();
     thread::scope(thread::scope_env(), rt, |scope| {
-        for work in works {
-            match scope.spawn(move || do_one(rt, refused, work)) {
-                Ok(handle) => {
-                    let _ = handles.push(handle);
-                }
-                Err(back) => {
-                    refused.store(true, Ordering::SeqCst);
-                    let again = back.value;
-                    let _ = done.push(again());
-                }
-            }
-        }
-        for handle in handles {
-            let _ = done.push(handle.join(rt));
-        }
-    });
-    !refused.load(Ordering::SeqCst)
+        do_in(rt, alloc, scope, may, works)
+    })
 }
 
 /// Puts the workers of pairs into `works`, which has room for them.
@@ -114,18 +255,21 @@ fn put_workers<'g, 's, Z: FirstZone, J: Drop, G, L>(
     alloc: Global,
     server: &'g Server<'s, Z>,
     gate: &'g G,
-    journal: &'g L,
+    log: &'g L,
     pairs: Vec<(VersionReader<Z>, J)>,
     works: &mut Vec<Worker<'g, 's, Z, J, G, L>>,
-) {
-    for (reader, job) in pairs {
-        let _ = works.push(Worker {
+)
+    requires room { vec_len pairs ≤ vec_capacity works.old }
+    requires empty { works.old.items ≡ [] }
+    ensures pairs { map (λ worker. worker.pair) works.new.items ≡ pairs.items }
+{
+    for pair in pairs {
+        works.push_reserved(Worker {
             alloc,
             server,
             gate,
-            journal,
-            reader,
-            job,
+            log,
+            pair,
         });
     }
 }
@@ -134,14 +278,19 @@ fn put_workers<'g, 's, Z: FirstZone, J: Drop, G, L>(
 fn put_pairs<Z: FirstZone, J: Drop, G, L>(
     done: Vec<Worker<'_, '_, Z, J, G, L>>,
     back: &mut Vec<(VersionReader<Z>, J)>,
-) {
-    for Worker { reader, job, .. } in done {
-        let _ = back.push((reader, job));
+)
+    requires room { vec_len done ≤ vec_capacity back.old }
+    requires empty { back.old.items ≡ [] }
+    ensures pairs { back.new.items ≡ map (λ worker. worker.pair) done.entry.items }
+{
+    for Worker { pair, .. } in done {
+        back.push_reserved(pair);
     }
 }
 
-/// Does each job on a thread of its own, with a reader, and waits for all; then gives the pairs back. [`NotStarted`] gives them back
-/// where a thread was refused, or where there was no memory to keep track of them: no job begins behind the refusal.
+/// Does each job on a thread of its own, with a reader, and waits for all; then gives the pairs back in their order. No job begins
+/// until each has its thread. [`NotStarted`] where a thread was refused, or where there was no memory to keep track of them: no job
+/// has begun, and the pairs come back as they were given.
 pub fn run_workers<
     'g,
     's,
@@ -149,27 +298,27 @@ pub fn run_workers<
     Z: FirstZone + Send + Sync,
     J: Job,
     G: Gate + Sync,
-    L: Journal + Sync,
+    L: ServiceLog + Sync,
 >(
     rt: &R,
     alloc: Global,
     server: &'g Server<'s, Z>,
     pairs: Vec<(VersionReader<Z>, J)>,
     gate: &'g G,
-    journal: &'g L,
-) -> Result<Vec<(VersionReader<Z>, J)>, NotStarted<Z, J>> {
+    log: &'g L,
+) -> Result<Vec<(VersionReader<Z>, J)>, NotStarted<Z, J>>
+    ensures done { IfOk result (λ back. map (λ pair. J.number pair.1) back.items ≡ map (λ pair. J.number pair.1) pairs.items) }
+    ensures none { IfErr result (λ refused. refused.0.items ≡ pairs.items) }
+{
     let count = pairs.len();
     let Ok(mut works) = Vec::with_capacity(alloc, count) else {
-        return Err(NotStarted(pairs));
-    };
-    let Ok(mut done) = Vec::with_capacity(alloc, count) else {
         return Err(NotStarted(pairs));
     };
     let Ok(mut back) = Vec::with_capacity(alloc, count) else {
         return Err(NotStarted(pairs));
     };
-    put_workers(alloc, server, gate, journal, pairs, &mut works);
-    let started = do_all(rt, alloc, works, &mut done);
+    put_workers(alloc, server, gate, log, pairs, &mut works);
+    let (started, done) = do_all(rt, alloc, works);
     put_pairs(done, &mut back);
     if started {
         Ok(back)

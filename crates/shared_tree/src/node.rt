@@ -6,7 +6,7 @@ use crate::fault::NoMemory;
 use std::alloc::{AllocError, Global};
 use std::sync::Arc;
 
-/// The most nodes on a way down: a tree that needs more has over 2^44 pairs, which no memory holds.
+/// The most nodes on a way down. A tree that needs more has over 2^45 pairs, and making it is told as want of memory (own).
 pub(crate) const MAX_HEIGHT: usize = 64;
 
 /// The pairs on one side of a node: none, or those of a node that other trees may share.

@@ -110,7 +110,7 @@ impl<K: Ord + Drop, V: Drop> Tree<K, V> {
     }
 
     /// The tree with a pair in place, whatever pair its key had, and how many nodes were made: one at the least, and at
-    /// most four for each level of this tree and one more. `NoMemory` where memory is refused; this tree stays as it is,
+    /// most four for each level of this tree and four more. `NoMemory` where memory is refused; this tree stays as it is,
     /// as it does at any call.
     pub fn with(&self, alloc: Global, key: K, value: V) -> Result<(Tree<K, V>, u64), NoMemory>
         ensures pairs { IfOk result (λ new. new.0.pairs ≡ pairs_with K.cmp key value self.now.pairs) }
@@ -123,7 +123,7 @@ impl<K: Ord + Drop, V: Drop> Tree<K, V> {
     }
 
     /// The tree without the pair of a key, and how many nodes were made: at most four for each level of this tree and
-    /// one more, and none where the tree has no pair of that key, which gives an equal tree. `NoMemory` where memory is
+    /// four more, and none where the tree has no pair of that key, which gives an equal tree. `NoMemory` where memory is
     /// refused; this tree stays as it is, as it does at any call.
     pub fn without<Q: Seek<K>>(
         &self,

@@ -18,6 +18,6 @@ pub record IsPublished {T : Type 0} (begins : T → Type 0) (follows : T → T �
   pub history : IsHistory begins follows (before ++ version.value ∷ [])
   pub number : length before ≡ version.number
 
--- the version behind another, with a value (own)
+-- the version after another, with a value (own)
 abbrev pub next : {T : Type 0} → Numbered T → T → Numbered T
 next version value = record { number = version.number + 1; value = value }

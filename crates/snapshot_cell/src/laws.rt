@@ -4,7 +4,7 @@ ghost use Rattle.snapshot_cell.specs.History.{Numbered, IsHistory, IsPublished, 
 
 use crate::names::Names;
 
-/// A value that may follow the last one makes a history longer, so that the version behind a published one has been
+/// A value that may follow the last one makes a history longer, so that the version after a published one has been
 /// published.
 pub fn histories_go_on<T, C: Names<T>>()
     ensures history { (before : List T) (last value : T) → IsHistory C.begins C.follows (before ++ last ∷ []) → C.follows last value

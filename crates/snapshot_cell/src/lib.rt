@@ -1,7 +1,7 @@
-//! The snapshot cell: the version of a value that was published last, which readers load while others are published behind it.
+//! The snapshot cell: the version of a value that was published last, which readers load while others are published after it.
 //!
 //! A [`Cell`] keeps the last version, a number and a value. A [`Reader`] loads it and is given a [`Strong`], an owner that
-//! keeps its version whatever is published behind it. The one [`Publisher`] publishes. Contracts see an owner as its version,
+//! keeps its version whatever is published after it. The one [`Publisher`] publishes. Contracts see an owner as its version,
 //! and know of each that it has been published (`IsPublished`): its value is the last of a list in which each follows the one
 //! before it, and which begins as the type that names the cell says.
 //!

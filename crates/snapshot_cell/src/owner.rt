@@ -40,7 +40,7 @@ impl<T: Drop, C: Names<T>> Version<T, C> {
         })
     }
 
-    /// The version behind this one, or the value where there is no memory for it.
+    /// The version after this one, or the value where there is no memory for it.
     pub(crate) fn next(&self, alloc: Global, value: T) -> Result<Version<T, C>, T>
         requires room { self.now.number < 2 ^ 64 - 1 }
         requires follows { C.follows self.now.value value }

@@ -37,7 +37,7 @@ told_steps versions = flat_map (λ v. told_step (soa_of v.zone) v.changes) versi
 abbrev pub told : List Record → List Version → List Record
 told soa versions = soa ++ (told_steps versions ++ soa)
 
--- what changed, where each version behind the one that the asker holds is there
+-- what changed, where each version after the one that the asker holds is there
 abbrev pub told_changes : Bool → List Record → List Version → Option (List Record)
 told_changes true soa versions = Some (told soa versions)
 told_changes false soa versions = None

@@ -2,9 +2,11 @@
 -- (RFC 1995, 4; RFC 5936, 2.2).
 use Rattle.std.specs.Prelude.{◌≡◌, ◌++◌, Bool, ◌&&◌, not, ◌==◌, nat_le, List, [], ◌∷◌, length, filter, if◌then◌else◌, Option, Some, None, Result, Ok, Err}
 use Rattle.std.specs.Option.{option_map}
-use Rattle.std.specs.List.{list_any, list_all}
+use Rattle.std.specs.List.{list_all}
 use Rattle.std.specs.Ordering.{nat_cmp, ordering_then, is_lt}
 use Rattle.std.specs.declared.cmp.Ordering.{Ordering}
+use Rattle.dns_rdata.specs.Limits.{max_data, max_set}
+use Rattle.zone_tree.specs.Limits.{max_records}
 use Rattle.dns_name.specs.Name.{Name, fold_name, is_under}
 use Rattle.dns_rdata.specs.Numbers.{type_NS, type_SOA, class_IN}
 use Rattle.dns_rdata.specs.Data.{data_of, serial_of}
@@ -12,6 +14,7 @@ use Rattle.dns_rdata.specs.Record.{Record, record_cmp}
 use Rattle.dns_rdata.specs.Raw.{RawRecord, ttl_in_zone}
 use Rattle.zone_tree.specs.Zone.{apex_of, soa_of, rrset_of, share_ttl, is_alone, is_wild}
 use Rattle.zone_tree.specs.Change.{is_same_record}
+pub use Rattle.zone_tree.specs.Patch.{is_among}
 use Rattle.zone_tree.specs.Version.{zone_serial}
 use Rattle.transfer_core.specs.Lists.{beside_soa}
 use Rattle.transfer_core.specs.declared.fault.TransferFault.{TransferFault}
@@ -27,10 +30,6 @@ entered r =
 -- whether a record is an SOA
 abbrev pub is_soa : Record → Bool
 is_soa r = r.rtype == type_SOA
-
--- whether a record, its TTL included, is among others
-abbrev pub is_among : List Record → Record → Bool
-is_among records r = list_any (is_same_record r) records
 
 -- the order in which a holder keeps records: canonical order, and those that differ in their TTL alone by that (RFC 4034, 6.1 and 6.3;
 -- own)
@@ -72,7 +71,7 @@ pub record Reading : Type 0 where
 -- octets of data, 256 records a set, 1,000,000 records (own)
 abbrev pub held : Name → Stage → Record → List Record → Result Reading TransferFault
 held apex stage r records =
-    if is_under r.owner apex && nat_le (length r.rdata) 4096 && nat_le (length (rrset_of records r.owner r.rtype)) 256 && nat_le (length records) 1000000
+    if is_under r.owner apex && nat_le (length r.rdata) max_data && nat_le (length (rrset_of records r.owner r.rtype)) max_set && nat_le (length records) max_records
     then Ok (record { stage = stage; records = records })
     else Err NotInZone
 

@@ -1,8 +1,9 @@
 -- Which versions a server tells the changes of (RFC 1995, 5; own): the window, and what in it is behind the version that an asker
 -- holds. Zones stand in the order of their versions, oldest first.
-use Rattle.std.specs.Prelude.{◌≡◌, ◌⊎◌, ℕ, ◌<◌, ◌+◌, ◌^◌, Bool, true, false, ◌&&◌, ◌==◌, nat_lt, List, [], ◌∷◌, ◌++◌, length, map, Option, Some, None, if◌then◌else◌}
-use Rattle.std.specs.Option.{option_or}
+use Rattle.std.specs.Prelude.{◌≡◌, ◌⊎◌, ℕ, ◌<◌, ◌+◌, ◌^◌, Bool, true, false, ◌&&◌, ◌==◌, nat_lt, List, [], ◌∷◌, ◌++◌, length, take, drop, map, Option, Some, None, if◌then◌else◌}
+use Rattle.std.specs.Option.{option_or, option_and_then}
 use Rattle.dns_rdata.specs.Record.{Record}
+use Rattle.dns_rdata.specs.declared.numbers.Serial.{Serial}
 use Rattle.dns_rdata.specs.SerialOrder.{serial_less, serial_distance}
 use Rattle.zone_tree.specs.Version.{Version, Changes, zone_serial, first_data}
 use Rattle.dns_rdata.specs.Data.{serial_of}
@@ -82,10 +83,15 @@ abbrev pub is_held_before : ℕ → ℕ → List (List Record) → Option ℕ �
 is_held_before size serial zones None = false
 is_held_before size serial zones (Some before) = before == serial && fits size (before ∷ serials_of zones)
 
--- the versions behind the one of a serial in a window, of those that are kept up to a served one, by what they know; the newer ones
+-- the versions after the one of a serial in a window, of those that are kept up to a served one, by what they know; the newer ones
 -- stand behind it
 abbrev pub kept_since : ℕ → List Version → ℕ → List Version → Option (List Version)
 kept_since size newer serial [] = None
 kept_since size newer serial (v ∷ vs) =
     option_or (kept_since size newer serial vs)
     (if is_held_before size serial (zones_of ((v ∷ vs) ++ newer)) (serial_before v.changes) then Some (v ∷ vs) else None)
+
+-- the versions after the one that an asker holds, of those that are kept, of which so many are those up to the served one; none of an
+-- asker that tells no serial (RFC 1995, 3)
+abbrev pub kept_for : ℕ → ℕ → List Version → Option Serial → Option (List Version)
+kept_for size upto kept held = option_and_then (λ serial. kept_since size (drop upto kept) serial.0 (take upto kept)) held

@@ -1,4 +1,4 @@
-//! The versions behind the one that the asker of an IXFR holds (RFC 1995, 4).
+//! The versions after the one that the asker of an IXFR holds (RFC 1995, 4).
 ghost use Rattle.std.specs.Prelude.{◌≡◌, Bool, List, [], ◌∷◌, length, drop, MatchOption};
 ghost use Rattle.std.specs.List.{slice_get};
 ghost use Rattle.std.specs.Option.{option_copied};
@@ -7,7 +7,7 @@ ghost use Rattle.zone_tree.specs.Version.{Version as Numbered};
 use std::marker::Model;
 use zone_tree::Version;
 
-/// Versions of a zone, one behind the other in ascending order, wherever their owners are. Contracts see the list of them.
+/// Versions of a zone, one after another in ascending order, wherever their owners are. Contracts see the list of them.
 pub trait VersionList {
     ghost versions: { Self → List Numbered };
 
@@ -32,12 +32,12 @@ impl VersionList for Vec<Version> {
     }
 }
 
-/// The versions behind the one that the asker of an IXFR holds, up to the one that is served; or that they aren't all there.
+/// The versions after the one that the asker of an IXFR holds, up to the one that is served; or that they aren't all there.
 /// Contracts see whether they are, and the list of them.
 pub trait ChainView: VersionList {
     ghost whole: { Self → Bool };
 
-    /// Whether each version behind the one that the asker holds is there.
+    /// Whether each version after the one that the asker holds is there.
     fn is_whole(&self) -> bool
         ensures { result ≡ whole self.now };
 }

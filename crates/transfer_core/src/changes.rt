@@ -112,7 +112,7 @@ impl<'a, C: ChainView> SetsLeft<'a, C> {
     }
 }
 
-/// The list of what changed, as far as it is left: the SOA that is served, for each version behind the one that the asker
+/// The list of what changed, as far as it is left: the SOA that is served, for each version after the one that the asker
 /// holds its difference sequence (the old SOA, the deletions, its own SOA, the additions), the SOA that is served again
 /// (RFC 1995, 4). It takes no memory. Contracts see the records that are left.
 pub struct ChangesList<'a, C: ChainView> {

@@ -111,7 +111,7 @@ pub fn examples_of_no_zones()
 {}
 
 /// Which fault is told: that of the first record that has one, and at one record `Broken`, then `WrongBase`, then
-/// `NotInZone`; that the records are no zone behind all others.
+/// `NotInZone`; that the records are no zone after all others.
 #[tactic(auto, unfolding(dns_rdata::specs::Layout::layout_of, dns_rdata::specs::Data::data_of))]
 pub fn examples_of_first_faults()
     ensures broken_outside { take (short_zone 1) (as_sent (soa 2) ∷ as_sent ns ∷ of_class 3 (at_owner outside (host 1)) ∷ []) ≡ Err Broken }

@@ -23,7 +23,7 @@ pub use examples::{
     examples_of_no_zones, examples_of_taken_lists, examples_of_wrong_bases,
 };
 pub use fault::TransferFault;
-pub use kept::{KeptChain, chain_since};
+pub use kept::{KEPT, KeptChain, Reach, WINDOW, chain_since, sizes_of_what_is_kept};
 pub use laws::{first_faults_are_told, full_lists_are_taken, incremental_lists_are_taken};
 pub use list::{FullList, LentRecord, SetRecords, full};
 pub use packed::messages_are_the_list;

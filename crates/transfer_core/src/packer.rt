@@ -1,6 +1,7 @@
 //! The messages of a transfer: whole records, as many in each as fit (RFC 5936, 2.2).
 ghost use Rattle.std.specs.Prelude.{◌≡◌, ◌≤◌, List, [], ◌∷◌, ◌++◌, length, take, drop, map, MatchOption, IfSome, Some, None, if◌then◌else◌};
 ghost use Rattle.std.specs.Option.{option_map, option_to_list};
+ghost use Rattle.dns_rdata.specs.Limits.{max_data};
 ghost use Rattle.dns_name.specs.Name.{IsName, is_same};
 ghost use Rattle.dns_rdata.specs.Record.{Record};
 ghost use Rattle.dns_message.specs.Answers.{sent, first_of};
@@ -92,7 +93,7 @@ impl<'a, C: ChainView> RecordList for SpeltList<'a, C> {
     fn first(&self) -> Option<SentRecord<'_>>
         ensures shown { option_map sent result ≡ first_of (map (spelt self.now.name.now) (option_to_list self.now.next ++ listed self.now.rest)) }
         ensures lawful { IfSome result (λ r. IsName r.owner) }
-        ensures short { IfSome result (λ r. length r.rdata.now ≤ 4096) }
+        ensures short { IfSome result (λ r. length r.rdata.now ≤ max_data) }
     {
         match &self.next {
             None => None,
@@ -109,7 +110,7 @@ impl<'a, C: ChainView> RecordList for SpeltList<'a, C> {
 fn sent_to<'a>(name: &Name, lent: &LentRecord<'a>) -> SentRecord<'a>
     ensures shown { sent result ≡ spelt name.now lent.now }
     ensures lawful { IsName result.owner }
-    ensures short { length result.rdata.now ≤ 4096 }
+    ensures short { length result.rdata.now ≤ max_data }
 {
     SentRecord {
         owner: owner_to(name, lent.owner().to_name()),
@@ -125,9 +126,15 @@ fn owner_to(name: &Name, owner: Name) -> Name
     ensures lawful { IsName result }
 {
     let shown = if owner == *name { name.copy() } else { owner };
-    // Its octets are those of a name.
-    let _ = shown.wire();
+    learn_lawful(&shown);
     shown
+}
+
+/// Looks at a name's octets for a proof alone, which learns by it that they are those of a name.
+fn learn_lawful(name: &Name)
+    ensures { IsName name.now }
+{
+    let _ = name.wire();
 }
 
 /// Writes the one message of a list over UDP: the list where all of it fits a datagram; else the SOA alone, and where that

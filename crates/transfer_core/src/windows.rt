@@ -19,7 +19,7 @@ pub fn examples_of_windows()
     ensures whole_ring { window 16 [] (short_zone 1 ∷ short_zone 2147483648 ∷ short_zone 4294967295 ∷ short_zone 2147483646 ∷ []) ≡ short_zone 4294967295 ∷ short_zone 2147483646 ∷ [] }
 {}
 
-/// What is told: the asker's version is in the window, older than the served one, and each behind it is kept (RFC 1995, 4, 5 and
+/// What is told: the asker's version is in the window, older than the served one, and each after it is kept (RFC 1995, 4, 5 and
 /// 7; own).
 #[tactic(auto, unfolding(dns_rdata::specs::Layout::layout_of, dns_rdata::specs::Data::data_of))]
 pub fn examples_of_changes()

@@ -8,3 +8,5 @@ pub mod TakingLemmas
 pub mod GroupLemmas
 pub mod EndLemmas
 pub mod MessageLemmas
+pub mod PackedLemmas
+pub mod WholeLemmas

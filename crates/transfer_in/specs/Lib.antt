@@ -1,5 +1,6 @@
 pub mod Grouped
 pub mod Held
+pub mod Sendable
 pub mod Standing
 pub mod Taking
 pub use Rattle.zone_tree.specs.Zone

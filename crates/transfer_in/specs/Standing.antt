@@ -2,6 +2,8 @@
 use Rattle.std.specs.Prelude.{◌≡◌, ◌≤◌, ◌⊎◌, true, List, [], ◌∷◌, length, Result, Ok, Err, MatchResult}
 use Rattle.std.specs.List.{AllByRecursion}
 use Rattle.std.specs.List.Sorted.{IsStrictlySortedBy}
+use Rattle.dns_rdata.specs.Limits.{max_data, max_set}
+use Rattle.zone_tree.specs.Limits.{max_records}
 use Rattle.dns_name.specs.Name.{Name, is_under}
 use Rattle.dns_rdata.specs.Record.{Record, IsLawful}
 use Rattle.zone_tree.specs.Zone.{rrset_of, soa_of}
@@ -49,6 +51,6 @@ pub record AreHeld (apex : Name) (records : List Record) : Type 0 where
   pub lawful : AllByRecursion IsLawful records
   pub rises : IsStrictlySortedBy held_cmp records
   pub under : AllByRecursion (λ r. is_under r.owner apex ≡ true) records
-  pub short : AllByRecursion (λ r. length r.rdata ≤ 4096) records
-  pub small : AllByRecursion (λ r. length (rrset_of records r.owner r.rtype) ≤ 256) records
-  pub few : length records ≤ 1000000
+  pub short : AllByRecursion (λ r. length r.rdata ≤ max_data) records
+  pub small : AllByRecursion (λ r. length (rrset_of records r.owner r.rtype) ≤ max_set) records
+  pub few : length records ≤ max_records

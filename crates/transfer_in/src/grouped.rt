@@ -6,6 +6,7 @@ ghost use Rattle.std.specs.Option.{IfNone};
 ghost use Rattle.std.specs.Ordering.{nat_cmp};
 ghost use Rattle.std.specs.declared.cmp.Ordering.TheVariants.{Greater};
 ghost use Rattle.std.specs.Cmp.Lexicographic.{slice_cmp};
+ghost use Rattle.dns_rdata.specs.Limits.{max_data, max_set};
 ghost use Rattle.dns_name.specs.Name.{Name};
 ghost use Rattle.dns_rdata.specs.Record.{Record, owner_of, rtype_of, ttl_of};
 ghost use Rattle.zone_tree.specs.Zone.{rrset_of, share_ttl};
@@ -23,7 +24,7 @@ use std::alloc::{AllocError, Global};
 /// A set with one more record, whose data comes behind that of all others. An `Err` only where a growth was refused.
 fn with_last(mut set: RRset, rdata: RData) -> Result<RRset, AllocError>
     requires typed { rdata.rtype ≡ rtype_of set }
-    requires room { length set < 256 }
+    requires room { length set < max_set }
     requires behind { AllByRecursion (λ (r : Record). slice_cmp nat_cmp rdata.octets r.rdata ≡ Greater) set }
     ensures { IfOk result (λ next. next ≡ set ++ record { owner = owner_of set; rtype = rdata.rtype; ttl = ttl_of set; rdata = rdata.octets } ∷ []) }
 {
@@ -39,8 +40,8 @@ fn with_last(mut set: RRset, rdata: RData) -> Result<RRset, AllocError>
 fn put(alloc: Global, sets: &mut Vec<RRset>, held: HeldRecord) -> Result<bool, AllocError>
     requires behind { IsBehindAll held (records_in sets.old.items) }
     requires rising { AreInOrder sets.old.items }
-    requires short { length held.rdata ≤ 4096 }
-    requires room { length (rrset_of (records_in sets.old.items ++ held ∷ []) held.owner held.rtype) ≤ 256 }
+    requires short { length held.rdata ≤ max_data }
+    requires room { length (rrset_of (records_in sets.old.items ++ held ∷ []) held.owner held.rtype) ≤ max_set }
     ensures records { IfOk result (λ shares. OnTrue shares (records_in sets.new.items ≡ records_in sets.old.items ++ held ∷ [])) }
     ensures rising { IfOk result (λ shares. OnTrue shares (AreInOrder sets.new.items)) }
     ensures other { IfOk result (λ shares. OnFalse shares (list_all (λ r. share_ttl r held) (records_in sets.old.items) ≡ false)) }
@@ -61,7 +62,7 @@ fn put(alloc: Global, sets: &mut Vec<RRset>, held: HeldRecord) -> Result<bool, A
 
 /// Puts the set of a record alone behind all others. An `Err` only where a growth was refused.
 fn put_alone(alloc: Global, sets: &mut Vec<RRset>, held: HeldRecord) -> Result<(), AllocError>
-    requires { length held.rdata ≤ 4096 }
+    requires { length held.rdata ≤ max_data }
     ensures { OnOk result (sets.new.items ≡ sets.old.items ++ (held ∷ []) ∷ []) }
 {
     sets.push(held.into_set(alloc)?)?;
@@ -80,8 +81,8 @@ fn put_in(
     requires rtype { held.now.rtype ≡ rtype_of last }
     requires behind { IsBehindAll held.now (records_in (sets.old.items ++ last ∷ [])) }
     requires rising { AreInOrder (sets.old.items ++ last ∷ []) }
-    requires short { length held.now.rdata ≤ 4096 }
-    requires room { length (rrset_of (records_in (sets.old.items ++ last ∷ []) ++ held.now ∷ []) held.now.owner held.now.rtype) ≤ 256 }
+    requires short { length held.now.rdata ≤ max_data }
+    requires room { length (rrset_of (records_in (sets.old.items ++ last ∷ []) ++ held.now ∷ []) held.now.owner held.now.rtype) ≤ max_set }
     ensures records { IfOk result (λ shares. OnTrue shares (records_in sets.new.items ≡ records_in (sets.old.items ++ last ∷ []) ++ held.now ∷ [])) }
     ensures rising { IfOk result (λ shares. OnTrue shares (AreInOrder sets.new.items)) }
     ensures other { IfOk result (λ shares. OnFalse shares (list_all (λ r. share_ttl r held.now) (records_in (sets.old.items ++ last ∷ [])) ≡ false)) }

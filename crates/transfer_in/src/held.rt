@@ -3,6 +3,7 @@ ghost use Rattle.std.specs.Cmp.{partial_equiv_from_equiv, partial_order_from_agr
 ghost use Rattle.std.specs.Ordering.{as_partial_cmp, eq_by_cmp, nat_cmp, ordering_then};
 ghost use Rattle.std.specs.Cmp.Lexicographic.{slice_cmp};
 ghost use Rattle.std.specs.Prelude.{◌≡◌, ◌&&◌, ◌<◌, ◌≤◌, [], ◌∷◌, length, nat_le, true, All, IfOk, IfSome, Some, option_map, refl};
+ghost use Rattle.dns_rdata.specs.Limits.{max_data};
 ghost use Rattle.dns_name.specs.Name.{Name, is_under};
 ghost use Rattle.dns_rdata.specs.Data.{data_of, serial_of};
 ghost use Rattle.dns_rdata.specs.Record.{Record, IsLawful, owner_of, rtype_of};
@@ -130,7 +131,7 @@ impl HeldRecord {
 
     /// Whether its owner is in a zone and its data has no more octets than a record may have.
     pub(crate) fn fits(&self, apex: &Name) -> bool
-        ensures { result ≡ (is_under self.now.owner apex.now && nat_le (length self.now.rdata) 4096) }
+        ensures { result ≡ (is_under self.now.owner apex.now && nat_le (length self.now.rdata) max_data) }
     {
         self.owner.is_under(apex) && self.octets.len() <= MAX_DATA
     }
@@ -160,7 +161,7 @@ impl HeldRecord {
 
     /// The data. An `Err` only where a growth was refused.
     pub(crate) fn data(&self, alloc: Global) -> Result<RData, AllocError>
-        requires { length self.now.rdata ≤ 4096 }
+        requires { length self.now.rdata ≤ max_data }
         ensures rtype { IfOk result (λ rdata. rdata.rtype ≡ self.now.rtype) }
         ensures octets { IfOk result (λ rdata. rdata.octets ≡ self.now.rdata) }
     {
@@ -173,7 +174,7 @@ impl HeldRecord {
 
     /// The set of it alone. An `Err` only where a growth was refused.
     pub(crate) fn into_set(self, alloc: Global) -> Result<RRset, AllocError>
-        requires { length self.rdata ≤ 4096 }
+        requires { length self.rdata ≤ max_data }
         ensures { IfOk result (λ set. set ≡ self ∷ []) }
     {
         let rdata = self.data(alloc)?;

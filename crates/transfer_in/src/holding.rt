@@ -1,7 +1,8 @@
 //! The records that are held while a list is taken.
 ghost use Rattle.std.specs.Prelude.{◌≡◌, ◌+◌, ◌<◌, ◌^◌, [], length, true, false, IfOk};
 ghost use Rattle.zone_tree.specs.Zone.{rrset_of};
-ghost use Rattle.transfer_core.specs.Take.{is_among, inserted, removed};
+ghost use Rattle.std.specs.List.Sorted.{IsStrictlySortedBy};
+ghost use Rattle.transfer_core.specs.Take.{is_among, held_cmp, inserted, removed};
 
 use crate::held::HeldRecord;
 use crate::sizes::SetKey;
@@ -66,7 +67,7 @@ impl Holding {
         ensures size { result ≡ length (rrset_of self.now key.now.owner key.now.rtype) }
         ensures small { result < 2 ^ 63 }
     {
-        let _count = self.records.len();
+        learn_order(&self.records);
         self.sizes.get(key).copied().unwrap_or(0)
     }
 
@@ -107,10 +108,17 @@ impl Holding {
             mut records,
             mut sizes,
         } = self;
-        // That the records stand in order is known of them from here on.
-        let _count = records.len();
+        learn_order(&records);
         sizes.insert(key, size)?;
         let _ = records.remove(held);
         Ok((Holding { records, sizes }, size))
     }
+}
+
+/// Counts records for a proof alone, which learns by it that they stand in order and are fewer than 2^63.
+fn learn_order(records: &BTreeSet<HeldRecord>)
+    ensures small { length records.now.keys < 2 ^ 63 }
+    ensures ordered { IsStrictlySortedBy held_cmp records.now.keys }
+{
+    let _ = records.len();
 }

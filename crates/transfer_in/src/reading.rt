@@ -1,10 +1,15 @@
 //! What one record makes of the records that are held (RFC 1995, 4; RFC 5936, 2.2).
-ghost use Rattle.std.specs.Prelude.{◌≡◌, ◌&&◌, [], ◌∷◌, true, false, length, nat_le, if◌then◌else◌, Ok, Err, IfOk};
+ghost use Rattle.std.specs.Prelude.{◌≡◌, ◌==◌, ◌&&◌, [], ◌∷◌, true, false, length, nat_le, if◌then◌else◌, Ok, Err, IfOk, IfErr};
+ghost use Rattle.dns_rdata.specs.Limits.{max_set};
+ghost use Rattle.zone_tree.specs.Limits.{max_records};
 ghost use Rattle.dns_name.specs.Name.{fold_name};
+ghost use Rattle.dns_rdata.specs.Data.{serial_of};
 ghost use Rattle.dns_rdata.specs.Record.{Record};
+ghost use Rattle.zone_tree.specs.Change.{is_same_record};
+ghost use Rattle.zone_tree.specs.Version.{zone_serial};
 ghost use Rattle.zone_tree.specs.Zone.{IsZone, soa_of, apex_of};
 ghost use Rattle.transfer_core.specs.Lists.{beside_soa};
-ghost use Rattle.transfer_core.specs.Take.{Stage as Stands, opened, gathering, deleting, adding, held, old_soa, step, is_soa, is_among, inserted, removed, joined, closing, ended};
+ghost use Rattle.transfer_core.specs.Take.{Stage as Stands, opened, gathering, deleting, adding, closed, held, old_soa, step, is_soa, is_among, inserted, removed, joined, closing, ended};
 ghost use Rattle.transfer_in.specs.Standing.{Tells, AreHeld, HasSoa, reading_of, stage_of, standing_of};
 
 use crate::ended::zone_of;
@@ -58,7 +63,8 @@ impl Model for Reading {
 /// its set then has so many.
 fn check_limits(fits: bool, records: Holding, size: usize) -> Result<Holding, TransferFault>
     ensures same { IfOk result (λ next. next ≡ records) }
-    ensures told { Tells (if fits && nat_le size 256 && nat_le (length records) 1000000 then Ok records else Err TransferFault.NotInZone) (λ next. next) result }
+    ensures told { Tells (if fits && nat_le size max_set && nat_le (length records) max_records then Ok records else Err TransferFault.NotInZone) (λ next. next) result }
+    ensures no_memory { IfErr result (λ fault. fault ≡ TransferFault.NotInZone) }
 {
     if fits && size <= MAX_SET && records.len() <= MAX_RECORDS {
         return Ok(records);
@@ -136,6 +142,7 @@ fn gather(
 ) -> Result<Standing, TransferFault>
     ensures told { Tells (step apex.now first.now gathering records one) standing_of result }
     ensures soa { IfOk result (λ next. HasSoa next.stage next.records) }
+    ensures broken { is_soa one ≡ true → is_same_record first.now one ≡ false → result ≡ Err TransferFault.Broken }
 {
     if !one.is_soa() {
         let records = join(alloc, apex, records, one)?;
@@ -159,6 +166,7 @@ fn delete(
     requires { soa_of records ≡ [] }
     ensures told { (first : Record) → Tells (step apex.now first deleting records one) standing_of result }
     ensures soa { IfOk result (λ next. HasSoa next.stage next.records) }
+    ensures wrong_base { is_soa one ≡ false → is_among records one ≡ false → result ≡ Err TransferFault.WrongBase }
 {
     if one.is_soa() {
         return end_deletions(alloc, apex, records, one);
@@ -224,6 +232,7 @@ fn add_one(
     requires plain { is_soa one ≡ false }
     ensures told { (first : Record) → Tells (step apex.now first adding records one) standing_of result }
     ensures soa { IfOk result (λ next. HasSoa next.stage next.records) }
+    ensures wrong_base { is_among records one ≡ true → result ≡ Err TransferFault.WrongBase }
 {
     if records.has(&one) {
         return Err(TransferFault::WrongBase);
@@ -237,6 +246,7 @@ fn add_one(
 fn close(records: Holding, one: &HeldRecord) -> Result<Standing, TransferFault>
     ensures told { Tells (if is_among records one.now then closing records else Err TransferFault.Broken) standing_of result }
     ensures soa { IfOk result (λ next. HasSoa next.stage next.records) }
+    ensures no_memory { IfErr result (λ fault. fault ≡ TransferFault.Broken) }
 {
     if !records.has(one) {
         return Err(TransferFault::Broken);
@@ -257,6 +267,7 @@ fn begin_step(
     requires old { is_soa one.now ≡ true }
     ensures told { Tells (old_soa apex.now records one.now) standing_of result }
     ensures soa { IfOk result (λ next. HasSoa next.stage next.records) }
+    ensures wrong_base { (serial_of one.now.rdata == zone_serial records) ≡ false → result ≡ Err TransferFault.WrongBase }
 {
     if one.serial() != soa.serial() {
         return Err(TransferFault::WrongBase);
@@ -342,6 +353,7 @@ fn begin_changes(alloc: Global, zone: &Zone, one: &HeldRecord) -> Result<Standin
     requires { is_soa one.now ≡ true }
     ensures told { Tells (old_soa (apex_of zone.now) zone.now one.now) standing_of result }
     ensures soa { IfOk result (λ next. HasSoa next.stage next.records) }
+    ensures wrong_base { (serial_of one.now.rdata == zone_serial zone.now) ≡ false → result ≡ Err TransferFault.WrongBase }
 {
     if one.serial() != zone.serial() {
         return Err(TransferFault::WrongBase);
@@ -411,6 +423,7 @@ impl Reading {
         requires folded { apex.now ≡ fold_name apex.now }
         ensures told { Tells (ended apex.now (stage_of self.stage) self.records) (λ next. next) result }
         ensures lawful { IfOk result IsZone }
+        ensures unclosed { (stage_of self.stage ≡ closed → ⊥) → result ≡ Err TransferFault.Broken }
     {
         let Standing { stage, records } = self.standing;
         match stage {

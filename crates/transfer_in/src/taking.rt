@@ -88,7 +88,7 @@ impl Progress {
         self.read_all(alloc, zone, &records)
     }
 
-    /// What was read makes of a zone where no record is left: the zone behind the list.
+    /// What was read makes of a zone where no record is left: the zone after the list.
     pub(crate) fn end(self, alloc: Global, zone: &Zone) -> Result<Zone, TransferFault>
         requires { IsKept (apex_of zone.now) self }
         ensures told { Tells (behind zone.now self []) (λ next. next) result }

@@ -1,5 +1,8 @@
 pub mod ListLemmas
 pub mod VerdictLemmas
+pub mod SearchLemmas
+pub mod LeadLemmas
+pub mod OrderedLemmas
 pub mod SoaKept
 pub mod SerialLaw
 pub mod BesideLemmas

@@ -5,6 +5,8 @@ use Rattle.std.specs.Option.{option_map, option_and_then}
 use Rattle.std.specs.List.{list_any}
 use Rattle.std.specs.Ordering.{is_lt, is_eq}
 use Rattle.std.specs.Cmp.Lexicographic.{pointwise}
+use Rattle.dns_rdata.specs.Limits.{max_data, max_set}
+use Rattle.zone_tree.specs.Limits.{max_records}
 use Rattle.dns_name.specs.Name.{Name, IsName, fold_name, is_same}
 use Rattle.dns_rdata.specs.Numbers.{type_NS, type_CNAME, type_SOA, type_ANY, class_IN, class_NONE, class_ANY}
 use Rattle.dns_rdata.specs.Data.{data_of, serial_of, with_serial}
@@ -46,7 +48,7 @@ has_lesser_soa zone r = list_any (λ s. is_of r.owner type_SOA s && serial_less 
 -- the limits of an add that has an effect: 4,096 octets of data, 256 records a set, 1,000,000 records; none beyond them (own)
 abbrev pub within_limits : RawRecord → List Record → Option (List Record)
 within_limits r zone =
-    if nat_lt 4096 (length r.octets) || nat_lt 256 (length (rrset_of zone r.owner r.rtype)) || nat_lt 1000000 (length zone) then None
+    if nat_lt max_data (length r.octets) || nat_lt max_set (length (rrset_of zone r.owner r.rtype)) || nat_lt max_records (length zone) then None
     else Some zone
 
 -- whether a name and a type are the apex's SOA or NS
@@ -92,12 +94,12 @@ completed zone after =
     else if serial_less (zone_serial zone) (zone_serial after) then after
     else at_serial (serial_next (zone_serial zone)) after
 
--- the zone behind an update that each rule let through: the zone itself where nothing changes; none where a limit is passed, which is
+-- the zone after an update that each rule let through: the zone itself where nothing changes; none where a limit is passed, which is
 -- told as SERVFAIL (RFC 2136, 3.4.2 and 3.6; own)
 abbrev pub act : List Record → Update → Option (List Record)
 act zone update = option_map (completed zone) (effects zone update.updates)
 
--- the zone behind several updates, each on the zone that those before it leave; one that passes a limit changes nothing
+-- the zone after several updates, each on the zone that those before it leave; one that passes a limit changes nothing
 abbrev pub replay : List Record → List Update → List Record
 replay zone [] = zone
 replay zone (update ∷ updates) = replay (unwrap_or (act zone update) zone) updates

@@ -2,6 +2,7 @@ pub mod Verdict
 pub mod Act
 pub mod Applied
 pub mod Examples
+pub mod Ordered
 pub use Rattle.zone_tree.specs.Zone
 pub use Rattle.dns_name.specs.Name
 pub use Rattle.dns_rdata.specs.Numbers

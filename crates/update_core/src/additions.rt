@@ -2,6 +2,7 @@
 ghost use Rattle.std.specs.Prelude.{◌≡◌, ◌<◌, ◌≤◌, ◌^◌, ◌&&◌, ◌||◌, not, ◌==◌, true, None, length, All, IfOk, OnOk};
 ghost use Rattle.std.specs.Option.{is_some};
 ghost use Rattle.std.specs.Result.{IsErrOf};
+ghost use Rattle.dns_rdata.specs.Limits.{max_data, max_set};
 ghost use Rattle.dns_name.specs.Name.{is_same};
 ghost use Rattle.dns_rdata.specs.Numbers.{class_IN, type_CNAME, type_SOA};
 ghost use Rattle.dns_rdata.specs.Data.{serial_of};
@@ -16,7 +17,7 @@ ghost use Rattle.update_core.specs.Applied.{AreOf, is_beside_alias, joined, set_
 use crate::prerequisites::is_in_use;
 use crate::rows::{ActFault, one_change};
 use dns_name::Name;
-use dns_rdata::{DataFault, RData, RRset, RType, RawRecord, SetFault, Ttl};
+use dns_rdata::{DataFault, RData, RRset, RType, RawRecord, Ttl};
 use std::alloc::Global;
 use zone_tree::{Change, Zone, ZoneRead};
 
@@ -96,9 +97,10 @@ fn is_greater_soa(zone: &Zone, owner: &Name, rdata: &RData) -> bool
 fn data_in_zone(alloc: Global, raw: &RawRecord) -> Result<RData, ActFault>
     requires { has_form raw.now ≡ true }
     ensures data { IfOk result (λ d. (d.rtype ≡ raw.now.rtype) × (d.octets ≡ (entered raw.now).rdata)) }
-    ensures short { OnOk result (length raw.now.octets ≤ 4096) }
+    ensures short { OnOk result (length raw.now.octets ≤ max_data) }
     ensures sent { IsSent raw.now }
-    ensures limit { IsErrOf result ActFault.Limit → 4096 < length raw.now.octets }
+    ensures limit { IsErrOf result ActFault.Limit → max_data < length raw.now.octets }
+    ensures starved { IsErrOf result ActFault.NoMemory → length raw.now.octets ≤ max_data }
 {
     let _owner = raw.owner.wire();
     are_octets(&raw.octets);
@@ -123,7 +125,7 @@ fn set_with(alloc: Global, zone: &Zone, raw: &RawRecord, rdata: RData) -> Result
     requires rtype { rdata.rtype ≡ raw.now.rtype }
     requires data { rdata.octets ≡ (entered raw.now).rdata }
     ensures set { IfOk result (λ set. set ≡ set_behind zone.now raw.now) }
-    ensures limit { IsErrOf result ActFault.Limit → 256 < length (set_behind zone.now raw.now) }
+    ensures limit { IsErrOf result ActFault.Limit → max_set < length (set_behind zone.now raw.now) }
 {
     let ttl = Ttl::received(raw.ttl);
     if raw.rtype != RType::CNAME && raw.rtype != RType::SOA {
@@ -140,13 +142,10 @@ fn joined(alloc: Global, own: &RRset, ttl: Ttl, rdata: RData) -> Result<RRset, A
     requires lasts { ttl.0 < 2 ^ 31 }
     requires rtype { rdata.rtype ≡ rtype_of own.now }
     ensures set { IfOk result (λ set. set ≡ joined own.now ttl.0 rdata.octets) }
-    ensures limit { IsErrOf result ActFault.Limit → 256 < length (joined own.now ttl.0 rdata.octets) }
+    ensures limit { IsErrOf result ActFault.Limit → max_set < length (joined own.now ttl.0 rdata.octets) }
 {
     let mut set = own.copy(alloc)?;
     set.set_ttl(ttl);
-    match set.insert(rdata) {
-        Ok(_) => Ok(set),
-        Err(SetFault::Limit) => Err(ActFault::Limit),
-        Err(SetFault::NoMemory) => Err(ActFault::NoMemory),
-    }
+    set.insert(rdata)?;
+    Ok(set)
 }

@@ -9,7 +9,7 @@ use crate::rows::{ActFault, changes_of};
 use dns_name::Name;
 use dns_rdata::{RRset, RawRecord};
 use std::alloc::Global;
-use zone_tree::{Zone, ZoneFault, ZoneRead, edit};
+use zone_tree::{Zone, ZoneRead, edit};
 
 /// The zone that an update's records make of a zone, one after another; None where it is that zone itself. `Limit` where
 /// one of them passes a limit (RFC 2136, 3.4.2; own).
@@ -60,11 +60,8 @@ fn after_record(alloc: Global, zone: &Zone, raw: &RawRecord) -> Result<Option<Zo
     if changes.is_empty() {
         return Ok(None);
     }
-    match edit(alloc, zone, &changes) {
-        Ok(next) => Ok(Some(next)),
-        Err(ZoneFault::Limit) => Err(ActFault::Limit),
-        Err(ZoneFault::NoMemory) => Err(ActFault::NoMemory),
-    }
+    let next = edit(alloc, zone, &changes)?;
+    Ok(Some(next))
 }
 
 /// Whether an update's records made another zone of a zone: what stands at their owners is compared, and nothing else can

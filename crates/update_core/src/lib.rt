@@ -14,6 +14,7 @@ mod effects;
 mod examples;
 mod judgement;
 mod laws;
+mod ordered;
 mod outcome;
 mod prerequisites;
 mod rows;

@@ -1,5 +1,5 @@
 //! What an update makes of a zone (RFC 2136, 3.4 and 3.6).
-ghost use Rattle.std.specs.Prelude.{◌≡◌, ◌≢◌, ◌+◌, ◌<◌, ◌^◌, if◌then◌else◌, unwrap_or, map, None, Some, IfOk, MatchOption};
+ghost use Rattle.std.specs.Prelude.{◌≡◌, ◌≢◌, ◌+◌, ◌<◌, ◌^◌, if◌then◌else◌, unwrap_or, map, None, Some, IfOk, IfSome, MatchOption};
 ghost use Rattle.std.specs.Result.{IsErrOf};
 ghost use Rattle.dns_rdata.specs.declared.numbers.Rcode.{Rcode as Code};
 ghost use Rattle.dns_rdata.specs.SerialOrder.{serial_less, serial_next};
@@ -7,7 +7,7 @@ ghost use Rattle.zone_tree.specs.Zone.{IsZone, soa_of};
 ghost use Rattle.zone_tree.specs.Version.{zone_serial, AreChanges};
 ghost use Rattle.update_core.specs.Verdict.{prescan, verdict};
 ghost use Rattle.update_core.specs.Act.{effects, act, at_serial};
-ghost use Rattle.update_core.specs.Applied.{IsTold};
+ghost use Rattle.update_core.specs.Applied.{IsTold, code_told, next_of, outcome_of};
 
 use crate::effects::{after_all, is_changed};
 use crate::judgement::verdict;
@@ -29,6 +29,29 @@ pub enum Outcome {
     Next(Version),
     /// A growth was refused. Nothing has changed.
     NoMemory,
+}
+
+impl Outcome {
+    /// The code that is told of it: the one that refuses the update, SERVFAIL where a growth was refused, else NOERROR (RFC 2136, 3; own).
+    pub fn code(&self) -> Rcode
+        ensures { result ≡ code_told self.now }
+    {
+        match self {
+            Outcome::Refused(code) => *code,
+            Outcome::Unchanged | Outcome::Next(_) => Rcode::NoError,
+            Outcome::NoMemory => Rcode::ServFail,
+        }
+    }
+
+    /// The version that the update makes; None where it makes none.
+    pub fn next(self) -> Option<Version>
+        ensures { result ≡ next_of self }
+    {
+        match self {
+            Outcome::Next(next) => Some(next),
+            _ => None,
+        }
+    }
 }
 
 /// A zone that an update makes of another, and what it changed of that (RFC 1995, 4).
@@ -53,7 +76,16 @@ pub fn apply(alloc: Global, version: &Version, update: &Update, may: bool) -> Ou
     if let Err(code) = verdict(zone, update, may) {
         return Outcome::Refused(code);
     }
-    match made_by(alloc, zone, update) {
+    outcome_of(version, made_by(alloc, zone, update))
+}
+
+/// What becomes of an update that breaks no rule, by what its records make (RFC 2136, 3.4.2 and 3.6; own).
+fn outcome_of(version: &Version, made: Result<Option<Made>, ActFault>) -> Outcome
+    requires counted { version.now.number + 1 < 2 ^ 64 }
+    requires changes { IfOk made (λ next. IfSome next (λ it. AreChanges it.delta version.now.zone it.zone)) }
+    ensures { result ≡ outcome_of version.now made }
+{
+    match made {
         Ok(Some(made)) => Outcome::Next(version.next(made.zone, made.delta)),
         Ok(None) => Outcome::Unchanged,
         Err(ActFault::Limit) => Outcome::Refused(Rcode::ServFail),

@@ -1,18 +1,20 @@
 //! What one record of an update changes (RFC 2136, 3.4.2.2 to 3.4.2.4).
-ghost use Rattle.std.specs.Prelude.{◌≡◌, [], ◌∷◌, None, IfOk};
+ghost use Rattle.std.specs.Prelude.{◌≡◌, ◌↔◌, [], ◌∷◌, None, IfOk};
 ghost use Rattle.std.specs.Result.{IsErrOf};
 ghost use Rattle.dns_rdata.specs.Numbers.{class_IN, class_ANY, class_NONE, type_ANY};
 ghost use Rattle.zone_tree.specs.Zone.{IsZone};
 ghost use Rattle.update_core.specs.Verdict.{prescan_of};
 ghost use Rattle.update_core.specs.Act.{effect};
 ghost use Rattle.update_core.specs.Applied.{AreOf};
-ghost use Rattle.update_core.specs.declared.rows.ActFault.TheVariants.{NoMemory as no_memory};
+ghost use Rattle.update_core.specs.declared.rows.ActFault.TheVariants.{Limit as limit, NoMemory as no_memory};
+ghost use Rattle.dns_rdata.specs.declared.rrset.SetFault.TheVariants.{Limit as set_limit};
+ghost use Rattle.zone_tree.specs.declared.fault.ZoneFault.TheVariants.{Limit as zone_limit};
 
 use crate::additions::changes_of_addition;
 use crate::deletions::{changes_of_name, changes_of_record, changes_of_set};
-use dns_rdata::{Class, RType, RawRecord};
+use dns_rdata::{Class, RType, RawRecord, SetFault};
 use std::alloc::{AllocError, Global};
-use zone_tree::{Change, Zone};
+use zone_tree::{Change, Zone, ZoneFault};
 
 /// Why a record of an update doesn't take effect.
 #[derive(Clone, Copy, Debug, PartialEq, Eq)]
@@ -28,6 +30,28 @@ impl From<AllocError> for ActFault {
 
     fn from(_refused: AllocError) -> ActFault {
         ActFault::NoMemory
+    }
+}
+
+impl From<ZoneFault> for ActFault {
+    ghost from_gives = { λ fault given. (given ≡ limit) ↔ (fault ≡ zone_limit) };
+
+    fn from(fault: ZoneFault) -> ActFault {
+        match fault {
+            ZoneFault::Limit => ActFault::Limit,
+            ZoneFault::NoMemory => ActFault::NoMemory,
+        }
+    }
+}
+
+impl From<SetFault> for ActFault {
+    ghost from_gives = { λ fault given. (given ≡ limit) ↔ (fault ≡ set_limit) };
+
+    fn from(fault: SetFault) -> ActFault {
+        match fault {
+            SetFault::Limit => ActFault::Limit,
+            SetFault::NoMemory => ActFault::NoMemory,
+        }
     }
 }
 

@@ -3,7 +3,6 @@
 //! Contracts see a message as the list of its octets and a name as the list of its labels. No call takes memory.
 #![tactic(auto)]
 
-mod label;
 mod laws;
 mod part;
 mod read;

@@ -5,9 +5,9 @@ ghost use Rattle.wire_names.specs.Spells.{Spells};
 ghost use Rattle.wire_names.specs.Table.{IsTable, IsEntry, Ascend, name_key, table_of, position_in, enter, entered};
 ghost use Rattle.wire_names.specs.Written.{starts_of};
 
-use crate::label::first_label;
 use crate::part::{Part, label_at, part_at};
 use arrayvec::ArrayVec;
+use dns_name::first_label;
 use std::marker::Model;
 
 /// The most positions that a table has (own).

@@ -6,10 +6,9 @@ ghost use Rattle.wire_names.specs.Cut.{cut_octets, IsCut};
 ghost use Rattle.wire_names.specs.Table.{IsTable, table_of};
 ghost use Rattle.wire_names.specs.Written.{pointer_to, written, table_after, WritesOctets};
 
-use crate::label::first_label;
 use crate::part::POINTER;
 use crate::table::Positions;
-use dns_name::Name;
+use dns_name::{Name, first_label};
 use std::marker::Model;
 
 /// Writes names into one message, and keeps the positions of those that pointers can name (RFC 1035, 4.1.4). Contracts

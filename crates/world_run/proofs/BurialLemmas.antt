@@ -42,7 +42,7 @@ use Rattle.world_run.specs.declared.phase.Purpose.{Purpose}
 use Rattle.world_run.specs.declared.phase.Purpose.TheVariants as purpose
 use Rattle.world_run.specs.declared.phase.Progress.{Progress}
 use Rattle.world_run.specs.declared.phase.Progress.TheVariants.{On, Done}
-use Rattle.world_run.specs.declared.play.UnderWay.{UnderWay}
+use Rattle.world_run.specs.declared.calls.UnderWay.{UnderWay}
 use Rattle.world_run.specs.declared.start.Start.{Start}
 use Rattle.world_run.specs.declared.start.Start.TheVariants.{Refused, Answers, Takes}
 use Rattle.world_run.specs.declared.step.Answer.{Answer}

@@ -1,11 +1,11 @@
 -- Calls as steps: what each step makes of the versions that a run publishes, and of the calls under way.
-use Rattle.std.proofs.Common.{◌≡◌, ◌≢◌, refl, sym, ap, ◌∙◌, subst, ℕ, zero, suc, ◌+◌, ◌≤◌, Bool, true, false, ◌⊎◌, inl, inr, List, [], ◌∷◌, ◌++◌, length, take, arith, Option, Some, None, length-append}
+use Rattle.std.proofs.Common.{◌≡◌, ◌≢◌, refl, sym, ap, ◌∙◌, subst, ℕ, zero, suc, ◌+◌, ◌<◌, ◌≤◌, Bool, true, false, ◌⊎◌, inl, inr, List, [], ◌∷◌, ◌++◌, length, map, take, arith, Option, Some, None, length-append}
 use Rattle.std.specs.Prelude.{◌==◌, ◌||◌, not, bytes_eq, unwrap_or}
 use Rattle.std.specs.List.{slice_get, slice_set, list_any}
 use Rattle.std.specs.Option.{option_and_then}
 use Rattle.std.proofs.lemmas.Bool.{cases_Bool}
 use Rattle.std.proofs.lemmas.Bool.Decides.{eqb_tells}
-use Rattle.std.proofs.lemmas.List.{take-append-le, take_all}
+use Rattle.std.proofs.lemmas.List.{map-append, take-append-le, take_all}
 use Rattle.std.proofs.lemmas.Option.{slice_get_within}
 use Rattle.cell_core.proofs.RunShows.{step_runs}
 use Rattle.cell_core.proofs.SeatLemmas.{get_set_same, get_set_other}
@@ -23,7 +23,9 @@ use Rattle.cell_core.specs.declared.words.WordStep.{WordStep}
 use Rattle.cell_core.specs.declared.words.WordStep.TheVariants as word
 use Rattle.dns_rdata.specs.Record.{Record}
 use Rattle.dns_message.specs.declared.query.Head.{Head}
+use Rattle.dns_message.specs.declared.query.Parsed.TheVariants as parsed
 use Rattle.dns_message.specs.declared.update.Update.{Update as DynamicUpdate}
+use Rattle.dns_message.specs.Request.{reads}
 use Rattle.update_core.specs.Act.{act, replay}
 use Rattle.world_run.specs.declared.phase.Keeping.{Keeping}
 use Rattle.world_run.specs.declared.phase.Phase.{Phase}
@@ -32,14 +34,16 @@ use Rattle.world_run.specs.declared.phase.Purpose.{Purpose}
 use Rattle.world_run.specs.declared.phase.Purpose.TheVariants as purpose
 use Rattle.world_run.specs.declared.phase.Progress.{Progress}
 use Rattle.world_run.specs.declared.phase.Progress.TheVariants.{On, Done}
-use Rattle.world_run.specs.declared.play.UnderWay.{UnderWay}
+use Rattle.world_run.specs.declared.calls.UnderWay.{UnderWay}
 use Rattle.world_run.specs.declared.step.Answer.{Answer}
 use Rattle.world_run.specs.declared.step.Answer.TheVariants as answer
 use Rattle.zone_tree.specs.Version.{Version as Numbered, KnowsChanges}
 use Rattle.world_run.specs.Numbered.{first_version}
 use Rattle.world_run.specs.Phases.{word_step, after, past, oldest_after, updates}
 use Rattle.world_run.specs.Replays.{IsAccepted, AreReplays}
+use Rattle.world_run.specs.InTurn.{LeavesPublished}
 use Rattle.world_run.specs.World.{call_of, without_call, next}
+use Rattle.world_run.proofs.HandSteps.{swaps_now, swapped_in}
 
 -- what stands at a place of a list with one more, and where
 placed : {X : Type 0} (xs : List X) (x y : X) (k : ℕ) → slice_get (xs ++ x ∷ []) k ≡ Some y → (slice_get xs k ≡ Some y) ⊎ ((k ≡ length xs) × (x ≡ y))
@@ -54,7 +58,7 @@ replay_more zone [] u = refl
 replay_more zone (one ∷ us) u = replay_more (unwrap_or (act zone one) zone) us u
 
 -- what an update is about to make of the versions that there are
-pub record IsNext (S : List ℕ → Type 0) (first : List Record) (us : List DynamicUpdate) (version : Numbered) : Type 0 where
+pub record MakesNext (S : List ℕ → Type 0) (first : List Record) (us : List DynamicUpdate) (version : Numbered) : Type 0 where
   pub update : DynamicUpdate
   pub accepted : IsAccepted S (replay first us) version.zone update
   pub number : version.number ≡ length us + 1
@@ -63,7 +67,7 @@ pub record IsNext (S : List ℕ → Type 0) (first : List Record) (us : List Dyn
 taken_less : {X : Type 0} (us : List X) (u : X) (k : ℕ) → k ≤ length us → take k (us ++ u ∷ []) ≡ take k us
 taken_less us u k less = take-append-le k us (u ∷ []) less
 
-replays_more : (S : List ℕ → Type 0) (first : List Record) (published : List Numbered) (us : List DynamicUpdate) (version : Numbered) (n : IsNext S first us version) → AreReplays S first published us → AreReplays S first (published ++ version ∷ []) (us ++ n.update ∷ [])
+replays_more : (S : List ℕ → Type 0) (first : List Record) (published : List Numbered) (us : List DynamicUpdate) (version : Numbered) (n : MakesNext S first us version) → AreReplays S first published us → AreReplays S first (published ++ version ∷ []) (us ++ n.update ∷ [])
 replays_more S first published us version n r = record {
   counted = omega (arith, r.counted, length-append published (version ∷ []), length-append us (n.update ∷ []));
   versions = λ k other e. elim (placed published version other k e) [
@@ -102,16 +106,94 @@ replays_more S first published us version n r = record {
   ];
 }
 
+-- lines by their places: what each sends as an update, and how many were played; and which of them may have begun the update that is
+-- under way, by its header
+pub record Script : Type 1 where
+  pub sends : ℕ → List ℕ → Type 0
+  pub top : ℕ
+  pub by : ℕ → Head → Type 0
+
+abbrev pub scripted : (ℕ → List ℕ → Type 0) → ℕ → (ℕ → Head → Type 0) → Script
+scripted sends top by = record { sends = sends; top = top; by = by }
+
+-- whichever of them it may be
+abbrev pub script : (ℕ → List ℕ → Type 0) → ℕ → Script
+script sends top = scripted sends top (λ place head. Unit {0})
+
+-- one of them sends it
+abbrev pub Ever : Script → List ℕ → Type 0
+Ever S request = (place : ℕ) × S.sends place request
+
+-- an update, and the place of the line that sent it
+pub record Placed : Type 0 where
+  pub place : ℕ
+  pub update : DynamicUpdate
+
+abbrev pub updates_in : List Placed → List DynamicUpdate
+updates_in us = map (λ (one : Placed). one.update) us
+
+-- a line was played, behind those that sent the updates so far
+pub record IsFresh (S : Script) (us : List Placed) (place : ℕ) : Type 0 where
+  pub played : place < S.top
+  pub last : (k : ℕ) (one : Placed) → slice_get us k ≡ Some one → one.place < place
+
+-- what the update of such a line is about to make of the versions that there are
+pub record IsNext (S : Script) (first : List Record) (us : List Placed) (version : Numbered) : Type 0 where
+  pub place : ℕ
+  pub fresh : IsFresh S us place
+  pub makes : MakesNext (S.sends place) first (updates_in us) version
+  pub mine : S.by place makes.update.head
+
+abbrev pub placed_next : (S : Script) (first : List Record) (us : List Placed) (version : Numbered) → IsNext S first us version → Placed
+placed_next S first us version n = record { place = n.place; update = n.makes.update }
+
+ever_makes : (S : Script) (place : ℕ) (first : List Record) (us : List DynamicUpdate) (version : Numbered) → MakesNext (S.sends place) first us version → MakesNext (Ever S) first us version
+ever_makes S place first us version m =
+    let a = m.accepted in
+    record {
+      update = m.update;
+      accepted = record { request = a.request; sent = (place, a.sent); read = a.read; let_through = a.let_through; made = a.made; changes = a.changes };
+      number = m.number;
+      knows = m.knows;
+    }
+
+-- a line sends a request that reads as this update
+abbrev pub SendsAs : Script → Placed → Type 0
+SendsAs S one = (request : List ℕ) × S.sends one.place request × (reads request ≡ parsed.Update one.update)
+
+-- each update was sent by the line of its place, and the places rise
+pub record AreInTurn (S : Script) (us : List Placed) : Type 0 where
+  pub sends : (k : ℕ) (one : Placed) → slice_get us k ≡ Some one → SendsAs S one
+  pub rises : (k : ℕ) (one next : Placed) → slice_get us k ≡ Some one → slice_get us (k + 1) ≡ Some next → one.place < next.place
+  pub played : (k : ℕ) (one : Placed) → slice_get us k ≡ Some one → one.place < S.top
+
+in_turn_more : (S : Script) (us : List Placed) (x : Placed) → IsFresh S us x.place → SendsAs S x → AreInTurn S us → AreInTurn S (us ++ x ∷ [])
+in_turn_more S us x fresh sent t = record {
+  sends = λ k one e. elim (placed us x one k e) [ inl old ↦ t.sends k one old | inr new ↦ subst (SendsAs S) new.1 sent ];
+  rises = λ k one next e f. elim (placed us x next (k + 1) f) [
+    | inl old ↦ elim (placed us x one k e) [
+      | inl here ↦ t.rises k one next here old
+      | inr there ↦ absurd (let l = slice_get_within us (k + 1) next old in omega (arith, l, there.0))
+    ]
+    | inr new ↦ elim (placed us x one k e) [
+      | inl here ↦ subst (λ (n : Placed). one.place < n.place) new.1 (fresh.last k one here)
+      | inr there ↦ absurd (omega (arith, new.0, there.0))
+    ]
+  ];
+  played = λ k one e. elim (placed us x one k e) [ inl old ↦ t.played k one old | inr new ↦ subst (λ (n : Placed). n.place < S.top) new.1 fresh.played ];
+}
+
 abbrev pub Zones : Type 0
 Zones = State Numbered
 
 -- the words show a cell that is reached, whose versions are the replays of updates
-pub record Tells (S : List ℕ → Type 0) (first : List Record) (words : Zones) (us : List DynamicUpdate) : Type 0 where
+pub record Tells (S : Script) (first : List Record) (words : Zones) (us : List Placed) : Type 0 where
   pub cell : Cell Numbered
   pub steps : List (CellStep Numbered × Option ℕ)
   pub runs : Runs (cell_start (first_version first)) steps cell
   pub shows : Shows words cell
-  pub replays : AreReplays S first cell.published us
+  pub replays : AreReplays (Ever S) first cell.published (updates_in us)
+  pub in_turn : AreInTurn S us
 
 runs_on : (one two three : Cell Numbered) (run more : List (CellStep Numbered × Option ℕ)) → Runs one run two → Runs two more three → Runs one (run ++ more) three
 runs_on one two three [] more r s = subst (λ c. Runs c more three) r s
@@ -159,7 +241,7 @@ publishes_nothing words new (word.Release owner) event cell later apart m s = ap
 publishes_nothing words new (word.Bury owner) event cell later apart m s = bury_publishes words new owner event cell later m s
 publishes_nothing words new (word.Free owner) event cell later apart m s = ap (λ (c : Cell Numbered). c.published) s
 
-pub tells_same : (S : List ℕ → Type 0) (first : List Record) (words new : Zones) (us : List DynamicUpdate) (step : WordStep Numbered) (event : WordEvent) → NoSwap step → Makes words step event new → Tells S first words us → Tells S first new us
+pub tells_same : (S : Script) (first : List Record) (words new : Zones) (us : List Placed) (step : WordStep Numbered) (event : WordEvent) → NoSwap step → Makes words step event new → Tells S first words us → Tells S first new us
 tells_same S first words new us step event apart m t =
     let shown = step_shows words new step event t.cell t.shows m in
     let short = step_runs words step event t.cell shown.0 shown.1 in
@@ -168,11 +250,12 @@ tells_same S first words new us step event apart m t =
       steps = t.steps ++ short.steps;
       runs = runs_on (cell_start (first_version first)) t.cell shown.0 t.steps short.steps t.runs short.runs;
       shows = shown.2;
-      replays = subst (λ p. AreReplays S first p us) (sym (publishes_nothing words new step event t.cell shown.0 apart m shown.1)) t.replays;
+      replays = subst (λ p. AreReplays (Ever S) first p (updates_in us)) (sym (publishes_nothing words new step event t.cell shown.0 apart m shown.1)) t.replays;
+      in_turn = t.in_turn;
     }
 
 -- an update's version lies in the slot that the publisher is to swap in
-pub record SwapsNext (S : List ℕ → Type 0) (first : List Record) (us : List DynamicUpdate) (words : Zones) : Type 0 where
+pub record SwapsNext (S : Script) (first : List Record) (us : List Placed) (words : Zones) : Type 0 where
   pub place : ℕ
   pub number : ℕ
   pub version : Numbered
@@ -191,7 +274,8 @@ same_value : (words : Zones) (place number other : ℕ) (one two : Numbered) →
 same_value words place number other one two a b =
     ap (value_or one) (sym a ∙ b)
 
-tells_swapped : (S : List ℕ → Type 0) (first : List Record) (words new : Zones) (us : List DynamicUpdate) (event : WordEvent) → (n : SwapsNext S first us words) → Makes {T = Numbered} words word.Swap event new → Tells S first words us → Tells S first new (us ++ n.is_next.update ∷ [])
+tells_swapped : (S : Script) (first : List Record) (words new : Zones) (us : List Placed) (event : WordEvent) → (n : SwapsNext S first us words) → Makes {T = Numbered} words word.Swap event new → Tells S first words us → Tells S first new (us ++ placed_next S first us n.version n.is_next ∷ [])
+unfolding ever_makes
 tells_swapped S first words new us event n m t =
     let shown = step_shows words new word.Swap event t.cell t.shows m in
     let short = step_runs {T = Numbered} words word.Swap event t.cell shown.0 shown.1 in
@@ -205,11 +289,14 @@ tells_swapped S first words new us event n m t =
       steps = t.steps ++ short.steps;
       runs = runs_on (cell_start (first_version first)) t.cell shown.0 t.steps short.steps t.runs short.runs;
       shows = shown.2;
-      replays = subst (λ p. AreReplays S first p (us ++ n.is_next.update ∷ [])) (sym published) (replays_more S first t.cell.published us n.version n.is_next t.replays);
+      replays = subst (λ p. AreReplays (Ever S) first p (updates_in (us ++ placed_next S first us n.version n.is_next ∷ []))) (sym published)
+          (subst (λ l. AreReplays (Ever S) first (t.cell.published ++ n.version ∷ []) l) (sym (map-append (λ (one : Placed). one.update) us (placed_next S first us n.version n.is_next ∷ [])))
+          (replays_more (Ever S) first t.cell.published (updates_in us) n.version (ever_makes S n.is_next.place first (updates_in us) n.version n.is_next.makes) t.replays));
+      in_turn = (let a = n.is_next.makes.accepted in in_turn_more S us (placed_next S first us n.version n.is_next) n.is_next.fresh (a.request, a.sent, a.read) t.in_turn);
     }
 
 -- what a call under way is about to publish
-abbrev pub Coherent : (List ℕ → Type 0) → List Record → List DynamicUpdate → Zones → Phase → Type 0
+abbrev pub Coherent : Script → List Record → List Placed → Zones → Phase → Type 0
 Coherent S first us words (phase.Load name) = Unit {0}
 Coherent S first us words (phase.Probe version keeping) = IsNext S first us version
 Coherent S first us words (phase.Prepare version keeping) = IsNext S first us version
@@ -221,7 +308,7 @@ Coherent S first us words (phase.Bury owner for) = Unit {0}
 Coherent S first us words (phase.Free owner number for) = Unit {0}
 
 -- a call that is no update is about to publish nothing
-no_update : (S : List ℕ → Type 0) (first : List Record) (us : List DynamicUpdate) (words : Zones) (at : Phase) → updates at ≡ false → Coherent S first us words at
+pub no_update : (S : Script) (first : List Record) (us : List Placed) (words : Zones) (at : Phase) → updates at ≡ false → Coherent S first us words at
 no_update S first us words (phase.Load name) e = tt
 no_update S first us words (phase.Probe version keeping) e = absurd (let wrong = e in cc)
 no_update S first us words (phase.Prepare version keeping) e = absurd (let wrong = e in cc)
@@ -266,10 +353,10 @@ not_buried words cell place at there s publisher found none e =
     let wrong : bulk ≡ 0 = sym full.1 ∙ none in
     absurd (omega (arith, wrong))
 
-swaps_kept : (S : List ℕ → Type 0) (first : List Record) (us : List DynamicUpdate) (words new : Zones) → new.publisher ≡ words.publisher → ((place : ℕ) → words.publisher ≡ Swapping place → version_in new place ≡ version_in words place) → SwapsNext S first us words → SwapsNext S first us new
+swaps_kept : (S : Script) (first : List Record) (us : List Placed) (words new : Zones) → new.publisher ≡ words.publisher → ((place : ℕ) → words.publisher ≡ Swapping place → version_in new place ≡ version_in words place) → SwapsNext S first us words → SwapsNext S first us new
 swaps_kept S first us words new same there n = record { place = n.place; number = n.number; version = n.version; publisher = same ∙ n.publisher; there = there n.place n.publisher ∙ n.there; is_next = n.is_next }
 
-bury_keeps_swap : (S : List ℕ → Type 0) (first : List Record) (us : List DynamicUpdate) (words new : Zones) (cell : Cell Numbered) (owner : ℕ) (event : WordEvent) → Shows words cell → Makes {T = Numbered} words (word.Bury owner) event new → SwapsNext S first us words → SwapsNext S first us new
+bury_keeps_swap : (S : Script) (first : List Record) (us : List Placed) (words new : Zones) (cell : Cell Numbered) (owner : ℕ) (event : WordEvent) → Shows words cell → Makes {T = Numbered} words (word.Bury owner) event new → SwapsNext S first us words → SwapsNext S first us new
 bury_keeps_swap S first us words new cell owner event s (at, there, seat, found, m) n =
     elim (eqb_tells there.shares 0) [
       | inl none ↦ (
@@ -285,7 +372,7 @@ bury_keeps_swap S first us words new cell owner event s (at, there, seat, found,
           )
     ]
 
-release_keeps_swap : (S : List ℕ → Type 0) (first : List Record) (us : List DynamicUpdate) (words new : Zones) (owner : ℕ) (event : WordEvent) → Makes {T = Numbered} words (word.Release owner) event new → SwapsNext S first us words → SwapsNext S first us new
+release_keeps_swap : (S : Script) (first : List Record) (us : List Placed) (words new : Zones) (owner : ℕ) (event : WordEvent) → Makes {T = Numbered} words (word.Release owner) event new → SwapsNext S first us words → SwapsNext S first us new
 release_keeps_swap S first us words new owner event (number, at, there, seat, found, m) n =
     elim (cases_Bool (fetch_sub there.shares 1 == 0)) [
       | inl none ↦ (
@@ -298,7 +385,7 @@ release_keeps_swap S first us words new owner event (number, at, there, seat, fo
           )
     ]
 
-owner_keeps_swap : (S : List ℕ → Type 0) (first : List Record) (us : List DynamicUpdate) (words new : Zones) (cell : Cell Numbered) (step : WordStep Numbered) (event : WordEvent) → OfOwner step → Shows words cell → Makes words step event new → SwapsNext S first us words → SwapsNext S first us new
+owner_keeps_swap : (S : Script) (first : List Record) (us : List Placed) (words new : Zones) (cell : Cell Numbered) (step : WordStep Numbered) (event : WordEvent) → OfOwner step → Shows words cell → Makes words step event new → SwapsNext S first us words → SwapsNext S first us new
 owner_keeps_swap S first us words new cell word.Load event of s (number, found, few, told_is, new_is) n =
     swaps_kept S first us words new (ap (λ (w : Zones). w.publisher) new_is) (λ place publisher. ap (λ (w : Zones). version_in w place) new_is) n
 owner_keeps_swap S first us words new cell word.Probe event of s m n = absurd of
@@ -310,7 +397,7 @@ owner_keeps_swap S first us words new cell (word.Bury owner) event of s m n = bu
 owner_keeps_swap S first us words new cell (word.Free owner) event of s (at, there, seat, found, told_is, new_is) n =
     swaps_kept S first us words new (ap (λ (w : Zones). w.publisher) new_is) (λ place publisher. version_stays words new place at there (with_shares free_word there) found (ap (λ (w : Zones). w.table) new_is) refl) n
 
-owner_keeps : (S : List ℕ → Type 0) (first : List Record) (us : List DynamicUpdate) (words new : Zones) (cell : Cell Numbered) (step : WordStep Numbered) (event : WordEvent) (other : Phase) → OfOwner step → Shows words cell → Makes words step event new → Coherent S first us words other → Coherent S first us new other
+owner_keeps : (S : Script) (first : List Record) (us : List Placed) (words new : Zones) (cell : Cell Numbered) (step : WordStep Numbered) (event : WordEvent) (other : Phase) → OfOwner step → Shows words cell → Makes words step event new → Coherent S first us words other → Coherent S first us new other
 owner_keeps S first us words new cell step event (phase.Load name) of s m c = tt
 owner_keeps S first us words new cell step event (phase.Probe version keeping) of s m c = c
 owner_keeps S first us words new cell step event (phase.Prepare version keeping) of s m c = c
@@ -344,20 +431,20 @@ owner_no_swap (word.Bury owner) of = tt
 owner_no_swap (word.Free owner) of = tt
 
 -- what follows on a step of a call is of the same kind, and about to publish the same
-abbrev pub Follows : (List ℕ → Type 0) → List Record → List DynamicUpdate → Zones → Bool → Progress → Type 0
+abbrev pub Follows : Script → List Record → List Placed → Zones → Bool → Progress → Type 0
 Follows S first us words kind (On next) = Coherent S first us words next × (updates next ≡ kind)
 Follows S first us words kind (Done end) = Unit {0}
 
-oldest_follows : (S : List ℕ → Type 0) (first : List Record) (us : List DynamicUpdate) (words : Zones) (head : Head) (kept : ℕ) (oldest : Option ℕ) → Follows S first us words true (oldest_after head kept oldest)
+oldest_follows : (S : Script) (first : List Record) (us : List Placed) (words : Zones) (head : Head) (kept : ℕ) (oldest : Option ℕ) → Follows S first us words true (oldest_after head kept oldest)
 oldest_follows S first us words head kept None = tt
 oldest_follows S first us words head kept (Some owner) = (tt, refl)
 
-past_follows : (S : List ℕ → Type 0) (first : List Record) (us : List DynamicUpdate) (words : Zones) (owner : ℕ) (for : Purpose) (given : Answer) → Follows S first us words (updates (phase.Release owner for)) (past for given)
+past_follows : (S : Script) (first : List Record) (us : List Placed) (words : Zones) (owner : ℕ) (for : Purpose) (given : Answer) → Follows S first us words (updates (phase.Release owner for)) (past for given)
 past_follows S first us words owner purpose.Drop given = tt
 past_follows S first us words owner (purpose.Publish keeping kept) given = oldest_follows S first us words keeping.head kept keeping.oldest
 past_follows S first us words owner (purpose.Oldest head kept) given = tt
 
-load_follows : (S : List ℕ → Type 0) (first : List Record) (us : List DynamicUpdate) (words : Zones) (name : List ℕ) (event : WordEvent) → Follows S first us words false (after (phase.Load name) event)
+load_follows : (S : Script) (first : List Record) (us : List Placed) (words : Zones) (name : List ℕ) (event : WordEvent) → Follows S first us words false (after (phase.Load name) event)
 load_follows S first us words name (told.Loaded owner number) = tt
 load_follows S first us words name told.Passed = (tt, refl)
 load_follows S first us words name told.Taken = (tt, refl)
@@ -371,7 +458,7 @@ load_follows S first us words name (told.Buried number) = (tt, refl)
 load_follows S first us words name told.Kept = (tt, refl)
 load_follows S first us words name told.Freed = (tt, refl)
 
-probe_follows : (S : List ℕ → Type 0) (first : List Record) (us : List DynamicUpdate) (words : Zones) (version : Numbered) (keeping : Keeping) → IsNext S first us version → (event : WordEvent) → Follows S first us words true (after (phase.Probe version keeping) event)
+probe_follows : (S : Script) (first : List Record) (us : List Placed) (words : Zones) (version : Numbered) (keeping : Keeping) → IsNext S first us version → (event : WordEvent) → Follows S first us words true (after (phase.Probe version keeping) event)
 probe_follows S first us words version keeping n (told.Loaded owner number) = (n, refl)
 probe_follows S first us words version keeping n told.Passed = (n, refl)
 probe_follows S first us words version keeping n told.Taken = (n, refl)
@@ -385,7 +472,7 @@ probe_follows S first us words version keeping n (told.Buried number) = (n, refl
 probe_follows S first us words version keeping n told.Kept = (n, refl)
 probe_follows S first us words version keeping n told.Freed = (n, refl)
 
-settle_follows : (S : List ℕ → Type 0) (first : List Record) (us : List DynamicUpdate) (words : Zones) (keeping : Keeping) (event : WordEvent) → Follows S first us words true (after (phase.Settle keeping) event)
+settle_follows : (S : Script) (first : List Record) (us : List Placed) (words : Zones) (keeping : Keeping) (event : WordEvent) → Follows S first us words true (after (phase.Settle keeping) event)
 settle_follows S first us words keeping (told.Loaded owner number) = (tt, refl)
 settle_follows S first us words keeping told.Passed = (tt, refl)
 settle_follows S first us words keeping told.Taken = (tt, refl)
@@ -399,7 +486,7 @@ settle_follows S first us words keeping (told.Buried number) = (tt, refl)
 settle_follows S first us words keeping told.Kept = (tt, refl)
 settle_follows S first us words keeping told.Freed = (tt, refl)
 
-keep_follows : (S : List ℕ → Type 0) (first : List Record) (us : List DynamicUpdate) (words : Zones) (given : ℕ) (keeping : Keeping) (event : WordEvent) → Follows S first us words true (after (phase.Keep given keeping) event)
+keep_follows : (S : Script) (first : List Record) (us : List Placed) (words : Zones) (given : ℕ) (keeping : Keeping) (event : WordEvent) → Follows S first us words true (after (phase.Keep given keeping) event)
 keep_follows S first us words given keeping (told.Loaded owner number) = (tt, refl)
 keep_follows S first us words given keeping told.Passed = (tt, refl)
 keep_follows S first us words given keeping told.Taken = (tt, refl)
@@ -413,7 +500,7 @@ keep_follows S first us words given keeping (told.Buried number) = (tt, refl)
 keep_follows S first us words given keeping told.Kept = (tt, refl)
 keep_follows S first us words given keeping told.Freed = (tt, refl)
 
-release_follows : (S : List ℕ → Type 0) (first : List Record) (us : List DynamicUpdate) (words : Zones) (at : ℕ) (for : Purpose) (event : WordEvent) → Follows S first us words (updates (phase.Release at for)) (after (phase.Release at for) event)
+release_follows : (S : Script) (first : List Record) (us : List Placed) (words : Zones) (at : ℕ) (for : Purpose) (event : WordEvent) → Follows S first us words (updates (phase.Release at for)) (after (phase.Release at for) event)
 release_follows S first us words at for (told.Loaded owner number) = past_follows S first us words at for answer.Left
 release_follows S first us words at for told.Passed = past_follows S first us words at for answer.Left
 release_follows S first us words at for told.Taken = past_follows S first us words at for answer.Left
@@ -427,7 +514,7 @@ release_follows S first us words at for (told.Buried number) = past_follows S fi
 release_follows S first us words at for told.Kept = past_follows S first us words at for answer.Left
 release_follows S first us words at for told.Freed = past_follows S first us words at for answer.Left
 
-bury_follows : (S : List ℕ → Type 0) (first : List Record) (us : List DynamicUpdate) (words : Zones) (at : ℕ) (for : Purpose) (event : WordEvent) → Follows S first us words (updates (phase.Bury at for)) (after (phase.Bury at for) event)
+bury_follows : (S : Script) (first : List Record) (us : List Placed) (words : Zones) (at : ℕ) (for : Purpose) (event : WordEvent) → Follows S first us words (updates (phase.Bury at for)) (after (phase.Bury at for) event)
 bury_follows S first us words at for (told.Loaded owner number) = past_follows S first us words at for answer.Left
 bury_follows S first us words at for told.Passed = past_follows S first us words at for answer.Left
 bury_follows S first us words at for told.Taken = past_follows S first us words at for answer.Left
@@ -441,18 +528,41 @@ bury_follows S first us words at for (told.Buried number) = (tt, refl)
 bury_follows S first us words at for told.Kept = past_follows S first us words at for answer.Left
 bury_follows S first us words at for told.Freed = past_follows S first us words at for answer.Left
 
+-- a step leaves the updates so far, and the versions that are published, as they were; or it is the swap of an update, which is the next
+abbrev pub Grown : Script → List Placed → List Placed → Zones → Zones → Phase → Type 0
+Grown S us later words new at =
+    ((later ≡ us) × (swaps_now at ≡ 0) × LeavesPublished words new)
+    ⊎ ((one : Placed) × (later ≡ us ++ one ∷ []) × (swaps_now at ≡ 1) × (swapped_in at ≡ 0) × S.by one.place one.update.head)
+
+leaves_step : (words new : Zones) (step : WordStep Numbered) (event : WordEvent) → NoSwap step → Makes words step event new → LeavesPublished words new
+leaves_step words new step event apart m cell s =
+    let shown = step_shows words new step event cell s m in
+    (shown.0, shown.2, publishes_nothing words new step event cell shown.0 apart m shown.1)
+
+none_now : (at : Phase) → NoSwap (word_step at) → swaps_now at ≡ 0
+none_now (phase.Load name) apart = refl
+none_now (phase.Probe version keeping) apart = refl
+none_now (phase.Prepare version keeping) apart = refl
+none_now (phase.Swap keeping) apart = absurd apart
+none_now (phase.Settle keeping) apart = refl
+none_now (phase.Keep given keeping) apart = refl
+none_now (phase.Release owner for) apart = refl
+none_now (phase.Bury owner for) apart = refl
+none_now (phase.Free owner number for) apart = refl
+
 -- the words and the updates behind a step of a call, with what the call is about to publish
-pub record Behind (S : List ℕ → Type 0) (first : List Record) (us : List DynamicUpdate) (words new : Zones) (at : Phase) (progress : Progress) : Type 0 where
-  pub later : List DynamicUpdate
+pub record Behind (S : Script) (first : List Record) (us : List Placed) (words new : Zones) (at : Phase) (progress : Progress) : Type 0 where
+  pub later : List Placed
   pub tells : Tells S first new later
   pub follows : Follows S first later new (updates at) progress
   pub others : (other : Phase) → (updates at ≡ true → updates other ≡ false) → Coherent S first us words other → Coherent S first later new other
+  pub grown : Grown S us later words new at
 
 -- a step of an update leaves what is no update
-others_none : (S : List ℕ → Type 0) (first : List Record) (us later : List DynamicUpdate) (words new : Zones) (other : Phase) → updates other ≡ false → Coherent S first us words other → Coherent S first later new other
+others_none : (S : Script) (first : List Record) (us later : List Placed) (words new : Zones) (other : Phase) → updates other ≡ false → Coherent S first us words other → Coherent S first later new other
 others_none S first us later words new other e c = no_update S first later new other e
 
-prepared_next : (S : List ℕ → Type 0) (first : List Record) (us : List DynamicUpdate) (words new : Zones) (version : Numbered) (event : WordEvent) → IsNext S first us version → Makes {T = Numbered} words (word.Prepare version) event new → SwapsNext S first us new
+prepared_next : (S : Script) (first : List Record) (us : List Placed) (words new : Zones) (version : Numbered) (event : WordEvent) → IsNext S first us version → Makes {T = Numbered} words (word.Prepare version) event new → SwapsNext S first us new
 prepared_next S first us words new version event n (place, there, last, is, found, number, fits, told_is, new_is) =
     let within = slice_get_within words.table place there found in
     let put : Slot Numbered = with_shares bulk (with_version (Some (record { number = last + 1; value = version })) there) in
@@ -460,21 +570,21 @@ prepared_next S first us words new version event n (place, there, last, is, foun
     record { place = place; number = last + 1; version = version; publisher = ap (λ (w : Zones). w.publisher) new_is; there = ap (option_and_then (λ (s : Slot Numbered). s.version)) here; is_next = n }
 
 -- a step that is no swap, of an update
-behind_update : (S : List ℕ → Type 0) (first : List Record) (us : List DynamicUpdate) (words new : Zones) (at : Phase) (event : WordEvent) → NoSwap (word_step at) → updates at ≡ true → Makes words (word_step at) event new → Tells S first words us → Follows S first us new (updates at) (after at event)
+behind_update : (S : Script) (first : List Record) (us : List Placed) (words new : Zones) (at : Phase) (event : WordEvent) → NoSwap (word_step at) → updates at ≡ true → Makes words (word_step at) event new → Tells S first words us → Follows S first us new (updates at) (after at event)
     → Behind S first us words new at (after at event)
-behind_update S first us words new at event apart is m t follows = record { later = us; tells = tells_same S first words new us (word_step at) event apart m t; follows = follows; others = λ other alone c. others_none S first us us words new other (alone is) c }
+behind_update S first us words new at event apart is m t follows = record { later = us; tells = tells_same S first words new us (word_step at) event apart m t; follows = follows; others = λ other alone c. others_none S first us us words new other (alone is) c; grown = inl (refl, none_now at apart, leaves_step words new (word_step at) event apart m) }
 
 -- a step that is no update's
-behind_owner : (S : List ℕ → Type 0) (first : List Record) (us : List DynamicUpdate) (words new : Zones) (at : Phase) (event : WordEvent) → OfOwner (word_step at) → Makes words (word_step at) event new → Tells S first words us → Follows S first us new (updates at) (after at event)
+behind_owner : (S : Script) (first : List Record) (us : List Placed) (words new : Zones) (at : Phase) (event : WordEvent) → OfOwner (word_step at) → Makes words (word_step at) event new → Tells S first words us → Follows S first us new (updates at) (after at event)
     → Behind S first us words new at (after at event)
 behind_owner S first us words new at event of m t follows =
-    record { later = us; tells = tells_same S first words new us (word_step at) event (owner_no_swap (word_step at) of) m t; follows = follows; others = λ other alone c. owner_keeps S first us words new t.cell (word_step at) event other of t.shows m c }
+    record { later = us; tells = tells_same S first words new us (word_step at) event (owner_no_swap (word_step at) of) m t; follows = follows; others = λ other alone c. owner_keeps S first us words new t.cell (word_step at) event other of t.shows m c; grown = inl (refl, none_now at (owner_no_swap (word_step at) of), leaves_step words new (word_step at) event (owner_no_swap (word_step at) of) m) }
 
-behind_swap : (S : List ℕ → Type 0) (first : List Record) (us : List DynamicUpdate) (words new : Zones) (keeping : Keeping) (event : WordEvent) → SwapsNext S first us words → Makes {T = Numbered} words word.Swap event new → Tells S first words us → Behind S first us words new (phase.Swap keeping) (after (phase.Swap keeping) event)
+behind_swap : (S : Script) (first : List Record) (us : List Placed) (words new : Zones) (keeping : Keeping) (event : WordEvent) → SwapsNext S first us words → Makes {T = Numbered} words word.Swap event new → Tells S first words us → Behind S first us words new (phase.Swap keeping) (after (phase.Swap keeping) event)
 behind_swap S first us words new keeping event n m t =
-    record { later = us ++ n.is_next.update ∷ []; tells = tells_swapped S first words new us event n m t; follows = (tt, refl); others = λ other alone c. others_none S first us (us ++ n.is_next.update ∷ []) words new other (alone refl) c }
+    record { later = us ++ placed_next S first us n.version n.is_next ∷ []; tells = tells_swapped S first words new us event n m t; follows = (tt, refl); others = λ other alone c. others_none S first us (us ++ placed_next S first us n.version n.is_next ∷ []) words new other (alone refl) c; grown = inr (placed_next S first us n.version n.is_next, refl, refl, refl, n.is_next.mine) }
 
-pub behind : (S : List ℕ → Type 0) (first : List Record) (us : List DynamicUpdate) (words new : Zones) (at : Phase) (event : WordEvent) → Makes words (word_step at) event new → Tells S first words us → Coherent S first us words at → Behind S first us words new at (after at event)
+pub behind : (S : Script) (first : List Record) (us : List Placed) (words new : Zones) (at : Phase) (event : WordEvent) → Makes words (word_step at) event new → Tells S first words us → Coherent S first us words at → Behind S first us words new at (after at event)
 behind S first us words new (phase.Load name) event m t c = behind_owner S first us words new (phase.Load name) event tt m t (load_follows S first us new name event)
 behind S first us words new (phase.Probe version keeping) event m t c = behind_update S first us words new (phase.Probe version keeping) event tt refl m t (probe_follows S first us new version keeping c event)
 behind S first us words new (phase.Prepare version keeping) event m t c = behind_update S first us words new (phase.Prepare version keeping) event tt refl m t (prepared_next S first us words new version event c m, refl)
@@ -486,7 +596,7 @@ behind S first us words new (phase.Bury at for) event m t c = behind_owner S fir
 behind S first us words new (phase.Free at number for) event m t c = behind_owner S first us words new (phase.Free at number for) event tt m t (past_follows S first us new at for (answer.Buried number))
 
 -- each call under way is about to publish what the next update makes
-abbrev pub AllCoherent : (List ℕ → Type 0) → List Record → List DynamicUpdate → Zones → List UnderWay → Type 0
+abbrev pub AllCoherent : Script → List Record → List Placed → Zones → List UnderWay → Type 0
 AllCoherent S first us words [] = Unit {0}
 AllCoherent S first us words (call ∷ calls) = Coherent S first us words call.phase × AllCoherent S first us words calls
 
@@ -505,12 +615,12 @@ or_false false b e = (refl, e)
 not_both : (a : Bool) → a ≡ true → a ≡ false → ⊥
 not_both a t f = let wrong : true ≡ false = sym t ∙ f in cc
 
-pub others_all : (S : List ℕ → Type 0) (first : List Record) (us : List DynamicUpdate) (words new : Zones) (at : Phase) (progress : Progress) (b : Behind S first us words new at progress) (calls : List UnderWay) → (updates at ≡ true → any_update calls ≡ false) → AllCoherent S first us words calls → AllCoherent S first b.later new calls
+pub others_all : (S : Script) (first : List Record) (us : List Placed) (words new : Zones) (at : Phase) (progress : Progress) (b : Behind S first us words new at progress) (calls : List UnderWay) → (updates at ≡ true → any_update calls ≡ false) → AllCoherent S first us words calls → AllCoherent S first b.later new calls
 others_all S first us words new at progress b [] alone c = tt
 others_all S first us words new at progress b (call ∷ calls) alone c =
     (b.others call.phase (λ t. (or_false (updates call.phase) (any_update calls) (alone t)).0) c.0, others_all S first us words new at progress b calls (λ t. (or_false (updates call.phase) (any_update calls) (alone t)).1) c.1)
 
-pub without_coherent : (S : List ℕ → Type 0) (first : List Record) (us : List DynamicUpdate) (words : Zones) (name : List ℕ) (calls : List UnderWay) → AllCoherent S first us words calls → AllCoherent S first us words (without_call name calls)
+pub without_coherent : (S : Script) (first : List Record) (us : List Placed) (words : Zones) (name : List ℕ) (calls : List UnderWay) → AllCoherent S first us words calls → AllCoherent S first us words (without_call name calls)
 without_coherent S first us words name [] c = tt
 without_coherent S first us words name (call ∷ calls) c =
     elim (cases_Bool (not (bytes_eq call.name name))) [
@@ -535,7 +645,7 @@ without_one name (call ∷ calls) one =
       | inr gone ↦ rw gone (without_one name calls one.1)
     ]
 
-pub with_coherent : (S : List ℕ → Type 0) (first : List Record) (us : List DynamicUpdate) (words : Zones) (calls : List UnderWay) (call : UnderWay) → AllCoherent S first us words calls → Coherent S first us words call.phase → AllCoherent S first us words (calls ++ call ∷ [])
+pub with_coherent : (S : Script) (first : List Record) (us : List Placed) (words : Zones) (calls : List UnderWay) (call : UnderWay) → AllCoherent S first us words calls → Coherent S first us words call.phase → AllCoherent S first us words (calls ++ call ∷ [])
 with_coherent S first us words [] call c new = (new, tt)
 with_coherent S first us words (other ∷ calls) call c new = (c.0, with_coherent S first us words calls call c.1 new)
 
@@ -554,7 +664,7 @@ with_one (other ∷ calls) call one alone = (
   with_one calls call one.1 (λ is. (or_false (updates other.phase) (any_update calls) (alone is)).1),
 )
 
-pub found_coherent : (S : List ℕ → Type 0) (first : List Record) (us : List DynamicUpdate) (words : Zones) (name : List ℕ) (calls : List UnderWay) (call : UnderWay) → call_of name calls ≡ Some call → AllCoherent S first us words calls → Coherent S first us words call.phase
+pub found_coherent : (S : Script) (first : List Record) (us : List Placed) (words : Zones) (name : List ℕ) (calls : List UnderWay) (call : UnderWay) → call_of name calls ≡ Some call → AllCoherent S first us words calls → Coherent S first us words call.phase
 found_coherent S first us words name [] call e c = absurd (let wrong = e in cc)
 found_coherent S first us words name (other ∷ calls) call e c =
     elim (cases_Bool (bytes_eq other.name name)) [
@@ -562,7 +672,7 @@ found_coherent S first us words name (other ∷ calls) call e c =
       | inr elsewhere ↦ found_coherent S first us words name calls call (rw elsewhere at e) c.1
     ]
 
-found_any : (name : List ℕ) (calls : List UnderWay) (call : UnderWay) → call_of name calls ≡ Some call → updates call.phase ≡ true → any_update calls ≡ false → ⊥
+pub found_any : (name : List ℕ) (calls : List UnderWay) (call : UnderWay) → call_of name calls ≡ Some call → updates call.phase ≡ true → any_update calls ≡ false → ⊥
 found_any name [] call e is none = let wrong = e in cc
 found_any name (other ∷ calls) call e is none =
     let parts = or_false (updates other.phase) (any_update calls) none in
@@ -588,3 +698,51 @@ found_alone name (other ∷ calls) call e one is =
           ]
           )
     ]
+
+-- and so they are where more lines were played, and where further lines may have begun the update under way
+abbrev pub moved : Script → ℕ → (ℕ → Head → Type 0) → Script
+moved S top by = scripted S.sends top by
+
+next_on : (S : Script) (top : ℕ) (by : ℕ → Head → Type 0) (first : List Record) (us : List Placed) (version : Numbered) → S.top ≤ top → ((place : ℕ) (head : Head) → S.by place head → by place head) → IsNext S first us version → IsNext (moved S top by) first us version
+next_on S top by first us version more map n =
+    let l = n.fresh.played in
+    record { place = n.place; fresh = record { played = omega (arith, l, more); last = n.fresh.last }; makes = n.makes; mine = map n.place n.makes.update.head n.mine }
+
+pub coherent_on : (S : Script) (top : ℕ) (by : ℕ → Head → Type 0) (first : List Record) (us : List Placed) (words : Zones) (at : Phase) → S.top ≤ top → ((place : ℕ) (head : Head) → S.by place head → by place head) → Coherent S first us words at → Coherent (moved S top by) first us words at
+coherent_on S top by first us words (phase.Load name) more map c = tt
+coherent_on S top by first us words (phase.Probe version keeping) more map c = next_on S top by first us version more map c
+coherent_on S top by first us words (phase.Prepare version keeping) more map c = next_on S top by first us version more map c
+coherent_on S top by first us words (phase.Swap keeping) more map c = record { place = c.place; number = c.number; version = c.version; publisher = c.publisher; there = c.there; is_next = next_on S top by first us c.version more map c.is_next }
+coherent_on S top by first us words (phase.Settle keeping) more map c = tt
+coherent_on S top by first us words (phase.Keep given keeping) more map c = tt
+coherent_on S top by first us words (phase.Release owner for) more map c = tt
+coherent_on S top by first us words (phase.Bury owner for) more map c = tt
+coherent_on S top by first us words (phase.Free owner number for) more map c = tt
+
+pub all_on : (S : Script) (top : ℕ) (by : ℕ → Head → Type 0) (first : List Record) (us : List Placed) (words : Zones) (calls : List UnderWay) → S.top ≤ top → ((place : ℕ) (head : Head) → S.by place head → by place head) → AllCoherent S first us words calls → AllCoherent (moved S top by) first us words calls
+all_on S top by first us words [] more map c = tt
+all_on S top by first us words (call ∷ calls) more map c = (coherent_on S top by first us words call.phase more map c.0, all_on S top by first us words calls more map c.1)
+
+-- where no update is under way nothing is about to be published
+pub all_none : (S : Script) (first : List Record) (us : List Placed) (words : Zones) (calls : List UnderWay) → any_update calls ≡ false → AllCoherent S first us words calls
+all_none S first us words [] none = tt
+all_none S first us words (call ∷ calls) none =
+    let parts = or_false (updates call.phase) (any_update calls) none in (no_update S first us words call.phase parts.0, all_none S first us words calls parts.1)
+
+pub tells_on : (S : Script) (top : ℕ) (by : ℕ → Head → Type 0) (first : List Record) (words : Zones) (us : List Placed) → S.top ≤ top → Tells S first words us → Tells (moved S top by) first words us
+tells_on S top by first words us more t = record {
+  cell = t.cell;
+  steps = t.steps;
+  runs = t.runs;
+  shows = t.shows;
+  replays = t.replays;
+  in_turn = record { sends = t.in_turn.sends; rises = t.in_turn.rises; played = λ k one e. (let l = t.in_turn.played k one e in omega (arith, l, more)) };
+}
+
+-- one line more was played
+abbrev pub later_on : Script → Script
+later_on S = moved S (S.top + 1) S.by
+
+-- the next line is behind those that sent the updates so far
+pub fresh_on : (S : Script) (us : List Placed) → AreInTurn S us → IsFresh (later_on S) us S.top
+fresh_on S us t = record { played = omega arith; last = t.played }

@@ -1,11 +1,13 @@
 -- The zones that updates make one after the other, and the lists of what changed through them.
-use Rattle.std.proofs.Common.{◌≡◌, ◌≢◌, refl, sym, ap, ◌∙◌, subst, ℕ, ◌^◌, ◌<◌, ◌≤◌, true, ◌⊎◌, inl, inr, List, [], ◌∷◌, ◌++◌, length, map, arith, Option, Some, None, All, AllPairs, length-append}
+use Rattle.std.proofs.Common.{◌≡◌, ◌≢◌, refl, sym, ap, ◌∙◌, subst, ℕ, zero, suc, ◌+◌, ◌-◌, ◌^◌, ◌<◌, ◌≤◌, true, ◌⊎◌, inl, inr, List, [], ◌∷◌, ◌++◌, length, map, arith, Option, Some, None, All, AllPairs, length-append}
 use Rattle.std.proofs.lemmas.List.Elements.{All-nil, All-cons}
 use Rattle.std.specs.Prelude.{◌&&◌, nat_lt, Ok}
+use Rattle.std.specs.List.{slice_get}
 use Rattle.std.specs.Option.{option_or}
 use Rattle.std.proofs.lemmas.Bool.{cases_Bool, ltb-false}
 use Rattle.std.proofs.lemmas.Bool.Decides.{nat_tests, eqb_tells}
 use Rattle.std.proofs.lemmas.List.{map-append, length-map, append_assoc, get_or-map}
+use Rattle.std.proofs.lemmas.Option.{slice_get_within, get_or_from_slice_get}
 use Rattle.dns_rdata.specs.Record.{Record}
 use Rattle.dns_rdata.specs.SerialOrder.{serial_less}
 use Rattle.zone_tree.specs.Version.{zone_serial}
@@ -125,17 +127,36 @@ newest_at : (front : List Zone) (zone first : Zone) (behind : List Zone) → new
 newest_at [] zone first behind = refl
 newest_at (other ∷ front) zone first behind = newest_at front zone other behind
 
--- what is told leads from the zone of a serial to the last
-pub record ListLeads (serial : ℕ) (zones : List Zone) (list : List Record) : Type 0 where
+-- what is told leads from the zone of a serial to the last: a zone of the window, whose serial none behind it has
+pub record ListLeads (size : ℕ) (newer : List Zone) (serial : ℕ) (zones : List Zone) (list : List Record) : Type 0 where
   pub front : List Zone
   pub zone : Zone
   pub behind : List Zone
   pub split : zones ≡ front ++ zone ∷ behind
   pub some : 0 < length behind
+  pub near : length behind + length newer < size
+  pub newest_is : (k : ℕ) (other : Zone) → length front < k → slice_get zones k ≡ Some other → zone_serial other ≢ serial
   pub serial_is : zone_serial zone ≡ serial
   pub taken : taken_by zone (map as_sent list) ≡ Ok (newest [] zones)
 
-list_taken : (size serial : ℕ) (newer zones run : List Zone) (zone : Zone) (behind : List Zone) → (front : List Zone) → zones ≡ front ++ run → (run ≡ []) ⊎ (fits size (serials_of (run ++ newer)) ≡ true) → AreChain (zones ++ newer) → Found serial run zone behind → ListLeads serial zones (incremental zone behind)
+-- those behind one, by their places
+behind_at : (front : List Zone) (zone : Zone) (behind : List Zone) (k : ℕ) → length front < k → slice_get (front ++ zone ∷ behind) k ≡ slice_get behind (k - (length front + 1))
+behind_at [] zone behind zero l = absurd (omega (arith, l))
+behind_at [] zone behind (suc k) l = let e : k ≡ suc k - (0 + 1) = omega arith in ap (slice_get behind) e
+behind_at (x ∷ front) zone behind zero l = absurd (omega (arith, l))
+behind_at (x ∷ front) zone behind (suc k) l =
+    let e : k - (length front + 1) ≡ suc k - (length (x ∷ front) + 1) = omega arith in
+    behind_at front zone behind k (omega (arith, l)) ∙ ap (slice_get behind) e
+
+differs_behind : (serial : ℕ) (zone : Zone) (behind : List Zone) (j : ℕ) (other : Zone) → zone_serial zone ≡ serial → AllPairs (λ older newer. zone_serial older ≢ zone_serial newer) (zone ∷ behind) → slice_get behind j ≡ Some other → zone_serial other ≢ serial
+differs_behind serial zone behind j other is differ e same =
+    let w = slice_get_within behind j other e in
+    differ 0 (suc j) other (omega arith) (omega (arith, w)) (is ∙ (sym same ∙ sym (ap zone_serial (get_or_from_slice_get behind j other other e))))
+
+short_by : (a size c : ℕ) → (nat_lt a size && nat_lt c (2 ^ 31)) ≡ true → a < size
+short_by a size c e = grind (arith, nat_tests)
+
+list_taken : (size serial : ℕ) (newer zones run : List Zone) (zone : Zone) (behind : List Zone) → (front : List Zone) → zones ≡ front ++ run → (run ≡ []) ⊎ (fits size (serials_of (run ++ newer)) ≡ true) → AreChain (zones ++ newer) → Found serial run zone behind → ListLeads size newer serial zones (incremental zone behind)
 list_taken size serial newer zones run zone behind older split fit chain f =
     let whole : zones ≡ (older ++ f.front) ++ zone ∷ behind = split ∙ (ap (λ r. older ++ r) f.split ∙ sym (append_assoc older f.front (zone ∷ behind))) in
     let fitting : fits size (serials_of (run ++ newer)) ≡ true = elim fit [
@@ -146,7 +167,12 @@ list_taken size serial newer zones run zone behind older split fit chain f =
     let c : IsChain zone behind = chain_front zone behind newer (chain_back (older ++ f.front) (zone ∷ behind ++ newer) (subst AreChain all chain)) in
     let serials : serials_of (run ++ newer) ≡ serials_of f.front ++ (serials_of (zone ∷ behind) ++ serials_of newer) =
     ap (λ r. serials_of (r ++ newer)) f.split ∙ (ap serials_of (append_assoc f.front (zone ∷ behind) newer) ∙ (map-append zone_serial f.front (zone ∷ behind ++ newer) ∙ ap (λ s. serials_of f.front ++ s) (map-append zone_serial (zone ∷ behind) newer))) in
-    let fits_so : fits size (serials_of (zone ∷ behind)) ≡ true = fits_front size (serials_of (zone ∷ behind)) (serials_of newer) (fits_back size (serials_of f.front) (serials_of (zone ∷ behind) ++ serials_of newer) (subst (λ s. fits size s ≡ true) serials fitting)) in
+    let fits_all : fits size (serials_of (zone ∷ behind) ++ serials_of newer) ≡ true = fits_back size (serials_of f.front) (serials_of (zone ∷ behind) ++ serials_of newer) (subst (λ s. fits size s ≡ true) serials fitting) in
+    let fits_so : fits size (serials_of (zone ∷ behind)) ≡ true = fits_front size (serials_of (zone ∷ behind)) (serials_of newer) fits_all in
+    let short = short_by (length (serials_of behind ++ serials_of newer)) size (span (zone_serial zone) (serials_of behind ++ serials_of newer)) fits_all in
+    let sum = length-append (serials_of behind) (serials_of newer) in
+    let behind_n = length-map behind zone_serial in
+    let newer_n = length-map newer zone_serial in
     let versions : AreVersions zone behind = record {
       each = chain_zones zone behind c;
       apex = chain_apex zone zone behind refl c;
@@ -158,6 +184,8 @@ list_taken size serial newer zones run zone behind older split fit chain f =
       behind = behind;
       split = whole;
       some = (let n : length behind ≡ length (f.next ∷ f.more) = ap length f.some in omega (arith, n));
+      near = omega (arith, short, sum, behind_n, newer_n);
+      newest_is = λ k other later there. differs_behind serial zone behind (k - (length (older ++ f.front) + 1)) other f.serial_is versions.serials (sym (behind_at (older ++ f.front) zone behind k later) ∙ (ap (λ z. slice_get z k) (sym whole) ∙ there));
       serial_is = f.serial_is;
       taken = taken_so zone behind f.next f.more f.some versions ∙ ap Ok (sym (ap (newest []) whole ∙ newest_at (older ++ f.front) zone [] behind));
     }
@@ -178,11 +206,11 @@ changes_by kept list (Some it) e =
       | inr all ↦ (let is = rw all at e in (it, refl, (let f = is in cc)))
     ]
 
-pub list_leads : (size kept serial : ℕ) (newer zones : List Zone) (list : List Record) → AreChain (zones ++ newer) → changes_since size newer kept serial zones ≡ Some list → ListLeads serial zones list
+pub list_leads : (size kept serial : ℕ) (newer zones : List Zone) (list : List Record) → AreChain (zones ++ newer) → changes_since size newer kept serial zones ≡ Some list → ListLeads size newer serial zones list
 list_leads size kept serial newer zones list chain e =
     let run = longest_run size newer zones in
     let by = changes_by kept list (held serial (window size newer zones)) e in
-    subst (λ l. ListLeads serial zones l) by.2 (list_taken size serial newer zones (window size newer zones) by.0.0 by.0.1 run.older run.split run.fit chain (found serial (window size newer zones) by.0 by.1))
+    subst (λ l. ListLeads size newer serial zones l) by.2 (list_taken size serial newer zones (window size newer zones) by.0.0 by.0.1 run.older run.split run.fit chain (found serial (window size newer zones) by.0 by.1))
 
 -- nothing is told where no version behind the asker's is kept
 none_by : (serial : ℕ) (run : List Zone) (o : Option (Zone × List Zone)) → ((it : Zone × List Zone) → o ≡ Some it → Found serial run it.0 it.1) → changes_from 0 o ≡ None

@@ -12,8 +12,8 @@ use Rattle.world_run.specs.declared.phase.Progress.TheVariants.{On, Done}
 use Rattle.world_run.specs.declared.phase.End.{End}
 use Rattle.world_run.specs.declared.phase.End.TheVariants.{Owned, Told, NoSlot, Kept}
 use Rattle.world_run.specs.declared.phase.Purpose.TheVariants as purpose
-use Rattle.world_run.specs.declared.play.Named.{Named}
-use Rattle.world_run.specs.declared.play.UnderWay.{UnderWay}
+use Rattle.world_run.specs.declared.names.Named.{Named}
+use Rattle.world_run.specs.declared.calls.UnderWay.{UnderWay}
 use Rattle.world_run.specs.declared.step.Answer.{Answer}
 use Rattle.zone_tree.specs.Version.{Version as Numbered}
 use Rattle.world_run.specs.declared.phase.Purpose.{Purpose}

@@ -29,8 +29,8 @@ use Rattle.world_run.specs.declared.phase.Phase.{Phase}
 use Rattle.world_run.specs.declared.phase.Phase.TheVariants as phase
 use Rattle.world_run.specs.declared.phase.Progress.{Progress}
 use Rattle.world_run.specs.declared.phase.Progress.TheVariants.{On, Done}
-use Rattle.world_run.specs.declared.play.Named.{Named}
-use Rattle.world_run.specs.declared.play.UnderWay.{UnderWay}
+use Rattle.world_run.specs.declared.names.Named.{Named}
+use Rattle.world_run.specs.declared.calls.UnderWay.{UnderWay}
 use Rattle.world_run.specs.declared.start.Start.{Start}
 use Rattle.world_run.specs.declared.start.Start.TheVariants.{Refused, Answers, Takes}
 use Rattle.world_run.specs.declared.step.Call.{Call}
@@ -41,9 +41,9 @@ use Rattle.world_run.specs.declared.step.WorldStep.TheVariants.{Whole, Begin, Ne
 use Rattle.world_run.specs.Judgements.{asks_update, judged}
 use Rattle.world_run.specs.Numbered.{first_version}
 use Rattle.world_run.specs.Phases.{reserves, updates}
-use Rattle.world_run.specs.Replays.{IsSent}
+use Rattle.world_run.specs.Replays.{IsSentAt}
 use Rattle.world_run.specs.World.{World, loaded_once, started, owner_of, call_of, without_call, is_taken, is_held, drop_start, asks_sent, ask_start, transfer_asked, transfer_said, transfer_start, oldest_kept, publication_start, update_start, start, version_of, zone_of, given_up, step_once, steps_up_to, most_steps, is_full, all_made, whole, begin, begin_under, stepped, next, turn, onto_replies, play}
-use Rattle.world_run.proofs.CallReplays.{any_update}
+use Rattle.world_run.proofs.CallReplays.{Script, script, any_update}
 use Rattle.world_run.proofs.EndLemmas.{IsProbe, FirstOf, Unchanged, first_by, start_first}
 use Rattle.world_run.proofs.ReplayLemmas.{Goes, AllSent, turn_goes, all_sent, start_goes, last_replay}
 use Rattle.cell_core.specs.declared.words.Owner.TheVariants.{Holding}
@@ -147,7 +147,7 @@ publication_begins world cell request head version none few h =
     begins_if world cell (Update request) (nat_lt world.words.granted grants && is_held world.words (oldest_kept world.keep world.kept)) _ _
     (λ e. (update_open world.words world.names world.kept world.keep world.calls head version none h, λ p. few)) (λ e. tt)
 
-judged_begins : (S : List ℕ → Type 0) (first : List Record) (world : World) (request : List ℕ) (last : Numbered) (what : Option Judged) (g : Goes S first world) → judged last request ≡ what → found_last world.words ≡ Some last → any_update world.calls ≡ false → Hands world
+judged_begins : (S : Script) (first : List Record) (world : World) (request : List ℕ) (last : Numbered) (what : Option Judged) (g : Goes S first world) → judged last request ≡ what → found_last world.words ≡ Some last → any_update world.calls ≡ false → Hands world
     → BeginsOk world g.tells.cell (Update request) (update_start world what)
 judged_begins S first world request last None g is found none h = tt
 judged_begins S first world request last (Some (judgement.Told head code)) g is found none h = tt
@@ -156,12 +156,12 @@ judged_begins S first world request last (Some (judgement.Makes head version)) g
     let l = last_replay S first world.words g.us last g.tells found in
     publication_begins world g.tells.cell request head version none (omega (arith, room, l.0, g.tells.replays.counted)) h
 
-found_begins : (S : List ℕ → Type 0) (first : List Record) (world : World) (request : List ℕ) (o : Option Numbered) (g : Goes S first world) → found_last world.words ≡ o → any_update world.calls ≡ false → Hands world
+found_begins : (S : Script) (first : List Record) (world : World) (request : List ℕ) (o : Option Numbered) (g : Goes S first world) → found_last world.words ≡ o → any_update world.calls ≡ false → Hands world
     → BeginsOk world g.tells.cell (Update request) (update_start world (option_and_then (λ last. judged last request) o))
 found_begins S first world request None g found none h = tt
 found_begins S first world request (Some last) g found none h = judged_begins S first world request last (judged last request) g refl found none h
 
-start_begins : (S : List ℕ → Type 0) (first : List Record) (world : World) (call : Call) (g : Goes S first world) → Hands world → BeginsOk world g.tells.cell call (start world call)
+pub start_begins : (S : Script) (first : List Record) (world : World) (call : Call) (g : Goes S first world) → Hands world → BeginsOk world g.tells.cell call (start world call)
 start_begins S first world (Load name) g h = begins_if world g.tells.cell (Load name) (is_taken name world) _ _ (λ e. tt) (λ e. load_begins world g.tells.cell name h e)
 start_begins S first world (Drop name) g h = drop_begins world g.tells.cell name (owner_of name world.names) refl h
 start_begins S first world (Ask name request) g h = still_begins world g.tells.cell (Ask name request) _ (ask_still (zone_of name world) request)
@@ -222,7 +222,7 @@ begin_hands world cell name call (Answers given) none h ok = to_if (is_full worl
 begin_hands world cell name call (Takes at) none h ok =
     to_if (is_full world) _ _ to_none (to_some _ (to_calls world.words (given_up call world.names) world.kept world.keep world.calls name at (none_called name world.calls none) ok.0))
 
-under_hands : (S : List ℕ → Type 0) (first : List Record) (world : World) (name : List ℕ) (call : Call) (other : Option UnderWay) → call_of name world.calls ≡ other → Goes S first world → Hands world → HandsBehind (begin_under world name call other)
+under_hands : (S : Script) (first : List Record) (world : World) (name : List ℕ) (call : Call) (other : Option UnderWay) → call_of name world.calls ≡ other → Goes S first world → Hands world → HandsBehind (begin_under world name call other)
 under_hands S first world name call None e g h = begin_hands world g.tells.cell name call (start world call) e h (start_begins S first world call g h)
 under_hands S first world name call (Some other) e g h = to_some _ h
 
@@ -247,7 +247,7 @@ next_hands : (world : World) (name : List ℕ) (o : Option UnderWay) → call_of
 next_hands world name None found h = h
 next_hands world name (Some call) found h = stepped_hands world name call (step_once world.words call.phase) found refl h
 
-turn_hands : (S : List ℕ → Type 0) (first : List Record) (world : World) (line : Line) → Goes S first world → Hands world → HandsBehind (turn world line)
+pub turn_hands : (S : Script) (first : List Record) (world : World) (line : Line) → Goes S first world → Hands world → HandsBehind (turn world line)
 turn_hands S first world (Whole call) g h = whole_hands world g.tells.cell call (start world call) h g.tells.shows (start_first world call) (start_begins S first world call g h)
 turn_hands S first world (Begin name call) g h = under_hands S first world name call (call_of name world.calls) refl g h
 turn_hands S first world (Next name) g h = to_some _ (next_hands world name (call_of name world.calls) refl h)
@@ -304,33 +304,40 @@ turn_same world (Begin name call) = under_same world name call (call_of name wor
 turn_same world (Next name) = same_some world _ (next_same world name (call_of name world.calls))
 
 -- a world whose versions are replays, with all that is in hand
-pub record Kept (S : List ℕ → Type 0) (first : List Record) (begun_as world : World) : Type 0 where
+pub record Kept (S : Script) (first : List Record) (begun_as world : World) : Type 0 where
   pub goes : Goes S first world
   pub hands : Hands world
   pub same : Same begun_as world
 
-rest_kept : (S : List ℕ → Type 0) (first : List Record) (begun_as : World) (lines : List Line) (given : WorldReply) (world behind : World) (replies : List WorldReply) (o : Option (List WorldReply × World)) → play world lines ≡ o
-    → ((replies : List WorldReply) (behind : World) → play world lines ≡ Some (replies, behind) → Kept S first begun_as behind) → onto_replies given o ≡ Some (replies, behind) → Kept S first begun_as behind
-rest_kept S first begun_as lines given world behind replies None p all e = absurd (let wrong = e in cc)
-rest_kept S first begun_as lines given world behind replies (Some rest) p all e =
+abbrev pub KeptOn : (ℕ → List ℕ → Type 0) → List Record → World → World → Type 0
+KeptOn sends first begun_as world = (top : ℕ) × Kept (script sends top) first begun_as world
+
+rest_kept : (sends : ℕ → List ℕ → Type 0) (first : List Record) (begun_as : World) (lines : List Line) (given : WorldReply) (world behind : World) (replies : List WorldReply) (o : Option (List WorldReply × World)) → play world lines ≡ o
+    → ((replies : List WorldReply) (behind : World) → play world lines ≡ Some (replies, behind) → KeptOn sends first begun_as behind) → onto_replies given o ≡ Some (replies, behind) → KeptOn sends first begun_as behind
+rest_kept sends first begun_as lines given world behind replies None p all e = absurd (let wrong = e in cc)
+rest_kept sends first begun_as lines given world behind replies (Some rest) p all e =
     let pair : (given ∷ rest.0, rest.1) ≡ (replies, behind) = (let i = e in cc) in
-    subst (λ (w : World). Kept S first begun_as w) (ap (λ (t : List WorldReply × World). t.1) pair) (all rest.0 rest.1 p)
+    subst (λ (w : World). KeptOn sends first begun_as w) (ap (λ (t : List WorldReply × World). t.1) pair) (all rest.0 rest.1 p)
 
-line_kept : (S : List ℕ → Type 0) (first : List Record) (begun_as : World) (world behind : World) (lines : List Line) (replies : List WorldReply) (o : Option (WorldReply × World)) → ((given : WorldReply) (between : World) → o ≡ Some (given, between) → Kept S first begun_as between)
-    → ((given : WorldReply) (world : World) → Kept S first begun_as world → (replies : List WorldReply) (behind : World) → play world lines ≡ Some (replies, behind) → Kept S first begun_as behind)
-    → option_and_then (λ t. onto_replies t.0 (play t.1 lines)) o ≡ Some (replies, behind) → Kept S first begun_as behind
-line_kept S first begun_as world behind lines replies None g all e = absurd (let wrong = e in cc)
-line_kept S first begun_as world behind lines replies (Some t) g all e =
-    rest_kept S first begun_as lines t.0 t.1 behind replies (play t.1 lines) refl (all t.0 t.1 (g t.0 t.1 refl)) e
+line_kept : (sends : ℕ → List ℕ → Type 0) (top : ℕ) (first : List Record) (begun_as : World) (world behind : World) (lines : List Line) (replies : List WorldReply) (o : Option (WorldReply × World)) → ((given : WorldReply) (between : World) → o ≡ Some (given, between) → Kept (script sends top) first begun_as between)
+    → ((given : WorldReply) (world : World) → Kept (script sends top) first begun_as world → (replies : List WorldReply) (behind : World) → play world lines ≡ Some (replies, behind) → KeptOn sends first begun_as behind)
+    → option_and_then (λ t. onto_replies t.0 (play t.1 lines)) o ≡ Some (replies, behind) → KeptOn sends first begun_as behind
+line_kept sends top first begun_as world behind lines replies None g all e = absurd (let wrong = e in cc)
+line_kept sends top first begun_as world behind lines replies (Some t) g all e =
+    rest_kept sends first begun_as lines t.0 t.1 behind replies (play t.1 lines) refl (all t.0 t.1 (g t.0 t.1 refl)) e
 
-play_kept : (S : List ℕ → Type 0) (first : List Record) (begun_as : World) (world : World) (lines : List Line) (replies : List WorldReply) (behind : World) → AllSent S lines → Kept S first begun_as world → play world lines ≡ Some (replies, behind) → Kept S first begun_as behind
-play_kept S first begun_as world [] replies behind sent k e =
+play_kept : (sends : ℕ → List ℕ → Type 0) (top : ℕ) (first : List Record) (begun_as : World) (world : World) (lines : List Line) (replies : List WorldReply) (behind : World) → AllSent sends top lines → Kept (script sends top) first begun_as world → play world lines ≡ Some (replies, behind) → KeptOn sends first begun_as behind
+play_kept sends top first begun_as world [] replies behind sent k e =
     let pair : ([], world) ≡ (replies, behind) = (let i = e in cc) in
-    subst (λ (w : World). Kept S first begun_as w) (ap (λ (t : List WorldReply × World). t.1) pair) k
-play_kept S first begun_as world (line ∷ lines) replies behind sent k e =
-    line_kept S first begun_as world behind lines replies (turn world line)
-    (λ given between is. record { goes = turn_goes S first world line sent.0 k.goes given between is; hands = turn_hands S first world line k.goes k.hands given between is; same = (let s = turn_same world line given between is in (s.0 ∙ k.same.0, s.1 ∙ k.same.1)) })
-    (λ given between kept more last p. play_kept S first begun_as between lines more last sent.1 kept p) e
+    subst (λ (w : World). KeptOn sends first begun_as w) (ap (λ (t : List WorldReply × World). t.1) pair) (top, k)
+play_kept sends top first begun_as world (line ∷ lines) replies behind sent k e =
+    line_kept sends (top + 1) first begun_as world behind lines replies (turn world line)
+    (λ given between is. record {
+      goes = turn_goes sends top first world line sent.0 k.goes given between is;
+      hands = turn_hands (script sends top) first world line k.goes k.hands given between is;
+      same = (let s = turn_same world line given between is in (s.0 ∙ k.same.0, s.1 ∙ k.same.1));
+    })
+    (λ given between kept more last p. play_kept sends (top + 1) first begun_as between lines more last sent.1 kept p) e
 
 -- at the start version 0 is kept, and nothing else is in hand
 pub started_hands : (first : List Record) (keep window : ℕ) → Hands (started first keep window)
@@ -360,6 +367,7 @@ started_hands first keep window =
     first_exact zero = refl
     first_exact (suc i) = let none = other_equal 0 (suc i) (λ e. absurd (omega (arith, e))) in omega (arith, none)
 
-pub played_kept : (first : List Record) (keep window : ℕ) (lines : List Line) (replies : List WorldReply) (world : World) → play (started first keep window) lines ≡ Some (replies, world) → Kept (IsSent lines) first (started first keep window) world
+pub played_kept : (first : List Record) (keep window : ℕ) (lines : List Line) (replies : List WorldReply) (world : World) → play (started first keep window) lines ≡ Some (replies, world) → KeptOn (IsSentAt lines) first (started first keep window) world
 played_kept first keep window lines replies world e =
-    play_kept (IsSent lines) first (started first keep window) (started first keep window) lines replies world (all_sent lines lines (λ place line at. (place, at))) (record { goes = start_goes (IsSent lines) first keep window; hands = started_hands first keep window; same = (refl, refl) }) e
+    play_kept (IsSentAt lines) 0 first (started first keep window) (started first keep window) lines replies world (all_sent lines)
+    (record { goes = start_goes (script (IsSentAt lines) 0) first keep window; hands = started_hands first keep window; same = (refl, refl) }) e

@@ -6,8 +6,8 @@ use Rattle.std.proofs.lemmas.Slice.Eq.{bytes_eq-Decides}
 use Rattle.cell_core.proofs.CountLemmas.{one_if}
 use Rattle.cell_core.specs.declared.words.Owner.{Owner}
 use Rattle.world_run.specs.declared.phase.Progress.TheVariants.{On}
-use Rattle.world_run.specs.declared.play.Named.{Named}
-use Rattle.world_run.specs.declared.play.UnderWay.{UnderWay}
+use Rattle.world_run.specs.declared.names.Named.{Named}
+use Rattle.world_run.specs.declared.calls.UnderWay.{UnderWay}
 use Rattle.world_run.specs.Phases.{reserves, updates}
 use Rattle.world_run.specs.World.{call_of, without_call, oldest_kept}
 use Rattle.world_run.proofs.CallReplays.{any_update, AtMostOne}

@@ -17,8 +17,8 @@ use Rattle.world_run.specs.declared.phase.Phase.TheVariants as phase
 use Rattle.world_run.specs.declared.phase.Progress.{Progress}
 use Rattle.world_run.specs.declared.phase.Progress.TheVariants.{On, Done}
 use Rattle.world_run.specs.declared.phase.End.TheVariants.{Told}
-use Rattle.world_run.specs.declared.play.Named.{Named}
-use Rattle.world_run.specs.declared.play.UnderWay.{UnderWay}
+use Rattle.world_run.specs.declared.names.Named.{Named}
+use Rattle.world_run.specs.declared.calls.UnderWay.{UnderWay}
 use Rattle.world_run.specs.declared.step.Answer.TheVariants as answer
 use Rattle.zone_tree.specs.Version.{Version as Numbered}
 use Rattle.world_run.specs.declared.phase.Purpose.{Purpose}

@@ -1,5 +1,5 @@
 -- The versions that names have, and that are kept, by what is in hand.
-use Rattle.std.proofs.Common.{◌≡◌, refl, sym, ap, ◌∙◌, subst, ℕ, ◌+◌, ◌-◌, ◌⊎◌, false, inl, inr, List, [], ◌∷◌, ◌++◌, length, drop, arith, Some}
+use Rattle.std.proofs.Common.{◌≡◌, refl, sym, ap, ◌∙◌, subst, ℕ, ◌+◌, ◌-◌, ◌<◌, ◌≤◌, ◌⊎◌, false, inl, inr, List, [], ◌∷◌, ◌++◌, length, drop, arith, Some}
 use Rattle.std.specs.Prelude.{◌==◌, bytes_eq}
 use Rattle.std.specs.List.{slice_get, flat_map}
 use Rattle.std.specs.Option.{option_and_then, option_to_list}
@@ -9,7 +9,9 @@ use Rattle.std.proofs.lemmas.List.{drop_all}
 use Rattle.cell_core.proofs.CountLemmas.{one_if}
 use Rattle.cell_core.proofs.SeatLemmas.{get_within}
 use Rattle.cell_core.proofs.ShowsLemmas.{last_lies, latest_slot, number_there, latest_number}
-use Rattle.cell_core.proofs.UserLemmas.{owner_finds, owner_is_given, rest_buried, rest_free}
+use Rattle.cell_core.proofs.RestLemmas.{rest_buried, rest_free}
+use Rattle.cell_core.proofs.UserLemmas.{owner_finds, owner_is_given}
+use Rattle.std.proofs.Math.Nat.{min_comm, sub-add-min_cancel}
 use Rattle.cell_core.specs.Cell.{Cell}
 use Rattle.cell_core.specs.Shows.{Shows, IsLive, SlotIs, AtRest}
 use Rattle.cell_core.specs.Words.{found_by, slot_of, number_in}
@@ -18,18 +20,18 @@ use Rattle.cell_core.specs.declared.words.Owner.TheVariants.{Holding, Burying, F
 use Rattle.dns_rdata.specs.Record.{Record}
 use Rattle.transfer_core.proofs.VersionLemmas.{drop_here}
 use Rattle.zone_tree.specs.Version.{Version as Numbered}
-use Rattle.world_run.specs.declared.play.Named.{Named}
+use Rattle.world_run.specs.declared.names.Named.{Named}
 use Rattle.world_run.specs.declared.step.WorldReply.{WorldReply}
 use Rattle.world_run.specs.declared.step.WorldStep.{WorldStep as Line}
 use Rattle.world_run.specs.Held.{HoldsVersion, HoldVersions, IsAtRest}
-use Rattle.world_run.specs.Replays.{IsSent}
+use Rattle.world_run.specs.Replays.{IsSentAt}
 use Rattle.world_run.specs.World.{World, started, owner_of, kept_versions, play}
-use Rattle.world_run.proofs.CallReplays.{any_update}
+use Rattle.world_run.proofs.CallReplays.{script, any_update}
 use Rattle.world_run.proofs.HandEnds.{no_swaps}
 use Rattle.world_run.proofs.HandLemmas.{HandIs, AllFit, times, lives}
-use Rattle.world_run.proofs.HandLemmas.Hand.{holds, has}
+use Rattle.world_run.proofs.HandLemmas.Hand.{holds}
 use Rattle.world_run.proofs.HandPlay.{Kept, played_kept}
-use Rattle.world_run.proofs.HandSteps.{Zones, seat}
+use Rattle.world_run.proofs.HandSteps.{Zones}
 use Rattle.world_run.proofs.HandTurns.{times_four, fits_four}
 use Rattle.world_run.proofs.HandWorld.{name_seats, kept_seats, kept_left, call_seats, any_publishes, Hands}
 use Rattle.world_run.proofs.ReplayLemmas.{goes_replayed}
@@ -94,9 +96,9 @@ kept_is world cell h none s =
     let same = same_length world.words h.cell cell h.shows s in
     kept_are world.words cell h.from world.kept s fits (omega (arith, h.kept_count, h.swapped, swaps, h.counted, same))
 
-held_by_kept : (first : List Record) (lines : List Line) (begun_as world : World) → Kept (IsSent lines) first begun_as world → HoldVersions first lines world
-held_by_kept first lines begun_as world k =
-    let r = goes_replayed first lines world k.goes in
+held_by_kept : (first : List Record) (lines : List Line) (top : ℕ) (begun_as world : World) → Kept (script (IsSentAt lines) top) first begun_as world → HoldVersions first lines world
+held_by_kept first lines top begun_as world k =
+    let r = goes_replayed first lines top world k.goes in
     record {
       replayed = r;
       names = λ name owner e. name_has world r.reached.cell name owner k.hands r.reached.shows e;
@@ -110,47 +112,60 @@ held_by_kept first lines begun_as world k =
 
 -- whatever lines were played, versions are held
 pub played_held : (first : List Record) (keep window : ℕ) (lines : List Line) (replies : List WorldReply) (world : World) → play (started first keep window) lines ≡ Some (replies, world) → HoldVersions first lines world
-played_held first keep window lines replies world e = held_by_kept first lines (started first keep window) world (played_kept first keep window lines replies world e)
+played_held first keep window lines replies world e = (let k = played_kept first keep window lines replies world e in held_by_kept first lines k.0 (started first keep window) world k.1)
 
--- an owner that isn't spent is the last version's, where nobody else has one in hand
-only_owner : (owners : List Owner) (last o owner : ℕ) (how : Owner) → HandIs owners o (has last) → ((i : ℕ) → times i (seat o (has last) ∷ []) ≡ lives (slice_get owners i)) → slice_get owners owner ≡ Some how → lives (Some how) ≡ 1 → (place : ℕ) × (how ≡ Holding last place)
-only_owner owners last o owner how fits exact at one =
-    let count = exact owner in
-    let is : lives (slice_get owners owner) ≡ 1 = ap lives at ∙ one in
-    elim (eqb_tells o owner) [
-      | inl same ↦ (
-          let there : slice_get owners owner ≡ Some (Holding last fits.0) = ap (slice_get owners) (sym same.1) ∙ fits.1 in
-          (fits.0, (let e : Some how ≡ Some (Holding last fits.0) = sym at ∙ there in cc))
+-- what is kept has a number from that of the oldest on
+kept_has : (owners : List Owner) (from : ℕ) (kept : List ℕ) (i : ℕ) → AllFit owners (kept_seats from kept) → 0 < times i (kept_seats from kept) → (number : ℕ) × (place : ℕ) × (from ≤ number) × (slice_get owners i ≡ Some (Holding number place))
+kept_has owners from [] i fits some = absurd (omega (arith, some))
+kept_has owners from (o ∷ os) i fits some =
+    elim (eqb_tells o i) [
+      | inl same ↦ (from, fits.0.0, omega arith, ap (slice_get owners) (sym same.1) ∙ fits.0.1)
+      | inr other ↦ (
+          let none : one_if (o == i) ≡ 0 = rw other.0 refl in
+          let more = kept_has owners (from + 1) os i fits.1 (omega (arith, some, none)) in
+          (more.0, more.1, omega (arith, more.2), more.3)
           )
-      | inr other ↦ (let none : one_if (o == owner) ≡ 0 = rw other.0 refl in absurd (omega (arith, count, is, none)))
     ]
 
-spent_or_last : (owners : List Owner) (last o owner : ℕ) (how : Owner) → HandIs owners o (has last) → ((i : ℕ) → times i (seat o (has last) ∷ []) ≡ lives (slice_get owners i)) → slice_get owners owner ≡ Some how → (how ≡ Spent) ⊎ ((place : ℕ) × (how ≡ Holding last place))
-spent_or_last owners last o owner (Holding number place) fits exact at = inr (only_owner owners last o owner (Holding number place) fits exact at refl)
-spent_or_last owners last o owner (Burying place) fits exact at = inr (only_owner owners last o owner (Burying place) fits exact at refl)
-spent_or_last owners last o owner (Freeing place) fits exact at = inr (only_owner owners last o owner (Freeing place) fits exact at refl)
-spent_or_last owners last o owner Spent fits exact at = inl refl
+-- and each of these numbers has an owner
+kept_owns : (owners : List Owner) (from : ℕ) (kept : List ℕ) (number : ℕ) → AllFit owners (kept_seats from kept) → from ≤ number → number < from + length kept → (owner : ℕ) × (place : ℕ) × (slice_get owners owner ≡ Some (Holding number place))
+kept_owns owners from [] number fits within less = absurd (omega (arith, within, less))
+kept_owns owners from (o ∷ os) number fits within less =
+    elim (eqb_tells from number) [
+      | inl same ↦ (o, fits.0.0, fits.0.1 ∙ ap (λ n. Some (Holding n fits.0.0)) same.1)
+      | inr other ↦ kept_owns owners (from + 1) os number fits.1 (omega (arith, within, other.1)) (omega (arith, less))
+    ]
 
--- the one version that is kept is the last
-one_kept : (owners : List Owner) (from last : ℕ) (kept : List ℕ) → from + length kept ≡ last + 1 → from ≡ last → AllFit owners (kept_seats from kept) → ((i : ℕ) → times i (kept_seats from kept) ≡ lives (slice_get owners i))
-    → (owner : ℕ) (how : Owner) → slice_get owners owner ≡ Some how → (how ≡ Spent) ⊎ ((place : ℕ) × (how ≡ Holding last place))
-one_kept owners from last [] count is fits exact owner how at = absurd (omega (arith, count, is))
-one_kept owners from last (o ∷ []) count is fits exact owner how at =
-    let e : kept_seats from (o ∷ []) ≡ seat o (has last) ∷ [] = ap (λ n. seat o (has n) ∷ []) is in
-    spent_or_last owners last o owner how (subst (λ ss. AllFit owners ss) e fits).0 (λ i. ap (times i) (sym e) ∙ exact i) at
-one_kept owners from last (o ∷ other ∷ more) count is fits exact owner how at = absurd (omega (arith, count, is))
+-- an owner that isn't spent is among those of the versions that are kept, where nobody else has one in hand
+kept_one : (owners : List Owner) (from : ℕ) (kept : List ℕ) (owner : ℕ) (how : Owner) → AllFit owners (kept_seats from kept) → ((i : ℕ) → times i (kept_seats from kept) ≡ lives (slice_get owners i)) → slice_get owners owner ≡ Some how → lives (Some how) ≡ 1
+    → (number : ℕ) × (place : ℕ) × (from ≤ number) × (how ≡ Holding number place)
+kept_one owners from kept owner how fits exact at one =
+    let count = exact owner in
+    let is : lives (slice_get owners owner) ≡ 1 = ap lives at ∙ one in
+    let has = kept_has owners from kept owner fits (omega (arith, count, is)) in
+    (has.0, has.1, has.2, (let e : Some how ≡ Some (Holding has.0 has.1) = sym at ∙ has.3 in cc))
 
-rests_so : (world : World) (h : Hands world) → world.keep ≡ 0 → world.names ≡ [] → world.calls ≡ [] → (last : ℕ) → length h.cell.published ≡ last + 1 → AtRest world.words last
-rests_so world h none_kept no_names no_calls last count =
+spent_or_kept : (owners : List Owner) (from : ℕ) (kept : List ℕ) (owner : ℕ) (how : Owner) → AllFit owners (kept_seats from kept) → ((i : ℕ) → times i (kept_seats from kept) ≡ lives (slice_get owners i)) → slice_get owners owner ≡ Some how
+    → (how ≡ Spent) ⊎ ((number : ℕ) × (place : ℕ) × (from ≤ number) × (how ≡ Holding number place))
+spent_or_kept owners from kept owner (Holding number place) fits exact at = inr (kept_one owners from kept owner (Holding number place) fits exact at refl)
+spent_or_kept owners from kept owner (Burying place) fits exact at = inr (kept_one owners from kept owner (Burying place) fits exact at refl)
+spent_or_kept owners from kept owner (Freeing place) fits exact at = inr (kept_one owners from kept owner (Freeing place) fits exact at refl)
+spent_or_kept owners from kept owner Spent fits exact at = inl refl
+
+-- the versions that are kept have the last number and those before it
+rests_so : (world : World) (h : Hands world) → world.names ≡ [] → world.calls ≡ [] → (last : ℕ) → length h.cell.published ≡ last + 1 → AtRest world.words (last - world.keep) last
+rests_so world h no_names no_calls last count =
     let no_update : any_update world.calls ≡ false = ap any_update no_calls in
     let no_publisher : any_publishes world.calls ≡ false = ap any_publishes no_calls in
     let swaps = no_swaps world.calls no_update in
     let same : h.last ≡ last = omega (arith, count, h.counted) in
-    let from_is : h.from ≡ last = omega (arith, h.kept_from, h.swapped, swaps, same, none_kept) in
-    record {
+    let from_is : h.from ≡ last - world.keep = omega (arith, h.kept_from, h.swapped, swaps, same) in
+    let fits = rw no_update at (parts_of world h).1 in
+    subst (λ from. AtRest world.words from last) from_is
+    (record {
       publisher = h.publisher refl no_publisher;
-      owners = one_kept world.words.owners h.from last world.kept (omega (arith, h.kept_count, h.swapped, swaps, same)) from_is
-          (rw no_update at (parts_of world h).1)
+      within = omega (arith, from_is);
+      owners = λ owner how at. spent_or_kept world.words.owners h.from world.kept owner how fits
           (λ i. (
           let all = h.seated.exact i in
           let four = times_four i [] (name_seats world.names) (kept_left h.from world.keep world.kept (any_update world.calls)) (call_seats h.last h.from world.calls) in
@@ -158,18 +173,23 @@ rests_so world h none_kept no_names no_calls last count =
           let calls : times i (call_seats h.last h.from world.calls) ≡ 0 = ap (λ cs. times i (call_seats h.last h.from cs)) no_calls in
           let kept : times i (kept_left h.from world.keep world.kept (any_update world.calls)) ≡ times i (kept_seats h.from world.kept) = ap (λ b. times i (kept_left h.from world.keep world.kept b)) no_update in
           omega (arith, all, four, names, calls, kept)
-          ));
-    }
+          )) at;
+      owned = λ number within less. kept_owns world.words.owners h.from world.kept number fits within (omega (arith, less, h.kept_count, h.swapped, swaps, same));
+    })
 
--- when no call is under way and no name is in use, where the last version alone is kept, all others are buried
-pub played_rests : (first : List Record) (window : ℕ) (lines : List Line) (replies : List WorldReply) (world : World) → play (started first 0 window) lines ≡ Some (replies, world) → world.names ≡ [] → world.calls ≡ [] → IsAtRest first lines world
-played_rests first window lines replies world e no_names no_calls =
-    let k = played_kept first 0 window lines replies world e in
-    let r = goes_replayed first lines world k.goes in
+-- when no call is under way and no name is in use, exactly the versions before those that are kept are buried
+pub played_rests : (first : List Record) (keep window : ℕ) (lines : List Line) (replies : List WorldReply) (world : World) → play (started first keep window) lines ≡ Some (replies, world) → world.names ≡ [] → world.calls ≡ [] → IsAtRest first keep lines world
+played_rests first keep window lines replies world e no_names no_calls =
+    let all = played_kept first keep window lines replies world e in
+    let k = all.1 in
+    let r = goes_replayed first lines all.0 world k.goes in
     let same = same_length world.words k.hands.cell r.reached.cell k.hands.shows r.reached.shows in
-    let rest = rests_so world k.hands k.same.0 no_names no_calls (length r.updates) (omega (arith, same, r.replays.counted)) in
+    let rest = subst (λ n. AtRest world.words (length r.updates - n) (length r.updates)) k.same.0 (rests_so world k.hands no_names no_calls (length r.updates) (omega (arith, same, r.replays.counted))) in
+    let free = rest_free world.words r.reached.cell (length r.updates - keep) (length r.updates) r.reached.shows r.replays.counted rest in
+    let kept = sub-add-min_cancel (length r.updates) keep in
+    let either = min_comm keep (length r.updates) in
     record {
       replayed = r;
-      buried = λ number less. rest_buried world.words r.reached.cell (length r.updates) r.reached.shows r.replays.counted rest number less;
-      free = rest_free world.words r.reached.cell (length r.updates) r.reached.shows r.replays.counted rest;
+      buried = rest_buried world.words r.reached.cell (length r.updates - keep) (length r.updates) r.reached.shows r.replays.counted rest;
+      free = omega (arith, free, kept, either);
     }

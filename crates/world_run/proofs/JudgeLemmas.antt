@@ -103,8 +103,9 @@ told_next version made update passed does apart next known =
     sym (let_through version made.zone update passed does ∙ made_so ∙ ap (λ m. Some (Makes update.head m)) (sym (same_version version.zone (version.number + 1) made next known)))
 
 -- what makes a version
-pub record MadeBy (last : Numbered) (request : List ℕ) (version : Numbered) : Type 0 where
+pub record MadeBy (last : Numbered) (request : List ℕ) (head : Head) (version : Numbered) : Type 0 where
   pub update : DynamicUpdate
+  pub headed : update.head ≡ head
   pub read : reads request ≡ parsed.Update update
   pub passed : verdict last.zone update true ≡ None
   pub made : act last.zone update ≡ Some version.zone
@@ -117,24 +118,30 @@ version_of other None = other
 version_of other (Some (Told head code)) = other
 version_of other (Some (Makes head version)) = version
 
+abbrev head_in : Head → Option Judged → Head
+head_in other None = other
+head_in other (Some (Told head code)) = head
+head_in other (Some (Makes head version)) = head
+
 passed_by : (zone : List Record) (update : DynamicUpdate) (v : Option Rcode) (rest : Option Rcode) → option_or v rest ≡ None → v ≡ None
 passed_by zone update None rest e = refl
 passed_by zone update (Some code) rest e = absurd (let wrong = e in cc)
 
 makes_if : (last : Numbered) (zone : List Record) (head other : Head) (version : Numbered) (test : Bool) → is_equal_zone last.zone zone ≡ test
     → (if test then Some (Told head NoError) else Some (Makes head (record { number = last.number + 1; zone = zone; changes = Some (changes_between last.zone zone) }))) ≡ Some (Makes other version)
-    → (record { number = last.number + 1; zone = zone; changes = Some (changes_between last.zone zone) } ≡ version) × (zone ≢ last.zone)
+    → (record { number = last.number + 1; zone = zone; changes = Some (changes_between last.zone zone) } ≡ version) × (zone ≢ last.zone) × (head ≡ other)
 makes_if last zone head other version true t e = absurd (let wrong = e in cc)
 makes_if last zone head other version false t e =
-    (ap (version_of version) e, λ same. let yes = (zones_told last.zone zone).1 (sym same) in absurd (let wrong : true ≡ false = sym yes ∙ t in cc))
+    (ap (version_of version) e, (λ same. let yes = (zones_told last.zone zone).1 (sym same) in absurd (let wrong : true ≡ false = sym yes ∙ t in cc)), ap (head_in other) e)
 
 makes_made : (last : Numbered) (request : List ℕ) (update : DynamicUpdate) (head : Head) (version : Numbered) (o : Option (List Record)) → act last.zone update ≡ o → reads request ≡ parsed.Update update → verdict last.zone update true ≡ None
-    → made_of last update.head o ≡ Some (Makes head version) → MadeBy last request version
+    → made_of last update.head o ≡ Some (Makes head version) → MadeBy last request head version
 makes_made last request update head version None is read passed e = absurd (let wrong = e in cc)
 makes_made last request update head version (Some zone) is read passed e =
     let m = makes_if last zone update.head head version (is_equal_zone last.zone zone) refl e in
     record {
       update = update;
+      headed = m.2;
       read = read;
       passed = passed;
       made = is ∙ ap (λ (v : Numbered). Some v.zone) m.0;
@@ -143,7 +150,7 @@ makes_made last request update head version (Some zone) is read passed e =
       knows = subst (λ (v : Numbered). KnowsChanges last.zone v) m.0 (record { old_soa = refl; deletions = refl; additions = refl });
     }
 
-makes_by : (last : Numbered) (request : List ℕ) (update : DynamicUpdate) (head : Head) (version : Numbered) (code : Option Rcode) → code_of last.zone update true ≡ code → reads request ≡ parsed.Update update → judged_by last update code ≡ Some (Makes head version) → MadeBy last request version
+makes_by : (last : Numbered) (request : List ℕ) (update : DynamicUpdate) (head : Head) (version : Numbered) (code : Option Rcode) → code_of last.zone update true ≡ code → reads request ≡ parsed.Update update → judged_by last update code ≡ Some (Makes head version) → MadeBy last request head version
 makes_by last request update head version (Some code) is read e = absurd (let wrong = e in cc)
 makes_by last request update head version None is read e =
     makes_made last request update head version (act last.zone update) refl read (passed_by last.zone update (verdict last.zone update true) _ is) e
@@ -152,17 +159,17 @@ makes_fault : (head other : Head) (code : Rcode) (version : Numbered) (test : Bo
 makes_fault head other code version true e = let wrong = e in cc
 makes_fault head other code version false e = let wrong = e in cc
 
-makes_said : (last : Numbered) (request : List ℕ) (head : Head) (version : Numbered) (said : Parsed) → reads request ≡ said → judged_said last said ≡ Some (Makes head version) → MadeBy last request version
+makes_said : (last : Numbered) (request : List ℕ) (head : Head) (version : Numbered) (said : Parsed) → reads request ≡ said → judged_said last said ≡ Some (Makes head version) → MadeBy last request head version
 makes_said last request head version parsed.Silent read e = absurd (let wrong = e in cc)
 makes_said last request head version (parsed.Fault other code) read e = absurd (makes_fault other head code version (other.opcode == opcode_UPDATE) e)
 makes_said last request head version (parsed.Query query) read e = absurd (let wrong = e in cc)
 makes_said last request head version (parsed.Update update) read e = makes_by last request update head version (code_of last.zone update true) refl read e
 makes_said last request head version (parsed.NoMemory other) read e = absurd (let wrong = e in cc)
 
-makes_numbered : (last : Numbered) (request : List ℕ) (head : Head) (version : Numbered) (test : Bool) → (if test then judged_said last (reads request) else None) ≡ Some (Makes head version) → MadeBy last request version
+makes_numbered : (last : Numbered) (request : List ℕ) (head : Head) (version : Numbered) (test : Bool) → (if test then judged_said last (reads request) else None) ≡ Some (Makes head version) → MadeBy last request head version
 makes_numbered last request head version true e = makes_said last request head version (reads request) refl e
 makes_numbered last request head version false e = absurd (let wrong = e in cc)
 
 -- a version is made by an update that was read, that no rule refuses, and that changes the zone
-pub made_by : (last : Numbered) (request : List ℕ) (head : Head) (version : Numbered) → judged last request ≡ Some (Makes head version) → MadeBy last request version
+pub made_by : (last : Numbered) (request : List ℕ) (head : Head) (version : Numbered) → judged last request ≡ Some (Makes head version) → MadeBy last request head version
 made_by last request head version e = makes_numbered last request head version (nat_lt (last.number + 1) (2 ^ 64)) e

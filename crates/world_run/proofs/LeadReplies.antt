@@ -1,11 +1,12 @@
 -- What a question for what changed gets, and what that leads to.
-use Rattle.std.proofs.Common.{◌≡◌, refl, sym, ap, ◌∙◌, subst, ℕ, ◌+◌, ◌-◌, ◌<◌, ◌⊎◌, Bool, true, false, inl, inr, List, [], ◌∷◌, ◌++◌, length, map, take, drop, arith, Option, Some, None, length-append}
+use Rattle.std.proofs.Common.{◌≡◌, refl, sym, ap, ◌∙◌, subst, ℕ, zero, suc, ◌+◌, ◌-◌, ◌<◌, ◌⊎◌, Bool, true, false, inl, inr, List, [], ◌∷◌, ◌++◌, length, map, take, drop, arith, Option, Some, None, length-append}
 use Rattle.std.specs.Prelude.{◌==◌, ◌&&◌, ◌||◌, not, is_some, unwrap_or, if◌then◌else◌, Ok}
 use Rattle.std.specs.List.{slice_get}
-use Rattle.std.specs.Option.{option_and_then}
-use Rattle.std.proofs.lemmas.List.{map-append, length-map, append_assoc, take-append-drop, length-take-le}
-use Rattle.std.proofs.lemmas.Option.{slice_get_within}
+use Rattle.std.specs.Option.{option_and_then, option_map}
+use Rattle.std.proofs.lemmas.List.{map-append, length-map, length-drop, append_assoc, take-append-drop, length-take-le}
+use Rattle.std.proofs.lemmas.Option.{slice_get_within, slice_get-map}
 use Rattle.cell_core.proofs.LawLemmas.{run_grows}
+use Rattle.cell_core.proofs.SeatLemmas.{get_within}
 use Rattle.cell_core.specs.Cell.{start as cell_start}
 use Rattle.cell_core.specs.Words.{found_by}
 use Rattle.dns_message.specs.Message.{Message}
@@ -21,6 +22,7 @@ use Rattle.dns_rdata.specs.SerialOrder.{serial_less}
 use Rattle.serve_core.specs.declared.peer.Peer.{Peer}
 use Rattle.serve_core.specs.declared.transport.Transport.TheVariants.{Tcp}
 use Rattle.serve_core.specs.Reply.{asks_transfer}
+use Rattle.serve_core.specs.Transport.{is_stream}
 use Rattle.serve_core.specs.Transfers.{peer_over, is_unfit, is_permitted, is_current, list_for, messages_to}
 use Rattle.transfer_core.proofs.FullLemmas.{full_taken}
 use Rattle.transfer_core.proofs.PackedLemmas.{all_records}
@@ -80,9 +82,16 @@ told_so first lines world held version serial s none =
     ap (λ vs. changes_told world.window vs version (Some serial)) kept
     ∙ told_is world.window world.keep published version serial s.at (λ j v there. (r.replays.versions j v there).0) (λ n. are_kept (IsSent lines) first published more.0 r.updates more.1 r.replays n)
 
+-- what stands among the first so many
+take_get : {X : Type 0} (n k : ℕ) (xs : List X) (x : X) → k < n → slice_get xs k ≡ Some x → slice_get (take n xs) k ≡ Some x
+take_get zero k xs x l e = absurd (omega (arith, l))
+take_get (suc n) k [] x l e = absurd (let wrong = e in cc)
+take_get (suc n) zero (y ∷ xs) x l e = e
+take_get (suc n) (suc k) (y ∷ xs) x l e = take_get n k xs x (omega (arith, l)) e
+
 -- what is told leads from the replay of the serial
 leads_so : (first : Zone) (lines : List Line) (world : World) (held : HoldVersions first lines world) (version : Numbered) (serial : Serial) (name : Name) (list : List Record) → IsZone first → AreOctets lines → Served first lines world held version
-    → told_since world.keep world.window held.replayed.reached.cell.published version.number serial.0 ≡ Some list → LeadFrom first held.replayed.updates version serial.0 (map as_sent (map (spelt name) list))
+    → told_since world.keep world.window held.replayed.reached.cell.published version.number serial.0 ≡ Some list → LeadFrom first held.replayed.updates world.window version serial.0 (map as_sent (map (spelt name) list))
 leads_so first lines world held version serial name list is octets s told =
     let r = held.replayed in
     let published = r.reached.cell.published in
@@ -102,9 +111,18 @@ leads_so first lines world held version serial name list is octets s told =
     let there : slice_get (zones_of published) asker ≡ Some l.zone = ap (λ z. slice_get z asker) all ∙ at_front l.front l.zone (l.behind ++ zones_of (drop n published)) in
     let v = zone_of_at (IsSent lines) first published r.updates r.replays octets is published asker l.zone there in
     let zone : l.zone ≡ zone_at first r.updates asker = sym v.2 ∙ (r.replays.versions asker v.0 v.1).1 in
+    let newer_n : length (zones_of (drop n published)) ≡ length (drop n published) = length-map (drop n published) (λ (v : Numbered). v.zone) in
+    let drop_n = length-drop n published in
+    let counted = r.replays.counted in
+    let near = l.near in
     record {
       asker = asker;
       older = older;
+      within = omega (arith, taken_n, zones_n, parts_n, sum_n, newer_n, drop_n, counted, near, within);
+      newest = λ k later upto same.
+          (let v = get_within published k (omega (arith, upto, within)) in
+          let here : slice_get (zones_of (take n published)) k ≡ Some v.0.zone = slice_get-map (λ (w : Numbered). w.zone) (take n published) k ∙ ap (option_map (λ (w : Numbered). w.zone)) (take_get n k published v.0 (omega (arith, upto)) v.1) in
+          l.newest_is k v.0.zone later here (ap zone_serial (r.replays.versions k v.0 v.1).1 ∙ same));
       serial_is = ap zone_serial (sym zone) ∙ l.serial_is;
       taken = ap (λ z. taken_by z (map as_sent (map (spelt name) list))) (sym zone) ∙ (taken_spelt l.zone name list ∙ (l.taken ∙ ap Ok (newest_take published version.number version [] s.at)));
     }
@@ -163,7 +181,7 @@ tells_serial zone peer query is permitted =
     let two = both ((a && b) && not c) d one.0 in
     let three = both (a && b) (not c) two.0 in
     let fit = not_true c three.1 in
-    let parts = neither (q.rtype.0 == type_AXFR && not peer.stream) (q.rtype.0 == type_IXFR && not (is_some query.serial)) fit in
+    let parts = neither (q.rtype.0 == type_AXFR && not (is_stream peer.transport)) (q.rtype.0 == type_IXFR && not (is_some query.serial)) fit in
     let ixfr : (q.rtype.0 == type_IXFR) ≡ true = ap (λ t. t == type_IXFR) is in
     let none : not (is_some query.serial) ≡ false = ap (λ x. x && not (is_some query.serial)) (sym ixfr) ∙ parts.1 in
     some_by query.serial none
@@ -183,23 +201,32 @@ records_so query list = ap (map as_sent) (all_records query.head (Some query.que
 abbrev Leads : (first : Zone) (lines : List Line) (world : World) → HoldVersions first lines world → Numbered → Serial → QueryAsked → List Message → Type 0
 Leads first lines world held version serial query messages =
     ((serial_less serial.0 (zone_serial version.zone) ≡ false) × (records_of messages ≡ map as_sent (map (spelt query.question.name) (soa_of version.zone))))
-    ⊎ (LeadFrom first held.replayed.updates version serial.0 (records_of messages)
-    ⊎ ((told_since world.keep world.window held.replayed.reached.cell.published version.number serial.0 ≡ None) × LeadFromAny first held.replayed.updates version (records_of messages)))
+    ⊎ (((list : List Record) × (told_since world.keep world.window held.replayed.reached.cell.published version.number serial.0 ≡ Some list)
+    × (records_of messages ≡ map as_sent (map (spelt query.question.name) list)) × LeadFrom first held.replayed.updates world.window version serial.0 (records_of messages))
+    ⊎ ((told_since world.keep world.window held.replayed.reached.cell.published version.number serial.0 ≡ None)
+    × (records_of messages ≡ map as_sent (map (spelt query.question.name) (full version.zone))) × LeadFromAny first held.replayed.updates version (records_of messages)))
 
 leads_by : (first : Zone) (lines : List Line) (world : World) (held : HoldVersions first lines world) (version : Numbered) (serial : Serial) (query : QueryAsked) (less : Bool) (told : Option (List Record)) → IsZone first → AreOctets lines → Served first lines world held version
     → serial_less serial.0 (zone_serial version.zone) ≡ less → told_since world.keep world.window held.replayed.reached.cell.published version.number serial.0 ≡ told
     → Leads first lines world held version serial query (packed query.head query.question (if not less then soa_of version.zone else unwrap_or told (full version.zone)))
 leads_by first lines world held version serial query false told is octets s e f = inl (e, records_so query (soa_of version.zone))
 leads_by first lines world held version serial query true None is octets s e f =
-    inr (inr (f, λ asker within. ap (taken_by (zone_at first held.replayed.updates asker)) (records_so query (full version.zone)) ∙ whole_so first lines world held version query.question.name is octets s asker within))
+    inr (inr (f, records_so query (full version.zone), λ asker within. ap (taken_by (zone_at first held.replayed.updates asker)) (records_so query (full version.zone)) ∙ whole_so first lines world held version query.question.name is octets s asker within))
 leads_by first lines world held version serial query true (Some list) is octets s e f =
     let l = leads_so first lines world held version serial query.question.name list is octets s f in
-    inr (inl (record {
-      asker = l.asker;
-      older = l.older;
-      serial_is = l.serial_is;
-      taken = ap (taken_by (zone_at first held.replayed.updates l.asker)) (records_so query list) ∙ l.taken;
-    }))
+    inr (inl (
+      list,
+      f,
+      records_so query list,
+      record {
+        asker = l.asker;
+        older = l.older;
+        within = l.within;
+        newest = l.newest;
+        serial_is = l.serial_is;
+        taken = ap (taken_by (zone_at first held.replayed.updates l.asker)) (records_so query list) ∙ l.taken;
+      },
+    ))
 
 asked_answers : (first : Zone) (lines : List Line) (world : World) (held : HoldVersions first lines world) (name : List ℕ) (version : Numbered) (query : QueryAsked) (octets : List (List ℕ)) → IsZone first → AreOctets lines → version_of name world ≡ Some version → query.question.rtype.0 ≡ type_IXFR
     → transfer_asked world version query ≡ Answers (Messages octets) → AnswerIxfr first lines world name query octets

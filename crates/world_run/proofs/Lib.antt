@@ -10,10 +10,12 @@ pub mod HandSteps
 pub mod HandTurns
 pub mod HandWorld
 pub mod HeldLemmas
+pub mod InTurnLemmas
 pub mod JudgeLemmas
 pub mod KeptLemmas
 pub mod LeadLemmas
 pub mod LeadReplies
+pub mod LineLemmas
 pub mod PlayLemmas
 pub mod ReplayLemmas
 pub mod RunLemmas

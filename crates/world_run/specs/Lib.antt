@@ -1,6 +1,8 @@
 pub mod Held
+pub mod InTurn
 pub mod Judgements
 pub mod Leads
+pub mod Lines
 pub mod Numbered
 pub mod Phases
 pub mod Replays

@@ -33,8 +33,8 @@ use Rattle.world_run.specs.declared.phase.End.{End}
 use Rattle.world_run.specs.declared.phase.End.TheVariants.{Owned, Told, NoSlot, Kept}
 use Rattle.world_run.specs.declared.phase.Progress.{Progress}
 use Rattle.world_run.specs.declared.phase.Progress.TheVariants.{On, Done}
-use Rattle.world_run.specs.declared.play.Named.{Named}
-use Rattle.world_run.specs.declared.play.UnderWay.{UnderWay}
+use Rattle.world_run.specs.declared.names.Named.{Named}
+use Rattle.world_run.specs.declared.calls.UnderWay.{UnderWay}
 use Rattle.world_run.specs.declared.start.Start.{Start}
 use Rattle.world_run.specs.declared.start.Start.TheVariants.{Refused, Answers, Takes}
 use Rattle.world_run.specs.declared.step.Answer.{Answer}
@@ -151,7 +151,7 @@ changes_among window kept count version serial =
     option_map (told (soa_of version.zone)) (kept_since window (drop count kept) serial.0 (take count kept))
 
 -- what changed up to a version that is served, as the versions tell that are kept, since the one of the serial that an asker holds:
--- none where that isn't in the window, or a version behind it isn't kept (RFC 1995, 4 and 5; own)
+-- none where that isn't in the window, or a version after it isn't kept (RFC 1995, 4 and 5; own)
 abbrev pub changes_told : ℕ → List Numbered → Numbered → Option Serial → Option (List Record)
 changes_told window kept version None = None
 changes_told window kept version (Some serial) =

@@ -8,7 +8,7 @@ use crate::fault::WorldFault;
 use dns_rdata::Serial;
 use std::alloc::Global;
 use std::marker::Model;
-use transfer_core::{KeptChain, VersionList, chain_since};
+use transfer_core::{KeptChain, Reach, VersionList, chain_since};
 use zone_tree::Version;
 
 /// Versions that are kept, the oldest first. Contracts see the list of them.
@@ -82,7 +82,7 @@ impl<'a> VersionList for KeptVersions<'a> {
     }
 }
 
-/// The versions behind the one of the serial that an asker holds, up to a served one, of those that are kept; not whole where the
+/// The versions after the one of the serial that an asker holds, up to a served one, of those that are kept; not whole where the
 /// asker tells no serial, where its own isn't in a window of so many, or where one of them isn't kept (RFC 1995, 4 and 5; own).
 pub(crate) fn chain_to<'b, 'a>(
     kept: &'b KeptVersions<'a>,
@@ -93,8 +93,9 @@ pub(crate) fn chain_to<'b, 'a>(
     ensures { told_changes result.whole (soa_of version.now.zone) (⟦<KeptChain<'b, KeptVersions<'a>> as VersionList>⟧.versions result)
         ≡ changes_told window kept.now version.now held }
 {
-    match held {
-        None => chain_since(kept, 0, window, Serial(0)),
-        Some(serial) => chain_since(kept, kept.count_up_to(version.number()), window, serial),
-    }
+    let reach = Reach {
+        upto: kept.count_up_to(version.number()),
+        window,
+    };
+    chain_since(kept, reach, held)
 }

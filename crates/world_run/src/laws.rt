@@ -23,11 +23,14 @@ ghost use Rattle.zone_tree.specs.Zone.{IsZone};
 ghost use Rattle.serve_core.specs.Served.{got};
 ghost use Rattle.serve_core.specs.declared.transport.Transport.TheVariants.{Udp};
 ghost use Rattle.world_run.specs.Held.{HoldVersions, IsGone, IsAtRest, tells_buried};
+ghost use Rattle.world_run.specs.InTurn.{AreToldInTurn};
 ghost use Rattle.world_run.specs.Leads.{AreOctets, AnswerIxfr};
+ghost use Rattle.world_run.specs.Lines.{TakesOneStep};
 ghost use Rattle.world_run.specs.Replays.{IsReplayed, IsAnsweredInReplay};
 ghost use Rattle.world_run.specs.Runs.{Run, IsShownBy, IsAnsweredAtLoaded, ShowsReached};
 ghost use Rattle.world_run.specs.World.{World, started, turn, play, replies_of, zone_of, start, ask_said, code_reply, answer_at};
 ghost use Rattle.world_run.specs.declared.start.Start.TheVariants.{Answers};
+ghost use Rattle.world_run.specs.declared.step.Call.{Call};
 ghost use Rattle.world_run.specs.declared.step.Call.TheVariants.{Load, Drop, Ask, Transfer, Update};
 ghost use Rattle.world_run.specs.declared.step.Answer.TheVariants.{Owner, Left, Buried, Messages};
 ghost use Rattle.world_run.specs.declared.step.StepName.TheVariants as StepName;
@@ -62,6 +65,13 @@ pub fn versions_are_replays()
         → play (started first keep window) lines ≡ Some (replies, world) → IsReplayed first lines world }
     ensures answered { (first : List Record) (keep window : ℕ) (lines : List WorldStep) (replies : List WorldReply) (world : World) (name : List ℕ) (zone : List Record)
         → play (started first keep window) lines ≡ Some (replies, world) → zone_of name world ≡ Some zone → IsAnsweredInReplay first lines world name zone }
+{}
+
+/// Whatever lines were played, each update that made a version is told NOERROR at its end, or it is under way still; and each line is of the
+/// call of one of these updates, or leaves the versions that are published as they were (RFC 2136, 3; own).
+pub fn updates_are_told_in_turn()
+    ensures { (first : List Record) (keep window : ℕ) (lines : List WorldStep) (replies : List WorldReply) (world : World)
+        → play (started first keep window) lines ≡ Some (replies, world) → AreToldInTurn first keep window lines replies world }
 {}
 
 /// An update that is told a code at once, or makes a version, gets that code, or NOERROR and the version's zone, in the version that
@@ -105,11 +115,11 @@ pub fn versions_are_held()
         → play (started first keep window) lines ≡ Some (replies, world) → HoldVersions first lines world }
 {}
 
-/// When no call is under way and no name is in use, where the last version alone is kept, each version before it is buried, and 63
-/// slots are free.
-pub fn versions_before_the_last_are_buried()
-    ensures { (first : List Record) (window : ℕ) (lines : List WorldStep) (replies : List WorldReply) (world : World)
-        → play (started first 0 window) lines ≡ Some (replies, world) → world.names ≡ [] → world.calls ≡ [] → IsAtRest first lines world }
+/// When no call is under way and no name is in use, exactly the versions before those that are kept are buried, and all slots are free but
+/// that of the last version and one for each other that is kept.
+pub fn versions_before_the_kept_are_buried()
+    ensures { (first : List Record) (keep window : ℕ) (lines : List WorldStep) (replies : List WorldReply) (world : World)
+        → play (started first keep window) lines ≡ Some (replies, world) → world.names ≡ [] → world.calls ≡ [] → IsAtRest first keep lines world }
 {}
 
 /// Whatever lines were played from a zone on, an IXFR that is answered gets the SOA alone where its serial isn't less than that of
@@ -129,4 +139,11 @@ pub fn burials_are_told_once()
         → play (started first keep window) lines ≡ Some (replies, world) → length (filter (tells_buried number) replies) ≤ 1 }
     ensures gone { (first : List Record) (keep window : ℕ) (lines : List WorldStep) (replies : List WorldReply) (world : World) (number : ℕ)
         → play (started first keep window) lines ≡ Some (replies, world) → 0 < length (filter (tells_buried number) replies) → IsGone world number }
+{}
+
+/// A line that goes on with a call takes one step on a word, and tells it, or it isn't enabled and changes nothing; one that begins a
+/// call takes none.
+pub fn lines_take_one_step()
+    ensures next { (world after : World) (name : List ℕ) (reply : WorldReply) → turn world (Next name) ≡ Some (reply, after) → TakesOneStep world reply after }
+    ensures begin { (world after : World) (name : List ℕ) (call : Call) (reply : WorldReply) → turn world (Begin name call) ≡ Some (reply, after) → after.words ≡ world.words }
 {}

@@ -1,9 +1,26 @@
 //! How a call begins.
-ghost use Rattle.std.specs.Prelude.{◌≡◌};
-ghost use Rattle.world_run.specs.World.{answering};
+ghost use Rattle.std.specs.Prelude.{◌≡◌, ◌||◌, Some, IfOk, IfErr};
+ghost use Rattle.std.specs.Option.{option_copied, option_and_then};
+ghost use Rattle.cell_core.specs.Words.{found_last};
+ghost use Rattle.world_run.specs.Judgements.{judged as says_judged};
+ghost use Rattle.world_run.specs.World.{answering, ask_start, drop_start, is_taken as says_taken, owner_of, start as says_start, transfer_start, update_start, version_of, zone_of};
+ghost use Rattle.world_run.specs.declared.judged.Judged.TheVariants.{Makes};
+ghost use Rattle.world_run.specs.declared.step.Call.TheVariants.{Load};
 
-use crate::phase::Phase;
-use crate::step::Answer;
+use crate::asked::{answer_in, reply_with};
+use crate::calls::{is_reserved, is_updating};
+use crate::fault::WorldFault;
+use crate::judged::{Judged, judge};
+use crate::kept_owners::{is_held, oldest_of};
+use crate::lent::{Handle, Request};
+use crate::names::{is_in_use, owner_under};
+use crate::phase::{Keeping, Phase, Purpose};
+use crate::play::Play;
+use crate::published::Published;
+use crate::step::{Answer, Call};
+use dns_message::Head;
+use std::alloc::Global;
+use zone_tree::Version;
 
 /// How a call begins.
 #[derive(Drop)]
@@ -25,5 +42,116 @@ impl<'a> Start<'a> {
             None => Start::Refused,
             Some(answer) => Start::Answers(answer),
         }
+    }
+}
+
+impl<'a> Play<'a> {
+    /// How a call begins.
+    pub(crate) fn start(&self, alloc: Global, call: &Call<'a>) -> Result<Start<'a>, WorldFault>
+        ensures ok { IfOk result (λ how. how ≡ says_start self.now call.now) }
+        ensures refused { IfErr result (λ fault. fault ≡ WorldFault.NoMemory) }
+    {
+        match call {
+            Call::Load(name) => Ok(self.load(name)),
+            Call::Drop(name) => Ok(self.release(name)),
+            Call::Ask(name, request) => self.ask(alloc, name, request),
+            Call::Transfer(name, request) => self.ask_transfer(alloc, name, request),
+            Call::Update(_) if is_updating(&self.calls) => Ok(Start::Refused),
+            Call::Update(request) => self.update(alloc, request),
+        }
+    }
+
+    /// How a load begins.
+    fn load(&self, name: &Handle<'a>) -> Start<'a>
+        ensures { result ≡ says_start self.now (Load name.now) }
+    {
+        if self.is_taken(name) {
+            return Start::Refused;
+        }
+        Start::Takes(Phase::Load(name.copy()))
+    }
+
+    /// How a drop begins.
+    fn release(&self, name: &Handle<'_>) -> Start<'a>
+        ensures { result ≡ drop_start (owner_of name.now self.now.names) }
+    {
+        match owner_under(&self.names, name) {
+            None => Start::Refused,
+            Some(owner) => Start::Takes(Phase::Release(owner, Purpose::Drop)),
+        }
+    }
+
+    /// How a request begins that is asked in the version of a name.
+    fn ask(
+        &self,
+        alloc: Global,
+        name: &Handle<'_>,
+        request: &Request<'_>,
+    ) -> Result<Start<'a>, WorldFault>
+        ensures ok { IfOk result (λ how. how ≡ ask_start (zone_of name.now self.now) request.now) }
+        ensures refused { IfErr result (λ fault. fault ≡ WorldFault.NoMemory) }
+    {
+        match self.version_under(name) {
+            None => Ok(Start::Refused),
+            Some(version) => Ok(Start::answering(answer_in(alloc, version, request)?)),
+        }
+    }
+
+    /// How a question for a transfer of the version of a name begins.
+    fn ask_transfer(
+        &self,
+        alloc: Global,
+        name: &Handle<'_>,
+        request: &Request<'_>,
+    ) -> Result<Start<'a>, WorldFault>
+        ensures ok { IfOk result (λ how. how ≡ transfer_start self.now (version_of name.now self.now) request.now) }
+        ensures refused { IfErr result (λ fault. fault ≡ WorldFault.NoMemory) }
+    {
+        match self.version_under(name) {
+            None => Ok(Start::Refused),
+            Some(version) => Ok(Start::answering(self.transfer(alloc, version, request)?)),
+        }
+    }
+
+    /// How an update begins where none is under way.
+    fn update(&self, alloc: Global, request: &Request<'_>) -> Result<Start<'a>, WorldFault>
+        ensures ok { IfOk result (λ how. how ≡ update_start self.now (option_and_then (λ last. says_judged last request.now) (found_last self.now.words))) }
+        ensures refused { IfErr result (λ fault. fault ≡ WorldFault.NoMemory) }
+    {
+        let Some(last) = self.machine.last() else {
+            return Ok(Start::Refused);
+        };
+        match judge(alloc, last, request)? {
+            None => Ok(Start::Refused),
+            Some(Judged::Told(head, code)) => Ok(Start::Answers(reply_with(alloc, head, code)?)),
+            Some(Judged::Makes(head, version)) => Ok(self.publication(head, version)),
+        }
+    }
+
+    /// How an update begins that makes a version.
+    fn publication(&self, head: Head, version: Published) -> Start<'a>
+        ensures { result ≡ update_start self.now (Some (Makes head version)) }
+    {
+        let oldest = oldest_of(self.keep, &self.kept);
+        if !self.machine.has_shares() || !is_held(&self.machine, oldest) {
+            return Start::Refused;
+        }
+        Start::Takes(Phase::Probe(version, Keeping { head, oldest }))
+    }
+
+    /// Whether a name is in use, or a call under way is to put it into use.
+    fn is_taken(&self, name: &Handle<'_>) -> bool
+        ensures { result ≡ says_taken name.now self.now }
+    {
+        is_in_use(&self.names, name) || is_reserved(&self.calls, name)
+    }
+
+    /// The version that a name's owner has; none where the name isn't in use.
+    fn version_under(&self, name: &Handle<'_>) -> Option<&Version>
+        ensures { option_copied result ≡ version_of name.now self.now }
+    {
+        let owner = owner_under(&self.names, name)?;
+        let published = self.machine.value(owner)?;
+        Some(published.version())
     }
 }

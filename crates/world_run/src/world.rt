@@ -5,26 +5,26 @@ ghost use Rattle.world_run.specs.World.{World, replies_of, turn};
 ghost use Rattle.world_run.specs.declared.step.WorldReply.{WorldReply as Reply};
 
 use crate::fault::WorldFault;
+use crate::options::Options;
 use crate::play::Play;
 use crate::step::{WorldReply, WorldStep};
 use std::alloc::Global;
 use zone_tree::Zone;
 
 /// Plays the lines in turn, from a world in which one version is published, and gives a reply for each. The last version is kept,
-/// and `keep` versions before it. Changes are sent from the versions of a window of at most `window` (RFC 1995, 5).
+/// and so many older ones as the options say, of whose window changes are sent (RFC 1995, 5).
 ///
 /// `NoMemory` where a growth was refused, `Limit` where a line begins a call and 64 are under way.
 pub fn run<'a>(
     alloc: Global,
     zone: Zone,
-    keep: usize,
-    window: usize,
+    options: Options,
     lines: &[WorldStep<'a>],
 ) -> Result<Vec<WorldReply>, WorldFault>
-    ensures told { IfOk result (λ replies. replies_of zone keep window lines.now ≡ Some replies.items) }
-    ensures limit { IfErr result (λ fault. fault ≡ WorldFault.Limit → replies_of zone keep window lines.now ≡ None) }
+    ensures told { IfOk result (λ replies. replies_of zone options.keep options.window lines.now ≡ Some replies.items) }
+    ensures limit { IfErr result (λ fault. fault ≡ WorldFault.Limit → replies_of zone options.keep options.window lines.now ≡ None) }
 {
-    let mut play = Play::new(alloc, zone, keep, window)?;
+    let mut play = Play::new(alloc, zone, options)?;
     let mut replies = Vec::new(alloc);
     for line in lines {
         play_line(alloc, &mut play, line, &mut replies)?;

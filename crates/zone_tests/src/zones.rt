@@ -50,7 +50,7 @@ fn refuses(rt: HostRuntime) -> Result<(), &'static str> {
     Ok(())
 }
 
-/// The version behind another, whose zone is the same; None where memory is refused.
+/// The version after another, whose zone is the same; None where memory is refused.
 fn version_behind(alloc: Global, version: &Version) -> Option<Version> {
     if version.number() > 9 {
         return None;

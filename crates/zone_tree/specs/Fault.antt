@@ -1,6 +1,7 @@
 -- Which rule sets break that are no zone.
 use Rattle.std.specs.Prelude.{◌≡◌, ℕ, ◌<◌, true, not, ◌&&◌, ◌==◌, List, [], length}
 use Rattle.std.specs.List.{AllPairs, list_any}
+use Rattle.zone_tree.specs.Limits.{max_records}
 use Rattle.dns_name.specs.Name.{is_under}
 use Rattle.dns_rdata.specs.Numbers.{type_NS}
 use Rattle.dns_rdata.specs.Record.{Record}
@@ -13,7 +14,7 @@ use Rattle.zone_tree.specs.Sets.{records_in, IsSetBefore}
 
 -- the sets' records break the rule that the fault names
 abbrev pub IsFault : BrokenRule → List (List Record) → Type 0
-IsFault TooManyRecords sets = 1000000 < length (records_in sets)
+IsFault TooManyRecords sets = max_records < length (records_in sets)
 IsFault NotAscending sets = AllPairs IsSetBefore sets → ⊥
 IsFault NoSoa sets = soa_of (records_in sets) ≡ []
 IsFault SecondSoa sets = 1 < length (soa_of (records_in sets))

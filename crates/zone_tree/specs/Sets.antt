@@ -3,6 +3,7 @@ use Rattle.std.specs.Prelude.{◌≡◌, ℕ, ◌<◌, ◌≤◌, true, false, �
 use Rattle.std.specs.List.{AllPairs, flat_map, slice_index_or}
 use Rattle.std.specs.Ordering.{nat_cmp, ordering_then, is_lt}
 use Rattle.std.specs.declared.cmp.Ordering.{Ordering}
+use Rattle.dns_rdata.specs.Limits.{max_data, max_set}
 use Rattle.dns_name.specs.Name.{Name, is_same, is_under, canonical_cmp}
 use Rattle.dns_rdata.specs.Numbers.{type_NS}
 use Rattle.dns_rdata.specs.Record.{Record, IsLawful, owner_of, rtype_of, ttl_of}
@@ -30,10 +31,10 @@ pub record IsOf (set : List Record) (r : Record) : Type 0 where
 -- at most 4,096 octets of data (RFC 2181, 5 and 5.2; RFC 4034, 6.3; own)
 pub record IsRRset (set : List Record) : Type 0 where
   pub some : 0 < length set
-  pub few : length set ≤ 256
+  pub few : length set ≤ max_set
   pub shared : All (IsOf set) set
   pub lawful : All IsLawful set
-  pub short : All (λ r. length r.rdata ≤ 4096) set
+  pub short : All (λ r. length r.rdata ≤ max_data) set
   pub ascending : AllPairs IsBefore set
 
 -- sets in strictly ascending order

@@ -3,6 +3,8 @@
 use Rattle.std.specs.Prelude.{◌≡◌, ◌≢◌, ℕ, ◌≤◌, Bool, true, false, ◌&&◌, ◌||◌, not, ◌==◌, List, [], ◌∷◌, length, filter, All, AllPairs, bytes_eq}
 use Rattle.std.specs.List.{list_any}
 use Rattle.std.specs.Ordering.{is_lt}
+use Rattle.dns_rdata.specs.Limits.{max_data, max_set}
+use Rattle.zone_tree.specs.Limits.{max_records}
 use Rattle.dns_name.specs.Name.{Name, is_same, is_under, asterisk}
 use Rattle.dns_rdata.specs.Numbers.{type_NS, type_CNAME, type_SOA}
 use Rattle.dns_rdata.specs.Record.{Record, IsLawful, record_cmp, owner_of}
@@ -67,9 +69,9 @@ pub record KeepsRules (zone : List Record) : Type 0 where
 
 -- the limits that a zone is within: 1,000,000 records, 256 records a set, 4,096 octets of data a record (own)
 pub record KeepsLimits (zone : List Record) : Type 0 where
-  pub few : length zone ≤ 1000000
-  pub small_sets : All (λ r. length (rrset_of zone r.owner r.rtype) ≤ 256) zone
-  pub short : All (λ r. length r.rdata ≤ 4096) zone
+  pub few : length zone ≤ max_records
+  pub small_sets : All (λ r. length (rrset_of zone r.owner r.rtype) ≤ max_set) zone
+  pub short : All (λ r. length r.rdata ≤ max_data) zone
 
 -- a zone: records that keep the rules, within the limits
 pub record IsZone (zone : List Record) : Type 0 where

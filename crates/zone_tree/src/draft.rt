@@ -75,7 +75,7 @@ fn with_set(
 }
 
 /// The draft that a change makes of another, and how many nodes were made: at most four for each level of the tree and
-/// one more.
+/// four more.
 pub(crate) fn with_change(
     alloc: Global,
     draft: &Draft,

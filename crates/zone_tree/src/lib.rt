@@ -33,6 +33,6 @@ pub use laws::{
 pub use parts::{Apex, find_apex, has_conflict};
 pub use read::ZoneRead;
 pub use rules::has_asterisk;
-pub use version::Version;
+pub use version::{Version, serial_in};
 pub use walk::Walk;
 pub use zone::{MAX_RECORDS, Zone, edit};

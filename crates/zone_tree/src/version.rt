@@ -46,7 +46,7 @@ impl Version {
         }
     }
 
-    /// The version behind this one, with what it changed of this one's zone.
+    /// The version after this one, with what it changed of this one's zone.
     pub fn next(&self, zone: Zone, delta: Delta) -> Version
         requires number { self.now.number + 1 < 2 ^ 64 }
         requires changes { AreChanges delta self.now.zone zone }
@@ -98,8 +98,8 @@ impl Zone {
     }
 }
 
-/// The serial of an SOA's set.
-fn serial_in(soa: &RRset) -> Serial
+/// The serial of an SOA's set (RFC 1035, 3.3.13).
+pub fn serial_in(soa: &RRset) -> Serial
     requires typed { rtype_of soa.now ≡ type_SOA }
     requires one { length soa.now ≡ 1 }
     ensures { result.0 ≡ serial_of (first_data soa.now) }

@@ -2,6 +2,7 @@
 ghost use Rattle.std.specs.Prelude.{◌≡◌, ◌<◌, ◌≤◌, List, length, Err, IfOk, OnOk, OnErr};
 ghost use Rattle.std.specs.Result.{IsErrOf};
 ghost use Rattle.std.specs.Option.{option_copied, option_map};
+ghost use Rattle.zone_tree.specs.Limits.{max_records};
 ghost use Rattle.dns_name.specs.Name.{canonical_cmp};
 ghost use Rattle.dns_rdata.specs.Record.{Record};
 ghost use Rattle.shared_tree.specs.Pairs.{first_pair, pair_after, value_at};
@@ -114,8 +115,8 @@ impl ZoneRead for Zone {
 
 /// That a zone may have so many records.
 fn check_limit(count: usize) -> Result<(), ZoneFault>
-    ensures few { OnOk result (count ≤ 1000000) }
-    ensures limit { OnErr result ((result ≡ Err ZoneFault.Limit) × (1000000 < count)) }
+    ensures few { OnOk result (count ≤ max_records) }
+    ensures limit { OnErr result ((result ≡ Err ZoneFault.Limit) × (max_records < count)) }
 {
     if count > MAX_RECORDS {
         return Err(ZoneFault::Limit);
@@ -164,7 +165,7 @@ fn owner_behind<'a>(owners: &'a Owners, name: &SoughtName) -> Option<&'a Owned>
 pub fn edit(alloc: Global, zone: &Zone, changes: &[Change]) -> Result<Zone, ZoneFault>
     requires { KeepsRules (edited zone.now changes.now) }
     ensures edited { IfOk result (λ new. (new ≡ edited zone.now changes.now) × IsZone new) }
-    ensures limit { IsErrOf result ZoneFault.Limit → 1000000 < length (edited zone.now changes.now) }
+    ensures limit { IsErrOf result ZoneFault.Limit → max_records < length (edited zone.now changes.now) }
 {
     let draft = Draft {
         owners: zone.owners.share()?,

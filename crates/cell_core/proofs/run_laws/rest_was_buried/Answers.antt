@@ -1,15 +1,16 @@
 -- What is buried was told.
 use Rattle.std.proofs.Common.{ap, ◌∙◌, length}
-use Rattle.cell_core.proofs.UserLemmas.{rest_buried, rest_free}
+use Rattle.cell_core.proofs.RestLemmas.{rest_buried, rest_free}
 use Rattle.cell_core.proofs.RunLawLemmas.{from_first, shown_cell}
 use Rattle.cell_core.proofs.run_laws.rest_was_buried.Goals as goal
 
 pub returns-clause-buried : goal.returns-clause-buried
-returns-clause-buried g c first after run last r is at number l =
+returns-clause-buried g c first after run from last r is at number =
     let told = from_first first after run r in
-    shown_cell first after run r number (rest_buried after told.next last told.shows (ap length told.published ∙ is) at number l)
+    let rest = rest_buried after told.next from last told.shows (ap length told.published ∙ is) at number in
+    (λ b. rest.0 (told.buries number b), λ l. shown_cell first after run r number (rest.1 l))
 
 pub returns-clause-free : goal.returns-clause-free
-returns-clause-free g c first after run last r is at =
+returns-clause-free g c first after run from last r is at =
     let told = from_first first after run r in
-    rest_free after told.next last told.shows (ap length told.published ∙ is) at
+    rest_free after told.next from last told.shows (ap length told.published ∙ is) at

@@ -1,5 +1,5 @@
--- Each slot is free or has the last number.
-use Rattle.cell_core.proofs.UserLemmas.{rest_buried, rest_free}
+-- Each slot is free or has a number that is owned, or the last.
+use Rattle.cell_core.proofs.RestLemmas.{rest_buried, rest_free}
 use Rattle.cell_core.proofs.word_laws.rest_is_buried_and_free.Goals as goal
 
 pub returns-clause-buried : goal.returns-clause-buried

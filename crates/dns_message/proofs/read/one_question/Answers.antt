@@ -8,18 +8,18 @@ returns-then-count_at-ne1 c = sym (seen_none _ _ c.count_at.ensures c.if-count_a
 pub returns-in_err-question : goal.returns-in_err-question
 returns-in_err-question c =
     c.from_residual.ensures
-    ∙ sym (seen_question _ _ _ c.count_at.ensures c.if-count_at-ne1.false c.question_at.ensures ∙ ap (behind_question c.args.bytes.now) c.in_err-question.was)
+    ∙ sym (seen_question _ _ _ c.count_at.ensures c.if-count_at-ne1.false c.question_at.ensures ∙ ap (behind_question c.args.octets.now) c.in_err-question.was)
 
 pub returns-in_err-at : goal.returns-in_err-at
 returns-in_err-at c =
     let answer = seen_answer _ _ _ _ _ _ _ c.count_at.ensures c.if-count_at-ne1.false c.question_at.ensures c.in_ok-question.was c.count_at-2.ensures c.records_at.ensures in
-    c.from_residual-in_err-at.ensures ∙ sym (answer ∙ ap (behind_answer c.args.bytes.now c.in_ok-question.question) c.in_err-at.was)
+    c.from_residual-in_err-at.ensures ∙ sym (answer ∙ ap (behind_answer c.args.octets.now c.in_ok-question.question) c.in_err-at.was)
 
 pub returns-in_err-serial : goal.returns-in_err-serial
 returns-in_err-serial c =
     let answer = seen_answer _ _ _ _ _ _ _ c.count_at.ensures c.if-count_at-ne1.false c.question_at.ensures c.in_ok-question.was c.count_at-2.ensures c.records_at.ensures in
     let authority = seen_authority _ _ _ _ _ _ _ answer c.in_ok-at.was c.count_at-3.ensures c.authority_at.ensures in
-    c.from_residual-in_err-serial.ensures ∙ sym (authority ∙ ap (behind_authority c.args.bytes.now c.in_ok-question.question) c.in_err-serial.was)
+    c.from_residual-in_err-serial.ensures ∙ sym (authority ∙ ap (behind_authority c.args.octets.now c.in_ok-question.question) c.in_err-serial.was)
 
 pub returns-in_err-opt : goal.returns-in_err-opt
 returns-in_err-opt c =

@@ -9,4 +9,4 @@ weaker (Err e) f h = f h
 -- a growth was refused, so that there are records
 pub returns-in-Some-clause-some : goal.returns-in-Some-clause-some
 returns-in-Some-clause-some c =
-    weaker c.all_received.result (answer_some c.args.bytes.now c.in-Some.at c.count_at.result c.in-Some.ensures c.count_at.ensures) c.all_received.ensures.some
+    weaker c.all_received.result (answer_some c.args.octets.now c.in-Some.at c.count_at.result c.in-Some.ensures c.count_at.ensures) c.all_received.ensures.some

@@ -8,7 +8,7 @@ use Rattle.dns_message.proofs.sent.expanded.Goals as goal
 pub returns-in_default : goal.returns-in_default
 returns-in_default c =
     let rtype : c.entry.inside.rtype.0 ≡ c.args.entry.now.rtype = ap (λ (e : Entry). e.rtype) c.entry.view_is in
-    let is = data_of_none c.args.bytes.now c.args.entry.now (c.in_default.ensures ∙ ap layout_of rtype) in
+    let is = data_of_none c.args.octets.now c.args.entry.now (c.in_default.ensures ∙ ap layout_of rtype) in
     let P : Option (List ℕ) → Type 0 = λ own. IfOk c.as_it_stands.result (λ found. option_map (λ v. v.items) found ≡ own) in
     subst P (sym is) c.as_it_stands.ensures
 
@@ -21,7 +21,7 @@ pub returns-in-Fields : goal.returns-in-Fields
 returns-in-Fields c =
     let rtype : c.entry.inside.rtype.0 ≡ c.args.entry.now.rtype = ap (λ (e : Entry). e.rtype) c.entry.view_is in
     let lies = ap (λ (layout : Layout). Some layout) (sym c.in-Fields.is) ∙ (c.in-Some.ensures ∙ ap layout_of rtype) in
-    let is = data_of_fields c.args.bytes.now c.args.entry.now c.in-Fields.front c.in-Fields.names c.in-Fields.back c.in-Fields.compressed lies in
+    let is = data_of_fields c.args.octets.now c.args.entry.now c.in-Fields.front c.in-Fields.names c.in-Fields.back c.in-Fields.compressed lies in
     let P : Option (List ℕ) → Type 0 = λ own. IfOk c.expanded_fields.result (λ found. option_map (λ v. v.items) found ≡ own) in
     subst P (sym is) c.expanded_fields.ensures
 
@@ -29,6 +29,6 @@ pub returns-in-Strings : goal.returns-in-Strings
 returns-in-Strings c =
     let rtype : c.entry.inside.rtype.0 ≡ c.args.entry.now.rtype = ap (λ (e : Entry). e.rtype) c.entry.view_is in
     let lies = ap (λ (layout : Layout). Some layout) (sym c.in-Strings.is) ∙ (c.in-Some.ensures ∙ ap layout_of rtype) in
-    let is = data_of_strings c.args.bytes.now c.args.entry.now lies in
+    let is = data_of_strings c.args.octets.now c.args.entry.now lies in
     let P : Option (List ℕ) → Type 0 = λ own. IfOk c.as_it_stands-in-Strings.result (λ found. option_map (λ v. v.items) found ≡ own) in
     subst P (sym is) c.as_it_stands-in-Strings.ensures

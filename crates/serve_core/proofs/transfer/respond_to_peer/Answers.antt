@@ -16,4 +16,4 @@ returns-then-ne-clause-octets g c =
       | then-ne-via-else-ne+then-not-asks_transfer w ↦
           of_no_transfer zone c.args.peer query (let isnt = w.if-ne.false in cc) (let asks = w.asks_transfer.ensures in let none = w.if-not-asks_transfer.true in cc)
     ] in
-    rw same (rw c.transport.ensures at c.respond_to_query.ensures.octets)
+    rw same c.respond_to_query.ensures.octets

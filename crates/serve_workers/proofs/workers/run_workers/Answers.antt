@@ -1,8 +1,9 @@
--- A worker may be sent to its thread.
+-- A worker may be sent to its thread, and the jobs come back with their numbers.
 use denote.Exit.{no}
 use denote.Param.{param}
 use denote.Param.Send.{param_send, arg_send, sendable}
 use Rattle.serve_workers.proofs.SendLemmas.{worker_send}
+use Rattle.serve_workers.proofs.EachLemmas.{numbers_along}
 use Rattle.serve_workers.proofs.workers.run_workers.Goals as goal
 
 pub do_all-started-requires-send-W : goal.do_all-started-requires-send-W
@@ -11,3 +12,6 @@ do_all-started-requires-send-W g c κs within =
     (arg_send _ no _
     (worker_send _ _ (param 1 g.row.Z) (param 2 g.row.J) (param 3 g.row.G) (param 4 g.row.L) g.Z.FirstZone
     (search (c.type_bounds.send-J, sendable)) (search (c.type_bounds.sync-G, sendable)) (search (c.type_bounds.sync-L, sendable))))
+
+pub returns-then-started-clause-done : goal.returns-then-started-clause-done
+returns-then-started-clause-done g c = numbers_along _ _ _ _ _ _ c.put_pairs.ensures.pairs c.do_all-started.ensures.numbers c.put_workers.ensures.pairs

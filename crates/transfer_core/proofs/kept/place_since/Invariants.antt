@@ -7,6 +7,6 @@ use Rattle.transfer_core.proofs.kept.place_since.Given as goal
 abbrev pub invariant-loop-at : goal.invariant-loop-at
 invariant-loop-at g l =
     let all = g.K.VersionList.versions l.kept in
-    (option_or (kept_since l.window (drop l.upto all) l.serial.0 (drop l.at (take l.upto all))) (option_map (λ at. drop at (take l.upto all)) l.place)
-    ≡ kept_since l.window (drop l.upto all) l.serial.0 (take l.upto all))
-    × IfSome l.place (λ at. at < l.upto)
+    (option_or (kept_since l.reach.window (drop l.reach.upto all) l.serial.0 (drop l.at (take l.reach.upto all))) (option_map (λ at. drop at (take l.reach.upto all)) l.place)
+    ≡ kept_since l.reach.window (drop l.reach.upto all) l.serial.0 (take l.reach.upto all))
+    × IfSome l.place (λ at. at < l.reach.upto)

@@ -5,4 +5,4 @@ use Rattle.world_run.proofs.world.run.Given as goal
 
 -- the lines up to here are played
 abbrev pub invariant-loop-line : goal.invariant-loop-line
-invariant-loop-line l = play (started l.fn.zone l.fn.keep l.fn.window) l.lines ≡ behind l.replies.items (play l.play (drop l.line-index l.lines))
+invariant-loop-line l = play (started l.fn.zone l.fn.options.keep l.fn.options.window) l.lines ≡ behind l.replies.items (play l.play (drop l.line-index l.lines))

@@ -9,4 +9,4 @@ returns-clause-small c =
     let told : c.unwrap_or.result ≡ size_in c.self.inside.sizes c.args.key.now = search rules in
     let least : length (rrset_of c.self.inside.records.keys c.args.key.now.owner c.args.key.now.rtype) ≤ length c.self.inside.records.keys = no_more (is_of c.args.key.now.owner c.args.key.now.rtype) c.self.inside.records.keys in
     let sized = c.self.invariant c.args.key.now in
-    omega (arith, told, least, sized, c.len-count.ensures.len, c.len-count.ensures.small)
+    omega (arith, told, least, sized, c.learn_order.ensures.small)

@@ -1,0 +1,115 @@
+-- Requests and replies as lines of hexadecimal (own).
+use Rattle.std.specs.Prelude.{◌≡◌, ◌<◌, ℕ, Bool, true, false, List, [], ◌∷◌, ◌++◌, length, map, nat_le, Option, Some, None, Result, Ok, Err, if◌then◌else◌, codes}
+use Rattle.std.specs.Io.BufRead.{drop_through, first_piece}
+use Rattle.std.specs.Io.KnownBytes.{Appends}
+use Rattle.hex.specs.declared.error.FromHexError.{FromHexError}
+use Rattle.hex.specs.Hex.{decode_of, encode_lower}
+use Rattle.dns_rdata.specs.Record.{Record}
+use Rattle.dns_message.specs.declared.query.Parsed.{Parsed}
+use Rattle.dns_message.specs.declared.query.Parsed.TheVariants.{Query}
+use Rattle.dns_message.specs.declared.query.Query.{Query as QueryAsked}
+use Rattle.dns_message.specs.Request.{reads}
+use Rattle.line_io.specs.Lines.{MOST_OCTETS, spaced, input_lines, Begins, Writes}
+use Rattle.serve_core.specs.declared.peer.Peer.{Peer}
+use Rattle.serve_core.specs.declared.transport.Transport.{Transport}
+use Rattle.serve_core.specs.Served.{got, got_of}
+use Rattle.serve_core.specs.Transfers.{peer_over, is_permitted, messages_to}
+use Rattle.command_answer.specs.Versions.{Past, begun, followed_by, changes_for, Keeping, Holds}
+
+-- the request that a line of hexadecimal stands for; none where it is no hexadecimal of so many octets at most
+abbrev pub asked_by : Result (List ℕ) FromHexError → Option (List ℕ)
+asked_by (Err fault) = None
+asked_by (Ok request) = if nat_le (length request) MOST_OCTETS then Some request else None
+
+-- the request on a line
+unfoldable pub request_on : List ℕ → Option (List ℕ)
+request_on line = asked_by (decode_of line)
+
+-- how a reply is written: in lower case, `-` where there is none
+abbrev pub written : Option (List ℕ) → List ℕ
+written None = codes "-"
+written (Some octets) = encode_lower octets
+
+-- the query for a transfer that is sent which a request says; none where it says anything else (RFC 1995, 2; RFC 5936, 2.2.1)
+abbrev pub transfer_in : List Record → Peer → Parsed → Option QueryAsked
+transfer_in zone peer (Query query) = if is_permitted zone peer query then Some query else None
+transfer_in zone peer said = None
+
+unfoldable pub transfer_on : List Record → Peer → List ℕ → Option QueryAsked
+transfer_on zone peer request = transfer_in zone peer (reads request)
+
+-- how what a request gets is written: the messages of the transfer that it asks for, and else its reply
+abbrev pub written_for : Transport → Past → Option QueryAsked → Option (List ℕ) → List ℕ
+written_for transport past None reply = written reply
+written_for transport past (Some query) reply = spaced (messages_to past.newest (changes_for past query) (peer_over transport true) query)
+
+-- the line for a request in a zone that its peer may update and have sent, by the zone's versions, where memory is wanted or isn't: its
+-- reply, or the messages of a transfer; `!` for no request
+abbrev pub line_for : Transport → Bool → Past → Option (List ℕ) → List ℕ
+line_for transport starved past None = codes "!"
+line_for transport starved past (Some request) =
+    written_for transport past (transfer_on past.newest (peer_over transport true) request) (got transport true starved past.newest request).reply
+
+-- the versions after it
+abbrev pub past_behind : Transport → Bool → Past → Option (List ℕ) → Past
+past_behind transport starved past None = past
+past_behind transport starved past (Some request) = followed_by past (got transport true starved past.newest request).zone
+
+-- the first of some flags; where there is none it isn't set
+abbrev pub first_flag : List Bool → Bool
+first_flag [] = false
+first_flag (flag ∷ flags) = flag
+
+-- the flags behind the first
+abbrev pub later_flags : List Bool → List Bool
+later_flags [] = []
+later_flags (flag ∷ flags) = flags
+
+-- what is written for requests: a line for each, by the versions that those before it leave; a flag for each says where memory is
+-- wanted
+abbrev pub lines_for : Transport → List Bool → Past → List (Option (List ℕ)) → List ℕ
+lines_for transport starved past [] = []
+lines_for transport starved past (asked ∷ more) =
+    (line_for transport (first_flag starved) past asked ++ 10 ∷ []) ++ lines_for transport (later_flags starved) (past_behind transport (first_flag starved) past asked) more
+
+-- what is written for an input behind versions: a line for the request on each of its lines
+abbrev pub output_behind : Transport → List Bool → Past → List ℕ → List ℕ
+output_behind transport starved past input = lines_for transport starved past (map request_on (input_lines input))
+
+-- what is written for an input in a zone
+abbrev pub output_of : Transport → List Bool → List Record → List ℕ → List ℕ
+output_of transport starved zone input = output_behind transport starved (begun zone) input
+
+-- what is written for an input was written, wherever memory was wanted
+abbrev pub Answers : Transport → Past → List ℕ → Option (List ℕ) → Option (List ℕ) → Type 0
+Answers transport past input before after = (starved : List Bool) × Appends before after (output_behind transport starved past input)
+
+-- a beginning of it was written
+abbrev pub BeginsToAnswer : Transport → Past → List ℕ → Option (List ℕ) → Option (List ℕ) → Type 0
+BeginsToAnswer transport past input before after = (starved : List Bool) × Begins before after (output_behind transport starved past input)
+
+-- the reply to what a request says was written as a line, or at an error a beginning of it, and what is kept are the versions after it
+pub record WritesReply {T E : Type 0} (result : Result T E) (transport : Transport) (said : Parsed) (past : Past) (kept : Keeping) (before after : Option (List ℕ)) : Type 0 where
+  pub starved : Bool
+  pub line : Writes result before after (written (got_of transport true starved past.newest said).reply ++ 10 ∷ [])
+  pub goes_on : Holds (followed_by past (got_of transport true starved past.newest said).zone) kept
+
+-- the line for what a request says was written, or at an error a beginning of it, and what is kept are the versions after it
+pub record WritesSaid {T E : Type 0} (result : Result T E) (transport : Transport) (said : Parsed) (past : Past) (kept : Keeping) (before after : Option (List ℕ)) : Type 0 where
+  pub starved : Bool
+  pub line : Writes result before after (written_for transport past (transfer_in past.newest (peer_over transport true) said) (got_of transport true starved past.newest said).reply ++ 10 ∷ [])
+  pub goes_on : Holds (followed_by past (got_of transport true starved past.newest said).zone) kept
+
+-- the line for a request was written, or at an error a beginning of it, and what is kept are the versions after it
+pub record WritesFor {T E : Type 0} (result : Result T E) (transport : Transport) (asked : Option (List ℕ)) (past : Past) (kept : Keeping) (before after : Option (List ℕ)) : Type 0 where
+  pub starved : Bool
+  pub line : Writes result before after (line_for transport starved past asked ++ 10 ∷ [])
+  pub goes_on : Holds (past_behind transport starved past asked) kept
+
+-- the reader's next line is taken, the line for it is written, and what is kept are the versions after it
+pub record TakesLine (transport : Transport) (past : Past) (kept : Keeping) (rest : List ℕ) (left written_before written_after : Option (List ℕ)) : Type 0 where
+  pub starved : Bool
+  pub some : 0 < length rest
+  pub taken : left ≡ Some (drop_through 10 rest)
+  pub line : Appends written_before written_after (line_for transport starved past (request_on (first_piece 10 rest)) ++ 10 ∷ [])
+  pub goes_on : Holds (past_behind transport starved past (request_on (first_piece 10 rest))) kept

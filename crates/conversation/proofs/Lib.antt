@@ -1,0 +1,3 @@
+pub mod StreamLemmas
+pub mod TurnLemmas
+pub mod ExchangeLemmas

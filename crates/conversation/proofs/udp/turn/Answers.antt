@@ -1,0 +1,16 @@
+-- A datagram that is received is answered as its own sender's.
+use Rattle.conversation.proofs.TurnLemmas.{begins_more}
+use Rattle.conversation.proofs.ExchangeLemmas.{datagram_same, turn_made, turn_spent}
+use Rattle.conversation.proofs.udp.turn.Goals as goal
+
+pub returns-in-Err : goal.returns-in-Err
+returns-in-Err g c =
+    let grows = begins_more _ _ _ c.turn_to.ensures.grows c.reply-replied.ensures.grows in
+    turn_spent g.A.Answering.is_reply c.args.allowed.addresses.now _ _ _ _ _ _ _ _ _ grows c.in-Some.ensures.receives c.in-Some.ensures.same c.in-Err.ensures.spent c.in-Err.ensures.same
+
+pub returns : goal.returns
+returns g c =
+    let grows = begins_more _ _ _ c.turn_to.ensures.grows c.reply-replied.ensures.grows in
+    let turned = rw c.turn_to.ensures.other at c.in-Ok.ensures.replied in
+    let replied = rw (datagram_same c.peer.result c.peer.ensures.over) at turned in
+    turn_made g.A.Answering.is_reply c.args.allowed.addresses.now _ _ _ _ _ _ _ _ _ _ _ grows c.peer.ensures c.in-Some.ensures.receives c.in-Some.ensures.same replied

@@ -1,0 +1,93 @@
+//! The lines of a log.
+use dns_rdata::{Rcode, Serial};
+use serve_core::Transport;
+use std::alloc::Global;
+use std::net::SocketAddr;
+use std::test::Fail;
+use zone_service::{Event, JobEnd, Serials};
+
+/// Whether an event's line is this text.
+fn is_line(alloc: Global, event: Event, line: &str) -> bool {
+    match format!(in alloc; "{event}") {
+        Ok(text) => text.as_str() == line,
+        Err(_) => false,
+    }
+}
+
+// How workers end, by UDP and TCP.
+#[test]
+fn ends_of_workers(rt: HostRuntime) -> Result<(), Fail> {
+    let cases = [
+        (
+            Transport::Udp,
+            JobEnd::Done(1000),
+            "worker 3 (UDP) has ended: 1000 requests answered",
+        ),
+        (
+            Transport::Udp,
+            JobEnd::Spent,
+            "worker 3 (UDP) has ended: no version could be loaded",
+        ),
+        (
+            Transport::Tcp,
+            JobEnd::Done(2),
+            "worker 3 (TCP) has ended: 2 connections served",
+        ),
+        (
+            Transport::Tcp,
+            JobEnd::Device,
+            "worker 3 (TCP) has ended: its socket failed",
+        ),
+    ];
+    for (transport, end, line) in cases {
+        let event = Event::End {
+            worker: 3,
+            transport,
+            end,
+        };
+        assert!(rt; is_line(rt.alloc(), event, line));
+    }
+    let waits = "worker 4 (TCP) has no room for a connection, and waits";
+    assert!(rt; is_line(rt.alloc(), Event::NoRoom { worker: 4 }, waits));
+    Ok(())
+}
+
+// What updates get, by the codes of RFC 2136, 2.2, and which serials they find and leave.
+#[test]
+fn updates(rt: HostRuntime) -> Result<(), Fail> {
+    let from = "[2001:db8::7]:4711".parse::<SocketAddr>()?;
+    let cases = [
+        (
+            Rcode::NoError,
+            4_294_967_295,
+            1,
+            "update from [2001:db8::7]:4711: NOERROR, serial 4294967295 to 1",
+        ),
+        (
+            Rcode::NXRRSet,
+            7,
+            7,
+            "update from [2001:db8::7]:4711: NXRRSET, serial 7 stays",
+        ),
+    ];
+    for (code, before, after, line) in cases {
+        let serials = Some(Serials {
+            before: Serial(before),
+            after: Serial(after),
+        });
+        let event = Event::Update {
+            from,
+            code,
+            serials,
+        };
+        assert!(rt; is_line(rt.alloc(), event, line));
+    }
+    let unread = Event::Update {
+        from,
+        code: Rcode::FormErr,
+        serials: None,
+    };
+    let line = "update from [2001:db8::7]:4711: FORMERR";
+    assert!(rt; is_line(rt.alloc(), unread, line));
+    Ok(())
+}

@@ -1,0 +1,7 @@
+-- Who is turned to is the peer of the address.
+use Rattle.serve_workers.proofs.PeerLemmas.{served_for}
+use Rattle.serve_workers.proofs.tcp.serve_peer.Goals as goal
+
+pub returns : goal.returns
+returns g c =
+    served_for g.A.Answering.is_reply _ _ _ _ _ _ _ _ _ _ c.turn_to.ensures.other c.peer.ensures c.turn_to.ensures.grows c.serve_stream.ensures.served

@@ -1,0 +1,12 @@
+//! Octets that are copied from one buffer to another.
+ghost use Rattle.std.specs.Prelude.{◌≡◌, length, take, min};
+
+/// Copies octets to the front of a buffer, as many as fit, `most` of them at most, and gives how many that is.
+pub(crate) fn copy_front(octets: &[u8], most: usize, buf: &mut [u8]) -> usize
+    ensures count { result ≡ min most (min (length buf.old) (length octets.now)) }
+    ensures copied { take result buf.new ≡ take result octets.now }
+{
+    let len = most.min(buf.len().min(octets.len()));
+    buf[..len].copy_from_slice(&octets[..len]);
+    len
+}

@@ -1,0 +1,57 @@
+//! Datagrams (RFC 1035, 4.2.1).
+ghost use Rattle.std.specs.Prelude.{◌≡◌, ◌≤◌, length, take};
+
+use crate::copy::copy_front;
+use std::marker::Model;
+use std::net::SocketAddr;
+
+/// A datagram: its octets, 65,535 at most, and who sent it, or whom it goes to.
+#[derive(Drop)]
+pub struct Datagram {
+    octets: Vec<u8>,
+    address: SocketAddr,
+}
+
+impl Model for Datagram {
+    ghost use Rattle.std.specs.Prelude.{◌≤◌, length};
+    ghost use Rattle.conversation.specs.Datagrams.{Datagram};
+
+    ghost Value = { Datagram };
+
+    ghost view = { λ a. (a.octets.items, a.address) };
+
+    ghost invariant = { λ a. length a.octets.items ≤ 65535 };
+}
+
+impl Datagram {
+    /// A datagram of these octets.
+    pub fn new(octets: Vec<u8>, address: SocketAddr) -> Datagram
+        requires { length octets.items ≤ 65535 }
+        ensures { result ≡ (octets.items, address) }
+    {
+        Datagram { octets, address }
+    }
+
+    /// Its octets.
+    pub fn octets(&self) -> &[u8]
+        ensures { result.now ≡ self.now.0 }
+    {
+        self.octets.as_slice()
+    }
+
+    /// Who sent it, or whom it goes to.
+    pub fn address(&self) -> SocketAddr
+        ensures { result ≡ self.now.1 }
+    {
+        self.address
+    }
+
+    /// Copies its octets to the front of a buffer that has room for any, and gives how many they are.
+    pub(crate) fn copy_to(&self, buf: &mut [u8]) -> usize
+        requires { 65535 ≤ length buf.old }
+        ensures bound { result ≤ length buf.new }
+        ensures copied { take result buf.new ≡ self.now.0 }
+    {
+        copy_front(&self.octets, self.octets.len(), buf)
+    }
+}

@@ -1,0 +1,115 @@
+//! Datagrams that lie in memory (own).
+ghost use Rattle.std.specs.Prelude.{◌≡◌, ◌≤◌, ◌↔◌, ◌⊎◌, [], ◌∷◌, ◌++◌, length, take, Some, None, IfSome, IsNone, IsTrue, IsFalse};
+ghost use Rattle.std.specs.List.{Contains};
+ghost use Rattle.conversation.specs.Datagrams.{Receives, SendsOrFails, count_of};
+ghost use Rattle.told_streams.specs.Tray.{told, tray_of, after_receive, after_failure, after_send, after_refusal};
+
+use crate::datagram::Datagram;
+use conversation::Datagrams;
+use std::alloc::Global;
+use std::collections::VecDeque;
+use std::marker::Model;
+use std::net::SocketAddr;
+
+/// Datagrams that lie in memory: those that are left to be received, and those that were sent. Some sends may fail.
+#[derive(Drop)]
+pub struct Tray {
+    left: VecDeque<Datagram>,
+    sent: Vec<Datagram>,
+    refused: Vec<u64>,
+    sends: u64,
+    faults: u64,
+    alloc: Global,
+}
+
+impl Model for Tray {
+    ghost use Rattle.told_streams.specs.Tray.{TrayState};
+
+    ghost Value = { TrayState };
+
+    ghost view = { λ a. record { left = a.left.items; sent = a.sent.items; refused = a.refused.items; sends = a.sends; faults = a.faults } };
+}
+
+/// Adds a datagram to those that were sent. False where it is longer than one may be, or finds no memory; then none is added.
+fn keep(alloc: Global, sent: &mut Vec<Datagram>, octets: &[u8], to: SocketAddr) -> bool
+    ensures kept { IsTrue result → sent.new.items ≡ sent.old.items ++ (octets.now, to) ∷ [] }
+    ensures same { IsFalse result → sent.new.items ≡ sent.old.items }
+{
+    if octets.len() > 65_535 {
+        return false;
+    }
+    let Ok(octets) = octets.to_vec(alloc) else {
+        return false;
+    };
+    sent.push(Datagram::new(octets, to)).is_ok()
+}
+
+impl Tray {
+    /// Datagrams that are to be received. The sends at these places, counted from 0, fail.
+    pub fn new(alloc: Global, datagrams: Vec<Datagram>, refused: Vec<u64>) -> Tray
+        ensures { result ≡ tray_of datagrams.items refused.items }
+    {
+        Tray {
+            left: VecDeque::from(datagrams),
+            sent: Vec::new(alloc),
+            refused,
+            sends: 0,
+            faults: 0,
+            alloc,
+        }
+    }
+
+    /// How many datagrams are left to be received.
+    pub fn left(&self) -> usize
+        ensures { result ≡ length self.now.left }
+    {
+        self.left.len()
+    }
+
+    /// The datagrams that were sent.
+    pub fn sent(&self) -> &[Datagram]
+        ensures { result.now ≡ self.now.sent }
+    {
+        self.sent.as_slice()
+    }
+}
+
+impl Datagrams for Tray {
+    ghost datagrams = { λ tray. Some (told tray) };
+
+    ghost failed = { λ tray. tray.faults };
+
+    fn receive(&mut self, buf: &mut [u8]) -> Option<(usize, SocketAddr)>
+        requires { 65535 ≤ length buf.old }
+        ensures bound { IfSome result (λ received. received.0 ≤ length buf.new) }
+        ensures receives { IfSome result (λ received. Receives (Some (told self.old)) (Some (told self.new)) (take received.0 buf.new, received.1)) }
+        ensures same { IfSome result (λ _. self.new.faults ≡ self.old.faults) }
+        ensures nothing { result ≡ None → Some (told self.new) ≡ Some (told self.old) }
+        ensures counted { result ≡ None → self.new.faults ≡ count_of self.old.faults 1 }
+        ensures received { IfSome result (λ _. self.new ≡ after_receive self.old) }
+        ensures fails { IsNone result ↔ (self.old.left ≡ []) }
+        ensures failed { result ≡ None → self.new ≡ after_failure self.old }
+    {
+        let Some(datagram) = self.left.pop_front() else {
+            self.faults = self.faults.saturating_add(1);
+            return None;
+        };
+        Some((datagram.copy_to(buf), datagram.address()))
+    }
+
+    fn send(&mut self, octets: &[u8], to: SocketAddr)
+        ensures sends { SendsOrFails (Some (told self.old)) self.old.faults (Some (told self.new)) self.new.faults (octets.now, to) }
+        ensures sent { (self.new ≡ after_send self.old (octets.now, to)) ⊎ (self.new ≡ after_refusal self.old) }
+        ensures refused { Contains self.old.refused self.old.sends → self.new ≡ after_refusal self.old }
+    {
+        let place = self.sends;
+        self.sends = place.saturating_add(1);
+        if self.refused.contains(&place) || !keep(self.alloc, &mut self.sent, octets, to) {
+            self.faults = self.faults.saturating_add(1);
+        }
+    }
+
+    fn faults(&self) -> u64 {
+        self.faults
+    }
+}

@@ -1,0 +1,84 @@
+//! The calls under way, with their names.
+ghost use Rattle.std.specs.Prelude.{◌≡◌, ◌++◌, ◌∷◌, [], IfErr, OnOk, filter, not, bytes_eq, find};
+ghost use Rattle.std.specs.List.{list_any};
+ghost use Rattle.std.specs.Option.{option_copied};
+ghost use Rattle.world_run.specs.Phases.{reserves as says_reserves, updates as says_updates};
+ghost use Rattle.world_run.specs.World.{call_of, without_call};
+ghost use Rattle.world_run.specs.declared.calls.UnderWay.{UnderWay as UnderWayRow};
+
+use crate::fault::WorldFault;
+use crate::lent::Handle;
+use crate::phase::Phase;
+
+/// A call under way, with its name.
+#[derive(Drop)]
+pub struct UnderWay<'a> {
+    name: Handle<'a>,
+    phase: Phase<'a>,
+}
+
+impl<'a> UnderWay<'a> {
+    /// How far it has come.
+    pub(crate) fn phase(&self) -> &Phase<'a>
+        ensures { result.now ≡ self.now.phase }
+    {
+        &self.phase
+    }
+}
+
+/// Whether a call under way has this name.
+fn is_call(call: &UnderWay<'_>, name: &Handle<'_>) -> bool
+    ensures { result ≡ bytes_eq call.now.name name.now }
+{
+    call.name.as_slice() == name.as_slice()
+}
+
+/// Whether a call under way is to put a name into use.
+pub(crate) fn is_reserved(calls: &[UnderWay<'_>], name: &Handle<'_>) -> bool
+    ensures { result ≡ list_any (λ call. says_reserves name.now call.phase) calls.now }
+{
+    calls.iter().any(|call| call.phase.reserves(name))
+}
+
+/// Whether an update is under way.
+pub(crate) fn is_updating(calls: &[UnderWay<'_>]) -> bool
+    ensures { result ≡ list_any (λ call. says_updates call.phase) calls.now }
+{
+    calls.iter().any(|call| call.phase.updates())
+}
+
+/// The call under way of a name.
+pub(crate) fn call_under<'b, 'a>(
+    calls: &'b [UnderWay<'a>],
+    name: &Handle<'_>,
+) -> Option<&'b UnderWay<'a>>
+    ensures { option_copied result ≡ call_of name.now calls.now }
+{
+    calls.iter().find(|call| is_call(call, name))
+}
+
+/// Takes out the call under way of a name.
+pub(crate) fn take_out(calls: &mut Vec<UnderWay<'_>>, name: &Handle<'_>)
+    ensures { calls.new.items ≡ without_call name.now calls.old.items }
+{
+    calls.retain(|call| !is_call(call, name));
+}
+
+/// One call under way more.
+pub(crate) fn put_under_way<'a>(
+    calls: &mut Vec<UnderWay<'a>>,
+    name: &Handle<'a>,
+    phase: Phase<'a>,
+) -> Result<(), WorldFault>
+    ensures ok { OnOk result (calls.new.items ≡ calls.old.items ++ record { name = name.now; phase = phase.entry } ∷ []) }
+    ensures refused { IfErr result (λ fault. fault ≡ WorldFault.NoMemory) }
+{
+    let call = UnderWay {
+        name: name.copy(),
+        phase,
+    };
+    match calls.push(call) {
+        Ok(()) => Ok(()),
+        Err(_) => Err(WorldFault::NoMemory),
+    }
+}

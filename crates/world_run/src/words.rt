@@ -1,0 +1,68 @@
+//! The steps of calls on the words of the cell.
+ghost use Rattle.std.specs.Prelude.{◌≡◌, Some, None, IfOk, IfErr, MatchOption};
+ghost use Rattle.world_run.specs.World.{loaded_once as says_loaded_once, most_steps, step_once as says_step_once, steps_up_to};
+
+use crate::fault::WorldFault;
+use crate::phase::{Phase, Progress};
+use crate::published::Published;
+use cell_core::{StepFault, WordMachine, WordStep};
+use std::alloc::Global;
+
+/// No call takes more steps.
+const MOST_STEPS: usize = 74;
+
+/// Takes the next step of a call; none where the words have no such step.
+pub(crate) fn step_once<'a>(
+    machine: &mut WordMachine<Published>,
+    phase: &Phase<'a>,
+) -> Result<Option<Progress<'a>>, WorldFault>
+    ensures ok { IfOk result (λ told. MatchOption told
+        ((says_step_once machine.old phase.now ≡ None) × (machine.new ≡ machine.old))
+        (λ progress. says_step_once machine.old phase.now ≡ Some (progress, machine.new))) }
+    ensures refused { IfErr result (λ fault. fault ≡ WorldFault.NoMemory) }
+{
+    let taken = phase.word_step()?;
+    match machine.step(taken) {
+        Ok(event) => Ok(Some(phase.after(event)?)),
+        Err(StepFault::NotEnabled) => Ok(None),
+        Err(StepFault::NoMemory) => Err(WorldFault::NoMemory),
+    }
+}
+
+/// Takes the steps of a call up to its end; where one can't be made, it stays there.
+pub(crate) fn take_steps<'a>(
+    machine: &mut WordMachine<Published>,
+    first: Phase<'a>,
+) -> Result<Progress<'a>, WorldFault>
+    ensures ok { IfOk result (λ progress. (progress, machine.new) ≡ steps_up_to most_steps machine.old first.entry) }
+    ensures refused { IfErr result (λ fault. fault ≡ WorldFault.NoMemory) }
+{
+    let mut phase = first;
+    for _ in 0..MOST_STEPS {
+        let Some(progress) = step_once(machine, &phase)? else {
+            return Ok(Progress::On(phase));
+        };
+        match progress {
+            Progress::On(further) => phase = further,
+            Progress::Done(end) => return Ok(Progress::Done(end)),
+        }
+    }
+    Ok(Progress::On(phase))
+}
+
+/// The words in which a version is published, and loaded once.
+pub(crate) fn loaded_once(
+    alloc: Global,
+    first: Published,
+) -> Result<WordMachine<Published>, WorldFault>
+    ensures made { IfOk result (λ machine. machine ≡ says_loaded_once first) }
+    ensures refused { IfErr result (λ fault. fault ≡ WorldFault.NoMemory) }
+{
+    let Ok(mut machine) = WordMachine::new(alloc, first) else {
+        return Err(WorldFault::NoMemory);
+    };
+    match machine.step(WordStep::Load) {
+        Ok(_) => Ok(machine),
+        Err(_) => Err(WorldFault::NoMemory),
+    }
+}

@@ -1,0 +1,391 @@
+-- What is replied, by what is told of a request.
+use Rattle.std.proofs.Common.{◌≡◌, ◌≤◌, ◌==◌, refl, ℕ, Bool, true, false, not, ◌&&◌, ◌||◌, nat_lt, List, [], ◌∷◌, ◌++◌, length, take, Option, None, Some, option_and_then, ◌⊎◌, inl, inr, ⊎_elim, sym, ap, ◌∙◌, subst, unwrap_or, if◌then◌else◌, Result, Ok, Err, OnErr, lit≤, arith}
+use Rattle.std.proofs.lemmas.Bool.{eqb-true}
+use Rattle.std.proofs.lemmas.Bool.Decides.{nat_tests}
+use Rattle.std.specs.Option.{option_to_list, option_or, is_some}
+use Rattle.dns_rdata.specs.Record.{Record}
+use Rattle.dns_rdata.specs.declared.numbers.Rcode.{Rcode}
+use Rattle.dns_rdata.specs.declared.numbers.Rcode.TheVariants.{NoError, ServFail, FormErr, NotImp}
+use Rattle.dns_message.specs.Message.{Message, message_limit}
+use Rattle.dns_message.specs.Octets.{fit}
+use Rattle.dns_message.specs.Reads.{header_of, opcode_of, is_reply, body_in, seen}
+use Rattle.dns_message.specs.Request.{is_update, reads, query_of, update_of, IsWant, Tells}
+use Rattle.dns_message.specs.Updates.{update_in}
+use Rattle.dns_message.specs.declared.query.Head.{Head}
+use Rattle.dns_message.specs.declared.query.Question.{Question}
+use Rattle.dns_message.specs.declared.query.Query.{Query as QueryAsked}
+use Rattle.dns_message.specs.declared.query.Parsed.{Parsed}
+use Rattle.dns_message.specs.declared.query.Parsed.TheVariants.{Silent as IsSilent, Fault, Query, Update as SaysUpdate, NoMemory}
+use Rattle.dns_message.specs.declared.update.Update.{Update}
+use Rattle.zone_tree.specs.Version.{Version}
+use Rattle.update_core.specs.Verdict.{verdict}
+use Rattle.update_core.specs.Act.{act}
+use Rattle.update_core.specs.Applied.{code_of}
+use Rattle.dns_engine.specs.Replayed.{IsReplay}
+use Rattle.dns_engine.specs.Held.{Held}
+use Rattle.dns_rdata.specs.declared.numbers.Serial.{Serial}
+use Rattle.snapshot_cell.specs.History.{Numbered, IsPublished}
+use Rattle.dns_engine.specs.Versions.{IsFirst, IsNext}
+use Rattle.dns_engine.specs.Chain.{TellsSince, changes_told}
+use Rattle.dns_engine.specs.Told.{IsTold, made, refused, unchanged, full, starved}
+use Rattle.serve_core.specs.declared.transport.Transport.{Transport}
+use Rattle.serve_core.specs.declared.transport.Transport.TheVariants.{Udp, Tcp}
+use Rattle.serve_core.specs.declared.served.Responded.{Responded}
+use Rattle.serve_core.specs.Transport.{limit_of}
+use Rattle.serve_core.specs.Reply.{bare}
+use Rattle.serve_core.specs.declared.peer.Peer.{Peer}
+use Rattle.serve_core.specs.Transfers.{is_permitted, reply_to_peer, messages_to}
+use Rattle.serve_core.specs.Replies.{replies_to, IsNoTransfer}
+use Rattle.serve_core.specs.Served.{Got, got, got_of, told, answered, StandsIn, IsBehind, ServesSaid}
+use Rattle.serve_core.proofs.ServedLemmas.{serves_told, serves_reply}
+use Rattle.dns_message.proofs.AskedLemmas.{judged}
+use Rattle.serve_core.proofs.WantLemmas.{reads-want}
+use Rattle.zone_service.specs.declared.answer.Told.{Told}
+use Rattle.zone_service.specs.Updated.{IsJudged, by_engine, in_version, IsToldOf, read, unread, starved as starved_reading}
+use Rattle.zone_service.specs.Replied.{TellsFor, IsReplied, IsUpdate, IsQuery, IsTransfer, IsAtOnce}
+
+no_want : (head : Head) (heard : Parsed) → heard ≡ NoMemory head → heard ≡ IsSilent → ⊥
+no_want head heard wants is = cc
+
+no_query_wanted : (head : Head) (heard : Parsed) (query : QueryAsked) → heard ≡ NoMemory head → heard ≡ Query query → ⊥
+no_query_wanted head heard query wants is = cc
+
+-- what is said is no query
+abbrev pub IsNoQuery : Parsed → Type 0
+IsNoQuery IsSilent = Unit {0}
+IsNoQuery (Fault head code) = Unit {0}
+IsNoQuery (Query query) = ⊥
+IsNoQuery (SaysUpdate update) = Unit {0}
+IsNoQuery (NoMemory head) = Unit {0}
+
+update_no_query : (head : Head) (o : Option Update) → IsNoQuery (update_of head o)
+update_no_query head None = tt
+update_no_query head (Some update) = tt
+
+-- what is heard as no query is none
+heard_no_query : (request : List ℕ) (heard said : Parsed) → Tells request heard → heard ≡ said → IsNoQuery said → IsNoQuery (reads request)
+heard_no_query request heard said tells is plain =
+    ⊎_elim (λ (e : heard ≡ reads request). subst IsNoQuery (sym is ∙ e) plain) (λ (want : IsWant request heard). subst IsNoQuery (sym (reads-want request heard want)) (update_no_query (header_of request) (update_in (header_of request) request))) tells
+
+-- what is heard as a query is one
+pub heard_query : (request : List ℕ) (heard : Parsed) (query : QueryAsked) → Tells request heard → heard ≡ Query query → reads request ≡ Query query
+heard_query request heard query tells is =
+    ⊎_elim (λ (e : heard ≡ reads request). sym e ∙ is) (λ (want : IsWant request heard). absurd (no_query_wanted (header_of request) heard query want.is is)) tells
+
+no_query_told : (first : List Record) (version : Version) (said : Parsed) → IsNoQuery said → TellsFor first version None said
+no_query_told first version IsSilent plain = tt
+no_query_told first version (Fault head code) plain = tt
+no_query_told first version (Query query) plain = absurd plain
+no_query_told first version (SaysUpdate update) plain = tt
+no_query_told first version (NoMemory head) plain = tt
+
+no_query_replies : (zone : List Record) (changes : Option (List Record)) (peer : Peer) (wants : Bool) (said : Parsed) → IsNoQuery said
+    → option_to_list (got_of peer.transport peer.may_update wants zone said).reply ≡ replies_to zone changes peer wants said
+no_query_replies zone changes peer wants IsSilent plain = refl
+no_query_replies zone changes peer wants (Fault head code) plain = refl
+no_query_replies zone changes peer wants (Query query) plain = absurd plain
+no_query_replies zone changes peer wants (SaysUpdate update) plain = refl
+no_query_replies zone changes peer wants (NoMemory head) plain = refl
+
+-- what a request gets that is no query
+got_replied : (first : List Record) (peer : Peer) (version : Version) (request : List ℕ) (messages : List (List ℕ)) (wants : Bool) → IsReplay first version → IsNoQuery (reads request)
+    → messages ≡ option_to_list (got peer.transport peer.may_update wants version.zone request).reply → IsReplied first peer request messages
+unfolding got
+got_replied first peer version request messages wants replayed plain gets = record {
+  version = version;
+  replayed = replayed;
+  changes = None;
+  told = no_query_told first version (reads request) plain;
+  starved = wants;
+  reply = gets ∙ no_query_replies version.zone None peer wants (reads request) plain;
+}
+
+-- octets that serve what is told of a request are its reply
+pub said_replied : (first : List Record) (peer : Peer) (version : Version) (request out : List ℕ) (heard said : Parsed) (len : ℕ) (next : Option Version) → IsReplay first version → Tells request heard → heard ≡ said → IsNoQuery said
+    → ServesSaid (record { len = Some len; next = next }) peer.transport peer.may_update version said out → IsReplied first peer request (take len out ∷ [])
+said_replied first peer version request out heard said len next replayed tells is plain serves =
+    let s = serves_told (record { len = Some len; next = next }) peer.transport peer.may_update version request out heard said tells is serves in
+    got_replied first peer version request (take len out ∷ []) s.starved replayed (heard_no_query request heard said tells is plain) (ap option_to_list (sym s.reply.1))
+
+-- a query gets what is sent for it in a version
+query_replied : (first : List Record) (peer : Peer) (version : Version) (request : List ℕ) (query : QueryAsked) (messages : List (List ℕ)) (changes : Option (List Record)) (keep : ℕ) → IsReplay first version → TellsSince first keep version query.serial changes
+    → reads request ≡ Query query → messages ≡ replies_to version.zone changes peer false (Query query) → IsReplied first peer request messages
+query_replied first peer version request query messages changes keep replayed told asked gets = record {
+  version = version;
+  replayed = replayed;
+  changes = changes;
+  told = subst (TellsFor first version changes) (sym asked) (keep, told);
+  starved = false;
+  reply = gets ∙ ap (replies_to version.zone changes peer false) (sym asked);
+}
+
+-- a transfer that is permitted gets its messages
+pub transfer_replied : (first : List Record) (peer : Peer) (version : Version) (request : List ℕ) (query : QueryAsked) (changes : Option (List Record)) (keep : ℕ) → IsReplay first version → TellsSince first keep version query.serial changes
+    → reads request ≡ Query query → is_permitted version.zone peer query ≡ true → IsReplied first peer request (messages_to version.zone changes peer query)
+transfer_replied first peer version request query changes keep replayed told asked may =
+    query_replied first peer version request query (messages_to version.zone changes peer query) changes keep replayed told asked (rw may refl)
+
+-- another query gets one reply
+pub other_replied : (first : List Record) (peer : Peer) (version : Version) (request out : List ℕ) (query : QueryAsked) (len : ℕ) (changes : Option (List Record)) (keep : ℕ) → IsReplay first version → TellsSince first keep version query.serial changes
+    → reads request ≡ Query query → is_permitted version.zone peer query ≡ false → take len out ≡ fit (reply_to_peer version.zone peer query) (limit_of peer.transport) → IsReplied first peer request (take len out ∷ [])
+other_replied first peer version request out query len changes keep replayed told asked may written =
+    query_replied first peer version request query (take len out ∷ []) changes keep replayed told asked (rw (may, written) refl)
+
+-- what is told of what changed up to a version that is published, where none in front of it is kept
+pub published_tells : (first : List Record) (version : Numbered Version) (serial : Option Serial) → IsPublished (IsFirst first) IsNext version → (changes : Option (List Record)) × TellsSince first 0 version.value serial changes
+published_tells first version serial p = (changes_told 0 (p.before ++ version.value ∷ []) serial, record { before = p.before; history = p.history; told = refl })
+
+-- the first version is a replay of no update
+abbrev pub first_version : List Record → Version
+first_version first = record { number = 0; zone = first; changes = None }
+
+pub first_replay : (first : List Record) → IsReplay first (first_version first)
+first_replay first = record { updates = []; changing = tt; zone = refl; number = refl }
+
+-- a reply that is the same in each version
+pub same_replied : (first : List Record) (peer : Peer) (version : Version) (request out octets : List ℕ) (heard said : Parsed) (len : ℕ) → IsReplay first version → Tells request heard → heard ≡ said → IsNoQuery said → len ≤ limit_of peer.transport → take len out ≡ octets
+    → got_of peer.transport peer.may_update false version.zone said ≡ record { reply = Some octets; zone = version.zone } → IsReplied first peer request (take len out ∷ [])
+same_replied first peer version request out octets heard said len replayed tells is plain short written gets =
+    said_replied first peer version request out heard said len None replayed tells is plain
+    (serves_reply (record { len = Some len; next = None }) peer.transport peer.may_update version said octets out len refl refl short written gets)
+
+no_code : (zone after : List Record) (update : Update) (may : Bool) → verdict zone update may ≡ None → act zone update ≡ Some after → code_of zone update may ≡ None
+no_code zone after update may taken acts =
+    ap (λ v. option_or v (if is_some (act zone update) then None else Some ServFail)) taken ∙ ap (λ (o : Option (List Record)). if is_some o then None else Some ServFail) acts
+
+module _ (transport : Transport) (update : Update) (may : Bool) (out : List ℕ) (len : ℕ) (short : len ≤ limit_of transport) where
+  served_by : Option Version → Responded
+  served_by next = record { len = Some len; next = next }
+
+  -- an update that is taken gets NOERROR
+  taken_got : (zone after : List Record) → verdict zone update may ≡ None → act zone update ≡ Some after → got_of transport may false zone (SaysUpdate update) ≡ told transport update.head NoError after
+  taken_got zone after taken acts =
+      ap (λ c. answered transport update.head zone (act zone update) c) (no_code zone after update may taken acts)
+      ∙ ap (λ (o : Option (List Record)). told transport update.head NoError (unwrap_or o zone)) acts
+
+  said : (old : Version) (code : Rcode) → take len out ≡ fit (bare update.head code) (limit_of transport) → (other : Rcode) → code ≡ other → Some (take len out) ≡ Some (fit (bare update.head other) (limit_of transport))
+  said old code written other same = ap Some (written ∙ ap (λ c. fit (bare update.head c) (limit_of transport)) same)
+
+  -- what is told of an update is what it gets
+  pub told_said : (old new : Held) (code : Rcode) → take len out ≡ fit (bare update.head code) (limit_of transport) → IsTold old update may code new
+      → (next : Option Version) × ServesSaid (record { len = Some len; next = next }) transport may old.last (SaysUpdate update) out
+  told_said old new code written (made next taken makes is_code is_new) =
+      let gets = taken_got old.last.zone next.zone taken makes.zone in (
+        Some next,
+        record {
+          starved = false;
+          reply = subst (λ (g : Got). StandsIn (Some len) (limit_of transport) out g.reply) (sym gets) (short, sym (said old.last code written NoError is_code));
+          zone = subst (λ (g : Got). IsBehind (Some next) old.last g.zone) (sym gets) (refl, makes.changed, makes.number);
+        },
+      )
+  told_said old new code written (refused is_code same) =
+      let gets : got_of transport may false old.last.zone (SaysUpdate update) ≡ told transport update.head code old.last.zone = ap (λ c. answered transport update.head old.last.zone (act old.last.zone update) c) is_code in (
+        None,
+        record {
+          starved = false;
+          reply = subst (λ (g : Got). StandsIn (Some len) (limit_of transport) out g.reply) (sym gets) (short, sym (ap Some written));
+          zone = subst (λ (g : Got). IsBehind None old.last g.zone) (sym gets) refl;
+        },
+      )
+  told_said old new code written (unchanged taken acts is_code same) =
+      let gets = taken_got old.last.zone old.last.zone taken acts in (
+        None,
+        record {
+          starved = false;
+          reply = subst (λ (g : Got). StandsIn (Some len) (limit_of transport) out g.reply) (sym gets) (short, sym (said old.last code written NoError is_code));
+          zone = subst (λ (g : Got). IsBehind None old.last g.zone) (sym gets) refl;
+        },
+      )
+  told_said old new code written (full most is_code same) = (None, record { starved = true; reply = (short, sym (said old.last code written ServFail is_code)); zone = refl })
+  told_said old new code written (starved taken is_code same) = (None, record { starved = true; reply = (short, sym (said old.last code written ServFail is_code)); zone = refl })
+
+-- an update's code is its reply
+pub update_replied : (first : List Record) (peer : Peer) (request out : List ℕ) (heard : Parsed) (update : Update) (old new : Held) (code : Rcode) (len : ℕ) → IsReplay first old.last → Tells request heard → heard ≡ SaysUpdate update
+    → len ≤ limit_of peer.transport → take len out ≡ fit (bare update.head code) (limit_of peer.transport) → IsTold old update peer.may_update code new → IsReplied first peer request (take len out ∷ [])
+update_replied first peer request out heard update old new code len replayed tells is short written t =
+    let s = told_said peer.transport update peer.may_update out len short old new code written t in
+    said_replied first peer old.last request out heard (SaysUpdate update) len s.0 replayed tells is tt s.1
+
+-- what asks for an update by its header, where memory is wanted to read it
+want_of : (request : List ℕ) → is_update request ≡ true → IsWant request (NoMemory (header_of request))
+want_of request asks = record {
+  whole = whole_of (nat_lt (length request) 12) (is_reply request) (opcode_of request == 5) (length request) refl asks;
+  asks = no_reply (nat_lt (length request) 12) (is_reply request) (opcode_of request == 5) asks;
+  update = eqb-true _ _ (opcode (nat_lt (length request) 12) (is_reply request) (opcode_of request == 5) asks);
+  is = refl;
+}
+  where
+    whole_of : (short reply op : Bool) (n : ℕ) → nat_lt n 12 ≡ short → not short && not reply && op ≡ true → 12 ≤ n
+    whole_of true reply op n e asks = absurd (cc)
+    whole_of false reply op n e asks = grind (arith, nat_tests)
+
+    no_reply : (short reply op : Bool) → not short && not reply && op ≡ true → reply ≡ false
+    no_reply true reply op asks = cc
+    no_reply false true op asks = cc
+    no_reply false false op asks = refl
+
+    opcode : (short reply op : Bool) → not short && not reply && op ≡ true → op ≡ true
+    opcode true reply op asks = cc
+    opcode false true op asks = cc
+    opcode false false op asks = asks
+
+-- what asks for an update is read as one, or gets a code
+update_said : (request : List ℕ) → is_update request ≡ true → reads request ≡ update_of (header_of request) (update_in (header_of request) request)
+update_said request asks = reads-want request (NoMemory (header_of request)) (want_of request asks)
+
+-- what is said is an update, a code, or that memory is wanted
+abbrev pub IsOfUpdate : Parsed → Type 0
+IsOfUpdate IsSilent = ⊥
+IsOfUpdate (Fault head code) = Unit {0}
+IsOfUpdate (Query query) = ⊥
+IsOfUpdate (SaysUpdate update) = Unit {0}
+IsOfUpdate (NoMemory head) = Unit {0}
+
+of_update : (head : Head) (o : Option Update) → IsOfUpdate (update_of head o)
+of_update head None = tt
+of_update head (Some update) = tt
+
+-- what asks for an update is heard as such
+pub heard_of_update : (request : List ℕ) (heard : Parsed) → is_update request ≡ true → Tells request heard → IsOfUpdate heard
+heard_of_update request heard asks tells =
+    ⊎_elim (λ (e : heard ≡ reads request). subst IsOfUpdate (sym (e ∙ update_said request asks)) (of_update (header_of request) (update_in (header_of request) request)))
+    (λ (want : IsWant request heard). subst IsOfUpdate (sym want.is) tt) tells
+
+-- what is said is neither an update nor that memory is wanted
+abbrev pub IsOther : Parsed → Type 0
+IsOther IsSilent = Unit {0}
+IsOther (Fault head code) = Unit {0}
+IsOther (Query query) = Unit {0}
+IsOther (SaysUpdate update) = ⊥
+IsOther (NoMemory head) = ⊥
+
+query_other : (head : Head) (o : Option (Question × Option Serial × Bool)) → IsOther (query_of head o)
+query_other head None = tt
+query_other head (Some r) = elim r.2 as (λ b. IsOther (if b then Fault head FormErr else Query (record { head = head; question = r.0; serial = r.1 }))) [ true ↦ tt | false ↦ tt ]
+
+judged_other : (short reply : Bool) (head : Head) (asked : Option (Question × Option Serial × Bool)) (update : Option Update)
+    → not short && not reply && (head.opcode == 5) ≡ false → IsOther (judged (short || reply) head asked update)
+judged_other true reply head asked update other = tt
+judged_other false true head asked update other = tt
+judged_other false false head asked update other =
+    elim (head.opcode == 0) as (λ b. IsOther (if b then query_of head asked else if head.opcode == 5 then update_of head update else Fault head NotImp)) [
+      | true ↦ query_other head asked
+      | false ↦ subst (λ b. IsOther (if b then update_of head update else Fault head NotImp)) (sym other) tt
+    ]
+
+-- what doesn't ask for an update isn't read as one
+pub other_said : (request : List ℕ) (said : Parsed) → is_update request ≡ false → said ≡ reads request → IsOther said
+other_said request said other is =
+    subst IsOther (sym is)
+    (judged_other (nat_lt (length request) 12) (is_reply request) (header_of request) (option_and_then (seen request) (body_in request)) (update_in (header_of request) request) other)
+
+-- what is heard as an update is one
+pub heard_update : (request : List ℕ) (heard : Parsed) (update : Update) → Tells request heard → heard ≡ SaysUpdate update → reads request ≡ SaysUpdate update
+heard_update request heard update tells is =
+    ⊎_elim (λ (e : heard ≡ reads request). sym e ∙ is) (λ (want : IsWant request heard). absurd (no_update_wanted (header_of request) want.is is)) tells
+  where
+    no_update_wanted : (head : Head) → heard ≡ NoMemory head → heard ≡ SaysUpdate update → ⊥
+    no_update_wanted head wants said = cc
+
+-- what is heard as a code is read so
+pub heard_fault : (request : List ℕ) (heard : Parsed) (head : Head) (code : Rcode) → Tells request heard → heard ≡ Fault head code → reads request ≡ Fault head code
+heard_fault request heard head code tells is =
+    ⊎_elim (λ (e : heard ≡ reads request). sym e ∙ is) (λ (want : IsWant request heard). absurd (no_fault_wanted (header_of request) want.is is)) tells
+  where
+    no_fault_wanted : (other : Head) → heard ≡ NoMemory other → heard ≡ Fault head code → ⊥
+    no_fault_wanted other wants said = cc
+
+update_wants_nothing : (head other : Head) (o : Option Update) → update_of head o ≡ NoMemory other → ⊥
+update_wants_nothing head other None e = cc
+update_wants_nothing head other (Some update) e = cc
+
+-- where memory is told to be wanted, it was
+pub heard_want : (request : List ℕ) (heard : Parsed) (head : Head) → is_update request ≡ true → Tells request heard → heard ≡ NoMemory head → IsWant request (NoMemory head)
+heard_want request heard head asks tells is =
+    ⊎_elim (λ (e : heard ≡ reads request). absurd (update_wants_nothing (header_of request) head (update_in (header_of request) request) (sym (update_said request asks) ∙ sym e ∙ is)))
+    (λ (want : IsWant request heard). subst (IsWant request) is want) tells
+
+-- an update of a peer that may not update is judged by the first rule that it breaks
+judged_got : (transport : Transport) (zone : List Record) (update : Update) (may : Bool) (code : Rcode) → may ≡ false → verdict zone update false ≡ Some code
+    → got_of transport may false zone (SaysUpdate update) ≡ told transport update.head code zone
+judged_got transport zone update may code is gives =
+    ap (λ m. got_of transport m false zone (SaysUpdate update)) is
+    ∙ ap (λ v. answered transport update.head zone (act zone update) (option_or v (if is_some (act zone update) then None else Some ServFail))) gives
+
+-- the code that is told of a request that asks for an update is its reply
+module _ (first : List Record) (peer : Peer) (request out : List ℕ) (len : ℕ) (short : len ≤ limit_of peer.transport) where
+  bare_of : Head → Rcode → List ℕ
+  bare_of head code = fit (bare head code) (limit_of peer.transport)
+
+  judged_replied : (update : Update) (t : Told) → reads request ≡ SaysUpdate update → IsJudged first update peer.may_update t → take len out ≡ fit (bare update.head t.code) (limit_of peer.transport) → IsReplied first peer request (take len out ∷ [])
+  judged_replied update t reading (by_engine serials is updated) written =
+      update_replied first peer request out (SaysUpdate update) update updated.0 updated.1 t.code len updated.2 (inl (sym reading)) refl short written updated.3
+  judged_replied update t reading (in_version version may replayed gives none) written =
+      same_replied first peer version request out (fit (bare update.head t.code) (limit_of peer.transport)) (SaysUpdate update) (SaysUpdate update) len replayed (inl (sym reading)) refl tt short written (judged_got peer.transport version.zone update peer.may_update t.code may gives)
+
+  pub told_replied : (head : Head) (t : Told) → IsToldOf first peer.may_update request head t → take len out ≡ fit (bare head t.code) (limit_of peer.transport) → IsReplied first peer request (take len out ∷ [])
+  told_replied head t (read update reading same judged) written =
+      judged_replied update t reading judged (written ∙ ap (λ (h : Head). fit (bare h t.code) (limit_of peer.transport)) same)
+  told_replied head t (unread reading none) written =
+      same_replied first peer (first_version first) request out (fit (bare head t.code) (limit_of peer.transport)) (Fault head t.code) (Fault head t.code) len (first_replay first) (inl (sym reading)) refl tt short written refl
+  told_replied head t (starved_reading want code none) written =
+      same_replied first peer (first_version first) request out (fit (bare head t.code) (limit_of peer.transport)) (NoMemory head) (NoMemory head) len (first_replay first) (inr want) refl tt short written
+      (ap (λ c. told peer.transport head c first) (sym code))
+
+-- octets that get no reply
+pub silent_replied : (first : List Record) (peer : Peer) (request : List ℕ) → reads request ≡ IsSilent → IsReplied first peer request []
+silent_replied first peer request silent = record {
+  version = first_version first;
+  replayed = first_replay first;
+  changes = None;
+  told = subst (TellsFor first (first_version first) None) (sym silent) tt;
+  starved = false;
+  reply = ap (replies_to first None peer false) (sym silent);
+}
+
+limit_by : (transport : Transport) → limit_of transport ≤ message_limit
+limit_by Udp = lit≤ tt
+limit_by Tcp = lit≤ tt
+
+-- no reply is over the limit of a stream
+pub limit_most : (peer : Peer) → limit_of peer.transport ≤ message_limit
+limit_most peer = limit_by peer.transport
+
+-- what is answered at once without a version
+pub code_now : (first : List Record) (peer : Peer) (request out : List ℕ) (head : Head) (code : Rcode) (len : ℕ) → len ≤ limit_of peer.transport → is_update request ≡ false → reads request ≡ Fault head code
+    → take len out ≡ fit (bare head code) (limit_of peer.transport) → (replied : IsReplied first peer request (take len out ∷ [])) × IsAtOnce peer request replied.version
+code_now first peer request out head code len short other said written =
+    let replied = same_replied first peer (first_version first) request out (fit (bare head code) (limit_of peer.transport)) (Fault head code) (Fault head code) len (first_replay first) (inl (sym said)) refl tt short written refl in
+    (replied, record { other = other; plain = subst (IsNoTransfer replied.version.zone peer) (sym said) tt })
+
+-- a query that is answered at once in a version
+pub query_now : (first : List Record) (peer : Peer) (version : Version) (request out : List ℕ) (query : QueryAsked) (len : ℕ) (changes : Option (List Record)) (keep : ℕ) → IsReplay first version → TellsSince first keep version query.serial changes
+    → is_update request ≡ false → reads request ≡ Query query → is_permitted version.zone peer query ≡ false → take len out ≡ fit (reply_to_peer version.zone peer query) (limit_of peer.transport)
+    → (replied : IsReplied first peer request (take len out ∷ [])) × IsAtOnce peer request replied.version
+query_now first peer version request out query len changes keep replayed told other asked may written =
+    let gets : take len out ∷ [] ≡ replies_to version.zone changes peer false (Query query) = rw (may, written) refl in (
+      record {
+        version = version;
+        replayed = replayed;
+        changes = changes;
+        told = subst (TellsFor first version changes) (sym asked) (keep, told);
+        starved = false;
+        reply = gets ∙ ap (replies_to version.zone changes peer false) (sym asked);
+      },
+      record { other = other; plain = subst (IsNoTransfer version.zone peer) (sym asked) may },
+    )
+
+-- what comes later and doesn't ask for an update asks for a transfer
+pub later_transfer : (first : List Record) (peer : Peer) (request : List ℕ) → is_update request ≡ false → IsUpdate request ⊎ IsTransfer first peer request → IsTransfer first peer request
+later_transfer first peer request other later = ⊎_elim (λ (asks : is_update request ≡ true). absurd (no_both asks)) (λ (t : IsTransfer first peer request). t) later
+  where
+    no_both : is_update request ≡ true → ⊥
+    no_both asks = cc
+
+-- what asks for a transfer that is permitted is a query
+pub transfer_query : (first : List Record) (peer : Peer) (request : List ℕ) → IsTransfer first peer request → IsQuery request
+transfer_query first peer request t = (t.query, t.asked)
+
+pub spent_query : {T E : Type 0} (result : Result T E) (first : List Record) (peer : Peer) (request : List ℕ) → OnErr result (IsTransfer first peer request) → OnErr result (IsQuery request)
+spent_query (Ok x) first peer request t = tt
+spent_query (Err e) first peer request t = transfer_query first peer request t

@@ -1,0 +1,47 @@
+-- The reply is that of the version that was loaded.
+use Rattle.std.proofs.Common.{◌≡◌, true, false, List, refl, sym, ap, ◌∙◌, inr}
+use Rattle.dns_rdata.specs.Record.{Record}
+use Rattle.zone_tree.specs.Version.{Version}
+use Rattle.dns_message.specs.Octets.{fit}
+use Rattle.dns_message.specs.Request.{is_update}
+use Rattle.dns_engine.proofs.ReplayLemmas.{published_replay}
+use Rattle.serve_core.specs.Transfers.{is_permitted, reply_to_peer}
+use Rattle.serve_core.specs.Transport.{limit_of}
+use Rattle.zone_service.proofs.ReplyLemmas.{published_tells, code_now, query_now}
+use Rattle.zone_service.proofs.answer.answer_now.Goals as goal
+
+pub returns-in-Fault : goal.returns-in-Fault
+returns-in-Fault g c =
+    let other : is_update c.args.request.now ≡ false = sym c.is_update.ensures ∙ c.if-is_update.false in
+    let now = code_now g.Z.FirstZone.zone c.args.peer c.args.request.now c.write_bare.new.out c.in-Fault.head c.in-Fault.code c.write_bare.result c.write_bare.ensures.len other (sym c.parse_other.ensures ∙ c.in-Fault.is) c.write_bare.ensures.octets in
+    (c.write_bare.ensures.len, now.0, now.1)
+
+pub returns-in_default : goal.returns-in_default
+returns-in_default g c = (c.in-Query.query, sym c.parse_other.ensures ∙ c.in-Query.is)
+
+pub returns-then-is_permitted : goal.returns-then-is_permitted
+returns-then-is_permitted g c =
+    let query = c.in-Query.query in
+    let permitted : is_permitted c.in-Ok.strong.value.zone c.args.peer query ≡ true =
+    ap (λ (v : Version). is_permitted v.zone c.args.peer query) (sym c.get-version.ensures) ∙ sym c.is_permitted.ensures ∙ c.if-is_permitted.true in
+    inr (record {
+      query = query;
+      asked = sym c.parse_other.ensures ∙ c.in-Query.is;
+      version = c.in-Ok.strong.value;
+      replayed = published_replay g.Z.FirstZone.zone _ c.in-Ok.ensures;
+      permitted = permitted;
+    })
+
+pub returns-else-is_permitted : goal.returns-else-is_permitted
+returns-else-is_permitted g c =
+    let first = g.Z.FirstZone.zone in
+    let query = c.in-Query.query in
+    let version = c.in-Ok.strong.value in
+    let refused : is_permitted version.zone c.args.peer query ≡ false =
+    ap (λ (v : Version). is_permitted v.zone c.args.peer query) (sym c.get-version.ensures) ∙ sym c.is_permitted.ensures ∙ c.if-is_permitted.false in
+    let zone : c.zone.result.now ≡ version.zone = c.zone.ensures ∙ ap (λ (v : Version). v.zone) c.get-version.ensures in
+    let written = c.respond_to_peer.ensures.octets ∙ ap (λ (z : List Record). fit (reply_to_peer z c.args.peer query) (limit_of c.args.peer.transport)) zone in
+    let tells = published_tells first c.in-Ok.strong query.serial c.in-Ok.ensures in
+    let other : is_update c.args.request.now ≡ false = sym c.is_update.ensures ∙ c.if-is_update.false in
+    let now = query_now first c.args.peer version c.args.request.now c.respond_to_peer.new.out query c.respond_to_peer.result tells.0 0 (published_replay first _ c.in-Ok.ensures) tells.1 other (sym c.parse_other.ensures ∙ c.in-Query.is) refused written in
+    (c.respond_to_peer.ensures.len, now.0, now.1)

@@ -1,0 +1,24 @@
+-- What is written is the reply, or a beginning of it.
+use Rattle.zone_service.proofs.TransferLemmas.{part_of_one, never_spent, reply_written, reply_broken}
+use Rattle.zone_service.proofs.asked.Asked.answer_later.Goals as goal
+
+pub returns-in-Reply-clause-broken : goal.returns-in-Reply-clause-broken
+returns-in-Reply-clause-broken g c = reply_broken _ c.write_frame.result _ _ _ _ _ _ c.in-Reply.ensures.1 c.write_frame.ensures.failed (part_of_one c.write_frame.result _ _ _ c.write_frame.ensures.part)
+
+pub returns-in-Updated-clause-broken : goal.returns-in-Updated-clause-broken
+returns-in-Updated-clause-broken g c = reply_broken _ c.write_frame-in-Updated.result _ _ _ _ _ _ c.in-Updated.ensures.1 c.write_frame-in-Updated.ensures.failed (part_of_one c.write_frame-in-Updated.result _ _ _ c.write_frame-in-Updated.ensures.part)
+
+pub returns-in-Transfer-clause-replied : goal.returns-in-Transfer-clause-replied
+returns-in-Transfer-clause-replied g c = reply_written _ c.send_transfer.result _ _ _ _ _ _ c.in-Transfer.ensures.1 c.send_transfer.ensures.whole
+
+pub returns-in-Transfer-clause-broken : goal.returns-in-Transfer-clause-broken
+returns-in-Transfer-clause-broken g c = reply_broken _ c.send_transfer.result _ _ _ _ _ _ c.in-Transfer.ensures.1 c.send_transfer.ensures.failed c.send_transfer.ensures.part
+
+pub returns-in-Reply-clause-spent : goal.returns-in-Reply-clause-spent
+returns-in-Reply-clause-spent g c = never_spent _ c.write_frame.result c.write_frame.ensures.failed
+
+pub returns-in-Updated-clause-spent : goal.returns-in-Updated-clause-spent
+returns-in-Updated-clause-spent g c = never_spent _ c.write_frame-in-Updated.result c.write_frame-in-Updated.ensures.failed
+
+pub returns-in-Transfer-clause-spent : goal.returns-in-Transfer-clause-spent
+returns-in-Transfer-clause-spent g c = never_spent _ c.send_transfer.result c.send_transfer.ensures.failed

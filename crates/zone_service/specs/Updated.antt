@@ -1,0 +1,47 @@
+-- What has come of an update (RFC 2136, 3).
+use Rattle.std.specs.Prelude.{◌≡◌, ℕ, Bool, true, false, List, None, Some}
+use Rattle.dns_rdata.specs.Record.{Record}
+use Rattle.dns_rdata.specs.declared.numbers.Rcode.{Rcode}
+use Rattle.dns_rdata.specs.declared.numbers.Rcode.TheVariants.{ServFail}
+use Rattle.dns_message.specs.Octets.{fit}
+use Rattle.dns_message.specs.Request.{is_update, reads, IsWant}
+use Rattle.dns_message.specs.declared.query.Head.{Head}
+use Rattle.dns_message.specs.declared.query.Parsed.TheVariants.{Fault, Update as SaysUpdate, NoMemory}
+use Rattle.dns_message.specs.declared.update.Update.{Update}
+use Rattle.zone_tree.specs.Version.{Version, zone_serial}
+use Rattle.update_core.specs.Verdict.{verdict}
+use Rattle.dns_engine.specs.Held.{Held}
+use Rattle.dns_engine.specs.Told.{IsTold}
+use Rattle.dns_engine.specs.Replayed.{IsReplay}
+use Rattle.serve_core.specs.declared.peer.Peer.{Peer}
+use Rattle.serve_core.specs.Reply.{bare}
+use Rattle.serve_core.specs.Transport.{limit_of}
+use Rattle.zone_service.specs.declared.answer.Told.{Told}
+use Rattle.zone_service.specs.declared.service_log.Serials.{Serials}
+
+-- the code that an engine tells of an update, and the serials of its last version in front of the update and behind it, the first of which is
+-- the first zone with updates replayed
+abbrev pub IsUpdated : List Record → Update → Bool → Rcode → Serials → Type 0
+IsUpdated first update may code serials =
+    (old new : Held) × IsReplay first old.last × IsTold old update may code new × (serials.before.0 ≡ zone_serial old.last.zone) × (serials.after.0 ≡ zone_serial new.last.zone)
+
+-- what is told of an update that was read, by whether its peer may update: the code that an engine tells of it, with the serials of that engine's
+-- last version before it and after it; or, of a peer that may not, the code of the first rule that it breaks in a version, which is the first zone
+-- with updates replayed, and no serials
+pub data IsJudged (first : List Record) (update : Update) (may : Bool) (told : Told) : Type 0 where
+  by_engine : (serials : Serials) → told.serials ≡ Some serials → IsUpdated first update may told.code serials → IsJudged first update may told
+  in_version : (version : Version) → may ≡ false → IsReplay first version → verdict version.zone update false ≡ Some told.code → told.serials ≡ None → IsJudged first update may told
+
+-- what is told of a request that asks for an update, and the header of its reply: of one that is read what is told of that update; of one that can't
+-- be read its code; and SERVFAIL where memory was wanted while it was read. Only what is told of an update that is read has serials
+pub data IsToldOf (first : List Record) (may : Bool) (request : List ℕ) (head : Head) (told : Told) : Type 0 where
+  read : (update : Update) → reads request ≡ SaysUpdate update → head ≡ update.head → IsJudged first update may told → IsToldOf first may request head told
+  unread : reads request ≡ Fault head told.code → told.serials ≡ None → IsToldOf first may request head told
+  starved : IsWant request (NoMemory head) → told.code ≡ ServFail → told.serials ≡ None → IsToldOf first may request head told
+
+-- a request asks for an update, and its reply is its header alone, with the code that is told of it (RFC 2136, 3.8)
+pub record IsUpdateTold (first : List Record) (peer : Peer) (request octets : List ℕ) (told : Told) : Type 0 where
+  pub asks : is_update request ≡ true
+  pub head : Head
+  pub tells : IsToldOf first peer.may_update request head told
+  pub reply : octets ≡ fit (bare head told.code) (limit_of peer.transport)

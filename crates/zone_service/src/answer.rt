@@ -1,0 +1,207 @@
+//! Requests that are answered at once, with a version that is loaded (RFC 1034, 4.3.2), and those that the engine answers, or the
+//! versions that it keeps: updates (RFC 2136, 3) and transfers (RFC 1995, 4; RFC 5936, 2.2).
+ghost use Rattle.std.specs.Prelude.{◌≡◌, ◌≤◌, ◌⊎◌, List, ℕ, Some, None, false, length};
+ghost use Rattle.dns_message.specs.Request.{reads};
+ghost use Rattle.dns_message.specs.declared.query.Parsed.TheVariants.{Query as SaysQuery};
+ghost use Rattle.serve_core.specs.Transport.{limit_of};
+ghost use Rattle.zone_service.specs.Replied.{IsUpdate, IsTransfer, IsNow, IsServed};
+ghost use Rattle.zone_service.specs.Updated.{IsJudged, IsToldOf};
+ghost use Rattle.update_core.specs.Verdict.{verdict};
+
+use crate::server::Server;
+use crate::service_log::Serials;
+use dns_engine::{FirstZone, Newest, VersionCell, VersionReader};
+use dns_message::{Head, Parsed, Query, Update, is_update, parse, parse_other};
+use dns_rdata::Rcode;
+use serve_core::{Peer, is_permitted, respond_to_peer, write_bare};
+use std::alloc::Global;
+use std::sync::Wait;
+use update_core::check;
+use zone_tree::Version;
+
+/// What is answered at once.
+#[derive(Clone, Copy)]
+pub enum Now {
+    /// A reply of so many octets.
+    Bytes(usize),
+    /// There is no reply.
+    Silent,
+    /// The request is an update, or asks for a transfer that is permitted.
+    Later,
+    /// No version could be loaded for a query.
+    Spent,
+}
+
+/// What is told of an update (RFC 2136, 3).
+#[derive(Clone, Copy)]
+pub struct Told {
+    /// Its code.
+    pub code: Rcode,
+    /// The zone's serials before it and after it; none of an update that can't be read, or for whose reading memory is wanted, nor of
+    /// one that is refused without the engine.
+    pub serials: Option<Serials>,
+}
+
+impl Told {
+    /// A code alone.
+    fn code(code: Rcode) -> Told
+        ensures code { result.code ≡ code }
+        ensures serials { result.serials ≡ None }
+    {
+        Told {
+            code,
+            serials: None,
+        }
+    }
+}
+
+/// What an update or a transfer gets.
+#[derive(Drop)]
+pub enum Served<'s, Z: FirstZone> {
+    /// A reply of so many octets.
+    Reply(usize),
+    /// An update's reply of so many octets, and what is told in it.
+    Updated(usize, Told),
+    /// The messages of a transfer of the last of these versions, which a query asks for.
+    Transfer(Newest<'s, Z>, Query),
+    /// No version could be owned for a transfer.
+    Spent,
+}
+
+/// Answers a request at once, unless it is an update or a transfer that is permitted: writes the reply in the version that is loaded to
+/// the front of `out`. An update is told by its header alone. Only a query loads a version: [`Now::Spent`] comes of nothing else. It takes
+/// no memory.
+pub fn answer_now<R: Wait, Z: FirstZone>(
+    rt: &R,
+    cell: &VersionCell<Z>,
+    reader: &mut VersionReader<Z>,
+    peer: Peer,
+    request: &[u8],
+    out: &mut [u8],
+) -> Now
+    requires { limit_of peer.transport ≤ length out.old }
+    ensures { IsNow Z.zone peer request.now out.new result }
+{
+    if is_update(request) {
+        return Now::Later;
+    }
+    match parse_other(request) {
+        Parsed::Silent => Now::Silent,
+        Parsed::Fault(head, code) => Now::Bytes(write_bare(head, code, peer.transport, out)),
+        Parsed::Query(query) => {
+            let Ok(strong) = cell.load(rt, reader) else {
+                return Now::Spent;
+            };
+            let version = strong.get();
+            if is_permitted(version, &query, peer) {
+                return Now::Later;
+            }
+            Now::Bytes(respond_to_peer(version.zone(), &query, peer, out))
+        }
+        Parsed::Update(_) => unreachable!(),
+        Parsed::NoMemory(_) => unreachable!(),
+    }
+}
+
+/// Answers an update: writes the code that it gets to the front of `out` (RFC 2136, 3.8), and tells it. Of a transfer it gives the
+/// versions that its messages are made of, and the query; where no longer permitted, the reply.
+pub fn serve_one<'s, R: Wait, Z: FirstZone>(
+    rt: &R,
+    alloc: Global,
+    server: &Server<'s, Z>,
+    reader: &mut VersionReader<Z>,
+    peer: Peer,
+    request: &[u8],
+    out: &mut [u8],
+) -> Served<'s, Z>
+    requires later { IsUpdate request.now ⊎ IsTransfer Z.zone peer request.now }
+    requires room { limit_of peer.transport ≤ length out.old }
+    ensures { IsServed Z.zone peer request.now out.new result }
+{
+    if is_update(request) {
+        let (head, told) = told_of(rt, alloc, server, reader, peer.may_update, request);
+        return Served::Updated(write_bare(head, told.code, peer.transport, out), told);
+    }
+    let Parsed::Query(query) = parse_other(request) else {
+        unreachable!()
+    };
+    let Ok(newest) = server.versions_for(rt, reader, &query) else {
+        return Served::Spent;
+    };
+    serve_query(newest, query, peer, out)
+}
+
+/// What is told of a request that asks for an update, and the header of its reply: FORMERR of one that can't be read (RFC 2136, 2), and
+/// SERVFAIL where memory is wanted to read it (own).
+fn told_of<R: Wait, Z: FirstZone>(
+    rt: &R,
+    alloc: Global,
+    server: &Server<'_, Z>,
+    reader: &mut VersionReader<Z>,
+    may: bool,
+    request: &[u8],
+) -> (Head, Told)
+    requires { IsUpdate request.now }
+    ensures { IsToldOf Z.zone may request.now result.0 result.1 }
+{
+    match parse(alloc, request) {
+        Parsed::Update(update) => (update.head, judge(rt, alloc, server, reader, may, &update)),
+        Parsed::NoMemory(head) => (head, Told::code(Rcode::ServFail)),
+        Parsed::Fault(head, code) => (head, Told::code(code)),
+        Parsed::Silent => unreachable!(),
+        Parsed::Query(_) => unreachable!(),
+    }
+}
+
+/// What is told of an update: what the engine tells; but one of a peer that may not update is judged in the version that is loaded, so
+/// that no stranger holds the engine's lock, and by the engine only where none can be loaded.
+fn judge<R: Wait, Z: FirstZone>(
+    rt: &R,
+    alloc: Global,
+    server: &Server<'_, Z>,
+    reader: &mut VersionReader<Z>,
+    may: bool,
+    update: &Update,
+) -> Told
+    ensures { IsJudged Z.zone update.now may result }
+{
+    if !may {
+        match server.cell().load(rt, reader) {
+            Ok(strong) => return Told::code(refusal_in(strong.get(), update)),
+            Err(_) => {}
+        }
+    }
+    let (code, serials) = server.update(rt, alloc, update, may);
+    Told {
+        code,
+        serials: Some(serials),
+    }
+}
+
+/// The code of an update from a peer that may not update: that of the first rule that it breaks, of which the permission is one, after
+/// the zone section and the prerequisites (RFC 2136, 3.1 to 3.3).
+fn refusal_in(version: &Version, update: &Update) -> Rcode
+    ensures { verdict version.now.zone update.now false ≡ Some result }
+{
+    match check(version.zone(), update) {
+        Ok(()) => Rcode::Refused,
+        Err(code) => code,
+    }
+}
+
+/// What a query gets in the last of these versions.
+fn serve_query<'s, Z: FirstZone>(
+    newest: Newest<'s, Z>,
+    query: Query,
+    peer: Peer,
+    out: &mut [u8],
+) -> Served<'s, Z>
+    requires { limit_of peer.transport ≤ length out.old }
+    ensures { (request : List ℕ) → reads request ≡ SaysQuery query → IsServed Z.zone peer request out.new result }
+{
+    if is_permitted(newest.last_version(), &query, peer) {
+        return Served::Transfer(newest, query);
+    }
+    let len = respond_to_peer(newest.last_version().zone(), &query, peer, out);
+    Served::Reply(len)
+}
