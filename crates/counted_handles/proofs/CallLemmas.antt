@@ -172,10 +172,11 @@ module _ {T : Type 0} (begins : T → Type 0) (follows : T → T → Type 0) (sp
   pub settling_next : (p : Publishing T) (value : T) (found : ℕ) (me : Sat T) → p.share ≡ None → (told : Swapped p value found me) → IsSettling (slot_of found) (given_of found) (swapped_to p value told.0 found) told.0 me
   settling_next p value found me whole told = record { me_is = told.3; within = told.2; few = omega arith; how = refl; share = whole }
 
-  pub swapped_in : (p : Publishing T) (value : T) (found : ℕ) (before settled kept share : Sat T) → p.share ≡ None → (told : Swapped p value found before) → IsSettled (swapped_to p value told.0 found) told.0 (slot_of found) settled → kept ≡ (kept_share settled.0, settled.1) → share ≡ (given_share settled.0, []) → IsSwappedIn p value kept share
+  pub swapped_in : (p : Publishing T) (value : T) (found : ℕ) (before settled kept share : Sat T) → p.share ≡ None → (told : Swapped p value found before) → IsSettled (swapped_to p value told.0 found) told.0 (slot_of found) settled → kept ≡ (kept_share settled.0, settled.1) → share ≡ (given_share settled.0, []) → IsSwappedIn p value (slot_of found) kept share
   swapped_in p value found before settled kept share whole told is is_kept is_share =
       record {
         mark = is.mark;
+        slot_is = is.slot_is;
         last = told.1 ∙ ap (λ n. n + 1) (sym is.number_is);
         value_is = ap (slice_get p.published) is.number_is ∙ sym (get_before p.published value told.0 (omega (arith, told.1))) ∙ is.value;
         name_is = is.name_is;

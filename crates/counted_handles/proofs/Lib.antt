@@ -24,3 +24,4 @@ pub mod CallLemmas
 pub mod GuestLemmas
 pub mod LastLemmas
 pub mod OpenLemmas
+pub mod PutLemmas

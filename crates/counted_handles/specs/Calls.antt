@@ -66,8 +66,9 @@ pub record IsSettling {T : Type 0} (slot given : ℕ) (p : Publishing T) (number
   pub share : p.share ≡ None
 
 -- a publication's end: the value is published, and the seat of the old version's share has it (own)
-pub record IsSwappedIn {T : Type 0} (p : Publishing T) (value : T) (me share : Sat T) : Type 0 where
+pub record IsSwappedIn {T : Type 0} (p : Publishing T) (value : T) (slot : ℕ) (me share : Sat T) : Type 0 where
   pub mark : Mark T
+  pub slot_is : mark.slot ≡ slot
   pub last : length p.published ≡ mark.number + 1
   pub value_is : slice_get p.published mark.number ≡ Some mark.value
   pub name_is : mark.name ≡ p.name
@@ -132,3 +133,47 @@ pub record IsLoaded {T : Type 0} (begins : T → Type 0) (follows : T → T → 
   pub slot_is : mark.slot ≡ slot
   pub within : slot < slots
   pub name_is : mark.name ≡ reading.name
+
+-- the seat has the slot's place, whole and empty, to give it back (own)
+pub record IsEmptied {T : Type 0} (slot : ℕ) (me : Sat T) : Type 0 where
+  pub spot : RoomSpot T
+  pub room : Room T
+  pub me_is : me ≡ (Frees slot spot, (slot, room) ∷ [])
+  pub lies : room.at ≡ spot.at
+  pub empty : room.value ≡ None
+  pub whole : room.stake ≡ []
+
+-- an owner: the version is held, for a share of its slot at this table (own)
+pub record IsOwner {T : Type 0} (id : TableId) (stake : Stake (View T)) (value : Option (Version T)) (slot : ℕ) (version : Version T) : Type 0 where
+  pub mark : Mark T
+  pub stake_is : stake ≡ stake_of mark
+  pub held_is : value ≡ Some version
+  pub slot_is : mark.slot ≡ slot
+  pub name_is : mark.name ≡ id.views_name
+  pub within : slot < slots
+  pub fits : Fits id
+
+-- what a load gives its caller: an owner of the version published last, and the reader has seen all that is published (own)
+pub record IsOwned {T : Type 0} (begins : T → Type 0) (follows : T → T → Type 0) (reading : Reading T) (views : List (View T)) (version : Version T) : Type 0 where
+  pub published : List T
+  pub begun : Begins reading.seen published
+  pub history : IsHistory begins follows published
+  pub last : length published ≡ version.number + 1
+  pub value_is : slice_get published version.number ≡ Some version.value
+  pub views_are : views ≡ Reads (record reading { seen = published; left = reading.left - 1 }) ∷ []
+
+-- the version lies in the publisher's slot, and is to be swapped in (own)
+abbrev pub IsPut : {T : Type 0} → Publishing T → ℕ → T → Sat T → Type 0
+IsPut {T} p slot value me = (spot : RoomSpot T) × (me ≡ (Publishes (record p { how = Swapping slot; next = Some value; spot = spot }), []))
+
+-- the publisher between two publications, with no share that isn't split off (own)
+abbrev pub CanPublish : {T : Type 0} → Publishing T → List (View T) → Type 0
+CanPublish p views = (views ≡ Publishes p ∷ []) × (p.how ≡ Probing 0) × (p.share ≡ None)
+
+-- the version is the last of those that were published (own)
+abbrev pub IsOld : {T : Type 0} → Publishing T → Version T → Type 0
+IsOld p version = (length p.published ≡ version.number + 1) × (slice_get p.published version.number ≡ Some version.value)
+
+-- the value is published, and nothing else (own)
+abbrev pub IsNewer : {T : Type 0} → Publishing T → T → List (View T) → Type 0
+IsNewer {T} p value views = (spot : RoomSpot T) × (views ≡ Publishes (record p { published = p.published ++ value ∷ []; next = None; fixed = None; spot = spot }) ∷ [])

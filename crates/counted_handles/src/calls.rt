@@ -80,7 +80,11 @@ fn bury<T, C: Names<T>>(words: &Words<T, C>, seat: &mut Seat<Room<T>, View<T>>, 
 }
 
 // A free: the seat gives the slot's place back, whole and empty.
-fn free<T, C: Names<T>>(words: &Words<T, C>, seat: &mut Seat<Room<T>, View<T>>, slot: usize)
+pub(crate) fn free<T, C: Names<T>>(
+    words: &Words<T, C>,
+    seat: &mut Seat<Room<T>, View<T>>,
+    slot: usize,
+)
     requires fits { Fits words.now.table_id × (seat.old.table_id ≡ words.now.table_id) }
     requires whole { (spot : RoomSpot T) × (room : Room T) × (seat.old.me ≡ (Frees slot spot, (slot, room) ∷ [])) × (slot < slots) × (room.at ≡ spot.at) × (room.value ≡ None) × (room.stake ≡ []) }
     ensures seat { (seat.new.table_id ≡ seat.old.table_id) × (seat.new.id ≡ seat.old.id) × (seat.new.me ≡ (Gone, [])) }
@@ -89,7 +93,11 @@ fn free<T, C: Names<T>>(words: &Words<T, C>, seat: &mut Seat<Room<T>, View<T>>, 
 }
 
 // A prepare: the seat gives its slot's place back, with the next version in it.
-fn shelve<T, C: Names<T>>(words: &Words<T, C>, seat: &mut Seat<Room<T>, View<T>>, slot: usize)
+pub(crate) fn shelve<T, C: Names<T>>(
+    words: &Words<T, C>,
+    seat: &mut Seat<Room<T>, View<T>>,
+    slot: usize,
+)
     requires fits { Fits words.now.table_id × (seat.old.table_id ≡ words.now.table_id) × (seat.old.id ≡ 0) }
     requires ready { (p : Publishing T) × (value : T) × (room : Room T) × IsReady slot p value room seat.old.me }
     ensures seat { (seat.new.table_id ≡ seat.old.table_id) × (seat.new.id ≡ seat.old.id) }
@@ -124,7 +132,7 @@ fn settle<T, C: Names<T>>(
 }
 
 // The probes of one publication: the first free slot, whose place the seat then has. None where each was seen taken.
-fn take<T, C: Names<T>>(
+pub(crate) fn take<T, C: Names<T>>(
     words: &Words<T, C>,
     seat: &mut Seat<Room<T>, View<T>>,
     probed: &mut Probed,
@@ -144,20 +152,21 @@ fn take<T, C: Names<T>>(
     None
 }
 
-// A swap and its settle: the version in the slot is published, and a seat has the old version's share.
-fn swap_in<T, C: Names<T>>(
+// A swap and its settle: the version in the slot is published, and a seat has the old version's share, of this slot.
+pub(crate) fn swap_in<T, C: Names<T>>(
     words: &Words<T, C>,
     seat: &mut Seat<Room<T>, View<T>>,
     slot: usize,
-) -> Seat<Room<T>, View<T>>
+) -> (Seat<Room<T>, View<T>>, usize)
     requires fits { Fits words.now.table_id × (seat.old.table_id ≡ words.now.table_id) × (seat.old.id ≡ 0) }
     requires prepared { (p : Publishing T) × (value : T) × IsSwapping C.begins C.follows slot p value seat.old.me × (p.share ≡ None) }
-    ensures seats { (seat.new.table_id ≡ seat.old.table_id) × (seat.new.id ≡ seat.old.id) × (result.table_id ≡ seat.old.table_id) }
-    ensures published { (p : Publishing T) (value : T) → IsSwapping C.begins C.follows slot p value seat.old.me → p.share ≡ None → IsSwappedIn p value seat.new.me result.me }
+    ensures seats { (seat.new.table_id ≡ seat.old.table_id) × (seat.new.id ≡ seat.old.id) × (result.0.table_id ≡ seat.old.table_id) }
+    ensures published { (p : Publishing T) (value : T) → IsSwapping C.begins C.follows slot p value seat.old.me → p.share ≡ None → IsSwappedIn p value result.1 seat.new.me result.0.me }
 {
     let found = swap(words, seat, slot);
-    settle(words, seat, (found / SPAN) as usize, found % SPAN);
-    words.split_seat::<Shares>(seat)
+    let old = (found / SPAN) as usize;
+    settle(words, seat, old, found % SPAN);
+    (words.split_seat::<Shares>(seat), old)
 }
 
 // A load by the publisher, with the grants of a reader that it takes in: W as it was, the seat of the share, and that of a
@@ -223,7 +232,7 @@ fn deal<T, C: Names<T>>(
 }
 
 // The claim of the version that a share is of, for the share's seat.
-fn hold<T, C: Names<T>>(
+pub(crate) fn hold<T, C: Names<T>>(
     words: &Words<T, C>,
     spots: &Spots<T>,
     share: Seat<Room<T>, View<T>>,
@@ -244,7 +253,7 @@ fn hold<T, C: Names<T>>(
 }
 
 // The claim goes back, and then the share. Some where a bury follows and wins: the seat has the slot's place, whole again.
-fn give_up<T, C: Names<T>>(
+pub(crate) fn give_up<T, C: Names<T>>(
     words: &Words<T, C>,
     held: Held<Option<Version<T>>, View<T>>,
     slot: usize,
@@ -267,7 +276,7 @@ fn give_up<T, C: Names<T>>(
 }
 
 // A load with its claim: the version published last, and its slot.
-fn load_last<T, C: Names<T>>(
+pub(crate) fn load_last<T, C: Names<T>>(
     words: &Words<T, C>,
     spots: &Spots<T>,
     badge: &mut Badge<View<T>>,

@@ -9,13 +9,17 @@
 
 mod calls;
 mod names;
+mod owner;
 mod plays;
 mod probed;
+mod publications;
 mod rule;
 mod view;
 
 pub use calls::Words;
 pub use names::Names;
+pub use owner::{Released, Strong, load};
 pub use probed::Probed;
+pub use publications::{NoSlot, publish};
 pub use rule::{Room, Rule, Spots};
 pub use view::{Mark, Publishing, Reading, View};

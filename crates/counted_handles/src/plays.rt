@@ -2,15 +2,17 @@
 ghost use Rattle.counted_handles.specs.Plays.{LoadTells, NewestTells, ReleaseTells, BuryTells, FreeTells, ProbeTells, PrepareTells, SwapTells, SettleTells, LookTells, OpenTells, OfferTells};
 ghost use Rattle.counted_handles.specs.Tells.{IsClaimed};
 ghost use Rattle.counted_handles.specs.Cuts.{kept_share, given_share, kept_back, handed_back, kept_dealt, dealt, guested};
-ghost use Rattle.counted_handles.specs.declared.view.View.TheVariants.{Gone};
+ghost use Rattle.counted_handles.specs.declared.view.View.TheVariants.{Has, Gone};
+ghost use Rattle.counted_handles.specs.Ruled.{mark_of};
 
 use crate::names::Names;
 use crate::rule::Room;
 use crate::view::View;
 use atomic_table::{Join, Play, Split};
 use cell_core::Version;
-use raw_slots::Tells;
+use raw_slots::{Keys, Tells};
 use std::marker::PhantomData;
+use std::snapshot::Snapshot;
 
 /// A reader's load of W.
 pub struct Loads<C> {
@@ -141,4 +143,18 @@ pub struct Claims;
 
 impl<T> Tells<Option<Version<T>>, View<T>> for Claims {
     ghost tells = { IsClaimed };
+}
+
+/// What is told of a version when its place is shared.
+#[derive(Drop)]
+pub struct About<T> {
+    pub slot: usize,
+    pub version: Snapshot<Version<T>>,
+}
+
+/// A place that is shared for the version in a slot.
+pub struct Puts;
+
+impl<T> Keys<View<T>, About<T>> for Puts {
+    ghost key = { λ about name life tally. Has (mark_of name about.slot about.version.value life tally) };
 }

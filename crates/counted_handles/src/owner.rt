@@ -1,0 +1,179 @@
+//! Owners of versions.
+ghost use Rattle.std.specs.Prelude.{◌≡◌, ◌<◌, [], Some, length, vec_len};
+ghost use Rattle.cell_core.specs.Words.{slots};
+ghost use Rattle.counted_handles.specs.declared.view.Mark.{Mark};
+ghost use Rattle.cell_core.specs.declared.words.Version.{Version};
+ghost use Rattle.counted_handles.specs.declared.view.Reading.{Reading};
+ghost use Rattle.counted_handles.specs.declared.view.View.TheVariants.{Has};
+ghost use Rattle.counted_handles.specs.Calls.{Fits, CanRead, IsOut, IsEmptied, IsOwned};
+ghost use Rattle.counted_handles.specs.Ruled.{stake_of, version_of};
+
+use crate::calls::{Words, free, give_up, hold, load_last};
+use crate::names::Names;
+use crate::rule::{Room, Spots};
+use crate::view::View;
+use atomic_table::{Badge, Seat};
+use cell_core::Version;
+use raw_slots::Held;
+use std::marker::Model;
+use std::snapshot::Snapshot;
+
+/// What an owner's release did.
+#[derive(Clone, Copy, Debug, PartialEq, Eq)]
+pub enum Released {
+    /// The owner is gone, and the version isn't: another owns it, or it is the last, or another call buries it.
+    Left,
+    /// The owner is gone, and this call buried the version of this number, which lay in its slot.
+    Buried(u64),
+}
+
+/// An owner of a version, which stays as it is until its last owner is gone. Contracts see the version.
+pub struct Strong<'a, T: Drop, C: Names<T>> {
+    words: &'a Words<T, C>,
+    held: Held<Option<Version<T>>, View<T>>,
+    slot: usize,
+    version: Snapshot<Version<T>>,
+}
+
+impl<'a, T: Drop, C: Names<T>> Model for Strong<'a, T, C> {
+    ghost use Rattle.cell_core.specs.declared.words.Version.{Version};
+    ghost use Rattle.counted_handles.specs.Calls.{IsOwner};
+
+    ghost Value = { Version T };
+
+    ghost view = { λ a. a.version.value };
+
+    ghost invariant = { λ a. IsOwner a.words.now.table_id a.held.stake a.held.value a.slot a.version.value };
+}
+
+// The version of a place that the seat has taken: the place is empty behind it.
+fn empty<T, C: Names<T>>(
+    words: &Words<T, C>,
+    seat: &mut Seat<Room<T>, View<T>>,
+    slot: usize,
+) -> Option<Version<T>>
+    requires out { (seat.old.table_id ≡ words.now.table_id) × IsOut slot seat.old.me }
+    ensures seat { (seat.new.table_id ≡ seat.old.table_id) × (seat.new.id ≡ seat.old.id) }
+    ensures version { (mark : Mark T) × (result ≡ Some (version_of mark)) }
+    ensures emptied { IsEmptied slot seat.new.me }
+{
+    seat.slot_mut(words, slot).replace(None)
+}
+
+// All steps of a release: the number of the version that it buried. The value of that version is dropped before its slot is free.
+fn let_go<T: Drop, C: Names<T>>(
+    words: &Words<T, C>,
+    held: Held<Option<Version<T>>, View<T>>,
+    slot: usize,
+) -> Released
+    requires fits { Fits words.now.table_id × (slot < slots) }
+    requires has { (mark : Mark T) × (held.stake ≡ stake_of mark) × (mark.slot ≡ slot) × (mark.name ≡ words.now.table_id.views_name) }
+{
+    let Some(mut seat) = give_up(words, held, slot) else {
+        return Released::Left;
+    };
+    let number = match empty(words, &mut seat, slot) {
+        Some(version) => version.number,
+        None => unreachable!(),
+    };
+    free(words, &mut seat, slot);
+    Released::Buried(number)
+}
+
+// The owner of a version that is held, for a share of its slot.
+fn keep<'a, T: Drop, C: Names<T>>(
+    words: &'a Words<T, C>,
+    held: Held<Option<Version<T>>, View<T>>,
+    slot: usize,
+) -> Strong<'a, T, C>
+    requires fits { Fits words.now.table_id × (slot < slots) }
+    requires has { (mark : Mark T) × (held.stake ≡ stake_of mark) × (held.value ≡ Some (version_of mark)) × (mark.slot ≡ slot) × (mark.name ≡ words.now.table_id.views_name) }
+    ensures { (version : Version T) → held.value ≡ Some version → result ≡ version }
+{
+    let version = match held.get() {
+        Some(version) => Snapshot::of(version),
+        None => unreachable!(),
+    };
+    Strong {
+        words,
+        held,
+        slot,
+        version,
+    }
+}
+
+// The owner of the version that a share is of.
+pub(crate) fn own<'a, T: Drop, C: Names<T>>(
+    words: &'a Words<T, C>,
+    spots: &Spots<T>,
+    share: Seat<Room<T>, View<T>>,
+    slot: usize,
+) -> Strong<'a, T, C>
+    requires fits { Fits words.now.table_id × (share.table_id ≡ words.now.table_id) × (spots.now ≡ words.now.key) × (vec_len spots.now.places ≡ slots) × (length spots.now.places.items ≡ slots) }
+    requires has { (mark : Mark T) × (share.me ≡ (Has mark, [])) × (mark.slot ≡ slot) × (mark.name ≡ words.now.table_id.views_name) × (slot < slots) }
+    ensures { (mark : Mark T) → share.me ≡ (Has mark, []) → result ≡ version_of mark }
+{
+    let held = hold(words, spots, share, slot);
+    keep(words, held, slot)
+}
+
+/// An owner of the version published last, by one addition to W. The reader has then seen all that is published, and has one
+/// grant less.
+pub fn load<'a, T: Drop, C: Names<T>>(
+    words: &'a Words<T, C>,
+    spots: &Spots<T>,
+    badge: &mut Badge<View<T>>,
+) -> Strong<'a, T, C>
+    requires fits { Fits words.now.table_id × (badge.old.table_id ≡ words.now.table_id) × (spots.now ≡ words.now.key) × (vec_len spots.now.places ≡ slots) × (length spots.now.places.items ≡ slots) }
+    requires can { (reading : Reading T) × CanRead reading badge.old.views × (reading.name ≡ words.now.table_id.views_name) }
+    ensures badge { (badge.new.table_id ≡ badge.old.table_id) × (badge.new.id ≡ badge.old.id) }
+    ensures loaded { (reading : Reading T) → CanRead reading badge.old.views → IsOwned C.begins C.follows reading badge.new.views result }
+{
+    let (held, slot) = load_last(words, spots, badge);
+    keep(words, held, slot)
+}
+
+impl<'a, T: Drop, C: Names<T>> Strong<'a, T, C> {
+    /// The version's number.
+    pub fn number(&self) -> u64
+        ensures { result ≡ self.now.number }
+    {
+        match self.held.get() {
+            Some(version) => version.number,
+            None => unreachable!(),
+        }
+    }
+
+    /// The version's value.
+    pub fn get(&self) -> &T
+        ensures { result.now ≡ self.now.value }
+    {
+        match self.held.get() {
+            Some(version) => &version.value,
+            None => unreachable!(),
+        }
+    }
+
+    /// Gives the owner up. It waits for nobody.
+    pub fn release(self) -> Released {
+        let Strong {
+            words,
+            held,
+            slot,
+            version: _,
+        } = self;
+        let_go(words, held, slot)
+    }
+}
+
+impl<'a, T: Drop, C: Names<T>> Drop for Strong<'a, T, C> {
+    fn drop(self) {
+        let Strong {
+            words,
+            held,
+            slot,
+            version: _,
+        } = self;
+        let_go(words, held, slot);
+    }
+}
