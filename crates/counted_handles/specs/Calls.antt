@@ -177,3 +177,13 @@ IsOld p version = (length p.published ≡ version.number + 1) × (slice_get p.pu
 -- the value is published, and nothing else (own)
 abbrev pub IsNewer : {T : Type 0} → Publishing T → T → List (View T) → Type 0
 IsNewer {T} p value views = (spot : RoomSpot T) × (views ≡ Publishes (record p { published = p.published ++ value ∷ []; next = None; fixed = None; spot = spot }) ∷ [])
+
+-- the publisher with no share that isn't split off and no grant of its own (own)
+abbrev pub IsAtRest : {T : Type 0} → Publishing T → List (View T) → Type 0
+IsAtRest p views = (views ≡ Publishes p ∷ []) × (p.share ≡ None) × (p.left ≡ 0)
+
+-- what a load by the publisher gives its caller: an owner of its last version, and the reader has seen all that is published (own)
+pub record IsOwnLast {T : Type 0} (p : Publishing T) (r : Reading T) (views reader : List (View T)) (version : Version T) : Type 0 where
+  pub last : IsOld p version
+  pub views_are : views ≡ Publishes (gave_back p) ∷ []
+  pub reader_is : reader ≡ reader_of p (r.left - 1) ∷ []

@@ -171,7 +171,7 @@ pub(crate) fn swap_in<T, C: Names<T>>(
 
 // A load by the publisher, with the grants of a reader that it takes in: W as it was, the seat of the share, and that of a
 // reader with the grants that are left.
-fn draw_newest<T, C: Names<T>>(
+pub(crate) fn draw_newest<T, C: Names<T>>(
     words: &Words<T, C>,
     seat: &mut Seat<Room<T>, View<T>>,
     guest: Seat<Room<T>, View<T>>,

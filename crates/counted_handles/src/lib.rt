@@ -20,6 +20,6 @@ pub use calls::Words;
 pub use names::Names;
 pub use owner::{Released, Strong, load};
 pub use probed::Probed;
-pub use publications::{NoSlot, publish};
+pub use publications::{NoSlot, newest, publish};
 pub use rule::{Room, Rule, Spots};
 pub use view::{Mark, Publishing, Reading, View};

@@ -2,11 +2,12 @@
 ghost use Rattle.std.specs.Prelude.{◌≡◌, ◌+◌, ◌-◌, ◌^◌, ◌<◌, [], ◌∷◌, ◌++◌, length, vec_len, IfOk, IfErr};
 ghost use Rattle.cell_core.specs.Words.{slots};
 ghost use Rattle.counted_handles.specs.declared.view.Publishing.{Publishing};
+ghost use Rattle.counted_handles.specs.declared.view.Reading.{Reading};
 ghost use Rattle.counted_handles.specs.History.{IsHistory};
 ghost use Rattle.counted_handles.specs.Tells.{IsTaken};
-ghost use Rattle.counted_handles.specs.Calls.{Fits, IsPut, CanPublish, IsOld, IsNewer};
+ghost use Rattle.counted_handles.specs.Calls.{Fits, CanRead, IsPut, CanPublish, IsOld, IsNewer, IsAtRest, IsOwnLast};
 
-use crate::calls::{Words, shelve, swap_in, take};
+use crate::calls::{SPAN, Words, draw_newest, shelve, swap_in, take};
 use crate::names::Names;
 use crate::owner::{Strong, own};
 use crate::plays::{About, Puts};
@@ -76,4 +77,25 @@ pub fn publish<'a, T: Drop, C: Names<T>>(
     let (share, old) = swap_in(words, &mut seat, slot);
     *badge = seat.into_badge();
     Ok(own(words, spots, share, old))
+}
+
+/// An owner of the version that this publisher published last, for a grant of the reader, which has then seen all that is
+/// published. It waits for nobody.
+pub fn newest<'a, T: Drop, C: Names<T>>(
+    words: &'a Words<T, C>,
+    spots: &Spots<T>,
+    badge: &mut Badge<View<T>>,
+    reader: &mut Badge<View<T>>,
+) -> Strong<'a, T, C>
+    requires fits { Fits words.now.table_id × (badge.old.table_id ≡ words.now.table_id) × (badge.old.id ≡ 0) × (reader.old.table_id ≡ words.now.table_id) × (spots.now ≡ words.now.key) × (vec_len spots.now.places ≡ slots) × (length spots.now.places.items ≡ slots) }
+    requires can { (p : Publishing T) × (r : Reading T) × IsAtRest p badge.old.views × CanRead r reader.old.views × (p.name ≡ words.now.table_id.views_name) }
+    ensures badges { (badge.new.table_id ≡ badge.old.table_id) × (badge.new.id ≡ badge.old.id) × (reader.new.table_id ≡ words.now.table_id) }
+    ensures newest { (p : Publishing T) (r : Reading T) → IsAtRest p badge.old.views → CanRead r reader.old.views → IsOwnLast p r badge.new.views reader.new.views result }
+{
+    let mut seat = mem::replace(badge, Badge::blank()).into_seat();
+    let guest = mem::replace(reader, Badge::blank()).into_seat();
+    let (found, share, rest) = draw_newest(words, &mut seat, guest);
+    *badge = seat.into_badge();
+    *reader = rest.into_badge();
+    own(words, spots, share, (found / SPAN) as usize)
 }
