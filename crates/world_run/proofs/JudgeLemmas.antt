@@ -1,5 +1,5 @@
 -- What an update comes to, by what is told of it.
-use Rattle.std.proofs.Common.{◌≡◌, ◌≢◌, refl, sym, ap, ◌∙◌, subst, ℕ, ◌+◌, ◌^◌, Bool, true, false, inl, inr, List, Option, Some, None, MatchOption}
+use Rattle.std.proofs.Common.{◌≡◌, ◌≢◌, refl, sym, ap, ◌∙◌, subst, ℕ, ◌+◌, ◌^◌, Bool, true, false, ◌⊎◌, inl, inr, List, Option, Some, None, MatchOption}
 use Rattle.std.specs.Prelude.{◌==◌, ◌&&◌, bytes_eq, nat_lt, if◌then◌else◌}
 use Rattle.std.specs.Bool.{Decides}
 use Rattle.std.specs.Cmp.Lexicographic.{pointwise}
@@ -17,7 +17,9 @@ use Rattle.dns_message.specs.declared.update.Update.{Update as DynamicUpdate}
 use Rattle.dns_message.specs.Message.{opcode_UPDATE}
 use Rattle.dns_message.specs.Request.{reads}
 use Rattle.update_core.specs.Act.{act}
-use Rattle.update_core.specs.Applied.{code_of}
+use Rattle.update_core.specs.Applied.{IsTold, code_of, code_told}
+use Rattle.update_core.specs.declared.outcome.Outcome.{Outcome}
+use Rattle.update_core.specs.declared.outcome.Outcome.TheVariants.{Refused, Unchanged, Next}
 use Rattle.update_core.specs.Verdict.{verdict}
 use Rattle.zone_tree.specs.Version.{Version as Numbered, Changes, AreChanges, KnowsChanges}
 use Rattle.zone_tree.specs.Change.{left_out}
@@ -73,10 +75,20 @@ let_through : (last : Numbered) (next : List Record) (update : DynamicUpdate) �
 let_through last next update passed made = ap (judged_by last update) (no_code last.zone next update passed made) ∙ ap (made_of last update.head) made
 
 -- an update that changes nothing is told NOERROR
-pub told_unchanged : (version : Numbered) (update : DynamicUpdate) → verdict version.zone update true ≡ None → act version.zone update ≡ Some version.zone → Some (Told update.head NoError) ≡ judged_by version update (code_of version.zone update true)
+told_unchanged : (version : Numbered) (update : DynamicUpdate) → verdict version.zone update true ≡ None → act version.zone update ≡ Some version.zone → Some (Told update.head NoError) ≡ judged_by version update (code_of version.zone update true)
 told_unchanged version update passed made =
     let same : is_equal_zone version.zone version.zone ≡ true = (zones_told version.zone version.zone).1 refl in
     sym (let_through version version.zone update passed made ∙ rw same refl)
+
+-- an update that is refused, or changes nothing, is told its code
+pub told_by_code : (version : Numbered) (update : DynamicUpdate) (outcome : Outcome) (code : Rcode) → IsTold version update true outcome → code ≡ code_told outcome → ((said : Rcode) × outcome ≡ Refused said) ⊎ outcome ≡ Unchanged
+    → Some (Told update.head code) ≡ judged_by version update (code_of version.zone update true)
+told_by_code version update outcome code told is (inl refused) =
+    let coded : code_of version.zone update true ≡ Some refused.0 = subst (λ o. IsTold version update true o) refused.1 told in
+    ap (λ c. Some (Told update.head c)) (is ∙ ap code_told refused.1) ∙ sym (ap (judged_by version update) coded)
+told_by_code version update outcome code told is (inr unchanged) =
+    let passed : (verdict version.zone update true ≡ None) × act version.zone update ≡ Some version.zone = subst (λ o. IsTold version update true o) unchanged told in
+    ap (λ c. Some (Told update.head c)) (is ∙ ap code_told unchanged) ∙ told_unchanged version update passed.0 passed.1
 
 -- changes that are those between two zones
 same_changes : (before after : List Record) (changes : Changes) → AreChanges changes before after → changes ≡ changes_between before after
@@ -95,12 +107,13 @@ same_version before number made counted known =
     ap (λ n. record made { number = n }) counted ∙ ap (λ c. record made { number = number; changes = c }) (same_known before made.zone made.changes known)
 
 -- one that makes another zone makes the version of the next number
-pub told_next : (version made : Numbered) (update : DynamicUpdate) → verdict version.zone update true ≡ None → act version.zone update ≡ Some made.zone → made.zone ≢ version.zone → made.number ≡ version.number + 1 → KnowsChanges version.zone made
+pub told_next : (version made : Numbered) (update : DynamicUpdate) (outcome : Outcome) → IsTold version update true outcome → outcome ≡ Next made
     → Some (Makes update.head made) ≡ judged_by version update (code_of version.zone update true)
-told_next version made update passed does apart next known =
-    let other : is_equal_zone version.zone made.zone ≡ false = zones_apart version.zone made.zone apart in
+told_next version made update outcome told is =
+    let next : IsTold version update true (Next made) = subst (λ o. IsTold version update true o) is told in
+    let other : is_equal_zone version.zone made.zone ≡ false = zones_apart version.zone made.zone next.2 in
     let made_so : made_of version update.head (Some made.zone) ≡ Some (Makes update.head (record { number = version.number + 1; zone = made.zone; changes = Some (changes_between version.zone made.zone) })) = rw other refl in
-    sym (let_through version made.zone update passed does ∙ made_so ∙ ap (λ m. Some (Makes update.head m)) (sym (same_version version.zone (version.number + 1) made next known)))
+    sym (let_through version made.zone update next.0 next.1 ∙ made_so ∙ ap (λ m. Some (Makes update.head m)) (sym (same_version version.zone (version.number + 1) made next.3 next.4)))
 
 -- what makes a version
 pub record MadeBy (last : Numbered) (request : List ℕ) (head : Head) (version : Numbered) : Type 0 where

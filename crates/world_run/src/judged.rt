@@ -68,9 +68,10 @@ fn judge_update(
     ensures refused { IfErr result (λ fault. fault ≡ WorldFault.NoMemory) }
 {
     let head = update.head;
-    match apply(alloc, version, update, true) {
-        Outcome::Refused(code) => Ok(Some(Judged::Told(head, code))),
-        Outcome::Unchanged => Ok(Some(Judged::Told(head, Rcode::NoError))),
+    let outcome = apply(alloc, version, update, true);
+    let code = outcome.code();
+    match outcome {
+        Outcome::Refused(_) | Outcome::Unchanged => Ok(Some(Judged::Told(head, code))),
         Outcome::Next(next) => Ok(Some(Judged::Makes(head, Published::new(alloc, next)?))),
         Outcome::NoMemory => Err(WorldFault::NoMemory),
     }
