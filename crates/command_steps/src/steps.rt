@@ -16,10 +16,10 @@ use std::io::{self, BufRead, Write};
 use world_run::{Answer, Octets, Options, StepName, WorldReply, WorldStep, run};
 use zone_tree::Zone;
 
-/// Plays the script that the reader gives, from a zone on, with so many versions kept beside the last and a window of so many, and
+/// Plays the script that the reader gives, from a zone on, with as many versions kept and as long a window as the options say, and
 /// writes for each line what its call gave: `NAME N` for a strong owner of version N, `left`, `buried N`, the reply to a request or
-/// to an update in lower-case hexadecimal, `-` where there is none, the messages of a transfer with a space between; `ok` for a call that is under way; the name of the step that one took, at its
-/// last step with what the call gave; and `not enabled`.
+/// to an update in lower-case hexadecimal, `-` where there is none, the messages of a transfer with a space between; `ok` for a
+/// call that is under way; the name of the step that one took, at its last step with what the call gave; and `not enabled`.
 ///
 /// The script is read whole before anything is done, and played before anything is written. `Script` is the first line that
 /// says no step, `World` want of memory while it is played or a line that begins a call where 64 are under way, `Device` a
@@ -27,22 +27,21 @@ use zone_tree::Zone;
 pub fn run_steps<R: BufRead, W: Write>(
     alloc: Global,
     zone: Zone,
-    keep: usize,
-    window: usize,
+    options: Options,
     reader: &mut R,
     writer: &mut W,
 ) -> Result<(), StepsFault>
     // Where the reader tells its octets and the writer those that it holds.
     ensures ok { OnOk result (IfSome (R.remaining reader.old) (λ input.
-        Appends (W.contents writer.old) (W.contents writer.new) (script_output zone keep window input))) }
+        Appends (W.contents writer.old) (W.contents writer.new) (script_output zone options.keep options.window input))) }
     ensures fault { IfErr result (λ fault. IfSome (R.remaining reader.old) (λ input. IsOfScript input fault)) }
-    ensures limit { IfErr result (λ fault. AtLimit fault (IfSome (R.remaining reader.old) (λ input. IsPastLimit zone keep window (script_of input)))) }
+    ensures limit { IfErr result (λ fault. AtLimit fault (IfSome (R.remaining reader.old) (λ input. IsPastLimit zone options.keep options.window (script_of input)))) }
     ensures unwritten { IfErr result (λ fault. IsRefusal fault → W.contents writer.new ≡ W.contents writer.old) }
     ensures failed { IfErr result (λ fault. AtDevice fault (IfSome (R.remaining reader.old) (λ input.
-        Begins (W.contents writer.old) (W.contents writer.new) (script_output zone keep window input)))) }
+        Begins (W.contents writer.old) (W.contents writer.new) (script_output zone options.keep options.window input)))) }
 {
     let script = read_script(alloc, reader)?;
-    let replies = match play(alloc, zone, keep, window, script.as_slice()) {
+    let replies = match play(alloc, zone, options, script.as_slice()) {
         Ok(replies) => replies,
         Err(fault) => return Err(fault),
     };
@@ -54,16 +53,15 @@ pub fn run_steps<R: BufRead, W: Write>(
 fn play(
     alloc: Global,
     zone: Zone,
-    keep: usize,
-    window: usize,
+    options: Options,
     script: &[ScriptStep],
 ) -> Result<Vec<WorldReply>, StepsFault>
-    ensures replies { IfOk result (λ replies. replies_of zone keep window (map said_by script.now) ≡ Some replies.items) }
+    ensures replies { IfOk result (λ replies. replies_of zone options.keep options.window (map said_by script.now) ≡ Some replies.items) }
     ensures fault { IfErr result (λ fault. IsOfPlay fault) }
-    ensures limit { IfErr result (λ fault. AtLimit fault (IsPastLimit zone keep window (Ok (map said_by script.now)))) }
+    ensures limit { IfErr result (λ fault. AtLimit fault (IsPastLimit zone options.keep options.window (Ok (map said_by script.now)))) }
 {
     let steps = world_steps(alloc, script)?;
-    let replies = match run(alloc, zone, Options { keep, window }, steps.as_slice()) {
+    let replies = match run(alloc, zone, options, steps.as_slice()) {
         Ok(replies) => replies,
         Err(fault) => return Err(StepsFault::World(fault)),
     };

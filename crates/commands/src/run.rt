@@ -15,6 +15,7 @@ use line_io::read_zone_text;
 use master_file::{FileFault, read_zone};
 use std::alloc::Global;
 use std::io::{BufRead, BufWriter, Write};
+use world_run::Options;
 use zone_tree::Zone;
 
 /// Does one parsed command whose zone's text is the front of the reader, up to a line `%` or its end; the command's input
@@ -153,7 +154,11 @@ fn do_command<R: BufRead, W: Write>(
         Command::Check { .. } => Ok(run_check(alloc, &zone, writer)?),
         Command::Apply { .. } => run_apply(alloc, &zone, reader, writer),
         Command::Steps { keep, window, .. } => {
-            Ok(run_steps(alloc, zone, *keep, *window, reader, writer)?)
+            let options = Options {
+                keep: *keep,
+                window: *window,
+            };
+            Ok(run_steps(alloc, zone, options, reader, writer)?)
         }
     }
 }
