@@ -7,6 +7,7 @@
 
 mod connection;
 mod interrupted;
+mod listener;
 mod scratch;
 mod service;
 mod shared_socket;
@@ -15,6 +16,7 @@ mod udp_job;
 mod workers;
 
 pub use connection::{Connection, PATIENCE, TcpDevice, Timed};
+pub use listener::{Listener, SharedListener};
 pub use scratch::Scratch;
 pub use service::{Plan, ServeFault, serve_zone};
 pub use shared_socket::SharedSocket;

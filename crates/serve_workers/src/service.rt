@@ -1,10 +1,11 @@
 //! A zone served on sockets, by workers.
-ghost use Rattle.std.specs.Prelude.{◌≡◌, ◌≢◌, ◌+◌, ◌*◌, ◌<◌, ◌≤◌, ◌⊎◌, ◌↔◌, vec_len, IfErr, IfSome, IsErrOf, OnOk};
-ghost use Rattle.dns_engine.specs.declared.fault.EngineFault.{EngineFault as EngineRefused};
+ghost use Rattle.std.specs.Prelude.{◌≡◌, ◌+◌, ◌*◌, ◌%◌, ◌≤◌, ◌⊎◌, true, false, vec_len, IfErr, IfSome};
 ghost use Rattle.dns_engine.specs.Held.{KEPT};
 ghost use Rattle.snapshot_cell.specs.declared.cell.TheConstants.{READERS};
 ghost use Rattle.serve_workers.specs.declared.service.ServeFault.{ServeFault as Fault};
+ghost use Rattle.serve_workers.specs.Numbers.{number_of, takes_datagrams};
 
+use crate::listener::SharedListener;
 use crate::scratch::Scratch;
 use crate::shared_socket::SharedSocket;
 use crate::tcp::TcpJob;
@@ -29,9 +30,9 @@ pub struct Plan<'a> {
     pub datagrams: &'a UdpSocket,
     /// The listener on which connections come.
     pub listener: &'a TcpListener,
-    /// How many workers there are for each of them.
+    /// How many workers there are for each of them; twice as many and one more are at most `snapshot_cell::READERS`.
     pub workers: usize,
-    /// How many versions are kept older than the last.
+    /// How many versions are kept older than the last; at most `dns_engine::KEPT`.
     pub keep: usize,
     /// How many requests a worker answers by datagrams, or connections it serves.
     pub most: u64,
@@ -42,9 +43,6 @@ pub struct Plan<'a> {
 /// Why a zone isn't served any more.
 #[derive(Clone, Copy, Debug, Error)]
 pub enum ServeFault {
-    /// There are more workers, or more versions are to be kept, than there may be.
-    #[error("too many workers, or versions to keep")]
-    TooMany,
     /// A thread was refused.
     #[error("a thread can't be started")]
     NotStarted,
@@ -65,7 +63,7 @@ enum SocketJob<'a, C> {
     /// Requests by datagrams.
     Datagrams(UdpJob<'a, SharedSocket<'a>>),
     /// Connections.
-    Connections(TcpJob<'a, C>),
+    Connections(TcpJob<'a, SharedListener<'a, C>, C>),
 }
 
 impl<C: Clock> SocketJob<'_, C> {
@@ -87,6 +85,8 @@ impl<C: Clock> SocketJob<'_, C> {
 }
 
 impl<C: Clock + Sync> Job for SocketJob<'_, C> {
+    ghost number = { number_of };
+
     fn run<R: Wait, A: Answering, G: Gate, L: ServiceLog>(
         &mut self,
         rt: &R,
@@ -109,10 +109,9 @@ pub fn serve_zone<
     Z: FirstZone + Send + Sync,
     L: ServiceLog + Sync,
 >(rt: &R, alloc: Global, zone: Zone, plan: Plan<'_>, log: &L) -> Result<(), ServeFault>
-    requires { zone ≡ Z.zone }
-    ensures kept { OnOk result (plan.entry.keep ≤ KEPT) }
-    ensures workers { READERS < 2 * plan.entry.workers + 1 → IsErrOf result Fault.TooMany }
-    ensures too_many { IsErrOf result Fault.TooMany → (READERS < 2 * plan.entry.workers + 1) ⊎ (KEPT < plan.entry.keep) }
+    requires first { zone ≡ Z.zone }
+    requires workers { 2 * plan.workers + 1 ≤ READERS }
+    requires kept { plan.keep ≤ KEPT }
 {
     let readers = plan.workers.saturating_mul(2).saturating_add(1);
     let Parts {
@@ -121,13 +120,13 @@ pub fn serve_zone<
         readers,
     } = match Cell::new(rt, alloc, readers, Version::first(zone)) {
         Ok(parts) => parts,
-        Err(NewFault::TooManyReaders) => return Err(ServeFault::TooMany),
+        Err(NewFault::TooManyReaders) => unreachable!(),
         Err(NewFault::NoMemory) => return Err(ServeFault::NoMemory),
     };
     serve_cell::<R, Z, L>(rt, alloc, &cell, publisher, readers, plan, log)
 }
 
-/// Serves the versions of a cell in which the first one alone is published.
+/// Serves the versions of a cell in which the first one alone is published, with a reader for the engine and one for each worker.
 fn serve_cell<R: Threads + Wait + Clock + Sync, Z: FirstZone + Send + Sync, L: ServiceLog + Sync>(
     rt: &R,
     alloc: Global,
@@ -138,16 +137,18 @@ fn serve_cell<R: Threads + Wait + Clock + Sync, Z: FirstZone + Send + Sync, L: S
     log: &L,
 ) -> Result<(), ServeFault>
     requires first { publisher.number ≡ 0 }
-    requires reader { 0 < vec_len readers }
-    ensures kept { OnOk result (plan.entry.keep ≤ KEPT) }
-    ensures too_many { IsErrOf result Fault.TooMany → KEPT < plan.entry.keep }
+    requires readers { vec_len readers ≡ 2 * plan.workers + 1 }
+    requires kept { plan.keep ≤ KEPT }
 {
     let Some(reader) = readers.pop() else {
         unreachable!()
     };
     let server = match Server::new(rt, cell, publisher, reader, plan.keep) {
         Ok(server) => server,
-        Err(refused) => return Err(fault_of(refused.fault)),
+        Err(refused) => match refused.fault {
+            EngineFault::TooGreat => unreachable!(),
+            EngineFault::Spent => return Err(ServeFault::Spent),
+        },
     };
     serve_with(rt, alloc, &server, readers, plan, log)
 }
@@ -161,7 +162,7 @@ fn serve_with<R: Threads + Wait + Clock + Sync, Z: FirstZone + Send + Sync, L: S
     plan: Plan<'_>,
     log: &L,
 ) -> Result<(), ServeFault>
-    ensures { IfErr result (λ fault. fault ≢ Fault.TooMany) }
+    requires { vec_len readers ≡ 2 * plan.workers }
 {
     let pairs = pairs_of(rt, alloc, readers, plan)?;
     let Ok(pairs) = run_workers(rt, alloc, server, pairs, &OpenGate, log) else {
@@ -187,17 +188,28 @@ fn fault_in<Z: FirstZone, C: Clock>(
     None
 }
 
-/// Why a zone isn't served whose engine isn't made.
-fn fault_of(fault: EngineFault) -> ServeFault
-    ensures { (result ≡ Fault.TooMany) ↔ (fault ≡ EngineRefused.TooGreat) }
+/// The job of a worker, by its number: on datagrams where that is odd, else on connections.
+fn job_of<'a, R: Clock>(
+    rt: &'a R,
+    plan: Plan<'a>,
+    number: usize,
+    scratch: Scratch,
+) -> SocketJob<'a, R>
+    ensures number { number_of result ≡ number }
+    ensures datagrams { number % 2 ≡ 1 → takes_datagrams result ≡ true }
+    ensures connections { number % 2 ≡ 0 → takes_datagrams result ≡ false }
 {
-    match fault {
-        EngineFault::TooGreat => ServeFault::TooMany,
-        EngineFault::Spent => ServeFault::Spent,
+    let Plan { allowed, most, .. } = plan;
+    if number % 2 == 1 {
+        let socket = SharedSocket::new(plan.datagrams);
+        SocketJob::Datagrams(UdpJob::new(number, socket, allowed, most, scratch))
+    } else {
+        let listener = SharedListener::new(plan.listener, rt);
+        SocketJob::Connections(TcpJob::new(number, listener, rt, allowed, most, scratch))
     }
 }
 
-/// The readers with their jobs, by turns on the one socket and on the other.
+/// The readers with their jobs, which are numbered from 1.
 fn pairs_of<'a, R: Clock, Z: FirstZone>(
     rt: &'a R,
     alloc: Global,
@@ -207,28 +219,16 @@ fn pairs_of<'a, R: Clock, Z: FirstZone>(
     ensures { IfErr result (λ fault. fault ≡ Fault.NoMemory) }
 {
     let mut pairs = Vec::new(alloc);
-    let mut by_datagrams = true;
     let mut number = 0usize;
     for reader in readers {
         number = number.saturating_add(1);
         let Ok(scratch) = Scratch::new(alloc) else {
             return Err(ServeFault::NoMemory);
         };
-        let job = if by_datagrams {
-            let job = UdpJob::new(
-                number,
-                SharedSocket::new(plan.datagrams),
-                plan.allowed,
-                plan.most,
-                scratch,
-            );
-            SocketJob::Datagrams(job)
-        } else {
-            let job = TcpJob::new(number, plan.listener, rt, plan.allowed, plan.most, scratch);
-            SocketJob::Connections(job)
-        };
-        by_datagrams = !by_datagrams;
-        if pairs.push((reader, job)).is_err() {
+        if pairs
+            .push((reader, job_of(rt, plan, number, scratch)))
+            .is_err()
+        {
             return Err(ServeFault::NoMemory);
         }
     }

@@ -4,13 +4,13 @@ ghost use Rattle.std.specs.IoError.{raw_os_error};
 ghost use Rattle.serve_workers.specs.Refused.{refused_as};
 ghost use Rattle.serve_workers.specs.ServedFor.{IsServedFor};
 
-use crate::connection::{Connection, TcpDevice};
+use crate::listener::Listener;
 use crate::scratch::Scratch;
 use crate::workers::Job;
 use conversation::{Allowed, Answering, Counted, Gate, Stream, StreamEnd, serve_stream};
 use crossbeam_utils::CachePadded;
 use serve_core::Transport;
-use std::net::{SocketAddr, TcpListener, TcpStream};
+use std::net::SocketAddr;
 use std::sync::Wait;
 use std::time::{Clock, Duration};
 use std::{io, thread};
@@ -69,9 +69,9 @@ fn serve_peer<R: Wait, A: Answering, S: Stream, G: Gate>(
 
 /// A worker's job on a listener: the connections that come, one after another.
 #[derive(Drop)]
-pub struct TcpJob<'a, C> {
+pub struct TcpJob<'a, L, C> {
     number: usize,
-    listener: &'a TcpListener,
+    listener: L,
     clock: &'a C,
     allowed: Allowed<'a>,
     most: u64,
@@ -79,16 +79,19 @@ pub struct TcpJob<'a, C> {
     scratch: CachePadded<Scratch>,
 }
 
-impl<'a, C: Clock> TcpJob<'a, C> {
-    /// The job of a worker, by its number: to serve so many connections of a listener that workers share.
+impl<'a, L: Listener, C: Clock> TcpJob<'a, L, C> {
+    /// The job of a worker, by its number: to serve so many connections of a listener. The clock is what it waits by.
     pub fn new(
         number: usize,
-        listener: &'a TcpListener,
+        listener: L,
         clock: &'a C,
         allowed: Allowed<'a>,
         most: u64,
         scratch: Scratch,
-    ) -> TcpJob<'a, C> {
+    ) -> TcpJob<'a, L, C>
+        ensures number { result.number ≡ number }
+        ensures allowed { result.allowed ≡ allowed.entry }
+    {
         TcpJob {
             number,
             listener,
@@ -109,7 +112,11 @@ impl<'a, C: Clock> TcpJob<'a, C> {
 
     /// The next connection, and who asks there; none where the listener is broken. One that fails before it is accepted is passed
     /// over. For want of room nothing is accepted for a while, which is told once.
-    fn accept<R: Wait, L: ServiceLog>(&self, rt: &R, log: &L) -> Option<(TcpStream, SocketAddr)> {
+    fn accept<R: Wait, O: ServiceLog>(
+        &self,
+        rt: &R,
+        log: &O,
+    ) -> Option<(Option<L::Connected>, SocketAddr)> {
         let mut is_told = false;
         for _ in rt.forever() {
             let fault = match self.listener.accept() {
@@ -136,52 +143,57 @@ impl<'a, C: Clock> TcpJob<'a, C> {
         unreachable!()
     }
 
-    /// Serves a connection, until it ends.
-    fn serve<R: Wait, A: Answering, G: Gate>(
+    /// Serves a connection as that of the peer at the address that it came from, until it ends, and gives how that was, and the
+    /// connection (RFC 1035, 4.2.2).
+    fn serve<R: Wait, A: Answering, S: Stream, G: Gate>(
         &mut self,
         rt: &R,
         answering: &mut A,
-        accepted: (TcpStream, SocketAddr),
+        accepted: (S, SocketAddr),
         gate: &G,
-    ) {
+    ) -> (StreamEnd, S)
+        ensures served { IfSome (S.octets accepted.0) (λ o. IsServedFor A.is_reply self.old.allowed.addresses.now accepted.1 result.0 (A.seen answering.old) o (A.seen answering.new) (S.octets result.1)) }
+        ensures number { self.new.number ≡ self.old.number }
+    {
         let (stream, from) = accepted;
-        if stream.set_nodelay(true).is_err() {
-            return;
-        }
-        let Ok(connection) = Connection::new(TcpDevice { inner: stream }, self.clock) else {
-            return;
-        };
-        let mut counted = Counted::new(connection);
+        let mut counted = Counted::new(stream);
         let allowed = self.allowed;
         let scratch = &mut *self.scratch;
-        let _ = serve_peer(rt, answering, allowed, from, &mut counted, gate, scratch);
+        let end = serve_peer(rt, answering, allowed, from, &mut counted, gate, scratch);
+        (end, counted.inner)
     }
 
-    /// Serves the connections that come, so many; fewer where the listener is broken.
-    fn serve_all<R: Wait, A: Answering, G: Gate, L: ServiceLog>(
+    /// Serves the connections that come, so many, those that have failed already among them; fewer where the listener is broken.
+    fn serve_all<R: Wait, A: Answering, G: Gate, O: ServiceLog>(
         &mut self,
         rt: &R,
         answering: &mut A,
         gate: &G,
-        log: &L,
-    ) -> JobEnd {
+        log: &O,
+    ) -> JobEnd
+        ensures { self.new.number ≡ self.old.number }
+    {
         for _ in 0..self.most {
-            let Some(accepted) = self.accept(rt, log) else {
+            let Some((stream, from)) = self.accept(rt, log) else {
                 return JobEnd::Device;
             };
-            self.serve(rt, answering, accepted, gate);
+            if let Some(stream) = stream {
+                let _ = self.serve(rt, answering, (stream, from), gate);
+            }
         }
         JobEnd::Done(self.most)
     }
 }
 
-impl<C: Clock + Sync> Job for TcpJob<'_, C> {
-    fn run<R: Wait, A: Answering, G: Gate, L: ServiceLog>(
+impl<L: Listener + Send + Drop, C: Clock + Sync> Job for TcpJob<'_, L, C> {
+    ghost number = { λ job. job.number };
+
+    fn run<R: Wait, A: Answering, G: Gate, O: ServiceLog>(
         &mut self,
         rt: &R,
         answering: &mut A,
         gate: &G,
-        log: &L,
+        log: &O,
     ) {
         let end = self.serve_all(rt, answering, gate, log);
         self.end = Some(end);

@@ -41,7 +41,10 @@ impl<'a, D: Datagrams> UdpJob<'a, D> {
         allowed: Allowed<'a>,
         most: u64,
         scratch: Scratch,
-    ) -> UdpJob<'a, D> {
+    ) -> UdpJob<'a, D>
+        ensures number { result.number ≡ number }
+        ensures allowed { result.allowed ≡ allowed.entry }
+    {
         UdpJob {
             number,
             datagrams,
@@ -89,6 +92,8 @@ impl<'a, D: Datagrams> UdpJob<'a, D> {
 }
 
 impl<D: Datagrams + Send + Drop> Job for UdpJob<'_, D> {
+    ghost number = { λ job. job.number };
+
     fn run<R: Wait, A: Answering, G: Gate, L: ServiceLog>(
         &mut self,
         rt: &R,
@@ -97,6 +102,7 @@ impl<D: Datagrams + Send + Drop> Job for UdpJob<'_, D> {
         log: &L,
     )
         ensures served { IfSome (D.datagrams self.old.datagrams) (λ o. (end : EndOfJob) × (self.new.end ≡ Some end) × JobEndsBy A.is_reply self.old.allowed.addresses.now end (A.seen answering.old) o (D.failed self.old.datagrams) self.old.most (A.seen answering.new) (D.datagrams self.new.datagrams) (D.failed self.new.datagrams)) }
+        ensures number { self.new.number ≡ self.old.number }
     {
         let end = self.serve(rt, answering, gate);
         let (worker, transport) = (self.number, Transport::Udp);

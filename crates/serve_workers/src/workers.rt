@@ -15,7 +15,7 @@ use zone_service::{Asked, Server, ServiceLog};
 /// What a worker does.
 pub trait Job: Send + Drop {
     /// The job's number, which stays.
-    ghost number: { Self → ℕ } = { λ _. 0 };
+    ghost number: { Self → ℕ };
 
     /// Does it, by one who answers each peer that it is turned to. Each request goes through the gate; the log is told how the job
     /// ends.
