@@ -71,6 +71,8 @@ struct TapeJob {
 }
 
 impl Job for TapeJob {
+    ghost number = { λ _. 0 };
+
     fn run<R: Wait, A: Answering, G: Gate, L: ServiceLog>(
         &mut self,
         rt: &R,

@@ -11,6 +11,8 @@ mod engines;
 #[cfg(test)]
 mod gates;
 #[cfg(test)]
+mod listeners;
+#[cfg(test)]
 mod made;
 #[cfg(test)]
 mod orders;
