@@ -1,4 +1,7 @@
 //! Serving a zone on sockets (RFC 1035, 4.2).
+ghost use Rattle.std.specs.Prelude.{◌≤◌};
+ghost use Rattle.transfer_core.specs.declared.kept.TheConstants.{KEPT};
+
 use crate::command::{CommandFault, KEEP, MAX_KEEP, number_for, option};
 use crate::log::{Log, LogLine};
 use crate::zone_file::read_zone_file;
@@ -37,6 +40,8 @@ pub struct Serve<'a> {
     pub most: u64,
     /// The addresses that may update and transfer.
     pub allowed: Vec<IpAddr>,
+    ghost few_workers: { workers ≤ 30 },
+    ghost few_kept: { keep ≤ KEPT },
 }
 
 /// The option for the address to listen on.
