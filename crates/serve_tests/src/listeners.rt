@@ -1,6 +1,7 @@
 //! A listener that lies in memory: which errors end a worker, and whose rights each connection has (Linux, accept(2); RFC 1035, 4.2.2).
 ghost use Rattle.std.specs.Prelude.{[]};
 
+use crate::streams::Kept;
 use crate::trays::asker;
 use conversation::{Allowed, Answering, Broken, Counted, OpenGate, Stream};
 use serve_core::{Peer, Transport};
@@ -13,7 +14,6 @@ use std::sync::Wait;
 use std::sync::atomic::{AtomicU64, AtomicUsize, Ordering};
 use std::time::{Clock, Duration};
 use told_streams::Tape;
-use zone_service::{Event, JobEnd, ServiceLog};
 
 /// What comes of an accepting.
 #[derive(Clone, Copy)]
@@ -61,11 +61,11 @@ impl Listener for Rows<'_> {
     }
 }
 
-/// One who gives no request a reply, and notes of each peer that asks a digit: 1 where it may update, else 2.
+/// One who gives no request a reply, and keeps of each one whether its peer may update.
 #[derive(Drop)]
 struct NotingRights {
     peer: Peer,
-    digits: u64,
+    rights: Vec<bool>,
 }
 
 impl Answering for NotingRights {
@@ -99,36 +99,8 @@ impl Answering for NotingRights {
         _out: &mut [u8],
         _frame: &mut [u8],
     ) -> Result<(), Broken> {
-        let digit = if self.peer.may_update { 1u64 } else { 2u64 };
-        self.digits = self.digits.wrapping_mul(10).wrapping_add(digit);
+        let _ = self.rights.push(self.peer.may_update);
         Ok(())
-    }
-}
-
-/// A log that counts the events of no room, and notes how the job ends: 1 where it has done as much as it may, 2 where its socket has
-/// failed.
-#[derive(Drop)]
-struct Told {
-    no_room: AtomicU64,
-    end: AtomicU64,
-}
-
-impl ServiceLog for Told {
-    fn tell<R: Wait>(&self, _rt: &R, event: Event) {
-        match event {
-            Event::NoRoom { .. } => {
-                self.no_room.fetch_add(1, Ordering::SeqCst);
-            }
-            Event::End {
-                end: JobEnd::Done(_),
-                ..
-            } => self.end.store(1, Ordering::SeqCst),
-            Event::End {
-                end: JobEnd::Device,
-                ..
-            } => self.end.store(2, Ordering::SeqCst),
-            _ => {}
-        }
     }
 }
 
@@ -152,12 +124,25 @@ impl Clock for Slept {
     }
 }
 
-/// What has come of a job: how it has ended (1 done, 2 its socket has failed), how often it was told of no room, how many seconds it has
-/// waited for some, and the digits of those whose requests were answered.
-type Outcome = (u64, u64, u64, u64);
+/// What comes of a job.
+#[derive(Clone, Copy)]
+struct Outcome<'a> {
+    /// The lines that the log is told.
+    told: &'a str,
+    /// How many seconds are waited for room.
+    waited: u64,
+    /// Of each request that comes, whether its peer may update.
+    rights: &'a [bool],
+}
 
-/// What comes of a job of so many connections at most over a listener of rows, where 192.0.2.7 alone may update.
-fn outcome<R: Wait>(rt: &R, alloc: Global, rows: &[Row], most: u64) -> Option<Outcome> {
+/// Whether this comes of a job of so many connections at most over a listener of rows, where 192.0.2.7 alone may update.
+fn is_done<R: Wait>(
+    rt: &R,
+    alloc: Global,
+    rows: &[Row],
+    most: u64,
+    outcome: Outcome<'_>,
+) -> Option<bool> {
     let listener = Rows {
         alloc,
         rows,
@@ -166,52 +151,72 @@ fn outcome<R: Wait>(rt: &R, alloc: Global, rows: &[Row], most: u64) -> Option<Ou
     let clock = Slept {
         seconds: AtomicU64::new(0),
     };
-    let log = Told {
-        no_room: AtomicU64::new(0),
-        end: AtomicU64::new(0),
-    };
+    let log = Kept::new(alloc);
     let addresses = [IpAddr::V4(address(7))];
     let mut noting = NotingRights {
         peer: Peer::over(Transport::Tcp, false),
-        digits: 0,
+        rights: Vec::new(alloc),
     };
     let scratch = Scratch::new(alloc).ok()?;
     let mut job = TcpJob::new(1, listener, &clock, Allowed::new(&addresses), most, scratch);
     job.run(rt, &mut noting, &OpenGate, &log);
-    Some((
-        log.end.load(Ordering::SeqCst),
-        log.no_room.load(Ordering::SeqCst),
-        clock.seconds.load(Ordering::SeqCst),
-        noting.digits,
-    ))
+    let is_waited = clock.seconds.load(Ordering::SeqCst) == outcome.waited;
+    let is_told = log.has(rt, outcome.told);
+    Some(is_waited && is_told && noting.rights.as_slice() == outcome.rights)
 }
 
 // ECONNABORTED is its client's alone.
 #[test]
 fn an_aborted_connection_ends_no_worker(rt: HostRuntime) {
     let rows = [Row::Fails(103), Row::Comes(7)];
-    assert_eq!(rt; outcome(&rt, rt.alloc(), &rows, 1), Some((1, 0, 0, 1)));
+    let outcome = Outcome {
+        told: "worker 1 (TCP) has ended: 1 connections served;",
+        waited: 0,
+        rights: &[true],
+    };
+    assert!(rt; is_done(&rt, rt.alloc(), &rows, 1, outcome) == Some(true));
 }
 
-// EMFILE: a second is waited for each try, and the log is told once for each connection that then comes.
+// EMFILE and ENFILE: a second is waited for each try, and the log is told once for each connection that then comes.
 #[test]
 fn want_of_room_ends_no_worker_and_is_told_once(rt: HostRuntime) {
-    let rows = [Row::Fails(24), Row::Fails(24), Row::Comes(7)];
-    assert_eq!(rt; outcome(&rt, rt.alloc(), &rows, 1), Some((1, 1, 2, 1)));
+    let rows = [
+        Row::Fails(24),
+        Row::Fails(24),
+        Row::Comes(7),
+        Row::Fails(23),
+        Row::Comes(7),
+    ];
+    let outcome = Outcome {
+        told: "worker 1 (TCP) has no room for a connection, and waits;worker 1 (TCP) has no room for a connection, and waits;worker 1 (TCP) has ended: 2 connections served;",
+        waited: 3,
+        rights: &[true, true],
+    };
+    assert!(rt; is_done(&rt, rt.alloc(), &rows, 2, outcome) == Some(true));
 }
 
 // An error with no number, or with one that isn't listed, is as want of room.
 #[test]
 fn an_unlisted_error_ends_no_worker(rt: HostRuntime) {
     let rows = [Row::FailsUnnumbered, Row::Fails(9999), Row::Comes(7)];
-    assert_eq!(rt; outcome(&rt, rt.alloc(), &rows, 1), Some((1, 1, 2, 1)));
+    let outcome = Outcome {
+        told: "worker 1 (TCP) has no room for a connection, and waits;worker 1 (TCP) has ended: 1 connections served;",
+        waited: 2,
+        rights: &[true],
+    };
+    assert!(rt; is_done(&rt, rt.alloc(), &rows, 1, outcome) == Some(true));
 }
 
 // EBADF.
 #[test]
 fn a_listener_that_is_none_ends_its_worker(rt: HostRuntime) {
     let rows = [Row::Comes(7), Row::Fails(9), Row::Comes(7)];
-    assert_eq!(rt; outcome(&rt, rt.alloc(), &rows, 9), Some((2, 0, 0, 1)));
+    let outcome = Outcome {
+        told: "worker 1 (TCP) has ended: its socket failed;",
+        waited: 0,
+        rights: &[true],
+    };
+    assert!(rt; is_done(&rt, rt.alloc(), &rows, 9, outcome) == Some(true));
 }
 
 // Connections one after another, each with the rights of the address that it comes from; one that has failed already counts.
@@ -224,5 +229,10 @@ fn each_connection_has_its_own_rights(rt: HostRuntime) {
         Row::Comes(7),
         Row::Comes(7),
     ];
-    assert_eq!(rt; outcome(&rt, rt.alloc(), &rows, 4), Some((1, 0, 0, 121)));
+    let outcome = Outcome {
+        told: "worker 1 (TCP) has ended: 4 connections served;",
+        waited: 0,
+        rights: &[true, false, true],
+    };
+    assert!(rt; is_done(&rt, rt.alloc(), &rows, 4, outcome) == Some(true));
 }

@@ -238,7 +238,7 @@ impl Kept {
     }
 
     /// Whether it was told these lines.
-    fn has<R: Wait>(&self, rt: &R, lines: &str) -> bool {
+    pub(crate) fn has<R: Wait>(&self, rt: &R, lines: &str) -> bool {
         self.lines.lock(rt).as_str() == lines
     }
 }
