@@ -1,8 +1,8 @@
 -- The numbers of record types (RFC 1035, 3.2.2 and 3.2.3; RFC 1995, 4; RFC 2782; RFC 3596, 2.1), classes
--- (RFC 1035, 3.2.4; RFC 2136, 1.1) and reply codes (RFC 1035, 4.1.1; RFC 2136, 2.2).
-use Rattle.std.specs.Prelude.{ℕ, Bool, ◌||◌, ◌&&◌, ◌==◌, nat_le}
+-- (RFC 1035, 3.2.4; RFC 2136, 1.1) and reply codes (RFC 1035, 4.1.1; RFC 2136, 2.2; RFC 6891, 9).
+use Rattle.std.specs.Prelude.{ℕ, Bool, ◌/◌, ◌%◌, ◌||◌, ◌&&◌, ◌==◌, nat_le}
 use Rattle.dns_rdata.specs.declared.numbers.Rcode.{Rcode}
-use Rattle.dns_rdata.specs.declared.numbers.Rcode.TheVariants.{NoError, FormErr, ServFail, NxDomain, NotImp, Refused, YXDomain, YXRRSet, NXRRSet, NotAuth, NotZone}
+use Rattle.dns_rdata.specs.declared.numbers.Rcode.TheVariants.{NoError, FormErr, ServFail, NxDomain, NotImp, Refused, YXDomain, YXRRSet, NXRRSet, NotAuth, NotZone, BadVers}
 
 abbrev pub type_A : ℕ
 type_A = 1
@@ -68,7 +68,7 @@ class_NONE = 254
 abbrev pub class_ANY : ℕ
 class_ANY = 255
 
--- the number of a reply code (RFC 1035, 4.1.1; RFC 2136, 2.2)
+-- the number of a reply code (RFC 1035, 4.1.1; RFC 2136, 2.2; RFC 6891, 9)
 abbrev pub rcode_number : Rcode → ℕ
 rcode_number NoError = 0
 rcode_number FormErr = 1
@@ -81,3 +81,12 @@ rcode_number YXRRSet = 7
 rcode_number NXRRSet = 8
 rcode_number NotAuth = 9
 rcode_number NotZone = 10
+rcode_number BadVers = 16
+
+-- of its twelve bits the low four, which stand in a header (RFC 1035, 4.1.1)
+abbrev pub header_bits : Rcode → ℕ
+header_bits code = rcode_number code % 16
+
+-- and the upper eight, which stand in an OPT (RFC 6891, 6.1.3)
+abbrev pub extended_bits : Rcode → ℕ
+extended_bits code = rcode_number code / 16

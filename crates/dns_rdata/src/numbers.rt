@@ -77,7 +77,11 @@ impl Ttl {
 #[derive(Clone, Copy, Debug, PartialEq, Eq)]
 pub struct Serial(pub u32);
 
-/// A reply code (RFC 1035, 4.1.1; RFC 2136, 2.2).
+/// How many reply codes the four bits of a header tell (RFC 1035, 4.1.1).
+const HEADER_CODES: u8 = 16;
+
+/// A reply code, of twelve bits: the low four stand in a header, the upper eight in an OPT (RFC 1035, 4.1.1; RFC 2136, 2.2;
+/// RFC 6891, 6.1.3).
 #[derive(Clone, Copy, Debug, PartialEq, Eq)]
 pub enum Rcode {
     /// No error.
@@ -102,12 +106,14 @@ pub enum Rcode {
     NotAuth,
     /// A name isn't in the zone.
     NotZone,
+    /// The version of the request's OPT isn't supported (RFC 6891, 6.1.3 and 9).
+    BadVers,
 }
 
 impl Rcode {
-    ghost use Rattle.dns_rdata.specs.Numbers.{rcode_number};
+    ghost use Rattle.dns_rdata.specs.Numbers.{rcode_number, header_bits, extended_bits};
 
-    /// The code's number, which fits four bits (RFC 1035, 4.1.1; RFC 2136, 2.2).
+    /// The code's number (RFC 1035, 4.1.1; RFC 2136, 2.2; RFC 6891, 9).
     pub fn number(self) -> u8
         ensures { result ≡ rcode_number self }
     {
@@ -123,6 +129,21 @@ impl Rcode {
             Rcode::NXRRSet => 8,
             Rcode::NotAuth => 9,
             Rcode::NotZone => 10,
+            Rcode::BadVers => 16,
         }
+    }
+
+    /// The four bits of its number that stand in a header (RFC 1035, 4.1.1).
+    pub fn header_bits(self) -> u8
+        ensures { result ≡ header_bits self }
+    {
+        self.number() % HEADER_CODES
+    }
+
+    /// The eight bits of its number that stand in an OPT (RFC 6891, 6.1.3).
+    pub fn extended_bits(self) -> u8
+        ensures { result ≡ extended_bits self }
+    {
+        self.number() / HEADER_CODES
     }
 }
