@@ -92,7 +92,7 @@ built octets owner n rtype class ttl size =
     if nat_le (n + 10 + size) (length octets) then Some (record { owner = owner; rtype = rtype; class = class; ttl = ttl; at = n + 10; size = size }, n + 10 + size) else None
 
 -- its numbers are read behind its owner
-record_numbers : (front rest rdata : List ℕ) (owner : List (List ℕ)) (rtype class ttl : ℕ) → rtype < 2 ^ 16 → class < 2 ^ 16 → ttl < 2 ^ 32 → length rdata < 2 ^ 16 → record_of (front ++ (to_be_bytes w16 rtype ++ (to_be_bytes w16 class ++ (to_be_bytes w32 ttl ++ (to_be_bytes w16 (length rdata) ++ (rdata ++ rest)))))) (Ok (owner, length front)) ≡ Some (record { owner = owner; rtype = rtype; class = class; ttl = ttl; at = length front + 10; size = length rdata }, length front + 10 + length rdata)
+pub record_numbers : (front rest rdata : List ℕ) (owner : List (List ℕ)) (rtype class ttl : ℕ) → rtype < 2 ^ 16 → class < 2 ^ 16 → ttl < 2 ^ 32 → length rdata < 2 ^ 16 → record_of (front ++ (to_be_bytes w16 rtype ++ (to_be_bytes w16 class ++ (to_be_bytes w32 ttl ++ (to_be_bytes w16 (length rdata) ++ (rdata ++ rest)))))) (Ok (owner, length front)) ≡ Some (record { owner = owner; rtype = rtype; class = class; ttl = ttl; at = length front + 10; size = length rdata }, length front + 10 + length rdata)
 record_numbers front rest rdata owner rtype class ttl h1 h2 h3 h4 =
     let tail = to_be_bytes w16 rtype ++ (to_be_bytes w16 class ++ (to_be_bytes w32 ttl ++ (to_be_bytes w16 (length rdata) ++ (rdata ++ rest)))) in
     let octets = front ++ tail in
@@ -170,7 +170,7 @@ pub none_more : (msg : List ℕ) (n : ℕ) → records_at zero msg n ≡ Some ([
 unfolding records_at
 none_more msg n = refl
 
-one_more : (count : ℕ) (msg : List ℕ) (n next end : ℕ) (e : Entry) (es : List Entry) → record_at msg n ≡ Some (e, next) → records_at count msg next ≡ Some (es, end) → records_at (suc count) msg n ≡ Some (e ∷ es, end)
+pub one_more : (count : ℕ) (msg : List ℕ) (n next end : ℕ) (e : Entry) (es : List Entry) → record_at msg n ≡ Some (e, next) → records_at count msg next ≡ Some (es, end) → records_at (suc count) msg n ≡ Some (e ∷ es, end)
 unfolding records_at
 one_more count msg n next end e es first others =
     ap (option_and_then (λ r. option_map (λ rest. (r.0 ∷ rest.0, rest.1)) (records_at count msg r.1))) first

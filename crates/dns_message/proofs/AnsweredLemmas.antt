@@ -1,7 +1,7 @@
 -- The records of a written reply's answer section are received as they were written.
 use Rattle.std.proofs.Common.{◌≡◌, ◌==◌, ◌||◌, not, nat_lt, nat_le, ℕ, ◌+◌, ◌*◌, ◌%◌, Bool, true, false, if◌then◌else◌, List, [], ◌∷◌, length, drop, map, Option, Some, None, refl, ap, ◌∙◌, arith, option_map, unwrap_or, length-append}
 use Rattle.std.proofs.lemmas.Bool.Decides.{nat_tests}
-use Rattle.dns_rdata.specs.Numbers.{rcode_number}
+use Rattle.dns_rdata.specs.Numbers.{header_bits}
 use Rattle.dns_rdata.specs.Raw.{RawRecord}
 use Rattle.dns_rdata.specs.Record.{Record}
 use Rattle.dns_rdata.specs.declared.numbers.Rcode.{Rcode}
@@ -48,7 +48,7 @@ answers_received m h none =
     let sections = (sections_octets m [] 12).0 in
     let whole : nat_lt (length msg) 12 ≡ false = long (length msg) (length sections) (length-append (header_octets m (counts_in m)) sections) in
     let reply : is_reply msg ≡ true = answers m.head.opcode (bit m.aa) (bit m.tc) (bit m.head.rd) in
-    let code : (rcode_of msg == 0) ≡ true = ap (λ (c : Rcode). rcode_number c % 16 == 0) none in
+    let code : (rcode_of msg == 0) ≡ true = ap (λ (c : Rcode). header_bits c % 16 == 0) none in
     ap (λ b. by_header msg (b || not (is_reply msg) || not (rcode_of msg == 0)) (body_in msg)) whole
     ∙ ap (λ b. by_header msg (not b || not (rcode_of msg == 0)) (body_in msg)) reply
     ∙ ap (λ b. by_header msg (not b) (body_in msg)) code

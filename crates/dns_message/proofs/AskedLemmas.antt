@@ -1,5 +1,5 @@
 -- The request that a reply answers is read.
-use Rattle.std.proofs.Common.{◌≡◌, ◌==◌, ℕ, ◌+◌, ◌*◌, ◌/◌, ◌%◌, ◌<◌, ◌^◌, Bool, true, false, not, ◌||◌, ◌&&◌, option_and_then, if◌then◌else◌, eq-eqb, List, [], ◌∷◌, ◌++◌, length, drop, Option, Some, None, nat_lt, nat_le, refl, ap, subst, ◌∙◌, arith, lit<}
+use Rattle.std.proofs.Common.{◌≡◌, ◌==◌, ℕ, ◌+◌, ◌*◌, ◌/◌, ◌%◌, ◌<◌, ◌^◌, Bool, true, false, not, ◌||◌, ◌&&◌, option_and_then, if◌then◌else◌, eq-eqb, List, [], ◌∷◌, ◌++◌, length, drop, Option, Some, None, Result, nat_lt, nat_le, refl, ap, subst, ◌∙◌, arith, lit<}
 use Rattle.std.proofs.Math.Bridge.{le_prop}
 use Rattle.std.proofs.Math.Nat.{mod-lt}
 use Rattle.std.proofs.lemmas.Bool.Decides.{nat_tests}
@@ -13,12 +13,14 @@ use Rattle.dns_message.specs.Request.{query_of, update_of, reads}
 use Rattle.dns_message.specs.Updates.{update_in}
 use Rattle.dns_message.specs.declared.update.Update.{Update}
 use Rattle.dns_message.specs.Octets.{bit, reply_octets}
+use Rattle.dns_message.specs.Opt.{opt_part}
+use Rattle.dns_message.specs.declared.edns.OptFault.{OptFault}
 use Rattle.dns_message.specs.declared.query.Head.{Head}
 use Rattle.dns_message.specs.declared.query.Question.{Question}
 use Rattle.dns_message.specs.declared.query.Parsed.{Parsed}
 use Rattle.dns_message.specs.declared.query.Parsed.TheVariants.{Silent, Fault, Query}
 use Rattle.dns_message.proofs.AgainLemmas.{none_more}
-use Rattle.dns_message.proofs.ReadLemmas.{none_held}
+use Rattle.dns_message.proofs.ReadLemmas.{Said, none_held}
 use Rattle.dns_message.proofs.TrueLemmas.{IsTrueOf-nothing}
 use Rattle.dns_message.proofs.KeepsLemmas.{Stands}
 use Rattle.dns_message.proofs.SectionLemmas.{asked_again, one_question, question_part, answer_part, authority_part, additional_part, sections_parts, body_parts}
@@ -59,14 +61,14 @@ asks opcode false h = grind (arith, nat_tests)
 
 -- what is said where these parts of the octets are known: whether they are silent, the header, what stands behind it in a
 -- query, and in an update
-abbrev pub judged : Bool → Head → Option (Question × Option Serial × Bool) → Option Update → Parsed
+abbrev pub judged : Bool → Head → Option (Question × Option Serial × Said) → Option (Result Update (Question × OptFault)) → Parsed
 judged silent head asked update =
     if silent then Silent
     else if head.opcode == 0 then query_of head asked
     else if head.opcode == 5 then update_of head update
     else Fault head NotImp
 
-judged_standard : (head : Head) (asked : Option (Question × Option Serial × Bool)) (update : Option Update) → head.opcode ≡ 0 → judged false head asked update ≡ query_of head asked
+judged_standard : (head : Head) (asked : Option (Question × Option Serial × Said)) (update : Option (Result Update (Question × OptFault))) → head.opcode ≡ 0 → judged false head asked update ≡ query_of head asked
 judged_standard head asked update z = let standard : (head.opcode == 0) ≡ true = eq-eqb _ _ z in rw standard
 
 -- a request is read as what its header and what stands behind it say
@@ -82,7 +84,7 @@ reads-request head rest h z =
     ∙ judged_standard head asked update z
 
 -- behind a request's header stands the question that the reply repeats
-question_stands : (m : Message) → Stands (request_of m) (request_header m.head) (question_part m ++ (answer_part m ++ (authority_part m ++ additional_part m))) [] 12
+question_stands : (m : Message) → Stands (request_of m) (request_header m.head) (question_part m ++ (answer_part m ++ (authority_part m ++ (additional_part m ++ opt_part m.rcode m.opt)))) [] 12
 question_stands m = record { at = refl; is = ap (λ t. request_header m.head ++ t) (sections_parts m); holds = IsTrueOf-nothing (request_header m.head) }
 
 body_in_of : (m : Message) (q : Question) → IsAnswerTo m q → body_in (request_of m) ≡ Some (record { questions = q ∷ []; answer = []; authority = []; additional = [] })
@@ -93,8 +95,8 @@ body_in_of m q h =
     (none_more _ _) (none_more _ _) (none_more _ _)
 
 -- the question that a reply repeats is read as itself
-pub reads-request_of : (m : Message) (q : Question) → IsAnswerTo m q → reads (request_of m) ≡ Query (record { head = m.head; question = q; serial = None })
+pub reads-request_of : (m : Message) (q : Question) → IsAnswerTo m q → reads (request_of m) ≡ Query (record { head = m.head; question = q; serial = None; edns = None })
 reads-request_of m q h =
     reads-request m.head (drop 12 (reply_octets m)) h.id h.standard
     ∙ ap (λ b. query_of m.head (option_and_then (seen (request_of m)) b)) (body_in_of m q h)
-    ∙ ap (λ serial. Query (record { head = m.head; question = q; serial = serial })) (none_held (q.rtype.0 == 251))
+    ∙ ap (λ serial. Query (record { head = m.head; question = q; serial = serial; edns = None })) (none_held (q.rtype.0 == 251))

@@ -139,4 +139,5 @@ unfolding sections_octets
 Keeps-sections m lawful =
     Keeps-before (each question_octets (questions m.question)) _ (Keeps-each question_octets (questions m.question) (λ k d h. Keeps-question _ (lawful.question k d h)))
     (Keeps-before (each record_octets m.answer) _ (Keeps-records m.answer lawful.answer)
-    (Keeps-before (each record_octets m.authority) _ (Keeps-records m.authority lawful.authority) (Keeps-records m.additional lawful.additional)))
+    (Keeps-before (each record_octets m.authority) _ (Keeps-records m.authority lawful.authority)
+    (Keeps-before (each record_octets m.additional) _ (Keeps-records m.additional lawful.additional) (Keeps-these _))))

@@ -8,6 +8,8 @@ pub mod EncodedLemmas
 pub mod ExpandedLemmas
 pub mod KeepsLemmas
 pub mod OctetsLemmas
+pub mod OptAgainLemmas
+pub mod OptLemmas
 pub mod ReadLemmas
 pub mod ReceivedLemmas
 pub mod SectionLemmas

@@ -1,15 +1,18 @@
 -- How long the octets of a reply are, and what they are.
-use Rattle.std.proofs.Common.{◌≡◌, ℕ, ◌+◌, ◌<◌, ◌≤◌, Bool, true, false, not, ◌&&◌, if◌then◌else◌, min, refl, nat_le, List, [], ◌∷◌, ◌++◌, length, take, drop, Option, Some, sym, ap, subst, ◌∙◌, arith, length-append, append_assoc}
+use Rattle.std.proofs.Common.{◌≡◌, ℕ, ◌+◌, ◌<◌, ◌≤◌, Bool, true, false, not, ◌&&◌, if◌then◌else◌, min, refl, nat_le, List, [], ◌∷◌, ◌++◌, length, take, drop, Option, None, Some, sym, ap, subst, ◌∙◌, arith, length-append, append_assoc}
 use Rattle.std.proofs.lemmas.Bool.{le-leb, lt-leb}
-use Rattle.std.proofs.lemmas.List.{append-nil, length-take-le, take-append-le, drop-append-le, take-append-drop}
+use Rattle.std.proofs.lemmas.List.{length-take-le, take-append-le, drop-append-le, take-append-drop}
 use Rattle.std.specs.Int.{to_be_bytes, w16}
 use Rattle.dns_rdata.specs.Record.{Record}
+use Rattle.dns_rdata.specs.declared.numbers.Rcode.{Rcode}
 use Rattle.wire_names.specs.Table.{Entry, Table}
 use Rattle.wire_names.specs.Written.{IsOverwritten}
 use Rattle.wire_names.proofs.OverwrittenLemmas.{length_stays, octets_are, IsOverwritten-then}
 use Rattle.dns_message.specs.Message.{Message}
 use Rattle.dns_message.specs.Encoding.{Encoding, these, before, measured, each}
 use Rattle.dns_message.specs.Encoded.{IsStopped, WritesParts, WritesEncoding}
+use Rattle.dns_message.specs.Opt.{opt_part, opt_count}
+use Rattle.dns_message.specs.declared.edns.Opt.{Opt}
 use Rattle.dns_message.specs.Octets.{questions, question_octets, record_octets, sections_octets, counts_in, header_octets, reply_octets, truncated, fits, without_additional, fit}
 use Rattle.dns_message.proofs.EncodedLemmas.{WritesParts-then, WritesParts-encoding}
 
@@ -37,14 +40,19 @@ records_fill (r ∷ rs) table at =
     let rest = records_fill rs (record_octets r table at).1 (at + length (record_octets r table at).0) in
     omega arith
 
+-- an OPT has an octet or more
+opt_fills : (code : Rcode) (o : Option Opt) → opt_count o ≤ length (opt_part code o)
+opt_fills code None = omega arith
+opt_fills code (Some opt) = omega arith
+
 -- no section has more records than the reply has octets
 pub record IsFilled (m : Message) : Type 0 where
   pub answer : length m.answer ≤ length (reply_octets m)
   pub authority : length m.authority ≤ length (reply_octets m)
-  pub additional : length m.additional ≤ length (reply_octets m)
+  pub additional : length m.additional + opt_count m.opt ≤ length (reply_octets m)
 
 pub sections_fill : (m : Message) → IsFilled m
-unfolding sections_octets
+unfolding sections_octets these
 sections_fill m =
     let asked = each question_octets (questions m.question) [] 12 in
     let place = 12 + length asked.0 in
@@ -54,27 +62,31 @@ sections_fill m =
     let place_3 = place_2 + length authority.0 in
     let additional = each record_octets m.additional authority.1 place_3 in
     let whole = length-append (header_octets m (counts_in m)) (sections_octets m [] 12).0 in
-    let one = length-before (each question_octets (questions m.question)) (before (each record_octets m.answer) (before (each record_octets m.authority) (each record_octets m.additional))) [] 12 in
-    let two = length-before (each record_octets m.answer) (before (each record_octets m.authority) (each record_octets m.additional)) asked.1 place in
-    let three = length-before (each record_octets m.authority) (each record_octets m.additional) answer.1 place_2 in
+    let opt = these (opt_part m.rcode m.opt) in
+    let one = length-before (each question_octets (questions m.question)) (before (each record_octets m.answer) (before (each record_octets m.authority) (before (each record_octets m.additional) opt))) [] 12 in
+    let two = length-before (each record_octets m.answer) (before (each record_octets m.authority) (before (each record_octets m.additional) opt)) asked.1 place in
+    let three = length-before (each record_octets m.authority) (before (each record_octets m.additional) opt) answer.1 place_2 in
+    let four = length-before (each record_octets m.additional) opt authority.1 place_3 in
     let fill = records_fill m.answer asked.1 place in
     let fill_2 = records_fill m.authority answer.1 place_2 in
     let fill_3 = records_fill m.additional authority.1 place_3 in
+    let last = opt_fills m.rcode m.opt in
     record { answer = omega arith; authority = omega arith; additional = omega arith }
 
--- the octets of the truncated reply are the header and the question
-pub truncated_octets : (m : Message) → reply_octets (truncated m) ≡ header_octets (truncated m) (counts_in (truncated m)) ++ (each question_octets (questions m.question) [] 12).0
+-- the octets of the truncated reply are the header, the question and the OPT
+pub truncated_octets : (m : Message) → reply_octets (truncated m) ≡ header_octets (truncated m) (counts_in (truncated m)) ++ ((each question_octets (questions m.question) [] 12).0 ++ opt_part m.rcode m.opt)
 unfolding sections_octets before each these
-truncated_octets m = ap (λ octets. header_octets (truncated m) (counts_in (truncated m)) ++ octets) (append-nil (each question_octets (questions m.question) [] 12).0)
+truncated_octets m = refl
 
 -- and they are written so
-pub truncated_put : (m : Message) (a b c : List ℕ) (after : List Entry) (at next : ℕ) → IsOverwritten a b 0 (header_octets (truncated m) (counts_in (truncated m))) at → WritesEncoding (each question_octets (questions m.question)) b c at [] after (Some next) → IsOverwritten a c 0 (reply_octets (truncated m)) next
-truncated_put m a b c after at next front back =
+pub truncated_put : (m : Message) (a b c d : List ℕ) (after : List Entry) (at next end : ℕ) → IsOverwritten a b 0 (header_octets (truncated m) (counts_in (truncated m))) at → WritesEncoding (each question_octets (questions m.question)) b c at [] after (Some next) → IsOverwritten c d next (opt_part m.rcode m.opt) end → IsOverwritten a d 0 (reply_octets (truncated m)) end
+truncated_put m a b c d after at next end front middle back =
     let asked = each question_octets (questions m.question) in
     let next_is = front.next_is in
     let place : at ≡ 12 = omega arith in
-    let there = subst (λ (n : ℕ). IsOverwritten b c at (asked [] n).0 next) place back.octets in
-    subst (λ (octets : List ℕ). IsOverwritten a c 0 octets next) (sym (truncated_octets m)) (IsOverwritten-then a b c 0 at next _ _ front there)
+    let there = subst (λ (n : ℕ). IsOverwritten b c at (asked [] n).0 next) place middle.octets in
+    let both = IsOverwritten-then b c d at next end _ _ there back in
+    subst (λ (octets : List ℕ). IsOverwritten a d 0 octets end) (sym (truncated_octets m)) (IsOverwritten-then a b d 0 at end _ _ front both)
 
 -- a whole reply is written as its header, and its sections behind it, where no name stands in front of them
 pub message_put : (m : Message) (a b c : List ℕ) (at : ℕ) (names after : List Entry) (r : Option ℕ) → names ≡ [] → IsOverwritten a b 0 (header_octets m (counts_in m)) at → WritesEncoding (sections_octets m) b c at names after r → WritesParts a c 0 (reply_octets m) r

@@ -1,86 +1,72 @@
 -- How a request is read.
-use Rattle.std.proofs.Common.{◌≡◌, ◌≢◌, ◌==◌, ℕ, zero, suc, ◌+◌, ◌-◌, ◌<◌, ◌≤◌, Bool, true, false, not, ◌||◌, if◌then◌else◌, List, [], ◌∷◌, length, Option, Some, None, refl, sym, ap, ◌∙◌, arith, option_map, option_and_then}
-use Rattle.dns_rdata.specs.declared.numbers.RType.{RType}
+use Rattle.std.proofs.Common.{◌≡◌, ◌≢◌, ◌==◌, ℕ, zero, suc, ◌+◌, ◌-◌, ◌<◌, ◌≤◌, Bool, true, false, not, if◌then◌else◌, List, [], ◌∷◌, length, Option, Some, None, Result, refl, sym, ap, ◌∙◌, arith, option_map, option_and_then}
 use Rattle.dns_rdata.specs.declared.numbers.Serial.{Serial}
-use Rattle.dns_rdata.specs.Numbers.{type_OPT, type_IXFR}
+use Rattle.dns_rdata.specs.Numbers.{type_IXFR}
 use Rattle.dns_message.specs.Message.{Entry, Body, number_at}
-use Rattle.dns_message.specs.Reads.{question_at, questions_at, record_at, records_at, body_in, has_opt, only_question, serial_in, serial_held, seen}
+use Rattle.dns_message.specs.Reads.{question_at, questions_at, record_at, records_at, body_in, only_question, serial_in, serial_held, seen}
+use Rattle.dns_message.specs.Opt.{opt_said}
+use Rattle.dns_message.specs.declared.edns.Edns.{Edns}
+use Rattle.dns_message.specs.declared.edns.OptFault.{OptFault}
 use Rattle.dns_message.specs.declared.query.Question.{Question}
 
--- what is seen of a record, and of many
-abbrev pub glimpse : Entry × ℕ → RType × ℕ
-glimpse r = (record { 0 = r.0.rtype }, r.1)
+-- what OPTs say
+abbrev pub Said : Type 0
+Said = Result (Option Edns) OptFault
 
-abbrev pub sight : List Entry × ℕ → Bool × ℕ
-sight r = (has_opt r.0, r.1)
+-- the position behind records
+abbrev pub place_of : List Entry × ℕ → ℕ
+place_of r = r.1
 
--- the same behind records among which an OPT is or isn't
-abbrev pub sight_behind : Bool → List Entry × ℕ → Bool × ℕ
-sight_behind opt r = (opt || has_opt r.0, r.1)
-
--- some of the records were passed over: what is seen of all is seen of the others, from the place that was reached
-pub record IsPast (count : ℕ) (msg : List ℕ) (at done place : ℕ) (opt : Bool) : Type 0 where
-  pub is : option_map sight (records_at count msg at) ≡ option_map (sight_behind opt) (records_at (count - done) msg place)
+-- some of the records were passed over
+pub record IsPast (count : ℕ) (msg : List ℕ) (at done place : ℕ) : Type 0 where
+  pub is : option_map place_of (records_at count msg at) ≡ option_map place_of (records_at (count - done) msg place)
 
 -- what is read behind one record, with it in front
-abbrev behind_one : ℕ → List ℕ → Option (Entry × ℕ) → Option (List Entry × ℕ)
+abbrev pub behind_one : ℕ → List ℕ → Option (Entry × ℕ) → Option (List Entry × ℕ)
 behind_one count msg o = option_and_then (λ r. option_map (λ rest. (r.0 ∷ rest.0, rest.1)) (records_at count msg r.1)) o
 
-next_one : (count : ℕ) (msg : List ℕ) (place : ℕ) → records_at (suc count) msg place ≡ behind_one count msg (record_at msg place)
+pub next_one : (count : ℕ) (msg : List ℕ) (place : ℕ) → records_at (suc count) msg place ≡ behind_one count msg (record_at msg place)
 unfolding records_at
 next_one count msg place = refl
 
-left : (count done : ℕ) → done < count → count - done ≡ suc (count - (done + 1))
+pub left : (count done : ℕ) → done < count → count - done ≡ suc (count - (done + 1))
 left count done h = omega arith
 
-pub IsPast-start : (count : ℕ) (msg : List ℕ) (at : ℕ) → IsPast count msg at 0 at false
-IsPast-start count msg at = record { is = ap (λ n. option_map sight (records_at n msg at)) (omega arith) }
+pub IsPast-start : (count : ℕ) (msg : List ℕ) (at : ℕ) → IsPast count msg at 0 at
+IsPast-start count msg at = record { is = ap (λ n. option_map place_of (records_at n msg at)) (omega arith) }
 
-or_next : (opt : Bool) (e : Entry) (o : Option (List Entry × ℕ)) → option_map (sight_behind opt) (option_map (λ rest. (e ∷ rest.0, rest.1)) o) ≡ option_map (sight_behind (opt || (e.rtype == type_OPT))) o
-or_next opt e None = refl
-or_next true e (Some r) = refl
-or_next false e (Some r) = refl
+same_place : (e : Entry) (o : Option (List Entry × ℕ)) → option_map place_of (option_map (λ rest. (e ∷ rest.0, rest.1)) o) ≡ option_map place_of o
+same_place e None = refl
+same_place e (Some r) = refl
 
-step_one : (count : ℕ) (msg : List ℕ) (o : Option (Entry × ℕ)) (opt : Bool) (rtype : RType) (next : ℕ) → option_map glimpse o ≡ Some (rtype, next) → option_map (sight_behind opt) (behind_one count msg o) ≡ option_map (sight_behind (opt || (rtype.0 == type_OPT))) (records_at count msg next)
-step_one count msg None opt rtype next e = cc
-step_one count msg (Some r) opt rtype next e =
-    let seen : (record { 0 = r.0.rtype }, r.1) ≡ (rtype, next) = cc in
-    or_next opt r.0 (records_at count msg r.1)
-    ∙ ap (λ (p : RType × ℕ). option_map (sight_behind (opt || (p.0.0 == type_OPT))) (records_at count msg p.1)) seen
+step_one : (count : ℕ) (msg : List ℕ) (o : Option (Entry × ℕ)) (e : Entry) (next : ℕ) → o ≡ Some (e, next) → option_map place_of (behind_one count msg o) ≡ option_map place_of (records_at count msg next)
+step_one count msg o e next is = ap (λ p. option_map place_of (behind_one count msg p)) is ∙ same_place e (records_at count msg next)
 
-pub IsPast-one : (count : ℕ) (msg : List ℕ) (at done place : ℕ) (opt : Bool) (rtype : RType) (next : ℕ) → IsPast count msg at done place opt → done < count → option_map glimpse (record_at msg place) ≡ Some (rtype, next) → IsPast count msg at (done + 1) next (opt || (rtype.0 == type_OPT))
-IsPast-one count msg at done place opt rtype next past more e = record {
+pub IsPast-one : (count : ℕ) (msg : List ℕ) (at done place : ℕ) (e : Entry) (next : ℕ) → IsPast count msg at done place → done < count → record_at msg place ≡ Some (e, next) → IsPast count msg at (done + 1) next
+IsPast-one count msg at done place e next past more is = record {
   is =
       past.is
-      ∙ ap (λ n. option_map (sight_behind opt) (records_at n msg place)) (left count done more)
-      ∙ ap (option_map (sight_behind opt)) (next_one (count - (done + 1)) msg place)
-      ∙ step_one (count - (done + 1)) msg (record_at msg place) opt rtype next e;
+      ∙ ap (λ n. option_map place_of (records_at n msg place)) (left count done more)
+      ∙ ap (option_map place_of) (next_one (count - (done + 1)) msg place)
+      ∙ step_one (count - (done + 1)) msg (record_at msg place) e next is;
 }
 
-stop_one : (count : ℕ) (msg : List ℕ) (o : Option (Entry × ℕ)) (opt : Bool) → option_map glimpse o ≡ None → option_map (sight_behind opt) (behind_one count msg o) ≡ None
-stop_one count msg None opt e = refl
-stop_one count msg (Some r) opt e = cc
-
-pub IsPast-stop : (count : ℕ) (msg : List ℕ) (at done place : ℕ) (opt : Bool) → IsPast count msg at done place opt → done < count → option_map glimpse (record_at msg place) ≡ None → option_map sight (records_at count msg at) ≡ None
-IsPast-stop count msg at done place opt past more e =
+pub IsPast-stop : (count : ℕ) (msg : List ℕ) (at done place : ℕ) → IsPast count msg at done place → done < count → record_at msg place ≡ None → option_map place_of (records_at count msg at) ≡ None
+IsPast-stop count msg at done place past more is =
     past.is
-    ∙ ap (λ n. option_map (sight_behind opt) (records_at n msg place)) (left count done more)
-    ∙ ap (option_map (sight_behind opt)) (next_one (count - (done + 1)) msg place)
-    ∙ stop_one (count - (done + 1)) msg (record_at msg place) opt e
+    ∙ ap (λ n. option_map place_of (records_at n msg place)) (left count done more)
+    ∙ ap (option_map place_of) (next_one (count - (done + 1)) msg place)
+    ∙ ap (λ o. option_map place_of (behind_one (count - (done + 1)) msg o)) is
 
-or_false : (opt : Bool) → (opt || false) ≡ opt
-or_false true = refl
-or_false false = refl
-
-none_left : (msg : List ℕ) (place : ℕ) (opt : Bool) → option_map (sight_behind opt) (records_at 0 msg place) ≡ Some (opt, place)
+none_left : (msg : List ℕ) (place : ℕ) → option_map place_of (records_at 0 msg place) ≡ Some place
 unfolding records_at
-none_left msg place opt = ap (λ b. Some (b, place)) (or_false opt)
+none_left msg place = refl
 
-pub IsPast-end : (count : ℕ) (msg : List ℕ) (at done place : ℕ) (opt : Bool) → IsPast count msg at done place opt → count ≤ done → option_map sight (records_at count msg at) ≡ Some (opt, place)
-IsPast-end count msg at done place opt past all =
+pub IsPast-end : (count : ℕ) (msg : List ℕ) (at done place : ℕ) → IsPast count msg at done place → count ≤ done → option_map place_of (records_at count msg at) ≡ Some place
+IsPast-end count msg at done place past all =
     past.is
-    ∙ ap (λ n. option_map (sight_behind opt) (records_at n msg place)) (omega arith)
-    ∙ none_left msg place opt
+    ∙ ap (λ n. option_map place_of (records_at n msg place)) (omega arith)
+    ∙ none_left msg place
 
 -- what is seen of an authority section: the serial that the one who asks holds, and where the section ends
 abbrev pub holding : List ℕ → Question → List Entry × ℕ → Option Serial × ℕ
@@ -89,23 +75,29 @@ holding msg q r = (serial_held msg q r.0, r.1)
 abbrev pub held_at : List ℕ → Question → ℕ → Option (Option Serial × ℕ)
 held_at msg q at = option_map (holding msg q) (records_at (number_at msg 8) msg at)
 
--- what is seen of the records that a count at a position of the header tells
-abbrev pub sight_at : List ℕ → ℕ → ℕ → Option (Bool × ℕ)
-sight_at msg count at = option_map sight (records_at (number_at msg count) msg at)
+-- where the records end that a count at a position of the header tells, and what their OPTs say
+abbrev pub end_at : List ℕ → ℕ → ℕ → Option ℕ
+end_at msg count at = option_map place_of (records_at (number_at msg count) msg at)
 
-additional_seen : (msg : List ℕ) (q : Question) (answer authority : List Entry) (o : Option (List Entry × ℕ)) → option_and_then (seen msg) (option_map (λ additional. record { questions = q ∷ []; answer = answer; authority = authority; additional = additional.0 }) o) ≡ option_map (λ s. (q, serial_held msg q authority, s.0)) (option_map sight o)
+abbrev pub heard : List Entry × ℕ → Said
+heard r = opt_said r.0
+
+abbrev pub said_at : List ℕ → ℕ → ℕ → Option Said
+said_at msg count at = option_map heard (records_at (number_at msg count) msg at)
+
+additional_seen : (msg : List ℕ) (q : Question) (answer authority : List Entry) (o : Option (List Entry × ℕ)) → option_and_then (seen msg) (option_map (λ additional. record { questions = q ∷ []; answer = answer; authority = authority; additional = additional.0 }) o) ≡ option_map (λ s. (q, serial_held msg q authority, s)) (option_map heard o)
 additional_seen msg q answer authority None = refl
 additional_seen msg q answer authority (Some r) = refl
 
 -- what is seen step by step
-abbrev pub behind_authority : List ℕ → Question → Option (Option Serial × ℕ) → Option (Question × Option Serial × Bool)
-behind_authority msg q o = option_and_then (λ n. option_map (λ s. (q, n.0, s.0)) (sight_at msg 10 n.1)) o
+abbrev pub behind_authority : List ℕ → Question → Option (Option Serial × ℕ) → Option (Question × Option Serial × Said)
+behind_authority msg q o = option_and_then (λ n. option_map (λ s. (q, n.0, s)) (said_at msg 10 n.1)) o
 
-abbrev pub behind_answer : List ℕ → Question → Option (Bool × ℕ) → Option (Question × Option Serial × Bool)
-behind_answer msg q o = option_and_then (λ a. behind_authority msg q (held_at msg q a.1)) o
+abbrev pub behind_answer : List ℕ → Question → Option ℕ → Option (Question × Option Serial × Said)
+behind_answer msg q o = option_and_then (λ a. behind_authority msg q (held_at msg q a)) o
 
-abbrev pub behind_question : List ℕ → Option (Question × ℕ) → Option (Question × Option Serial × Bool)
-behind_question msg o = option_and_then (λ q. behind_answer msg q.0 (sight_at msg 6 q.1)) o
+abbrev pub behind_question : List ℕ → Option (Question × ℕ) → Option (Question × Option Serial × Said)
+behind_question msg o = option_and_then (λ q. behind_answer msg q.0 (end_at msg 6 q.1)) o
 
 -- what stands behind questions, where they are read
 abbrev behind_authorities : List ℕ → List Question → List Entry → Option (List Entry × ℕ) → Option Body
@@ -121,7 +113,7 @@ authority_seen : (msg : List ℕ) (q : Question) (answer : List Entry) (o : Opti
 authority_seen msg q answer None = refl
 authority_seen msg q answer (Some r) = additional_seen msg q answer r.0 (records_at (number_at msg 10) msg r.1)
 
-answer_seen : (msg : List ℕ) (q : Question) (o : Option (List Entry × ℕ)) → option_and_then (seen msg) (behind_answers msg (q ∷ []) o) ≡ behind_answer msg q (option_map sight o)
+answer_seen : (msg : List ℕ) (q : Question) (o : Option (List Entry × ℕ)) → option_and_then (seen msg) (behind_answers msg (q ∷ []) o) ≡ behind_answer msg q (option_map place_of o)
 answer_seen msg q None = refl
 answer_seen msg q (Some r) = authority_seen msg q r.0 (records_at (number_at msg 8) msg r.1)
 
@@ -164,7 +156,7 @@ only_none (q ∷ r ∷ qs) h = refl
 -- of another number of questions nothing is seen
 additional_none : (msg : List ℕ) (qs : List Question) (answer authority : List Entry) (o : Option (List Entry × ℕ)) → only_question qs ≡ None → option_and_then (seen msg) (option_map (λ additional. record { questions = qs; answer = answer; authority = authority; additional = additional.0 }) o) ≡ None
 additional_none msg qs answer authority None e = refl
-additional_none msg qs answer authority (Some r) e = ap (option_map (λ question. (question, serial_held msg question authority, has_opt r.0))) e
+additional_none msg qs answer authority (Some r) e = ap (option_map (λ question. (question, serial_held msg question authority, opt_said r.0))) e
 
 authority_none : (msg : List ℕ) (qs : List Question) (answer : List Entry) (o : Option (List Entry × ℕ)) → only_question qs ≡ None → option_and_then (seen msg) (behind_authorities msg qs answer o) ≡ None
 authority_none msg qs answer None e = refl
@@ -185,23 +177,26 @@ seen_none msg count told ne = questions_none msg (number_at msg 4) (questions_at
 pub seen_question : (msg : List ℕ) (count : ℕ) (o : Option (Question × ℕ)) → count ≡ number_at msg 4 → count ≡ 1 → o ≡ question_at msg 12 → option_and_then (seen msg) (body_in msg) ≡ behind_question msg o
 seen_question msg count o told one e = seen_one msg (sym told ∙ one) ∙ ap (behind_question msg) (sym e)
 
-pub seen_section : (msg : List ℕ) (k count at : ℕ) (o : Option (Bool × ℕ)) → count ≡ number_at msg k → o ≡ option_map sight (records_at count msg at) → sight_at msg k at ≡ o
-seen_section msg k count at o told e = ap (λ n. option_map sight (records_at n msg at)) (sym told) ∙ sym e
+pub seen_section : (msg : List ℕ) (k count at : ℕ) (o : Option ℕ) → count ≡ number_at msg k → o ≡ option_map place_of (records_at count msg at) → end_at msg k at ≡ o
+seen_section msg k count at o told e = ap (λ n. option_map place_of (records_at n msg at)) (sym told) ∙ sym e
 
-pub seen_answer : (msg : List ℕ) (one count : ℕ) (o : Option (Question × ℕ)) (q : Question) (at : ℕ) (r : Option (Bool × ℕ)) → one ≡ number_at msg 4 → one ≡ 1 → o ≡ question_at msg 12 → o ≡ Some (q, at) → count ≡ number_at msg 6 → r ≡ option_map sight (records_at count msg at) → option_and_then (seen msg) (body_in msg) ≡ behind_answer msg q r
+pub seen_answer : (msg : List ℕ) (one count : ℕ) (o : Option (Question × ℕ)) (q : Question) (at : ℕ) (r : Option ℕ) → one ≡ number_at msg 4 → one ≡ 1 → o ≡ question_at msg 12 → o ≡ Some (q, at) → count ≡ number_at msg 6 → r ≡ option_map place_of (records_at count msg at) → option_and_then (seen msg) (body_in msg) ≡ behind_answer msg q r
 seen_answer msg one count o q at r told is e was counted f =
     seen_question msg one o told is e ∙ ap (behind_question msg) was ∙ ap (behind_answer msg q) (seen_section msg 6 count at r counted f)
 
-pub seen_authority : (msg : List ℕ) (count : ℕ) (q : Question) (before : Option (Bool × ℕ)) (r : Option (Option Serial × ℕ)) (opt : Bool) (at : ℕ) → option_and_then (seen msg) (body_in msg) ≡ behind_answer msg q before → before ≡ Some (opt, at) → count ≡ number_at msg 8 → r ≡ option_map (holding msg q) (records_at count msg at) → option_and_then (seen msg) (body_in msg) ≡ behind_authority msg q r
-seen_authority msg count q before r opt at front was counted f =
+pub seen_authority : (msg : List ℕ) (count : ℕ) (q : Question) (before : Option ℕ) (r : Option (Option Serial × ℕ)) (at : ℕ) → option_and_then (seen msg) (body_in msg) ≡ behind_answer msg q before → before ≡ Some at → count ≡ number_at msg 8 → r ≡ option_map (holding msg q) (records_at count msg at) → option_and_then (seen msg) (body_in msg) ≡ behind_authority msg q r
+seen_authority msg count q before r at front was counted f =
     front
     ∙ ap (behind_answer msg q) was
     ∙ ap (λ n. behind_authority msg q (option_map (holding msg q) (records_at n msg at))) (sym counted)
     ∙ ap (behind_authority msg q) (sym f)
 
-pub seen_additional : (msg : List ℕ) (count : ℕ) (q : Question) (before : Option (Option Serial × ℕ)) (r : Option (Bool × ℕ)) (serial : Option Serial) (at : ℕ) → option_and_then (seen msg) (body_in msg) ≡ behind_authority msg q before → before ≡ Some (serial, at) → count ≡ number_at msg 10 → r ≡ option_map sight (records_at count msg at) → option_and_then (seen msg) (body_in msg) ≡ option_map (λ s. (q, serial, s.0)) r
+pub seen_additional : (msg : List ℕ) (count : ℕ) (q : Question) (before : Option (Option Serial × ℕ)) (r : Option Said) (serial : Option Serial) (at : ℕ) → option_and_then (seen msg) (body_in msg) ≡ behind_authority msg q before → before ≡ Some (serial, at) → count ≡ number_at msg 10 → r ≡ option_map heard (records_at count msg at) → option_and_then (seen msg) (body_in msg) ≡ option_map (λ s. (q, serial, s)) r
 seen_additional msg count q before r serial at front was counted f =
-    front ∙ ap (behind_authority msg q) was ∙ ap (option_map (λ s. (q, serial, s.0))) (seen_section msg 10 count at r counted f)
+    front
+    ∙ ap (behind_authority msg q) was
+    ∙ ap (λ n. option_map (λ s. (q, serial, s)) (option_map heard (records_at n msg at))) (sym counted)
+    ∙ ap (option_map (λ s. (q, serial, s))) (sym f)
 
 not_true : (b : Bool) → not b ≡ true → b ≡ false
 not_true true e = cc
@@ -220,20 +215,20 @@ none_held true = refl
 none_held false = refl
 
 -- where no IXFR is asked for, no serial is held
-pub held_unasked : (msg : List ℕ) (q : Question) (o : Option (List Entry × ℕ)) (opt : Bool) (next : ℕ) → not (q.rtype.0 == type_IXFR) ≡ true → option_map sight o ≡ Some (opt, next) → option_map (holding msg q) o ≡ Some (None, next)
-held_unasked msg q None opt next asks e = cc
-held_unasked msg q (Some r) opt next asks e =
+pub held_unasked : (msg : List ℕ) (q : Question) (o : Option (List Entry × ℕ)) (next : ℕ) → not (q.rtype.0 == type_IXFR) ≡ true → option_map place_of o ≡ Some next → option_map (holding msg q) o ≡ Some (None, next)
+held_unasked msg q None next asks e = cc
+held_unasked msg q (Some r) next asks e =
     let unasked : (q.rtype.0 == type_IXFR) ≡ false = not_true (q.rtype.0 == type_IXFR) asks in
-    let both : (has_opt r.0, r.1) ≡ (opt, next) = cc in
+    let place : r.1 ≡ next = cc in
     ap (λ b. Some (if b then serial_in msg q.name r.0 else None, r.1)) unasked
-    ∙ ap (λ (p : Bool × ℕ). Some (no_serial, p.1)) both
+    ∙ ap (λ (n : ℕ). Some (no_serial, n)) place
 
 -- nor where there are other than one record
-ends_same : (msg : List ℕ) (q : Question) (o : Option (List Entry × ℕ)) (opt : Bool) (next : ℕ) → option_map sight o ≡ Some (opt, next) → option_map {U = Option Serial × ℕ} (λ r. (None, r.1)) o ≡ Some (None, next)
-ends_same msg q None opt next e = cc
-ends_same msg q (Some r) opt next e =
-    let both : (has_opt r.0, r.1) ≡ (opt, next) = cc in
-    ap (λ (p : Bool × ℕ). Some (no_serial, p.1)) both
+ends_same : (msg : List ℕ) (q : Question) (o : Option (List Entry × ℕ)) (next : ℕ) → option_map place_of o ≡ Some next → option_map {U = Option Serial × ℕ} (λ r. (None, r.1)) o ≡ Some (None, next)
+ends_same msg q None next e = cc
+ends_same msg q (Some r) next e =
+    let place : r.1 ≡ next = cc in
+    ap (λ (n : ℕ). Some (no_serial, n)) place
 
 abbrev in_front : Entry → Option (List Entry × ℕ) → Option (List Entry × ℕ)
 in_front a o = option_map (λ rest. (a ∷ rest.0, rest.1)) o
@@ -257,22 +252,22 @@ many_held msg q zero at h = ap (λ (s : Option Serial). Some (s, at)) (none_held
 many_held msg q (suc zero) at h = absurd (h refl)
 many_held msg q (suc (suc count)) at h = first_held msg q count (record_at msg at)
 
-pub held_of_many : (msg : List ℕ) (q : Question) (count at : ℕ) (opt : Bool) (next : ℕ) → count ≢ 1 → option_map sight (records_at count msg at) ≡ Some (opt, next) → option_map (holding msg q) (records_at count msg at) ≡ Some (None, next)
-held_of_many msg q count at opt next h e = many_held msg q count at h ∙ ends_same msg q (records_at count msg at) opt next e
+pub held_of_many : (msg : List ℕ) (q : Question) (count at next : ℕ) → count ≢ 1 → option_map place_of (records_at count msg at) ≡ Some next → option_map (holding msg q) (records_at count msg at) ≡ Some (None, next)
+held_of_many msg q count at next h e = many_held msg q count at h ∙ ends_same msg q (records_at count msg at) next e
 
 -- of one record the serial is that of an SOA at the name
-one_held : (msg : List ℕ) (q : Question) (o : Option (Entry × ℕ)) (opt : Bool) (next : ℕ) (serial : Option Serial) → not (q.rtype.0 == type_IXFR) ≡ false → option_map sight (behind_one 0 msg o) ≡ Some (opt, next) → serial ≡ option_and_then (λ r. serial_in msg q.name (r.0 ∷ [])) o → option_map (holding msg q) (behind_one 0 msg o) ≡ Some (serial, next)
+one_held : (msg : List ℕ) (q : Question) (o : Option (Entry × ℕ)) (next : ℕ) (serial : Option Serial) → not (q.rtype.0 == type_IXFR) ≡ false → option_map place_of (behind_one 0 msg o) ≡ Some next → serial ≡ option_and_then (λ r. serial_in msg q.name (r.0 ∷ [])) o → option_map (holding msg q) (behind_one 0 msg o) ≡ Some (serial, next)
 unfolding records_at
-one_held msg q None opt next serial asks e is = cc
-one_held msg q (Some r) opt next serial asks e is =
+one_held msg q None next serial asks e is = cc
+one_held msg q (Some r) next serial asks e is =
     let asked : (q.rtype.0 == type_IXFR) ≡ true = not_false (q.rtype.0 == type_IXFR) asks in
-    let both : (has_opt (r.0 ∷ []), r.1) ≡ (opt, next) = cc in
+    let place : r.1 ≡ next = cc in
     ap (λ b. Some (if b then serial_in msg q.name (r.0 ∷ []) else None, r.1)) asked
     ∙ ap (λ (s : Option Serial). Some (s, r.1)) (sym is)
-    ∙ ap (λ (p : Bool × ℕ). Some (serial, p.1)) both
+    ∙ ap (λ (n : ℕ). Some (serial, n)) place
 
-pub held_of_one : (msg : List ℕ) (q : Question) (count at : ℕ) (opt : Bool) (next : ℕ) (serial : Option Serial) → not (q.rtype.0 == type_IXFR) ≡ false → count ≡ 1 → option_map sight (records_at count msg at) ≡ Some (opt, next) → serial ≡ option_and_then (λ r. serial_in msg q.name (r.0 ∷ [])) (record_at msg at) → option_map (holding msg q) (records_at count msg at) ≡ Some (serial, next)
+pub held_of_one : (msg : List ℕ) (q : Question) (count at next : ℕ) (serial : Option Serial) → not (q.rtype.0 == type_IXFR) ≡ false → count ≡ 1 → option_map place_of (records_at count msg at) ≡ Some next → serial ≡ option_and_then (λ r. serial_in msg q.name (r.0 ∷ [])) (record_at msg at) → option_map (holding msg q) (records_at count msg at) ≡ Some (serial, next)
 unfolding records_at
-held_of_one msg q count at opt next serial asks one e is =
+held_of_one msg q count at next serial asks one e is =
     ap (λ n. option_map (holding msg q) (records_at n msg at)) one
-    ∙ one_held msg q (record_at msg at) opt next serial asks (ap (λ n. option_map sight (records_at n msg at)) (sym one) ∙ e) is
+    ∙ one_held msg q (record_at msg at) next serial asks (ap (λ n. option_map place_of (records_at n msg at)) (sym one) ∙ e) is

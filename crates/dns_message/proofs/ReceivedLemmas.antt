@@ -6,7 +6,7 @@ use Rattle.dns_message.specs.Message.{Entry, number_at}
 use Rattle.dns_message.specs.Reads.{question_at, questions_at, record_at, records_at, body_in, is_reply}
 use Rattle.dns_message.specs.Received.{received, rcode_of, received_records, HasAnswerAt}
 use Rattle.dns_message.specs.declared.query.Question.{Question}
-use Rattle.dns_message.proofs.ReadLemmas.{sight}
+use Rattle.dns_message.proofs.ReadLemmas.{place_of}
 
 left : (count done : ℕ) → done < count → count - done ≡ suc (count - (done + 1))
 left count done h = omega arith
@@ -106,15 +106,12 @@ IsTaking-end count msg at done place own on all =
     ∙ ap (λ n. taken msg own (records_at n msg place)) (omega arith)
     ∙ no_records msg place own
 
--- what a look at records tells of them
-pub seen_at : (o : Option (List Entry × ℕ)) (opt : Bool) (next : ℕ) → option_map sight o ≡ Some (opt, next) → (l : List Entry) × (o ≡ Some (l, next))
-seen_at None opt next e = absurd (cc)
-seen_at (Some r) opt next e =
-    let same : sight r ≡ (opt, next) = cc in
-    let place : r.1 ≡ next = ap (λ (p : Bool × ℕ). p.1) same in
-    (r.0, ap (λ (n : ℕ). Some (r.0, n)) place)
+-- what the position behind records tells of them
+pub seen_at : (o : Option (List Entry × ℕ)) (next : ℕ) → option_map place_of o ≡ Some next → (l : List Entry) × (o ≡ Some (l, next))
+seen_at None next e = absurd (cc)
+seen_at (Some r) next e = let same : r.1 ≡ next = cc in (r.0, ap (λ (n : ℕ). Some (r.0, n)) same)
 
-pub unseen_at : (o : Option (List Entry × ℕ)) → option_map sight o ≡ None → o ≡ None
+pub unseen_at : (o : Option (List Entry × ℕ)) → option_map place_of o ≡ None → o ≡ None
 unseen_at None e = refl
 unseen_at (Some r) e = absurd (cc)
 
@@ -133,11 +130,11 @@ questions_seen msg count place o n read e = placed_at (questions_at (number_at m
 pub questions_unseen : (msg : List ℕ) (count : ℕ) (o : Option ℕ) → count ≡ number_at msg 4 → o ≡ place_behind (questions_at count msg 12) → o ≡ None → questions_at (number_at msg 4) msg 12 ≡ None
 questions_unseen msg count o n read e = unplaced_at (questions_at (number_at msg 4) msg 12) (ap (λ k. place_behind (questions_at k msg 12)) (sym n) ∙ sym read ∙ e)
 
-pub records_seen : (msg : List ℕ) (at count all : ℕ) (o : Option (Bool × ℕ)) (opt : Bool) (next : ℕ) → count ≡ all → o ≡ option_map sight (records_at count msg at) → o ≡ Some (opt, next) → (l : List Entry) × (records_at all msg at ≡ Some (l, next))
-records_seen msg at count all o opt next n read e = seen_at (records_at all msg at) opt next (ap (λ k. option_map sight (records_at k msg at)) (sym n) ∙ sym read ∙ e)
+pub records_seen : (msg : List ℕ) (at count all : ℕ) (o : Option ℕ) (next : ℕ) → count ≡ all → o ≡ option_map place_of (records_at count msg at) → o ≡ Some next → (l : List Entry) × (records_at all msg at ≡ Some (l, next))
+records_seen msg at count all o next n read e = seen_at (records_at all msg at) next (ap (λ k. option_map place_of (records_at k msg at)) (sym n) ∙ sym read ∙ e)
 
-pub records_unseen : (msg : List ℕ) (at count all : ℕ) (o : Option (Bool × ℕ)) → count ≡ all → o ≡ option_map sight (records_at count msg at) → o ≡ None → records_at all msg at ≡ None
-records_unseen msg at count all o n read e = unseen_at (records_at all msg at) (ap (λ k. option_map sight (records_at k msg at)) (sym n) ∙ sym read ∙ e)
+pub records_unseen : (msg : List ℕ) (at count all : ℕ) (o : Option ℕ) → count ≡ all → o ≡ option_map place_of (records_at count msg at) → o ≡ None → records_at all msg at ≡ None
+records_unseen msg at count all o n read e = unseen_at (records_at all msg at) (ap (λ k. option_map place_of (records_at k msg at)) (sym n) ∙ sym read ∙ e)
 
 -- a message read section by section
 module _ (msg : List ℕ) where

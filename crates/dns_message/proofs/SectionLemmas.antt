@@ -1,5 +1,5 @@
 -- The sections of a written reply are read again.
-use Rattle.std.proofs.Common.{◌≡◌, ℕ, ◌+◌, ◌<◌, ◌≤◌, ◌^◌, All, List, [], ◌∷◌, ◌++◌, length, Option, Some, None, refl, sym, ap, ◌∙◌, arith, option_map, option_and_then, length-append}
+use Rattle.std.proofs.Common.{◌≡◌, ℕ, zero, suc, ◌+◌, ◌<◌, ◌≤◌, ◌^◌, All, List, [], ◌∷◌, ◌++◌, length, Option, Some, None, refl, sym, ap, ◌∙◌, arith, option_map, option_and_then, length-append}
 use Rattle.std.proofs.lemmas.List.{append-nil}
 use Rattle.std.proofs.lemmas.List.Elements.{All-head}
 use Rattle.std.proofs.lemmas.Nat.{from_be_bytes-to_be_bytes_2}
@@ -11,10 +11,14 @@ use Rattle.dns_message.specs.Again.{IsRecord, IsReply, IsReadAgain, entries_at, 
 use Rattle.dns_message.specs.Asked.{IsQuestion}
 use Rattle.dns_message.specs.Message.{Entry, Body, Message, number_at}
 use Rattle.dns_message.specs.Encoding.{these, before, each}
-use Rattle.dns_message.specs.Reads.{question_at, questions_at, records_at, body_in}
+use Rattle.dns_message.specs.Opt.{opt_part, opt_count, opt_entries}
+use Rattle.dns_message.specs.Reads.{question_at, questions_at, record_at, records_at, body_in}
 use Rattle.dns_message.specs.Octets.{question_octets, questions, record_octets, sections_octets, counts_in, header_octets, reply_octets}
 use Rattle.dns_message.specs.declared.query.Question.{Question}
-use Rattle.dns_message.proofs.AgainLemmas.{question_again, records_again, few_records}
+use Rattle.dns_message.proofs.AgainLemmas.{question_again, records_again, few_records, none_more}
+use Rattle.dns_message.proofs.OctetsLemmas.{sections_fill}
+use Rattle.dns_message.proofs.OptAgainLemmas.{opt_again}
+use Rattle.dns_message.proofs.ReadLemmas.{behind_one, next_one}
 use Rattle.dns_message.proofs.TrueLemmas.{IsTrueOf-nothing}
 use Rattle.dns_message.proofs.ExpandedLemmas.{records_data}
 use Rattle.dns_message.proofs.KeepsLemmas.{Stands, Stands-behind, Keeps, Keeps-each, Keeps-question, Keeps-records}
@@ -77,34 +81,32 @@ authority_part m = (each record_octets m.authority (answer_end m).0 (answer_end 
 pub additional_part : Message → List ℕ
 additional_part m = (each record_octets m.additional (authority_end m).0 (authority_end m).1).0
 
-pub sections_parts : (m : Message) → (sections_octets m [] 12).0 ≡ question_part m ++ (answer_part m ++ (authority_part m ++ additional_part m))
-unfolding sections_octets before question_part answer_part authority_part additional_part
+pub sections_parts : (m : Message) → (sections_octets m [] 12).0 ≡ question_part m ++ (answer_part m ++ (authority_part m ++ (additional_part m ++ opt_part m.rcode m.opt)))
+unfolding sections_octets before these question_part answer_part authority_part additional_part
 sections_parts m = refl
 
 header : Message → List ℕ
 header m = header_octets m (counts_in m)
 
-at_question : (m : Message) → Stands (reply_octets m) (header m) (question_part m ++ (answer_part m ++ (authority_part m ++ additional_part m))) [] 12
+at_question : (m : Message) → Stands (reply_octets m) (header m) (question_part m ++ (answer_part m ++ (authority_part m ++ (additional_part m ++ opt_part m.rcode m.opt)))) [] 12
 unfolding header
 at_question m = record { at = refl; is = ap (λ t. header m ++ t) (sections_parts m); holds = IsTrueOf-nothing (header m) }
 
-at_answer : (m : Message) → IsReply m → Stands (reply_octets m) (header m ++ question_part m) (answer_part m ++ (authority_part m ++ additional_part m)) (question_end m).0 (question_end m).1
+at_answer : (m : Message) → IsReply m → Stands (reply_octets m) (header m ++ question_part m) (answer_part m ++ (authority_part m ++ (additional_part m ++ opt_part m.rcode m.opt))) (question_end m).0 (question_end m).1
 unfolding question_part
 at_answer m h = Stands-behind _ _ _ _ _ _ (Keeps-asked m.question h.question) (at_question m)
 
-at_authority : (m : Message) → IsReply m → Stands (reply_octets m) ((header m ++ question_part m) ++ answer_part m) (authority_part m ++ additional_part m) (answer_end m).0 (answer_end m).1
+at_authority : (m : Message) → IsReply m → Stands (reply_octets m) ((header m ++ question_part m) ++ answer_part m) (authority_part m ++ (additional_part m ++ opt_part m.rcode m.opt)) (answer_end m).0 (answer_end m).1
 unfolding answer_part
 at_authority m h = Stands-behind _ _ _ _ _ _ (Keeps-records m.answer (owners m.answer h.answer)) (at_answer m h)
 
-at_additional : (m : Message) → IsReply m → Stands (reply_octets m) (((header m ++ question_part m) ++ answer_part m) ++ authority_part m) (additional_part m ++ []) (authority_end m).0 (authority_end m).1
+at_additional : (m : Message) → IsReply m → Stands (reply_octets m) (((header m ++ question_part m) ++ answer_part m) ++ authority_part m) (additional_part m ++ opt_part m.rcode m.opt) (authority_end m).0 (authority_end m).1
 unfolding authority_part
-at_additional m h =
-    let there = Stands-behind _ _ _ _ _ _ (Keeps-records m.authority (owners m.authority h.authority)) (at_authority m h) in
-    record { at = there.at; is = there.is ∙ ap (λ t. (((header m ++ question_part m) ++ answer_part m) ++ authority_part m) ++ t) (sym (append-nil (additional_part m))); holds = there.holds }
+at_additional m h = Stands-behind _ _ _ _ _ _ (Keeps-records m.authority (owners m.authority h.authority)) (at_authority m h)
 
-at_end : (m : Message) → IsReply m → Stands (reply_octets m) ((((header m ++ question_part m) ++ answer_part m) ++ authority_part m) ++ additional_part m) [] (additional_end m).0 (additional_end m).1
+at_opt : (m : Message) → IsReply m → Stands (reply_octets m) ((((header m ++ question_part m) ++ answer_part m) ++ authority_part m) ++ additional_part m) (opt_part m.rcode m.opt) (additional_end m).0 (additional_end m).1
 unfolding additional_part
-at_end m h = Stands-behind _ _ _ _ _ _ (Keeps-records m.additional (owners m.additional h.additional)) (at_additional m h)
+at_opt m h = Stands-behind _ _ _ _ _ _ (Keeps-records m.additional (owners m.additional h.additional)) (at_additional m h)
 
 pub sections_again : (m : Message) → IsReply m → IsReadAgain m
 unfolding question_part answer_part authority_part additional_part
@@ -116,7 +118,7 @@ sections_again m h = record {
   answer_data = records_data m.answer _ _ _ _ _ h.answer (at_answer m h);
   authority_data = records_data m.authority _ _ _ _ _ h.authority (at_authority m h);
   additional_data = records_data m.additional _ _ _ _ _ h.additional (at_additional m h);
-  whole = (at_end m h).at ∙ ap length (sym ((at_end m h).is ∙ append-nil _));
+  opt = opt_again m.rcode m.opt _ _ _ _ (at_opt m h);
 }
 
 -- what stands behind a header, where its questions are read
@@ -157,11 +159,59 @@ body_parts msg qs asked answers authorities additions n1 n2 n3 n4 answer authori
     ∙ ap (after_answer msg additions qs answer) f2
     ∙ ap (after_authority qs answer authority) f3
 
+-- records, and those behind them
+abbrev in_front : List Entry → Option (List Entry × ℕ) → Option (List Entry × ℕ)
+in_front es o = option_map (λ r. (es ++ r.0, r.1)) o
+
+none_in_front : (o : Option (List Entry × ℕ)) → o ≡ in_front [] o
+none_in_front None = refl
+none_in_front (Some r) = refl
+
+first_in_front : (e : Entry) (es : List Entry) (o : Option (List Entry × ℕ)) → option_map (λ rest. (e ∷ rest.0, rest.1)) (in_front es o) ≡ in_front (e ∷ es) o
+first_in_front e es None = refl
+first_in_front e es (Some r) = refl
+
+abbrev then_more : ℕ → List ℕ → Option (List Entry × ℕ) → Option (List Entry × ℕ)
+then_more b msg o = option_and_then (λ r. in_front r.0 (records_at b msg r.1)) o
+
+one_then_more : (b : ℕ) (msg : List ℕ) (e : Entry) (o : Option (List Entry × ℕ)) → option_map (λ rest. (e ∷ rest.0, rest.1)) (then_more b msg o) ≡ then_more b msg (option_map (λ rest. (e ∷ rest.0, rest.1)) o)
+one_then_more b msg e None = refl
+one_then_more b msg e (Some r) = first_in_front e r.0 (records_at b msg r.1)
+
+behind_then_more : (a b : ℕ) (msg : List ℕ) (o : Option (Entry × ℕ)) → ((at : ℕ) → records_at (a + b) msg at ≡ then_more b msg (records_at a msg at)) → behind_one (a + b) msg o ≡ then_more b msg (behind_one a msg o)
+behind_then_more a b msg None all = refl
+behind_then_more a b msg (Some r) all = ap (option_map (λ rest. (r.0 ∷ rest.0, rest.1))) (all r.1) ∙ one_then_more b msg r.0 (records_at a msg r.1)
+
+records_more : (a b : ℕ) (msg : List ℕ) (at : ℕ) → records_at (a + b) msg at ≡ then_more b msg (records_at a msg at)
+records_more zero b msg at =
+    ap (λ n. records_at n msg at) (omega arith)
+    ∙ none_in_front (records_at b msg at)
+    ∙ ap (then_more b msg) (sym (none_more msg at))
+records_more (suc a) b msg at =
+    ap (λ n. records_at n msg at) (omega arith)
+    ∙ next_one (a + b) msg at
+    ∙ behind_then_more a b msg (record_at msg at) (records_more a b msg)
+    ∙ ap (then_more b msg) (sym (next_one a msg at))
+
+-- so the additional records are read, and the OPT behind them
+additional_again : (m : Message) → IsReadAgain m → records_at (length m.additional + opt_count m.opt) (reply_octets m) (authority_end m).1 ≡ Some (entries_at m.additional (authority_end m) ++ opt_entries m.rcode m.opt (additional_end m).1, length (reply_octets m))
+additional_again m again =
+    records_more (length m.additional) (opt_count m.opt) (reply_octets m) (authority_end m).1
+    ∙ ap (then_more (opt_count m.opt) (reply_octets m)) again.additional
+    ∙ ap (in_front (entries_at m.additional (authority_end m))) again.opt
+
 -- the counts of a reply's header are read
 count_again : (m : Message) (rs : List Record) (front rest : List ℕ) (table : Table) (n : ℕ) → length (reply_octets m) < 2 ^ 16 → Stands (reply_octets m) front ((each record_octets rs table n).0 ++ rest) table n → from_be_bytes w16 (to_be_bytes w16 (length rs)) ≡ length rs
 count_again m rs front rest table n short s =
     let octets = (each record_octets rs table n).0 in
     from_be_bytes-to_be_bytes_2 (length rs) (omega (arith, few_records rs table n, ap length s.is, length-append front (octets ++ rest), length-append octets rest))
+
+-- the additional records and the OPT are no more than their octets
+additional_counted : (m : Message) → IsReply m → from_be_bytes w16 (to_be_bytes w16 (length m.additional + opt_count m.opt)) ≡ length m.additional + opt_count m.opt
+additional_counted m h =
+    let most = (sections_fill m).additional in
+    let carried = h.carried in
+    from_be_bytes-to_be_bytes_2 (length m.additional + opt_count m.opt) (omega arith)
 
 questions_counted : (o : Option Question) → from_be_bytes w16 (to_be_bytes w16 (length (questions o))) ≡ length (questions o)
 questions_counted None = refl
@@ -171,9 +221,9 @@ pub body_again : (m : Message) → IsReply m → body_in (reply_octets m) ≡ So
 unfolding answer_part authority_part additional_part
 body_again m h =
     let again = sections_again m h in
-    body_parts (reply_octets m) (questions m.question) (length (questions m.question)) (length m.answer) (length m.authority) (length m.additional) _ _ _ _ _ _ _
+    body_parts (reply_octets m) (questions m.question) (length (questions m.question)) (length m.answer) (length m.authority) (length m.additional + opt_count m.opt) _ _ _ _ _ _ _
     (questions_counted m.question)
     (count_again m m.answer _ _ _ _ h.carried (at_answer m h))
     (count_again m m.authority _ _ _ _ h.carried (at_authority m h))
-    (count_again m m.additional _ _ _ _ h.carried (at_additional m h))
-    again.question again.answer again.authority again.additional
+    (additional_counted m h)
+    again.question again.answer again.authority (additional_again m again)

@@ -14,9 +14,10 @@ use Rattle.wire_names.specs.Written.{written, table_after}
 use Rattle.dns_message.specs.Answers.{answers}
 use Rattle.dns_message.specs.Encoding.{these, named, before, measured, each}
 use Rattle.dns_message.specs.Octets.{names_octets, octets_by, data_laid, data_octets, fixed_octets, question_octets, record_octets, fits}
+use Rattle.dns_message.specs.declared.edns.Opt.{Opt}
 use Rattle.dns_message.specs.declared.query.Head.{Head}
 use Rattle.dns_message.specs.declared.query.Question.{Question}
-use Rattle.dns_message.proofs.AnswersLemmas.{length-answers}
+use Rattle.dns_message.proofs.AnswersLemmas.{opt_short, length-answers}
 use Rattle.dns_message.proofs.DataLemmas.{length-name_octets, length-question, length-measured}
 use Rattle.dns_message.proofs.EncodedLemmas.{each-one}
 use Rattle.dns_message.proofs.OctetsLemmas.{length-before}
@@ -105,22 +106,24 @@ record_short r table at lawful =
     let data_fits = data_short r.rtype r.rdata after (place + length (fixed_octets r) + 2) in
     omega arith
 
--- a record of at most 4,096 octets of data fits into a message of 16,384 by itself
-pub one_fits : (head : Head) (r : Record) → IsName r.owner → length r.rdata ≤ 4096 → fits (answers head None (r ∷ [])) 16384 ≡ true
+-- a record of at most 4,096 octets of data fits into a message of 16,384 by itself, and beside an OPT
+pub one_fits : (head : Head) (opt : Option Opt) (r : Record) → IsName r.owner → length r.rdata ≤ 4096 → fits (answers head None opt (r ∷ [])) 16384 ≡ true
 unfolding each these
-one_fits head r lawful short =
-    let size = length-answers head None (r ∷ []) in
+one_fits head opt r lawful short =
+    let size = length-answers head None opt (r ∷ []) in
     let both = length-before (these []) (each record_octets (r ∷ [])) [] 12 in
     let alone : length (each record_octets (r ∷ []) [] 12).0 ≡ length (record_octets r [] 12).0 = ap (λ e. length (e [] 12).0) (each-one record_octets r) in
     let most = record_short r [] 12 lawful in
+    let last = opt_short opt in
     le-leb _ _ (omega arith)
 
--- a question whose name is a name fits by itself
-pub question_fits : (head : Head) (q : Question) → IsName q.name → fits (answers head (Some q) []) 16384 ≡ true
+-- a question whose name is a name fits by itself, and beside an OPT
+pub question_fits : (head : Head) (opt : Option Opt) (q : Question) → IsName q.name → fits (answers head (Some q) opt []) 16384 ≡ true
 unfolding each these
-question_fits head q lawful =
-    let size = length-answers head (Some q) [] in
+question_fits head opt q lawful =
+    let size = length-answers head (Some q) opt [] in
     let both = length-before (each question_octets (q ∷ [])) (these []) [] 12 in
     let alone : length (each question_octets (q ∷ []) [] 12).0 ≡ length (question_octets q [] 12).0 = ap (λ e. length (e [] 12).0) (each-one question_octets q) in
     let most = length-question q [] 12 lawful in
+    let last = opt_short opt in
     le-leb _ _ (omega arith)

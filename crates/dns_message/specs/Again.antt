@@ -1,5 +1,5 @@
 -- What is read where a reply was written (RFC 1035, 4.1).
-use Rattle.std.specs.Prelude.{◌≡◌, ℕ, ◌+◌, ◌^◌, ◌<◌, true, List, [], ◌∷◌, length, map, All, Some}
+use Rattle.std.specs.Prelude.{◌≡◌, ℕ, ◌+◌, ◌^◌, ◌<◌, true, List, [], ◌∷◌, ◌++◌, length, map, All, Some}
 use Rattle.dns_name.specs.Name.{IsName}
 use Rattle.dns_rdata.specs.Data.{data_of}
 use Rattle.dns_rdata.specs.Numbers.{class_IN}
@@ -9,6 +9,7 @@ use Rattle.dns_message.specs.Asked.{IsQuestion}
 use Rattle.dns_message.specs.Encoding.{Encoding, named, each}
 use Rattle.dns_message.specs.Expanded.{expanded_data}
 use Rattle.dns_message.specs.Message.{Entry, Body, Message}
+use Rattle.dns_message.specs.Opt.{opt_count, opt_entries}
 use Rattle.dns_message.specs.Octets.{data_octets, question_octets, questions, record_octets, reply_octets}
 use Rattle.dns_message.specs.Reads.{questions_at, records_at}
 
@@ -58,8 +59,8 @@ unfoldable pub entries_at : List Record → Place → List Entry
 entries_at [] place = []
 entries_at (r ∷ rs) place = entry_at r place ∷ entries_at rs (behind (record_octets r) place)
 
--- the places behind a reply's question, answer, authority and additional sections; the question is behind the header,
--- with an empty table (RFC 1035, 4.1)
+-- the places behind a reply's question, answer and authority sections, and behind its additional records, but for the OPT; the
+-- question is behind the header, with an empty table (RFC 1035, 4.1)
 abbrev pub question_end : Message → Place
 question_end m = behind (each question_octets (questions m.question)) ([], 12)
 
@@ -72,8 +73,8 @@ authority_end m = behind (each record_octets m.authority) (answer_end m)
 abbrev pub additional_end : Message → Place
 additional_end m = behind (each record_octets m.additional) (authority_end m)
 
--- the sections that are read where a reply was written are those that were written, with their expanded data, and reading
--- ends with the octets
+-- the sections that are read where a reply was written are those that were written, with their expanded data, and behind the other
+-- additional records the OPT, where there is one; and reading ends with the octets
 pub record IsReadAgain (m : Message) : Type 0 where
   pub question : questions_at (length (questions m.question)) (reply_octets m) 12 ≡ Some (questions m.question, (question_end m).1)
   pub answer : records_at (length m.answer) (reply_octets m) (question_end m).1 ≡ Some (entries_at m.answer (question_end m), (answer_end m).1)
@@ -82,7 +83,7 @@ pub record IsReadAgain (m : Message) : Type 0 where
   pub authority_data : map (expanded_data (reply_octets m)) (entries_at m.authority (answer_end m)) ≡ map (λ r. Some r.rdata) m.authority
   pub additional : records_at (length m.additional) (reply_octets m) (authority_end m).1 ≡ Some (entries_at m.additional (authority_end m), (additional_end m).1)
   pub additional_data : map (expanded_data (reply_octets m)) (entries_at m.additional (authority_end m)) ≡ map (λ r. Some r.rdata) m.additional
-  pub whole : (additional_end m).1 ≡ length (reply_octets m)
+  pub opt : records_at (opt_count m.opt) (reply_octets m) (additional_end m).1 ≡ Some (opt_entries m.rcode m.opt (additional_end m).1, length (reply_octets m))
 
 -- what stands behind a reply's header
 abbrev pub body_written : Message → Body
@@ -90,5 +91,5 @@ body_written m = record {
   questions = questions m.question;
   answer = entries_at m.answer (question_end m);
   authority = entries_at m.authority (answer_end m);
-  additional = entries_at m.additional (authority_end m);
+  additional = entries_at m.additional (authority_end m) ++ opt_entries m.rcode m.opt (additional_end m).1;
 }

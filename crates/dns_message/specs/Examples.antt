@@ -1,5 +1,5 @@
 -- Worked examples of a request and of its reply (RFC 1035, 4.1).
-use Rattle.std.specs.Prelude.{ℕ, true, false, List, [], ◌∷◌, ◌++◌, Some, codes}
+use Rattle.std.specs.Prelude.{ℕ, true, false, List, [], ◌∷◌, ◌++◌, Some, None, codes}
 use Rattle.std.proofs.Common.{lit<}
 use Rattle.dns_rdata.specs.declared.numbers.Rcode.TheVariants.{NoError}
 use Rattle.dns_name.specs.Name.{Name, wire_of}
@@ -53,7 +53,7 @@ abbrev pub address : Record
 address = record { owner = web; rtype = 1; ttl = 3600; rdata = 192 ∷ 0 ∷ 2 ∷ 10 ∷ [] }
 
 abbrev pub answer : Message
-answer = record { head = asker; rcode = NoError; aa = true; tc = false; question = Some asked; answer = alias ∷ address ∷ []; authority = []; additional = []; below_cut = false }
+answer = record { head = asker; rcode = NoError; aa = true; tc = false; question = Some asked; answer = alias ∷ address ∷ []; authority = []; additional = []; opt = None; below_cut = false }
 
 -- the alias: its owner is at position 12, and example.test behind www at 16
 abbrev pub alias_octets : List ℕ
@@ -82,7 +82,7 @@ abbrev pub place : Record
 place = record { owner = service; rtype = 33; ttl = 3600; rdata = 0 ∷ 1 ∷ 0 ∷ 2 ∷ 0 ∷ 53 ∷ wire_of web }
 
 abbrev pub service_answer : Message
-service_answer = record { head = asker; rcode = NoError; aa = true; tc = false; question = Some asked_service; answer = place ∷ []; authority = []; additional = address ∷ []; below_cut = false }
+service_answer = record { head = asker; rcode = NoError; aa = true; tc = false; question = Some asked_service; answer = place ∷ []; authority = []; additional = address ∷ []; opt = None; below_cut = false }
 
 -- the target is in full, and the address' owner, which has a pointer to example.test at 14, has none to it
 abbrev pub service_octets : List ℕ

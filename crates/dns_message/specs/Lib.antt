@@ -7,6 +7,8 @@ pub mod Examples
 pub mod Expanded
 pub mod Frame
 pub mod Message
+pub mod Opt
+pub mod OptExamples
 pub mod Reads
 pub mod Received
 pub mod Request

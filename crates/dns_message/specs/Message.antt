@@ -8,6 +8,7 @@ use Rattle.dns_rdata.specs.declared.numbers.Rcode.{Rcode}
 use Rattle.dns_rdata.specs.declared.shown.Shown.{Shown}
 use Rattle.dns_rdata.specs.Record.{Record}
 use Rattle.dns_rdata.specs.Shown.{records_shown}
+use Rattle.dns_message.specs.declared.edns.Opt.{Opt}
 use Rattle.dns_message.specs.declared.query.Head.{Head}
 use Rattle.dns_message.specs.declared.query.Question.{Question}
 use Rattle.dns_message.specs.declared.reply.Reply.{Reply}
@@ -45,8 +46,9 @@ pub record Body : Type 0 where
   pub authority : List Entry
   pub additional : List Entry
 
--- a reply: what it copies from a request's header, its code, AA and TC, a question or none, and three sections
--- (RFC 1035, 4.1); and whether the last name looked up is at or below a zone cut (RFC 1034, 4.3.2)
+-- a reply: what it copies from a request's header, its code, AA and TC, a question or none, three sections, and behind the other
+-- additional records an OPT or none (RFC 1035, 4.1; RFC 6891, 6.1.1); and whether the last name looked up is at or below a zone cut
+-- (RFC 1034, 4.3.2)
 pub record Message : Type 0 where
   pub head : Head
   pub rcode : Rcode
@@ -56,6 +58,7 @@ pub record Message : Type 0 where
   pub answer : List Record
   pub authority : List Record
   pub additional : List Record
+  pub opt : Option Opt
   pub below_cut : Bool
 
 -- the records of a section, in the order in which it shows them
@@ -73,5 +76,6 @@ message_of reply = record {
   answer = section_of reply.answer.now;
   authority = section_of reply.authority.now;
   additional = section_of reply.additional.now;
+  opt = reply.opt;
   below_cut = reply.below_cut;
 }

@@ -6,19 +6,21 @@ use Rattle.dns_name.specs.Name.{wire_of}
 use Rattle.dns_rdata.specs.declared.layout.Layout.{Layout}
 use Rattle.dns_rdata.specs.declared.layout.Layout.TheVariants.{Fields, Strings}
 use Rattle.dns_rdata.specs.Layout.{layout_of, names_in}
-use Rattle.dns_rdata.specs.Numbers.{class_IN, rcode_number}
+use Rattle.dns_rdata.specs.Numbers.{class_IN, header_bits}
 use Rattle.dns_rdata.specs.Record.{Record}
 use Rattle.dns_message.specs.Message.{Message, message_limit}
 use Rattle.dns_message.specs.Encoding.{Encoding, these, named, before, measured, each}
+use Rattle.dns_message.specs.Opt.{opt_part, opt_count}
 use Rattle.dns_message.specs.declared.query.Question.{Question}
 
 -- a flag, as a bit
 abbrev pub bit : Bool → ℕ
 bit flag = if flag then 1 else 0
 
--- the flags: QR 1, OPCODE, AA, TC and RD in the first octet; RA 0, Z 0 and RCODE in the second (RFC 1035, 4.1.1)
+-- the flags: QR 1, OPCODE, AA, TC and RD in the first octet; RA 0, Z 0 and the low four bits of the code in the second
+-- (RFC 1035, 4.1.1; RFC 6891, 6.1.3)
 abbrev pub flags_octets : Message → List ℕ
-flags_octets m = (128 + 8 * m.head.opcode + 4 * bit m.aa + 2 * bit m.tc + bit m.head.rd) ∷ rcode_number m.rcode ∷ []
+flags_octets m = (128 + 8 * m.head.opcode + 4 * bit m.aa + 2 * bit m.tc + bit m.head.rd) ∷ header_bits m.rcode ∷ []
 
 -- a question: its name, its type, its class (RFC 1035, 4.1.2)
 unfoldable pub question_octets : Question → Encoding
@@ -59,27 +61,29 @@ abbrev pub questions : Option Question → List Question
 questions None = []
 questions (Some q) = q ∷ []
 
--- how many entries the four sections have: questions, answers, authorities, additional records (RFC 1035, 4.1.1)
+-- how many entries the four sections have: questions, answers, authorities, additional records, the OPT among these
+-- (RFC 1035, 4.1.1; RFC 6891, 6.1.1)
 abbrev pub counts_in : Message → List ℕ
-counts_in m = length (questions m.question) ∷ length m.answer ∷ length m.authority ∷ length m.additional ∷ []
+counts_in m = length (questions m.question) ∷ length m.answer ∷ length m.authority ∷ (length m.additional + opt_count m.opt) ∷ []
 
 -- the header: ID, the flags, the four counts (RFC 1035, 4.1.1)
 abbrev pub header_octets : Message → List ℕ → List ℕ
 header_octets m counts = to_be_bytes w16 m.head.id ++ flags_octets m ++ flat_map (to_be_bytes w16) counts
 
--- the four sections (RFC 1035, 4.1)
+-- the four sections, the OPT last (RFC 1035, 4.1; RFC 6891, 6.1.1)
 unfoldable pub sections_octets : Message → Encoding
 sections_octets m =
     before (each question_octets (questions m.question))
     (before (each record_octets m.answer)
     (before (each record_octets m.authority)
-    (each record_octets m.additional)))
+    (before (each record_octets m.additional)
+    (these (opt_part m.rcode m.opt)))))
 
 -- a reply's octets: the header, then the sections, whose table of names is its own (RFC 1035, 4.1 and 4.1.4)
 abbrev pub reply_octets : Message → List ℕ
 reply_octets m = header_octets m (counts_in m) ++ (sections_octets m [] 12).0
 
--- the header and the question alone, with TC 1; AA and the code are kept (RFC 2181, 9; own)
+-- the header, the question and the OPT alone, with TC 1; AA and the code are kept (RFC 2181, 9; RFC 6891, 7; own)
 abbrev pub truncated : Message → Message
 truncated m = record m { tc = true; answer = []; authority = []; additional = [] }
 
@@ -91,7 +95,7 @@ room_under limit = min limit message_limit
 abbrev pub fits : Message → ℕ → Bool
 fits m limit = nat_le (length (reply_octets m)) (room_under limit)
 
--- the reply without its additional section; TC stays 0 (RFC 2181, 9)
+-- the reply without its additional section but for the OPT; TC stays 0 (RFC 2181, 9; RFC 6891, 6.1.1)
 abbrev pub without_additional : Message → Message
 without_additional m = record m { additional = [] }
 

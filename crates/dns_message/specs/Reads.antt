@@ -1,16 +1,18 @@
 -- How a request is read: its header, and what stands behind it (RFC 1035, 4.1).
 use Rattle.std.specs.Prelude.{ℕ, zero, suc, Bool, ◌+◌, ◌/◌, ◌%◌, ◌&&◌, not, ◌==◌, List, [], ◌∷◌, length, take, drop, nat_le, Option, Some, None, option_map, option_and_then, Result, Ok, Err, slice_index, if◌then◌else◌}
 use Rattle.std.specs.Int.{from_be_bytes, w32}
-use Rattle.std.specs.List.{list_any}
 use Rattle.std.proofs.Common.{lit<}
 use Rattle.std.proofs.Math.Nat.{mod-lt}
 use Rattle.dns_name.specs.Name.{Name, is_same}
 use Rattle.dns_rdata.specs.declared.numbers.Serial.{Serial}
-use Rattle.dns_rdata.specs.Numbers.{class_IN, type_SOA, type_OPT, type_IXFR}
+use Rattle.dns_rdata.specs.Numbers.{class_IN, type_SOA, type_IXFR}
 use Rattle.wire_names.specs.NameAt.{name_at}
 use Rattle.wire_names.specs.declared.part.NameReadFault.{NameReadFault}
 use Rattle.dns_message.specs.Expanded.{names_at}
 use Rattle.dns_message.specs.Message.{Entry, Body, opcode_UPDATE, number_at}
+use Rattle.dns_message.specs.Opt.{opt_said}
+use Rattle.dns_message.specs.declared.edns.Edns.{Edns}
+use Rattle.dns_message.specs.declared.edns.OptFault.{OptFault}
 use Rattle.dns_message.specs.declared.query.Head.{Head}
 use Rattle.dns_message.specs.declared.query.Question.{Question}
 
@@ -90,10 +92,6 @@ body_in msg =
     (records_at (number_at msg 6) msg questions.1))
     (questions_at (number_at msg 4) msg 12)
 
--- whether an OPT is among records (RFC 6891, 6.1.1)
-abbrev pub has_opt : List Entry → Bool
-has_opt records = list_any (λ r. r.rtype == type_OPT) records
-
 -- the serial in the data of an SOA as it stands in a message: behind two names, through pointers, are five numbers of 32
 -- bits, of which it is the first; none where a name has a fault or the data don't end behind these (RFC 1035, 3.3.13)
 abbrev pub serial_at : List ℕ → Entry → Option Serial
@@ -123,7 +121,7 @@ only_question (question ∷ []) = Some question
 only_question (question ∷ other ∷ more) = None
 
 -- what is seen of what stands behind a header: its one question, the serial of the zone that one who asks for an IXFR
--- holds, and whether there is an OPT in its additional section; none of another number of questions
-abbrev pub seen : List ℕ → Body → Option (Question × Option Serial × Bool)
+-- holds, and what the OPTs in its additional section say; none of another number of questions
+abbrev pub seen : List ℕ → Body → Option (Question × Option Serial × Result (Option Edns) OptFault)
 seen msg body =
-    option_map (λ question. (question, serial_held msg question body.authority, has_opt body.additional)) (only_question body.questions)
+    option_map (λ question. (question, serial_held msg question body.authority, opt_said body.additional)) (only_question body.questions)

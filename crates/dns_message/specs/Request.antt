@@ -1,26 +1,38 @@
 -- What a request says (RFC 1035, 4.1 and 4.2; RFC 2136, 2; the order of the refusals is our own choice).
-use Rattle.std.specs.Prelude.{◌≡◌, ℕ, ◌≤◌, ◌⊎◌, Bool, false, ◌&&◌, ◌||◌, not, ◌==◌, List, length, nat_lt, Option, Some, None, option_and_then, if◌then◌else◌}
+use Rattle.std.specs.Prelude.{◌≡◌, ℕ, ◌≤◌, ◌⊎◌, Bool, false, ◌&&◌, ◌||◌, not, ◌==◌, List, length, nat_lt, Option, Some, None, option_and_then, Result, Ok, Err, if◌then◌else◌}
 use Rattle.dns_rdata.specs.declared.numbers.Rcode.TheVariants.{FormErr, NotImp}
 use Rattle.dns_rdata.specs.declared.numbers.Serial.{Serial}
 use Rattle.dns_message.specs.Message.{opcode_QUERY, opcode_UPDATE}
 use Rattle.dns_message.specs.Reads.{opcode_of, header_of, is_reply, body_in, seen}
 use Rattle.dns_message.specs.Updates.{update_in}
+use Rattle.dns_message.specs.declared.edns.Edns.{Edns}
+use Rattle.dns_message.specs.declared.edns.OptFault.{OptFault}
 use Rattle.dns_message.specs.declared.query.Head.{Head}
 use Rattle.dns_message.specs.declared.query.Question.{Question}
 use Rattle.dns_message.specs.declared.query.Parsed.{Parsed}
-use Rattle.dns_message.specs.declared.query.Parsed.TheVariants.{Silent, Fault, Query, Update, NoMemory}
+use Rattle.dns_message.specs.declared.query.Parsed.TheVariants.{Silent, Fault, BadOpt, Query, Update, NoMemory}
 use Rattle.dns_message.specs.declared.update.Update.{Update as DynamicUpdate}
 
--- what a header and what is seen behind it say: FORMERR where that can't be read, hasn't one question, or has an OPT in its
--- additional section, as of a server without EDNS (RFC 6891, 7); else a query (RFC 1035, 4.1; own)
-abbrev pub query_of : Head → Option (Question × Option Serial × Bool) → Parsed
+-- what a question says behind a header: a query, where the OPT in its additional section is obeyed or there is none, else that it
+-- isn't (RFC 1035, 4.1; RFC 6891, 7)
+abbrev pub asked_with : Head → Question → Option Serial → Result (Option Edns) OptFault → Parsed
+asked_with head question serial (Ok edns) = Query (record { head = head; question = question; serial = serial; edns = edns })
+asked_with head question serial (Err fault) = BadOpt head question fault.rcode fault.dnssec_ok
+
+-- what a header and what is seen behind it say: FORMERR where that can't be read or hasn't one question (RFC 1035, 4.1; own)
+abbrev pub query_of : Head → Option (Question × Option Serial × Result (Option Edns) OptFault) → Parsed
 query_of head None = Fault head FormErr
-query_of head (Some r) = if r.2 then Fault head FormErr else Query (record { head = head; question = r.0; serial = r.1 })
+query_of head (Some r) = asked_with head r.0 r.1 r.2
+
+-- what an update says, or its zone entry where its OPT isn't obeyed (RFC 2136, 2; RFC 6891, 7)
+abbrev pub update_read : Head → Result DynamicUpdate (Question × OptFault) → Parsed
+update_read head (Ok update) = Update update
+update_read head (Err bad) = BadOpt head bad.0 bad.1.rcode bad.1.dnssec_ok
 
 -- what the header of an update and what is read behind it say: FORMERR where no update can be read (RFC 2136, 2; own)
-abbrev pub update_of : Head → Option DynamicUpdate → Parsed
+abbrev pub update_of : Head → Option (Result DynamicUpdate (Question × OptFault)) → Parsed
 update_of head None = Fault head FormErr
-update_of head (Some update) = Update update
+update_of head (Some read) = update_read head read
 
 -- whether octets ask for an update, by their header alone, whether they can be read as one or not: twelve or more, which are no reply, of
 -- OPCODE UPDATE (RFC 1035, 4.1.1; RFC 2136, 1.3 and 2.2)

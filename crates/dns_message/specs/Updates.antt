@@ -1,6 +1,6 @@
 -- How an update is read (RFC 2136, 2): its sections are those of every message, under names of their own. The zone section
 -- stands where the questions stand, the prerequisites in the answer section, and the updates in the authority section.
-use Rattle.std.specs.Prelude.{ℕ, zero, suc, Bool, ◌||◌, ◌&&◌, not, ◌==◌, List, [], ◌∷◌, Option, Some, None, option_map, option_and_then, is_some, if◌then◌else◌}
+use Rattle.std.specs.Prelude.{ℕ, zero, suc, Bool, ◌||◌, ◌&&◌, not, ◌==◌, List, [], ◌∷◌, Option, Some, None, option_map, option_and_then, is_some, Result, Ok, Err, if◌then◌else◌}
 use Rattle.dns_name.specs.Name.{fold_name}
 use Rattle.dns_rdata.specs.Data.{data_of}
 use Rattle.dns_rdata.specs.Layout.{layout_of}
@@ -8,7 +8,10 @@ use Rattle.dns_rdata.specs.Numbers.{class_IN, class_NONE, type_SOA}
 use Rattle.dns_rdata.specs.Raw.{RawRecord}
 use Rattle.dns_message.specs.Expanded.{octets_from, expanded_data}
 use Rattle.dns_message.specs.Message.{Entry, number_at}
-use Rattle.dns_message.specs.Reads.{question_at, record_at, records_at, has_opt}
+use Rattle.dns_message.specs.Opt.{opt_said}
+use Rattle.dns_message.specs.Reads.{question_at, record_at, records_at}
+use Rattle.dns_message.specs.declared.edns.Edns.{Edns}
+use Rattle.dns_message.specs.declared.edns.OptFault.{OptFault}
 use Rattle.dns_message.specs.declared.query.Head.{Head}
 use Rattle.dns_message.specs.declared.query.Question.{Question}
 use Rattle.dns_message.specs.declared.update.Section.{Section}
@@ -54,20 +57,24 @@ zone_entry q = if q.0.rtype.0 == type_SOA then Some (record { name = q.0.name; r
 abbrev pub zone_at : List ℕ → Option (ZoneEntry × ℕ)
 zone_at msg = if number_at msg 4 == 1 then option_and_then zone_entry (question_at msg 12) else None
 
--- an update of these sections; none with an OPT in its additional section, as of a server without EDNS (RFC 6891, 7)
-abbrev pub update_with : Head → ZoneEntry → List RawRecord → List RawRecord → List Entry → Option Update
-update_with head zone prerequisites updates additional =
-    if has_opt additional then None
-    else Some (record { head = head; zone = zone; prerequisites = prerequisites; updates = updates })
+-- the entry of a zone section as a question, which has the same form (RFC 2136, 2.3)
+abbrev pub zone_question : ZoneEntry → Question
+zone_question zone = record { name = zone.name; rtype = zone.rtype; class = zone.class }
 
--- the update behind a header, by its counts ZOCOUNT, PRCOUNT, UPCOUNT and ADCOUNT; octets behind these sections are ignored
--- (RFC 2136, 2; own)
-unfoldable pub update_in : Head → List ℕ → Option Update
+-- an update of these sections, where the OPT in its additional section is obeyed or there is none; else its zone entry, and what
+-- is wrong with the OPT (RFC 6891, 7)
+abbrev pub update_made : Head → ZoneEntry → List RawRecord → List RawRecord → Result (Option Edns) OptFault → Result Update (Question × OptFault)
+update_made head zone prerequisites updates (Ok edns) = Ok (record { head = head; edns = edns; zone = zone; prerequisites = prerequisites; updates = updates })
+update_made head zone prerequisites updates (Err fault) = Err (zone_question zone, fault)
+
+-- what is read behind the header of an update, by its counts ZOCOUNT, PRCOUNT, UPCOUNT and ADCOUNT; octets behind these sections
+-- are ignored (RFC 2136, 2; own)
+unfoldable pub update_in : Head → List ℕ → Option (Result Update (Question × OptFault))
 update_in head msg =
     option_and_then (λ zone.
     option_and_then (λ prerequisites.
     option_and_then (λ updates.
-    option_and_then (λ additional. update_with head zone.0 prerequisites.0 updates.0 additional.0)
+    option_map (λ additional. update_made head zone.0 prerequisites.0 updates.0 (opt_said additional.0))
     (records_at (number_at msg 10) msg updates.1))
     (raws_at Updates (number_at msg 8) msg prerequisites.1))
     (raws_at Prerequisites (number_at msg 6) msg zone.1))

@@ -3,9 +3,10 @@ ghost use Rattle.std.specs.Prelude.{◌≡◌, ◌≤◌, ◌<◌, ◌^◌, List
 ghost use Rattle.std.specs.Option.{option_copied};
 ghost use Rattle.dns_rdata.specs.Record.{Record};
 ghost use Rattle.wire_names.specs.Table.{IsTable};
-ghost use Rattle.dns_message.specs.Answers.{sent, first_of, answers, filled, PutsFirst, Fills};
+ghost use Rattle.dns_message.specs.Answers.{sent, first_of, answers, filled, PutsFirst, Fills, HasBody};
 ghost use Rattle.dns_message.specs.Octets.{reply_octets};
 
+use crate::edns::{Opt, opt_size, put_opt};
 use crate::query::{Head, Question};
 use crate::read::HEADER;
 use crate::records::{put_questions, put_record};
@@ -41,25 +42,25 @@ pub trait RecordList {
         ensures { left self.new ≡ drop 1 (left self.old) };
 }
 
-/// Writes a message with as many records from the front of a list as fit into `out`, with a question or without one, and
-/// gives how many octets it has; the list is left behind these records. AA is 1 and the code NOERROR (RFC 5936, 2.2). It
-/// takes no memory.
+/// Writes a message with as many records from the front of a list as fit into `out`, with a question or without one, and with an
+/// OPT or without one, and gives how many octets it has; the list is left behind these records. AA is 1 and the code NOERROR
+/// (RFC 5936, 2.2; RFC 6891, 6.1.1). It takes no memory.
 pub fn write_answers<L: RecordList>(
     head: Head,
     question: Option<&Question>,
+    opt: Option<Opt>,
     records: &mut L,
     out: &mut [u8],
 ) -> usize
     requires least { MIN_LIMIT ≤ length out.old }
     requires most { length out.old ≤ MAX_LIMIT }
     ensures octets { take result out.new
-        ≡ reply_octets (answers head (option_copied question.entry) (filled head (option_copied question.entry) (length out.old) [] (L.left records.old)).0) }
-    ensures left { L.left records.new ≡ (filled head (option_copied question.entry) (length out.old) [] (L.left records.old)).1 }
+        ≡ reply_octets (answers head (option_copied question.entry) opt (filled head (option_copied question.entry) opt (length out.old) [] (L.left records.old)).0) }
+    ensures left { L.left records.new ≡ (filled head (option_copied question.entry) opt (length out.old) [] (L.left records.old)).1 }
     ensures len { result ≤ length out.old }
 {
-    let mut names = NameWriter::new();
-    let start = put_questions(out, HEADER, &mut names, question).unwrap();
-    let (at, count) = put_answers(out, start, &mut names, records);
+    let (at, count) = put_body(out, question, opt, records);
+    let at = put_opt(out, at, Rcode::NoError, opt).unwrap();
     let reply = Reply {
         head,
         rcode: Rcode::NoError,
@@ -68,11 +69,32 @@ pub fn write_answers<L: RecordList>(
         answer: &[],
         authority: &[],
         additional: &[],
+        opt,
         below_cut: false,
     };
-    let counts = [u16::from(question.is_some()), count, 0, 0];
+    let asked = u16::from(question.is_some());
+    let counts = [asked, count, 0, u16::from(opt.is_some())];
     let _ = put_header(out, &reply, false, counts);
     at
+}
+
+/// Writes the question behind the place of a header, and behind it as many records from the front of a list as leave room for the
+/// OPT: the position behind them, and how many they are.
+fn put_body<L: RecordList>(
+    out: &mut [u8],
+    question: Option<&Question>,
+    opt: Option<Opt>,
+    records: &mut L,
+) -> (usize, u16)
+    requires least { MIN_LIMIT ≤ length out.old }
+    requires most { length out.old ≤ MAX_LIMIT }
+    ensures { HasBody (option_copied question.entry) opt (L.left records.old) (L.left records.new) out.old out.new result.0 result.1 }
+{
+    let room = out.len() - opt_size(opt);
+    let front = &mut out[..room];
+    let mut names = NameWriter::new();
+    let start = put_questions(front, HEADER, &mut names, question).unwrap();
+    put_answers(front, start, &mut names, records)
 }
 
 /// Writes as many records from the front of a list as fit at a position: the position behind them, and how many they are.

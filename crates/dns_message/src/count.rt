@@ -1,9 +1,11 @@
 //! How many records a section has (RFC 1035, 4.1.1).
-ghost use Rattle.std.specs.Prelude.{◌≡◌, ◌≤◌, length};
+ghost use Rattle.std.specs.Prelude.{◌≡◌, ◌+◌, ◌≤◌, length};
 ghost use Rattle.dns_rdata.specs.Shown.{records_shown};
 ghost use Rattle.dns_message.specs.Message.{section_of};
 ghost use Rattle.dns_message.specs.Encoded.{Counts};
+ghost use Rattle.dns_message.specs.Opt.{opt_count};
 
+use crate::edns::Opt;
 use dns_rdata::{RRset, Shown};
 
 /// The number of a section's records; None where it hasn't 16 bits.
@@ -15,6 +17,14 @@ pub(crate) fn count_section(section: &[Shown<'_>]) -> Option<u16>
         count = count.checked_add(count_shown(shown)?)?;
     }
     Some(count)
+}
+
+/// The number of an additional section's records, with an OPT behind them or without one; None where it hasn't 16 bits
+/// (RFC 6891, 6.1.1).
+pub(crate) fn count_additional(section: &[Shown<'_>], opt: Option<Opt>) -> Option<u16>
+    ensures { Counts (length (section_of section.now) + opt_count opt) result }
+{
+    count_section(section)?.checked_add(u16::from(opt.is_some()))
 }
 
 /// The number of the records of some sets; None where it hasn't 16 bits.

@@ -1,5 +1,5 @@
 //! Laws of how requests are read and replies are written.
-ghost use Rattle.std.specs.Prelude.{◌≡◌, ◌≢◌, ◌↔◌, ◌⊎◌, ℕ, ◌+◌, ◌^◌, ◌<◌, ◌≤◌, List, [], ◌∷◌, ◌++◌, length, map, slice_index, true, Option, Some, None};
+ghost use Rattle.std.specs.Prelude.{◌≡◌, ◌≢◌, ◌↔◌, ◌⊎◌, ℕ, ◌+◌, ◌^◌, ◌<◌, ◌≤◌, List, [], ◌∷◌, ◌++◌, length, map, slice_index, true, Option, Some, None, Ok};
 ghost use Rattle.dns_rdata.specs.Limits.{max_data};
 ghost use Rattle.dns_name.specs.Name.{IsName};
 ghost use Rattle.dns_rdata.specs.Record.{Record};
@@ -18,16 +18,20 @@ ghost use Rattle.dns_message.specs.Reads.{question_at, record_at, body_in};
 ghost use Rattle.dns_message.specs.Received.{as_received, received_records};
 ghost use Rattle.dns_message.specs.Request.{reads};
 ghost use Rattle.dns_message.specs.Updates.{update_in};
+ghost use Rattle.dns_message.specs.declared.edns.Opt.{Opt};
 ghost use Rattle.dns_message.specs.declared.query.Head.{Head};
 ghost use Rattle.dns_message.specs.declared.update.Update.{Update};
 
+use crate::edns::MAX_UDP;
 use crate::query::Parsed;
 use crate::read::{HEADER, QR};
 use crate::write::{MAX_LIMIT, MIN_LIMIT};
 
-/// The limits of a reply are those of a datagram and of a frame (RFC 1035, 4.2.1 and 4.2.2).
+/// The limits of a reply are those of a datagram and of a frame, and over UDP to one who takes more than the least our own
+/// (RFC 1035, 4.2.1 and 4.2.2; RFC 6891, 6.2.5; own).
 pub fn limits_of_replies()
     ensures least { MIN_LIMIT ≡ 512 }
+    ensures udp { MAX_UDP ≡ 1232 }
     ensures most { MAX_LIMIT ≡ 65535 }
 {}
 
@@ -51,7 +55,7 @@ pub fn question_in_full_is_read()
 /// follow it; that of an IXFR has no serial then (RFC 1035, 4.1; RFC 1995, 3).
 pub fn question_is_read_again()
     ensures { (m : Message) (question : Question) → IsAnswerTo m question
-        → reads (request_of m) ≡ Parsed.Query (record { head = m.head; question = question; serial = None }) }
+        → reads (request_of m) ≡ Parsed.Query (record { head = m.head; question = question; serial = None; edns = None }) }
 {}
 
 /// A record that is written behind a message is read as itself, its data as they were written, whatever follows it; and
@@ -86,19 +90,22 @@ pub fn answers_are_received()
 
 /// An update has the header that it was read with, so its reply has what that header says (RFC 2136, 2.2 and 3.8).
 pub fn update_keeps_its_header()
-    ensures { (head : Head) (msg : List ℕ) (update : Update) → update_in head msg ≡ Some update → update.head ≡ head }
+    ensures { (head : Head) (msg : List ℕ) (update : Update) → update_in head msg ≡ Some (Ok update) → update.head ≡ head }
 {}
 
 /// A record whose owner is a name and whose data has at most 4,096 octets fits into a message of answers of 16,384 octets by
 /// itself (RFC 1035, 2.3.4 and 4.1.3; own).
 pub fn one_record_fits()
-    ensures { (head : Head) (r : Record) → IsName r.owner → length r.rdata ≤ max_data → fits (answers head None (r ∷ [])) 16384 ≡ true }
+    ensures { (head : Head) (opt : Option Opt) (r : Record) → IsName r.owner → length r.rdata ≤ max_data → fits (answers head None opt (r ∷ [])) 16384 ≡ true }
 {}
 
 /// Of the records of a list a message takes those from the front that fit together with it, in order, and the others are left
 /// (RFC 5936, 2.2).
 pub fn records_are_taken_from_the_front()
-    ensures all { (head : Head) (question : Option Question) (limit : ℕ) (list : List Record) → (filled head question limit [] list).0 ++ (filled head question limit [] list).1 ≡ list }
-    ensures fit { (head : Head) (question : Option Question) (limit : ℕ) (list : List Record) → (filled head question limit [] list).0 ≢ [] → fits (answers head question (filled head question limit [] list).0) limit ≡ true }
-    ensures greedy { (head : Head) (question : Option Question) (limit : ℕ) (list : List Record) → StopsTaking head question limit (filled head question limit [] list).0 (filled head question limit [] list).1 }
+    ensures all { (head : Head) (question : Option Question) (opt : Option Opt) (limit : ℕ) (list : List Record)
+        → (filled head question opt limit [] list).0 ++ (filled head question opt limit [] list).1 ≡ list }
+    ensures fit { (head : Head) (question : Option Question) (opt : Option Opt) (limit : ℕ) (list : List Record)
+        → (filled head question opt limit [] list).0 ≢ [] → fits (answers head question opt (filled head question opt limit [] list).0) limit ≡ true }
+    ensures greedy { (head : Head) (question : Option Question) (opt : Option Opt) (limit : ℕ) (list : List Record)
+        → StopsTaking head question opt limit (filled head question opt limit [] list).0 (filled head question opt limit [] list).1 }
 {}

@@ -1,6 +1,7 @@
 //! What a request says (RFC 1035, 4.1).
 ghost use Rattle.std.specs.Prelude.{◌<◌};
 
+use crate::edns::Edns;
 use crate::update::Update;
 use dns_name::Name;
 use dns_rdata::{Class, RType, Rcode, Serial};
@@ -38,6 +39,8 @@ pub struct Query {
     /// Of an IXFR, the serial of the zone that the one who asks holds; None where the authority section isn't one SOA of
     /// class IN at the name asked, whose data has its form, and of any other type (RFC 1995, 3).
     pub serial: Option<Serial>,
+    /// What its OPT says; None where it has none (RFC 6891, 6.1.1).
+    pub edns: Option<Edns>,
 }
 
 /// What the octets of a datagram or of a frame say (RFC 1035, 4.1 and 4.2).
@@ -51,6 +54,9 @@ pub enum Parsed {
     Silent,
     /// A request that gets its header and a code alone.
     Fault(Head, Rcode),
+    /// A request whose OPT isn't obeyed: its question, or the zone entry of an update; FORMERR of an OPT at another owner than the
+    /// root and of two, or else BADVERS of a version above 0; and DO of the first (RFC 6891, 6.1.1, 6.1.3 and 7).
+    BadOpt(Head, Question, Rcode, bool),
     /// An update that couldn't be read, since a growth was refused.
     NoMemory(Head),
 }

@@ -1,10 +1,11 @@
 //! How a request is read (RFC 1035, 4.1 and 4.2).
 ghost use Rattle.std.specs.Prelude.{◌≡◌, ◌⊎◌, ◌+◌, ◌≤◌, ◌∷◌, [], false, length, option_map, option_and_then};
 ghost use Rattle.dns_message.specs.Message.{number_at};
-ghost use Rattle.dns_message.specs.Reads.{header_of, is_reply, question_at, record_at, records_at, body_in, has_opt, seen, serial_held, serial_in, serial_at};
+ghost use Rattle.dns_message.specs.Reads.{header_of, is_reply, question_at, record_at, records_at, body_in, seen, serial_held, serial_in, serial_at};
 ghost use Rattle.dns_message.specs.Request.{is_update, query_of, update_of, reads, Tells};
 ghost use Rattle.dns_message.specs.Updates.{update_in};
 
+use crate::edns::{Edns, OptFault, opt_at};
 use crate::entry::{Entry, entry_at, long_number_at, number_at};
 use crate::query::{Head, Parsed, Query, Question};
 use crate::update::read_update;
@@ -61,11 +62,12 @@ pub const OPCODE_UPDATE: u8 = 5;
 /// What octets say: a query; an update; nothing that is answered, where they are fewer than twelve or a reply; or a request
 /// that gets a code alone (RFC 1035, 4.1; RFC 2136, 2).
 ///
-/// The code is NOTIMP of an OPCODE other than QUERY and UPDATE; FORMERR of other than one question, where the question or a
-/// record can't be read, and of an OPT in the additional section (RFC 6891, 7); the first of these that holds is told
-/// (own). Of an update it is FORMERR as well of a zone section of another type than SOA, and where the data
-/// of a prerequisite or of an update haven't their type's form (RFC 2136, 2.3 to 2.5; own). Names are read through pointers,
-/// of a query's records only an IXFR's SOA has its data looked at, and octets behind the last record are ignored.
+/// The code is NOTIMP of an OPCODE other than QUERY and UPDATE, and FORMERR of other than one question and where the question or a
+/// record can't be read; the first of these that holds is told (own). Of an update it is FORMERR as well of a zone section of
+/// another type than SOA, and where the data of a prerequisite or of an update haven't their type's form (RFC 2136, 2.3 to 2.5;
+/// own). Of what can be read `BadOpt` is told, with FORMERR, of an OPT in the additional section whose owner isn't the root, and of
+/// two; and else, with BADVERS, of a version above 0 (RFC 6891, 6.1.1 and 6.1.3). Names are read through pointers, of a query's
+/// records only an IXFR's SOA has its data looked at, and octets behind the last record are ignored.
 ///
 /// Only an update takes memory: `NoMemory` is told only of one, where a growth was refused.
 pub fn parse(alloc: Global, octets: &[u8]) -> Parsed
@@ -105,14 +107,17 @@ fn parse_query(octets: &[u8], head: Head) -> Parsed
     requires { HEADER ≤ length octets.now }
     ensures { result ≡ query_of head (option_and_then (seen octets.now) (body_in octets.now)) }
 {
-    match one_question(octets) {
-        None => Parsed::Fault(head, Rcode::FormErr),
-        Some((_, _, true)) => Parsed::Fault(head, Rcode::FormErr),
-        Some((question, serial, false)) => Parsed::Query(Query {
+    let Some((question, serial, said)) = one_question(octets) else {
+        return Parsed::Fault(head, Rcode::FormErr);
+    };
+    match said {
+        Ok(edns) => Parsed::Query(Query {
             head,
             question,
             serial,
+            edns,
         }),
+        Err(fault) => Parsed::BadOpt(head, question, fault.rcode, fault.dnssec_ok),
     }
 }
 
@@ -122,7 +127,7 @@ fn parse_update(alloc: Global, octets: &[u8], head: Head) -> Parsed
     ensures { (result ≡ update_of head (update_in head octets.now)) ⊎ (result ≡ Parsed.NoMemory head) }
 {
     match read_update(alloc, octets, head) {
-        Ok(Some(update)) => Parsed::Update(update),
+        Ok(Some(read)) => read,
         Ok(None) => Parsed::Fault(head, Rcode::FormErr),
         Err(_) => Parsed::NoMemory(head),
     }
@@ -158,10 +163,10 @@ pub(crate) fn count_at(octets: &[u8], at: usize) -> u16
     u16::from_be_bytes([octets[at], octets[at + 1]])
 }
 
-/// The question behind a header, the serial of the zone that one who asks for an IXFR holds, and whether there is an OPT
-/// among the additional records; None of another QDCOUNT than one, and where the question or a record can't be read
+/// The question behind a header, the serial of the zone that one who asks for an IXFR holds, and what the OPTs among the
+/// additional records say; None of another QDCOUNT than one, and where the question or a record can't be read
 /// (RFC 1035, 4.1; RFC 1995, 3; RFC 6891, 6.1.1; own).
-fn one_question(octets: &[u8]) -> Option<(Question, Option<Serial>, bool)>
+fn one_question(octets: &[u8]) -> Option<(Question, Option<Serial>, Result<Option<Edns>, OptFault>)>
     requires { HEADER ≤ length octets.now }
     ensures { result ≡ option_and_then (seen octets.now) (body_in octets.now) }
 {
@@ -169,10 +174,10 @@ fn one_question(octets: &[u8]) -> Option<(Question, Option<Serial>, bool)>
         return None;
     }
     let (question, at) = question_at(octets, HEADER)?;
-    let (_, at) = records_at(octets, at, count_at(octets, ANCOUNT))?;
+    let at = behind_records(octets, at, count_at(octets, ANCOUNT))?;
     let (serial, at) = authority_at(octets, &question, at, count_at(octets, NSCOUNT))?;
-    let (opt, _) = records_at(octets, at, count_at(octets, ARCOUNT))?;
-    Some((question, serial, opt))
+    let said = opt_at(octets, at, count_at(octets, ARCOUNT))?;
+    Some((question, serial, said))
 }
 
 /// The serial of the zone that one who asks for an IXFR holds, by the so many records of the authority section at a
@@ -185,7 +190,7 @@ fn authority_at(
 ) -> Option<(Option<Serial>, usize)>
     ensures { result ≡ option_map (λ r. (serial_held octets.now question.now r.0, r.1)) (records_at count octets.now at) }
 {
-    let (_, next) = records_at(octets, at, count)?;
+    let next = behind_records(octets, at, count)?;
     if question.rtype != RType::IXFR {
         return Some((None, next));
     }
@@ -239,26 +244,14 @@ pub(crate) fn question_at(octets: &[u8], at: usize) -> Option<(Question, usize)>
     Some((question, at + 4))
 }
 
-/// Whether an OPT is among so many records, and the position behind the last; None where one of them can't be read
-/// (RFC 1035, 4.1.3; RFC 6891, 6.1.1).
-pub(crate) fn records_at(octets: &[u8], at: usize, count: u16) -> Option<(bool, usize)>
-    ensures { result ≡ option_map (λ r. (has_opt r.0, r.1)) (records_at count octets.now at) }
+/// The position behind so many records; None where one of them can't be read (RFC 1035, 4.1.3).
+pub(crate) fn behind_records(octets: &[u8], at: usize, count: u16) -> Option<usize>
+    ensures { result ≡ option_map (λ r. r.1) (records_at count octets.now at) }
 {
     let mut place = at;
-    let mut opt = false;
     for _ in 0..count {
-        let (rtype, next) = record_at(octets, place)?;
-        opt |= rtype == RType::OPT;
+        let (_, next) = entry_at(octets, place)?;
         place = next;
     }
-    Some((opt, place))
-}
-
-/// The type of the record at a position, and the position behind its data; None where it can't be read
-/// (RFC 1035, 4.1.3).
-fn record_at(octets: &[u8], at: usize) -> Option<(RType, usize)>
-    ensures { result ≡ option_map (λ r. (record { 0 = r.0.rtype }, r.1)) (record_at octets.now at) }
-{
-    let (entry, next) = entry_at(octets, at)?;
-    Some((entry.rtype, next))
+    Some(place)
 }

@@ -7,7 +7,7 @@ ghost use Rattle.dns_message.specs.Received.{rcode_of, received, received_record
 
 use crate::entry::{Entry, entry_at};
 use crate::read::{
-    ANCOUNT, ARCOUNT, HEADER, NSCOUNT, QDCOUNT, count_at, is_reply, question_at, records_at,
+    ANCOUNT, ARCOUNT, HEADER, NSCOUNT, QDCOUNT, behind_records, count_at, is_reply, question_at,
 };
 use crate::sent::expanded;
 use crate::update::RawRecords;
@@ -49,9 +49,9 @@ fn answer_at(octets: &[u8]) -> Option<usize>
     ensures { MatchOption result (body_in octets.now ≡ None) (HasAnswerAt octets.now) }
 {
     let answer = behind_questions(octets, HEADER, count_at(octets, QDCOUNT))?;
-    let (_, authority) = records_at(octets, answer, count_at(octets, ANCOUNT))?;
-    let (_, additional) = records_at(octets, authority, count_at(octets, NSCOUNT))?;
-    let _ = records_at(octets, additional, count_at(octets, ARCOUNT))?;
+    let authority = behind_records(octets, answer, count_at(octets, ANCOUNT))?;
+    let additional = behind_records(octets, authority, count_at(octets, NSCOUNT))?;
+    let _ = behind_records(octets, additional, count_at(octets, ARCOUNT))?;
     Some(answer)
 }
 

@@ -1,4 +1,5 @@
 //! What a reply says (RFC 1035, 4.1).
+use crate::edns::Opt;
 use crate::query::{Head, Question};
 use dns_rdata::{Rcode, Shown};
 
@@ -19,6 +20,8 @@ pub struct Reply<'a> {
     pub authority: &'a [Shown<'a>],
     /// The additional section.
     pub additional: &'a [Shown<'a>],
+    /// The OPT, which is the last additional record; None in a reply to a request without one (RFC 6891, 6.1.1 and 7).
+    pub opt: Option<Opt>,
     /// Whether the last name looked up is at or below a zone cut: its referral isn't sent without the additional section,
     /// in which the addresses of the name servers stand (RFC 1034, 4.2.1 and 4.3.2; own).
     pub below_cut: bool,

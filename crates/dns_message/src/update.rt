@@ -1,9 +1,11 @@
 //! What an update says (RFC 2136, 2).
-ghost use Rattle.std.specs.Prelude.{◌≡◌, ◌≤◌, length, IfOk};
-ghost use Rattle.dns_message.specs.Updates.{zone_at, update_in};
+ghost use Rattle.std.specs.Prelude.{◌≡◌, ◌≤◌, length, option_map, IfOk};
+ghost use Rattle.dns_message.specs.Request.{update_read};
+ghost use Rattle.dns_message.specs.Updates.{zone_question, zone_at, update_made, update_in};
 
-use crate::query::Head;
-use crate::read::{ADCOUNT, HEADER, PRCOUNT, UPCOUNT, ZOCOUNT, count_at, question_at, records_at};
+use crate::edns::{Edns, OptFault, opt_at};
+use crate::query::{Head, Parsed, Question};
+use crate::read::{ADCOUNT, HEADER, PRCOUNT, UPCOUNT, ZOCOUNT, count_at, question_at};
 use crate::sent::raw_records;
 use dns_name::Name;
 use dns_rdata::{Class, RType, RawRecord};
@@ -28,6 +30,19 @@ pub struct ZoneEntry {
     pub rtype: RType,
     /// The class of the zone.
     pub class: Class,
+}
+
+impl ZoneEntry {
+    /// The entry as a question, which has the same form (RFC 2136, 2.3). It takes no memory.
+    pub fn to_question(&self) -> Question
+        ensures { result ≡ zone_question self.now }
+    {
+        Question {
+            name: self.name.copy(),
+            rtype: self.rtype,
+            class: self.class,
+        }
+    }
 }
 
 /// Records as they were sent, in their order.
@@ -73,6 +88,8 @@ impl RawRecords {
 pub struct Update {
     /// What the reply copies from its header.
     pub head: Head,
+    /// What its OPT says; None where it has none (RFC 6891, 6.1.1).
+    pub edns: Option<Edns>,
     /// The zone that is to be updated.
     pub zone: ZoneEntry,
     /// What is to hold of the zone before (RFC 2136, 2.4).
@@ -81,17 +98,16 @@ pub struct Update {
     pub updates: RawRecords,
 }
 
-/// The update behind a header, which the update has as its head; None where none can be read: where the zone section has
-/// other than one entry, or one of another type than SOA, where a record of another section can't be read, where the data
-/// of one haven't their type's form, and with an OPT in the additional section (RFC 2136, 2; RFC 6891, 7; own). An `Err` only
-/// where a growth was refused.
+/// The update behind a header, which the update has as its head, or that its OPT isn't obeyed; None where none can be read: where
+/// the zone section has other than one entry, or one of another type than SOA, where a record of another section can't be read,
+/// and where the data of one haven't their type's form (RFC 2136, 2; RFC 6891, 7; own). An `Err` only where a growth was refused.
 pub(crate) fn read_update(
     alloc: Global,
     octets: &[u8],
     head: Head,
-) -> Result<Option<Update>, AllocError>
+) -> Result<Option<Parsed>, AllocError>
     requires { HEADER ≤ length octets.now }
-    ensures { IfOk result (λ found. found ≡ update_in head octets.now) }
+    ensures { IfOk result (λ found. found ≡ option_map (update_read head) (update_in head octets.now)) }
 {
     let Some((zone, at)) = zone_at(octets) else {
         return Ok(None);
@@ -112,18 +128,32 @@ pub(crate) fn read_update(
     else {
         return Ok(None);
     };
-    let Some((opt, _)) = records_at(octets, at, count_at(octets, ADCOUNT)) else {
+    let Some(said) = opt_at(octets, at, count_at(octets, ADCOUNT)) else {
         return Ok(None);
     };
-    if opt {
-        return Ok(None);
+    Ok(Some(update_made(head, zone, prerequisites, updates, said)))
+}
+
+/// What an update of these sections says: the update, or its zone entry where its OPT isn't obeyed (RFC 6891, 7).
+fn update_made(
+    head: Head,
+    zone: ZoneEntry,
+    prerequisites: RawRecords,
+    updates: RawRecords,
+    said: Result<Option<Edns>, OptFault>,
+) -> Parsed
+    ensures { result ≡ update_read head (update_made head zone prerequisites updates said) }
+{
+    match said {
+        Ok(edns) => Parsed::Update(Update {
+            head,
+            edns,
+            zone,
+            prerequisites,
+            updates,
+        }),
+        Err(fault) => Parsed::BadOpt(head, zone.to_question(), fault.rcode, fault.dnssec_ok),
     }
-    Ok(Some(Update {
-        head,
-        zone,
-        prerequisites,
-        updates,
-    }))
 }
 
 /// The entry of the zone section, and the position behind it; None of another number of entries than one, of one of another

@@ -6,7 +6,8 @@ ghost use Rattle.dns_message.specs.Message.{message_of};
 ghost use Rattle.dns_message.specs.Encoded.{WritesParts, WritesEncoding};
 ghost use Rattle.dns_message.specs.Octets.{bit, counts_in, flags_octets, header_octets, sections_octets, reply_octets, truncated, room_under, fits, fit};
 
-use crate::count::count_section;
+use crate::count::{count_additional, count_section};
+use crate::edns::put_opt;
 use crate::octets::{put, put_u16};
 use crate::read::{OPCODE, QR};
 use crate::records::{put_questions, put_section};
@@ -27,8 +28,9 @@ const TC: u8 = 2;
 
 /// Writes a reply to the front of `out`, and gives how many octets it has: the whole reply where it fits the limit, and a
 /// message's 65,535 octets; else, unless the last name looked up is at or below a zone cut, the reply without its additional
-/// section where that fits; else its header and question alone with TC 1 (RFC 1035, 4.1, 4.2.1 and 4.2.2; RFC 2181, 9;
-/// own). What is behind a whole reply stays, and in any case what is behind the limit. It takes no memory.
+/// section where that fits; else its header and question alone with TC 1; in each case with its OPT, where it has one
+/// (RFC 1035, 4.1, 4.2.1 and 4.2.2; RFC 2181, 9; RFC 6891, 7; own). What is behind a whole reply stays, and in any case what
+/// is behind the limit. It takes no memory.
 ///
 /// The names of the question, of owners and of NS, CNAME, SOA, PTR and MX data have pointers to names in front of them
 /// in the reply (RFC 1035, 4.1.4); the target of an SRV is written in full (RFC 2782).
@@ -58,16 +60,18 @@ pub fn write_reply(reply: &Reply<'_>, limit: usize, out: &mut [u8]) -> usize
     put_truncated(room, reply)
 }
 
-/// Writes a reply's header and question alone, with TC 1: how many octets they have (RFC 2181, 9).
+/// Writes a reply's header, question and OPT alone, with TC 1: how many octets they have (RFC 2181, 9; RFC 6891, 7).
 fn put_truncated(out: &mut [u8], reply: &Reply<'_>) -> usize
     requires least { MIN_LIMIT ≤ length out.old }
     requires most { length out.old ≤ MAX_LIMIT }
     ensures { IsOverwritten out.old out.new 0 (reply_octets (truncated (message_of reply.now))) result }
 {
-    let counts = [u16::from(reply.question.is_some()), 0, 0, 0];
+    let asked = u16::from(reply.question.is_some());
+    let counts = [asked, 0, 0, u16::from(reply.opt.is_some())];
     let at = put_header(out, reply, true, counts).unwrap();
     let mut names = NameWriter::new();
-    put_questions(out, at, &mut names, reply.question).unwrap()
+    let at = put_questions(out, at, &mut names, reply.question).unwrap();
+    put_opt(out, at, reply.rcode, reply.opt).unwrap()
 }
 
 /// Writes the whole reply to the front of a buffer, as `put` does.
@@ -81,7 +85,7 @@ fn put_message(out: &mut [u8], reply: &Reply<'_>) -> Option<usize>
     put_sections(out, at, &mut names, reply)
 }
 
-/// Writes the four sections at a position, as `put_name` does (RFC 1035, 4.1).
+/// Writes the four sections at a position, as `put_name` does, the OPT last (RFC 1035, 4.1; RFC 6891, 6.1.1).
 fn put_sections(
     out: &mut [u8],
     at: usize,
@@ -96,7 +100,8 @@ fn put_sections(
     let at = put_questions(out, at, names, reply.question)?;
     let at = put_section(out, at, names, reply.answer)?;
     let at = put_section(out, at, names, reply.authority)?;
-    put_section(out, at, names, reply.additional)
+    let at = put_section(out, at, names, reply.additional)?;
+    put_opt(out, at, reply.rcode, reply.opt)
 }
 
 /// The counts of a reply's sections, by their headings in order; None where one hasn't 16 bits (RFC 1035, 4.1.1).
@@ -109,7 +114,7 @@ fn counts_of(reply: &Reply<'_>) -> Option<[u16; 4]>
         u16::from(reply.question.is_some()),
         count_section(reply.answer)?,
         count_section(reply.authority)?,
-        count_section(reply.additional)?,
+        count_additional(reply.additional, reply.opt)?,
     ])
 }
 
@@ -140,7 +145,7 @@ fn flags_of(reply: &Reply<'_>, tc: bool) -> [u8; 2]
         + AA * bit(reply.aa)
         + TC * bit(tc)
         + bit(reply.head.rd);
-    [front, reply.rcode.number()]
+    [front, reply.rcode.header_bits()]
 }
 
 /// A flag, as a bit.

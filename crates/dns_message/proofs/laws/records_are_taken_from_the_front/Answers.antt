@@ -4,7 +4,7 @@ use Rattle.dns_message.proofs.laws.records_are_taken_from_the_front.Goals as goa
 
 pub returns : goal.returns
 returns c = record {
-  all = λ head question limit list. filled_all head question limit [] list;
-  fit = λ head question limit list. filled_fits head question limit [] list (λ some. absurd (some refl));
-  greedy = λ head question limit list. filled_stops head question limit [] list;
+  all = λ head question opt limit list. filled_all head question opt limit [] list;
+  fit = λ head question opt limit list. filled_fits head question opt limit [] list (λ some. absurd (some refl));
+  greedy = λ head question opt limit list. filled_stops head question opt limit [] list;
 }

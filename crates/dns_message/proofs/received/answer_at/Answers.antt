@@ -11,29 +11,29 @@ returns-in_err-authority c =
     let questions = questions_seen c.args.octets.now _ _ _ c.count_at.ensures c.behind_questions.ensures c.in_ok-answer.was in
     rw c.from_residual-in_err-authority.ensures
     (no_answer c.args.octets.now questions.0 _ questions.1
-    (records_unseen c.args.octets.now _ _ _ _ c.count_at-2.ensures c.records_at.ensures c.in_err-authority.was))
+    (records_unseen c.args.octets.now _ _ _ _ c.count_at-2.ensures c.behind_records.ensures c.in_err-authority.was))
 
 pub returns-in_err-additional : goal.returns-in_err-additional
 returns-in_err-additional c =
     let questions = questions_seen c.args.octets.now _ _ _ c.count_at.ensures c.behind_questions.ensures c.in_ok-answer.was in
-    let answer = records_seen c.args.octets.now _ _ _ _ _ _ c.count_at-2.ensures c.records_at.ensures c.in_ok-authority.was in
+    let answer = records_seen c.args.octets.now _ _ _ _ _ c.count_at-2.ensures c.behind_records.ensures c.in_ok-authority.was in
     rw c.from_residual-in_err-additional.ensures
     (no_authority c.args.octets.now questions.0 _ questions.1 answer.0 _ answer.1
-    (records_unseen c.args.octets.now _ _ _ _ c.count_at-3.ensures c.records_at-2.ensures c.in_err-additional.was))
+    (records_unseen c.args.octets.now _ _ _ _ c.count_at-3.ensures c.behind_records-2.ensures c.in_err-additional.was))
 
-pub returns-in_err-records_at : goal.returns-in_err-records_at
-returns-in_err-records_at c =
+pub returns-in_err-behind_records : goal.returns-in_err-behind_records
+returns-in_err-behind_records c =
     let questions = questions_seen c.args.octets.now _ _ _ c.count_at.ensures c.behind_questions.ensures c.in_ok-answer.was in
-    let answer = records_seen c.args.octets.now _ _ _ _ _ _ c.count_at-2.ensures c.records_at.ensures c.in_ok-authority.was in
-    let authority = records_seen c.args.octets.now _ _ _ _ _ _ c.count_at-3.ensures c.records_at-2.ensures c.in_ok-additional.was in
-    rw c.from_residual-in_err-records_at.ensures
+    let answer = records_seen c.args.octets.now _ _ _ _ _ c.count_at-2.ensures c.behind_records.ensures c.in_ok-authority.was in
+    let authority = records_seen c.args.octets.now _ _ _ _ _ c.count_at-3.ensures c.behind_records-2.ensures c.in_ok-additional.was in
+    rw c.from_residual-in_err-behind_records.ensures
     (no_additional c.args.octets.now questions.0 _ questions.1 answer.0 _ answer.1 authority.0 _ authority.1
-    (records_unseen c.args.octets.now _ _ _ _ c.count_at-4.ensures c.records_at-3.ensures c.in_err-records_at.was))
+    (records_unseen c.args.octets.now _ _ _ _ c.count_at-4.ensures c.behind_records-3.ensures c.in_err-behind_records.was))
 
 pub returns : goal.returns
 returns c =
     let questions = questions_seen c.args.octets.now _ _ _ c.count_at.ensures c.behind_questions.ensures c.in_ok-answer.was in
-    let answer = records_seen c.args.octets.now _ _ _ _ _ _ c.count_at-2.ensures c.records_at.ensures c.in_ok-authority.was in
-    let authority = records_seen c.args.octets.now _ _ _ _ _ _ c.count_at-3.ensures c.records_at-2.ensures c.in_ok-additional.was in
-    let additional = records_seen c.args.octets.now _ _ _ _ _ _ c.count_at-4.ensures c.records_at-3.ensures c.in_ok-records_at.was in
+    let answer = records_seen c.args.octets.now _ _ _ _ _ c.count_at-2.ensures c.behind_records.ensures c.in_ok-authority.was in
+    let authority = records_seen c.args.octets.now _ _ _ _ _ c.count_at-3.ensures c.behind_records-2.ensures c.in_ok-additional.was in
+    let additional = records_seen c.args.octets.now _ _ _ _ _ c.count_at-4.ensures c.behind_records-3.ensures c.in_ok-behind_records.was in
     whole c.args.octets.now questions.0 _ questions.1 answer.0 _ answer.1 authority.0 _ authority.1 additional.0 _ additional.1

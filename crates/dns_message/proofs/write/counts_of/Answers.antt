@@ -11,6 +11,6 @@ pub returns-in_err-count_section-2 : goal.returns-in_err-count_section-2
 returns-in_err-count_section-2 c =
     rw c.from_residual-in_err-count_section-2.ensures (omega (arith, (sections_fill (message_of c.args.reply.now)).authority, c.in_err-count_section-2.ensures))
 
-pub returns-in_err-count_section-3 : goal.returns-in_err-count_section-3
-returns-in_err-count_section-3 c =
-    rw c.from_residual-in_err-count_section-3.ensures (omega (arith, (sections_fill (message_of c.args.reply.now)).additional, c.in_err-count_section-3.ensures))
+pub returns-in_err-count_additional : goal.returns-in_err-count_additional
+returns-in_err-count_additional c =
+    rw c.from_residual-in_err-count_additional.ensures (omega (arith, (sections_fill (message_of c.args.reply.now)).additional, c.in_err-count_additional.ensures))
