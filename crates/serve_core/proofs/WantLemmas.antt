@@ -1,17 +1,14 @@
 -- How a request is read for which there is no memory.
-use Rattle.std.proofs.Common.{◌≡◌, ℕ, ◌==◌, Bool, true, false, ◌||◌, List, length, Option, option_and_then, nat_lt, refl, ap, ◌∙◌, arith}
+use Rattle.std.proofs.Common.{◌≡◌, ℕ, ◌==◌, true, false, ◌||◌, List, length, option_and_then, nat_lt, refl, ap, ◌∙◌, arith}
 use Rattle.std.proofs.lemmas.Bool.Decides.{nat_tests}
-use Rattle.dns_rdata.specs.declared.numbers.Serial.{Serial}
 use Rattle.dns_message.specs.Reads.{header_of, is_reply, body_in, seen}
 use Rattle.dns_message.specs.Request.{update_of, reads, IsWant}
 use Rattle.dns_message.specs.Updates.{update_in}
 use Rattle.dns_message.specs.declared.query.Head.{Head}
-use Rattle.dns_message.specs.declared.query.Question.{Question}
 use Rattle.dns_message.specs.declared.query.Parsed.{Parsed}
-use Rattle.dns_message.specs.declared.update.Update.{Update}
 use Rattle.dns_message.proofs.AskedLemmas.{judged}
 
-judged_update : (head : Head) (asked : Option (Question × Option Serial × Bool)) (update : Option Update) → head.opcode ≡ 5 → judged false head asked update ≡ update_of head update
+judged_update : (head : Head) (asked : _) (update : _) → head.opcode ≡ 5 → judged false head asked update ≡ update_of head update
 judged_update head asked update e =
     let no_query : (head.opcode == 0) ≡ false = ap (λ (n : ℕ). n == 0) e in
     let is_update : (head.opcode == 5) ≡ true = ap (λ (n : ℕ). n == 5) e in

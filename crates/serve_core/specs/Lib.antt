@@ -1,3 +1,4 @@
+pub mod Heading
 pub mod Replies
 pub mod Reply
 pub mod Served

@@ -2,11 +2,12 @@
 //!
 //! Contracts see a zone as the list of its records, a request and its reply as octets, and the reply as one function of
 //! them (`got`): what the request says, the first refusal that holds, the sections of the zone's answer, and what fits
-//! into the limit of the [`Transport`]. An update gets a code and makes the next zone. Only an update takes memory. A
+//! into the limit of the [`Transport`] and of the request's OPT (RFC 6891). An update gets a code and makes the next zone. Only an update takes memory. A
 //! question for a transfer that is permitted gets its messages by [`transfer_reply`]. Frames on a connection aren't here; each
 //! OPCODE but 0 and 5 gets NOTIMP.
 #![tactic(auto)]
 
+mod heading;
 mod peer;
 mod replies;
 mod reply;
@@ -14,9 +15,9 @@ mod served;
 mod transfer;
 mod transport;
 
+pub use heading::{Heading, write_code};
 pub use peer::Peer;
 pub use replies::replies_by_cases;
-pub use reply::write_bare;
 pub use served::{Responded, respond};
 pub use transfer::{is_permitted, respond_to, respond_to_peer, transfer_reply};
 pub use transport::{TCP_LIMIT, Transport, UDP_LIMIT};

@@ -4,16 +4,16 @@ ghost use Rattle.dns_message.specs.declared.query.Parsed.TheVariants.{Update as 
 ghost use Rattle.dns_message.specs.Octets.{fit};
 ghost use Rattle.zone_tree.specs.Version.{KnowsChanges};
 ghost use Rattle.update_core.specs.Applied.{code_told, next_of};
-ghost use Rattle.serve_core.specs.Reply.{bare};
+ghost use Rattle.serve_core.specs.Heading.{coded};
 ghost use Rattle.serve_core.specs.Served.{ServesSaid, IsToldAtOnce, StandsIn};
 ghost use Rattle.serve_core.specs.Replies.{IsNoTransfer};
 ghost use Rattle.serve_core.specs.Transfers.{peer_over};
-ghost use Rattle.serve_core.specs.Transport.{limit_of};
+ghost use Rattle.serve_core.specs.Transport.{limit_of, room_of};
 
-use crate::reply::write_bare;
+use crate::heading::{Heading, write_code};
 use crate::transfer::respond_to;
 use crate::transport::Transport;
-use dns_message::{Head, Parsed, Update};
+use dns_message::{Parsed, Update};
 use dns_rdata::Rcode;
 use std::alloc::Global;
 use update_core::{Outcome, apply};
@@ -40,7 +40,7 @@ pub fn respond(
     said: &Parsed,
     out: &mut [u8],
 ) -> Responded
-    requires room { limit_of transport ≤ length out.old }
+    requires room { room_of transport ≤ length out.old }
     requires counted { version.now.number + 1 < 2 ^ 64 }
     requires no_transfer { IsNoTransfer version.now.zone (peer_over transport may) said.now }
     ensures served { ServesSaid result transport may version.now said.now out.new }
@@ -52,16 +52,26 @@ pub fn respond(
             len: None,
             next: None,
         },
-        Parsed::Fault(head, code) => unchanged(write_bare(*head, *code, transport, out)),
+        Parsed::Fault(head, code) => {
+            let heading = Heading::header_alone(*head);
+            unchanged(write_code(&heading, *code, transport, out))
+        }
+        Parsed::BadOpt(head, question, code, dnssec_ok) => {
+            let heading = Heading::of_bad(*head, question, *dnssec_ok);
+            unchanged(write_code(&heading, *code, transport, out))
+        }
         Parsed::Query(query) => {
             unchanged(respond_to(version.zone(), query, transport, may, out))
         }
         Parsed::Update(update) => respond_to_update(alloc, version, update, transport, may, out),
-        Parsed::NoMemory(head) => unchanged(write_bare(*head, Rcode::ServFail, transport, out)),
+        Parsed::NoMemory(head) => {
+            let heading = Heading::header_alone(*head);
+            unchanged(write_code(&heading, Rcode::ServFail, transport, out))
+        }
     }
 }
 
-/// Serves an update: its code alone, and the version that it makes (RFC 2136, 3; which code tells of a limit or of want of
+/// Serves an update: its code, and the version that it makes (RFC 2136, 3; which code tells of a limit or of want of
 /// memory is our own choice).
 fn respond_to_update(
     alloc: Global,
@@ -71,23 +81,23 @@ fn respond_to_update(
     may: bool,
     out: &mut [u8],
 ) -> Responded
-    requires room { limit_of transport ≤ length out.old }
+    requires room { room_of transport ≤ length out.old }
     requires counted { version.now.number + 1 < 2 ^ 64 }
     ensures served { ServesSaid result transport may version.now (SaysUpdate update.now) out.new }
     ensures at_once { IsToldAtOnce version.now.zone may transport (SaysUpdate update.now) result.len out.new }
     ensures changes { IfSome result.next (λ next. KnowsChanges version.now.zone next) }
 {
     let outcome = apply(alloc, version, update, may);
-    told(outcome, update.head, transport, out)
+    told(outcome, &Heading::of_update(update), transport, out)
 }
 
 /// The reply to an update by what becomes of it, and the version that it makes (RFC 2136, 3; own).
-fn told(outcome: Outcome, head: Head, transport: Transport, out: &mut [u8]) -> Responded
-    requires { limit_of transport ≤ length out.old }
-    ensures reply { StandsIn result.len (limit_of transport) out.new (Some (fit (bare head (code_told outcome)) (limit_of transport))) }
+fn told(outcome: Outcome, heading: &Heading, transport: Transport, out: &mut [u8]) -> Responded
+    requires { room_of transport ≤ length out.old }
+    ensures reply { StandsIn result.len (limit_of transport None) out.new (Some (fit (coded heading.now (code_told outcome)) (limit_of transport None))) }
     ensures next { result.next ≡ next_of outcome }
 {
-    let len = write_bare(head, outcome.code(), transport, out);
+    let len = write_code(heading, outcome.code(), transport, out);
     Responded {
         len: Some(len),
         next: outcome.next(),

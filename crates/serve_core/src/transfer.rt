@@ -9,19 +9,21 @@ ghost use Rattle.transfer_core.specs.Lists.{incremental};
 ghost use Rattle.transfer_core.specs.Packed.{listed};
 ghost use Rattle.serve_core.specs.Reply.{asks_transfer};
 ghost use Rattle.serve_core.specs.Transfers.{peer_over, is_unfit, is_permitted, reply_to_peer, is_current, list_for, messages_to};
-ghost use Rattle.serve_core.specs.Transport.{limit_of};
+ghost use Rattle.serve_core.specs.Transport.{limit_of, room_of};
 
+use crate::heading::reply_opt;
 use crate::peer::Peer;
-use crate::reply::{asks_transfer, respond_to_query, write_bare, write_refused};
+use crate::reply::{asks_transfer, respond_to_query, write_refused, write_unanswered};
 use crate::transport::Transport;
-use dns_message::Query;
+use dns_message::{Query, udp_limit};
 use dns_rdata::{Class, RType, Rcode, Serial};
 use transfer_core::{ChainView, Packer, SetRecords, TransferRecords, full, steps};
 use zone_tree::{Version, ZoneRead};
 
 /// The messages of a transfer of a version's zone that a query asks for: of an IXFR from a serial that isn't less than the
-/// version's the SOA alone, else what changed where the chain is whole; else the zone in whole; over UDP one message (RFC 1995, 2
-/// and 4; RFC 5936, 2.2). The chain is of the versions after the one of the IXFR's serial up to this one. It takes no memory.
+/// version's the SOA alone, else what changed where the chain is whole; else the zone in whole; over UDP one message; the first
+/// with an OPT where the query has one (RFC 1995, 2 and 4; RFC 5936, 2.2; RFC 6891, 6.1.1; own). The chain is of the versions after
+/// the one of the IXFR's serial up to this one. It takes no memory.
 pub fn transfer_reply<'a, C: ChainView>(
     version: &'a Version,
     chain: &'a C,
@@ -34,10 +36,13 @@ pub fn transfer_reply<'a, C: ChainView>(
         → result ≡ messages_to version.now.zone (Some (incremental zone (zones_of (C.versions chain.now)))) peer query.now }
 {
     let list = list_for(version, chain, query);
+    let opt = reply_opt(query.edns);
     if peer.transport.is_stream() {
-        return Packer::new(query.head, &query.question, list);
+        return Packer::new(query.head, &query.question, opt, list);
     }
-    Packer::datagram(query.head, &query.question, list, version.zone().soa())
+    let limit = udp_limit(query.edns);
+    let soa = version.zone().soa();
+    Packer::datagram(query.head, &query.question, opt, limit, list, soa)
 }
 
 /// Whether a query is for a transfer that is sent: it asks for one of the zone, and the peer may have it (RFC 5936, 2.2.1).
@@ -92,10 +97,10 @@ pub fn respond_to<Z: ZoneRead>(
     may: bool,
     out: &mut [u8],
 ) -> usize
-    requires room { limit_of transport ≤ length out.old }
+    requires room { room_of transport ≤ length out.old }
     requires no_transfer { is_permitted (Z.records zone.now) (peer_over transport may) query.now ≡ false }
-    ensures octets { take result out.new ≡ fit (reply_to_peer (Z.records zone.now) (peer_over transport may) query.now) (limit_of transport) }
-    ensures len { result ≤ limit_of transport }
+    ensures octets { take result out.new ≡ fit (reply_to_peer (Z.records zone.now) (peer_over transport may) query.now) (limit_of transport query.now.edns) }
+    ensures len { result ≤ limit_of transport query.now.edns }
 {
     respond_to_peer(zone, query, Peer::over(transport, may), out)
 }
@@ -103,10 +108,10 @@ pub fn respond_to<Z: ZoneRead>(
 /// Writes the reply to a query that isn't for a transfer that is sent, in the order of the refusals (RFC 1034, 4.3.2;
 /// RFC 1995, 2; RFC 5936, 2.2.1; own).
 pub fn respond_to_peer<Z: ZoneRead>(zone: &Z, query: &Query, peer: Peer, out: &mut [u8]) -> usize
-    requires room { limit_of peer.transport ≤ length out.old }
+    requires room { room_of peer.transport ≤ length out.old }
     requires no_transfer { is_permitted (Z.records zone.now) peer query.now ≡ false }
-    ensures octets { take result out.new ≡ fit (reply_to_peer (Z.records zone.now) peer query.now) (limit_of peer.transport) }
-    ensures len { result ≤ limit_of peer.transport }
+    ensures octets { take result out.new ≡ fit (reply_to_peer (Z.records zone.now) peer query.now) (limit_of peer.transport query.now.edns) }
+    ensures len { result ≤ limit_of peer.transport query.now.edns }
 {
     let question = &query.question;
     if question.class != Class::IN || !asks_transfer(question) {
@@ -117,22 +122,21 @@ pub fn respond_to_peer<Z: ZoneRead>(zone: &Z, query: &Query, peer: Peer, out: &m
 
 /// `respond_to_peer` of a question for a transfer: which refusal it gets (RFC 1995, 2; RFC 5936, 2.2.1; own).
 fn refuse_transfer<Z: ZoneRead>(zone: &Z, query: &Query, peer: Peer, out: &mut [u8]) -> usize
-    requires room { limit_of peer.transport ≤ length out.old }
+    requires room { room_of peer.transport ≤ length out.old }
     requires class { query.now.question.class.0 ≡ class_IN }
     requires transfer { asks_transfer query.now.question ≡ true }
     requires refused { is_permitted (Z.records zone.now) peer query.now ≡ false }
-    ensures octets { take result out.new ≡ fit (reply_to_peer (Z.records zone.now) peer query.now) (limit_of peer.transport) }
-    ensures len { result ≤ limit_of peer.transport }
+    ensures octets { take result out.new ≡ fit (reply_to_peer (Z.records zone.now) peer query.now) (limit_of peer.transport query.now.edns) }
+    ensures len { result ≤ limit_of peer.transport query.now.edns }
 {
     let transport = peer.transport;
-    let question = &query.question;
     if is_unfit(peer, query) {
-        return write_bare(query.head, Rcode::FormErr, transport, out);
+        return write_unanswered(query, Rcode::FormErr, transport, out);
     }
-    if question.name != *zone.apex() {
-        return write_refused(query.head, Rcode::NotAuth, question, transport, out);
+    if query.question.name != *zone.apex() {
+        return write_refused(query, Rcode::NotAuth, transport, out);
     }
-    write_refused(query.head, Rcode::Refused, question, transport, out)
+    write_refused(query, Rcode::Refused, transport, out)
 }
 
 /// Whether a question for a transfer is none: an AXFR over UDP, or an IXFR that doesn't tell what is held

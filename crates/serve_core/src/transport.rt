@@ -1,11 +1,11 @@
 //! What carries requests and replies (RFC 1035, 4.2).
 ghost use Rattle.std.specs.Prelude.{◌≡◌, ◌≤◌};
-ghost use Rattle.serve_core.specs.Transport.{limit_of, is_stream};
+ghost use Rattle.serve_core.specs.Transport.{limit_of, room_of, is_stream};
 
-use dns_message::{MAX_LIMIT, MIN_LIMIT};
+use dns_message::{Edns, MAX_LIMIT, MAX_UDP, MIN_LIMIT, udp_limit};
 
-/// The most octets of a reply over UDP (RFC 1035, 4.2.1).
-pub const UDP_LIMIT: usize = MIN_LIMIT;
+/// The most octets of a reply over UDP (RFC 6891, 6.2.3 to 6.2.5; own).
+pub const UDP_LIMIT: usize = MAX_UDP;
 
 /// The most octets of a reply over TCP (RFC 1035, 4.2.2).
 pub const TCP_LIMIT: usize = MAX_LIMIT;
@@ -30,15 +30,15 @@ impl Transport {
         }
     }
 
-    /// The most octets of a reply (RFC 1035, 4.2.1 and 4.2.2).
-    pub fn limit(self) -> usize
-        ensures limit { result ≡ limit_of self }
+    /// The most octets of the reply to a request with this OPT, or none (RFC 1035, 4.2.1 and 4.2.2; RFC 6891, 6.2.3 to 6.2.5).
+    pub fn limit(self, edns: Option<Edns>) -> usize
+        ensures limit { result ≡ limit_of self edns }
         // What the writing of a reply takes.
         ensures least { MIN_LIMIT ≤ result }
-        ensures most { result ≤ MAX_LIMIT }
+        ensures most { result ≤ room_of self }
     {
         match self {
-            Transport::Udp => UDP_LIMIT,
+            Transport::Udp => udp_limit(edns),
             Transport::Tcp => TCP_LIMIT,
         }
     }

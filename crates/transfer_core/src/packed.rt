@@ -3,14 +3,16 @@ ghost use Rattle.std.specs.Prelude.{◌≡◌, List, All, drop, Option, None};
 ghost use Rattle.std.specs.List.{flat_map};
 ghost use Rattle.dns_rdata.specs.Record.{Record};
 ghost use Rattle.dns_message.specs.Message.{Message};
+ghost use Rattle.dns_message.specs.declared.edns.Opt.{Opt};
 ghost use Rattle.dns_message.specs.declared.query.Head.{Head};
 ghost use Rattle.dns_message.specs.declared.query.Question.{Question};
 ghost use Rattle.transfer_core.specs.Packed.{packed_from};
 
 /// The answer sections of the messages are the list, record by record: none is left out, and none is there twice. All
-/// messages have the same header, and those behind the first have no question (RFC 5936, 2.2).
+/// messages have the same header, and those behind the first have no question and no OPT (RFC 5936, 2.2; RFC 6891, 6.1.1; own).
 pub fn messages_are_the_list()
-    ensures records { (head : Head) (question : Option Question) (list : List Record) → flat_map (λ (m : Message). m.answer) (packed_from head question list) ≡ list }
-    ensures headers { (head : Head) (question : Option Question) (list : List Record) → All (λ (m : Message). m.head ≡ head) (packed_from head question list) }
-    ensures questions { (head : Head) (question : Option Question) (list : List Record) → All (λ (m : Message). m.question ≡ None) (drop 1 (packed_from head question list)) }
+    ensures records { (head : Head) (question : Option Question) (opt : Option Opt) (list : List Record) → flat_map (λ (m : Message). m.answer) (packed_from head question opt list) ≡ list }
+    ensures headers { (head : Head) (question : Option Question) (opt : Option Opt) (list : List Record) → All (λ (m : Message). m.head ≡ head) (packed_from head question opt list) }
+    ensures questions { (head : Head) (question : Option Question) (opt : Option Opt) (list : List Record) → All (λ (m : Message). m.question ≡ None) (drop 1 (packed_from head question opt list)) }
+    ensures opts { (head : Head) (question : Option Question) (opt : Option Opt) (list : List Record) → All (λ (m : Message). m.opt ≡ None) (drop 1 (packed_from head question opt list)) }
 {}

@@ -1,17 +1,19 @@
 //! The messages of a transfer: whole records, as many in each as fit (RFC 5936, 2.2).
 ghost use Rattle.std.specs.Prelude.{◌≡◌, ◌≤◌, List, [], ◌∷◌, ◌++◌, length, take, drop, map, MatchOption, IfSome, Some, None, if◌then◌else◌};
-ghost use Rattle.std.specs.Option.{option_map, option_to_list};
+ghost use Rattle.std.specs.Option.{option_copied, option_map, option_to_list};
 ghost use Rattle.dns_rdata.specs.Limits.{max_data};
 ghost use Rattle.dns_name.specs.Name.{IsName, is_same};
 ghost use Rattle.dns_rdata.specs.Record.{Record};
 ghost use Rattle.dns_message.specs.Answers.{sent, first_of};
-ghost use Rattle.transfer_core.specs.Packed.{spelt, listed, packed, octets_of, datagram_of, datagram};
+ghost use Rattle.dns_message.specs.declared.write.TheConstants.{MIN_LIMIT};
+ghost use Rattle.transfer_core.specs.declared.packer.TheConstants.{MAX_MESSAGE};
+ghost use Rattle.transfer_core.specs.Packed.{spelt, listed, opt_beside, packed, octets_of, datagram_of, datagram};
 
 use crate::chain::ChainView;
 use crate::changes::ChangesList;
 use crate::list::{FullList, LentRecord, SetRecords};
 use dns_message::{
-    Head, MIN_LIMIT, Question, RecordList, Reply, SentRecord, write_answers, write_reply,
+    Head, MIN_LIMIT, Opt, Question, RecordList, Reply, SentRecord, write_answers, write_reply,
 };
 use dns_name::Name;
 use dns_rdata::{LentName, RRset, Rcode, Shown};
@@ -137,20 +139,22 @@ fn learn_lawful(name: &Name)
     let _ = name.wire();
 }
 
-/// Writes the one message of a list over UDP: the list where all of it fits a datagram; else the SOA alone, and where that
-/// doesn't fit either, the header and the question with TC 1 (RFC 1995, 2; own).
+/// Writes the one message of a list over UDP: the list where all of it fits `out`; else the SOA alone, and where that
+/// doesn't fit either, the header, the question and the OPT with TC 1 (RFC 1995, 2; own).
 fn write_datagram<C: ChainView>(
     head: Head,
     question: &Question,
+    opt: Option<Opt>,
     records: &mut SpeltList<'_, C>,
     soa: &RRset,
     out: &mut [u8],
 ) -> usize
-    requires { length out.old ≡ MIN_LIMIT }
-    ensures octets { take result out.new ≡ datagram_of head question.now (map (spelt records.old.name.now) (option_to_list records.old.next ++ listed records.old.rest)) soa.now }
+    requires least { MIN_LIMIT ≤ length out.old }
+    requires most { length out.old ≤ MAX_MESSAGE }
+    ensures octets { take result out.new ≡ datagram_of head question.now opt (length out.old) (map (spelt records.old.name.now) (option_to_list records.old.next ++ listed records.old.rest)) soa.now }
     ensures len { result ≤ length out.old }
 {
-    let len = write_answers(head, Some(question), records, out);
+    let len = write_answers(head, Some(question), opt, records, out);
     let is_whole = records.first().is_none();
     if is_whole {
         return len;
@@ -168,19 +172,32 @@ fn write_datagram<C: ChainView>(
         answer: slice::from_ref(&shown),
         authority: &[],
         additional: &[],
+        opt,
         below_cut: false,
     };
-    write_reply(&reply, MIN_LIMIT, out)
+    write_reply(&reply, out.len(), out)
+}
+
+/// The OPT that stands beside a question, in the first message of a transfer alone (RFC 6891, 6.1.1; own).
+fn opt_beside(question: Option<&Question>, opt: Option<Opt>) -> Option<Opt>
+    ensures { result ≡ opt_beside (option_copied question.entry) opt }
+{
+    question?;
+    opt
 }
 
 /// The messages of a transfer, one after another: whole records, as many in each as fit into [`MAX_MESSAGE`] octets. The first
-/// has the question, all have its header's ID, AA 1 and names with pointers into the same message (RFC 5936, 2.2). Over UDP
-/// there is one message (RFC 1995, 2). It takes no memory. Contracts see the octets of the messages that are left.
+/// has the question, and an OPT where the request has one; all have its header's ID, AA 1 and names with pointers into the same
+/// message (RFC 5936, 2.2; RFC 6891, 6.1.1; own). Over UDP there is one message (RFC 1995, 2). It takes no memory. Contracts see the octets of the messages that are left.
 pub struct Packer<'a, C: ChainView> {
     head: Head,
     question: Option<&'a Question>,
+    opt: Option<Opt>,
     soa: Option<&'a RRset>,
+    limit: usize,
     records: SpeltList<'a, C>,
+    ghost least: { MIN_LIMIT ≤ limit },
+    ghost most: { limit ≤ MAX_MESSAGE },
 }
 
 impl<'a, C: ChainView> Model for Packer<'a, C> {
@@ -190,7 +207,7 @@ impl<'a, C: ChainView> Model for Packer<'a, C> {
 
     ghost Value = { List (List ℕ) };
 
-    ghost view = { λ p. messages_left p.head (option_copied p.question) (option_copied p.soa) (map (spelt p.records.name.now) (option_to_list p.records.next ++ listed p.records.rest)) };
+    ghost view = { λ p. messages_left p.head (option_copied p.question) p.opt p.limit (option_copied p.soa) (map (spelt p.records.name.now) (option_to_list p.records.next ++ listed p.records.rest)) };
 }
 
 impl<'a, C: ChainView> Drop for Packer<'a, C> {
@@ -198,39 +215,55 @@ impl<'a, C: ChainView> Drop for Packer<'a, C> {
         let Packer {
             head: _,
             question: _,
+            opt: _,
             soa: _,
+            limit: _,
             records: _,
         } = self;
     }
 }
 
 impl<'a, C: ChainView> Packer<'a, C> {
-    /// For a list that a question asks for over TCP (RFC 5936, 2.2; RFC 1995, 4).
-    pub fn new(head: Head, question: &'a Question, list: TransferRecords<'a, C>) -> Packer<'a, C>
-        ensures { result ≡ octets_of (packed head question.now (listed list.entry)) }
+    /// For a list that a question asks for over TCP, with the OPT of the reply, or none (RFC 5936, 2.2; RFC 1995, 4;
+    /// RFC 6891, 6.1.1).
+    pub fn new(
+        head: Head,
+        question: &'a Question,
+        opt: Option<Opt>,
+        list: TransferRecords<'a, C>,
+    ) -> Packer<'a, C>
+        ensures { result ≡ octets_of (packed head question.now opt (listed list.entry)) }
     {
         Packer {
             head,
             question: Some(question),
+            opt,
             soa: None,
+            limit: MAX_MESSAGE,
             records: SpeltList::new(&question.name, list),
         }
     }
 
-    /// For a list that a question asks for over UDP, and the set of the SOA that is sent where it doesn't fit a datagram
-    /// (RFC 1995, 2; own).
+    /// For a list that a question asks for over UDP, with the OPT of the reply, or none; the most octets of the datagram; and the
+    /// set of the SOA that is sent where the list doesn't fit into so many (RFC 1995, 2; RFC 6891, 6.1.1 and 6.2.5; own).
     pub fn datagram(
         head: Head,
         question: &'a Question,
+        opt: Option<Opt>,
+        limit: usize,
         list: TransferRecords<'a, C>,
         soa: &'a RRset,
     ) -> Packer<'a, C>
-        ensures { result ≡ datagram head question.now (listed list.entry) soa.now ∷ [] }
+        requires least { MIN_LIMIT ≤ limit }
+        requires most { limit ≤ MAX_MESSAGE }
+        ensures { result ≡ datagram head question.now opt limit (listed list.entry) soa.now ∷ [] }
     {
         Packer {
             head,
             question: Some(question),
+            opt,
             soa: Some(soa),
+            limit,
             records: SpeltList::new(&question.name, list),
         }
     }
@@ -246,15 +279,23 @@ impl<'a, C: ChainView> Packer<'a, C> {
     {
         if let Some(soa) = self.soa {
             let question = self.question.take()?;
-            let room = &mut out[..MIN_LIMIT];
-            return Some(write_datagram(self.head, question, &mut self.records, soa, room));
+            let room = &mut out[..self.limit];
+            return Some(write_datagram(
+                self.head,
+                question,
+                self.opt,
+                &mut self.records,
+                soa,
+                room,
+            ));
         }
         let ended = self.records.first().is_none();
         if ended && self.question.is_none() {
             return None;
         }
         let question = self.question.take();
+        let opt = opt_beside(question, self.opt);
         let room = &mut out[..MAX_MESSAGE];
-        Some(write_answers(self.head, question, &mut self.records, room))
+        Some(write_answers(self.head, question, opt, &mut self.records, room))
     }
 }

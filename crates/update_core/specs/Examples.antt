@@ -1,5 +1,5 @@
 -- A small zone and records of updates, to read the definitions by. All TTLs of the zone are 3600.
-use Rattle.std.specs.Prelude.{ℕ, false, List, [], ◌∷◌, ◌++◌, codes, replicate}
+use Rattle.std.specs.Prelude.{ℕ, false, List, [], ◌∷◌, ◌++◌, None, codes, replicate}
 use Rattle.std.proofs.Common.{lit<}
 use Rattle.std.specs.Int.{w32, to_be_bytes}
 use Rattle.dns_name.specs.Name.{Name, wire_of}
@@ -91,4 +91,4 @@ abbrev pub entry : Name → ℕ → ℕ → ZoneEntry
 entry name rtype class = record { name = name; rtype = record { 0 = rtype }; class = record { 0 = class } }
 
 abbrev pub update_of : List RawRecord → Update
-update_of updates = record { head = head_here; zone = entry example type_SOA class_IN; prerequisites = []; updates = updates }
+update_of updates = record { head = head_here; edns = None; zone = entry example type_SOA class_IN; prerequisites = []; updates = updates }

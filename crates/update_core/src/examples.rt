@@ -79,8 +79,8 @@ pub fn examples_of_prescan()
 #[tactic(auto, unfolding(dns_rdata::specs::Layout::layout_of, dns_rdata::specs::Data::data_of))]
 pub fn examples_of_verdicts()
     ensures taken { verdict zone_here (update_of (add fresh type_A (address 1) ∷ [])) true ≡ None }
-    ensures zone_first { verdict zone_here (record { head = head_here; zone = entry web type_SOA class_IN; prerequisites = any outside type_A ∷ []; updates = any outside type_A ∷ [] }) false ≡ Some NotAuth }
-    ensures prerequisites_before_permission { verdict zone_here (record { head = head_here; zone = entry example type_SOA class_IN; prerequisites = any fresh type_ANY ∷ []; updates = [] }) false ≡ Some NxDomain }
+    ensures zone_first { verdict zone_here (record { head = head_here; edns = None; zone = entry web type_SOA class_IN; prerequisites = any outside type_A ∷ []; updates = any outside type_A ∷ [] }) false ≡ Some NotAuth }
+    ensures prerequisites_before_permission { verdict zone_here (record { head = head_here; edns = None; zone = entry example type_SOA class_IN; prerequisites = any fresh type_ANY ∷ []; updates = [] }) false ≡ Some NxDomain }
     ensures permission_before_prescan { verdict zone_here (update_of (any outside type_A ∷ [])) false ≡ Some Refused }
     ensures prescan_last { verdict zone_here (update_of (add fresh type_A (address 1) ∷ any outside type_A ∷ [])) true ≡ Some NotZone }
 {}

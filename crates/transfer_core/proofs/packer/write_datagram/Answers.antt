@@ -1,4 +1,4 @@
-use Rattle.std.proofs.Common.{◌≡◌, ◌++◌, [], not, map, List, ℕ, Some, None, ap, ◌∙◌}
+use Rattle.std.proofs.Common.{◌≡◌, ◌++◌, [], not, length, map, List, ℕ, Some, None, ap, ◌∙◌}
 use Rattle.std.proofs.lemmas.List.{append-nil}
 use Rattle.std.specs.List.{flat_map}
 use Rattle.std.specs.Option.{option_to_list}
@@ -22,10 +22,12 @@ returns-clause-octets g c =
     ∙ ap (λ (sets : List (List Record)). map (shown_as c.spelt.result None) (flat_map (λ set. set) sets)) c.from_ref.ensures.value
     ∙ ap (map (shown_as c.spelt.result None)) (append-nil soa)
     ∙ ap (λ (n : Name). map (shown_as n None) soa) c.spelt.ensures in
-    let single = fit (answers head (Some q) (map (shown_as q.name None) soa)) 512 in
-    let parts = filled head (Some q) 512 [] list in
-    let left = c.write_answers-len.ensures.left ∙ ap (λ (n : ℕ). (filled head (Some q) n [] list).1) c.requires in
+    let opt = c.args.opt in
+    let limit = length c.args.out.now in
+    let single = fit (answers head (Some q) opt (map (shown_as q.name None) soa)) limit in
+    let parts = filled head (Some q) opt limit [] list in
     c.write_reply.ensures.octets
-    ∙ ap (λ (rs : List Record). fit (answers head (Some q) rs) 512) answer
-    ∙ some_left (reply_octets (answers head (Some q) parts.0)) single c.first.result _ c.first.ensures.shown (c.is_none-is_whole.ensures ∙ ap not c.if-is_whole.false)
-    ∙ ap (whole_or (reply_octets (answers head (Some q) parts.0)) single) left
+    ∙ ap (λ (n : ℕ). fit (answers head (Some q) opt (section_of c.from_ref-2.result.now)) n) c.write_answers-len.auto.out
+    ∙ ap (λ (rs : List Record). fit (answers head (Some q) opt rs) limit) answer
+    ∙ some_left (reply_octets (answers head (Some q) opt parts.0)) single c.first.result _ c.first.ensures.shown (c.is_none-is_whole.ensures ∙ ap not c.if-is_whole.false)
+    ∙ ap (whole_or (reply_octets (answers head (Some q) opt parts.0)) single) c.write_answers-len.ensures.left

@@ -8,26 +8,29 @@ use Rattle.transfer_core.proofs.packer.Packer.next_message.Goals as goal
 use Rattle.transfer_core.proofs.packer.Packer.next_message.Goals.{else-ended-via-then-ended+else-is_none, else-ended-via-else-ended}
 
 pub slice_bounds-room-end-in-Some : goal.slice_bounds-room-end-in-Some
-slice_bounds-room-end-in-Some g c = let size = length-take-le 512 c.args.out.now (omega (arith, c.requires)) in omega (arith, size, c.requires)
+slice_bounds-room-end-in-Some g c = let size = length-take-le c.self.inside.limit c.args.out.now (omega (arith, c.requires, c.self.inside.most)) in omega (arith, size, c.requires)
 
 pub write_datagram-requires : goal.write_datagram-requires
-write_datagram-requires g c = length-take-le 512 c.args.out.now (omega (arith, c.requires))
+write_datagram-requires g c =
+    let p = c.self.inside in
+    let size = length-take-le p.limit c.args.out.now (omega (arith, c.requires, p.most)) in
+    record { least = omega (arith, size, p.least); most = omega (arith, size, p.most) }
 
 pub returns-in-Some-clause-message : goal.returns-in-Some-clause-message
 returns-in-Some-clause-message g c =
     let p = c.self.inside in
     let list = map (spelt p.records.name.now) (option_to_list p.records.next ++ listed p.records.rest) in
-    let size = length-take-le 512 c.args.out.now (omega (arith, c.requires)) in
-    let octets = take-append-le c.write_datagram.result c.write_datagram.new.out (drop 512 c.args.out.now) (omega (arith, c.write_datagram.ensures.len, c.write_datagram.auto.out)) in (
+    let size = length-take-le c.self.inside.limit c.args.out.now (omega (arith, c.requires, c.self.inside.most)) in
+    let octets = take-append-le c.write_datagram.result c.write_datagram.new.out (drop c.self.inside.limit c.args.out.now) (omega (arith, c.write_datagram.ensures.len, c.write_datagram.auto.out)) in (
       sym c.self.view_is
-          ∙ sends_one p.head (option_copied p.question) (option_copied c.take.new.self) (option_copied p.soa) list _ c.in_ok-question.question.now c.in-Some.soa.now _ (ap option_copied (sym c.take.ensures.value ∙ c.in_ok-question.was)) (ap option_copied c.in-Some.is) (ap option_copied c.take.ensures.after) (octets ∙ c.write_datagram.ensures.octets),
-      omega (arith, c.write_datagram.ensures.len, size),
+          ∙ sends_one p.head (option_copied p.question) (option_copied c.take.new.self) p.opt p.opt _ p.limit (option_copied p.soa) list _ c.in_ok-question.question.now c.in-Some.soa.now _ size (ap option_copied (sym c.take.ensures.value ∙ c.in_ok-question.was)) (ap option_copied c.in-Some.is) (ap option_copied c.take.ensures.after) (octets ∙ c.write_datagram.ensures.octets),
+      omega (arith, c.write_datagram.ensures.len, size, p.most),
     )
 
 pub returns-in-Some-clause-behind : goal.returns-in-Some-clause-behind
 returns-in-Some-clause-behind g c =
-    let size = length-take-le 512 c.args.out.now (omega (arith, c.requires)) in
-    drop_behind 512 16384 c.write_datagram.new.out c.args.out.now (omega arith) (c.write_datagram.auto.out ∙ size)
+    let size = length-take-le c.self.inside.limit c.args.out.now (omega (arith, c.requires, c.self.inside.most)) in
+    drop_behind c.self.inside.limit 16384 c.write_datagram.new.out c.args.out.now c.self.inside.most (c.write_datagram.auto.out ∙ size)
 
 pub returns-clause-message : goal.returns-clause-message
 returns-clause-message g c =
@@ -44,9 +47,9 @@ returns-clause-message g c =
     let small = begins_small _ _ c.first.ensures.shown c.first.ensures.lawful c.first.ensures.short in
     let octets = take-append-le c.write_answers.result c.write_answers.new.out (drop 16384 c.args.out.now) (omega (arith, c.write_answers.ensures.len, c.write_answers.auto.out)) in (
       sym c.self.view_is
-          ∙ ap (λ (soa : Option (List Record)). messages_left p.head (option_copied p.question) soa list) none
-          ∙ packs p.head (option_copied p.question) (option_copied c.take-question.result) (option_copied c.take-question.new.self) _ list _ _ size (ap option_copied c.take-question.ensures.value) (ap option_copied c.take-question.ensures.after) more small (octets ∙ c.write_answers.ensures.octets) c.write_answers.ensures.left
-          ∙ ap (λ (soa : Option (List Record)). take c.write_answers.result (c.write_answers.new.out ++ drop 16384 c.args.out.now) ∷ messages_left p.head (option_copied c.take-question.new.self) soa left) (sym none),
+          ∙ ap (λ (soa : Option (List Record)). messages_left p.head (option_copied p.question) p.opt p.limit soa list) none
+          ∙ packs p.head (option_copied p.question) (option_copied c.take-question.result) (option_copied c.take-question.new.self) p.opt c.opt_beside-opt.result p.opt _ list _ _ size (ap option_copied c.take-question.ensures.value) c.opt_beside-opt.ensures (ap option_copied c.take-question.ensures.after) more small (octets ∙ c.write_answers.ensures.octets) c.write_answers.ensures.left
+          ∙ ap (λ (soa : Option (List Record)). take c.write_answers.result (c.write_answers.new.out ++ drop 16384 c.args.out.now) ∷ messages_left p.head (option_copied c.take-question.new.self) p.opt p.limit soa left) (sym none),
       omega (arith, c.write_answers.ensures.len),
     )
 
