@@ -1,9 +1,10 @@
 -- What the calls ask and give (own).
-use Rattle.std.specs.Prelude.{◌≡◌, ℕ, ◌+◌, ◌-◌, ◌^◌, ◌<◌, List, [], ◌∷◌, ◌++◌, length, Option, None, Some}
+use Rattle.std.specs.Prelude.{◌≡◌, ℕ, ◌+◌, ◌-◌, ◌^◌, ◌<◌, List, [], ◌∷◌, ◌++◌, length, Option, None, Some, vec_len}
 use Rattle.std.specs.List.{slice_get}
 use Rattle.atomic_table.specs.Seated.{TableId}
 use Rattle.cell_core.specs.Words.{slots}
 use Rattle.cell_core.specs.declared.words.Publisher.TheVariants.{Probing, Preparing, Swapping, Settling}
+use Rattle.counted_handles.specs.declared.rule.Spots.{Spots}
 use Rattle.counted_handles.specs.declared.view.Mark.{Mark}
 use Rattle.counted_handles.specs.declared.view.Publishing.{Publishing}
 use Rattle.counted_handles.specs.declared.view.Reading.{Reading}
@@ -20,6 +21,13 @@ use Rattle.counted_handles.specs.Tells.{Sat, IsLastMark}
 -- a table of the cell's size: W, with two words a slot (own)
 abbrev pub Fits : TableId → Type 0
 Fits id = (id.words ≡ 129) × (id.slots ≡ slots)
+
+-- the spots of a table of the cell's size, one a slot (own)
+pub record AreSpots {T : Type 0} (id : TableId) (key spots : Spots T) : Type 0 where
+  pub fits : Fits id
+  pub same : spots ≡ key
+  pub room : vec_len spots.places ≡ slots
+  pub size : length spots.places.items ≡ slots
 
 -- a reader that may load: it has no share that isn't split off, and a grant (own)
 abbrev pub CanRead : {T : Type 0} → Reading T → List (View T) → Type 0

@@ -1,5 +1,5 @@
 //! The steps as calls, over the table alone.
-ghost use Rattle.std.specs.Prelude.{◌≡◌, ℕ, ◌+◌, ◌<◌, ◌≤◌, List, [], ◌∷◌, ◌++◌, None, Some, MatchBool, MatchOption, IfSome, length, vec_len};
+ghost use Rattle.std.specs.Prelude.{◌≡◌, ℕ, ◌+◌, ◌<◌, ◌≤◌, List, [], ◌∷◌, ◌++◌, None, Some, MatchBool, MatchOption, IfSome, length};
 ghost use Rattle.cell_core.specs.Words.{slots};
 ghost use Rattle.cell_core.specs.declared.words.Publisher.TheVariants.{Preparing, Swapping, Settling};
 ghost use Rattle.counted_handles.specs.declared.view.Mark.{Mark};
@@ -10,7 +10,7 @@ ghost use Rattle.counted_handles.specs.Ruled.{RoomSpot, stake_of, mark_of, versi
 ghost use Rattle.counted_handles.specs.Shown.{Room};
 ghost use Rattle.counted_handles.specs.Tells.{IsTaken, IsWon, IsSettled, Swapped, Prepared, Looked, IsOpened, Offered};
 ghost use Rattle.counted_handles.specs.declared.view.Reading.{Reading};
-ghost use Rattle.counted_handles.specs.Calls.{CanRead, Fits, Drawn, IsProbing, IsReady, IsSwapping, IsSettling, IsSwappedIn, IsIdle, IsGuest, IsNewest, IsOffering, IsOut, IsLoaded};
+ghost use Rattle.counted_handles.specs.Calls.{CanRead, Fits, AreSpots, Drawn, IsProbing, IsReady, IsSwapping, IsSettling, IsSwappedIn, IsIdle, IsGuest, IsNewest, IsOffering, IsOut, IsLoaded};
 
 use crate::names::Names;
 use crate::plays;
@@ -238,7 +238,8 @@ pub(crate) fn hold<T, C: Names<T>>(
     share: Seat<Room<T>, View<T>>,
     slot: usize,
 ) -> Held<Option<Version<T>>, View<T>>
-    requires fits { Fits words.now.table_id × (share.table_id ≡ words.now.table_id) × (spots.now ≡ words.now.key) × (vec_len spots.now.places ≡ slots) × (length spots.now.places.items ≡ slots) }
+    requires spots { AreSpots words.now.table_id words.now.key spots.now }
+    requires fits { share.table_id ≡ words.now.table_id }
     requires has { (mark : Mark T) × (share.me ≡ (Has mark, [])) × (mark.slot ≡ slot) × (mark.name ≡ words.now.table_id.views_name) × (slot < slots) }
     ensures seat { result.id ≡ share.id }
     ensures held { (mark : Mark T) → share.me ≡ (Has mark, []) → (result.stake ≡ stake_of mark) × (result.value ≡ Some (version_of mark)) }
@@ -281,7 +282,8 @@ pub(crate) fn load_last<T, C: Names<T>>(
     spots: &Spots<T>,
     badge: &mut Badge<View<T>>,
 ) -> (Held<Option<Version<T>>, View<T>>, usize)
-    requires fits { Fits words.now.table_id × (badge.old.table_id ≡ words.now.table_id) × (spots.now ≡ words.now.key) × (vec_len spots.now.places ≡ slots) × (length spots.now.places.items ≡ slots) }
+    requires spots { AreSpots words.now.table_id words.now.key spots.now }
+    requires fits { badge.old.table_id ≡ words.now.table_id }
     requires can { (reading : Reading T) × CanRead reading badge.old.views × (reading.name ≡ words.now.table_id.views_name) }
     ensures badge { (badge.new.table_id ≡ badge.old.table_id) × (badge.new.id ≡ badge.old.id) }
     ensures loaded { (reading : Reading T) → CanRead reading badge.old.views → IsLoaded C.begins C.follows reading badge.new.views result.0.stake result.0.value result.1 }
