@@ -74,9 +74,9 @@ fn bury<T, C: Names<T>>(words: &Words<T, C>, seat: &mut Seat<Room<T>, View<T>>, 
     requires fits { Fits words.now.table_id × (seat.old.table_id ≡ words.now.table_id) }
     requires due { (name : ℕ) × (seat.old.me ≡ (Buries slot name, [])) × (slot < slots) }
     ensures seat { (seat.new.table_id ≡ seat.old.table_id) × (seat.new.id ≡ seat.old.id) }
-    ensures won { (name : ℕ) → seat.old.me ≡ (Buries slot name, []) → MatchBool result (IsWon slot name seat.new.me) (seat.new.me ≡ (Gone, [])) }
+    ensures won { (name : ℕ) → seat.old.me ≡ (Buries slot name, []) → MatchBool result (IsWon C.begins C.follows slot name seat.new.me) (seat.new.me ≡ (Gone, [])) }
 {
-    words.compare_exchange::<plays::Buries>(seat, slot + slot + 1, 0, DEAD) == 0
+    words.compare_exchange::<plays::Buries<C>>(seat, slot + slot + 1, 0, DEAD) == 0
 }
 
 // A free: the seat gives the slot's place back, whole and empty.
@@ -261,7 +261,7 @@ pub(crate) fn give_up<T, C: Names<T>>(
 ) -> Option<Seat<Room<T>, View<T>>>
     requires fits { Fits words.now.table_id × (slot < slots) }
     requires has { (mark : Mark T) × (held.stake ≡ stake_of mark) × (mark.slot ≡ slot) × (mark.name ≡ words.now.table_id.views_name) }
-    ensures { IfSome result (λ seat. (seat.table_id ≡ words.now.table_id) × IsOut slot seat.me) }
+    ensures { IfSome result (λ seat. (seat.table_id ≡ words.now.table_id) × IsOut C.begins C.follows slot seat.me) }
 {
     let mut badge = Badge::blank();
     unclaim(words, held, &mut badge, slot);
