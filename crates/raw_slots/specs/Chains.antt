@@ -22,3 +22,8 @@ module _ (R : RattleType) {V : Type 0} where
     pub size : length spots ≡ length places
     pub each : (k : ℕ) (x : Place R.Denot V) → slice_get places k ≡ Some x → (x.at ≡ after R p k) × (x.stake ≡ []) × (slice_get values k ≡ Some x.value)
     pub where_each : (k : ℕ) (s : Spot R.Denot) → slice_get spots k ≡ Some s → s.at ≡ after R p k
+
+-- spots say where the n places of the row from p on lie
+pub record AreAlong (R : RattleType) (p : Ptr) (n : ℕ) (spots : List (Spot R.Denot)) : Type 0 where
+  pub size : length spots ≡ n
+  pub each : (k : ℕ) (s : Spot R.Denot) → slice_get spots k ≡ Some s → s.at ≡ after R p k
