@@ -1,9 +1,8 @@
 -- Places in the order in which they lie in one row.
-use Rattle.std.specs.Prelude.{◌≡◌, ℕ, zero, suc, List, length, slice_get, Some}
+use Rattle.std.specs.Prelude.{◌≡◌, ℕ, zero, suc, List, [], ◌∷◌, length, slice_get, Some}
 use denote.RattleType.{RattleType}
 use denote.RawPtr.{Ptr}
 use Rattle.raw_slots.specs.Rows.{next_to}
-use mathlib.Core.List.{[]}
 use Rattle.raw_slots.specs.declared.place.Place.{Place}
 use Rattle.raw_slots.specs.declared.place.Spot.{Spot}
 
@@ -27,3 +26,17 @@ module _ (R : RattleType) {V : Type 0} where
 pub record AreAlong (R : RattleType) (p : Ptr) (n : ℕ) (spots : List (Spot R.Denot)) : Type 0 where
   pub size : length spots ≡ n
   pub each : (k : ℕ) (s : Spot R.Denot) → slice_get spots k ≡ Some s → s.at ≡ after R p k
+
+-- the spots of n places of the row from p on, from the place of the number k on
+abbrev pub spots_from : (R : RattleType) → Ptr → ℕ → ℕ → List (Spot R.Denot)
+spots_from R p k zero = []
+spots_from R p k (suc n) = record { at = after R p k } ∷ spots_from R p (suc k) n
+
+-- whole places, each where its spot is
+pub record AreAt {T V : Type 0} (spots : List (Spot T)) (places : List (Place T V)) : Type 0 where
+  pub size : length spots ≡ length places
+  pub each : (k : ℕ) (x : Place T V) → slice_get places k ≡ Some x → (x.stake ≡ []) × ((s : Spot T) × (slice_get spots k ≡ Some s) × (x.at ≡ s.at))
+
+-- places that have these values, in their order
+abbrev pub HaveValues : {T V : Type 0} → List T → List (Place T V) → Type 0
+HaveValues {T} {V} values places = (k : ℕ) (x : Place T V) → slice_get places k ≡ Some x → slice_get values k ≡ Some x.value

@@ -1,7 +1,7 @@
 //! The memory of a row that is all cut into places, between the making of a table and its end.
 ghost use Rattle.core.specs.Prelude.{◌≡◌, List, []};
 ghost use Rattle.core.specs.Mem.Slots.{lease_ptr, lease_len};
-ghost use Rattle.raw_slots.specs.Chains.{after, AreAlong};
+ghost use Rattle.raw_slots.specs.Chains.{after, spots_from, AreAlong};
 ghost use Rattle.raw_slots.specs.declared.place.Spot.{Spot};
 ghost use Rattle.raw_slots.specs.Bare.{bare_owns};
 
@@ -26,9 +26,8 @@ impl<T, A: Allocator> Model for Bare<T, A> {
 impl<T, A: Allocator> Bare<T, A> {
     /// Keeps the row, of which all values are cut off, with its lease and the spot of its first place.
     pub fn of(row: Row<T>, lease: Lease<T, A>, first: Spot<T>) -> Bare<T, A>
-        ghost spots: { List (Spot T) }
-        requires { (row.at ≡ after T.row first.at row.total) × (row.values ≡ []) × (lease_ptr lease ≡ first.at) × (lease_len lease ≡ row.total) × AreAlong T.row first.at row.total spots }
-        ensures { (result.row ≡ row) × (result.lease ≡ lease) × (result.first ≡ first) × (result.spots ≡ spots) }
+        requires { (row.at ≡ after T.row first.at row.total) × (row.values ≡ []) × (lease_ptr lease ≡ first.at) × (lease_len lease ≡ row.total) }
+        ensures { (result.row ≡ row) × (result.lease ≡ lease) × (result.first ≡ first) × (result.spots ≡ spots_from T.row first.at 0 row.total) }
     {
         Bare { row, lease, first }
     }
