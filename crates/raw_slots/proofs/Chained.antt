@@ -3,8 +3,9 @@ use Rattle.std.proofs.Common.{◌≡◌, ℕ, zero, suc, ◌+◌, ◌<◌, arith
 use Rattle.std.specs.Prelude.{Option, Some, None, slice_get}
 use Rattle.std.proofs.lemmas.Option.{get_or_from_slice_get}
 use denote.RattleType.{RattleType}
+use denote.Memory.{mem}
 use denote.RawPtr.{Ptr}
-use Rattle.raw_slots.specs.Chains.{after, spots_from, IsCut, IsChain, AreAlong, AreAt}
+use Rattle.raw_slots.specs.Chains.{after, beyond, spots_from, IsCut, IsChain, AreAlong, AreAt}
 use Rattle.raw_slots.specs.declared.place.Place.{Place}
 use Rattle.raw_slots.specs.declared.place.Spot.{Spot}
 
@@ -89,40 +90,40 @@ behind_first k (suc j) = behind_first (suc k) j ∙ omega arith
 behind_none : (j : ℕ) → behind 0 j ≡ j
 behind_none j = omega (arith, behind_first 0 j)
 
-module _ (R : RattleType) (p : Ptr) where
-  spots_size : (k n : ℕ) → length (spots_from R p k n) ≡ n
+module _ (T : Type 0) (bytes : ℕ) (p : Ptr) where
+  spots_size : (k n : ℕ) → length (spots_from {T = T} bytes p k n) ≡ n
   spots_size k zero = refl
   spots_size k (suc n) = ap suc (spots_size (suc k) n)
 
-  spot_at : (k n j : ℕ) (s : Spot R.Denot) → slice_get (spots_from R p k n) j ≡ Some s → s.at ≡ after R p (behind k j)
+  spot_at : (k n j : ℕ) (s : Spot T) → slice_get (spots_from bytes p k n) j ≡ Some s → s.at ≡ beyond bytes p (behind k j)
   spot_at k zero j s e = absurd (subst Full (sym e) tt)
-  spot_at k (suc n) zero s e = ap (λ (u : Spot R.Denot). u.at) (sym (ap (got s) e))
+  spot_at k (suc n) zero s e = ap (λ (u : Spot T). u.at) (sym (ap (got s) e))
   spot_at k (suc n) (suc j) s e = spot_at (suc k) n j s e
 
-  pub along_from : (n : ℕ) → AreAlong R p n (spots_from R p 0 n)
-  along_from n = record { size = spots_size 0 n; each = λ k s e. spot_at 0 n k s e ∙ ap (after R p) (behind_none k) }
+  pub along_from : (n : ℕ) → AreAlong bytes p n (spots_from {T = T} bytes p 0 n)
+  along_from n = record { size = spots_size 0 n; each = λ k s e. spot_at 0 n k s e ∙ ap (beyond bytes p) (behind_none k) }
 
-  spots_are : (spots : List (Spot R.Denot)) (k : ℕ) → ((j : ℕ) (s : Spot R.Denot) → slice_get spots j ≡ Some s → s.at ≡ after R p (behind k j)) → spots ≡ spots_from R p k (length spots)
+  spots_are : (spots : List (Spot T)) (k : ℕ) → ((j : ℕ) (s : Spot T) → slice_get spots j ≡ Some s → s.at ≡ beyond bytes p (behind k j)) → spots ≡ spots_from bytes p k (length spots)
   spots_are [] k each = refl
   spots_are (s ∷ ss) k each = λ i. record { at = each 0 s refl i } ∷ spots_are ss (suc k) (λ j t e. each (suc j) t e) i
 
-  pub along_is : (n : ℕ) (spots : List (Spot R.Denot)) → AreAlong R p n spots → spots ≡ spots_from R p 0 n
-  along_is n spots a = spots_are spots 0 (λ j s e. a.each j s e ∙ ap (after R p) (sym (behind_none j))) ∙ ap (spots_from R p 0) a.size
+  pub along_is : (n : ℕ) (spots : List (Spot T)) → AreAlong bytes p n spots → spots ≡ spots_from bytes p 0 n
+  along_is n spots a = spots_are spots 0 (λ j s e. a.each j s e ∙ ap (beyond bytes p) (sym (behind_none j))) ∙ ap (spots_from bytes p 0) a.size
 
-  module _ {V : Type 0} where
-    pub cut_along : (values : List R.Denot) (places : List (Place R.Denot V)) (spots : List (Spot R.Denot)) (n : ℕ) → IsCut R p values places spots → length places ≡ n → AreAlong R p n spots
-    cut_along values places spots n c e = record { size = c.size ∙ e; each = c.where_each }
+module _ (R : RattleType) (p : Ptr) {V : Type 0} where
+  pub cut_along : (values : List R.Denot) (places : List (Place R.Denot V)) (spots : List (Spot R.Denot)) (n : ℕ) → IsCut R p values places spots → length places ≡ n → AreAlong (mem R).size p n spots
+  cut_along values places spots n c e = record { size = c.size ∙ e; each = c.where_each }
 
-    pub cut_at : (values : List R.Denot) (places : List (Place R.Denot V)) (spots : List (Spot R.Denot)) → IsCut R p values places spots → AreAt spots places
-    cut_at values places spots c = record {
-      size = c.size;
-      each = λ k x e. let is = c.each k x e in let there = get_at spots k (subst (λ (n : ℕ). k < n) (sym c.size) (within places k x e)) in (is.1, (there.0, there.1, is.0 ∙ sym (c.where_each k there.0 there.1)));
-    }
+  pub cut_at : (values : List R.Denot) (places : List (Place R.Denot V)) (spots : List (Spot R.Denot)) → IsCut R p values places spots → AreAt spots places
+  cut_at values places spots c = record {
+    size = c.size;
+    each = λ k x e. let is = c.each k x e in let there = get_at spots k (subst (λ (n : ℕ). k < n) (sym c.size) (within places k x e)) in (is.1, (there.0, there.1, is.0 ∙ sym (c.where_each k there.0 there.1)));
+  }
 
-    pub first_at : (values : List R.Denot) (places : List (Place R.Denot V)) (spots : List (Spot R.Denot)) (first : Spot R.Denot) → IsCut R p values places spots → 0 < length places → first ≡ get_or spots 0 first → first.at ≡ p
-    first_at values places spots first c some read =
-        let there = get_at spots 0 (subst (λ (n : ℕ). 0 < n) (sym c.size) some) in
-        ap (λ (u : Spot R.Denot). u.at) (read ∙ get_or_from_slice_get spots 0 there.0 first there.1) ∙ c.where_each 0 there.0 there.1
+  pub first_at : (values : List R.Denot) (places : List (Place R.Denot V)) (spots : List (Spot R.Denot)) (first : Spot R.Denot) → IsCut R p values places spots → 0 < length places → first ≡ get_or spots 0 first → first.at ≡ p
+  first_at values places spots first c some read =
+      let there = get_at spots 0 (subst (λ (n : ℕ). 0 < n) (sym c.size) some) in
+      ap (λ (u : Spot R.Denot). u.at) (read ∙ get_or_from_slice_get spots 0 there.0 first there.1) ∙ c.where_each 0 there.0 there.1
 
-    pub chain_of : (n : ℕ) (spots : List (Spot R.Denot)) (places : List (Place R.Denot V)) → AreAlong R p n spots → AreAt spots places → IsChain R p places
-    chain_of n spots places a are = record { each = λ k x e. let is = are.each k x e in (is.1.2 ∙ a.each k is.1.0 is.1.1, is.0) }
+  pub chain_of : (n : ℕ) (spots : List (Spot R.Denot)) (places : List (Place R.Denot V)) → AreAlong (mem R).size p n spots → AreAt spots places → IsChain R p places
+  chain_of n spots places a are = record { each = λ k x e. let is = are.each k x e in (is.1.2 ∙ a.each k is.1.0 is.1.1, is.0) }

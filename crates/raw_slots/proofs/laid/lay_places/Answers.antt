@@ -1,5 +1,6 @@
 use Rattle.std.proofs.Common.{◌≡◌, ◌<◌, List, length, Some, sym, ap, ◌∙◌, subst, arith}
 use Rattle.std.specs.List.{slice_get}
+use denote.Memory.{mem}
 use Rattle.raw_slots.specs.Chains.{after, spots_from}
 use Rattle.raw_slots.proofs.Chained.{along_is, cut_along, cut_at, first_at}
 use Rattle.raw_slots.proofs.laid.lay_places.Goals as goal
@@ -31,8 +32,8 @@ returns-clause-laid g c =
     let some : 0 < length places = omega (arith, cut.1, count, c.requires.some) in
     let first : c.index.result.now.at ≡ c.in_ok-row.row.at = first_at _ c.in_ok-row.row.at c.in_ok-row.row.values places spots c.index.result.now cut.0 some c.index.ensures in
     let total : c.len-count.result ≡ c.cut_all.new.row.total = count ∙ sym laid.1 ∙ sym rest.2 in
-    let along = along_is _ c.in_ok-row.row.at c.len-count.result spots (cut_along _ c.in_ok-row.row.at c.in_ok-row.row.values places spots c.len-count.result cut.0 cut.1) in (
-      c.of.ensures.3 ∙ ap (λ p. spots_from g.row.T p 0 c.cut_all.new.row.total) first ∙ ap (spots_from g.row.T c.in_ok-row.row.at 0) (sym total) ∙ sym along,
+    let along = along_is g.row.T.Denot (mem g.row.T).size c.in_ok-row.row.at c.len-count.result spots (cut_along _ c.in_ok-row.row.at c.in_ok-row.row.values places spots c.len-count.result cut.0 cut.1) in (
+      c.of.ensures.3 ∙ ap (λ p. spots_from (mem g.row.T).size p 0 c.cut_all.new.row.total) first ∙ ap (spots_from (mem g.row.T).size c.in_ok-row.row.at 0) (sym total) ∙ sym along,
       cut_at _ c.in_ok-row.row.at c.in_ok-row.row.values places spots cut.0,
       (λ k x e. subst (λ (l : List g.row.T.Denot). slice_get l k ≡ Some x.value) laid.0 (cut.0.each k x e).2),
       cut.1 ∙ count,
