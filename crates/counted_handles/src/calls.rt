@@ -5,7 +5,6 @@ ghost use Rattle.cell_core.specs.declared.words.Publisher.TheVariants.{Preparing
 ghost use Rattle.counted_handles.specs.declared.view.Mark.{Mark};
 ghost use Rattle.counted_handles.specs.declared.view.Publishing.{Publishing};
 ghost use Rattle.counted_handles.specs.declared.view.View.TheVariants.{Begin, Publishes, Has, Buries, Frees, Gone};
-ghost use Rattle.counted_handles.specs.Cuts.{dealt_grants, with_reader, reader_of};
 ghost use Rattle.counted_handles.specs.Ruled.{RoomSpot, stake_of, mark_of, version_of};
 ghost use Rattle.counted_handles.specs.Shown.{Room};
 ghost use Rattle.counted_handles.specs.Tells.{IsTaken, IsWon, IsSettled, Swapped, Prepared, Looked, IsOpened, Offered};
@@ -199,7 +198,7 @@ fn look<T, C: Names<T>>(words: &Words<T, C>, seat: &mut Seat<Room<T>, View<T>>) 
 }
 
 // The first look at W: the first seat has slot 0's place.
-fn open<T, C: Names<T>>(words: &Words<T, C>, seat: &mut Seat<Room<T>, View<T>>)
+pub(crate) fn open<T, C: Names<T>>(words: &Words<T, C>, seat: &mut Seat<Room<T>, View<T>>)
     requires fits { Fits words.now.table_id × (seat.old.table_id ≡ words.now.table_id) × (seat.old.id ≡ 0) }
     requires first { (value : T) × (seat.old.me ≡ (Begin value, [])) }
     ensures seat { (seat.new.table_id ≡ seat.old.table_id) × (seat.new.id ≡ seat.old.id) }
@@ -209,26 +208,13 @@ fn open<T, C: Names<T>>(words: &Words<T, C>, seat: &mut Seat<Room<T>, View<T>>)
 }
 
 // The second look at W: the first seat gives the place back, shared, and is the publisher with all grants.
-fn offer<T, C: Names<T>>(words: &Words<T, C>, seat: &mut Seat<Room<T>, View<T>>)
+pub(crate) fn offer<T, C: Names<T>>(words: &Words<T, C>, seat: &mut Seat<Room<T>, View<T>>)
     requires fits { Fits words.now.table_id × (seat.old.table_id ≡ words.now.table_id) × (seat.old.id ≡ 0) }
     requires shared { (value : T) × (name : ℕ) × (spot : RoomSpot T) × IsOffering C.begins value name spot seat.old.me }
     ensures seat { (seat.new.table_id ≡ seat.old.table_id) × (seat.new.id ≡ seat.old.id) }
     ensures offered { (value : T) (name : ℕ) (spot : RoomSpot T) → IsOffering C.begins value name spot seat.old.me → Offered value name spot seat.new.me }
 {
     words.load::<plays::Offers>(seat, 0);
-}
-
-// A reader of a new cell, with its grants, goes off the publisher.
-fn deal<T, C: Names<T>>(
-    words: &Words<T, C>,
-    seat: &mut Seat<Room<T>, View<T>>,
-) -> Seat<Room<T>, View<T>>
-    requires fits { Fits words.now.table_id × (seat.old.table_id ≡ words.now.table_id) }
-    requires enough { (p : Publishing T) × (seat.old.me ≡ (Publishes p, [])) × (p.share ≡ None) × (dealt_grants ≤ p.left) }
-    ensures seats { (seat.new.table_id ≡ seat.old.table_id) × (seat.new.id ≡ seat.old.id) × (result.table_id ≡ seat.old.table_id) }
-    ensures dealt { (p : Publishing T) → seat.old.me ≡ (Publishes p, []) → (seat.new.me ≡ (Publishes (with_reader p dealt_grants), [])) × (result.me ≡ (reader_of p dealt_grants, [])) }
-{
-    words.split_seat::<plays::Deals>(seat)
 }
 
 // The claim of the version that a share is of, for the share's seat.
