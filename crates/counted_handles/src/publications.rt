@@ -20,6 +20,7 @@ use std::mem;
 use std::snapshot::Snapshot;
 
 /// There was no free slot: the value comes back, with the probes of all 64 slots, each of which saw another word than FREE.
+#[derive(Drop)]
 pub struct NoSlot<T> {
     /// The value that wasn't published.
     pub value: T,

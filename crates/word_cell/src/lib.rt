@@ -9,9 +9,11 @@
 
 mod cell;
 mod fault;
+mod named;
 mod tokens;
 
 pub use cell::{Cell, Parts};
 pub use counted_handles::{Names, NoSlot, Released, Strong};
 pub use fault::{NewFault, Spent};
+pub use named::{NamedCell, NamedPublisher, NamedReader, Naming};
 pub use tokens::{Publisher, READERS, Reader};
