@@ -83,7 +83,7 @@ module _ {T : Type 0} (begins : T → Type 0) (follows : T → T → Type 0) (sp
   Outcome s id slot name word =
       (w : View T) × (a : Act (Room T)) × Valid s.homes [] a
       × Holds begins follows spots (stepped s (suc (slot + slot)) word id [] w a)
-      × Tried slot name (get_or s.words (suc (slot + slot)) 0) (w, carried_after [] a)
+      × Tried begins follows slot name (get_or s.words (suc (slot + slot)) 0) (w, carried_after [] a)
 
   wins : (s : Board T) (h : Holds begins follows spots s) (id slot name : ℕ) → get_elem? s.views id ≡ some (Buries slot name) → slot < slots → get_or s.words (suc (slot + slot)) 0 ≡ 0 → Outcome s id slot name dead_word
   wins s h id slot name at l none_left =
@@ -137,6 +137,7 @@ module _ {T : Type 0} (begins : T → Type 0) (follows : T → T → Type 0) (sp
           stake = room.stake;
           name_is = sym known;
           slot_is = refl;
+          older = record { published = h.cell.published; history = h.history; value_is = room.published_is; older = omega (arith, can.1.before, h.shows.numbers.last) };
         }),
       )
 
@@ -174,7 +175,7 @@ module _ {T : Type 0} (begins : T → Type 0) (follows : T → T → Type 0) (sp
         when_apart found 0 _ _ apart refl,
       )
 
-  pub buries : (id slot name : ℕ) → Allows (Holds begins follows spots) slots id (Buries slot name, []) (suc (slot + slot)) (λ n. either (n == 0) dead_word n) (λ found me. Tried slot name found me)
+  pub buries : (id slot name : ℕ) → Allows (Holds begins follows spots) slots id (Buries slot name, []) (suc (slot + slot)) (λ n. either (n == 0) dead_word n) (λ found me. Tried begins follows slot name found me)
   buries id slot name s h size at bound =
       let l : slot < slots = h.shows.owner_is id (Burying slot) (got_map owner_of s.views id (Buries slot name) at) in
       exchanged (get_or s.words (suc (slot + slot)) 0) 0 dead_word (Outcome s id slot name) (wins s h id slot name at l) (loses s h id slot name at l)

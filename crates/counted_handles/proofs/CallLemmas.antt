@@ -82,12 +82,12 @@ module _ {T : Type 0} (begins : T → Type 0) (follows : T → T → Type 0) (sp
       (subst (λ (m : Sat T). Allows (Ruled begins follows spots) slots id m (suc (mark.slot + mark.slot)) (λ k. (k + (2 ^ 64 - 1)) % 2 ^ 64) (λ found new. ReleaseTells m.0 found new)) (sym is)
       (allowed_later begins follows spots slots id (Has mark, []) (suc (mark.slot + mark.slot)) (λ k. (k + (2 ^ 64 - 1)) % 2 ^ 64) (λ found new. Released mark found new) tt (releases begins follows spots id mark))))
 
-  pub bury_allowed : (n id i slot name : ℕ) (me : Sat T) → n ≡ slots → i ≡ suc (slot + slot) → me ≡ (Buries slot name, []) → Allows (Ruled begins follows spots) n id me i (λ k. either (k == 0) dead_word k) (λ found new. BuryTells me.0 found new)
+  pub bury_allowed : (n id i slot name : ℕ) (me : Sat T) → n ≡ slots → i ≡ suc (slot + slot) → me ≡ (Buries slot name, []) → Allows (Ruled begins follows spots) n id me i (λ k. either (k == 0) dead_word k) (λ found new. BuryTells begins follows me.0 found new)
   bury_allowed n id i slot name me count index is =
-      subst (λ k. Allows (Ruled begins follows spots) k id me i (λ k. either (k == 0) dead_word k) (λ found new. BuryTells me.0 found new)) (sym count)
-      (subst (λ j. Allows (Ruled begins follows spots) slots id me j (λ k. either (k == 0) dead_word k) (λ found new. BuryTells me.0 found new)) (sym index)
-      (subst (λ (m : Sat T). Allows (Ruled begins follows spots) slots id m (suc (slot + slot)) (λ k. either (k == 0) dead_word k) (λ found new. BuryTells m.0 found new)) (sym is)
-      (allowed_later begins follows spots slots id (Buries slot name, []) (suc (slot + slot)) (λ k. either (k == 0) dead_word k) (λ found new. Tried slot name found new) tt (buries begins follows spots id slot name))))
+      subst (λ k. Allows (Ruled begins follows spots) k id me i (λ k. either (k == 0) dead_word k) (λ found new. BuryTells begins follows me.0 found new)) (sym count)
+      (subst (λ j. Allows (Ruled begins follows spots) slots id me j (λ k. either (k == 0) dead_word k) (λ found new. BuryTells begins follows me.0 found new)) (sym index)
+      (subst (λ (m : Sat T). Allows (Ruled begins follows spots) slots id m (suc (slot + slot)) (λ k. either (k == 0) dead_word k) (λ found new. BuryTells begins follows m.0 found new)) (sym is)
+      (allowed_later begins follows spots slots id (Buries slot name, []) (suc (slot + slot)) (λ k. either (k == 0) dead_word k) (λ found new. Tried begins follows slot name found new) tt (buries begins follows spots id slot name))))
 
   pub free_allowed : (n id i slot : ℕ) (spot : RoomSpot T) (room : Room T) (me : Sat T) → n ≡ slots → i ≡ suc (slot + slot) → me ≡ (Frees slot spot, (slot, room) ∷ []) → room.at ≡ spot.at → room.value ≡ None → room.stake ≡ []
       → Allows (Ruled begins follows spots) n id me i (λ _. free_word) (λ _ new. FreeTells me.0 new)

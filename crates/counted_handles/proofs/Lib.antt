@@ -25,3 +25,4 @@ pub mod GuestLemmas
 pub mod LastLemmas
 pub mod OpenLemmas
 pub mod PutLemmas
+pub mod MadeLemmas

@@ -20,7 +20,7 @@ abbrev pub taken_as : {T : Type 0} → Publishing T → ℕ → RoomSpot T → P
 taken_as p slot spot = record p { how = Preparing slot; spot = spot }
 
 -- a stake that is told by its key
-keyed_as : {T : Type 0} (s : Stake (View T)) (name slot : ℕ) (version same : Version T) → s.views ≡ name → s.key ≡ Has (mark_of s.views slot version s.life s.tally) → version ≡ same → s ≡ stake_of (mark_of name slot same s.life s.tally)
+pub keyed_as : {T : Type 0} (s : Stake (View T)) (name slot : ℕ) (version same : Version T) → s.views ≡ name → s.key ≡ Has (mark_of s.views slot version s.life s.tally) → version ≡ same → s ≡ stake_of (mark_of name slot same s.life s.tally)
 keyed_as s name slot version same views key one =
     let keys : s.key ≡ Has (mark_of name slot same s.life s.tally) = key ∙ (λ i. Has (mark_of (views i) slot (one i) s.life s.tally)) in
     λ i. record { key = keys i; views = views i; life = s.life; tally = s.tally }

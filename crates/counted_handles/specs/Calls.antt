@@ -1,9 +1,12 @@
 -- What the calls ask and give (own).
-use Rattle.std.specs.Prelude.{◌≡◌, ℕ, ◌+◌, ◌-◌, ◌^◌, ◌<◌, List, [], ◌∷◌, ◌++◌, length, Option, None, Some}
+use Rattle.std.specs.Prelude.{◌≡◌, ℕ, ◌+◌, ◌-◌, ◌^◌, ◌<◌, List, [], ◌∷◌, ◌++◌, length, Option, None, Some, vec_len}
 use Rattle.std.specs.List.{slice_get}
 use Rattle.atomic_table.specs.Seated.{TableId}
 use Rattle.cell_core.specs.Words.{slots}
 use Rattle.cell_core.specs.declared.words.Publisher.TheVariants.{Probing, Preparing, Swapping, Settling}
+use Rattle.counted_handles.specs.declared.owner.Released.{Released}
+use Rattle.counted_handles.specs.declared.owner.Released.TheVariants.{Left, Buried}
+use Rattle.counted_handles.specs.declared.rule.Spots.{Spots}
 use Rattle.counted_handles.specs.declared.view.Mark.{Mark}
 use Rattle.counted_handles.specs.declared.view.Publishing.{Publishing}
 use Rattle.counted_handles.specs.declared.view.Reading.{Reading}
@@ -15,11 +18,18 @@ use Rattle.counted_handles.specs.History.{IsHistory}
 use Rattle.counted_handles.specs.Shown.{Room}
 use Rattle.counted_handles.specs.Ruled.{RoomSpot, Begins, stake_of, mark_of, version_of, first_version}
 use Rattle.counted_handles.specs.Cuts.{reader_of}
-use Rattle.counted_handles.specs.Tells.{Sat, IsLastMark}
+use Rattle.counted_handles.specs.Tells.{Sat, IsLastMark, IsOlder}
 
 -- a table of the cell's size: W, with two words a slot (own)
 abbrev pub Fits : TableId → Type 0
 Fits id = (id.words ≡ 129) × (id.slots ≡ slots)
+
+-- the spots of a table of the cell's size, one a slot (own)
+pub record AreSpots {T : Type 0} (id : TableId) (key spots : Spots T) : Type 0 where
+  pub fits : Fits id
+  pub same : spots ≡ key
+  pub room : vec_len spots.places ≡ slots
+  pub size : length spots.places.items ≡ slots
 
 -- a reader that may load: it has no share that isn't split off, and a grant (own)
 abbrev pub CanRead : {T : Type 0} → Reading T → List (View T) → Type 0
@@ -109,7 +119,7 @@ pub record IsOffering {T : Type 0} (begins : T → Type 0) (value : T) (name : �
   pub stake : room.stake ≡ stake_of (mark_of name 0 (first_version value) life tally) ∷ []
 
 -- the seat has the slot's place, whole, with a version that is buried in it (own)
-pub record IsOut {T : Type 0} (slot : ℕ) (me : Sat T) : Type 0 where
+pub record IsOut {T : Type 0} (begins : T → Type 0) (follows : T → T → Type 0) (slot : ℕ) (me : Sat T) : Type 0 where
   pub spot : RoomSpot T
   pub room : Room T
   pub mark : Mark T
@@ -117,6 +127,7 @@ pub record IsOut {T : Type 0} (slot : ℕ) (me : Sat T) : Type 0 where
   pub lies : room.at ≡ spot.at
   pub version : room.value ≡ Some (version_of mark)
   pub whole : room.stake ≡ []
+  pub older : IsOlder begins follows (version_of mark)
 
 -- what a load gives: the version published last is held, for the share of this slot, and the reader has seen all that is
 -- published (own)
@@ -133,6 +144,11 @@ pub record IsLoaded {T : Type 0} (begins : T → Type 0) (follows : T → T → 
   pub slot_is : mark.slot ≡ slot
   pub within : slot < slots
   pub name_is : mark.name ≡ reading.name
+
+-- what a release tells: what it buried was published, and isn't the last (own)
+abbrev pub IsReleased : {T : Type 0} → (T → Type 0) → (T → T → Type 0) → Released → Type 0
+IsReleased begins follows Left = Unit {0}
+IsReleased {T} begins follows (Buried number) = (version : Version T) × (version.number ≡ number) × IsOlder begins follows version
 
 -- the seat has the slot's place, whole and empty, to give it back (own)
 pub record IsEmptied {T : Type 0} (slot : ℕ) (me : Sat T) : Type 0 where

@@ -24,9 +24,9 @@ ReleaseTells (Has mark) found me = Released mark found me
 ReleaseTells view found me = ⊥
 
 -- bury (own)
-abbrev pub BuryTells : {T : Type 0} → View T → ℕ → Sat T → Type 0
-BuryTells (Buries slot name) found me = Tried slot name found me
-BuryTells view found me = ⊥
+abbrev pub BuryTells : {T : Type 0} → (T → Type 0) → (T → T → Type 0) → View T → ℕ → Sat T → Type 0
+BuryTells begins follows (Buries slot name) found me = Tried begins follows slot name found me
+BuryTells begins follows view found me = ⊥
 
 -- free (own)
 abbrev pub FreeTells : {T : Type 0} → View T → Sat T → Type 0

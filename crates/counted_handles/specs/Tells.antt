@@ -39,8 +39,16 @@ Loaded {T} begins follows reading found me =
 abbrev pub Released : {T : Type 0} → Mark T → ℕ → Sat T → Type 0
 Released mark found me = MatchBool (found == 1) (me ≡ (Buries mark.slot mark.name, [])) (me ≡ (Gone, []))
 
--- a bury that won: the owner has the slot's place, with the version that lay there and is to free the slot (own)
-pub record IsWon {T : Type 0} (slot name : ℕ) (me : Sat T) : Type 0 where
+-- a version that was published, and isn't the last (own)
+pub record IsOlder {T : Type 0} (begins : T → Type 0) (follows : T → T → Type 0) (version : Version T) : Type 0 where
+  pub published : List T
+  pub history : IsHistory begins follows published
+  pub value_is : slice_get published version.number ≡ Some version.value
+  pub older : version.number + 1 < length published
+
+-- a bury that won: the owner has the slot's place, with the version that lay there, which isn't the last, and is to free the
+-- slot (own)
+pub record IsWon {T : Type 0} (begins : T → Type 0) (follows : T → T → Type 0) (slot name : ℕ) (me : Sat T) : Type 0 where
   pub spot : RoomSpot T
   pub room : Room T
   pub mark : Mark T
@@ -50,10 +58,11 @@ pub record IsWon {T : Type 0} (slot name : ℕ) (me : Sat T) : Type 0 where
   pub stake : room.stake ≡ stake_of mark ∷ []
   pub name_is : mark.name ≡ name
   pub slot_is : mark.slot ≡ slot
+  pub older : IsOlder begins follows (version_of mark)
 
 -- bury: it wins where S was 0 (own)
-abbrev pub Tried : {T : Type 0} → ℕ → ℕ → ℕ → Sat T → Type 0
-Tried slot name found me = MatchBool (found == 0) (IsWon slot name me) (me ≡ (Gone, []))
+abbrev pub Tried : {T : Type 0} → (T → Type 0) → (T → T → Type 0) → ℕ → ℕ → ℕ → Sat T → Type 0
+Tried begins follows slot name found me = MatchBool (found == 0) (IsWon begins follows slot name me) (me ≡ (Gone, []))
 
 -- free: the owner has made all its steps (own)
 abbrev pub Freed : {T : Type 0} → Sat T → Type 0

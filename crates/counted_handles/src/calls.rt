@@ -1,16 +1,15 @@
 //! The steps as calls, over the table alone.
-ghost use Rattle.std.specs.Prelude.{◌≡◌, ℕ, ◌+◌, ◌<◌, ◌≤◌, List, [], ◌∷◌, ◌++◌, None, Some, MatchBool, MatchOption, IfSome, length, vec_len};
+ghost use Rattle.std.specs.Prelude.{◌≡◌, ℕ, ◌+◌, ◌<◌, ◌≤◌, List, [], ◌∷◌, ◌++◌, None, Some, MatchBool, MatchOption, IfSome, length};
 ghost use Rattle.cell_core.specs.Words.{slots};
 ghost use Rattle.cell_core.specs.declared.words.Publisher.TheVariants.{Preparing, Swapping, Settling};
 ghost use Rattle.counted_handles.specs.declared.view.Mark.{Mark};
 ghost use Rattle.counted_handles.specs.declared.view.Publishing.{Publishing};
 ghost use Rattle.counted_handles.specs.declared.view.View.TheVariants.{Begin, Publishes, Has, Buries, Frees, Gone};
-ghost use Rattle.counted_handles.specs.Cuts.{dealt_grants, with_reader, reader_of};
 ghost use Rattle.counted_handles.specs.Ruled.{RoomSpot, stake_of, mark_of, version_of};
 ghost use Rattle.counted_handles.specs.Shown.{Room};
 ghost use Rattle.counted_handles.specs.Tells.{IsTaken, IsWon, IsSettled, Swapped, Prepared, Looked, IsOpened, Offered};
 ghost use Rattle.counted_handles.specs.declared.view.Reading.{Reading};
-ghost use Rattle.counted_handles.specs.Calls.{CanRead, Fits, Drawn, IsProbing, IsReady, IsSwapping, IsSettling, IsSwappedIn, IsIdle, IsGuest, IsNewest, IsOffering, IsOut, IsLoaded};
+ghost use Rattle.counted_handles.specs.Calls.{CanRead, Fits, AreSpots, Drawn, IsProbing, IsReady, IsSwapping, IsSettling, IsSwappedIn, IsIdle, IsGuest, IsNewest, IsOffering, IsOut, IsLoaded};
 
 use crate::names::Names;
 use crate::plays;
@@ -74,9 +73,9 @@ fn bury<T, C: Names<T>>(words: &Words<T, C>, seat: &mut Seat<Room<T>, View<T>>, 
     requires fits { Fits words.now.table_id × (seat.old.table_id ≡ words.now.table_id) }
     requires due { (name : ℕ) × (seat.old.me ≡ (Buries slot name, [])) × (slot < slots) }
     ensures seat { (seat.new.table_id ≡ seat.old.table_id) × (seat.new.id ≡ seat.old.id) }
-    ensures won { (name : ℕ) → seat.old.me ≡ (Buries slot name, []) → MatchBool result (IsWon slot name seat.new.me) (seat.new.me ≡ (Gone, [])) }
+    ensures won { (name : ℕ) → seat.old.me ≡ (Buries slot name, []) → MatchBool result (IsWon C.begins C.follows slot name seat.new.me) (seat.new.me ≡ (Gone, [])) }
 {
-    words.compare_exchange::<plays::Buries>(seat, slot + slot + 1, 0, DEAD) == 0
+    words.compare_exchange::<plays::Buries<C>>(seat, slot + slot + 1, 0, DEAD) == 0
 }
 
 // A free: the seat gives the slot's place back, whole and empty.
@@ -199,7 +198,7 @@ fn look<T, C: Names<T>>(words: &Words<T, C>, seat: &mut Seat<Room<T>, View<T>>) 
 }
 
 // The first look at W: the first seat has slot 0's place.
-fn open<T, C: Names<T>>(words: &Words<T, C>, seat: &mut Seat<Room<T>, View<T>>)
+pub(crate) fn open<T, C: Names<T>>(words: &Words<T, C>, seat: &mut Seat<Room<T>, View<T>>)
     requires fits { Fits words.now.table_id × (seat.old.table_id ≡ words.now.table_id) × (seat.old.id ≡ 0) }
     requires first { (value : T) × (seat.old.me ≡ (Begin value, [])) }
     ensures seat { (seat.new.table_id ≡ seat.old.table_id) × (seat.new.id ≡ seat.old.id) }
@@ -209,26 +208,13 @@ fn open<T, C: Names<T>>(words: &Words<T, C>, seat: &mut Seat<Room<T>, View<T>>)
 }
 
 // The second look at W: the first seat gives the place back, shared, and is the publisher with all grants.
-fn offer<T, C: Names<T>>(words: &Words<T, C>, seat: &mut Seat<Room<T>, View<T>>)
+pub(crate) fn offer<T, C: Names<T>>(words: &Words<T, C>, seat: &mut Seat<Room<T>, View<T>>)
     requires fits { Fits words.now.table_id × (seat.old.table_id ≡ words.now.table_id) × (seat.old.id ≡ 0) }
     requires shared { (value : T) × (name : ℕ) × (spot : RoomSpot T) × IsOffering C.begins value name spot seat.old.me }
     ensures seat { (seat.new.table_id ≡ seat.old.table_id) × (seat.new.id ≡ seat.old.id) }
     ensures offered { (value : T) (name : ℕ) (spot : RoomSpot T) → IsOffering C.begins value name spot seat.old.me → Offered value name spot seat.new.me }
 {
     words.load::<plays::Offers>(seat, 0);
-}
-
-// A reader of a new cell, with its grants, goes off the publisher.
-fn deal<T, C: Names<T>>(
-    words: &Words<T, C>,
-    seat: &mut Seat<Room<T>, View<T>>,
-) -> Seat<Room<T>, View<T>>
-    requires fits { Fits words.now.table_id × (seat.old.table_id ≡ words.now.table_id) }
-    requires enough { (p : Publishing T) × (seat.old.me ≡ (Publishes p, [])) × (p.share ≡ None) × (dealt_grants ≤ p.left) }
-    ensures seats { (seat.new.table_id ≡ seat.old.table_id) × (seat.new.id ≡ seat.old.id) × (result.table_id ≡ seat.old.table_id) }
-    ensures dealt { (p : Publishing T) → seat.old.me ≡ (Publishes p, []) → (seat.new.me ≡ (Publishes (with_reader p dealt_grants), [])) × (result.me ≡ (reader_of p dealt_grants, [])) }
-{
-    words.split_seat::<plays::Deals>(seat)
 }
 
 // The claim of the version that a share is of, for the share's seat.
@@ -238,7 +224,8 @@ pub(crate) fn hold<T, C: Names<T>>(
     share: Seat<Room<T>, View<T>>,
     slot: usize,
 ) -> Held<Option<Version<T>>, View<T>>
-    requires fits { Fits words.now.table_id × (share.table_id ≡ words.now.table_id) × (spots.now ≡ words.now.key) × (vec_len spots.now.places ≡ slots) × (length spots.now.places.items ≡ slots) }
+    requires spots { AreSpots words.now.table_id words.now.key spots.now }
+    requires fits { share.table_id ≡ words.now.table_id }
     requires has { (mark : Mark T) × (share.me ≡ (Has mark, [])) × (mark.slot ≡ slot) × (mark.name ≡ words.now.table_id.views_name) × (slot < slots) }
     ensures seat { result.id ≡ share.id }
     ensures held { (mark : Mark T) → share.me ≡ (Has mark, []) → (result.stake ≡ stake_of mark) × (result.value ≡ Some (version_of mark)) }
@@ -260,7 +247,7 @@ pub(crate) fn give_up<T, C: Names<T>>(
 ) -> Option<Seat<Room<T>, View<T>>>
     requires fits { Fits words.now.table_id × (slot < slots) }
     requires has { (mark : Mark T) × (held.stake ≡ stake_of mark) × (mark.slot ≡ slot) × (mark.name ≡ words.now.table_id.views_name) }
-    ensures { IfSome result (λ seat. (seat.table_id ≡ words.now.table_id) × IsOut slot seat.me) }
+    ensures { IfSome result (λ seat. (seat.table_id ≡ words.now.table_id) × IsOut C.begins C.follows slot seat.me) }
 {
     let mut badge = Badge::blank();
     unclaim(words, held, &mut badge, slot);
@@ -281,7 +268,8 @@ pub(crate) fn load_last<T, C: Names<T>>(
     spots: &Spots<T>,
     badge: &mut Badge<View<T>>,
 ) -> (Held<Option<Version<T>>, View<T>>, usize)
-    requires fits { Fits words.now.table_id × (badge.old.table_id ≡ words.now.table_id) × (spots.now ≡ words.now.key) × (vec_len spots.now.places ≡ slots) × (length spots.now.places.items ≡ slots) }
+    requires spots { AreSpots words.now.table_id words.now.key spots.now }
+    requires fits { badge.old.table_id ≡ words.now.table_id }
     requires can { (reading : Reading T) × CanRead reading badge.old.views × (reading.name ≡ words.now.table_id.views_name) }
     ensures badge { (badge.new.table_id ≡ badge.old.table_id) × (badge.new.id ≡ badge.old.id) }
     ensures loaded { (reading : Reading T) → CanRead reading badge.old.views → IsLoaded C.begins C.follows reading badge.new.views result.0.stake result.0.value result.1 }

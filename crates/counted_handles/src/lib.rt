@@ -8,6 +8,8 @@
 #![tactic(auto)]
 
 mod calls;
+mod grants;
+mod made;
 mod names;
 mod owner;
 mod plays;
@@ -17,6 +19,8 @@ mod rule;
 mod view;
 
 pub use calls::Words;
+pub use grants::{deal, deal_rest};
+pub use made::{Made, make};
 pub use names::Names;
 pub use owner::{Released, Strong, load};
 pub use probed::Probed;

@@ -1,12 +1,13 @@
 //! Owners of versions.
-ghost use Rattle.std.specs.Prelude.{◌≡◌, ◌<◌, [], Some, length, vec_len};
+ghost use Rattle.std.specs.Prelude.{◌≡◌, ◌<◌, [], Some};
 ghost use Rattle.cell_core.specs.Words.{slots};
 ghost use Rattle.counted_handles.specs.declared.view.Mark.{Mark};
 ghost use Rattle.cell_core.specs.declared.words.Version.{Version};
 ghost use Rattle.counted_handles.specs.declared.view.Reading.{Reading};
 ghost use Rattle.counted_handles.specs.declared.view.View.TheVariants.{Has};
-ghost use Rattle.counted_handles.specs.Calls.{Fits, CanRead, IsOut, IsEmptied, IsOwned};
+ghost use Rattle.counted_handles.specs.Calls.{Fits, AreSpots, CanRead, IsOut, IsEmptied, IsOwned, IsReleased};
 ghost use Rattle.counted_handles.specs.Ruled.{stake_of, version_of};
+ghost use Rattle.counted_handles.specs.Tells.{IsOlder};
 
 use crate::calls::{Words, free, give_up, hold, load_last};
 use crate::names::Names;
@@ -52,9 +53,9 @@ fn empty<T, C: Names<T>>(
     seat: &mut Seat<Room<T>, View<T>>,
     slot: usize,
 ) -> Option<Version<T>>
-    requires out { (seat.old.table_id ≡ words.now.table_id) × IsOut slot seat.old.me }
+    requires out { (seat.old.table_id ≡ words.now.table_id) × IsOut C.begins C.follows slot seat.old.me }
     ensures seat { (seat.new.table_id ≡ seat.old.table_id) × (seat.new.id ≡ seat.old.id) }
-    ensures version { (mark : Mark T) × (result ≡ Some (version_of mark)) }
+    ensures version { (version : Version T) × (result ≡ Some version) × IsOlder C.begins C.follows version }
     ensures emptied { IsEmptied slot seat.new.me }
 {
     seat.slot_mut(words, slot).replace(None)
@@ -68,6 +69,7 @@ fn let_go<T: Drop, C: Names<T>>(
 ) -> Released
     requires fits { Fits words.now.table_id × (slot < slots) }
     requires has { (mark : Mark T) × (held.stake ≡ stake_of mark) × (mark.slot ≡ slot) × (mark.name ≡ words.now.table_id.views_name) }
+    ensures { IsReleased C.begins C.follows result }
 {
     let Some(mut seat) = give_up(words, held, slot) else {
         return Released::Left;
@@ -109,7 +111,8 @@ pub(crate) fn own<'a, T: Drop, C: Names<T>>(
     share: Seat<Room<T>, View<T>>,
     slot: usize,
 ) -> Strong<'a, T, C>
-    requires fits { Fits words.now.table_id × (share.table_id ≡ words.now.table_id) × (spots.now ≡ words.now.key) × (vec_len spots.now.places ≡ slots) × (length spots.now.places.items ≡ slots) }
+    requires spots { AreSpots words.now.table_id words.now.key spots.now }
+    requires fits { share.table_id ≡ words.now.table_id }
     requires has { (mark : Mark T) × (share.me ≡ (Has mark, [])) × (mark.slot ≡ slot) × (mark.name ≡ words.now.table_id.views_name) × (slot < slots) }
     ensures { (mark : Mark T) → share.me ≡ (Has mark, []) → result ≡ version_of mark }
 {
@@ -124,7 +127,8 @@ pub fn load<'a, T: Drop, C: Names<T>>(
     spots: &Spots<T>,
     badge: &mut Badge<View<T>>,
 ) -> Strong<'a, T, C>
-    requires fits { Fits words.now.table_id × (badge.old.table_id ≡ words.now.table_id) × (spots.now ≡ words.now.key) × (vec_len spots.now.places ≡ slots) × (length spots.now.places.items ≡ slots) }
+    requires spots { AreSpots words.now.table_id words.now.key spots.now }
+    requires fits { badge.old.table_id ≡ words.now.table_id }
     requires can { (reading : Reading T) × CanRead reading badge.old.views × (reading.name ≡ words.now.table_id.views_name) }
     ensures badge { (badge.new.table_id ≡ badge.old.table_id) × (badge.new.id ≡ badge.old.id) }
     ensures loaded { (reading : Reading T) → CanRead reading badge.old.views → IsOwned C.begins C.follows reading badge.new.views result }
@@ -155,7 +159,9 @@ impl<'a, T: Drop, C: Names<T>> Strong<'a, T, C> {
     }
 
     /// Gives the owner up. It waits for nobody.
-    pub fn release(self) -> Released {
+    pub fn release(self) -> Released
+        ensures { IsReleased C.begins C.follows result }
+    {
         let Strong {
             words,
             held,

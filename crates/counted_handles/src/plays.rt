@@ -40,10 +40,12 @@ impl<T> Play<Room<T>, View<T>> for Releases {
 }
 
 /// A bury.
-pub struct Buries;
+pub struct Buries<C> {
+    names: PhantomData<C>,
+}
 
-impl<T> Play<Room<T>, View<T>> for Buries {
-    ghost then = { λ _ me found new. BuryTells me.0 found new };
+impl<T, C: Names<T>> Play<Room<T>, View<T>> for Buries<C> {
+    ghost then = { λ _ me found new. BuryTells C.begins C.follows me.0 found new };
 }
 
 /// A free.

@@ -1,11 +1,11 @@
 //! Publications.
-ghost use Rattle.std.specs.Prelude.{◌≡◌, ◌+◌, ◌-◌, ◌^◌, ◌<◌, [], ◌∷◌, ◌++◌, length, vec_len, IfOk, IfErr};
+ghost use Rattle.std.specs.Prelude.{◌≡◌, ◌+◌, ◌-◌, ◌^◌, ◌<◌, [], ◌∷◌, ◌++◌, length, IfOk, IfErr};
 ghost use Rattle.cell_core.specs.Words.{slots};
 ghost use Rattle.counted_handles.specs.declared.view.Publishing.{Publishing};
 ghost use Rattle.counted_handles.specs.declared.view.Reading.{Reading};
 ghost use Rattle.counted_handles.specs.History.{IsHistory};
 ghost use Rattle.counted_handles.specs.Tells.{IsTaken};
-ghost use Rattle.counted_handles.specs.Calls.{Fits, CanRead, IsPut, CanPublish, IsOld, IsNewer, IsAtRest, IsOwnLast};
+ghost use Rattle.counted_handles.specs.Calls.{Fits, AreSpots, CanRead, IsPut, CanPublish, IsOld, IsNewer, IsAtRest, IsOwnLast};
 
 use crate::calls::{SPAN, Words, draw_newest, shelve, swap_in, take};
 use crate::names::Names;
@@ -20,6 +20,7 @@ use std::mem;
 use std::snapshot::Snapshot;
 
 /// There was no free slot: the value comes back, with the probes of all 64 slots, each of which saw another word than FREE.
+#[derive(Drop)]
 pub struct NoSlot<T> {
     /// The value that wasn't published.
     pub value: T,
@@ -58,7 +59,8 @@ pub fn publish<'a, T: Drop, C: Names<T>>(
     number: u64,
     value: T,
 ) -> Result<Strong<'a, T, C>, NoSlot<T>>
-    requires fits { Fits words.now.table_id × (badge.old.table_id ≡ words.now.table_id) × (badge.old.id ≡ 0) × (spots.now ≡ words.now.key) × (vec_len spots.now.places ≡ slots) × (length spots.now.places.items ≡ slots) }
+    requires spots { AreSpots words.now.table_id words.now.key spots.now }
+    requires fits { (badge.old.table_id ≡ words.now.table_id) × (badge.old.id ≡ 0) }
     requires room { number < 2 ^ 64 - 1 }
     requires due { (p : Publishing T) × CanPublish p badge.old.views × (length p.published ≡ number + 1) × (p.name ≡ words.now.table_id.views_name) × IsHistory C.begins C.follows (p.published ++ value ∷ []) }
     ensures badge { (badge.new.table_id ≡ badge.old.table_id) × (badge.new.id ≡ badge.old.id) }
@@ -87,7 +89,8 @@ pub fn newest<'a, T: Drop, C: Names<T>>(
     badge: &mut Badge<View<T>>,
     reader: &mut Badge<View<T>>,
 ) -> Strong<'a, T, C>
-    requires fits { Fits words.now.table_id × (badge.old.table_id ≡ words.now.table_id) × (badge.old.id ≡ 0) × (reader.old.table_id ≡ words.now.table_id) × (spots.now ≡ words.now.key) × (vec_len spots.now.places ≡ slots) × (length spots.now.places.items ≡ slots) }
+    requires spots { AreSpots words.now.table_id words.now.key spots.now }
+    requires fits { (badge.old.table_id ≡ words.now.table_id) × (badge.old.id ≡ 0) × (reader.old.table_id ≡ words.now.table_id) }
     requires can { (p : Publishing T) × (r : Reading T) × IsAtRest p badge.old.views × CanRead r reader.old.views × (p.name ≡ words.now.table_id.views_name) }
     ensures badges { (badge.new.table_id ≡ badge.old.table_id) × (badge.new.id ≡ badge.old.id) × (reader.new.table_id ≡ words.now.table_id) }
     ensures newest { (p : Publishing T) (r : Reading T) → IsAtRest p badge.old.views → CanRead r reader.old.views → IsOwnLast p r badge.new.views reader.new.views result }

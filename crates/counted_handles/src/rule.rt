@@ -11,6 +11,7 @@ use std::snapshot::Snapshot;
 pub type Room<T> = Place<Option<Version<T>>, View<T>>;
 
 /// What the table is told when it is made: where the places lie, and the first value.
+#[derive(Drop)]
 pub struct Spots<T> {
     /// Where the places lie, one a slot.
     pub places: Vec<Spot<Option<Version<T>>>>,

@@ -2,8 +2,9 @@
 ghost use Rattle.std.specs.Prelude.{◌≡◌, ◌+◌, ◌<◌, ◌≤◌, [], ◌++◌, length, map, IfOk, IfErr};
 ghost use Rattle.core.specs.Mem.Slots.{slots_items, slots_len, slots_ptr, lease_ptr, lease_len, lease_heap, IsFull};
 ghost use Rattle.std.specs.Vec.{vec_capacity};
-ghost use Rattle.raw_slots.specs.Chains.{after, IsCut, IsChain};
+ghost use Rattle.raw_slots.specs.Chains.{after, IsCut, IsChain, AreAt, HaveValues};
 
+use crate::bare::Bare;
 use crate::place::{Place, Spot};
 use crate::row::Row;
 use core::slots::{Lease, Slots, release, reserve};
@@ -81,4 +82,41 @@ pub fn unlay<T>(
         i += 1;
     }
     release(&alloc, slots, lease);
+}
+
+/// Moves the values into a row of their own, and cuts it into places. What is left of the row comes back; where there is no
+/// memory, the values.
+pub fn lay_places<T, V>(
+    alloc: Global,
+    values: Vec<T>,
+    places: &mut Vec<Place<T, V>>,
+    spots: &mut Vec<Spot<T>>,
+) -> Result<Bare<T, Global>, Vec<T>>
+    requires some { 0 < length values.items }
+    requires room { (places.old.items ≡ []) × (spots.old.items ≡ []) × (length values.items ≤ vec_capacity places.old) × (length values.items ≤ vec_capacity spots.old) }
+    ensures laid { IfOk result (λ bare. (bare.spots ≡ spots.new.items) × AreAt spots.new.items places.new.items × HaveValues values.items places.new.items × (length places.new.items ≡ length values.items)) }
+    ensures refused { IfErr result (λ left. (left.items ≡ values.items) × (places.new ≡ places.old) × (spots.new ≡ spots.old)) }
+{
+    let count = values.len();
+    let (mut row, lease) = lay(alloc, values)?;
+    cut_all(&mut row, places, spots, count);
+    let first = Spot { at: spots[0].at };
+    Ok(Bare::of(row, lease, first))
+}
+
+/// Joins the places to what is left of their row, moves the values out, and frees the memory.
+pub fn gather<T, V>(
+    alloc: Global,
+    bare: Bare<T, Global>,
+    places: Vec<Place<T, V>>,
+    values: &mut Vec<T>,
+)
+    requires places { AreAt bare.spots places.items }
+    requires room { (values.old.items ≡ []) × (length places.items ≤ vec_capacity values.old) }
+    ensures { values.new.items ≡ map (λ (y : Place T V). y.value) places.items }
+{
+    let count = places.len();
+    let (mut row, lease, first) = bare.into_parts();
+    join_all(&mut row, places, first);
+    unlay(alloc, row, lease, count, values);
 }

@@ -16,6 +16,6 @@ mod tests;
 
 pub use bare::Bare;
 pub use claims::{Tells, claim, collect, unclaim};
-pub use laid::{cut_all, join_all, lay, unlay};
+pub use laid::{cut_all, gather, join_all, lay, lay_places, unlay};
 pub use place::{Held, Keys, Place, Spot};
 pub use row::Row;

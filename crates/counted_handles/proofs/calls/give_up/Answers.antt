@@ -58,5 +58,6 @@ returns g c =
         lies = won.lies;
         version = won.version;
         whole = refl;
+        older = won.older;
       },
     )

@@ -8,10 +8,10 @@ use Rattle.counted_handles.proofs.calls.hold.Goals as goal
 pub claim-requires : goal.claim-requires
 claim-requires g c =
     let has = c.requires.has in
-    let fits = c.requires.fits in (
-      c.into_badge.ensures.0 ∙ fits.1,
-      omega (arith, has.4, fits.0.1),
-      (Has has.0, c.into_badge.ensures.2 ∙ ap (λ m. m.0 ∷ []) has.1, hold_right g.C.Names.begins g.C.Follows.follows c.args.words.now.key.places.items c.into_badge.result.id c.args.slot _ has.0 c.args.spots.now.places.items c.index.result.now has.2 has.3 (λ i. (fits.2 i).places.items) (omega (arith, fits.4, has.4)) c.index.ensures),
+    let are = c.requires.spots in (
+      c.into_badge.ensures.0 ∙ c.requires.fits,
+      omega (arith, has.4, are.fits.1),
+      (Has has.0, c.into_badge.ensures.2 ∙ ap (λ m. m.0 ∷ []) has.1, hold_right g.C.Names.begins g.C.Follows.follows c.args.words.now.key.places.items c.into_badge.result.id c.args.slot _ has.0 c.args.spots.now.places.items c.index.result.now has.2 has.3 (λ i. (are.same i).places.items) (omega (arith, are.size, has.4)) c.index.ensures),
     )
 
 pub returns-clause-held : goal.returns-clause-held

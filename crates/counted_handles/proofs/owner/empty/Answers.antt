@@ -1,4 +1,5 @@
 use Rattle.std.proofs.Common.{◌≡◌, get_or, sym, ap, ◌∙◌, ℕ, List}
+use Rattle.counted_handles.specs.Ruled.{version_of}
 use Rattle.counted_handles.specs.Shown.{Room}
 use Rattle.counted_handles.proofs.owner.empty.Goals as goal
 
@@ -6,4 +7,4 @@ pub returns-clause-version : goal.returns-clause-version
 returns-clause-version g c =
     let out = c.requires.out.1 in
     let room : c.slot_mut.result.now ≡ out.room = ap (λ (l : List (ℕ × Room g.row.T.Denot)). (get_or l 0 (0, out.room)).1) (sym c.slot_mut.ensures.value ∙ (λ i. (out.me_is i).1)) in
-    (out.mark, c.replace.ensures.0 ∙ ap (λ (y : Room g.row.T.Denot). y.value) room ∙ out.version)
+    (version_of out.mark, c.replace.ensures.0 ∙ ap (λ (y : Room g.row.T.Denot). y.value) room ∙ out.version, out.older)

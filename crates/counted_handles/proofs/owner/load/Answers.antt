@@ -7,7 +7,7 @@ pub keep-requires : goal.keep-requires
 keep-requires g c =
     let can = c.requires.can in
     let is = c.load_last-held.ensures.loaded can.0 can.1 in
-    record { fits = (c.requires.fits.0, is.within); has = (is.mark, is.stake_is, is.held_is, is.slot_is, is.name_is ∙ can.2) }
+    record { fits = (c.requires.spots.fits, is.within); has = (is.mark, is.stake_is, is.held_is, is.slot_is, is.name_is ∙ can.2) }
 
 pub returns-clause-loaded : goal.returns-clause-loaded
 returns-clause-loaded g c reading can =

@@ -28,7 +28,7 @@ put-requires-clause-fits g c =
     let seat = c.into_seat-seat in
     let view = only_one seat.result.me.0 (Publishes due.0) (sym seat.ensures.2 ∙ ap (λ b. b.views) c.replace.ensures.value ∙ due.1.0) in
     let taken = c.in-Some.ensures.taken due.0 ((λ i. (view i, seat.ensures.3 i)), due.1.1) in
-    (c.requires.fits.0, c.take.ensures.seat.0 ∙ seat.ensures.0 ∙ ap (λ b. b.table_id) c.replace.ensures.value ∙ c.requires.fits.1, c.take.ensures.seat.1 ∙ seat.ensures.1 ∙ ap (λ b. b.id) c.replace.ensures.value ∙ c.requires.fits.2, taken.0)
+    (c.requires.spots.fits, c.take.ensures.seat.0 ∙ seat.ensures.0 ∙ ap (λ b. b.table_id) c.replace.ensures.value ∙ c.requires.fits.0, c.take.ensures.seat.1 ∙ seat.ensures.1 ∙ ap (λ b. b.id) c.replace.ensures.value ∙ c.requires.fits.1, taken.0)
 
 pub into_badge-requires-2 : goal.into_badge-requires-2
 into_badge-requires-2 g c =

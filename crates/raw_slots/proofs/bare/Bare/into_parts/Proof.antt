@@ -42,5 +42,5 @@ into_parts_spec 𝓤 𝓛 𝓜 𝓡 wired T A _ _ g d dd _ _ =
     sets ! (of_opd ! (get_in ! (fld ! refl (stop !)) (sub ! 0 refl (whole !)))) refl (lone_good rw.at) $ sets ! (of_opd ! (get_in ! (fld ! refl (stop !)) (sub ! 1 refl (whole !)))) refl (lease_good p n fits) $ sets ! (of_opd ! (get_in ! (fld ! refl (stop !)) (sub ! 2 refl (whole !)))) refl (lone_good sp.at) $
     sets ! (of_opd ! (get ! refl)) refl (lone_good rw.at) $ sets ! (of_opd ! (get ! refl)) refl (lease_good p n fits) $
     sets ! (agg ! (and_then ! (get ! refl) (and_then ! (get ! refl) (and_then ! (get ! refl) (no_more !))))) refl (bare_good rw.at p sp.at n fits) $
-    let A₁ : Type 0 = (rw ≡ rw) × (le ≡ le) × (sp ≡ sp) in let A₂ : Type 0 = IsBare R rw.at rw.total rw.values sp.at p n in use0 𝓛 (raw (fact 𝓤 A₂)) (fact_i 𝓤 A₂ (emp 𝓤) known) $ use0 𝓛 (raw (fact 𝓤 A₁)) (fact_i 𝓤 A₁ (emp 𝓤) (refl, refl, refl)) $ join ! $ nothing ! $ nothing ! $ fjoin ! $
+    let A₁ : Type 0 = (rw ≡ rw) × (le ≡ le) × (sp ≡ sp) in let A₂ : Type 0 = IsBare R rw.at rw.total rw.values sp.at p n x.spots in use0 𝓛 (raw (fact 𝓤 A₂)) (fact_i 𝓤 A₂ (emp 𝓤) known) $ use0 𝓛 (raw (fact 𝓤 A₁)) (fact_i 𝓤 A₁ (emp 𝓤) (refl, refl, refl)) $ join ! $ nothing ! $ nothing ! $ fjoin ! $
     returns ! (look_at ! 0 refl) $ free_all ! refl $ keep ! (3 ∷ 0 ∷ 2 ∷ 1 ∷ []) $ by ! (leaves 𝓛 En hs c y u (rw, le, sp) ((tt, (tt, tt)), tt) (tt, tt)))))))))

@@ -1,0 +1,39 @@
+//! How the publisher of a new cell hands its grants out.
+ghost use Rattle.std.specs.Prelude.{◌≡◌, ◌≤◌, [], ◌∷◌, None};
+ghost use Rattle.counted_handles.specs.declared.view.Publishing.{Publishing};
+ghost use Rattle.counted_handles.specs.declared.view.View.TheVariants.{Publishes};
+ghost use Rattle.counted_handles.specs.Calls.{Fits};
+ghost use Rattle.counted_handles.specs.Cuts.{dealt_grants, with_reader, reader_of};
+
+use crate::calls::Words;
+use crate::names::Names;
+use crate::plays;
+use crate::view::View;
+use atomic_table::Badge;
+use std::mem;
+
+/// A reader with 2^40 grants goes off the publisher's token.
+pub fn deal<T, C: Names<T>>(words: &Words<T, C>, badge: &mut Badge<View<T>>) -> Badge<View<T>>
+    requires fits { Fits words.now.table_id × (badge.old.table_id ≡ words.now.table_id) }
+    requires enough { (p : Publishing T) × (badge.old.views ≡ Publishes p ∷ []) × (p.share ≡ None) × (dealt_grants ≤ p.left) }
+    ensures badges { (badge.new.table_id ≡ badge.old.table_id) × (badge.new.id ≡ badge.old.id) × (result.table_id ≡ badge.old.table_id) }
+    ensures dealt { (p : Publishing T) → badge.old.views ≡ Publishes p ∷ [] → (badge.new.views ≡ Publishes (with_reader p dealt_grants) ∷ []) × (result.views ≡ reader_of p dealt_grants ∷ []) }
+{
+    let mut seat = mem::replace(badge, Badge::blank()).into_seat();
+    let reader = words.split_seat::<plays::Deals>(&mut seat);
+    *badge = seat.into_badge();
+    reader.into_badge()
+}
+
+/// A reader with all grants that are left goes off the publisher's token.
+pub fn deal_rest<T, C: Names<T>>(words: &Words<T, C>, badge: &mut Badge<View<T>>) -> Badge<View<T>>
+    requires fits { Fits words.now.table_id × (badge.old.table_id ≡ words.now.table_id) }
+    requires whole { (p : Publishing T) × (badge.old.views ≡ Publishes p ∷ []) × (p.share ≡ None) }
+    ensures badges { (badge.new.table_id ≡ badge.old.table_id) × (badge.new.id ≡ badge.old.id) × (result.table_id ≡ badge.old.table_id) }
+    ensures dealt { (p : Publishing T) → badge.old.views ≡ Publishes p ∷ [] → (badge.new.views ≡ Publishes (with_reader p p.left) ∷ []) × (result.views ≡ reader_of p p.left ∷ []) }
+{
+    let mut seat = mem::replace(badge, Badge::blank()).into_seat();
+    let reader = words.split_seat::<plays::Rests>(&mut seat);
+    *badge = seat.into_badge();
+    reader.into_badge()
+}

@@ -1,0 +1,181 @@
+//! The cell, and its calls.
+ghost use Rattle.std.specs.Prelude.{◌≡◌, ◌↔◌, ◌<◌, ◌≤◌, ◌-◌, ◌^◌, [], vec_len, IfOk, IfErr, IsErrOf};
+ghost use Rattle.std.specs.Vec.{vec_capacity};
+ghost use Rattle.std.specs.List.{All};
+ghost use Rattle.cell_core.specs.Words.{slots};
+ghost use Rattle.counted_handles.specs.Calls.{Fits};
+ghost use Rattle.counted_handles.specs.Opens.{IsBegun};
+ghost use Rattle.word_cell.specs.Tokens.{IsDealing, IsLoad, first_publisher, first_reader, published_next};
+
+use crate::fault::{NewFault, Spent};
+use crate::tokens::{LOADS, Publisher, READERS, Reader};
+use atomic_table::{Badge, Table};
+use cell_core::Version;
+use counted_handles::{
+    Made, Names, NoSlot, Room, Rule, Spots, Strong, View, Words, deal, deal_rest, make,
+};
+use raw_slots::Bare;
+use std::alloc::Global;
+use std::marker::{Model, PhantomData};
+use std::snapshot::Snapshot;
+
+/// A cell: the words and the places of its versions. Contracts see which one it is.
+pub struct Cell<T, C: Names<T>> {
+    table: Table<Room<T>, View<T>, Spots<T>, Rule<C>, Global>,
+    spots: Spots<T>,
+    bare: Bare<Option<Version<T>>, Global>,
+}
+
+impl<T, C: Names<T>> Model for Cell<T, C> {
+    ghost use Rattle.std.specs.Prelude.{◌≡◌};
+    ghost use Rattle.atomic_table.specs.Seated.{TableId, table_id_coded};
+    ghost use Rattle.counted_handles.specs.Calls.{AreSpots};
+
+    ghost Value = { TableId };
+
+    ghost coded = { table_id_coded };
+
+    ghost view = { λ a. a.table.shared.table_id };
+
+    ghost invariant = { λ a. AreSpots a.table.shared.table_id a.table.shared.key a.spots × (a.bare.spots ≡ a.spots.places.items) };
+}
+
+/// A cell with its publisher and its readers.
+pub struct Parts<T, C: Names<T>> {
+    /// The cell.
+    pub cell: Cell<T, C>,
+    /// The one who publishes.
+    pub publisher: Publisher<T, C>,
+    /// Those who load.
+    pub readers: Vec<Reader<T>>,
+}
+
+// So many readers go off the publisher's token of a new cell.
+fn deal_all<T, C: Names<T>>(
+    words: &Words<T, C>,
+    badge: &mut Badge<View<T>>,
+    readers: &mut Vec<Reader<T>>,
+    count: usize,
+)
+    requires fits { Fits words.now.table_id × (badge.old.table_id ≡ words.now.table_id) }
+    requires begun { (value : T) × IsBegun value words.now.table_id.views_name badge.old.views }
+    requires room { (readers.old.items ≡ []) × (count ≤ vec_capacity readers.old) × (count ≤ 64) }
+    ensures badge { (badge.new.table_id ≡ badge.old.table_id) × (badge.new.id ≡ badge.old.id) }
+    ensures dealing { (value : T) → IsBegun value words.now.table_id.views_name badge.old.views → IsDealing value words.now.table_id.views_name count badge.new.views }
+    ensures readers { (value : T) → IsBegun value words.now.table_id.views_name badge.old.views → All (λ r. r ≡ first_reader words.now.table_id value) readers.new.items }
+    ensures count { vec_len readers.new ≡ count }
+{
+    let mut dealt = 0;
+    while dealt < count {
+        let badge = deal(words, badge);
+        readers.push_reserved(Reader { badge, left: LOADS });
+        dealt += 1;
+    }
+}
+
+impl<T: Drop, C: Names<T>> Cell<T, C> {
+    /// A cell whose first version has number 0 and this value, with its publisher and so many readers.
+    /// [`NewFault::TooManyReaders`] exactly where there would be more than [`READERS`]; [`NewFault::NoMemory`] where a growth
+    /// was refused. At both the value is dropped.
+    pub fn new(alloc: Global, readers: usize, first: T) -> Result<Parts<T, C>, NewFault>
+        requires { C.begins first }
+        ensures publisher { IfOk result (λ parts. parts.publisher ≡ first_publisher parts.cell first) }
+        ensures readers { IfOk result (λ parts. All (λ r. r ≡ first_reader parts.cell first) parts.readers.items × (vec_len parts.readers ≡ readers)) }
+        ensures too_many { IsErrOf result NewFault.TooManyReaders ↔ (READERS < readers) }
+    {
+        if readers > READERS {
+            return Err(NewFault::TooManyReaders);
+        }
+        let last = Snapshot::of(&first);
+        let mut tokens = Vec::with_capacity(alloc, readers)
+            .ok()
+            .ok_or(NewFault::NoMemory)?;
+        let Some(made) = make(alloc, first) else {
+            return Err(NewFault::NoMemory);
+        };
+        let Made {
+            table,
+            mut badge,
+            spots,
+            bare,
+        } = made;
+        deal_all(&table.shared, &mut badge, &mut tokens, readers);
+        let spare = deal_rest(&table.shared, &mut badge);
+        Ok(Parts {
+            cell: Cell { table, spots, bare },
+            publisher: Publisher {
+                badge,
+                spare,
+                number: 0,
+                last,
+                names: PhantomData,
+            },
+            readers: tokens,
+        })
+    }
+
+    /// An owner of the version published last, by one addition to a word. [`Spent`] where the reader has no grant left. It waits
+    /// for nobody.
+    pub fn load(&self, reader: &mut Reader<T>) -> Result<Strong<'_, T, C>, Spent>
+        requires { reader.old.cell ≡ self.now }
+        ensures loaded { IfOk result (λ strong. IsLoad C.begins C.follows reader.old reader.new strong) }
+        ensures spent { IfErr result (λ _. (reader.old.left ≡ 0) × (reader.new ≡ reader.old)) }
+    {
+        if reader.left == 0 {
+            return Err(Spent);
+        }
+        reader.left -= 1;
+        Ok(counted_handles::load(&self.table.shared, &self.spots, &mut reader.badge))
+    }
+
+    /// An owner of the version that its publisher published last. The reader has then seen all that is published. [`Spent`] where
+    /// it has no grant left. It waits for nobody.
+    pub fn newest(
+        &self,
+        publisher: &mut Publisher<T, C>,
+        reader: &mut Reader<T>,
+    ) -> Result<Strong<'_, T, C>, Spent>
+        requires { (publisher.old.cell ≡ self.now) × (reader.old.cell ≡ self.now) }
+        ensures newest { IfOk result (λ strong. (strong ≡ record { number = publisher.old.number; value = publisher.old.value }) × (reader.new ≡ record { cell = self.now; seen = publisher.old.published; left = reader.old.left - 1 }) × (0 < reader.old.left)) }
+        ensures same { publisher.new ≡ publisher.old }
+        ensures spent { IfErr result (λ _. (reader.old.left ≡ 0) × (reader.new ≡ reader.old)) }
+    {
+        if reader.left == 0 {
+            return Err(Spent);
+        }
+        reader.left -= 1;
+        Ok(counted_handles::newest(
+            &self.table.shared,
+            &self.spots,
+            &mut publisher.badge,
+            &mut reader.badge,
+        ))
+    }
+
+    /// Publishes a value that may follow the last one, and gives the old version's owner. [`NoSlot`] with the value where this
+    /// call saw none of the 64 slots free: nothing is then published. It waits for nobody.
+    pub fn publish(
+        &self,
+        publisher: &mut Publisher<T, C>,
+        value: T,
+    ) -> Result<Strong<'_, T, C>, NoSlot<T>>
+        requires cell { publisher.old.cell ≡ self.now }
+        requires room { publisher.old.number < 2 ^ 64 - 1 }
+        requires follows { C.follows publisher.old.value value }
+        ensures old { IfOk result (λ strong. strong ≡ record { number = publisher.old.number; value = publisher.old.value }) }
+        ensures published { IfOk result (λ _. publisher.new ≡ published_next publisher.old value) }
+        ensures refused { IfErr result (λ refused. (refused.value ≡ value) × (refused.probed ≡ slots) × (publisher.new ≡ publisher.old)) }
+    {
+        let last = Snapshot::of(&value);
+        let old = counted_handles::publish(
+            &self.table.shared,
+            &self.spots,
+            &mut publisher.badge,
+            publisher.number,
+            value,
+        )?;
+        publisher.number += 1;
+        publisher.last = last;
+        Ok(old)
+    }
+}

@@ -1,0 +1,19 @@
+//! The cell on words that threads share: the version of a value that was published last, which readers load while others are
+//! published after it.
+//!
+//! A [`Cell`] keeps the last version, a number and a value, and those before it that somebody owns. A [`Reader`] loads the last
+//! one, by one addition to a word whatever else is under way, and is given a [`Strong`], an owner that keeps its version whatever
+//! is published after it. The one [`Publisher`] publishes. No call waits for another. Contracts see an owner as its version, the
+//! publisher as all that is published, and a reader as a beginning of it, which it has seen.
+#![tactic(auto)]
+
+mod cell;
+mod fault;
+mod named;
+mod tokens;
+
+pub use cell::{Cell, Parts};
+pub use counted_handles::{Names, NoSlot, Released, Strong};
+pub use fault::{NewFault, Spent};
+pub use named::{NamedCell, NamedPublisher, NamedReader, Naming};
+pub use tokens::{Publisher, READERS, Reader};
