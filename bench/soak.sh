@@ -46,7 +46,7 @@ for _ in $(seq 100); do ! grep -q '^listening on' "$work/log" || break; sleep 0.
 grep -q '^listening on' "$work/log" || { cat "$work/log" >&2; exit 2; }
 
 # the zone that a server holds, in order
-held() { dig @127.0.0.1 -p "$1" +noedns +noall +answer +onesoa example.test. axfr | awk 'NF { $1 = $1; print }' | LC_ALL=C sort; }
+held() { dig @127.0.0.1 -p "$1" +noall +answer +onesoa example.test. axfr | awk 'NF { $1 = $1; print }' | LC_ALL=C sort; }
 second=0
 if [ $transfers = yes ] && command -v knotd >/dev/null && command -v dig >/dev/null; then
     if [ "$(held "$port" | wc -l)" -gt 20 ]; then

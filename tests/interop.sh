@@ -31,86 +31,14 @@ for command in $needed; do
     }
 done
 
-work=$(mktemp -d)
-started=()
-finish() {
-    for pid in ${started[@]+"${started[@]}"}; do kill "$pid" 2>/dev/null || true; done
-    wait 2>/dev/null || true
-    rm -rf "$work"
-}
-trap finish EXIT
+. tests/asking.sh
 
-passed=0
-failed=0
-# Tells a check: what it is, what was expected, what came.
-check() {
-    if [ "$2" = "$3" ]; then
-        passed=$((passed + 1))
-        echo "ok     $1"
-    else
-        failed=$((failed + 1))
-        echo "FAILED $1"
-        diff <(echo "$2") <(echo "$3") | sed 's/^/           /' | cut -c1-300 || true
-    fi
-}
-
-# Starts the server over a zone's file, with these options, and waits until it says that it listens.
-serve() {
-    "$program" serve --listen "127.0.0.1:$port" --workers 8 "${@:2}" "$1" 2>"$work/dnsd.log" &
-    server=$!
-    started+=("$server")
-    for _ in $(seq 100); do
-        ! grep -q '^listening on' "$work/dnsd.log" || return 0
-        kill -0 "$server" 2>/dev/null || break
-        sleep 0.05
-    done
-    cat "$work/dnsd.log" >&2
-    echo "interop: dnsd doesn't listen on 127.0.0.1:$port" >&2
-    exit 2
-}
-
-# Ends the server.
-unserve() {
-    kill "$server"
-    wait "$server" 2>/dev/null || true
-}
-
-d=example.test.
-# Records of an owner under example.test. (@: itself), each with TTL 3600.
-rr() {
-    local owner=$1.$d type=$2
-    [ "$1" != @ ] || owner=$d
-    shift 2
-    for data; do echo "$owner 3600 IN $type $data"; done
-}
-
-# What dig or kdig printed, as: the status and the flags; then the sections that aren't empty, each by its name and its records in order.
-reply() {
-    awk '
-        /->>HEADER<<-/ { match($0, /status: [A-Z]+/); status = substr($0, RSTART + 8, RLENGTH - 8); sub(/NOTIMPL/, "NOTIMP", status) }
-        /^;; [Ff]lags:/ { sub(/^;; [Ff]lags: */, ""); sub(/;.*/, ""); print status " " $0; next }
-        /^;; [A-Z]+ SECTION:/ { section = $2; next }
-        /^$/ { section = "" }
-        section ~ /^(ANSWER|AUTHORITY|ADDITIONAL)$/ && !/^;/ { $1 = $1; print section " " $0 | "LC_ALL=C sort" }
-    '
-}
-
-# The same form of what is expected: status and flags, and the sections' records.
-expected() {
-    echo "$1"
-    {
-        [ -z "${2:-}" ] || sed 's/^/ANSWER /' <<<"$2"
-        [ -z "${3:-}" ] || sed 's/^/AUTHORITY /' <<<"$3"
-        [ -z "${4:-}" ] || sed 's/^/ADDITIONAL /' <<<"$4"
-    } | LC_ALL=C sort
-}
-
-# Asks by a program and a transport (udp or tcp): the words behind them are dig's.
+# Asks by a program and a transport (udp or tcp): the words behind them are dig's. dig asks with an OPT record by default, kdig without one.
 asked() {
     local tool=$1 over=+notcp
     [ "$2" = udp ] || over=+tcp
     shift 2
-    "$tool" @127.0.0.1 -p "$port" +noedns +ignore $over +retry=0 +timeout=5 "$@" 2>&1 | reply
+    "$tool" @127.0.0.1 -p "$port" +ignore $over +retry=0 +timeout=5 "$@" 2>&1 | reply
 }
 
 # Asks by both programs, or by those of `tools`, over these transports, and compares: TRANSPORTS WORDS STATUS-AND-FLAGS ANSWER AUTHORITY ADDITIONAL
@@ -203,17 +131,21 @@ $web_aaaa"
     # the spelling asked is kept (RFC 4343, 4.1); kdig asks in lower case
     tools=dig ask "$both" "WwW.ExAmPlE.tEsT. A" "$ok" "WwW.ExAmPlE.tEsT. 3600 IN CNAME web.$d
 $web_a"
-    # over 512 octets (RFC 1035, 4.2.1; RFC 2181, 9)
-    ask udp "big.$d TXT" 'NOERROR qr aa tc rd'
+    # over 512 octets (RFC 1035, 4.2.1; RFC 2181, 9), with EDNS over 1,232 (RFC 6891, 6.2.3)
+    tools=kdig ask udp "big.$d TXT" 'NOERROR qr aa tc rd'
+    tools=dig ask udp "big.$d TXT" "$ok" "$big"
     ask tcp "big.$d TXT" "$ok" "$big"
-    ask udp "m.$d MX" "$ok" "$exchanges"
+    tools=kdig ask udp "m.$d MX" "$ok" "$exchanges"
+    tools=dig ask udp "m.$d MX" "$ok" "$exchanges" '' "$web_a
+$web_aaaa"
     ask tcp "m.$d MX" "$ok" "$exchanges" '' "$web_a
 $web_aaaa"
     ask "$both" "host.example.net. A" 'REFUSED qr rd'
     ask "$both" "web.$d A -c CH" 'REFUSED qr rd'
     ask "$both" "web.$d TYPE253" 'NOTIMP qr rd'
-    # EDNS isn't there: such a request gets FORMERR (RFC 6891, 7)
-    ask "$both" "web.$d A +edns=0" 'FORMERR qr rd'
+    # with an OPT record, and without one
+    ask "$both" "web.$d A +edns=0" "$ok" "$web_a"
+    ask "$both" "web.$d A +noedns" "$ok" "$web_a"
 }
 
 # Sends an update by a program over a transport, its lines from standard input, and prints the code that it got.
@@ -235,7 +167,7 @@ change() {
 # Compares what a name owns of a type, as dig prints it; of none the code.
 holds() {
     local got
-    got=$(dig @127.0.0.1 -p "$port" +noedns +tcp "$1" "$2" | reply | awk '
+    got=$(dig @127.0.0.1 -p "$port" +tcp "$1" "$2" | reply | awk '
         NR == 1 { code = $1 }
         $1 == "ANSWER" { n++; sub(/^ANSWER /, ""); print }
         END { if (!n) print code }')
@@ -243,7 +175,7 @@ holds() {
 }
 
 serial() {
-    dig @127.0.0.1 -p "$1" +noedns +short "$d" SOA 2>/dev/null | awk '{ print $3 }'
+    dig @127.0.0.1 -p "$1" +short "$d" SOA 2>/dev/null | awk '{ print $3 }'
 }
 
 # A prerequisite that holds, in front of an add of a name of its own, which is there afterwards.
@@ -365,12 +297,12 @@ plain() {
 
 # The list of a transfer that dig reads, as it comes: words of dig's.
 transferred() {
-    dig @127.0.0.1 -p "$port" +noedns +noall +answer +onesoa "$@" 2>&1 | plain
+    dig @127.0.0.1 -p "$port" +noall +answer +onesoa "$@" 2>&1 | plain
 }
 
 # The zone that a server holds, in order, or what dig tells where it sends none.
 held() {
-    dig @127.0.0.1 -p "$1" +noedns +noall +answer +onesoa "$d" axfr 2>&1 | awk 'NF { $1 = $1; print }' | LC_ALL=C sort
+    dig @127.0.0.1 -p "$1" +noall +answer +onesoa "$d" axfr 2>&1 | awk 'NF { $1 = $1; print }' | LC_ALL=C sort
 }
 
 # The SOA with another serial.
@@ -389,12 +321,12 @@ zone_with() {
 # Transfers as dig reads them (RFC 5936; RFC 1995, 4).
 reads_transfers() {
     local tool=nsupdate over=udp list
-    list=$(dig @127.0.0.1 -p "$port" +noedns +noall +answer "$d" axfr | plain)
+    list=$(dig @127.0.0.1 -p "$port" +noall +answer "$d" axfr | plain)
     check "dig axfr, its first record" "$soa" "$(head -1 <<<"$list")"
     check "dig axfr, its last record" "$soa" "$(tail -1 <<<"$list")"
     check "dig axfr, its records" "$(zone_with <<<"$soa")" "$(sed '$d' <<<"$list" | LC_ALL=C sort)"
     check "kdig axfr, its records" "$(zone_with <<<"$soa")" \
-        "$(kdig @127.0.0.1 -p "$port" +noedns "$d" axfr | plain | sed '$d' | LC_ALL=C sort)"
+        "$(kdig @127.0.0.1 -p "$port" "$d" axfr | plain | sed '$d' | LC_ALL=C sort)"
     change NOERROR "update add new.$d 3600 A 192.0.2.77"
     change NOERROR "update delete new.$d A 192.0.2.77"$'\n'"update add more.$d 3600 TXT \"more\""
     local first second
@@ -412,7 +344,7 @@ $(soa_at 3)" "$(transferred "$d" ixfr=1)"
     check "kdig ixfr=1, both changes" "$(soa_at 3)
 $first
 $second
-$(soa_at 3)" "$(kdig @127.0.0.1 -p "$port" +noedns "$d" ixfr=1 | plain)"
+$(soa_at 3)" "$(kdig @127.0.0.1 -p "$port" "$d" ixfr=1 | plain)"
     check "dig ixfr=2, one change" "$(soa_at 3)
 $second
 $(soa_at 3)" "$(transferred "$d" ixfr=2)"
@@ -424,7 +356,7 @@ $(soa_at 3)" "$(transferred "$d" ixfr=2)"
 $first
 $second
 $(soa_at 3)" "$(transferred "$d" ixfr=1 +notcp)"
-    check "dig axfr of a name below the apex" "; Transfer failed." "$(dig @127.0.0.1 -p "$port" +noedns "web.$d" axfr | grep '^; T' || true)"
+    check "dig axfr of a name below the apex" "; Transfer failed." "$(dig @127.0.0.1 -p "$port" "web.$d" axfr | grep '^; T' || true)"
     check "kdig axfr of a name below the apex" NOTAUTH "$(refusal "web.$d" axfr)"
     check "kdig axfr from an address that may not" REFUSED "$(refusal "$d" axfr -b 127.0.0.2)"
     check "kdig ixfr=1 from an address that may not" REFUSED "$(refusal "$d" ixfr=1 -b 127.0.0.2)"
@@ -432,10 +364,10 @@ $(soa_at 3)" "$(transferred "$d" ixfr=1 +notcp)"
 
 # The code that a transfer gets, as kdig tells it.
 refusal() {
-    kdig @127.0.0.1 -p "$port" +noedns "$@" 2>&1 | sed -nE "s/.*replied with error '([A-Z]+)'.*/\1/p" | sed 's/NOTIMPL/NOTIMP/' | head -1
+    kdig @127.0.0.1 -p "$port" "$@" 2>&1 | sed -nE "s/.*replied with error '([A-Z]+)'.*/\1/p" | sed 's/NOTIMPL/NOTIMP/' | head -1
 }
 
-# BIND as a secondary, on a port. Requests to the primary go without EDNS.
+# BIND as a secondary, on a port.
 start_named() {
     mkdir "$work/named"
     cat >"$work/named.conf" <<end
@@ -446,7 +378,6 @@ options {
     min-refresh-time 2; max-refresh-time 2; min-retry-time 2; max-retry-time 2;
 };
 controls { };
-server 127.0.0.1 { edns no; };
 zone "example.test" { type secondary; primaries port $port { 127.0.0.1; }; file "zone"; masterfile-format text; };
 end
     named -g -n 1 -c "$work/named.conf" >"$work/named.log" 2>&1 &

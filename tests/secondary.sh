@@ -14,7 +14,6 @@ database:
 remote:
   - id: primary
     address: 127.0.0.1@$3
-    no-edns: on
 acl:
   - id: readers
     address: 127.0.0.1
