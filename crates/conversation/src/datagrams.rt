@@ -1,5 +1,6 @@
 //! Requests and replies as datagrams (RFC 1035, 4.2.1).
 ghost use Rattle.std.specs.Prelude.{◌≡◌, ℕ, ◌≤◌, List, length, take, Option, None, IfSome};
+ghost use Rattle.dns_message.specs.Message.{message_limit};
 ghost use Rattle.conversation.specs.Datagrams.{Datagram, Receives, SendsOrFails, count_of};
 
 use std::net::SocketAddr;
@@ -16,7 +17,7 @@ pub trait Datagrams {
     /// Receives a datagram into the front of a buffer that has room for any, and gives how many octets it has there and who sent it.
     /// None where the receiving fails, which is counted.
     fn receive(&mut self, buf: &mut [u8]) -> Option<(usize, SocketAddr)>
-        requires { 65535 ≤ length buf.old }
+        requires { message_limit ≤ length buf.old }
         ensures bound { IfSome result (λ received. received.0 ≤ length buf.new) }
         ensures receives { IfSome result (λ received. Receives (datagrams self.old) (datagrams self.new) (take received.0 buf.new, received.1)) }
         ensures same { IfSome result (λ _. failed self.new ≡ failed self.old) }

@@ -3,6 +3,7 @@ ghost use Rattle.std.specs.Prelude.{◌≡◌, ℕ, ◌+◌, ◌-◌, ◌*◌, �
 ghost use Rattle.std.specs.Result.{IsErrOf};
 ghost use Rattle.std.specs.Int.{w16, to_be_bytes};
 ghost use Rattle.dns_message.specs.Frame.{frame_of};
+ghost use Rattle.dns_message.specs.Message.{message_limit};
 ghost use Rattle.conversation.specs.Octets.{Gives, Takes, IsAtEnd};
 ghost use Rattle.conversation.specs.Cut.{IsCutAs};
 ghost use Rattle.conversation.specs.declared.frames.Cut.{Cut as CutAs};
@@ -93,7 +94,7 @@ pub(crate) fn read_frame<S: Stream>(
     message: &mut [u8],
 ) -> Result<usize, Cut>
     requires counting { stream.old.faults < 2 ^ 64 - 1 }
-    requires room { 65535 ≤ length message.old }
+    requires room { message_limit ≤ length message.old }
     ensures bound { IfOk result (λ n. n ≤ length message.new) }
     ensures frame { IfOk result (λ n. Gives (S.octets stream.old.inner) (S.octets stream.new.inner) (frame_of (take n message.new))) }
     ensures cut { IfErr result (λ cut. IsCutAs cut (S.octets stream.old.inner) (S.octets stream.new.inner)) }

@@ -1,5 +1,6 @@
 //! Requests of a stream, answered one after another (RFC 1035, 4.2.2).
-ghost use Rattle.std.specs.Prelude.{◌≡◌, ℕ, ◌-◌, ◌^◌, ◌<◌, ◌≤◌, List, length, IfOk, IfErr, IfSome, OnOk};
+ghost use Rattle.std.specs.Prelude.{◌≡◌, ℕ, ◌+◌, ◌-◌, ◌^◌, ◌<◌, ◌≤◌, List, length, IfOk, IfErr, IfSome, OnOk};
+ghost use Rattle.dns_message.specs.Message.{message_limit};
 ghost use Rattle.zone_tree.specs.Version.{Version};
 ghost use Rattle.std.specs.Result.{IsErrOf};
 ghost use Rattle.conversation.specs.Octets.{messages_in};
@@ -55,10 +56,10 @@ pub trait Answering {
         request: &[u8],
         out: &mut [u8],
     ) -> Result<Option<usize>, Spent>
-        requires { 65535 ≤ length out.old }
+        requires { message_limit ≤ length out.old }
         ensures same { peer self.new ≡ peer self.old }
         ensures grows { BeginsWith (seen self.new) (seen self.old) }
-        ensures bound { IfOk result (λ len. IfSome len (λ n. (n < 65536) × (n ≤ length out.new))) }
+        ensures bound { IfOk result (λ len. IfSome len (λ n. (n ≤ message_limit) × (n ≤ length out.new))) }
         ensures reply { IfOk result (λ len. is_reply (by_datagram (peer self.old)) (seen self.new) request.now (messages_in len out.new)) };
 
     /// Answers a request of a stream: writes the frames of the reply's messages, in their order, by way of buffers for a message and for
@@ -72,8 +73,8 @@ pub trait Answering {
         frame: &mut [u8],
     ) -> Result<(), Broken>
         requires counting { stream.old.faults < 2 ^ 64 - 1 }
-        requires reply_room { 65535 ≤ length out.old }
-        requires frame_room { 65537 ≤ length frame.old }
+        requires reply_room { message_limit ≤ length out.old }
+        requires frame_room { message_limit + 2 ≤ length frame.old }
         ensures peer { peer self.new ≡ peer self.old }
         ensures grows { BeginsWith (seen self.new) (seen self.old) }
         ensures replied { OnOk result (Replies (is_reply (peer self.old)) (seen self.old) request.now (seen self.new) (S.octets stream.old.inner) (S.octets stream.new.inner)) }
@@ -95,9 +96,9 @@ pub fn serve_stream<R: Wait, A: Answering, S: Stream, G: Gate>(
     frame: &mut [u8],
 ) -> StreamEnd
     requires counting { stream.old.faults < 2 ^ 64 - 1 }
-    requires request_room { 65535 ≤ length request.old }
-    requires reply_room { 65535 ≤ length out.old }
-    requires frame_room { 65537 ≤ length frame.old }
+    requires request_room { message_limit ≤ length request.old }
+    requires reply_room { message_limit ≤ length out.old }
+    requires frame_room { message_limit + 2 ≤ length frame.old }
     ensures served { IfSome (S.octets stream.old.inner) (λ o. EndsAs (A.is_reply (A.peer answering.old)) result (A.seen answering.old) o (A.seen answering.new) (S.octets stream.new.inner)) }
     ensures device { result ≡ End.Device → stream.old.faults < stream.new.faults }
 {

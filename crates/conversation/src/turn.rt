@@ -2,6 +2,7 @@
 ghost use Rattle.std.specs.Prelude.{◌≡◌, ◌+◌, ◌-◌, ◌^◌, ◌<◌, ◌≤◌, ℕ, List, ◌++◌, length, take, Some, None, IfErr, IfSome, OnOk, OnErr};
 ghost use Rattle.conversation.specs.Octets.{Takes};
 ghost use Rattle.dns_message.specs.Frame.{frame_of};
+ghost use Rattle.dns_message.specs.Message.{message_limit};
 ghost use Rattle.conversation.specs.Served.{BeginsWith};
 ghost use Rattle.conversation.specs.Turns.{TurnsAs, end_of};
 ghost use Rattle.conversation.specs.declared.turn.Broken.{Broken as BrokenBy};
@@ -37,8 +38,8 @@ impl Broken {
 
 /// Puts a message's frame to the front of a buffer, and gives how many octets that is.
 fn framed(message: &[u8], frame: &mut [u8]) -> usize
-    requires most { length message.now ≤ 65535 }
-    requires room { 65537 ≤ length frame.old }
+    requires most { length message.now ≤ message_limit }
+    requires room { message_limit + 2 ≤ length frame.old }
     ensures len { result ≡ length message.now + 2 }
     ensures bound { result ≤ length frame.new }
     ensures frame { take result frame.new ≡ frame_of message.now }
@@ -56,8 +57,8 @@ pub fn write_frame<S: Stream>(
     frame: &mut [u8],
 ) -> Result<(), Broken>
     requires counting { stream.old.faults < 2 ^ 64 - 1 }
-    requires most { length message.now ≤ 65535 }
-    requires room { 65537 ≤ length frame.old }
+    requires most { length message.now ≤ message_limit }
+    requires room { message_limit + 2 ≤ length frame.old }
     ensures whole { OnOk result (Takes (S.octets stream.old.inner) (S.octets stream.new.inner) (frame_of message.now)) }
     ensures same { OnOk result (stream.new.faults ≡ stream.old.faults) }
     ensures part { OnErr result ((front back : List ℕ) × (frame_of message.now ≡ front ++ back) × Takes (S.octets stream.old.inner) (S.octets stream.new.inner) front) }
@@ -82,9 +83,9 @@ pub(crate) fn turn<R: Wait, A: Answering, S: Stream, G: Gate>(
     frame: &mut [u8],
 ) -> Option<StreamEnd>
     requires counting { stream.old.faults < 2 ^ 64 - 1 }
-    requires request_room { 65535 ≤ length request.old }
-    requires reply_room { 65535 ≤ length out.old }
-    requires frame_room { 65537 ≤ length frame.old }
+    requires request_room { message_limit ≤ length request.old }
+    requires reply_room { message_limit ≤ length out.old }
+    requires frame_room { message_limit + 2 ≤ length frame.old }
     ensures peer { A.peer answering.new ≡ A.peer answering.old }
     ensures turns { IfSome (S.octets stream.old.inner) (λ o. TurnsAs (A.is_reply (A.peer answering.old)) result (A.seen answering.old) o (A.seen answering.new) (S.octets stream.new.inner)) }
     ensures same { result ≡ None → stream.new.faults ≡ stream.old.faults }

@@ -11,8 +11,6 @@ mod claims;
 mod laid;
 mod place;
 mod row;
-#[cfg(test)]
-mod tests;
 
 pub use bare::Bare;
 pub use claims::{Tells, claim, collect, unclaim};

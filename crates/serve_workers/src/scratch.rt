@@ -1,5 +1,6 @@
 //! The buffers of a worker.
-ghost use Rattle.std.specs.Prelude.{◌≡◌, length};
+ghost use Rattle.std.specs.Prelude.{◌≡◌, ◌+◌, length};
+ghost use Rattle.dns_message.specs.Message.{message_limit};
 
 use dns_message::MAX_LIMIT;
 use std::alloc::{AllocError, Global};
@@ -13,9 +14,9 @@ pub struct Scratch {
     pub(crate) request: Vec<u8>,
     pub(crate) reply: Vec<u8>,
     pub(crate) frame: Vec<u8>,
-    ghost request_room: { length request.items ≡ 65535 },
-    ghost reply_room: { length reply.items ≡ 65535 },
-    ghost frame_room: { length frame.items ≡ 65537 },
+    ghost request_room: { length request.items ≡ message_limit },
+    ghost reply_room: { length reply.items ≡ message_limit },
+    ghost frame_room: { length frame.items ≡ message_limit + 2 },
 }
 
 impl Scratch {

@@ -1,5 +1,6 @@
 //! The requests that lie in memory, answered.
-ghost use Rattle.std.specs.Prelude.{◌≤◌, length, Some};
+ghost use Rattle.std.specs.Prelude.{◌+◌, ◌≤◌, length, Some};
+ghost use Rattle.dns_message.specs.Message.{message_limit};
 ghost use Rattle.conversation.specs.Served.{EndsAs};
 ghost use Rattle.conversation.specs.Exchanged.{EndsBy};
 ghost use Rattle.told_streams.specs.Tape.{told as tape_told};
@@ -24,9 +25,9 @@ pub fn answer_tape<R: Wait, A: Answering, G: Gate>(
     out: &mut [u8],
     frame: &mut [u8],
 ) -> (StreamEnd, Tape)
-    requires request_room { 65535 ≤ length request.old }
-    requires reply_room { 65535 ≤ length out.old }
-    requires frame_room { 65537 ≤ length frame.old }
+    requires request_room { message_limit ≤ length request.old }
+    requires reply_room { message_limit ≤ length out.old }
+    requires frame_room { message_limit + 2 ≤ length frame.old }
     ensures { EndsAs (A.is_reply (A.peer answering.old)) result.0 (A.seen answering.old) (tape_told tape) (A.seen answering.new) (Some (tape_told result.1)) }
 {
     let mut stream = Counted::new(tape);
@@ -47,8 +48,8 @@ pub fn answer_tray<R: Wait, A: Answering, G: Gate>(
     request: &mut [u8],
     out: &mut [u8],
 ) -> (DatagramsEnd, Tray)
-    requires request_room { 65535 ≤ length request.old }
-    requires reply_room { 65535 ≤ length out.old }
+    requires request_room { message_limit ≤ length request.old }
+    requires reply_room { message_limit ≤ length out.old }
     ensures { EndsBy A.is_reply allowed.entry.addresses.now result.0 (A.seen answering.old) (tray_told tray) tray.faults most (A.seen answering.new) (Some (tray_told result.1)) result.1.faults }
 {
     let mut tray = tray;

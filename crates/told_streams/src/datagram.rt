@@ -1,5 +1,6 @@
 //! Datagrams (RFC 1035, 4.2.1).
 ghost use Rattle.std.specs.Prelude.{◌≡◌, ◌≤◌, length, take};
+ghost use Rattle.dns_message.specs.Message.{message_limit};
 
 use crate::copy::copy_front;
 use std::marker::Model;
@@ -14,19 +15,20 @@ pub struct Datagram {
 
 impl Model for Datagram {
     ghost use Rattle.std.specs.Prelude.{◌≤◌, length};
+    ghost use Rattle.dns_message.specs.Message.{message_limit};
     ghost use Rattle.conversation.specs.Datagrams.{Datagram};
 
     ghost Value = { Datagram };
 
     ghost view = { λ a. (a.octets.items, a.address) };
 
-    ghost invariant = { λ a. length a.octets.items ≤ 65535 };
+    ghost invariant = { λ a. length a.octets.items ≤ message_limit };
 }
 
 impl Datagram {
     /// A datagram of these octets.
     pub fn new(octets: Vec<u8>, address: SocketAddr) -> Datagram
-        requires { length octets.items ≤ 65535 }
+        requires { length octets.items ≤ message_limit }
         ensures { result ≡ (octets.items, address) }
     {
         Datagram { octets, address }
@@ -48,7 +50,7 @@ impl Datagram {
 
     /// Copies its octets to the front of a buffer that has room for any, and gives how many they are.
     pub(crate) fn copy_to(&self, buf: &mut [u8]) -> usize
-        requires { 65535 ≤ length buf.old }
+        requires { message_limit ≤ length buf.old }
         ensures bound { result ≤ length buf.new }
         ensures copied { take result buf.new ≡ self.now.0 }
     {

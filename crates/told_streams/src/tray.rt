@@ -1,11 +1,13 @@
 //! Datagrams that lie in memory (own).
 ghost use Rattle.std.specs.Prelude.{◌≡◌, ◌≤◌, ◌↔◌, ◌⊎◌, [], ◌∷◌, ◌++◌, length, take, Some, None, IfSome, IsNone, IsTrue, IsFalse};
+ghost use Rattle.dns_message.specs.Message.{message_limit};
 ghost use Rattle.std.specs.List.{Contains};
 ghost use Rattle.conversation.specs.Datagrams.{Receives, SendsOrFails, count_of};
 ghost use Rattle.told_streams.specs.Tray.{told, tray_of, after_receive, after_failure, after_send, after_refusal};
 
 use crate::datagram::Datagram;
 use conversation::Datagrams;
+use dns_message::MAX_LIMIT;
 use std::alloc::Global;
 use std::collections::VecDeque;
 use std::marker::Model;
@@ -35,7 +37,7 @@ fn keep(alloc: Global, sent: &mut Vec<Datagram>, octets: &[u8], to: SocketAddr) 
     ensures kept { IsTrue result → sent.new.items ≡ sent.old.items ++ (octets.now, to) ∷ [] }
     ensures same { IsFalse result → sent.new.items ≡ sent.old.items }
 {
-    if octets.len() > 65_535 {
+    if octets.len() > MAX_LIMIT {
         return false;
     }
     let Ok(octets) = octets.to_vec(alloc) else {
@@ -80,7 +82,7 @@ impl Datagrams for Tray {
     ghost failed = { λ tray. tray.faults };
 
     fn receive(&mut self, buf: &mut [u8]) -> Option<(usize, SocketAddr)>
-        requires { 65535 ≤ length buf.old }
+        requires { message_limit ≤ length buf.old }
         ensures bound { IfSome result (λ received. received.0 ≤ length buf.new) }
         ensures receives { IfSome result (λ received. Receives (Some (told self.old)) (Some (told self.new)) (take received.0 buf.new, received.1)) }
         ensures same { IfSome result (λ _. self.new.faults ≡ self.old.faults) }

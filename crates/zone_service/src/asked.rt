@@ -124,7 +124,7 @@ impl<'a, 's, Z: FirstZone, L: ServiceLog> Asked<'a, 's, Z, L> {
         requires datagram { peer.transport ≡ Transport.Udp }
         requires reply_room { message_limit ≤ length out.old }
         ensures peer { self.new.peer ≡ self.old.peer }
-        ensures bound { IfOk result (λ len. IfSome len (λ n. (n < 65536) × (n ≤ length out.new))) }
+        ensures bound { IfOk result (λ len. IfSome len (λ n. (n ≤ message_limit) × (n ≤ length out.new))) }
         ensures replied { IfOk result (λ len. IsReplied Z.zone peer request.now (messages_in len out.new)) }
         ensures spent { OnErr result (IsTransfer Z.zone peer request.now) }
     {
@@ -163,7 +163,7 @@ impl<'a, 's, Z: FirstZone, L: ServiceLog> Answering for Asked<'a, 's, Z, L> {
         requires { message_limit ≤ length out.old }
         ensures same { self.new.peer ≡ self.old.peer }
         ensures grows { BeginsWith {T = Version} [] [] }
-        ensures bound { IfOk result (λ len. IfSome len (λ n. (n < 65536) × (n ≤ length out.new))) }
+        ensures bound { IfOk result (λ len. IfSome len (λ n. (n ≤ message_limit) × (n ≤ length out.new))) }
         ensures reply { IfOk result (λ len. IsReplied Z.zone (by_datagram self.old.peer) request.now (messages_in len out.new)) }
         // What can't be read as a query is answered, or told as silence, whether a version can be loaded or not.
         ensures spent { OnErr result (IsQuery request.now) }

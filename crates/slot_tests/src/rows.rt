@@ -1,4 +1,5 @@
-use crate::{lay, unlay};
+//! A row of values and its places, each value of which comes back as it was written last.
+use raw_slots::{lay, unlay};
 use std::test::Fail;
 
 #[test]
