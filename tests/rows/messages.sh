@@ -174,7 +174,8 @@ version 1 and another zone|2800#1001 0000060001 v1|a800#1001 0000060001 ours_v1
 a zone section of another type: FORMERR|2800#1001 root opt|a801#1001 root ours
 a zone section of another type, and version 1|2800#1001 root v1|a800#1001 root ours_v1
 no zone section|2800#0001 opt|a801#0000
-OPT among the updates|2800#1010 zone opt|a801#0000
+OPT among the updates: NOTZONE, as of any owner above the zone|2800#1010 zone opt|a80a#0000
+OPT among the updates, at the apex: FORMERR|2800#1010 zone c00c00291000000000000000|a801#0000
 no OPT|2800#1000 zone|a800#0000
 text
 
