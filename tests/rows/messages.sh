@@ -4,11 +4,16 @@ source tests/wire.sh
 
 # A row of a request is what it shows, the request and the reply, each in words: a header is its flags, `#` and its counts, a digit each,
 # with the ID 1234 and, where no flags are told, RD (RFC 1035, 4.1.1). A reply of 8105 is REFUSED, 8109 NOTAUTH, each with the question;
-# 8101 is FORMERR.
+# 8101 is FORMERR, 8104 NOTIMP.
 declare -A octets_of=(
     [name]=03777777076578616d706c65047465737400 # www.example.test.
     [root]=0000010001                           # the question `. IN A`
-    [opt]=0000291000000000000000                # an OPT record (RFC 6891, 6.1.2)
+    [opt]=0000291000000000000000                # an OPT record, of 4096 octets (RFC 6891, 6.1.2)
+    [do]=0000291000000080000000                 # the same with DO (RFC 6891, 6.1.4)
+    [v1]=0000291000000100000000                 # the same of version 1 (RFC 6891, 6.1.3)
+    [ours]=00002904d0000000000000               # the server's OPT, of 1232 octets
+    [ours_do]=00002904d0000080000000            # the same with DO
+    [ours_v1]=00002904d0010000000000            # the same with the upper bits of BADVERS, 16 (RFC 6891, 9)
     [address]=0000010001000000000004c000020a    # the record `. 0 IN A 192.0.2.10`
     [changes]=017a0000fb0001                    # the question `z. IN IXFR`
     [soa]=015a0000060001000000000016000000000102'00000000000000000000000000000000' # the record `Z. 0 IN SOA . . 258 0 0 0 0`
@@ -94,18 +99,17 @@ labels that end with the message|#1000 0161|8101#0000
 a label that is cut|#1000 0261|8101#0000
 text
 
-# the records behind the question (RFC 1035, 4.1.3; RFC 6891, 6.1.1 and 7)
+# the records behind the question (RFC 1035, 4.1.3; RFC 6891, 6.1.1)
 requests "$zone" --tcp <<'text'
-OPT in the additional section|#1001 root opt|8101#0000
+OPT in the additional section|#1001 root opt|8105#1001 root ours
 OPT in the answer section|#1100 root opt|8105#1000 root
 OPT in the authority section|#1010 root opt|8105#1000 root
-OPT before another|#1002 root opt address|8101#0000
-OPT behind another|#1002 root address opt|8101#0000
-OPT behind an answer|#1101 root address opt|8101#0000
+OPT before another|#1002 root opt address|8105#1001 root ours
+OPT behind another|#1002 root address opt|8105#1001 root ours
+OPT behind an answer|#1101 root address opt|8105#1001 root ours
 OPT before an additional|#1101 root opt address|8105#1000 root
 OPT behind the last record|#1001 root address opt|8105#1000 root
 OPT that is cut|#1001 root 00002910000000000000|8101#0000
-OPT before a transfer is told first (own)|#1001 0000fc0001 opt|8101#0000
 an answer in a transfer|#1100 0000fc0001 address|8109#1000 0000fc0001
 a record in each section|#1101 root address address|8105#1000 root
 one record too few|#1111 root address address|8101#0000
@@ -122,6 +126,56 @@ no question|#0000 root|8101#0000
 65,535 answers|123401000001ffff00000000 root 000000|8101#0000
 65,535 authorities|1234010000010000ffff0000 root 000000|8101#0000
 65,535 additional records|12340100000100000000ffff root 000000|8101#0000
+text
+
+# What an OPT says (RFC 6891, 6.1): a reply to a request that has one has one too, and the question, with each code; which of its faults is
+# told first, and that its data aren't looked at, is our own choice.
+requests "$zone" --tcp <<'text'
+an address|#1001 name 00010001 opt|8500#1101 name 00010001 answer ours
+no data|#1001 name 00100001 opt|8500#1011 name 00100001 negative ours
+DO is copied|#1001 name 00010001 do|8500#1101 name 00010001 answer ours_do
+the upper bits of a code, and Z|#1001 root 00002910 00ff007fff 0000|8105#1001 root ours
+options|#1001 root 000029100000000000 000c fde90000000a000400000000|8105#1001 root ours
+data that are no options|#1001 root 000029100000000000 0003 ffffff|8105#1001 root ours
+an owner that points to the root|#1001 root c00c00291000000000000000|8105#1001 root ours
+a size of 0|#1001 root 0000290000000000000000|8105#1001 root ours
+type MAILB: NOTIMP|#1001 0000fd0001 opt|8104#1001 0000fd0001 ours
+class CH|#1001 0000010003 do|8105#1001 0000010003 ours_do
+IXFR, no serial told: FORMERR|#1001 name 00fb0001 opt|8101#1001 name 00fb0001 ours
+AXFR of another name|#1001 0000fc0001 opt|8109#1001 0000fc0001 ours
+another owner: FORMERR|#1001 root 016100002910000000 00000000|8101#1001 root ours
+two: FORMERR|#1002 root opt opt|8101#1001 root ours
+two, the first with DO|#1002 root do opt|8101#1001 root ours_do
+two, the second with DO|#1002 root opt do|8101#1001 root ours
+two, the first of version 1|#1002 root v1 opt|8101#1001 root ours
+two, the second of version 1|#1002 root opt v1|8101#1001 root ours
+version 1: BADVERS|#1001 root v1|8100#1001 root ours_v1
+version 255, and DO|#1001 root 000029100000ff80000000|8100#1001 root 00002904d0010080000000
+version 1 and another owner|#1001 root 016100002910000001 00000000|8101#1001 root ours
+version 1, and class CH|#1001 0000010003 v1|8100#1001 0000010003 ours_v1
+version 1, and type MAILB|#1001 0000fd0001 v1|8100#1001 0000fd0001 ours_v1
+version 1, and a record that is cut|#1002 root v1 00000100|8101#0000
+no question|#0001 opt|8101#0000
+two questions|#2001 root root opt|8101#0000
+a server's status: NOTIMP|1100#1001 root opt|9104#0000
+text
+
+# The same of updates, which have the entry of the zone section for a question (RFC 2136, 2.3; own). An OPT among the updates themselves is a
+# record of a type that none has (RFC 2136, 3.4.1).
+octets_of[zone]=076578616d706c6504746573740000060001 # the entry `example.test. IN SOA`
+requests "$zone" --tcp <<'text'
+an update of nothing|2800#1001 zone opt|a800#1001 zone ours
+and with DO, and RD|2900#1001 zone do|a800#1001 zone ours_do
+another zone: NOTAUTH|2800#1001 0000060001 opt|a809#1001 0000060001 ours
+two: FORMERR|2800#1002 zone opt do|a801#1001 zone ours
+another owner: FORMERR|2800#1001 zone 016100002910000000 00000000|a801#1001 zone ours
+version 1: BADVERS|2800#1001 zone v1|a800#1001 zone ours_v1
+version 1 and another zone|2800#1001 0000060001 v1|a800#1001 0000060001 ours_v1
+a zone section of another type: FORMERR|2800#1001 root opt|a801#1001 root ours
+a zone section of another type, and version 1|2800#1001 root v1|a800#1001 root ours_v1
+no zone section|2800#0001 opt|a801#0000
+OPT among the updates|2800#1010 zone opt|a801#0000
+no OPT|2800#1000 zone|a800#0000
 text
 
 # The serial that a query for changes tells: that of one SOA of class IN at the name asked, in any case; of no other type, no more records

@@ -84,6 +84,36 @@ is_of 70
 expect 'two messages' "$request" "$first $message"
 run_expected "$zone$texts"$'\n'"t TXT$text" answer --tcp --origin example.test. -
 
+# With an OPT the first message alone has one (own), in its additional section, within the 16384 octets (RFC 6891, 6.1.1).
+ours=00002904d0000000000000
+# with OPT: puts a record behind $message, in its additional section
+with() {
+    put "$1"
+    count_at 10 $((16#${message:20:4} + 1))
+}
+strings d 200
+asks_whole
+with 0000290200000000000000
+request=$message
+reply 8400 @ AXFR "$soa; @ NS 3600 ns1; ${records}t TXT 3600 $octets; $soa" '' ''
+with $ours
+is_of 16384
+expect 'a message that is full, with an OPT' "$request" "$message"
+run_expected "$zone$texts"$'\n'"t TXT$text" answer --tcp --origin example.test. -
+strings d 201
+asks_whole
+with 0000290200000080000000
+request=$message
+reply 8400 @ AXFR "$soa; @ NS 3600 ns1; ${records}t TXT 3600 $octets" '' ''
+with 00002904d0000080000000
+is_of 16349
+first=$message
+begin 1234 8400 0000 0001 0000 0000
+put_record @ SOA 3600 ns1 admin "$numbers"
+is_of 70
+expect 'two messages, an OPT in the first' "$request" "$first $message"
+run_expected "$zone$texts"$'\n'"t TXT$text" answer --tcp --origin example.test. -
+
 # Over UDP a list that doesn't fit a datagram is the SOA alone, as is that of the serial which is asked from (RFC 1995, 2; own). The owner
 # that was asked for keeps its spelling, so that the names in the data, in lower case, have pointers to `test` alone (RFC 1035, 4.1.4; own).
 printf -v line '%0255d' 0
@@ -97,3 +127,29 @@ for serial in 00000000 00000001; do
     expect "the SOA alone for serial $serial" "$request" "$message"
 done
 run_expected "$zone"$'\n'"t TXT $line $line \"\"" answer --origin example.test. -
+
+# To one who takes as many octets, the list itself fits, of 1232 octets at most (RFC 6891, 6.2.3 to 6.2.5; own); to others it is the SOA alone,
+# and both have an OPT.
+# over_udp SIZE ANSWER LENGTH: the query for what changed since serial 0, from one who takes messages of that size
+over_udp() {
+    local hex
+    changes_query 00000000
+    digits "$1"
+    with "000029${hex}000000000000"
+    request=$message
+    reply 8500 @ IXFR "$2" '' ''
+    with $ours
+    is_of "$3"
+    expect "$3 octets for one who takes $1" "$request" "$message"
+}
+printf -v line '%0255d' 0
+printf -v texts '%.0s'" $line" {1..4}
+printf -v octets '%.0s'"ff${line//0/30}" {1..4}
+last=${line:0:56}
+list="$soa; @ NS 3600 ns1; t TXT 3600 ${octets}38${last//0/30}; $soa"
+over_udp 1231 "$soa" 87
+over_udp 1232 "$list" 1232
+over_udp 65535 "$list" 1232
+run_expected "$zone"$'\n'"t TXT$texts $last" answer --origin example.test. -
+over_udp 65535 "$soa" 87
+run_expected "$zone"$'\n'"t TXT$texts 0$last" answer --origin example.test. -

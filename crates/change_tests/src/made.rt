@@ -93,6 +93,7 @@ pub(crate) fn update_of(
     let updates = raws(alloc, updates)?;
     Some(Update {
         head,
+        edns: None,
         zone,
         prerequisites,
         updates,

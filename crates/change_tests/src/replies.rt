@@ -32,6 +32,7 @@ fn referral(servers: &RRset, host: &RRset, out: &mut [u8]) -> usize
         answer: &[],
         authority: &[shown(servers)],
         additional: &[shown(host)],
+        opt: None,
         below_cut: true,
     };
     write_reply(&reply, MIN_LIMIT, out)
@@ -86,6 +87,7 @@ fn write_under(set: &RRset, question: &Question, limit: usize, out: &mut [u8]) -
         answer: &[shown(set)],
         authority: &[],
         additional: &[],
+        opt: None,
         below_cut: false,
     };
     write_reply(&reply, limit, out)

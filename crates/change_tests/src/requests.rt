@@ -1,5 +1,6 @@
-//! Queries for transfers that tell no serial (RFC 1995, 3): each is read as one, though its reply is that of octets which aren't.
-use dns_message::{Parsed, Query, parse};
+//! Queries for transfers that tell no serial (RFC 1995, 3): each is read as one, though its reply is that of octets which aren't. And what
+//! an OPT says (RFC 6891, 6.1).
+use dns_message::{Edns, Parsed, Query, parse, udp_limit};
 use std::alloc::{AllocError, Global};
 
 /// The second octet of the question's type, how many records the authority section has, and these: a question for changes, IXFR, with
@@ -83,4 +84,37 @@ fn no_serial_is_told(rt: HostRuntime) {
         let octets = octets_of(rt.alloc(), row).expect(&rt, "octets");
         assert!(rt; tells_none(rt.alloc(), &octets));
     }
+}
+
+/// The question `z. IN A` with an OPT, but for its size, its TTL and the length of its data (RFC 6891, 6.1.2).
+const WITH_OPT: &[u8; 22] = b"\x12\x34\x01\x00\x00\x01\x00\x00\x00\x00\x00\x01\x01z\x00\x00\x01\x00\x01\x00\x00\x29";
+
+/// What the OPT of that size and with these flags says; None where it isn't read as a query's.
+fn edns_of(alloc: Global, size: u16, flags: u8) -> Option<Edns> {
+    let mut octets = WITH_OPT.to_vec(alloc).ok()?;
+    octets.extend_from_slice(&size.to_be_bytes()).ok()?;
+    octets
+        .extend_from_slice(&[0, 0, flags, 0, 0, 0])
+        .ok()?;
+    query_of(alloc, &octets)?.edns
+}
+
+// The size is told as it is sent; replies over UDP keep to it between 512 and 1,232 octets (RFC 6891, 6.2.3 to 6.2.5).
+#[test]
+fn sizes_and_do(rt: HostRuntime) {
+    let cases = [
+        (0, 0, 512),
+        (511, 0x80, 512),
+        (513, 0x7f, 513),
+        (1232, 0xff, 1232),
+        (1233, 0, 1232),
+        (65535, 0x80, 1232),
+    ];
+    for (size, flags, limit) in cases {
+        let edns = edns_of(rt.alloc(), size, flags);
+        let dnssec_ok = flags >= 0x80;
+        assert!(rt; edns == Some(Edns { size, dnssec_ok }));
+        assert!(rt; udp_limit(edns) == limit);
+    }
+    assert!(rt; udp_limit(None) == 512);
 }

@@ -1,5 +1,5 @@
 -- The OPT of a reply is read where it was written.
-use Rattle.std.proofs.Common.{◌≡◌, ℕ, ◌+◌, ◌<◌, ◌≤◌, ◌^◌, Bool, true, false, if◌then◌else◌, List, [], ◌∷◌, ◌++◌, length, Option, Some, None, Ok, sym, ap, ◌∙◌, arith, lit<, length-append, append_assoc}
+use Rattle.std.proofs.Common.{◌≡◌, ℕ, zero, suc, ◌+◌, ◌*◌, ◌/◌, ◌<◌, ◌≤◌, ◌^◌, Bool, true, false, if◌then◌else◌, List, [], ◌∷◌, ◌++◌, length, Option, Some, None, Ok, refl, sym, ap, ◌∙◌, arith, lit<, length-append, append_assoc}
 use Rattle.std.proofs.lemmas.List.Elements.{All-nil}
 use Rattle.std.specs.Int.{to_be_bytes, w16, w32}
 use Rattle.dns_name.specs.Name.{IsName}
@@ -8,7 +8,7 @@ use Rattle.dns_rdata.specs.declared.numbers.Rcode.{Rcode}
 use Rattle.dns_rdata.specs.declared.numbers.Rcode.TheVariants.{NoError, FormErr, ServFail, NxDomain, NotImp, Refused, YXDomain, YXRRSet, NXRRSet, NotAuth, NotZone, BadVers}
 use Rattle.wire_names.specs.Table.{Table}
 use Rattle.dns_message.specs.Message.{Entry}
-use Rattle.dns_message.specs.Opt.{max_udp, opt_ttl, opt_octets, opt_part, opt_count, opt_entries}
+use Rattle.dns_message.specs.Opt.{max_udp, opt_ttl, opt_octets, opt_part, opt_count, opt_entries, said_by}
 use Rattle.dns_message.specs.Reads.{record_of, record_at, records_at}
 use Rattle.dns_message.specs.declared.edns.Opt.{Opt}
 use Rattle.dns_message.proofs.AgainLemmas.{name_again, record_numbers, none_more, one_more}
@@ -68,3 +68,27 @@ opt_again code (Some opt) whole front table n s =
     let end : n + 11 ≡ length whole = omega (arith, ap length s.is, length-append front (opt_octets code opt)) in
     one_more 0 whole n (n + 11) (n + 11) _ [] (opt_read code opt front whole n s.at s.is) (none_more whole (n + 11))
     ∙ ap (λ k. Some (opt_entries code (Some opt) n, k)) end
+
+-- by the upper bits of the code, which are 0 or 1, and DO
+abbrev ttl_by : ℕ → Bool → ℕ
+ttl_by bits dnssec_ok = 2 ^ 24 * bits + (if dnssec_ok then 2 ^ 15 else 0)
+
+said_again : (bits : ℕ) (dnssec_ok : Bool) (at : ℕ) → bits ≤ 1 → said_by (record { owner = []; rtype = type_OPT; class = max_udp; ttl = ttl_by bits dnssec_ok; at = at; size = 0 } ∷ []) ≡ Ok (Some (record { size = max_udp; dnssec_ok = dnssec_ok }))
+said_again zero true at h = refl
+said_again zero false at h = refl
+said_again (suc zero) true at h = refl
+said_again (suc zero) false at h = refl
+said_again (suc (suc bits)) dnssec_ok at h = absurd (omega arith)
+
+code_again : (bits : ℕ) (dnssec_ok : Bool) → bits ≤ 1 → ttl_by bits dnssec_ok / 2 ^ 24 ≡ bits
+code_again zero true h = refl
+code_again zero false h = refl
+code_again (suc zero) true h = refl
+code_again (suc zero) false h = refl
+code_again (suc (suc bits)) dnssec_ok h = absurd (omega arith)
+
+pub opt_said_again : (code : Rcode) (opt : Opt) (at : ℕ) → said_by (opt_entries code (Some opt) at) ≡ Ok (Some (record { size = max_udp; dnssec_ok = opt.dnssec_ok }))
+opt_said_again code opt at = said_again (extended_bits code) opt.dnssec_ok (at + 11) (few_bits code)
+
+pub opt_code_again : (code : Rcode) (opt : Opt) → opt_ttl code opt / 2 ^ 24 ≡ extended_bits code
+opt_code_again code opt = code_again (extended_bits code) opt.dnssec_ok (few_bits code)

@@ -10,7 +10,7 @@ use Rattle.dns_message.specs.declared.edns.Edns.{Edns}
 use Rattle.dns_message.specs.declared.edns.Opt.{Opt}
 use Rattle.dns_message.specs.declared.edns.OptFault.{OptFault}
 
--- the most octets of a reply over UDP, and so what an OPT of ours tells (RFC 6891, 6.2.3 and 6.2.5; own)
+-- the most octets of a reply over UDP, and so what an OPT of ours tells (RFC 6891, 6.2.4 and 6.2.5; own)
 abbrev pub max_udp : ℕ
 max_udp = 1232
 

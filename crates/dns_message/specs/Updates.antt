@@ -4,7 +4,7 @@ use Rattle.std.specs.Prelude.{ℕ, zero, suc, Bool, ◌||◌, ◌&&◌, not, ◌
 use Rattle.dns_name.specs.Name.{fold_name}
 use Rattle.dns_rdata.specs.Data.{data_of}
 use Rattle.dns_rdata.specs.Layout.{layout_of}
-use Rattle.dns_rdata.specs.Numbers.{class_IN, class_NONE, type_SOA}
+use Rattle.dns_rdata.specs.Numbers.{class_IN, class_NONE}
 use Rattle.dns_rdata.specs.Raw.{RawRecord}
 use Rattle.dns_message.specs.Expanded.{octets_from, expanded_data}
 use Rattle.dns_message.specs.Message.{Entry, number_at}
@@ -49,13 +49,14 @@ raws_at section zero msg at = Some ([], at)
 raws_at section (suc count) msg at =
     option_and_then (λ r. option_map (λ rest. (r.0 ∷ rest.0, rest.1)) (raws_at section count msg r.1)) (raw_at section msg at)
 
--- the entry of a zone section, which is of type SOA, and the position behind it; none of another type (RFC 2136, 2.3)
-abbrev pub zone_entry : Question × ℕ → Option (ZoneEntry × ℕ)
-zone_entry q = if q.0.rtype.0 == type_SOA then Some (record { name = q.0.name; rtype = q.0.rtype; class = q.0.class }, q.1) else None
+-- the entry of a zone section, of whatever type, which is judged as its name and its class are, and the position behind it
+-- (RFC 2136, 2.3 and 3.1.1)
+abbrev pub zone_entry : Question × ℕ → ZoneEntry × ℕ
+zone_entry q = (record { name = q.0.name; rtype = q.0.rtype; class = q.0.class }, q.1)
 
 -- the zone section: one entry and no other (RFC 2136, 2.3)
 abbrev pub zone_at : List ℕ → Option (ZoneEntry × ℕ)
-zone_at msg = if number_at msg 4 == 1 then option_and_then zone_entry (question_at msg 12) else None
+zone_at msg = if number_at msg 4 == 1 then option_map zone_entry (question_at msg 12) else None
 
 -- the entry of a zone section as a question, which has the same form (RFC 2136, 2.3)
 abbrev pub zone_question : ZoneEntry → Question

@@ -11,7 +11,7 @@ use crate::octets::{put, put_u16, put_u32};
 use crate::write::MIN_LIMIT;
 use dns_rdata::{RType, Rcode};
 
-/// The greatest reply over UDP, in octets, and so the size that an OPT of ours tells (RFC 6891, 6.2.3 and 6.2.5; own).
+/// The greatest reply over UDP, in octets, and so the size that an OPT of ours tells (RFC 6891, 6.2.4 and 6.2.5; own).
 pub const MAX_UDP: usize = 1232;
 
 /// The lowest bit of the code's upper ones, by its place in an OPT's TTL (RFC 6891, 6.1.3).

@@ -1,8 +1,10 @@
 //! Laws of how requests are read and replies are written.
-ghost use Rattle.std.specs.Prelude.{◌≡◌, ◌≢◌, ◌↔◌, ◌⊎◌, ℕ, ◌+◌, ◌^◌, ◌<◌, ◌≤◌, List, [], ◌∷◌, ◌++◌, length, map, slice_index, true, Option, Some, None, Ok};
+ghost use Rattle.std.specs.Prelude.{◌≡◌, ◌≢◌, ◌↔◌, ◌⊎◌, ℕ, ◌+◌, ◌/◌, ◌^◌, ◌<◌, ◌≤◌, List, [], ◌∷◌, ◌++◌, length, map, slice_index, true, Option, Some, None, Ok};
 ghost use Rattle.dns_rdata.specs.Limits.{max_data};
 ghost use Rattle.dns_name.specs.Name.{IsName};
 ghost use Rattle.dns_rdata.specs.Record.{Record};
+ghost use Rattle.dns_rdata.specs.Numbers.{extended_bits};
+ghost use Rattle.dns_rdata.specs.declared.numbers.Rcode.{Rcode as Code};
 ghost use Rattle.dns_rdata.specs.declared.numbers.Rcode.TheVariants.{NoError};
 ghost use Rattle.wire_names.specs.Table.{Table};
 ghost use Rattle.dns_message.specs.Again.{IsRecord, IsReply, IsReadAgain, behind, octets_at, data_at, entry_at, body_written};
@@ -18,6 +20,7 @@ ghost use Rattle.dns_message.specs.Reads.{question_at, record_at, body_in};
 ghost use Rattle.dns_message.specs.Received.{as_received, received_records};
 ghost use Rattle.dns_message.specs.Request.{reads};
 ghost use Rattle.dns_message.specs.Updates.{update_in};
+ghost use Rattle.dns_message.specs.Opt.{max_udp, said_by, opt_ttl, opt_entries};
 ghost use Rattle.dns_message.specs.declared.edns.Opt.{Opt};
 ghost use Rattle.dns_message.specs.declared.query.Head.{Head};
 ghost use Rattle.dns_message.specs.declared.update.Update.{Update};
@@ -80,6 +83,13 @@ pub fn data_is_read_again()
 pub fn sections_are_read_again()
     ensures sections { (m : Message) → IsReply m → IsReadAgain m }
     ensures counted { (m : Message) → IsReply m → body_in (reply_octets m) ≡ Some (body_written m) }
+{}
+
+/// The OPT of a reply is read as one of version 0, with the size of datagrams that the server takes and with DO as it was written,
+/// and the upper bits of the code stand in front of these (RFC 6891, 6.1.3).
+pub fn opt_is_read_again()
+    ensures said { (code : Code) (opt : Opt) (at : ℕ) → said_by (opt_entries code (Some opt) at) ≡ Ok (Some (record { size = max_udp; dnssec_ok = opt.dnssec_ok })) }
+    ensures code { (code : Code) (opt : Opt) → opt_ttl code opt / 2 ^ 24 ≡ extended_bits code }
 {}
 
 /// The answer section of a reply that is written is received as its records, each with its owner in lower case, whether

@@ -28,9 +28,9 @@ pub use edns::{Edns, MAX_UDP, Opt, udp_limit};
 pub use frame::{put_frame, take_frame};
 pub use laws::{
     answers_are_received, data_is_read_again, frame_is_taken_again, limits_of_replies,
-    one_record_fits, question_in_full_is_read, question_is_read_again, record_is_read_again,
-    records_are_taken_from_the_front, sections_are_read_again, silent_is_short_or_reply,
-    update_keeps_its_header,
+    one_record_fits, opt_is_read_again, question_in_full_is_read, question_is_read_again,
+    record_is_read_again, records_are_taken_from_the_front, sections_are_read_again,
+    silent_is_short_or_reply, update_keeps_its_header,
 };
 pub use query::{Head, Parsed, Query, Question};
 pub use read::{HEADER, OPCODE_UPDATE, is_update, parse, parse_other};

@@ -63,9 +63,8 @@ pub const OPCODE_UPDATE: u8 = 5;
 /// that gets a code alone (RFC 1035, 4.1; RFC 2136, 2).
 ///
 /// The code is NOTIMP of an OPCODE other than QUERY and UPDATE, and FORMERR of other than one question and where the question or a
-/// record can't be read; the first of these that holds is told (own). Of an update it is FORMERR as well of a zone section of
-/// another type than SOA, and where the data of a prerequisite or of an update haven't their type's form (RFC 2136, 2.3 to 2.5;
-/// own). Of what can be read `BadOpt` is told, with FORMERR, of an OPT in the additional section whose owner isn't the root, and of
+/// record can't be read; the first of these that holds is told (own). Of an update it is FORMERR as well where the data of a
+/// prerequisite or of an update haven't their type's form (RFC 2136, 2.4 and 2.5; own). Of what can be read `BadOpt` is told, with FORMERR, of an OPT in the additional section whose owner isn't the root, and of
 /// two; and else, with BADVERS, of a version above 0 (RFC 6891, 6.1.1 and 6.1.3). Names are read through pointers, of a query's
 /// records only an IXFR's SOA has its data looked at, and octets behind the last record are ignored.
 ///

@@ -26,7 +26,7 @@ pub(crate) enum Section {
 pub struct ZoneEntry {
     /// The name of the zone, as it is spelt.
     pub name: Name,
-    /// The type, which is SOA.
+    /// The type: SOA, where the entry has its form (RFC 2136, 3.1.1).
     pub rtype: RType,
     /// The class of the zone.
     pub class: Class,
@@ -99,7 +99,7 @@ pub struct Update {
 }
 
 /// The update behind a header, which the update has as its head, or that its OPT isn't obeyed; None where none can be read: where
-/// the zone section has other than one entry, or one of another type than SOA, where a record of another section can't be read,
+/// the zone section has other than one entry, where a record of another section can't be read,
 /// and where the data of one haven't their type's form (RFC 2136, 2; RFC 6891, 7; own). An `Err` only where a growth was refused.
 pub(crate) fn read_update(
     alloc: Global,
@@ -156,8 +156,8 @@ fn update_made(
     }
 }
 
-/// The entry of the zone section, and the position behind it; None of another number of entries than one, of one of another
-/// type than SOA, and where it can't be read (RFC 2136, 2.3).
+/// The entry of the zone section, of whatever type, and the position behind it; None of another number of entries than one, and
+/// where it can't be read (RFC 2136, 2.3).
 fn zone_at(octets: &[u8]) -> Option<(ZoneEntry, usize)>
     requires { HEADER ≤ length octets.now }
     ensures { result ≡ zone_at octets.now }
@@ -166,9 +166,6 @@ fn zone_at(octets: &[u8]) -> Option<(ZoneEntry, usize)>
         return None;
     }
     let (entry, at) = question_at(octets, HEADER)?;
-    if entry.rtype != RType::SOA {
-        return None;
-    }
     let zone = ZoneEntry {
         name: entry.name,
         rtype: entry.rtype,

@@ -39,7 +39,7 @@ pub fn examples()
 {}
 
 /// Updates: a record whose data has a name with a pointer; a record of class NONE without data, which is a prerequisite and
-/// no update; one of class ANY, whose data isn't looked at; and a zone section of another type than SOA
+/// no update; one of class ANY, whose data isn't looked at; and a zone section of another type than SOA, which is read
 /// (RFC 2136, 2.3 to 2.5).
 #[tactic(auto, unfolding(crate::specs::Updates::update_in, crate::specs::Updates::raws_at, crate::specs::Reads::records_at, crate::specs::Expanded::expanded_data, crate::specs::Expanded::names_at, dns_rdata::specs::Data::data_of, dns_rdata::specs::Layout::layout_of, wire_names::specs::NameAt::name_at, wire_names::specs::NameAt::name_from))]
 pub fn update_examples()
@@ -47,7 +47,7 @@ pub fn update_examples()
     ensures prerequisite { update_in updater (update_front 1 0 ++ zone_octets ++ absent_octets) ≡ Some (Ok (record { head = updater; edns = None; zone = zone; prerequisites = absent ∷ []; updates = [] })) }
     ensures no_data { update_in updater (update_front 0 1 ++ zone_octets ++ absent_octets) ≡ None }
     ensures any_class { update_in updater (update_front 0 1 ++ zone_octets ++ any_octets) ≡ Some (Ok (record { head = updater; edns = None; zone = zone; prerequisites = []; updates = any_record ∷ [] })) }
-    ensures zone_type { update_in updater (update_front 0 0 ++ take 15 zone_octets ++ 1 ∷ 0 ∷ 1 ∷ []) ≡ None }
+    ensures zone_type { update_in updater (update_front 0 0 ++ take 15 zone_octets ++ 1 ∷ 0 ∷ 1 ∷ []) ≡ Some (Ok (record { head = updater; edns = None; zone = record zone { rtype = record { 0 = 1 } }; prerequisites = []; updates = [] })) }
     ensures opcode { (header_of (update_front 0 1)).opcode ≡ updater.opcode }
     ensures rd { (header_of (update_front 0 1)).rd ≡ updater.rd }
 {}

@@ -70,8 +70,8 @@ fn put_truncated(out: &mut [u8], reply: &Reply<'_>) -> usize
     let counts = [asked, 0, 0, u16::from(reply.opt.is_some())];
     let at = put_header(out, reply, true, counts).unwrap();
     let mut names = NameWriter::new();
-    let at = put_questions(out, at, &mut names, reply.question).unwrap();
-    put_opt(out, at, reply.rcode, reply.opt).unwrap()
+    let next = put_questions(out, at, &mut names, reply.question).unwrap();
+    put_opt(out, next, reply.rcode, reply.opt).unwrap()
 }
 
 /// Writes the whole reply to the front of a buffer, as `put` does.

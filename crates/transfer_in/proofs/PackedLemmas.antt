@@ -15,6 +15,7 @@ use Rattle.dns_message.specs.Asked.{IsQuestion}
 use Rattle.dns_message.specs.Message.{Message}
 use Rattle.dns_message.specs.Octets.{questions, reply_octets, fits, fit}
 use Rattle.dns_message.specs.Received.{as_received}
+use Rattle.dns_message.specs.declared.edns.Opt.{Opt}
 use Rattle.dns_message.specs.declared.query.Head.{Head}
 use Rattle.dns_message.specs.declared.query.Question.{Question}
 use Rattle.dns_message.proofs.AnsweredLemmas.{answers_received}
@@ -22,7 +23,7 @@ use Rattle.dns_message.proofs.AnswersLemmas.{filled_is}
 use Rattle.dns_message.proofs.SizeLemmas.{one_fits, question_fits}
 use Rattle.zone_tree.proofs.NameOrder.{folds_from_same}
 use Rattle.transfer_core.specs.Lists.{as_sent}
-use Rattle.transfer_core.specs.Packed.{max_message, max_datagram, spelt, packed_behind, packed, octets_of, whole_or, datagram}
+use Rattle.transfer_core.specs.Packed.{max_message, spelt, packed_behind, packed, octets_of, whole_or, datagram}
 use Rattle.transfer_core.proofs.PackedLemmas.{all_records}
 use Rattle.transfer_in.specs.Sendable.{IsSendable}
 use Rattle.transfer_in.specs.Taking.{unreadable, records_of_messages}
@@ -37,8 +38,8 @@ record IsWhole (m : Message) : Type 0 where
   reply : IsReply m
   code : m.rcode ≡ NoError
 
-answers_whole : (head : Head) (question : Option Question) (front : List Record) → All IsQuestion (questions question) → AllByRecursion IsCarried front → length (reply_octets (answers head question front)) < 2 ^ 16 → IsWhole (answers head question front)
-answers_whole head question front asked each short = record {
+answers_whole : (head : Head) (question : Option Question) (opt : Option Opt) (front : List Record) → All IsQuestion (questions question) → AllByRecursion IsCarried front → length (reply_octets (answers head question opt front)) < 2 ^ 16 → IsWhole (answers head question opt front)
+answers_whole head question opt front asked each short = record {
   reply = record {
     question = asked;
     answer = All-weaker IsCarried IsRecord (λ r h. h.is) front (All-from_recursion IsCarried front each);
@@ -58,17 +59,17 @@ pushed [] r each h = (h, tt)
 pushed (x ∷ xs) r each h = (each.0, pushed xs r each.1 h)
 
 -- what holds of the messages where the next record fits, and where it doesn't
-by_next : (P : List Message → Type 0) (head : Head) (question : Option Question) (front : List Record) (r : Record) (rs : List Record) (b : Bool) → fits (answers head question (front ++ r ∷ [])) max_message ≡ b → (b ≡ true → P (packed_behind head question (front ++ r ∷ []) rs)) → P (answers head question front ∷ packed_behind head None (r ∷ []) rs) → P (packed_behind head question front (r ∷ rs))
-by_next P head question front r rs true e more apart = rw e (more refl)
-by_next P head question front r rs false e more apart = rw e apart
+by_next : (P : List Message → Type 0) (head : Head) (question : Option Question) (opt : Option Opt) (front : List Record) (r : Record) (rs : List Record) (b : Bool) → fits (answers head question opt (front ++ r ∷ [])) max_message ≡ b → (b ≡ true → P (packed_behind head question opt (front ++ r ∷ []) rs)) → P (answers head question opt front ∷ packed_behind head None None (r ∷ []) rs) → P (packed_behind head question opt front (r ∷ rs))
+by_next P head question opt front r rs true e more apart = rw e (more refl)
+by_next P head question opt front r rs false e more apart = rw e apart
 
 -- each message can be carried: it fits, or has one record that fits by itself
-behind_whole : (head : Head) (question : Option Question) (front rest : List Record) → All IsQuestion (questions question) → AllByRecursion IsCarried front → AllByRecursion IsCarried rest → length (reply_octets (answers head question front)) < 2 ^ 16 → AllByRecursion IsWhole (packed_behind head question front rest)
-behind_whole head question front [] asked each rest short = (answers_whole head question front asked each short, tt)
-behind_whole head question front (r ∷ rs) asked each rest short =
-    by_next (AllByRecursion IsWhole) head question front r rs (fits (answers head question (front ++ r ∷ [])) max_message) refl
-    (λ e. behind_whole head question (front ++ r ∷ []) rs asked (pushed front r each rest.0) rest.1 (fitting (answers head question (front ++ r ∷ [])) max_message e))
-    (answers_whole head question front asked each short, behind_whole head None (r ∷ []) rs (All-nil IsQuestion) (rest.0, tt) rest.1 (fitting (answers head None (r ∷ [])) max_message (one_fits head r rest.0.is.owner rest.0.short)))
+behind_whole : (head : Head) (question : Option Question) (opt : Option Opt) (front rest : List Record) → All IsQuestion (questions question) → AllByRecursion IsCarried front → AllByRecursion IsCarried rest → length (reply_octets (answers head question opt front)) < 2 ^ 16 → AllByRecursion IsWhole (packed_behind head question opt front rest)
+behind_whole head question opt front [] asked each rest short = (answers_whole head question opt front asked each short, tt)
+behind_whole head question opt front (r ∷ rs) asked each rest short =
+    by_next (AllByRecursion IsWhole) head question opt front r rs (fits (answers head question opt (front ++ r ∷ [])) max_message) refl
+    (λ e. behind_whole head question opt (front ++ r ∷ []) rs asked (pushed front r each rest.0) rest.1 (fitting (answers head question opt (front ++ r ∷ [])) max_message e))
+    (answers_whole head question opt front asked each short, behind_whole head None None (r ∷ []) rs (All-nil IsQuestion) (rest.0, tt) rest.1 (fitting (answers head None None (r ∷ [])) max_message (one_fits head None r rest.0.is.owner rest.0.short)))
 
 -- messages are received one after another
 whole_received : (ms : List Message) → AllByRecursion IsWhole ms → records_of_messages (octets_of ms) ≡ map as_received (flat_map (λ (m : Message). m.answer) ms)
@@ -114,31 +115,31 @@ all_carried name [] lawful each = tt
 all_carried name (r ∷ rs) lawful each = (spelt_carried name r lawful each.0, all_carried name rs lawful each.1)
 
 -- the octets of a list's messages are received as the list
-pub packed_received : (head : Head) (question : Question) (list : List Record) → IsQuestion question → All IsSendable list → records_of_messages (octets_of (packed head question list)) ≡ map as_sent list
-packed_received head question list asked each =
+pub packed_received : (head : Head) (question : Question) (opt : Option Opt) (list : List Record) → IsQuestion question → All IsSendable list → records_of_messages (octets_of (packed head question opt list)) ≡ map as_sent list
+packed_received head question opt list asked each =
     let own = recursion_from_All IsSendable list each in
     let shown = map (spelt question.name) list in
     let one = All-cons IsQuestion question [] asked (All-nil IsQuestion) in
-    let short = fitting (answers head (Some question) []) max_message (question_fits head question asked.name) in
-    whole_received (packed head question list) (behind_whole head (Some question) [] shown one tt (all_carried question.name list asked.name own) short)
-    ∙ ap (map as_received) (all_records head (Some question) shown)
+    let short = fitting (answers head (Some question) opt []) max_message (question_fits head opt question asked.name) in
+    whole_received (packed head question opt list) (behind_whole head (Some question) opt [] shown one tt (all_carried question.name list asked.name own) short)
+    ∙ ap (map as_received) (all_records head (Some question) opt shown)
     ∙ all_received question.name list own
 
 -- and so is a datagram that has the whole of it
-abbrev by_parts : Head → Question → List ℕ → List Record × List Record → List ℕ
-by_parts head question other parts = whole_or (reply_octets (answers head (Some question) parts.0)) other parts.1
+abbrev by_parts : Head → Question → Option Opt → List ℕ → List Record × List Record → List ℕ
+by_parts head question opt other parts = whole_or (reply_octets (answers head (Some question) opt parts.0)) other parts.1
 
-pub datagram_received : (head : Head) (question : Question) (list soa : List Record) → IsQuestion question → All IsSendable list → fits (answers head (Some question) (map (spelt question.name) list)) max_datagram ≡ true → records_of_messages (datagram head question list soa ∷ []) ≡ map as_sent list
-datagram_received head question list soa asked each whole =
+pub datagram_received : (head : Head) (question : Question) (opt : Option Opt) (limit : ℕ) (list soa : List Record) → IsQuestion question → All IsSendable list → fits (answers head (Some question) opt (map (spelt question.name) list)) limit ≡ true → records_of_messages (datagram head question opt limit list soa ∷ []) ≡ map as_sent list
+datagram_received head question opt limit list soa asked each whole =
     let own = recursion_from_All IsSendable list each in
     let shown = map (spelt question.name) list in
-    let m = answers head (Some question) shown in
+    let m = answers head (Some question) opt shown in
     let one = All-cons IsQuestion question [] asked (All-nil IsQuestion) in
-    let other = fit (answers head (Some question) (map (shown_as question.name None) soa)) max_datagram in
-    let parts : filled head (Some question) max_datagram [] shown ≡ (shown, []) =
-    ap (filled head (Some question) max_datagram []) (sym (append-nil shown)) ∙ filled_is head (Some question) max_datagram [] shown [] whole tt in
-    let sent = answers_whole head (Some question) shown one (all_carried question.name list asked.name own) (fitting m max_datagram whole) in
-    ap (λ p. records_of_messages (by_parts head question other p ∷ [])) parts
+    let other = fit (answers head (Some question) opt (map (shown_as question.name None) soa)) limit in
+    let parts : filled head (Some question) opt limit [] shown ≡ (shown, []) =
+    ap (filled head (Some question) opt limit []) (sym (append-nil shown)) ∙ filled_is head (Some question) opt limit [] shown [] whole tt in
+    let sent = answers_whole head (Some question) opt shown one (all_carried question.name list asked.name own) (fitting m limit whole) in
+    ap (λ p. records_of_messages (by_parts head question opt other p ∷ [])) parts
     ∙ whole_received (m ∷ []) (sent, tt)
     ∙ ap (map as_received) (append-nil shown)
     ∙ all_received question.name list own

@@ -1,5 +1,5 @@
 -- The octets of whole transfers are taken.
-use Rattle.std.proofs.Common.{◌≡◌, ◌∙◌, refl, sym, ap, Bool, true, ◌&&◌, not, ◌==◌, eq-eqb, All, List, [], ◌∷◌, ◌++◌, map, filter, Ok}
+use Rattle.std.proofs.Common.{◌≡◌, ◌∙◌, refl, sym, ap, Bool, true, ◌&&◌, not, ◌==◌, eq-eqb, All, List, [], ◌∷◌, ◌++◌, map, filter, Option, Ok}
 use Rattle.std.specs.List.{AllByRecursion, list_any}
 use Rattle.std.proofs.lemmas.List.Elements.{All-nil, All-append, All-filter, recursion_from_All}
 use Rattle.dns_name.specs.Name.{is_under}
@@ -7,6 +7,7 @@ use Rattle.dns_rdata.specs.Data.{serial_of}
 use Rattle.dns_rdata.specs.Numbers.{type_SOA}
 use Rattle.dns_rdata.specs.Record.{Record, IsLawful}
 use Rattle.dns_message.specs.Asked.{IsQuestion}
+use Rattle.dns_message.specs.declared.edns.Opt.{Opt}
 use Rattle.dns_message.specs.declared.query.Head.{Head}
 use Rattle.dns_message.specs.declared.query.Question.{Question}
 use Rattle.zone_tree.specs.Zone.{IsZone, apex_of, soa_of}
@@ -69,15 +70,15 @@ incremental_part zone zones each =
     let own = soa_part (newest zone zones) (newest_is zone zones each.0 each.1) in
     both (last ++ steps zone zones) last (both last (steps zone zones) own (steps_part zone zones each.0 each.1)) own
 
-pub full_transfer : (zone other : List Record) (head : Head) (question : Question) → IsQuestion question → IsZone other → apex_of other ≡ apex_of zone → take zone (records_of_messages (octets_of (packed head question (full other)))) ≡ Ok other
-full_transfer zone other head question asked is apexes =
-    ap (take zone) (packed_received head question (full other) asked (full_part other is))
+pub full_transfer : (zone other : List Record) (head : Head) (question : Question) (opt : Option Opt) → IsQuestion question → IsZone other → apex_of other ≡ apex_of zone → take zone (records_of_messages (octets_of (packed head question opt (full other)))) ≡ Ok other
+full_transfer zone other head question opt asked is apexes =
+    ap (take zone) (packed_received head question opt (full other) asked (full_part other is))
     ∙ full_taken zone other is apexes
 
-pub incremental_transfer : (zone next : List Record) (zones : List (List Record)) (head : Head) (question : Question) → IsQuestion question → AreVersions zone (next ∷ zones) → take zone (records_of_messages (octets_of (packed head question (incremental zone (next ∷ zones))))) ≡ Ok (newest next zones)
-incremental_transfer zone next zones head question asked h =
+pub incremental_transfer : (zone next : List Record) (zones : List (List Record)) (head : Head) (question : Question) (opt : Option Opt) → IsQuestion question → AreVersions zone (next ∷ zones) → take zone (records_of_messages (octets_of (packed head question opt (incremental zone (next ∷ zones))))) ≡ Ok (newest next zones)
+incremental_transfer zone next zones head question opt asked h =
     let list = incremental zone (next ∷ zones) in
-    ap (take zone) (packed_received head question list asked (incremental_part zone (next ∷ zones) (recursion_from_All IsZone (zone ∷ next ∷ zones) h.each)))
+    ap (take zone) (packed_received head question opt list asked (incremental_part zone (next ∷ zones) (recursion_from_All IsZone (zone ∷ next ∷ zones) h.each)))
     ∙ incremental_taken zone next zones h
 
 -- an SOA alone leaves what is held
@@ -91,7 +92,7 @@ soa_alone zone is =
     ∙ opens zone s [] lawful (soa_in zone is).1
     ∙ rw (serial, under) refl
 
-pub current_stays : (zone : List Record) (head : Head) (question : Question) → IsQuestion question → IsZone zone → take zone (records_of_messages (octets_of (packed head question (soa_of zone)))) ≡ Ok zone
-current_stays zone head question asked is =
-    ap (take zone) (packed_received head question (soa_of zone) asked (soa_part zone is))
+pub current_stays : (zone : List Record) (head : Head) (question : Question) (opt : Option Opt) → IsQuestion question → IsZone zone → take zone (records_of_messages (octets_of (packed head question opt (soa_of zone)))) ≡ Ok zone
+current_stays zone head question opt asked is =
+    ap (take zone) (packed_received head question opt (soa_of zone) asked (soa_part zone is))
     ∙ soa_alone zone is

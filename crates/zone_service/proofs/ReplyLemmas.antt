@@ -5,17 +5,18 @@ use Rattle.std.proofs.lemmas.Bool.Decides.{nat_tests}
 use Rattle.std.specs.Option.{option_to_list, option_or, is_some}
 use Rattle.dns_rdata.specs.Record.{Record}
 use Rattle.dns_rdata.specs.declared.numbers.Rcode.{Rcode}
-use Rattle.dns_rdata.specs.declared.numbers.Rcode.TheVariants.{NoError, ServFail, FormErr, NotImp}
-use Rattle.dns_message.specs.Message.{Message, message_limit}
+use Rattle.dns_rdata.specs.declared.numbers.Rcode.TheVariants.{NoError, ServFail, NotImp}
+use Rattle.dns_message.specs.Message.{message_limit}
 use Rattle.dns_message.specs.Octets.{fit}
 use Rattle.dns_message.specs.Reads.{header_of, opcode_of, is_reply, body_in, seen}
 use Rattle.dns_message.specs.Request.{is_update, reads, query_of, update_of, IsWant, Tells}
 use Rattle.dns_message.specs.Updates.{update_in}
+use Rattle.dns_message.specs.declared.edns.Edns.{Edns}
 use Rattle.dns_message.specs.declared.query.Head.{Head}
 use Rattle.dns_message.specs.declared.query.Question.{Question}
 use Rattle.dns_message.specs.declared.query.Query.{Query as QueryAsked}
 use Rattle.dns_message.specs.declared.query.Parsed.{Parsed}
-use Rattle.dns_message.specs.declared.query.Parsed.TheVariants.{Silent as IsSilent, Fault, Query, Update as SaysUpdate, NoMemory}
+use Rattle.dns_message.specs.declared.query.Parsed.TheVariants.{Silent as IsSilent, Fault, BadOpt, Query, Update as SaysUpdate, NoMemory}
 use Rattle.dns_message.specs.declared.update.Update.{Update}
 use Rattle.zone_tree.specs.Version.{Version}
 use Rattle.update_core.specs.Verdict.{verdict}
@@ -31,17 +32,18 @@ use Rattle.dns_engine.specs.Told.{IsTold, made, refused, unchanged, full, starve
 use Rattle.serve_core.specs.declared.transport.Transport.{Transport}
 use Rattle.serve_core.specs.declared.transport.Transport.TheVariants.{Udp, Tcp}
 use Rattle.serve_core.specs.declared.served.Responded.{Responded}
-use Rattle.serve_core.specs.Transport.{limit_of}
-use Rattle.serve_core.specs.Reply.{bare}
+use Rattle.serve_core.specs.Transport.{limit_of, room_of}
+use Rattle.serve_core.specs.declared.heading.Heading.{Heading}
+use Rattle.serve_core.specs.Heading.{header_alone, heading_of_update, heading_of_bad, coded}
 use Rattle.serve_core.specs.declared.peer.Peer.{Peer}
 use Rattle.serve_core.specs.Transfers.{is_permitted, reply_to_peer, messages_to}
 use Rattle.serve_core.specs.Replies.{replies_to, IsNoTransfer}
-use Rattle.serve_core.specs.Served.{Got, got, got_of, told, answered, StandsIn, IsBehind, ServesSaid}
+use Rattle.serve_core.specs.Served.{Got, Want, ForNothing, ForMaking, got, got_of, told, answered, limit_for, StandsIn, IsBehind, ServesSaid}
 use Rattle.serve_core.proofs.ServedLemmas.{serves_told, serves_reply}
 use Rattle.dns_message.proofs.AskedLemmas.{judged}
 use Rattle.serve_core.proofs.WantLemmas.{reads-want}
 use Rattle.zone_service.specs.declared.answer.Told.{Told}
-use Rattle.zone_service.specs.Updated.{IsJudged, by_engine, in_version, IsToldOf, read, unread, starved as starved_reading}
+use Rattle.zone_service.specs.Updated.{IsJudged, by_engine, in_version, IsToldOf, read, unread, bad_opt, starved as starved_reading}
 use Rattle.zone_service.specs.Replied.{TellsFor, IsReplied, IsUpdate, IsQuery, IsTransfer, IsAtOnce}
 
 no_want : (head : Head) (heard : Parsed) → heard ≡ NoMemory head → heard ≡ IsSilent → ⊥
@@ -54,13 +56,15 @@ no_query_wanted head heard query wants is = cc
 abbrev pub IsNoQuery : Parsed → Type 0
 IsNoQuery IsSilent = Unit {0}
 IsNoQuery (Fault head code) = Unit {0}
+IsNoQuery (BadOpt head question code dnssec_ok) = Unit {0}
 IsNoQuery (Query query) = ⊥
 IsNoQuery (SaysUpdate update) = Unit {0}
 IsNoQuery (NoMemory head) = Unit {0}
 
-update_no_query : (head : Head) (o : Option Update) → IsNoQuery (update_of head o)
+update_no_query : (head : Head) (o : _) → IsNoQuery (update_of head o)
 update_no_query head None = tt
-update_no_query head (Some update) = tt
+update_no_query head (Some (Ok update)) = tt
+update_no_query head (Some (Err bad)) = tt
 
 -- what is heard as no query is none
 heard_no_query : (request : List ℕ) (heard said : Parsed) → Tells request heard → heard ≡ said → IsNoQuery said → IsNoQuery (reads request)
@@ -75,20 +79,22 @@ heard_query request heard query tells is =
 no_query_told : (first : List Record) (version : Version) (said : Parsed) → IsNoQuery said → TellsFor first version None said
 no_query_told first version IsSilent plain = tt
 no_query_told first version (Fault head code) plain = tt
+no_query_told first version (BadOpt head question code dnssec_ok) plain = tt
 no_query_told first version (Query query) plain = absurd plain
 no_query_told first version (SaysUpdate update) plain = tt
 no_query_told first version (NoMemory head) plain = tt
 
-no_query_replies : (zone : List Record) (changes : Option (List Record)) (peer : Peer) (wants : Bool) (said : Parsed) → IsNoQuery said
+no_query_replies : (zone : List Record) (changes : Option (List Record)) (peer : Peer) (wants : Want) (said : Parsed) → IsNoQuery said
     → option_to_list (got_of peer.transport peer.may_update wants zone said).reply ≡ replies_to zone changes peer wants said
 no_query_replies zone changes peer wants IsSilent plain = refl
 no_query_replies zone changes peer wants (Fault head code) plain = refl
+no_query_replies zone changes peer wants (BadOpt head question code dnssec_ok) plain = refl
 no_query_replies zone changes peer wants (Query query) plain = absurd plain
 no_query_replies zone changes peer wants (SaysUpdate update) plain = refl
 no_query_replies zone changes peer wants (NoMemory head) plain = refl
 
 -- what a request gets that is no query
-got_replied : (first : List Record) (peer : Peer) (version : Version) (request : List ℕ) (messages : List (List ℕ)) (wants : Bool) → IsReplay first version → IsNoQuery (reads request)
+got_replied : (first : List Record) (peer : Peer) (version : Version) (request : List ℕ) (messages : List (List ℕ)) (wants : Want) → IsReplay first version → IsNoQuery (reads request)
     → messages ≡ option_to_list (got peer.transport peer.may_update wants version.zone request).reply → IsReplied first peer request messages
 unfolding got
 got_replied first peer version request messages wants replayed plain gets = record {
@@ -96,7 +102,7 @@ got_replied first peer version request messages wants replayed plain gets = reco
   replayed = replayed;
   changes = None;
   told = no_query_told first version (reads request) plain;
-  starved = wants;
+  want = wants;
   reply = gets ∙ no_query_replies version.zone None peer wants (reads request) plain;
 }
 
@@ -105,18 +111,18 @@ pub said_replied : (first : List Record) (peer : Peer) (version : Version) (requ
     → ServesSaid (record { len = Some len; next = next }) peer.transport peer.may_update version said out → IsReplied first peer request (take len out ∷ [])
 said_replied first peer version request out heard said len next replayed tells is plain serves =
     let s = serves_told (record { len = Some len; next = next }) peer.transport peer.may_update version request out heard said tells is serves in
-    got_replied first peer version request (take len out ∷ []) s.starved replayed (heard_no_query request heard said tells is plain) (ap option_to_list (sym s.reply.1))
+    got_replied first peer version request (take len out ∷ []) s.want replayed (heard_no_query request heard said tells is plain) (ap option_to_list (sym s.reply.1))
 
 -- a query gets what is sent for it in a version
 query_replied : (first : List Record) (peer : Peer) (version : Version) (request : List ℕ) (query : QueryAsked) (messages : List (List ℕ)) (changes : Option (List Record)) (keep : ℕ) → IsReplay first version → TellsSince first keep version query.serial changes
-    → reads request ≡ Query query → messages ≡ replies_to version.zone changes peer false (Query query) → IsReplied first peer request messages
+    → reads request ≡ Query query → messages ≡ replies_to version.zone changes peer ForNothing (Query query) → IsReplied first peer request messages
 query_replied first peer version request query messages changes keep replayed told asked gets = record {
   version = version;
   replayed = replayed;
   changes = changes;
   told = subst (TellsFor first version changes) (sym asked) (keep, told);
-  starved = false;
-  reply = gets ∙ ap (replies_to version.zone changes peer false) (sym asked);
+  want = ForNothing;
+  reply = gets ∙ ap (replies_to version.zone changes peer ForNothing) (sym asked);
 }
 
 -- a transfer that is permitted gets its messages
@@ -127,7 +133,7 @@ transfer_replied first peer version request query changes keep replayed told ask
 
 -- another query gets one reply
 pub other_replied : (first : List Record) (peer : Peer) (version : Version) (request out : List ℕ) (query : QueryAsked) (len : ℕ) (changes : Option (List Record)) (keep : ℕ) → IsReplay first version → TellsSince first keep version query.serial changes
-    → reads request ≡ Query query → is_permitted version.zone peer query ≡ false → take len out ≡ fit (reply_to_peer version.zone peer query) (limit_of peer.transport) → IsReplied first peer request (take len out ∷ [])
+    → reads request ≡ Query query → is_permitted version.zone peer query ≡ false → take len out ≡ fit (reply_to_peer version.zone peer query) (limit_of peer.transport query.edns) → IsReplied first peer request (take len out ∷ [])
 other_replied first peer version request out query len changes keep replayed told asked may written =
     query_replied first peer version request query (take len out ∷ []) changes keep replayed told asked (rw (may, written) refl)
 
@@ -143,8 +149,8 @@ pub first_replay : (first : List Record) → IsReplay first (first_version first
 first_replay first = record { updates = []; changing = tt; zone = refl; number = refl }
 
 -- a reply that is the same in each version
-pub same_replied : (first : List Record) (peer : Peer) (version : Version) (request out octets : List ℕ) (heard said : Parsed) (len : ℕ) → IsReplay first version → Tells request heard → heard ≡ said → IsNoQuery said → len ≤ limit_of peer.transport → take len out ≡ octets
-    → got_of peer.transport peer.may_update false version.zone said ≡ record { reply = Some octets; zone = version.zone } → IsReplied first peer request (take len out ∷ [])
+pub same_replied : (first : List Record) (peer : Peer) (version : Version) (request out octets : List ℕ) (heard said : Parsed) (len : ℕ) → IsReplay first version → Tells request heard → heard ≡ said → IsNoQuery said → len ≤ limit_for peer.transport said → take len out ≡ octets
+    → got_of peer.transport peer.may_update ForNothing version.zone said ≡ record { reply = Some octets; zone = version.zone } → IsReplied first peer request (take len out ∷ [])
 same_replied first peer version request out octets heard said len replayed tells is plain short written gets =
     said_replied first peer version request out heard said len None replayed tells is plain
     (serves_reply (record { len = Some len; next = None }) peer.transport peer.may_update version said octets out len refl refl short written gets)
@@ -153,37 +159,37 @@ no_code : (zone after : List Record) (update : Update) (may : Bool) → verdict 
 no_code zone after update may taken acts =
     ap (λ v. option_or v (if is_some (act zone update) then None else Some ServFail)) taken ∙ ap (λ (o : Option (List Record)). if is_some o then None else Some ServFail) acts
 
-module _ (transport : Transport) (update : Update) (may : Bool) (out : List ℕ) (len : ℕ) (short : len ≤ limit_of transport) where
+module _ (transport : Transport) (update : Update) (may : Bool) (out : List ℕ) (len : ℕ) (short : len ≤ limit_of transport None) where
   served_by : Option Version → Responded
   served_by next = record { len = Some len; next = next }
 
   -- an update that is taken gets NOERROR
-  taken_got : (zone after : List Record) → verdict zone update may ≡ None → act zone update ≡ Some after → got_of transport may false zone (SaysUpdate update) ≡ told transport update.head NoError after
+  taken_got : (zone after : List Record) → verdict zone update may ≡ None → act zone update ≡ Some after → got_of transport may ForNothing zone (SaysUpdate update) ≡ told transport (heading_of_update update) NoError after
   taken_got zone after taken acts =
-      ap (λ c. answered transport update.head zone (act zone update) c) (no_code zone after update may taken acts)
-      ∙ ap (λ (o : Option (List Record)). told transport update.head NoError (unwrap_or o zone)) acts
+      ap (λ c. answered transport (heading_of_update update) zone (act zone update) c) (no_code zone after update may taken acts)
+      ∙ ap (λ (o : Option (List Record)). told transport (heading_of_update update) NoError (unwrap_or o zone)) acts
 
-  said : (old : Version) (code : Rcode) → take len out ≡ fit (bare update.head code) (limit_of transport) → (other : Rcode) → code ≡ other → Some (take len out) ≡ Some (fit (bare update.head other) (limit_of transport))
-  said old code written other same = ap Some (written ∙ ap (λ c. fit (bare update.head c) (limit_of transport)) same)
+  said : (old : Version) (code : Rcode) → take len out ≡ fit (coded (heading_of_update update) code) (limit_of transport None) → (other : Rcode) → code ≡ other → Some (take len out) ≡ Some (fit (coded (heading_of_update update) other) (limit_of transport None))
+  said old code written other same = ap Some (written ∙ ap (λ c. fit (coded (heading_of_update update) c) (limit_of transport None)) same)
 
   -- what is told of an update is what it gets
-  pub told_said : (old new : Held) (code : Rcode) → take len out ≡ fit (bare update.head code) (limit_of transport) → IsTold old update may code new
+  pub told_said : (old new : Held) (code : Rcode) → take len out ≡ fit (coded (heading_of_update update) code) (limit_of transport None) → IsTold old update may code new
       → (next : Option Version) × ServesSaid (record { len = Some len; next = next }) transport may old.last (SaysUpdate update) out
   told_said old new code written (made next taken makes is_code is_new) =
       let gets = taken_got old.last.zone next.zone taken makes.zone in (
         Some next,
         record {
-          starved = false;
-          reply = subst (λ (g : Got). StandsIn (Some len) (limit_of transport) out g.reply) (sym gets) (short, sym (said old.last code written NoError is_code));
+          want = ForNothing;
+          reply = subst (λ (g : Got). StandsIn (Some len) (limit_of transport None) out g.reply) (sym gets) (short, sym (said old.last code written NoError is_code));
           zone = subst (λ (g : Got). IsBehind (Some next) old.last g.zone) (sym gets) (refl, makes.changed, makes.number);
         },
       )
   told_said old new code written (refused is_code same) =
-      let gets : got_of transport may false old.last.zone (SaysUpdate update) ≡ told transport update.head code old.last.zone = ap (λ c. answered transport update.head old.last.zone (act old.last.zone update) c) is_code in (
+      let gets : got_of transport may ForNothing old.last.zone (SaysUpdate update) ≡ told transport (heading_of_update update) code old.last.zone = ap (λ c. answered transport (heading_of_update update) old.last.zone (act old.last.zone update) c) is_code in (
         None,
         record {
-          starved = false;
-          reply = subst (λ (g : Got). StandsIn (Some len) (limit_of transport) out g.reply) (sym gets) (short, sym (ap Some written));
+          want = ForNothing;
+          reply = subst (λ (g : Got). StandsIn (Some len) (limit_of transport None) out g.reply) (sym gets) (short, sym (ap Some written));
           zone = subst (λ (g : Got). IsBehind None old.last g.zone) (sym gets) refl;
         },
       )
@@ -191,17 +197,17 @@ module _ (transport : Transport) (update : Update) (may : Bool) (out : List ℕ)
       let gets = taken_got old.last.zone old.last.zone taken acts in (
         None,
         record {
-          starved = false;
-          reply = subst (λ (g : Got). StandsIn (Some len) (limit_of transport) out g.reply) (sym gets) (short, sym (said old.last code written NoError is_code));
+          want = ForNothing;
+          reply = subst (λ (g : Got). StandsIn (Some len) (limit_of transport None) out g.reply) (sym gets) (short, sym (said old.last code written NoError is_code));
           zone = subst (λ (g : Got). IsBehind None old.last g.zone) (sym gets) refl;
         },
       )
-  told_said old new code written (full most is_code same) = (None, record { starved = true; reply = (short, sym (said old.last code written ServFail is_code)); zone = refl })
-  told_said old new code written (starved taken is_code same) = (None, record { starved = true; reply = (short, sym (said old.last code written ServFail is_code)); zone = refl })
+  told_said old new code written (full most is_code same) = (None, record { want = ForMaking; reply = (short, sym (said old.last code written ServFail is_code)); zone = refl })
+  told_said old new code written (starved taken is_code same) = (None, record { want = ForMaking; reply = (short, sym (said old.last code written ServFail is_code)); zone = refl })
 
 -- an update's code is its reply
 pub update_replied : (first : List Record) (peer : Peer) (request out : List ℕ) (heard : Parsed) (update : Update) (old new : Held) (code : Rcode) (len : ℕ) → IsReplay first old.last → Tells request heard → heard ≡ SaysUpdate update
-    → len ≤ limit_of peer.transport → take len out ≡ fit (bare update.head code) (limit_of peer.transport) → IsTold old update peer.may_update code new → IsReplied first peer request (take len out ∷ [])
+    → len ≤ limit_of peer.transport None → take len out ≡ fit (coded (heading_of_update update) code) (limit_of peer.transport None) → IsTold old update peer.may_update code new → IsReplied first peer request (take len out ∷ [])
 update_replied first peer request out heard update old new code len replayed tells is short written t =
     let s = told_said peer.transport update peer.may_update out len short old new code written t in
     said_replied first peer old.last request out heard (SaysUpdate update) len s.0 replayed tells is tt s.1
@@ -237,13 +243,15 @@ update_said request asks = reads-want request (NoMemory (header_of request)) (wa
 abbrev pub IsOfUpdate : Parsed → Type 0
 IsOfUpdate IsSilent = ⊥
 IsOfUpdate (Fault head code) = Unit {0}
+IsOfUpdate (BadOpt head question code dnssec_ok) = Unit {0}
 IsOfUpdate (Query query) = ⊥
 IsOfUpdate (SaysUpdate update) = Unit {0}
 IsOfUpdate (NoMemory head) = Unit {0}
 
-of_update : (head : Head) (o : Option Update) → IsOfUpdate (update_of head o)
+of_update : (head : Head) (o : _) → IsOfUpdate (update_of head o)
 of_update head None = tt
-of_update head (Some update) = tt
+of_update head (Some (Ok update)) = tt
+of_update head (Some (Err bad)) = tt
 
 -- what asks for an update is heard as such
 pub heard_of_update : (request : List ℕ) (heard : Parsed) → is_update request ≡ true → Tells request heard → IsOfUpdate heard
@@ -255,15 +263,17 @@ heard_of_update request heard asks tells =
 abbrev pub IsOther : Parsed → Type 0
 IsOther IsSilent = Unit {0}
 IsOther (Fault head code) = Unit {0}
+IsOther (BadOpt head question code dnssec_ok) = Unit {0}
 IsOther (Query query) = Unit {0}
 IsOther (SaysUpdate update) = ⊥
 IsOther (NoMemory head) = ⊥
 
-query_other : (head : Head) (o : Option (Question × Option Serial × Bool)) → IsOther (query_of head o)
+query_other : (head : Head) (o : _) → IsOther (query_of head o)
 query_other head None = tt
-query_other head (Some r) = elim r.2 as (λ b. IsOther (if b then Fault head FormErr else Query (record { head = head; question = r.0; serial = r.1 }))) [ true ↦ tt | false ↦ tt ]
+query_other head (Some (question, serial, Ok edns)) = tt
+query_other head (Some (question, serial, Err fault)) = tt
 
-judged_other : (short reply : Bool) (head : Head) (asked : Option (Question × Option Serial × Bool)) (update : Option Update)
+judged_other : (short reply : Bool) (head : Head) (asked : _) (update : _)
     → not short && not reply && (head.opcode == 5) ≡ false → IsOther (judged (short || reply) head asked update)
 judged_other true reply head asked update other = tt
 judged_other false true head asked update other = tt
@@ -288,49 +298,78 @@ heard_update request heard update tells is =
     no_update_wanted head wants said = cc
 
 -- what is heard as a code is read so
-pub heard_fault : (request : List ℕ) (heard : Parsed) (head : Head) (code : Rcode) → Tells request heard → heard ≡ Fault head code → reads request ≡ Fault head code
+heard_fault : (request : List ℕ) (heard : Parsed) (head : Head) (code : Rcode) → Tells request heard → heard ≡ Fault head code → reads request ≡ Fault head code
 heard_fault request heard head code tells is =
     ⊎_elim (λ (e : heard ≡ reads request). sym e ∙ is) (λ (want : IsWant request heard). absurd (no_fault_wanted (header_of request) want.is is)) tells
   where
     no_fault_wanted : (other : Head) → heard ≡ NoMemory other → heard ≡ Fault head code → ⊥
     no_fault_wanted other wants said = cc
 
-update_wants_nothing : (head other : Head) (o : Option Update) → update_of head o ≡ NoMemory other → ⊥
+-- and what is heard as a request whose OPT isn't obeyed
+heard_bad : (request : List ℕ) (heard : Parsed) (head : Head) (question : Question) (code : Rcode) (dnssec_ok : Bool) → Tells request heard → heard ≡ BadOpt head question code dnssec_ok → reads request ≡ BadOpt head question code dnssec_ok
+heard_bad request heard head question code dnssec_ok tells is =
+    ⊎_elim (λ (e : heard ≡ reads request). sym e ∙ is) (λ (want : IsWant request heard). absurd (no_bad_wanted (header_of request) want.is is)) tells
+  where
+    no_bad_wanted : (other : Head) → heard ≡ NoMemory other → heard ≡ BadOpt head question code dnssec_ok → ⊥
+    no_bad_wanted other wants said = cc
+
+update_wants_nothing : (head other : Head) (o : _) → update_of head o ≡ NoMemory other → ⊥
 update_wants_nothing head other None e = cc
-update_wants_nothing head other (Some update) e = cc
+update_wants_nothing head other (Some (Ok update)) e = cc
+update_wants_nothing head other (Some (Err bad)) e = cc
 
 -- where memory is told to be wanted, it was
-pub heard_want : (request : List ℕ) (heard : Parsed) (head : Head) → is_update request ≡ true → Tells request heard → heard ≡ NoMemory head → IsWant request (NoMemory head)
+heard_want : (request : List ℕ) (heard : Parsed) (head : Head) → is_update request ≡ true → Tells request heard → heard ≡ NoMemory head → IsWant request (NoMemory head)
 heard_want request heard head asks tells is =
     ⊎_elim (λ (e : heard ≡ reads request). absurd (update_wants_nothing (header_of request) head (update_in (header_of request) request) (sym (update_said request asks) ∙ sym e ∙ is)))
     (λ (want : IsWant request heard). subst (IsWant request) is want) tells
 
+-- what is told of a request that isn't read as an update is told of it
+pub told_unread : (first : List Record) (may : Bool) (request : List ℕ) (heard : Parsed) (head : Head) (code : Rcode) (heading : Heading) (t : Told) → Tells request heard → heard ≡ Fault head code → heading ≡ header_alone head → t.code ≡ code → t.serials ≡ None → IsToldOf first may request heading t
+told_unread first may request heard head code heading t tells is alone same none =
+    unread head (heard_fault request heard head code tells is ∙ ap (λ c. Fault head c) (sym same)) alone none
+
+pub told_bad : (first : List Record) (may : Bool) (request : List ℕ) (heard : Parsed) (head : Head) (question : Question) (code : Rcode) (dnssec_ok : Bool) (heading : Heading) (t : Told) → Tells request heard → heard ≡ BadOpt head question code dnssec_ok → heading ≡ heading_of_bad head question dnssec_ok
+    → t.code ≡ code → t.serials ≡ None → IsToldOf first may request heading t
+told_bad first may request heard head question code dnssec_ok heading t tells is repeats same none =
+    bad_opt head question dnssec_ok (heard_bad request heard head question code dnssec_ok tells is ∙ ap (λ c. BadOpt head question c dnssec_ok) (sym same)) repeats none
+
+pub told_starved : (first : List Record) (may : Bool) (request : List ℕ) (heard : Parsed) (head : Head) (heading : Heading) (t : Told) → is_update request ≡ true → Tells request heard → heard ≡ NoMemory head → heading ≡ header_alone head → t.code ≡ ServFail → t.serials ≡ None → IsToldOf first may request heading t
+told_starved first may request heard head heading t asks tells is alone same none =
+    starved_reading head (heard_want request heard head asks tells is) alone same none
+
 -- an update of a peer that may not update is judged by the first rule that it breaks
 judged_got : (transport : Transport) (zone : List Record) (update : Update) (may : Bool) (code : Rcode) → may ≡ false → verdict zone update false ≡ Some code
-    → got_of transport may false zone (SaysUpdate update) ≡ told transport update.head code zone
+    → got_of transport may ForNothing zone (SaysUpdate update) ≡ told transport (heading_of_update update) code zone
 judged_got transport zone update may code is gives =
-    ap (λ m. got_of transport m false zone (SaysUpdate update)) is
-    ∙ ap (λ v. answered transport update.head zone (act zone update) (option_or v (if is_some (act zone update) then None else Some ServFail))) gives
+    ap (λ m. got_of transport m ForNothing zone (SaysUpdate update)) is
+    ∙ ap (λ v. answered transport (heading_of_update update) zone (act zone update) (option_or v (if is_some (act zone update) then None else Some ServFail))) gives
 
 -- the code that is told of a request that asks for an update is its reply
-module _ (first : List Record) (peer : Peer) (request out : List ℕ) (len : ℕ) (short : len ≤ limit_of peer.transport) where
-  bare_of : Head → Rcode → List ℕ
-  bare_of head code = fit (bare head code) (limit_of peer.transport)
+module _ (first : List Record) (peer : Peer) (request out : List ℕ) (len : ℕ) (short : len ≤ limit_of peer.transport None) where
+  code_of_heading : Heading → Rcode → List ℕ
+  code_of_heading heading code = fit (coded heading code) (limit_of peer.transport None)
 
-  judged_replied : (update : Update) (t : Told) → reads request ≡ SaysUpdate update → IsJudged first update peer.may_update t → take len out ≡ fit (bare update.head t.code) (limit_of peer.transport) → IsReplied first peer request (take len out ∷ [])
+  judged_replied : (update : Update) (t : Told) → reads request ≡ SaysUpdate update → IsJudged first update peer.may_update t → take len out ≡ fit (coded (heading_of_update update) t.code) (limit_of peer.transport None) → IsReplied first peer request (take len out ∷ [])
   judged_replied update t reading (by_engine serials is updated) written =
       update_replied first peer request out (SaysUpdate update) update updated.0 updated.1 t.code len updated.2 (inl (sym reading)) refl short written updated.3
   judged_replied update t reading (in_version version may replayed gives none) written =
-      same_replied first peer version request out (fit (bare update.head t.code) (limit_of peer.transport)) (SaysUpdate update) (SaysUpdate update) len replayed (inl (sym reading)) refl tt short written (judged_got peer.transport version.zone update peer.may_update t.code may gives)
+      same_replied first peer version request out (fit (coded (heading_of_update update) t.code) (limit_of peer.transport None)) (SaysUpdate update) (SaysUpdate update) len replayed (inl (sym reading)) refl tt short written (judged_got peer.transport version.zone update peer.may_update t.code may gives)
 
-  pub told_replied : (head : Head) (t : Told) → IsToldOf first peer.may_update request head t → take len out ≡ fit (bare head t.code) (limit_of peer.transport) → IsReplied first peer request (take len out ∷ [])
-  told_replied head t (read update reading same judged) written =
-      judged_replied update t reading judged (written ∙ ap (λ (h : Head). fit (bare h t.code) (limit_of peer.transport)) same)
-  told_replied head t (unread reading none) written =
-      same_replied first peer (first_version first) request out (fit (bare head t.code) (limit_of peer.transport)) (Fault head t.code) (Fault head t.code) len (first_replay first) (inl (sym reading)) refl tt short written refl
-  told_replied head t (starved_reading want code none) written =
-      same_replied first peer (first_version first) request out (fit (bare head t.code) (limit_of peer.transport)) (NoMemory head) (NoMemory head) len (first_replay first) (inr want) refl tt short written
-      (ap (λ c. told peer.transport head c first) (sym code))
+  -- a request that can't be read as an update gets a code, whatever version is served
+  said_as : (saying : Parsed) (heading other : Heading) (code : Rcode) → Tells request saying → IsNoQuery saying → len ≤ limit_for peer.transport saying → heading ≡ other
+      → got_of peer.transport peer.may_update ForNothing first saying ≡ told peer.transport other code first → take len out ≡ fit (coded heading code) (limit_of peer.transport None) → IsReplied first peer request (take len out ∷ [])
+  said_as saying heading other code tells plain within same gets written =
+      same_replied first peer (first_version first) request out (fit (coded other code) (limit_of peer.transport None)) saying saying len (first_replay first) tells refl plain within (written ∙ ap (λ (h : Heading). fit (coded h code) (limit_of peer.transport None)) same) gets
+
+  pub told_replied : (heading : Heading) (t : Told) → IsToldOf first peer.may_update request heading t → take len out ≡ fit (coded heading t.code) (limit_of peer.transport None) → IsReplied first peer request (take len out ∷ [])
+  told_replied heading t (read update reading same judged) written =
+      judged_replied update t reading judged (written ∙ ap (λ (h : Heading). fit (coded h t.code) (limit_of peer.transport None)) same)
+  told_replied heading t (unread head reading same none) written = said_as (Fault head t.code) heading (header_alone head) t.code (inl (sym reading)) tt short same refl written
+  told_replied heading t (bad_opt head question dnssec_ok reading same none) written =
+      said_as (BadOpt head question t.code dnssec_ok) heading (heading_of_bad head question dnssec_ok) t.code (inl (sym reading)) tt short same refl written
+  told_replied heading t (starved_reading head want same code none) written =
+      said_as (NoMemory head) heading (header_alone head) t.code (inr want) tt short same (ap (λ c. told peer.transport (header_alone head) c first) (sym code)) written
 
 -- octets that get no reply
 pub silent_replied : (first : List Record) (peer : Peer) (request : List ℕ) → reads request ≡ IsSilent → IsReplied first peer request []
@@ -339,38 +378,67 @@ silent_replied first peer request silent = record {
   replayed = first_replay first;
   changes = None;
   told = subst (TellsFor first (first_version first) None) (sym silent) tt;
-  starved = false;
-  reply = ap (replies_to first None peer false) (sym silent);
+  want = ForNothing;
+  reply = ap (replies_to first None peer ForNothing) (sym silent);
 }
 
-limit_by : (transport : Transport) → limit_of transport ≤ message_limit
-limit_by Udp = lit≤ tt
-limit_by Tcp = lit≤ tt
+limit_by : (transport : Transport) (edns : Option Edns) → limit_of transport edns ≤ message_limit
+limit_by Udp None = lit≤ tt
+limit_by Udp (Some edns) = omega arith
+limit_by Tcp edns = lit≤ tt
 
 -- no reply is over the limit of a stream
-pub limit_most : (peer : Peer) → limit_of peer.transport ≤ message_limit
-limit_most peer = limit_by peer.transport
+pub limit_most : (peer : Peer) (said : Parsed) → limit_for peer.transport said ≤ message_limit
+limit_most peer IsSilent = limit_by peer.transport None
+limit_most peer (Fault head code) = limit_by peer.transport None
+limit_most peer (BadOpt head question code dnssec_ok) = limit_by peer.transport None
+limit_most peer (Query query) = limit_by peer.transport query.edns
+limit_most peer (SaysUpdate update) = limit_by peer.transport None
+limit_most peer (NoMemory head) = limit_by peer.transport None
+
+pub short_reply : (peer : Peer) (said : Parsed) (len : ℕ) → len ≤ limit_for peer.transport said → len ≤ 65535
+short_reply peer said len short = let most = limit_most peer said in omega (arith, short, most)
+
+-- an update's reply keeps the least limit
+pub update_limit : (transport : Transport) (request : List ℕ) → is_update request ≡ true → limit_for transport (reads request) ≡ limit_of transport None
+update_limit transport request asks = ap (limit_for transport) (update_said request asks) ∙ by (update_in (header_of request) request)
+  where
+    by : (o : _) → limit_for transport (update_of (header_of request) o) ≡ limit_of transport None
+    by None = refl
+    by (Some (Ok update)) = refl
+    by (Some (Err bad)) = refl
+
+-- no buffer that has room for a stream's reply is too small for a peer's
+pub room_most : (peer : Peer) → room_of peer.transport ≤ message_limit
+room_most peer = by peer.transport
+  where
+    by : (transport : Transport) → room_of transport ≤ message_limit
+    by Udp = lit≤ tt
+    by Tcp = lit≤ tt
 
 -- what is answered at once without a version
-pub code_now : (first : List Record) (peer : Peer) (request out : List ℕ) (head : Head) (code : Rcode) (len : ℕ) → len ≤ limit_of peer.transport → is_update request ≡ false → reads request ≡ Fault head code
-    → take len out ≡ fit (bare head code) (limit_of peer.transport) → (replied : IsReplied first peer request (take len out ∷ [])) × IsAtOnce peer request replied.version
-code_now first peer request out head code len short other said written =
-    let replied = same_replied first peer (first_version first) request out (fit (bare head code) (limit_of peer.transport)) (Fault head code) (Fault head code) len (first_replay first) (inl (sym said)) refl tt short written refl in
-    (replied, record { other = other; plain = subst (IsNoTransfer replied.version.zone peer) (sym said) tt })
+pub code_now : (first : List Record) (peer : Peer) (request out : List ℕ) (saying : Parsed) (heading own : Heading) (code : Rcode) (len : ℕ) → is_update request ≡ false → reads request ≡ saying → IsNoQuery saying → len ≤ limit_of peer.transport None
+    → limit_for peer.transport saying ≡ limit_of peer.transport None → heading ≡ own → got_of peer.transport peer.may_update ForNothing first saying ≡ told peer.transport own code first → ((zone : List Record) → IsNoTransfer zone peer saying)
+    → take len out ≡ fit (coded heading code) (limit_of peer.transport None) → (len ≤ limit_for peer.transport (reads request)) × (replied : IsReplied first peer request (take len out ∷ [])) × IsAtOnce peer request replied.version
+code_now first peer request out saying heading own code len other reading plain short limit same gets none written =
+    let within : len ≤ limit_for peer.transport saying = subst (λ (n : ℕ). len ≤ n) (sym limit) short in
+    let replied = same_replied first peer (first_version first) request out (fit (coded own code) (limit_of peer.transport None)) saying saying len (first_replay first) (inl (sym reading)) refl plain within (written ∙ ap (λ (h : Heading). fit (coded h code) (limit_of peer.transport None)) same) gets in
+    (subst (λ p. len ≤ limit_for peer.transport p) (sym reading) within, replied, record { other = other; plain = subst (IsNoTransfer replied.version.zone peer) (sym reading) (none replied.version.zone) })
 
 -- a query that is answered at once in a version
 pub query_now : (first : List Record) (peer : Peer) (version : Version) (request out : List ℕ) (query : QueryAsked) (len : ℕ) (changes : Option (List Record)) (keep : ℕ) → IsReplay first version → TellsSince first keep version query.serial changes
-    → is_update request ≡ false → reads request ≡ Query query → is_permitted version.zone peer query ≡ false → take len out ≡ fit (reply_to_peer version.zone peer query) (limit_of peer.transport)
-    → (replied : IsReplied first peer request (take len out ∷ [])) × IsAtOnce peer request replied.version
-query_now first peer version request out query len changes keep replayed told other asked may written =
-    let gets : take len out ∷ [] ≡ replies_to version.zone changes peer false (Query query) = rw (may, written) refl in (
+    → is_update request ≡ false → reads request ≡ Query query → is_permitted version.zone peer query ≡ false → take len out ≡ fit (reply_to_peer version.zone peer query) (limit_of peer.transport query.edns)
+    → len ≤ limit_of peer.transport query.edns → (len ≤ limit_for peer.transport (reads request)) × (replied : IsReplied first peer request (take len out ∷ [])) × IsAtOnce peer request replied.version
+query_now first peer version request out query len changes keep replayed told other asked may written short =
+    let gets : take len out ∷ [] ≡ replies_to version.zone changes peer ForNothing (Query query) = rw (may, written) refl in (
+      subst (λ p. len ≤ limit_for peer.transport p) (sym asked) short,
       record {
         version = version;
         replayed = replayed;
         changes = changes;
         told = subst (TellsFor first version changes) (sym asked) (keep, told);
-        starved = false;
-        reply = gets ∙ ap (replies_to version.zone changes peer false) (sym asked);
+        want = ForNothing;
+        reply = gets ∙ ap (replies_to version.zone changes peer ForNothing) (sym asked);
       },
       record { other = other; plain = subst (IsNoTransfer version.zone peer) (sym asked) may },
     )

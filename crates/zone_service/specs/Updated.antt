@@ -6,7 +6,8 @@ use Rattle.dns_rdata.specs.declared.numbers.Rcode.TheVariants.{ServFail}
 use Rattle.dns_message.specs.Octets.{fit}
 use Rattle.dns_message.specs.Request.{is_update, reads, IsWant}
 use Rattle.dns_message.specs.declared.query.Head.{Head}
-use Rattle.dns_message.specs.declared.query.Parsed.TheVariants.{Fault, Update as SaysUpdate, NoMemory}
+use Rattle.dns_message.specs.declared.query.Question.{Question}
+use Rattle.dns_message.specs.declared.query.Parsed.TheVariants.{Fault, BadOpt, Update as SaysUpdate, NoMemory}
 use Rattle.dns_message.specs.declared.update.Update.{Update}
 use Rattle.zone_tree.specs.Version.{Version, zone_serial}
 use Rattle.update_core.specs.Verdict.{verdict}
@@ -14,7 +15,8 @@ use Rattle.dns_engine.specs.Held.{Held}
 use Rattle.dns_engine.specs.Told.{IsTold}
 use Rattle.dns_engine.specs.Replayed.{IsReplay}
 use Rattle.serve_core.specs.declared.peer.Peer.{Peer}
-use Rattle.serve_core.specs.Reply.{bare}
+use Rattle.serve_core.specs.declared.heading.Heading.{Heading}
+use Rattle.serve_core.specs.Heading.{header_alone, heading_of_update, heading_of_bad, coded}
 use Rattle.serve_core.specs.Transport.{limit_of}
 use Rattle.zone_service.specs.declared.answer.Told.{Told}
 use Rattle.zone_service.specs.declared.service_log.Serials.{Serials}
@@ -32,16 +34,18 @@ pub data IsJudged (first : List Record) (update : Update) (may : Bool) (told : T
   by_engine : (serials : Serials) → told.serials ≡ Some serials → IsUpdated first update may told.code serials → IsJudged first update may told
   in_version : (version : Version) → may ≡ false → IsReplay first version → verdict version.zone update false ≡ Some told.code → told.serials ≡ None → IsJudged first update may told
 
--- what is told of a request that asks for an update, and the header of its reply: of one that is read what is told of that update; of one that can't
--- be read its code; and SERVFAIL where memory was wanted while it was read. Only what is told of an update that is read has serials
-pub data IsToldOf (first : List Record) (may : Bool) (request : List ℕ) (head : Head) (told : Told) : Type 0 where
-  read : (update : Update) → reads request ≡ SaysUpdate update → head ≡ update.head → IsJudged first update may told → IsToldOf first may request head told
-  unread : reads request ≡ Fault head told.code → told.serials ≡ None → IsToldOf first may request head told
-  starved : IsWant request (NoMemory head) → told.code ≡ ServFail → told.serials ≡ None → IsToldOf first may request head told
+-- what is told of a request that asks for an update, and what its reply repeats of it: of one that is read what is told of that update; of one that
+-- can't be read, or whose OPT isn't obeyed, its code; and SERVFAIL where memory was wanted while it was read. Only what is told of an update that is
+-- read has serials
+pub data IsToldOf (first : List Record) (may : Bool) (request : List ℕ) (heading : Heading) (told : Told) : Type 0 where
+  read : (update : Update) → reads request ≡ SaysUpdate update → heading ≡ heading_of_update update → IsJudged first update may told → IsToldOf first may request heading told
+  unread : (head : Head) → reads request ≡ Fault head told.code → heading ≡ header_alone head → told.serials ≡ None → IsToldOf first may request heading told
+  bad_opt : (head : Head) (question : Question) (dnssec_ok : Bool) → reads request ≡ BadOpt head question told.code dnssec_ok → heading ≡ heading_of_bad head question dnssec_ok → told.serials ≡ None → IsToldOf first may request heading told
+  starved : (head : Head) → IsWant request (NoMemory head) → heading ≡ header_alone head → told.code ≡ ServFail → told.serials ≡ None → IsToldOf first may request heading told
 
--- a request asks for an update, and its reply is its header alone, with the code that is told of it (RFC 2136, 3.8)
+-- a request asks for an update, and its reply has no record but an OPT, and the code that is told of it (RFC 2136, 3.8; RFC 6891, 6.1.1)
 pub record IsUpdateTold (first : List Record) (peer : Peer) (request octets : List ℕ) (told : Told) : Type 0 where
   pub asks : is_update request ≡ true
-  pub head : Head
-  pub tells : IsToldOf first peer.may_update request head told
-  pub reply : octets ≡ fit (bare head told.code) (limit_of peer.transport)
+  pub heading : Heading
+  pub tells : IsToldOf first peer.may_update request heading told
+  pub reply : octets ≡ fit (coded heading told.code) (limit_of peer.transport None)

@@ -3,7 +3,7 @@
 ghost use Rattle.std.specs.Prelude.{◌≡◌, ◌≤◌, ◌⊎◌, List, ℕ, Some, None, false, length};
 ghost use Rattle.dns_message.specs.Request.{reads};
 ghost use Rattle.dns_message.specs.declared.query.Parsed.TheVariants.{Query as SaysQuery};
-ghost use Rattle.serve_core.specs.Transport.{limit_of};
+ghost use Rattle.serve_core.specs.Transport.{room_of};
 ghost use Rattle.zone_service.specs.Replied.{IsUpdate, IsTransfer, IsNow, IsServed};
 ghost use Rattle.zone_service.specs.Updated.{IsJudged, IsToldOf};
 ghost use Rattle.update_core.specs.Verdict.{verdict};
@@ -11,9 +11,9 @@ ghost use Rattle.update_core.specs.Verdict.{verdict};
 use crate::server::Server;
 use crate::service_log::Serials;
 use dns_engine::{FirstZone, Newest, VersionCell, VersionReader};
-use dns_message::{Head, Parsed, Query, Update, is_update, parse, parse_other};
+use dns_message::{Parsed, Query, Update, is_update, parse, parse_other};
 use dns_rdata::Rcode;
-use serve_core::{Peer, is_permitted, respond_to_peer, write_bare};
+use serve_core::{Heading, Peer, is_permitted, respond_to_peer, write_code};
 use std::alloc::Global;
 use std::sync::Wait;
 use update_core::check;
@@ -37,8 +37,8 @@ pub enum Now {
 pub struct Told {
     /// Its code.
     pub code: Rcode,
-    /// The zone's serials before it and after it; none of an update that can't be read, or for whose reading memory is wanted, nor of
-    /// one that is refused without the engine.
+    /// The zone's serials before it and after it; none of an update that can't be read, or whose OPT isn't obeyed, or for whose reading
+    /// memory is wanted, nor of one that is refused without the engine.
     pub serials: Option<Serials>,
 }
 
@@ -79,7 +79,7 @@ pub fn answer_now<R: Wait, Z: FirstZone>(
     request: &[u8],
     out: &mut [u8],
 ) -> Now
-    requires { limit_of peer.transport ≤ length out.old }
+    requires { room_of peer.transport ≤ length out.old }
     ensures { IsNow Z.zone peer request.now out.new result }
 {
     if is_update(request) {
@@ -87,7 +87,14 @@ pub fn answer_now<R: Wait, Z: FirstZone>(
     }
     match parse_other(request) {
         Parsed::Silent => Now::Silent,
-        Parsed::Fault(head, code) => Now::Bytes(write_bare(head, code, peer.transport, out)),
+        Parsed::Fault(head, code) => {
+            let heading = Heading::header_alone(head);
+            Now::Bytes(write_code(&heading, code, peer.transport, out))
+        }
+        Parsed::BadOpt(head, question, code, dnssec_ok) => {
+            let heading = Heading::of_bad(head, &question, dnssec_ok);
+            Now::Bytes(write_code(&heading, code, peer.transport, out))
+        }
         Parsed::Query(query) => {
             let Ok(strong) = cell.load(rt, reader) else {
                 return Now::Spent;
@@ -115,12 +122,13 @@ pub fn serve_one<'s, R: Wait, Z: FirstZone>(
     out: &mut [u8],
 ) -> Served<'s, Z>
     requires later { IsUpdate request.now ⊎ IsTransfer Z.zone peer request.now }
-    requires room { limit_of peer.transport ≤ length out.old }
+    requires room { room_of peer.transport ≤ length out.old }
     ensures { IsServed Z.zone peer request.now out.new result }
 {
     if is_update(request) {
-        let (head, told) = told_of(rt, alloc, server, reader, peer.may_update, request);
-        return Served::Updated(write_bare(head, told.code, peer.transport, out), told);
+        let (heading, told) = told_of(rt, alloc, server, reader, peer.may_update, request);
+        let len = write_code(&heading, told.code, peer.transport, out);
+        return Served::Updated(len, told);
     }
     let Parsed::Query(query) = parse_other(request) else {
         unreachable!()
@@ -131,8 +139,9 @@ pub fn serve_one<'s, R: Wait, Z: FirstZone>(
     serve_query(newest, query, peer, out)
 }
 
-/// What is told of a request that asks for an update, and the header of its reply: FORMERR of one that can't be read (RFC 2136, 2), and
-/// SERVFAIL where memory is wanted to read it (own).
+/// What is told of a request that asks for an update, and what its reply repeats of it: FORMERR of one that can't be read
+/// (RFC 2136, 2), FORMERR or BADVERS of one whose OPT isn't obeyed (RFC 6891, 6.1.1 and 6.1.3), and SERVFAIL where memory is wanted to
+/// read it (own).
 fn told_of<R: Wait, Z: FirstZone>(
     rt: &R,
     alloc: Global,
@@ -140,14 +149,21 @@ fn told_of<R: Wait, Z: FirstZone>(
     reader: &mut VersionReader<Z>,
     may: bool,
     request: &[u8],
-) -> (Head, Told)
+) -> (Heading, Told)
     requires { IsUpdate request.now }
     ensures { IsToldOf Z.zone may request.now result.0 result.1 }
 {
     match parse(alloc, request) {
-        Parsed::Update(update) => (update.head, judge(rt, alloc, server, reader, may, &update)),
-        Parsed::NoMemory(head) => (head, Told::code(Rcode::ServFail)),
-        Parsed::Fault(head, code) => (head, Told::code(code)),
+        Parsed::Update(update) => {
+            let heading = Heading::of_update(&update);
+            (heading, judge(rt, alloc, server, reader, may, &update))
+        }
+        Parsed::NoMemory(head) => (Heading::header_alone(head), Told::code(Rcode::ServFail)),
+        Parsed::Fault(head, code) => (Heading::header_alone(head), Told::code(code)),
+        Parsed::BadOpt(head, question, code, dnssec_ok) => (
+            Heading::of_bad(head, &question, dnssec_ok),
+            Told::code(code),
+        ),
         Parsed::Silent => unreachable!(),
         Parsed::Query(_) => unreachable!(),
     }
@@ -196,7 +212,7 @@ fn serve_query<'s, Z: FirstZone>(
     peer: Peer,
     out: &mut [u8],
 ) -> Served<'s, Z>
-    requires { limit_of peer.transport ≤ length out.old }
+    requires { room_of peer.transport ≤ length out.old }
     ensures { (request : List ℕ) → reads request ≡ SaysQuery query → IsServed Z.zone peer request out.new result }
 {
     if is_permitted(newest.last_version(), &query, peer) {

@@ -77,7 +77,7 @@ impl<'a, 's, Z: FirstZone, L: ServiceLog> Asked<'a, 's, Z, L> {
     }
 
     /// Answers an update, or a transfer that is permitted, on a stream.
-    #[tactic(auto, using(crate::proofs::ReplyLemmas::limit_most))]
+    #[tactic(auto, using(crate::proofs::ReplyLemmas::limit_most, crate::proofs::ReplyLemmas::room_most))]
     fn answer_later<R: Wait, S: Stream>(
         &mut self,
         rt: &R,
@@ -112,7 +112,7 @@ impl<'a, 's, Z: FirstZone, L: ServiceLog> Asked<'a, 's, Z, L> {
     }
 
     /// Answers an update, or a transfer that is permitted, that came as a datagram.
-    #[tactic(auto, using(crate::proofs::ReplyLemmas::limit_most))]
+    #[tactic(auto, using(crate::proofs::ReplyLemmas::limit_most, crate::proofs::ReplyLemmas::room_most))]
     fn answer_datagram_later<R: Wait>(
         &mut self,
         rt: &R,
@@ -153,7 +153,7 @@ impl<'a, 's, Z: FirstZone, L: ServiceLog> Answering for Asked<'a, 's, Z, L> {
         self.from = from;
     }
 
-    #[tactic(auto, using(crate::proofs::ReplyLemmas::limit_most, crate::proofs::ReplyLemmas::silent_replied, conversation::proofs::TurnLemmas::begins_itself))]
+    #[tactic(auto, using(crate::proofs::ReplyLemmas::limit_most, crate::proofs::ReplyLemmas::room_most, crate::proofs::ReplyLemmas::silent_replied, conversation::proofs::TurnLemmas::begins_itself))]
     fn answer<R: Wait>(
         &mut self,
         rt: &R,
@@ -181,7 +181,7 @@ impl<'a, 's, Z: FirstZone, L: ServiceLog> Answering for Asked<'a, 's, Z, L> {
         }
     }
 
-    #[tactic(auto, using(crate::proofs::ReplyLemmas::limit_most, crate::proofs::ReplyLemmas::silent_replied, conversation::proofs::TurnLemmas::begins_itself))]
+    #[tactic(auto, using(crate::proofs::ReplyLemmas::limit_most, crate::proofs::ReplyLemmas::room_most, crate::proofs::ReplyLemmas::silent_replied, conversation::proofs::TurnLemmas::begins_itself))]
     fn answer_on<R: Wait, S: Stream>(
         &mut self,
         rt: &R,

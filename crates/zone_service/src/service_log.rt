@@ -135,7 +135,7 @@ fn carrier_of(transport: Transport) -> &'static str {
     }
 }
 
-/// A code's name (RFC 1035, 4.1.1; RFC 2136, 2.2).
+/// A code's name (RFC 1035, 4.1.1; RFC 2136, 2.2; RFC 6891, 9).
 fn name_of(code: Rcode) -> &'static str {
     match code {
         Rcode::NoError => "NOERROR",
@@ -149,5 +149,6 @@ fn name_of(code: Rcode) -> &'static str {
         Rcode::NXRRSet => "NXRRSET",
         Rcode::NotAuth => "NOTAUTH",
         Rcode::NotZone => "NOTZONE",
+        Rcode::BadVers => "BADVERS",
     }
 }

@@ -4,6 +4,7 @@ use Rattle.dns_rdata.specs.Record.{Record}
 use Rattle.zone_tree.specs.Version.{Version}
 use Rattle.dns_message.specs.Octets.{fit}
 use Rattle.dns_message.specs.Request.{is_update}
+use Rattle.dns_message.specs.declared.query.Parsed.TheVariants.{Fault, BadOpt}
 use Rattle.dns_engine.proofs.ReplayLemmas.{published_replay}
 use Rattle.serve_core.specs.Transfers.{is_permitted, reply_to_peer}
 use Rattle.serve_core.specs.Transport.{limit_of}
@@ -13,8 +14,13 @@ use Rattle.zone_service.proofs.answer.answer_now.Goals as goal
 pub returns-in-Fault : goal.returns-in-Fault
 returns-in-Fault g c =
     let other : is_update c.args.request.now ≡ false = sym c.is_update.ensures ∙ c.if-is_update.false in
-    let now = code_now g.Z.FirstZone.zone c.args.peer c.args.request.now c.write_bare.new.out c.in-Fault.head c.in-Fault.code c.write_bare.result c.write_bare.ensures.len other (sym c.parse_other.ensures ∙ c.in-Fault.is) c.write_bare.ensures.octets in
-    (c.write_bare.ensures.len, now.0, now.1)
+    code_now g.Z.FirstZone.zone c.args.peer c.args.request.now c.write_code.new.out (Fault c.in-Fault.head c.in-Fault.code) _ _ c.in-Fault.code c.write_code.result other (sym c.parse_other.ensures ∙ c.in-Fault.is) tt c.write_code.ensures.len refl c.header_alone-heading.ensures refl (λ zone. tt) c.write_code.ensures.octets
+
+pub returns-in-BadOpt : goal.returns-in-BadOpt
+returns-in-BadOpt g c =
+    let other : is_update c.args.request.now ≡ false = sym c.is_update.ensures ∙ c.if-is_update.false in
+    let said = BadOpt c.in-BadOpt.head c.in-BadOpt.question c.in-BadOpt.code c.in-BadOpt.dnssec_ok in
+    code_now g.Z.FirstZone.zone c.args.peer c.args.request.now c.write_code-in-BadOpt.new.out said _ _ c.in-BadOpt.code c.write_code-in-BadOpt.result other (sym c.parse_other.ensures ∙ c.in-BadOpt.is) tt c.write_code-in-BadOpt.ensures.len refl c.of_bad-heading.ensures refl (λ zone. tt) c.write_code-in-BadOpt.ensures.octets
 
 pub returns-in_default : goal.returns-in_default
 returns-in_default g c = (c.in-Query.query, sym c.parse_other.ensures ∙ c.in-Query.is)
@@ -40,8 +46,7 @@ returns-else-is_permitted g c =
     let refused : is_permitted version.zone c.args.peer query ≡ false =
     ap (λ (v : Version). is_permitted v.zone c.args.peer query) (sym c.get-version.ensures) ∙ sym c.is_permitted.ensures ∙ c.if-is_permitted.false in
     let zone : c.zone.result.now ≡ version.zone = c.zone.ensures ∙ ap (λ (v : Version). v.zone) c.get-version.ensures in
-    let written = c.respond_to_peer.ensures.octets ∙ ap (λ (z : List Record). fit (reply_to_peer z c.args.peer query) (limit_of c.args.peer.transport)) zone in
+    let written = c.respond_to_peer.ensures.octets ∙ ap (λ (z : List Record). fit (reply_to_peer z c.args.peer query) (limit_of c.args.peer.transport query.edns)) zone in
     let tells = published_tells first c.in-Ok.strong query.serial c.in-Ok.ensures in
     let other : is_update c.args.request.now ≡ false = sym c.is_update.ensures ∙ c.if-is_update.false in
-    let now = query_now first c.args.peer version c.args.request.now c.respond_to_peer.new.out query c.respond_to_peer.result tells.0 0 (published_replay first _ c.in-Ok.ensures) tells.1 other (sym c.parse_other.ensures ∙ c.in-Query.is) refused written in
-    (c.respond_to_peer.ensures.len, now.0, now.1)
+    query_now first c.args.peer version c.args.request.now c.respond_to_peer.new.out query c.respond_to_peer.result tells.0 0 (published_replay first _ c.in-Ok.ensures) tells.1 other (sym c.parse_other.ensures ∙ c.in-Query.is) refused written c.respond_to_peer.ensures.len

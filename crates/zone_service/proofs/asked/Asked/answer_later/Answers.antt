@@ -1,6 +1,21 @@
 -- What is written is the reply, or a beginning of it.
+use Rattle.std.proofs.Common.{sym, arith}
+use Rattle.std.proofs.lemmas.List.{length-take-le}
+use Rattle.dns_message.specs.Request.{reads}
+use Rattle.zone_service.proofs.ReplyLemmas.{short_reply}
 use Rattle.zone_service.proofs.TransferLemmas.{part_of_one, never_spent, reply_written, reply_broken}
 use Rattle.zone_service.proofs.asked.Asked.answer_later.Goals as goal
+
+pub slice_bounds-write_frame-end-in-Updated-2 : goal.slice_bounds-write_frame-end-in-Updated-2
+slice_bounds-write_frame-end-in-Updated-2 g c =
+    let short = short_reply c.args.self.now.peer (reads c.args.request.now) c.in-Updated.len c.in-Updated.ensures.0 in
+    sym (length-take-le c.in-Updated.len c.serve_one.new.out (omega (arith, short, c.serve_one.auto.out, c.requires.reply_room)))
+
+pub write_frame-requires-in-Updated-clause-most : goal.write_frame-requires-in-Updated-clause-most
+write_frame-requires-in-Updated-clause-most g c =
+    let short = short_reply c.args.self.now.peer (reads c.args.request.now) c.in-Updated.len c.in-Updated.ensures.0 in
+    let size = length-take-le c.in-Updated.len c.serve_one.new.out (omega (arith, short, c.serve_one.auto.out, c.requires.reply_room)) in
+    omega (arith, short, size)
 
 pub returns-in-Reply-clause-broken : goal.returns-in-Reply-clause-broken
 returns-in-Reply-clause-broken g c = reply_broken _ c.write_frame.result _ _ _ _ _ _ c.in-Reply.ensures.1 c.write_frame.ensures.failed (part_of_one c.write_frame.result _ _ _ c.write_frame.ensures.part)

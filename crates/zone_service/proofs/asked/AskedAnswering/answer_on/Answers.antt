@@ -1,8 +1,16 @@
 -- Nothing is written for octets that get no reply.
-use Rattle.std.proofs.Common.{[]}
-use Rattle.zone_service.proofs.ReplyLemmas.{silent_replied, transfer_query}
+use Rattle.std.proofs.Common.{[], arith}
+use Rattle.std.proofs.lemmas.List.{length-take-le}
+use Rattle.dns_message.specs.Request.{reads}
+use Rattle.zone_service.proofs.ReplyLemmas.{short_reply, silent_replied, transfer_query}
 use Rattle.zone_service.proofs.TransferLemmas.{takes_none, never_spent}
 use Rattle.zone_service.proofs.asked.AskedAnswering.answer_on.Goals as goal
+
+pub write_frame-requires-clause-most : goal.write_frame-requires-clause-most
+write_frame-requires-clause-most g c =
+    let short = short_reply c.args.self.now.peer (reads c.args.request.now) c.in-Bytes.len c.in-Bytes.ensures.0 in
+    let size = length-take-le c.in-Bytes.len c.answer_now.new.out (omega (arith, short, c.answer_now.auto.out, c.requires.reply_room)) in
+    omega (arith, short, size)
 
 pub returns-in-Silent-clause-replied : goal.returns-in-Silent-clause-replied
 returns-in-Silent-clause-replied g c = record { messages = []; reply = silent_replied g.Z.FirstZone.zone _ c.args.request.now c.in-Silent.ensures; written = takes_none _ }
