@@ -1,5 +1,5 @@
 -- Lemmas on what a request gets on its line: a reply, or the messages of a transfer.
-use Rattle.std.proofs.Common.{◌≡◌, ℕ, Bool, true, false, cond, List, [], ◌∷◌, ◌++◌, Option, Some, None, IfSome, take, Result, IsErr, codes, refl, sym, ap, ◌∙◌, ⊎_elim, subst, append_assoc}
+use Rattle.std.proofs.Common.{◌≡◌, ℕ, Bool, true, false, cond, List, [], ◌∷◌, ◌++◌, Option, Some, None, IfSome, take, Result, Ok, Err, IsErr, codes, refl, sym, ap, ◌∙◌, ⊎_elim, subst, append_assoc}
 use Rattle.std.specs.Io.KnownBytes.{Appends}
 use Rattle.hex.specs.Hex.{encode_lower}
 use Rattle.dns_rdata.specs.Record.{Record}
@@ -9,11 +9,9 @@ use Rattle.dns_message.specs.Updates.{update_in}
 use Rattle.dns_message.specs.declared.query.Head.{Head}
 use Rattle.dns_message.specs.declared.query.Query.{Query as QueryAsked}
 use Rattle.dns_message.specs.declared.query.Parsed.{Parsed}
-use Rattle.dns_message.specs.declared.query.Parsed.TheVariants.{Silent, Fault, Query, Update, NoMemory}
-use Rattle.dns_message.specs.declared.update.Update.{Update as DynamicUpdate}
-use Rattle.serve_core.specs.Served.{Got, got_of, StandsIn, IsBehind, ServesSaid}
+use Rattle.dns_message.specs.declared.query.Parsed.TheVariants.{Silent, Fault, BadOpt, Query, Update, NoMemory}
+use Rattle.serve_core.specs.Served.{Got, ForNothing, got_of, limit_for, StandsIn, IsBehind, ServesSaid}
 use Rattle.serve_core.specs.Transfers.{peer_over, is_permitted, messages_to}
-use Rattle.serve_core.specs.Transport.{limit_of}
 use Rattle.serve_core.specs.declared.peer.Peer.{Peer}
 use Rattle.serve_core.specs.declared.served.Responded.{Responded}
 use Rattle.serve_core.specs.declared.transport.Transport.{Transport}
@@ -28,9 +26,10 @@ use Rattle.line_io.proofs.LinesLemmas.{Appends-twice, IsWritten}
 use Rattle.line_io.proofs.PartsLemmas.{IsWritten-front, Begins-front, Begins-first, Writes-behind, Writes-refused}
 
 -- an update is no query for a transfer
-no_transfer : (zone : List Record) (peer : Peer) (head : Head) (o : Option DynamicUpdate) → transfer_in zone peer (update_of head o) ≡ None
+no_transfer : (zone : List Record) (peer : Peer) (head : Head) (o : _) → transfer_in zone peer (update_of head o) ≡ None
 no_transfer zone peer head None = refl
-no_transfer zone peer head (Some update) = refl
+no_transfer zone peer head (Some (Ok update)) = refl
+no_transfer zone peer head (Some (Err bad)) = refl
 
 -- a request asks for the transfer that what is told of it says
 pub transfer_told : (zone : List Record) (peer : Peer) (request : List ℕ) (told : Parsed) → Tells request told → transfer_on zone peer request ≡ transfer_in zone peer told
@@ -55,14 +54,16 @@ permitted_in zone peer (Query asked) query e =
     let is = given (is_permitted zone peer asked) asked query e in ap (is_permitted zone peer) (sym is.1) ∙ is.0
 permitted_in zone peer Silent query e = absurd (cc)
 permitted_in zone peer (Fault head code) query e = absurd (cc)
+permitted_in zone peer (BadOpt head question code dnssec_ok) query e = absurd (cc)
 permitted_in zone peer (Update update) query e = absurd (cc)
 permitted_in zone peer (NoMemory head) query e = absurd (cc)
 
 -- behind a transfer the zone stays
-stays_in : (transport : Transport) (zone : List Record) (peer : Peer) (said : Parsed) (query : QueryAsked) → transfer_in zone peer said ≡ Some query → (got_of transport true false zone said).zone ≡ zone
+stays_in : (transport : Transport) (zone : List Record) (peer : Peer) (said : Parsed) (query : QueryAsked) → transfer_in zone peer said ≡ Some query → (got_of transport true ForNothing zone said).zone ≡ zone
 stays_in transport zone peer (Query asked) query e = refl
 stays_in transport zone peer Silent query e = refl
 stays_in transport zone peer (Fault head code) query e = refl
+stays_in transport zone peer (BadOpt head question code dnssec_ok) query e = refl
 stays_in transport zone peer (Update update) query e = absurd (cc)
 stays_in transport zone peer (NoMemory head) query e = refl
 
@@ -79,15 +80,15 @@ behind_served past kept (Some next) zone holds behind known =
 -- what was served is written, and the next version is kept
 pub writes_served : {T E : Type 0} (result : Result T E) (transport : Transport) (said : Parsed) (past : Past) (kept behind : Keeping) (served : Responded) (out : List ℕ) (before after : Option (List ℕ)) → Holds past kept
     → ServesSaid served transport true kept.newest said out → IfSome served.next (λ version. KnowsChanges kept.newest.zone version) → behind ≡ kept_with kept served.next
-    → ((reply : Option (List ℕ)) → StandsIn served.len (limit_of transport) out reply → Writes result before after (written reply ++ 10 ∷ [])) → WritesReply result transport said past behind before after
+    → ((reply : Option (List ℕ)) → StandsIn served.len (limit_for transport said) out reply → Writes result before after (written reply ++ 10 ∷ [])) → WritesReply result transport said past behind before after
 writes_served result transport said past kept behind served out before after holds serves known goes line =
-    let at : got_of transport true serves.starved kept.newest.zone said ≡ got_of transport true serves.starved past.newest said =
-    ap (λ (z : List Record). got_of transport true serves.starved z said) (sym holds.newest) in
+    let at : got_of transport true serves.want kept.newest.zone said ≡ got_of transport true serves.want past.newest said =
+    ap (λ (z : List Record). got_of transport true serves.want z said) (sym holds.newest) in
     record {
-      starved = serves.starved;
-      line = subst (λ (g : Got). Writes result before after (written g.reply ++ 10 ∷ [])) at (line (got_of transport true serves.starved kept.newest.zone said).reply serves.reply);
+      want = serves.want;
+      line = subst (λ (g : Got). Writes result before after (written g.reply ++ 10 ∷ [])) at (line (got_of transport true serves.want kept.newest.zone said).reply serves.reply);
       goes_on = subst (λ (g : Got). Holds (followed_by past g.zone) behind) at
-          (subst (λ (k : Keeping). Holds (followed_by past (got_of transport true serves.starved kept.newest.zone said).zone) k) (sym goes) (behind_served past kept served.next _ holds serves.zone known));
+          (subst (λ (k : Keeping). Holds (followed_by past (got_of transport true serves.want kept.newest.zone said).zone) k) (sym goes) (behind_served past kept served.next _ holds serves.zone known));
     }
 
 -- the line for no reply, and for one
@@ -109,7 +110,7 @@ pub said_reply : {T E : Type 0} (result : Result T E) (transport : Transport) (s
     → None ≡ transfer_in kept.newest.zone (peer_over transport true) said → WritesReply result transport said past behind before after → WritesSaid result transport said past behind before after
 said_reply result transport said past kept behind before after holds none reply =
     let on : transfer_in past.newest (peer_over transport true) said ≡ None = ap (λ (z : List Record). transfer_in z (peer_over transport true) said) holds.newest ∙ sym none in
-    record { starved = reply.starved; line = rw on reply.line; goes_on = reply.goes_on }
+    record { want = reply.want; line = rw on reply.line; goes_on = reply.goes_on }
 
 -- the messages of a transfer are the line for what a request says that asks for it, and the versions stay
 pub said_messages : {T E : Type 0} (result : Result T E) (transport : Transport) (said : Parsed) (query : QueryAsked) (past : Past) (kept : Keeping) (before after : Option (List ℕ)) → Holds past kept
@@ -117,9 +118,9 @@ pub said_messages : {T E : Type 0} (result : Result T E) (transport : Transport)
     → Writes result before after (spaced (messages_to kept.newest.zone (changes_for past query) (peer_over transport true) query) ++ 10 ∷ []) → WritesSaid result transport said past kept before after
 said_messages result transport said query past kept before after holds some line =
     let on : transfer_in past.newest (peer_over transport true) said ≡ Some query = ap (λ (z : List Record). transfer_in z (peer_over transport true) said) holds.newest ∙ sym some in
-    let stays = followed_same past (got_of transport true false past.newest said).zone (stays_in transport past.newest (peer_over transport true) said query on) in
+    let stays = followed_same past (got_of transport true ForNothing past.newest said).zone (stays_in transport past.newest (peer_over transport true) said query on) in
     record {
-      starved = false;
+      want = ForNothing;
       line = rw on (subst (λ (z : List Record). Writes result before after (spaced (messages_to z (changes_for past query) (peer_over transport true) query) ++ 10 ∷ [])) (sym holds.newest) line);
       goes_on = subst (λ (p : Past). Holds p kept) (sym stays) holds;
     }
@@ -128,10 +129,10 @@ said_messages result transport said query past kept before after holds some line
 pub writes_told : {T E : Type 0} (result : Result T E) (transport : Transport) (request : List ℕ) (told : Parsed) (past : Past) (kept : Keeping) (before after : Option (List ℕ)) → Tells request told
     → WritesSaid result transport told past kept before after → WritesFor result transport (Some request) past kept before after
 writes_told result transport request told past kept before after tells said =
-    let gets = gets_told transport true said.starved past.newest request told tells in
+    let gets = gets_told transport true said.want past.newest request told tells in
     let on : transfer_on past.newest (peer_over transport true) request ≡ transfer_in past.newest (peer_over transport true) told = transfer_told past.newest (peer_over transport true) request told tells in
     record {
-      starved = gets.0;
+      want = gets.0;
       line = rw on (subst (λ (g : Got). Writes result before after (written_for transport past (transfer_in past.newest (peer_over transport true) told) g.reply ++ 10 ∷ [])) gets.1 said.line);
       goes_on = subst (λ (g : Got). Holds (followed_by past g.zone) kept) gets.1 said.goes_on;
     }

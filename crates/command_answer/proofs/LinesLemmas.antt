@@ -8,6 +8,7 @@ use Rattle.hex.specs.Hex.{decode_of}
 use Rattle.serve_core.specs.declared.transport.Transport.{Transport}
 use Rattle.line_io.specs.Lines.{Begins, MOST_OCTETS}
 use Rattle.line_io.proofs.LinesLemmas.{input_lines-first, Appends-twice, Appends-none}
+use Rattle.serve_core.specs.Served.{Want}
 use Rattle.command_answer.specs.Answers.{TakesLine, BeginsToAnswer, Answers, asked_by, request_on, line_for, lines_for, past_behind, output_behind}
 use Rattle.command_answer.specs.Versions.{Past, Keeping, Holds}
 
@@ -33,22 +34,22 @@ pub record IsOnTheWay (transport : Transport) (past : Past) (kept : Keeping) (in
   pub holds : Holds now kept
   pub rest : List ℕ
   pub done : List ℕ
-  pub flags : List Bool
+  pub wants : List Want
   pub is_left : left ≡ Some rest
   pub grown : Appends written_before written_after done
-  pub whole : (later : List Bool) → done ++ output_behind transport later now rest ≡ output_behind transport (flags ++ later) past input
+  pub whole : (later : List Want) → done ++ output_behind transport later now rest ≡ output_behind transport (wants ++ later) past input
 
 -- the output for what is left is the line for its first line, and then the output for what follows that, by the versions behind it
-output_behind-first : (transport : Transport) (starved : Bool) (later : List Bool) (past : Past) (rest : List ℕ) → 0 < length rest
-    → output_behind transport (starved ∷ later) past rest
-    ≡ (line_for transport starved past (request_on (first_piece 10 rest)) ++ 10 ∷ []) ++ output_behind transport later (past_behind transport starved past (request_on (first_piece 10 rest))) (drop_through 10 rest)
-output_behind-first transport starved later past [] some = absurd (omega arith)
-output_behind-first transport starved later past (c ∷ cs) some = ap (λ lines. lines_for transport (starved ∷ later) past (map request_on lines)) (input_lines-first c cs)
+output_behind-first : (transport : Transport) (want : Want) (later : List Want) (past : Past) (rest : List ℕ) → 0 < length rest
+    → output_behind transport (want ∷ later) past rest
+    ≡ (line_for transport want past (request_on (first_piece 10 rest)) ++ 10 ∷ []) ++ output_behind transport later (past_behind transport want past (request_on (first_piece 10 rest))) (drop_through 10 rest)
+output_behind-first transport want later past [] some = absurd (omega arith)
+output_behind-first transport want later past (c ∷ cs) some = ap (λ lines. lines_for transport (want ∷ later) past (map request_on lines)) (input_lines-first c cs)
 
 -- nothing is taken yet
 pub IsOnTheWay-start : (transport : Transport) (past : Past) (kept : Keeping) (input : List ℕ) (left before : Option (List ℕ)) → Holds past kept → left ≡ Some input → IsOnTheWay transport past kept input left before before
 IsOnTheWay-start transport past kept input left before holds is =
-    record { now = past; holds = holds; rest = input; done = []; flags = []; is_left = is; grown = Appends-none before; whole = λ later. refl }
+    record { now = past; holds = holds; rest = input; done = []; wants = []; is_left = is; grown = Appends-none before; whole = λ later. refl }
 
 -- what a turn of the loop does: it takes a line and answers it, or nothing is left and nothing is written
 abbrev pub TurnOf : Transport → Past → Keeping → Option (List ℕ) → Option (List ℕ) → Option (List ℕ) → Option (List ℕ) → Bool → Type 0
@@ -62,18 +63,18 @@ IsOnTheWay-line transport past kept behind input left rest_left before between a
     let turn = turns way.now way.holds in
     let line : TakesLine transport way.now behind way.rest rest_left between after = rw (way.is_left, is_more) at turn in
     record {
-      now = past_behind transport line.starved way.now (request_on (first_piece 10 way.rest));
+      now = past_behind transport line.want way.now (request_on (first_piece 10 way.rest));
       holds = line.goes_on;
       rest = drop_through 10 way.rest;
-      done = way.done ++ (line_for transport line.starved way.now (request_on (first_piece 10 way.rest)) ++ 10 ∷ []);
-      flags = way.flags ++ line.starved ∷ [];
+      done = way.done ++ (line_for transport line.want way.now (request_on (first_piece 10 way.rest)) ++ 10 ∷ []);
+      wants = way.wants ++ line.want ∷ [];
       is_left = line.taken;
       grown = Appends-twice before between after _ _ way.grown line.line;
       whole = λ later.
           append_assoc way.done _ _
-          ∙ ap (λ out. way.done ++ out) (sym (output_behind-first transport line.starved later way.now way.rest line.some))
-          ∙ way.whole (line.starved ∷ later)
-          ∙ ap (λ flags. output_behind transport flags past input) (sym (append_assoc way.flags (line.starved ∷ []) later));
+          ∙ ap (λ out. way.done ++ out) (sym (output_behind-first transport line.want later way.now way.rest line.some))
+          ∙ way.whole (line.want ∷ later)
+          ∙ ap (λ wants. output_behind transport wants past input) (sym (append_assoc way.wants (line.want ∷ []) later));
     }
 
 -- where nothing is left, the whole output was written
@@ -82,20 +83,20 @@ pub IsOnTheWay-end : (transport : Transport) (past : Past) (kept behind : Keepin
 IsOnTheWay-end transport past kept behind input left rest_left before between after more way is_end turns =
     let turn = turns way.now way.holds in
     let end : (way.rest ≡ []) × (after ≡ between) = rw (way.is_left, is_end) at turn in
-    let all : way.done ≡ output_behind transport (way.flags ++ []) past input = sym (append-nil way.done) ∙ ap (λ rest. way.done ++ output_behind transport [] way.now rest) (sym end.0) ∙ way.whole [] in
-    (way.flags ++ [], subst (λ out. Appends before after out) all (subst (λ held. Appends before held way.done) (sym end.1) way.grown))
+    let all : way.done ≡ output_behind transport (way.wants ++ []) past input = sym (append-nil way.done) ∙ ap (λ rest. way.done ++ output_behind transport [] way.now rest) (sym end.0) ∙ way.whole [] in
+    (way.wants ++ [], subst (λ out. Appends before after out) all (subst (λ held. Appends before held way.done) (sym end.1) way.grown))
 
 -- at an error in the middle of a line a beginning of the output for what is left is written
-pub Begins-line : (transport : Transport) (starved : Bool) (past : Past) (rest : List ℕ) (before after : Option (List ℕ)) → 0 < length rest
-    → Begins before after (line_for transport starved past (request_on (first_piece 10 rest)) ++ 10 ∷ []) → BeginsToAnswer transport past rest before after
-Begins-line transport starved past rest before after some begins =
-    let behind : List ℕ = output_behind transport [] (past_behind transport starved past (request_on (first_piece 10 rest))) (drop_through 10 rest) in (
-      starved ∷ [],
+pub Begins-line : (transport : Transport) (want : Want) (past : Past) (rest : List ℕ) (before after : Option (List ℕ)) → 0 < length rest
+    → Begins before after (line_for transport want past (request_on (first_piece 10 rest)) ++ 10 ∷ []) → BeginsToAnswer transport past rest before after
+Begins-line transport want past rest before after some begins =
+    let behind : List ℕ = output_behind transport [] (past_behind transport want past (request_on (first_piece 10 rest))) (drop_through 10 rest) in (
+      want ∷ [],
       record {
         done = begins.done;
         rest = begins.rest ++ behind;
         grown = begins.grown;
-        whole = sym (append_assoc begins.done begins.rest behind) ∙ ap (λ line. line ++ behind) begins.whole ∙ sym (output_behind-first transport starved [] past rest some);
+        whole = sym (append_assoc begins.done begins.rest behind) ∙ ap (λ line. line ++ behind) begins.whole ∙ sym (output_behind-first transport want [] past rest some);
       },
     )
 
@@ -105,7 +106,7 @@ pub Begins-on_the_way : (transport : Transport) (past : Past) (kept : Keeping) (
 Begins-on_the_way transport past kept input left before between after way each =
     let begins = each way.now way.holds in
     let last : BeginsToAnswer transport way.now way.rest between after = rw way.is_left at begins in (
-      way.flags ++ last.0,
+      way.wants ++ last.0,
       record {
         done = way.done ++ last.1.done;
         rest = last.1.rest;
@@ -120,34 +121,34 @@ Begins-none transport past input before = ([], record { done = []; rest = output
 
 -- where the loop ends early, a beginning of the output is written
 pub Begins-early : (transport : Transport) (past : Past) (kept : Keeping) (input : List ℕ) (left before after : Option (List ℕ)) → IsOnTheWay transport past kept input left before after → BeginsToAnswer transport past input before after
-Begins-early transport past kept input left before after way = (way.flags ++ [], record { done = way.done; rest = output_behind transport [] way.now way.rest; grown = way.grown; whole = way.whole [] })
+Begins-early transport past kept input left before after way = (way.wants ++ [], record { done = way.done; rest = output_behind transport [] way.now way.rest; grown = way.grown; whole = way.whole [] })
 
 -- the same from what was read of a line
-pub Begins-read : (transport : Transport) (starved : Bool) (past : Past) (left : Option (List ℕ)) (cleared line : List ℕ) (before after : Option (List ℕ)) → cleared ≡ []
+pub Begins-read : (transport : Transport) (want : Want) (past : Past) (left : Option (List ℕ)) (cleared line : List ℕ) (before after : Option (List ℕ)) → cleared ≡ []
     → IfSome left (λ rest. line ≡ cleared ++ take_through 10 rest) → 0 < length line
-    → Begins before after (line_for transport starved past (request_on (strip_last 10 line)) ++ 10 ∷ []) → IfSome left (λ rest. BeginsToAnswer transport past rest before after)
-Begins-read transport starved past None cleared line before after none read some begins = tt
-Begins-read transport starved past (Some []) cleared line before after none read some begins =
+    → Begins before after (line_for transport want past (request_on (strip_last 10 line)) ++ 10 ∷ []) → IfSome left (λ rest. BeginsToAnswer transport past rest before after)
+Begins-read transport want past None cleared line before after none read some begins = tt
+Begins-read transport want past (Some []) cleared line before after none read some begins =
     let e : length line ≡ 0 = ap length read ∙ ap (λ xs. length (xs ++ [])) none in absurd (omega (arith, e))
-Begins-read transport starved past (Some (c ∷ cs)) cleared line before after none read some begins =
+Begins-read transport want past (Some (c ∷ cs)) cleared line before after none read some begins =
     let is : line ≡ take_through 10 (c ∷ cs) = read ∙ ap (λ xs. xs ++ take_through 10 (c ∷ cs)) none in
-    Begins-line transport starved past (c ∷ cs) before after (omega arith)
-    (subst (λ taken. Begins before after (line_for transport starved past (request_on (strip_last 10 taken)) ++ 10 ∷ [])) is begins)
+    Begins-line transport want past (c ∷ cs) before after (omega arith)
+    (subst (λ taken. Begins before after (line_for transport want past (request_on (strip_last 10 taken)) ++ 10 ∷ [])) is begins)
 
 -- what was read of a line, and written for it, are its turn
-pub TakesLine-read : (transport : Transport) (starved : Bool) (past : Past) (kept : Keeping) (left rest_left : Option (List ℕ)) (cleared line : List ℕ) (before after : Option (List ℕ)) → cleared ≡ []
+pub TakesLine-read : (transport : Transport) (want : Want) (past : Past) (kept : Keeping) (left rest_left : Option (List ℕ)) (cleared line : List ℕ) (before after : Option (List ℕ)) → cleared ≡ []
     → IfSome left (λ rest. line ≡ cleared ++ take_through 10 rest) → DropsThrough left rest_left 10 → 0 < length line
-    → Appends before after (line_for transport starved past (request_on (strip_last 10 line)) ++ 10 ∷ []) → Holds (past_behind transport starved past (request_on (strip_last 10 line))) kept
+    → Appends before after (line_for transport want past (request_on (strip_last 10 line)) ++ 10 ∷ []) → Holds (past_behind transport want past (request_on (strip_last 10 line))) kept
     → IfSome left (λ rest. TakesLine transport past kept rest rest_left before after)
-TakesLine-read transport starved past kept None rest_left cleared line before after none read drops some written holds = tt
-TakesLine-read transport starved past kept (Some []) rest_left cleared line before after none read drops some written holds =
+TakesLine-read transport want past kept None rest_left cleared line before after none read drops some written holds = tt
+TakesLine-read transport want past kept (Some []) rest_left cleared line before after none read drops some written holds =
     let e : length line ≡ 0 = ap length read ∙ ap (λ xs. length (xs ++ [])) none in absurd (omega (arith, e))
-TakesLine-read transport starved past kept (Some (c ∷ cs)) rest_left cleared line before after none read drops some written holds =
+TakesLine-read transport want past kept (Some (c ∷ cs)) rest_left cleared line before after none read drops some written holds =
     let is : line ≡ take_through 10 (c ∷ cs) = read ∙ ap (λ xs. xs ++ take_through 10 (c ∷ cs)) none in
     record {
-      starved = starved;
+      want = want;
       some = omega arith;
       taken = drops;
-      line = subst (λ taken. Appends before after (line_for transport starved past (request_on (strip_last 10 taken)) ++ 10 ∷ [])) is written;
-      goes_on = subst (λ taken. Holds (past_behind transport starved past (request_on (strip_last 10 taken))) kept) is holds;
+      line = subst (λ taken. Appends before after (line_for transport want past (request_on (strip_last 10 taken)) ++ 10 ∷ [])) is written;
+      goes_on = subst (λ taken. Holds (past_behind transport want past (request_on (strip_last 10 taken))) kept) is holds;
     }

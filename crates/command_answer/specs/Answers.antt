@@ -1,5 +1,5 @@
 -- Requests and replies as lines of hexadecimal (own).
-use Rattle.std.specs.Prelude.{◌≡◌, ◌<◌, ℕ, Bool, true, false, List, [], ◌∷◌, ◌++◌, length, map, nat_le, Option, Some, None, Result, Ok, Err, if◌then◌else◌, codes}
+use Rattle.std.specs.Prelude.{◌≡◌, ◌<◌, ℕ, true, List, [], ◌∷◌, ◌++◌, length, map, nat_le, Option, Some, None, Result, Ok, Err, if◌then◌else◌, codes}
 use Rattle.std.specs.Io.BufRead.{drop_through, first_piece}
 use Rattle.std.specs.Io.KnownBytes.{Appends}
 use Rattle.hex.specs.declared.error.FromHexError.{FromHexError}
@@ -12,7 +12,7 @@ use Rattle.dns_message.specs.Request.{reads}
 use Rattle.line_io.specs.Lines.{MOST_OCTETS, spaced, input_lines, Begins, Writes}
 use Rattle.serve_core.specs.declared.peer.Peer.{Peer}
 use Rattle.serve_core.specs.declared.transport.Transport.{Transport}
-use Rattle.serve_core.specs.Served.{got, got_of}
+use Rattle.serve_core.specs.Served.{Want, ForNothing, got, got_of}
 use Rattle.serve_core.specs.Transfers.{peer_over, is_permitted, messages_to}
 use Rattle.command_answer.specs.Versions.{Past, begun, followed_by, changes_for, Keeping, Holds}
 
@@ -43,73 +43,73 @@ abbrev pub written_for : Transport → Past → Option QueryAsked → Option (Li
 written_for transport past None reply = written reply
 written_for transport past (Some query) reply = spaced (messages_to past.newest (changes_for past query) (peer_over transport true) query)
 
--- the line for a request in a zone that its peer may update and have sent, by the zone's versions, where memory is wanted or isn't: its
+-- the line for a request in a zone that its peer may update and have sent, by the zone's versions, wherever memory is wanted: its
 -- reply, or the messages of a transfer; `!` for no request
-abbrev pub line_for : Transport → Bool → Past → Option (List ℕ) → List ℕ
-line_for transport starved past None = codes "!"
-line_for transport starved past (Some request) =
-    written_for transport past (transfer_on past.newest (peer_over transport true) request) (got transport true starved past.newest request).reply
+abbrev pub line_for : Transport → Want → Past → Option (List ℕ) → List ℕ
+line_for transport want past None = codes "!"
+line_for transport want past (Some request) =
+    written_for transport past (transfer_on past.newest (peer_over transport true) request) (got transport true want past.newest request).reply
 
 -- the versions after it
-abbrev pub past_behind : Transport → Bool → Past → Option (List ℕ) → Past
-past_behind transport starved past None = past
-past_behind transport starved past (Some request) = followed_by past (got transport true starved past.newest request).zone
+abbrev pub past_behind : Transport → Want → Past → Option (List ℕ) → Past
+past_behind transport want past None = past
+past_behind transport want past (Some request) = followed_by past (got transport true want past.newest request).zone
 
--- the first of some flags; where there is none it isn't set
-abbrev pub first_flag : List Bool → Bool
-first_flag [] = false
-first_flag (flag ∷ flags) = flag
+-- what memory is wanted for at the first of some requests; for nothing where nothing is said
+abbrev pub first_want : List Want → Want
+first_want [] = ForNothing
+first_want (want ∷ wants) = want
 
--- the flags behind the first
-abbrev pub later_flags : List Bool → List Bool
-later_flags [] = []
-later_flags (flag ∷ flags) = flags
+-- what it is wanted for at those behind the first
+abbrev pub later_wants : List Want → List Want
+later_wants [] = []
+later_wants (want ∷ wants) = wants
 
--- what is written for requests: a line for each, by the versions that those before it leave; a flag for each says where memory is
--- wanted
-abbrev pub lines_for : Transport → List Bool → Past → List (Option (List ℕ)) → List ℕ
-lines_for transport starved past [] = []
-lines_for transport starved past (asked ∷ more) =
-    (line_for transport (first_flag starved) past asked ++ 10 ∷ []) ++ lines_for transport (later_flags starved) (past_behind transport (first_flag starved) past asked) more
+-- what is written for requests: a line for each, by the versions that those before it leave, and by what memory is wanted for at
+-- each
+abbrev pub lines_for : Transport → List Want → Past → List (Option (List ℕ)) → List ℕ
+lines_for transport wants past [] = []
+lines_for transport wants past (asked ∷ more) =
+    (line_for transport (first_want wants) past asked ++ 10 ∷ []) ++ lines_for transport (later_wants wants) (past_behind transport (first_want wants) past asked) more
 
 -- what is written for an input behind versions: a line for the request on each of its lines
-abbrev pub output_behind : Transport → List Bool → Past → List ℕ → List ℕ
-output_behind transport starved past input = lines_for transport starved past (map request_on (input_lines input))
+abbrev pub output_behind : Transport → List Want → Past → List ℕ → List ℕ
+output_behind transport wants past input = lines_for transport wants past (map request_on (input_lines input))
 
 -- what is written for an input in a zone
-abbrev pub output_of : Transport → List Bool → List Record → List ℕ → List ℕ
-output_of transport starved zone input = output_behind transport starved (begun zone) input
+abbrev pub output_of : Transport → List Want → List Record → List ℕ → List ℕ
+output_of transport wants zone input = output_behind transport wants (begun zone) input
 
 -- what is written for an input was written, wherever memory was wanted
 abbrev pub Answers : Transport → Past → List ℕ → Option (List ℕ) → Option (List ℕ) → Type 0
-Answers transport past input before after = (starved : List Bool) × Appends before after (output_behind transport starved past input)
+Answers transport past input before after = (wants : List Want) × Appends before after (output_behind transport wants past input)
 
 -- a beginning of it was written
 abbrev pub BeginsToAnswer : Transport → Past → List ℕ → Option (List ℕ) → Option (List ℕ) → Type 0
-BeginsToAnswer transport past input before after = (starved : List Bool) × Begins before after (output_behind transport starved past input)
+BeginsToAnswer transport past input before after = (wants : List Want) × Begins before after (output_behind transport wants past input)
 
 -- the reply to what a request says was written as a line, or at an error a beginning of it, and what is kept are the versions after it
 pub record WritesReply {T E : Type 0} (result : Result T E) (transport : Transport) (said : Parsed) (past : Past) (kept : Keeping) (before after : Option (List ℕ)) : Type 0 where
-  pub starved : Bool
-  pub line : Writes result before after (written (got_of transport true starved past.newest said).reply ++ 10 ∷ [])
-  pub goes_on : Holds (followed_by past (got_of transport true starved past.newest said).zone) kept
+  pub want : Want
+  pub line : Writes result before after (written (got_of transport true want past.newest said).reply ++ 10 ∷ [])
+  pub goes_on : Holds (followed_by past (got_of transport true want past.newest said).zone) kept
 
 -- the line for what a request says was written, or at an error a beginning of it, and what is kept are the versions after it
 pub record WritesSaid {T E : Type 0} (result : Result T E) (transport : Transport) (said : Parsed) (past : Past) (kept : Keeping) (before after : Option (List ℕ)) : Type 0 where
-  pub starved : Bool
-  pub line : Writes result before after (written_for transport past (transfer_in past.newest (peer_over transport true) said) (got_of transport true starved past.newest said).reply ++ 10 ∷ [])
-  pub goes_on : Holds (followed_by past (got_of transport true starved past.newest said).zone) kept
+  pub want : Want
+  pub line : Writes result before after (written_for transport past (transfer_in past.newest (peer_over transport true) said) (got_of transport true want past.newest said).reply ++ 10 ∷ [])
+  pub goes_on : Holds (followed_by past (got_of transport true want past.newest said).zone) kept
 
 -- the line for a request was written, or at an error a beginning of it, and what is kept are the versions after it
 pub record WritesFor {T E : Type 0} (result : Result T E) (transport : Transport) (asked : Option (List ℕ)) (past : Past) (kept : Keeping) (before after : Option (List ℕ)) : Type 0 where
-  pub starved : Bool
-  pub line : Writes result before after (line_for transport starved past asked ++ 10 ∷ [])
-  pub goes_on : Holds (past_behind transport starved past asked) kept
+  pub want : Want
+  pub line : Writes result before after (line_for transport want past asked ++ 10 ∷ [])
+  pub goes_on : Holds (past_behind transport want past asked) kept
 
 -- the reader's next line is taken, the line for it is written, and what is kept are the versions after it
 pub record TakesLine (transport : Transport) (past : Past) (kept : Keeping) (rest : List ℕ) (left written_before written_after : Option (List ℕ)) : Type 0 where
-  pub starved : Bool
+  pub want : Want
   pub some : 0 < length rest
   pub taken : left ≡ Some (drop_through 10 rest)
-  pub line : Appends written_before written_after (line_for transport starved past (request_on (first_piece 10 rest)) ++ 10 ∷ [])
-  pub goes_on : Holds (past_behind transport starved past (request_on (first_piece 10 rest))) kept
+  pub line : Appends written_before written_after (line_for transport want past (request_on (first_piece 10 rest)) ++ 10 ∷ [])
+  pub goes_on : Holds (past_behind transport want past (request_on (first_piece 10 rest))) kept

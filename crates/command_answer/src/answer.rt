@@ -9,7 +9,7 @@ ghost use Rattle.command_answer.specs.declared.answer.TheConstants.{MAX_DIGITS};
 ghost use Rattle.serve_core.specs.declared.transport.TheConstants.{TCP_LIMIT};
 ghost use Rattle.serve_core.specs.Replies.{IsNoTransfer};
 ghost use Rattle.serve_core.specs.Transfers.{peer_over, is_permitted, messages_to};
-ghost use Rattle.serve_core.specs.Transport.{limit_of};
+ghost use Rattle.serve_core.specs.Transport.{room_of};
 ghost use Rattle.command_answer.specs.Versions.{Past, begun, changes_for, Holds};
 ghost use Rattle.command_answer.specs.Answers.{request_on, transfer_in, Answers, BeginsToAnswer, TakesLine, WritesFor, WritesReply, WritesSaid};
 ghost use Rattle.line_io.specs.Lines.{spaced, spaced_behind, Writes};
@@ -186,7 +186,7 @@ fn write_reply<W: Write>(
     writer: &mut W,
 ) -> io::Result<()>
     requires number { kept.old.newest.number + 1 < 2 ^ 64 }
-    requires reply_room { limit_of transport ≤ length reply.old }
+    requires reply_room { room_of transport ≤ length reply.old }
     requires message_room { MAX_MESSAGE ≤ length reply.old }
     requires digits_room { 2 * length reply.old ≤ length digits.old }
     ensures counted { kept.new.newest.number ≤ kept.old.newest.number + 1 }
@@ -208,7 +208,7 @@ fn write_said<W: Write>(
     writer: &mut W,
 ) -> io::Result<()>
     requires number { kept.old.newest.number + 1 < 2 ^ 64 }
-    requires reply_room { limit_of transport ≤ length reply.old }
+    requires reply_room { room_of transport ≤ length reply.old }
     requires message_room { MAX_MESSAGE ≤ length reply.old }
     requires digits_room { 2 * length reply.old ≤ length digits.old }
     ensures counted { kept.new.newest.number ≤ kept.old.newest.number + 1 }
@@ -233,7 +233,7 @@ fn write_served<W: Write>(
     writer: &mut W,
 ) -> io::Result<()>
     requires number { kept.old.newest.number + 1 < 2 ^ 64 }
-    requires reply_room { limit_of transport ≤ length reply.old }
+    requires reply_room { room_of transport ≤ length reply.old }
     requires digits_room { 2 * length reply.old ≤ length digits.old }
     requires no_transfer { IsNoTransfer kept.old.newest.zone (peer_over transport true) said.now }
     ensures counted { kept.new.newest.number ≤ kept.old.newest.number + 1 }

@@ -22,7 +22,7 @@ use Rattle.cell_core.specs.declared.words.WordEvent.TheVariants as told
 use Rattle.cell_core.specs.declared.words.WordStep.TheVariants as word
 use Rattle.dns_rdata.specs.Record.{Record}
 use Rattle.dns_rdata.specs.Numbers.{type_IXFR}
-use Rattle.dns_message.specs.declared.query.Head.{Head}
+use Rattle.serve_core.specs.declared.heading.Heading.{Heading}
 use Rattle.dns_message.specs.declared.query.Parsed.{Parsed}
 use Rattle.dns_message.specs.declared.query.Parsed.TheVariants as parsed
 use Rattle.dns_message.specs.declared.query.Query.{Query as QueryAsked}
@@ -104,13 +104,13 @@ abbrev pub quiet : Progress
 quiet = Done (Told answer.Left)
 
 -- a step that buries nothing tells no more
-oldest_none : (n : ℕ) (head : Head) (kept : ℕ) (oldest : Option ℕ) → told_by n (oldest_after head kept oldest) ≡ 0
+oldest_none : (n : ℕ) (head : Heading) (kept : ℕ) (oldest : Option ℕ) → told_by n (oldest_after head kept oldest) ≡ 0
 oldest_none n head kept None = refl
 oldest_none n head kept (Some owner) = refl
 
 past_less : (n : ℕ) (for : Purpose) (given : Answer) → told_by n (past for given) ≤ buried_in n given
 past_less n purpose.Drop given = omega arith
-past_less n (purpose.Publish keeping kept) given = let none = oldest_none n keeping.head kept keeping.oldest in omega (arith, none)
+past_less n (purpose.Publish keeping kept) given = let none = oldest_none n keeping.heading kept keeping.oldest in omega (arith, none)
 past_less n (purpose.Oldest head kept) given = omega arith
 
 load_none : (n : ℕ) (name : List ℕ) (event : WordEvent) → told_by n (load_after name event) ≡ 0
@@ -315,6 +315,7 @@ asked_still world version query =
 said_still : (world : World) (version : Numbered) (said : Parsed) → IsStill (transfer_said world version said)
 said_still world version parsed.Silent = tt
 said_still world version (parsed.Fault head code) = tt
+said_still world version (parsed.BadOpt head question code dnssec_ok) = tt
 said_still world version (parsed.Query query) = asked_still world version query
 said_still world version (parsed.Update update) = tt
 said_still world version (parsed.NoMemory head) = tt

@@ -22,7 +22,8 @@ use Rattle.cell_core.specs.declared.words.WordEvent.TheVariants as told
 use Rattle.cell_core.specs.declared.words.WordStep.{WordStep}
 use Rattle.cell_core.specs.declared.words.WordStep.TheVariants as word
 use Rattle.dns_rdata.specs.Record.{Record}
-use Rattle.dns_message.specs.declared.query.Head.{Head}
+use Rattle.serve_core.specs.Heading.{heading_of_update}
+use Rattle.serve_core.specs.declared.heading.Heading.{Heading}
 use Rattle.dns_message.specs.declared.query.Parsed.TheVariants as parsed
 use Rattle.dns_message.specs.declared.update.Update.{Update as DynamicUpdate}
 use Rattle.dns_message.specs.Request.{reads}
@@ -111,9 +112,9 @@ replays_more S first published us version n r = record {
 pub record Script : Type 1 where
   pub sends : ℕ → List ℕ → Type 0
   pub top : ℕ
-  pub by : ℕ → Head → Type 0
+  pub by : ℕ → Heading → Type 0
 
-abbrev pub scripted : (ℕ → List ℕ → Type 0) → ℕ → (ℕ → Head → Type 0) → Script
+abbrev pub scripted : (ℕ → List ℕ → Type 0) → ℕ → (ℕ → Heading → Type 0) → Script
 scripted sends top by = record { sends = sends; top = top; by = by }
 
 -- whichever of them it may be
@@ -142,7 +143,7 @@ pub record IsNext (S : Script) (first : List Record) (us : List Placed) (version
   pub place : ℕ
   pub fresh : IsFresh S us place
   pub makes : MakesNext (S.sends place) first (updates_in us) version
-  pub mine : S.by place makes.update.head
+  pub mine : S.by place (heading_of_update makes.update)
 
 abbrev pub placed_next : (S : Script) (first : List Record) (us : List Placed) (version : Numbered) → IsNext S first us version → Placed
 placed_next S first us version n = record { place = n.place; update = n.makes.update }
@@ -435,13 +436,13 @@ abbrev pub Follows : Script → List Record → List Placed → Zones → Bool �
 Follows S first us words kind (On next) = Coherent S first us words next × (updates next ≡ kind)
 Follows S first us words kind (Done end) = Unit {0}
 
-oldest_follows : (S : Script) (first : List Record) (us : List Placed) (words : Zones) (head : Head) (kept : ℕ) (oldest : Option ℕ) → Follows S first us words true (oldest_after head kept oldest)
+oldest_follows : (S : Script) (first : List Record) (us : List Placed) (words : Zones) (head : Heading) (kept : ℕ) (oldest : Option ℕ) → Follows S first us words true (oldest_after head kept oldest)
 oldest_follows S first us words head kept None = tt
 oldest_follows S first us words head kept (Some owner) = (tt, refl)
 
 past_follows : (S : Script) (first : List Record) (us : List Placed) (words : Zones) (owner : ℕ) (for : Purpose) (given : Answer) → Follows S first us words (updates (phase.Release owner for)) (past for given)
 past_follows S first us words owner purpose.Drop given = tt
-past_follows S first us words owner (purpose.Publish keeping kept) given = oldest_follows S first us words keeping.head kept keeping.oldest
+past_follows S first us words owner (purpose.Publish keeping kept) given = oldest_follows S first us words keeping.heading kept keeping.oldest
 past_follows S first us words owner (purpose.Oldest head kept) given = tt
 
 load_follows : (S : Script) (first : List Record) (us : List Placed) (words : Zones) (name : List ℕ) (event : WordEvent) → Follows S first us words false (after (phase.Load name) event)
@@ -532,7 +533,7 @@ bury_follows S first us words at for told.Freed = past_follows S first us words 
 abbrev pub Grown : Script → List Placed → List Placed → Zones → Zones → Phase → Type 0
 Grown S us later words new at =
     ((later ≡ us) × (swaps_now at ≡ 0) × LeavesPublished words new)
-    ⊎ ((one : Placed) × (later ≡ us ++ one ∷ []) × (swaps_now at ≡ 1) × (swapped_in at ≡ 0) × S.by one.place one.update.head)
+    ⊎ ((one : Placed) × (later ≡ us ++ one ∷ []) × (swaps_now at ≡ 1) × (swapped_in at ≡ 0) × S.by one.place (heading_of_update one.update))
 
 leaves_step : (words new : Zones) (step : WordStep Numbered) (event : WordEvent) → NoSwap step → Makes words step event new → LeavesPublished words new
 leaves_step words new step event apart m cell s =
@@ -700,15 +701,15 @@ found_alone name (other ∷ calls) call e one is =
     ]
 
 -- and so they are where more lines were played, and where further lines may have begun the update under way
-abbrev pub moved : Script → ℕ → (ℕ → Head → Type 0) → Script
+abbrev pub moved : Script → ℕ → (ℕ → Heading → Type 0) → Script
 moved S top by = scripted S.sends top by
 
-next_on : (S : Script) (top : ℕ) (by : ℕ → Head → Type 0) (first : List Record) (us : List Placed) (version : Numbered) → S.top ≤ top → ((place : ℕ) (head : Head) → S.by place head → by place head) → IsNext S first us version → IsNext (moved S top by) first us version
+next_on : (S : Script) (top : ℕ) (by : ℕ → Heading → Type 0) (first : List Record) (us : List Placed) (version : Numbered) → S.top ≤ top → ((place : ℕ) (head : Heading) → S.by place head → by place head) → IsNext S first us version → IsNext (moved S top by) first us version
 next_on S top by first us version more map n =
     let l = n.fresh.played in
-    record { place = n.place; fresh = record { played = omega (arith, l, more); last = n.fresh.last }; makes = n.makes; mine = map n.place n.makes.update.head n.mine }
+    record { place = n.place; fresh = record { played = omega (arith, l, more); last = n.fresh.last }; makes = n.makes; mine = map n.place (heading_of_update n.makes.update) n.mine }
 
-pub coherent_on : (S : Script) (top : ℕ) (by : ℕ → Head → Type 0) (first : List Record) (us : List Placed) (words : Zones) (at : Phase) → S.top ≤ top → ((place : ℕ) (head : Head) → S.by place head → by place head) → Coherent S first us words at → Coherent (moved S top by) first us words at
+pub coherent_on : (S : Script) (top : ℕ) (by : ℕ → Heading → Type 0) (first : List Record) (us : List Placed) (words : Zones) (at : Phase) → S.top ≤ top → ((place : ℕ) (head : Heading) → S.by place head → by place head) → Coherent S first us words at → Coherent (moved S top by) first us words at
 coherent_on S top by first us words (phase.Load name) more map c = tt
 coherent_on S top by first us words (phase.Probe version keeping) more map c = next_on S top by first us version more map c
 coherent_on S top by first us words (phase.Prepare version keeping) more map c = next_on S top by first us version more map c
@@ -719,7 +720,7 @@ coherent_on S top by first us words (phase.Release owner for) more map c = tt
 coherent_on S top by first us words (phase.Bury owner for) more map c = tt
 coherent_on S top by first us words (phase.Free owner number for) more map c = tt
 
-pub all_on : (S : Script) (top : ℕ) (by : ℕ → Head → Type 0) (first : List Record) (us : List Placed) (words : Zones) (calls : List UnderWay) → S.top ≤ top → ((place : ℕ) (head : Head) → S.by place head → by place head) → AllCoherent S first us words calls → AllCoherent (moved S top by) first us words calls
+pub all_on : (S : Script) (top : ℕ) (by : ℕ → Heading → Type 0) (first : List Record) (us : List Placed) (words : Zones) (calls : List UnderWay) → S.top ≤ top → ((place : ℕ) (head : Heading) → S.by place head → by place head) → AllCoherent S first us words calls → AllCoherent (moved S top by) first us words calls
 all_on S top by first us words [] more map c = tt
 all_on S top by first us words (call ∷ calls) more map c = (coherent_on S top by first us words call.phase more map c.0, all_on S top by first us words calls more map c.1)
 
@@ -729,7 +730,7 @@ all_none S first us words [] none = tt
 all_none S first us words (call ∷ calls) none =
     let parts = or_false (updates call.phase) (any_update calls) none in (no_update S first us words call.phase parts.0, all_none S first us words calls parts.1)
 
-pub tells_on : (S : Script) (top : ℕ) (by : ℕ → Head → Type 0) (first : List Record) (words : Zones) (us : List Placed) → S.top ≤ top → Tells S first words us → Tells (moved S top by) first words us
+pub tells_on : (S : Script) (top : ℕ) (by : ℕ → Heading → Type 0) (first : List Record) (words : Zones) (us : List Placed) → S.top ≤ top → Tells S first words us → Tells (moved S top by) first words us
 tells_on S top by first words us more t = record {
   cell = t.cell;
   steps = t.steps;

@@ -27,7 +27,7 @@ use Rattle.cell_core.proofs.SeatLemmas.{get_set_other, get_push_old}
 use Rattle.cell_core.specs.Words.{grants, place_of, version_in, found_last}
 use Rattle.cell_core.specs.declared.words.Version.{Version}
 use Rattle.dns_rdata.specs.Record.{Record}
-use Rattle.dns_message.specs.declared.query.Head.{Head}
+use Rattle.serve_core.specs.declared.heading.Heading.{Heading}
 use Rattle.dns_message.specs.declared.query.Parsed.{Parsed}
 use Rattle.dns_message.specs.Request.{reads}
 use Rattle.world_run.specs.Judgements.{asks_update, judged}
@@ -203,16 +203,16 @@ release_ends left words cell owner number place for passes enough s seat can =
 drop_passes : (owner : ℕ) → Passes owner purpose.Drop
 drop_passes owner left words cell given enough s can = tt
 
-oldest_passes : (owner : ℕ) (head : Head) (kept : ℕ) → Passes owner (purpose.Oldest head kept)
+oldest_passes : (owner : ℕ) (head : Heading) (kept : ℕ) → Passes owner (purpose.Oldest head kept)
 oldest_passes owner head kept left words cell given enough s can = tt
 
-past_oldest : (owner : ℕ) (head : Head) (kept left : ℕ) (words : Zones) (cell : Cell Numbered) (oldest : Option ℕ) → 3 ≤ left → Shows words cell → HeldBeside owner words.owners oldest → EndsFrom left words (oldest_after head kept oldest)
+past_oldest : (owner : ℕ) (head : Heading) (kept left : ℕ) (words : Zones) (cell : Cell Numbered) (oldest : Option ℕ) → 3 ≤ left → Shows words cell → HeldBeside owner words.owners oldest → EndsFrom left words (oldest_after head kept oldest)
 past_oldest owner head kept left words cell None enough s held = tt
 past_oldest owner head kept left words cell (Some oldest) enough s held =
     release_ends left words cell oldest held.1 held.2 (purpose.Oldest head kept) (oldest_passes oldest head kept) enough s held.3 tt
 
 publish_passes : (owner : ℕ) (keeping : Keeping) (kept : ℕ) → Passes owner (purpose.Publish keeping kept)
-publish_passes owner keeping kept left words cell given enough s can = past_oldest owner keeping.head kept left words cell keeping.oldest enough s can
+publish_passes owner keeping kept left words cell given enough s can = past_oldest owner keeping.heading kept left words cell keeping.oldest enough s can
 
 -- the oldest version that is to be given up is held
 abbrev pub IsHolding : List Owner → Option ℕ → Type 0
@@ -421,6 +421,7 @@ asked_first words world version query =
 sent_first : (words : Zones) (world : World) (version : Numbered) (said : Parsed) → FirstOf words (transfer_said world version said)
 sent_first words world version parsed.Silent = tt
 sent_first words world version (parsed.Fault head code) = tt
+sent_first words world version (parsed.BadOpt head question code dnssec_ok) = tt
 sent_first words world version (parsed.Query query) = asked_first words world version query
 sent_first words world version (parsed.Update update) = tt
 sent_first words world version (parsed.NoMemory head) = tt
@@ -447,7 +448,7 @@ both : (a b : Bool) → (a && b) ≡ true → (a ≡ true) × (b ≡ true)
 both true b e = (refl, e)
 both false b e = absurd (let wrong = e in cc)
 
-publication_first : (words : Zones) (head : Head) (version : Numbered) (oldest : Option ℕ) → FirstOf words (publication_start words head version oldest)
+publication_first : (words : Zones) (head : Heading) (version : Numbered) (oldest : Option ℕ) → FirstOf words (publication_start words head version oldest)
 publication_first words head version oldest =
     first_if words (nat_lt words.granted grants && is_held words oldest) _ _
     (λ e. let parts = both (nat_lt words.granted grants) (is_held words oldest) e in record { shares = ltb-true words.granted grants parts.0; oldest = holding words oldest parts.1 })

@@ -5,7 +5,7 @@ use Rattle.std.proofs.lemmas.Bool.{cases_Bool, ltb-true, ltb-false}
 use Rattle.std.proofs.lemmas.Slice.Eq.{bytes_eq-Decides}
 use Rattle.cell_core.proofs.CountLemmas.{one_if}
 use Rattle.cell_core.specs.declared.words.Owner.{Owner}
-use Rattle.dns_message.specs.declared.query.Head.{Head}
+use Rattle.serve_core.specs.declared.heading.Heading.{Heading}
 use Rattle.world_run.specs.declared.phase.Phase.{Phase}
 use Rattle.world_run.specs.declared.phase.Phase.TheVariants as phase
 use Rattle.world_run.specs.declared.phase.Progress.TheVariants.{On, Done}
@@ -186,7 +186,7 @@ owned_closed words names kept keep calls name owner number o =
       calls_once = o.calls_once;
     }
 
-no_slot_closed : (words : Zones) (names : List Named) (kept : List ℕ) (keep : ℕ) (calls : List UnderWay) (head : Head) → Open words names kept keep calls (Done (NoSlot head)) → Open words names kept keep calls nothing_apart
+no_slot_closed : (words : Zones) (names : List Named) (kept : List ℕ) (keep : ℕ) (calls : List UnderWay) (head : Heading) → Open words names kept keep calls (Done (NoSlot head)) → Open words names kept keep calls nothing_apart
 no_slot_closed words names kept keep calls head o =
     let none = o.alone refl in
     record {
@@ -283,7 +283,7 @@ no_swaps (c ∷ cs) e =
     let more = no_swaps cs parts.1 in
     omega (arith, one, more)
 
-kept_closed : (words : Zones) (names : List Named) (kept : List ℕ) (keep : ℕ) (calls : List UnderWay) (head : Head) (owner : ℕ) → Open words names kept keep calls (Done (Kept head owner)) → Open words names (kept_at keep (Kept head owner) kept) keep calls nothing_apart
+kept_closed : (words : Zones) (names : List Named) (kept : List ℕ) (keep : ℕ) (calls : List UnderWay) (head : Heading) (owner : ℕ) → Open words names kept keep calls (Done (Kept head owner)) → Open words names (kept_at keep (Kept head owner) kept) keep calls nothing_apart
 kept_closed words names kept keep calls head owner o =
     let none = o.alone refl in
     let swaps = no_swaps calls none in
@@ -466,8 +466,8 @@ drop_open words names kept keep calls name owner e o =
     }
 
 -- an update begins, where none is under way
-pub update_open : (words : Zones) (names : List Named) (kept : List ℕ) (keep : ℕ) (calls : List UnderWay) (head : Head) (version : Numbered) → any_update calls ≡ false → Open words names kept keep calls nothing_apart
-    → Open words names kept keep calls (On (phase.Probe version (record { head = head; oldest = oldest_kept keep kept })))
+pub update_open : (words : Zones) (names : List Named) (kept : List ℕ) (keep : ℕ) (calls : List UnderWay) (head : Heading) (version : Numbered) → any_update calls ≡ false → Open words names kept keep calls nothing_apart
+    → Open words names kept keep calls (On (phase.Probe version (record { heading = head; oldest = oldest_kept keep kept })))
 update_open words names kept keep calls head version none o = record {
   cell = o.cell;
   shows = o.shows;

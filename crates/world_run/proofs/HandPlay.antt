@@ -15,7 +15,7 @@ use Rattle.cell_core.specs.declared.words.WordStep.TheVariants as word
 use Rattle.cell_core.specs.declared.words.WordEvent.TheVariants as told
 use Rattle.dns_rdata.specs.Record.{Record}
 use Rattle.dns_rdata.specs.Numbers.{type_IXFR}
-use Rattle.dns_message.specs.declared.query.Head.{Head}
+use Rattle.serve_core.specs.declared.heading.Heading.{Heading}
 use Rattle.dns_message.specs.declared.query.Parsed.{Parsed}
 use Rattle.dns_message.specs.declared.query.Parsed.TheVariants as parsed
 use Rattle.dns_message.specs.declared.query.Query.{Query as QueryAsked}
@@ -120,6 +120,7 @@ asked_still world version query =
 said_still : (world : World) (version : Numbered) (said : Parsed) → IsStill (transfer_said world version said)
 said_still world version parsed.Silent = tt
 said_still world version (parsed.Fault head code) = tt
+said_still world version (parsed.BadOpt head question code dnssec_ok) = tt
 said_still world version (parsed.Query query) = asked_still world version query
 said_still world version (parsed.Update update) = tt
 said_still world version (parsed.NoMemory head) = tt
@@ -142,7 +143,7 @@ has_room last request what e =
     none_some : (o : Option Judged) (what : Judged) → o ≡ None → o ≡ Some what → ⊥
     none_some o what n s = let wrong : None ≡ Some what = sym n ∙ s in cc
 
-publication_begins : (world : World) (cell : Cell Numbered) (request : List ℕ) (head : Head) (version : Numbered) → any_update world.calls ≡ false → length cell.published < 2 ^ 64 → Hands world → BeginsOk world cell (Update request) (publication_start world.words head version (oldest_kept world.keep world.kept))
+publication_begins : (world : World) (cell : Cell Numbered) (request : List ℕ) (head : Heading) (version : Numbered) → any_update world.calls ≡ false → length cell.published < 2 ^ 64 → Hands world → BeginsOk world cell (Update request) (publication_start world.words head version (oldest_kept world.keep world.kept))
 publication_begins world cell request head version none few h =
     begins_if world cell (Update request) (nat_lt world.words.granted grants && is_held world.words (oldest_kept world.keep world.kept)) _ _
     (λ e. (update_open world.words world.names world.kept world.keep world.calls head version none h, λ p. few)) (λ e. tt)

@@ -176,7 +176,7 @@ record Passed (new : Zones) (for : Purpose) (progress : Progress) (last before :
   names : (name : List ℕ) → reserved_at name progress ≡ 0
   update : updates_at progress ≡ is_for_update for
 
-publish_passed : (new : Zones) (keeping : Keeping) (kept last before : ℕ) (own oldest : Option ℕ) (rest : List Seat) → Seated new.owners (seat kept (has last) ∷ (oldest_seats before own ++ rest)) → Passed new (purpose.Publish keeping kept) (oldest_after keeping.head kept own) last before oldest rest
+publish_passed : (new : Zones) (keeping : Keeping) (kept last before : ℕ) (own oldest : Option ℕ) (rest : List Seat) → Seated new.owners (seat kept (has last) ∷ (oldest_seats before own ++ rest)) → Passed new (purpose.Publish keeping kept) (oldest_after keeping.heading kept own) last before oldest rest
 publish_passed new keeping kept last before None oldest rest s = record { seated = s; still = tt; swapped = refl; publishes = refl; names = λ name. refl; update = refl }
 publish_passed new keeping kept last before (Some owner) oldest rest s =
     let t = seated_swap new.owners (seat kept (has last)) (seat owner (has before)) rest s in

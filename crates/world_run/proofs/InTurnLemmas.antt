@@ -12,7 +12,8 @@ use Rattle.std.proofs.lemmas.Slice.Eq.{bytes_eq-Decides}
 use Rattle.cell_core.proofs.SeatLemmas.{push_cases, get_push_new}
 use Rattle.cell_core.specs.Cell.{Cell}
 use Rattle.cell_core.specs.Shows.{Shows}
-use Rattle.dns_message.specs.declared.query.Head.{Head}
+use Rattle.serve_core.specs.Heading.{heading_of_update}
+use Rattle.serve_core.specs.declared.heading.Heading.{Heading}
 use Rattle.dns_message.specs.declared.update.Update.{Update as DynamicUpdate}
 use Rattle.dns_rdata.specs.declared.numbers.Rcode.TheVariants.{NoError}
 use Rattle.dns_rdata.specs.Record.{Record}
@@ -38,7 +39,7 @@ use Rattle.world_run.specs.declared.step.WorldStep.TheVariants.{Whole, Begin, Ne
 use Rattle.world_run.specs.InTurn.{EndsUnder, IsOpen, IsOfCall, GivesAt, IsToldNoError, LeavesPublished, AreToldInTurn}
 use Rattle.world_run.specs.Phases.{step_name, updates}
 use Rattle.world_run.specs.Replays.{Sends, IsSentAt}
-use Rattle.world_run.specs.UpdateAnswers.{head_for, head_of}
+use Rattle.world_run.specs.UpdateAnswers.{heading_for, heading_of}
 use Rattle.world_run.specs.World.{World, started, call_of, without_call, code_reply, answer_at, step_once, steps_up_to, most_steps, is_full, all_made, whole, begin, begin_under, start, stepped, next, turn, onto_replies, play}
 use Rattle.world_run.proofs.CallReplays.{Script, scripted, Placed, updates_in, Zones, any_update, AtMostOne, found_any, found_alone}
 use Rattle.world_run.proofs.EndLemmas.{Unchanged, FirstOf, IsFirst, IsProbe, first_by, start_first}
@@ -49,23 +50,23 @@ use Rattle.world_run.proofs.HeldLemmas.{same_length}
 use Rattle.world_run.proofs.ReplayLemmas.{Goes, HeadEnd, HeadAt, step_keeps, found_here, found_behind, found_new, by_after, AddedBy, Turned, turn_comes, goes_as, AllSent, all_sent, start_goes, no_updates, place_in, update_at, goes_replayed, replayed_us}
 
 -- which line may have begun the update that is under way
-abbrev BeganBy : List Line → List WorldReply → ℕ → List UnderWay → ℕ → Head → Type 0
+abbrev BeganBy : List Line → List WorldReply → ℕ → List UnderWay → ℕ → Heading → Type 0
 BeganBy lines replies top calls = λ sent head.
-    (name : List ℕ) × (call : UnderWay) × (call_of name calls ≡ Some call) × (head_of call.phase ≡ Some head) × IsOpen lines replies sent top name
+    (name : List ℕ) × (call : UnderWay) × (call_of name calls ≡ Some call) × (heading_of call.phase ≡ Some head) × IsOpen lines replies sent top name
 
 -- an update that made a version has been told NOERROR, or is under way behind its swap
 abbrev IsToldSo : List Line → List WorldReply → ℕ → List UnderWay → Placed → Type 0
 IsToldSo lines replies top calls one =
-    ((place : ℕ) × GivesAt lines replies one.place place (code_reply one.update.head NoError))
-    ⊎ ((name : List ℕ) × (call : UnderWay) × (call_of name calls ≡ Some call) × (head_of call.phase ≡ Some one.update.head) × (swapped_in call.phase ≡ 1) × IsOpen lines replies one.place top name)
+    ((place : ℕ) × GivesAt lines replies one.place place (code_reply (heading_of_update one.update) NoError))
+    ⊎ ((name : List ℕ) × (call : UnderWay) × (call_of name calls ≡ Some call) × (heading_of call.phase ≡ Some (heading_of_update one.update)) × (swapped_in call.phase ≡ 1) × IsOpen lines replies one.place top name)
 
 -- what has a header is an update
-head_updates_for : (for : Purpose) (head : Head) (owner : ℕ) → head_for for ≡ Some head → updates (phase.Release owner for) ≡ true
+head_updates_for : (for : Purpose) (head : Heading) (owner : ℕ) → heading_for for ≡ Some head → updates (phase.Release owner for) ≡ true
 head_updates_for purpose.Drop head owner e = absurd (let wrong = e in cc)
 head_updates_for (purpose.Publish keeping kept) head owner e = refl
 head_updates_for (purpose.Oldest other kept) head owner e = refl
 
-head_updates : (at : Phase) (head : Head) → head_of at ≡ Some head → updates at ≡ true
+head_updates : (at : Phase) (head : Heading) → heading_of at ≡ Some head → updates at ≡ true
 head_updates (phase.Load name) head e = absurd (let wrong = e in cc)
 head_updates (phase.Probe version keeping) head e = refl
 head_updates (phase.Prepare version keeping) head e = refl
@@ -77,7 +78,7 @@ head_updates (phase.Bury owner for) head e = head_updates_for for head owner e
 head_updates (phase.Free owner number for) head e = head_updates_for for head owner e
 
 -- an update that made its swap is told NOERROR
-kept_answer : (end : End) (head : Head) → swapped_at (Done end) ≡ 1 → HeadEnd head end → answer_at end ≡ code_reply head NoError
+kept_answer : (end : End) (head : Heading) → swapped_at (Done end) ≡ 1 → HeadEnd head end → answer_at end ≡ code_reply head NoError
 kept_answer (Owned name owner number) head swapped is = absurd (omega (arith, swapped))
 kept_answer (Told given) head swapped is = absurd (omega (arith, swapped))
 kept_answer (NoSlot other) head swapped is = absurd (omega (arith, swapped))
@@ -279,7 +280,7 @@ fate lines replies top world (Next other) given after name call e told found =
     fate_some lines replies top world (Next other) name call (next world other (call_of other world.calls)) (λ here. next_fate lines replies top world other (call_of other world.calls) name call told.0 refl found here) given after e told.1
 
 -- the line that began the update under way is still the one
-began_on : (lines : List Line) (replies : List WorldReply) (top : ℕ) (world : World) (line : Line) (given : WorldReply) (after : World) → Tells lines replies top line given → turn world line ≡ Some (given, after) → AtMostOne world.calls → any_update after.calls ≡ true → (sent : ℕ) (head : Head)
+began_on : (lines : List Line) (replies : List WorldReply) (top : ℕ) (world : World) (line : Line) (given : WorldReply) (after : World) → Tells lines replies top line given → turn world line ≡ Some (given, after) → AtMostOne world.calls → any_update after.calls ≡ true → (sent : ℕ) (head : Heading)
     → by_after (scripted (IsSentAt lines) (top + 1) (BeganBy lines replies top world.calls)) top line given after sent head → BeganBy lines replies (top + 1) after.calls sent head
 began_on lines replies top world line given after t e one some sent head by =
     elim by [
@@ -318,11 +319,11 @@ told_on lines replies top world line given after one t e s =
         | inr goes ↦ elim goes [
           | inl steps ↦ (
               let keeps = step_keeps world.words steps.1 under.1.phase (On steps.0) steps.2 in
-              inr (under.0, record { name = under.0; phase = steps.0 }, steps.3, keeps.1 one.update.head under.3, keeps.0 under.4, open_on lines replies one.place top under.0 steps.4 under.5)
+              inr (under.0, record { name = under.0; phase = steps.0 }, steps.3, keeps.1 (heading_of_update one.update) under.3, keeps.0 under.4, open_on lines replies one.place top under.0 steps.4 under.5)
               )
           | inr ends ↦ (
               let keeps = step_keeps world.words ends.1 under.1.phase (Done ends.0) ends.2 in
-              let is = kept_answer ends.0 one.update.head (keeps.0 under.4) (keeps.1 one.update.head under.3) in
+              let is = kept_answer ends.0 (heading_of_update one.update) (keeps.0 under.4) (keeps.1 (heading_of_update one.update) under.3) in
               inl (top, inr (under.0, under.5, subst (λ a. EndsUnder lines replies top under.0 a) is ends.4))
               )
         ]
@@ -330,11 +331,11 @@ told_on lines replies top world line given after one t e s =
     ]
 
 -- an update that a line adds: that of a whole call is told NOERROR at once
-made_told : (world : World) (call : Call) (came : Progress × Zones) (head : Head) (given : WorldReply) (after : World) → swapped_at came.0 ≡ 1 → HeadAt head came.0 → Unchanged world.words came → (after.words ≡ world.words → ⊥) → all_made world call came ≡ (given, after) → given ≡ Answered (code_reply head NoError)
+made_told : (world : World) (call : Call) (came : Progress × Zones) (head : Heading) (given : WorldReply) (after : World) → swapped_at came.0 ≡ 1 → HeadAt head came.0 → Unchanged world.words came → (after.words ≡ world.words → ⊥) → all_made world call came ≡ (given, after) → given ≡ Answered (code_reply head NoError)
 made_told world call (On at, words) head given after swapped headed same changed e = absurd (changed (ap (λ (p : WorldReply × World). p.1.words) (sym e) ∙ same))
 made_told world call (Done end, words) head given after swapped headed same changed e = ap (λ (p : WorldReply × World). p.0) (sym e) ∙ ap Answered (kept_answer end head swapped headed)
 
-all_told : (world : World) (call : Call) (at : Phase) (head : Head) (test : Bool) (given : WorldReply) (after : World) → swapped_at (steps_up_to most_steps world.words at).0 ≡ 1 → HeadAt head (steps_up_to most_steps world.words at).0 → Unchanged world.words (steps_up_to most_steps world.words at) → (after.words ≡ world.words → ⊥)
+all_told : (world : World) (call : Call) (at : Phase) (head : Heading) (test : Bool) (given : WorldReply) (after : World) → swapped_at (steps_up_to most_steps world.words at).0 ≡ 1 → HeadAt head (steps_up_to most_steps world.words at).0 → Unchanged world.words (steps_up_to most_steps world.words at) → (after.words ≡ world.words → ⊥)
     → (if test then None else Some (all_made world call (steps_up_to most_steps world.words at))) ≡ Some (given, after) → given ≡ Answered (code_reply head NoError)
 all_told world call at head true given after swapped headed same changed e = absurd (let wrong = e in cc)
 all_told world call at head false given after swapped headed same changed e =
@@ -363,12 +364,12 @@ words_change S T first world after one g h added same =
     omega (arith, lengths, before, now, us, later, more, length-append g.us (one ∷ []))
 
 -- that of a call that the line goes on with is under way behind its swap, or told NOERROR
-step_told : (lines : List Line) (replies : List WorldReply) (top : ℕ) (world : World) (name : List ℕ) (call : UnderWay) (progress : Progress) (words : Zones) (one : Placed) → slice_get lines top ≡ Some (Next name) → swapped_at progress ≡ 1 → HeadAt one.update.head progress → IsOpen lines replies one.place top name
+step_told : (lines : List Line) (replies : List WorldReply) (top : ℕ) (world : World) (name : List ℕ) (call : UnderWay) (progress : Progress) (words : Zones) (one : Placed) → slice_get lines top ≡ Some (Next name) → swapped_at progress ≡ 1 → HeadAt (heading_of_update one.update) progress → IsOpen lines replies one.place top name
     → slice_get replies top ≡ Some (stepped world name call.phase (Some (progress, words))).0 → IsToldSo lines replies (top + 1) (stepped world name call.phase (Some (progress, words))).1.calls one
 step_told lines replies top world name call (On further) words one here swapped headed still told =
     inr (name, record { name = name; phase = further }, found_new name (without_call name world.calls) further (none_without name world.calls), headed, swapped, open_on lines replies one.place top name (λ answer. step_ends_none lines replies top name (step_name call.phase) answer told) still)
 step_told lines replies top world name call (Done end) words one here swapped headed still told =
-    inl (top, inr (name, still, (here, step_name call.phase, told ∙ ap (λ a. Some (Last (step_name call.phase) a)) (kept_answer end one.update.head swapped headed))))
+    inl (top, inr (name, still, (here, step_name call.phase, told ∙ ap (λ a. Some (Last (step_name call.phase) a)) (kept_answer end (heading_of_update one.update) swapped headed))))
 
 step_by_turn : (world : World) (name : List ℕ) (call : UnderWay) (progress : Progress) (words : Zones) (given : WorldReply) (after : World) → turn world (Next name) ≡ Some (given, after) → call_of name world.calls ≡ Some call → step_once world.words call.phase ≡ Some (progress, words)
     → stepped world name call.phase (Some (progress, words)) ≡ (given, after)
@@ -377,12 +378,12 @@ step_by_turn world name call progress words given after e found is =
     ap (stepped world name call.phase) (sym is) ∙ (ap (next world name) (sym found) ∙ told)
 
 -- the name of the update under way
-own_open : (lines : List Line) (replies : List WorldReply) (top : ℕ) (world : World) (name : List ℕ) (call : UnderWay) (sent : ℕ) (head : Head) → AtMostOne world.calls → call_of name world.calls ≡ Some call → updates call.phase ≡ true → BeganBy lines replies top world.calls sent head
-    → (head_of call.phase ≡ Some head) × IsOpen lines replies sent top name
+own_open : (lines : List Line) (replies : List WorldReply) (top : ℕ) (world : World) (name : List ℕ) (call : UnderWay) (sent : ℕ) (head : Heading) → AtMostOne world.calls → call_of name world.calls ≡ Some call → updates call.phase ≡ true → BeganBy lines replies top world.calls sent head
+    → (heading_of call.phase ≡ Some head) × IsOpen lines replies sent top name
 own_open lines replies top world name call sent head one found is by =
     let same = one_update by.0 name world.calls by.1 call one by.2 found (head_updates by.1.phase head by.3) is in
     let it : by.1 ≡ call = (let f : Some by.1 ≡ Some call = sym by.2 ∙ (ap (λ n. call_of n world.calls) same ∙ found) in cc) in
-    (subst (λ (c : UnderWay). head_of c.phase ≡ Some head) it by.3, subst (λ n. IsOpen lines replies sent top n) same by.4)
+    (subst (λ (c : UnderWay). heading_of c.phase ≡ Some head) it by.3, subst (λ n. IsOpen lines replies sent top n) same by.4)
 
 -- what is so at each line
 record Now (lines : List Line) (replies : List WorldReply) (first : List Record) (top : ℕ) (world : World) : Type 0 where
@@ -408,14 +409,14 @@ told_new lines replies first top world (Whole call) given after one t e n turned
     let same = first_by world.words n.goes.tells.cell by.1 (step_once world.words by.1) refl firsts.0 n.goes.tells.shows firsts.1 in
     let changed = words_change _ _ first world after one n.goes turned.goes added in
     let played : (if is_full world then None else Some (all_made world call (steps_up_to most_steps world.words by.1))) ≡ Some (given, after) = ap (whole world call) (sym how) ∙ e in
-    let is = all_told world call by.1 one.update.head (is_full world) given after by.3 by.4 same changed played in
+    let is = all_told world call by.1 (heading_of_update one.update) (is_full world) given after by.3 by.4 same changed played in
     (inl (top, inl (sym by.0, t.1 ∙ ap Some is)), inl (sym by.0))
 told_new lines replies first top world (Begin name call) given after one t e n turned added by = absurd by
 told_new lines replies first top world (Next name) given after one t e n turned added by =
-    let own = own_open lines replies top world name by.0 one.place one.update.head n.goes.one by.1 by.3 by.2 in
+    let own = own_open lines replies top world name by.0 one.place (heading_of_update one.update) n.goes.one by.1 by.3 by.2 in
     let pair = step_by_turn world name by.0 by.4 by.5 given after e by.1 by.6 in
     let told : slice_get replies top ≡ Some (stepped world name by.0.phase (Some (by.4, by.5))).0 = t.1 ∙ ap (λ (p : WorldReply × World). Some p.0) (sym pair) in
-    let is = step_told lines replies top world name by.0 by.4 by.5 one t.0 by.7 (by.8 one.update.head own.0) own.1 told in
+    let is = step_told lines replies top world name by.0 by.4 by.5 one t.0 by.7 (by.8 (heading_of_update one.update) own.0) own.1 told in
     (subst (λ (p : WorldReply × World). IsToldSo lines replies (top + 1) p.1.calls one) pair is, inr (name, own.1, t.0))
 
 record After (lines : List Line) (replies : List WorldReply) (first : List Record) (top : ℕ) (world : World) (us : List Placed) (after : World) : Type 0 where
@@ -582,8 +583,8 @@ each_at lines replies us top (x ∷ rest) world (suc place) line earlier before 
 told_out : (lines : List Line) (replies : List WorldReply) (last : ℕ) (world : World) (one : Placed) (update : DynamicUpdate) → last ≡ length lines → one.update ≡ update → IsToldSo lines replies last world.calls one → IsToldNoError lines replies world one.place update
 told_out lines replies last world one update end is s =
     elim s [
-      | inl told ↦ inl (told.0, subst (λ (u : DynamicUpdate). GivesAt lines replies one.place told.0 (code_reply u.head NoError)) is told.1)
-      | inr under ↦ inr (under.0, under.1, subst (λ p. IsOpen lines replies one.place p under.0) end under.5, under.2, under.3 ∙ ap (λ (u : DynamicUpdate). Some u.head) is)
+      | inl told ↦ inl (told.0, subst (λ (u : DynamicUpdate). GivesAt lines replies one.place told.0 (code_reply (heading_of_update u) NoError)) is told.1)
+      | inr under ↦ inr (under.0, under.1, subst (λ p. IsOpen lines replies one.place p under.0) end under.5, under.2, under.3 ∙ ap (λ (u : DynamicUpdate). Some (heading_of_update u)) is)
     ]
 
 started_now : (lines : List Line) (replies : List WorldReply) (first : List Record) (keep window : ℕ) → Now lines replies first 0 (started first keep window)

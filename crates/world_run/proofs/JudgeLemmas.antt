@@ -10,7 +10,8 @@ use Rattle.std.proofs.lemmas.Slice.Eq.{bytes_eq-Decides, slice_eq-Decides}
 use Rattle.dns_rdata.specs.declared.numbers.Rcode.{Rcode}
 use Rattle.dns_rdata.specs.declared.numbers.Rcode.TheVariants.{NoError}
 use Rattle.dns_rdata.specs.Record.{Record}
-use Rattle.dns_message.specs.declared.query.Head.{Head}
+use Rattle.serve_core.specs.Heading.{header_alone, heading_of_update, heading_of_bad}
+use Rattle.serve_core.specs.declared.heading.Heading.{Heading}
 use Rattle.dns_message.specs.declared.query.Parsed.{Parsed}
 use Rattle.dns_message.specs.declared.query.Parsed.TheVariants as parsed
 use Rattle.dns_message.specs.declared.update.Update.{Update as DynamicUpdate}
@@ -71,24 +72,24 @@ zones_apart zone other apart =
 no_code : (zone next : List Record) (update : DynamicUpdate) → verdict zone update true ≡ None → act zone update ≡ Some next → code_of zone update true ≡ None
 no_code zone next update passed made = rw (passed, made) refl
 
-let_through : (last : Numbered) (next : List Record) (update : DynamicUpdate) → verdict last.zone update true ≡ None → act last.zone update ≡ Some next → judged_by last update (code_of last.zone update true) ≡ made_of last update.head (Some next)
-let_through last next update passed made = ap (judged_by last update) (no_code last.zone next update passed made) ∙ ap (made_of last update.head) made
+let_through : (last : Numbered) (next : List Record) (update : DynamicUpdate) → verdict last.zone update true ≡ None → act last.zone update ≡ Some next → judged_by last update (code_of last.zone update true) ≡ made_of last (heading_of_update update) (Some next)
+let_through last next update passed made = ap (judged_by last update) (no_code last.zone next update passed made) ∙ ap (made_of last (heading_of_update update)) made
 
 -- an update that changes nothing is told NOERROR
-told_unchanged : (version : Numbered) (update : DynamicUpdate) → verdict version.zone update true ≡ None → act version.zone update ≡ Some version.zone → Some (Told update.head NoError) ≡ judged_by version update (code_of version.zone update true)
+told_unchanged : (version : Numbered) (update : DynamicUpdate) → verdict version.zone update true ≡ None → act version.zone update ≡ Some version.zone → Some (Told (heading_of_update update) NoError) ≡ judged_by version update (code_of version.zone update true)
 told_unchanged version update passed made =
     let same : is_equal_zone version.zone version.zone ≡ true = (zones_told version.zone version.zone).1 refl in
     sym (let_through version version.zone update passed made ∙ rw same refl)
 
 -- an update that is refused, or changes nothing, is told its code
 pub told_by_code : (version : Numbered) (update : DynamicUpdate) (outcome : Outcome) (code : Rcode) → IsTold version update true outcome → code ≡ code_told outcome → ((said : Rcode) × outcome ≡ Refused said) ⊎ outcome ≡ Unchanged
-    → Some (Told update.head code) ≡ judged_by version update (code_of version.zone update true)
+    → Some (Told (heading_of_update update) code) ≡ judged_by version update (code_of version.zone update true)
 told_by_code version update outcome code told is (inl refused) =
     let coded : code_of version.zone update true ≡ Some refused.0 = subst (λ o. IsTold version update true o) refused.1 told in
-    ap (λ c. Some (Told update.head c)) (is ∙ ap code_told refused.1) ∙ sym (ap (judged_by version update) coded)
+    ap (λ c. Some (Told (heading_of_update update) c)) (is ∙ ap code_told refused.1) ∙ sym (ap (judged_by version update) coded)
 told_by_code version update outcome code told is (inr unchanged) =
     let passed : (verdict version.zone update true ≡ None) × act version.zone update ≡ Some version.zone = subst (λ o. IsTold version update true o) unchanged told in
-    ap (λ c. Some (Told update.head c)) (is ∙ ap code_told unchanged) ∙ told_unchanged version update passed.0 passed.1
+    ap (λ c. Some (Told (heading_of_update update) c)) (is ∙ ap code_told unchanged) ∙ told_unchanged version update passed.0 passed.1
 
 -- changes that are those between two zones
 same_changes : (before after : List Record) (changes : Changes) → AreChanges changes before after → changes ≡ changes_between before after
@@ -108,17 +109,17 @@ same_version before number made counted known =
 
 -- one that makes another zone makes the version of the next number
 pub told_next : (version made : Numbered) (update : DynamicUpdate) (outcome : Outcome) → IsTold version update true outcome → outcome ≡ Next made
-    → Some (Makes update.head made) ≡ judged_by version update (code_of version.zone update true)
+    → Some (Makes (heading_of_update update) made) ≡ judged_by version update (code_of version.zone update true)
 told_next version made update outcome told is =
     let next : IsTold version update true (Next made) = subst (λ o. IsTold version update true o) is told in
     let other : is_equal_zone version.zone made.zone ≡ false = zones_apart version.zone made.zone next.2 in
-    let made_so : made_of version update.head (Some made.zone) ≡ Some (Makes update.head (record { number = version.number + 1; zone = made.zone; changes = Some (changes_between version.zone made.zone) })) = rw other refl in
-    sym (let_through version made.zone update next.0 next.1 ∙ made_so ∙ ap (λ m. Some (Makes update.head m)) (sym (same_version version.zone (version.number + 1) made next.3 next.4)))
+    let made_so : made_of version (heading_of_update update) (Some made.zone) ≡ Some (Makes (heading_of_update update) (record { number = version.number + 1; zone = made.zone; changes = Some (changes_between version.zone made.zone) })) = rw other refl in
+    sym (let_through version made.zone update next.0 next.1 ∙ made_so ∙ ap (λ m. Some (Makes (heading_of_update update) m)) (sym (same_version version.zone (version.number + 1) made next.3 next.4)))
 
 -- what makes a version
-pub record MadeBy (last : Numbered) (request : List ℕ) (head : Head) (version : Numbered) : Type 0 where
+pub record MadeBy (last : Numbered) (request : List ℕ) (head : Heading) (version : Numbered) : Type 0 where
   pub update : DynamicUpdate
-  pub headed : update.head ≡ head
+  pub headed : (heading_of_update update) ≡ head
   pub read : reads request ≡ parsed.Update update
   pub passed : verdict last.zone update true ≡ None
   pub made : act last.zone update ≡ Some version.zone
@@ -131,7 +132,7 @@ version_of other None = other
 version_of other (Some (Told head code)) = other
 version_of other (Some (Makes head version)) = version
 
-abbrev head_in : Head → Option Judged → Head
+abbrev head_in : Heading → Option Judged → Heading
 head_in other None = other
 head_in other (Some (Told head code)) = head
 head_in other (Some (Makes head version)) = head
@@ -140,18 +141,18 @@ passed_by : (zone : List Record) (update : DynamicUpdate) (v : Option Rcode) (re
 passed_by zone update None rest e = refl
 passed_by zone update (Some code) rest e = absurd (let wrong = e in cc)
 
-makes_if : (last : Numbered) (zone : List Record) (head other : Head) (version : Numbered) (test : Bool) → is_equal_zone last.zone zone ≡ test
+makes_if : (last : Numbered) (zone : List Record) (head other : Heading) (version : Numbered) (test : Bool) → is_equal_zone last.zone zone ≡ test
     → (if test then Some (Told head NoError) else Some (Makes head (record { number = last.number + 1; zone = zone; changes = Some (changes_between last.zone zone) }))) ≡ Some (Makes other version)
     → (record { number = last.number + 1; zone = zone; changes = Some (changes_between last.zone zone) } ≡ version) × (zone ≢ last.zone) × (head ≡ other)
 makes_if last zone head other version true t e = absurd (let wrong = e in cc)
 makes_if last zone head other version false t e =
     (ap (version_of version) e, (λ same. let yes = (zones_told last.zone zone).1 (sym same) in absurd (let wrong : true ≡ false = sym yes ∙ t in cc)), ap (head_in other) e)
 
-makes_made : (last : Numbered) (request : List ℕ) (update : DynamicUpdate) (head : Head) (version : Numbered) (o : Option (List Record)) → act last.zone update ≡ o → reads request ≡ parsed.Update update → verdict last.zone update true ≡ None
-    → made_of last update.head o ≡ Some (Makes head version) → MadeBy last request head version
+makes_made : (last : Numbered) (request : List ℕ) (update : DynamicUpdate) (head : Heading) (version : Numbered) (o : Option (List Record)) → act last.zone update ≡ o → reads request ≡ parsed.Update update → verdict last.zone update true ≡ None
+    → made_of last (heading_of_update update) o ≡ Some (Makes head version) → MadeBy last request head version
 makes_made last request update head version None is read passed e = absurd (let wrong = e in cc)
 makes_made last request update head version (Some zone) is read passed e =
-    let m = makes_if last zone update.head head version (is_equal_zone last.zone zone) refl e in
+    let m = makes_if last zone (heading_of_update update) head version (is_equal_zone last.zone zone) refl e in
     record {
       update = update;
       headed = m.2;
@@ -163,26 +164,27 @@ makes_made last request update head version (Some zone) is read passed e =
       knows = subst (λ (v : Numbered). KnowsChanges last.zone v) m.0 (record { old_soa = refl; deletions = refl; additions = refl });
     }
 
-makes_by : (last : Numbered) (request : List ℕ) (update : DynamicUpdate) (head : Head) (version : Numbered) (code : Option Rcode) → code_of last.zone update true ≡ code → reads request ≡ parsed.Update update → judged_by last update code ≡ Some (Makes head version) → MadeBy last request head version
+makes_by : (last : Numbered) (request : List ℕ) (update : DynamicUpdate) (head : Heading) (version : Numbered) (code : Option Rcode) → code_of last.zone update true ≡ code → reads request ≡ parsed.Update update → judged_by last update code ≡ Some (Makes head version) → MadeBy last request head version
 makes_by last request update head version (Some code) is read e = absurd (let wrong = e in cc)
 makes_by last request update head version None is read e =
     makes_made last request update head version (act last.zone update) refl read (passed_by last.zone update (verdict last.zone update true) _ is) e
 
-makes_fault : (head other : Head) (code : Rcode) (version : Numbered) (test : Bool) → (if test then Some (Told head code) else None) ≡ Some (Makes other version) → ⊥
+makes_fault : (head other : Heading) (code : Rcode) (version : Numbered) (test : Bool) → (if test then Some (Told head code) else None) ≡ Some (Makes other version) → ⊥
 makes_fault head other code version true e = let wrong = e in cc
 makes_fault head other code version false e = let wrong = e in cc
 
-makes_said : (last : Numbered) (request : List ℕ) (head : Head) (version : Numbered) (said : Parsed) → reads request ≡ said → judged_said last said ≡ Some (Makes head version) → MadeBy last request head version
+makes_said : (last : Numbered) (request : List ℕ) (head : Heading) (version : Numbered) (said : Parsed) → reads request ≡ said → judged_said last said ≡ Some (Makes head version) → MadeBy last request head version
 makes_said last request head version parsed.Silent read e = absurd (let wrong = e in cc)
-makes_said last request head version (parsed.Fault other code) read e = absurd (makes_fault other head code version (other.opcode == opcode_UPDATE) e)
+makes_said last request head version (parsed.Fault other code) read e = absurd (makes_fault (header_alone other) head code version (other.opcode == opcode_UPDATE) e)
+makes_said last request head version (parsed.BadOpt other question code dnssec_ok) read e = absurd (makes_fault (heading_of_bad other question dnssec_ok) head code version (other.opcode == opcode_UPDATE) e)
 makes_said last request head version (parsed.Query query) read e = absurd (let wrong = e in cc)
 makes_said last request head version (parsed.Update update) read e = makes_by last request update head version (code_of last.zone update true) refl read e
 makes_said last request head version (parsed.NoMemory other) read e = absurd (let wrong = e in cc)
 
-makes_numbered : (last : Numbered) (request : List ℕ) (head : Head) (version : Numbered) (test : Bool) → (if test then judged_said last (reads request) else None) ≡ Some (Makes head version) → MadeBy last request head version
+makes_numbered : (last : Numbered) (request : List ℕ) (head : Heading) (version : Numbered) (test : Bool) → (if test then judged_said last (reads request) else None) ≡ Some (Makes head version) → MadeBy last request head version
 makes_numbered last request head version true e = makes_said last request head version (reads request) refl e
 makes_numbered last request head version false e = absurd (let wrong = e in cc)
 
 -- a version is made by an update that was read, that no rule refuses, and that changes the zone
-pub made_by : (last : Numbered) (request : List ℕ) (head : Head) (version : Numbered) → judged last request ≡ Some (Makes head version) → MadeBy last request head version
+pub made_by : (last : Numbered) (request : List ℕ) (head : Heading) (version : Numbered) → judged last request ≡ Some (Makes head version) → MadeBy last request head version
 made_by last request head version e = makes_numbered last request head version (nat_lt (last.number + 1) (2 ^ 64)) e

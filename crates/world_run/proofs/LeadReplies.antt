@@ -21,6 +21,7 @@ use Rattle.dns_rdata.specs.Record.{Record}
 use Rattle.dns_rdata.specs.SerialOrder.{serial_less}
 use Rattle.serve_core.specs.declared.peer.Peer.{Peer}
 use Rattle.serve_core.specs.declared.transport.Transport.TheVariants.{Tcp}
+use Rattle.serve_core.specs.Heading.{reply_opt}
 use Rattle.serve_core.specs.Reply.{asks_transfer}
 use Rattle.serve_core.specs.Transport.{is_stream}
 use Rattle.serve_core.specs.Transfers.{peer_over, is_unfit, is_permitted, is_current, list_for, messages_to}
@@ -195,8 +196,8 @@ list_by zone changes query serial is asks =
     ∙ ap (λ o. if is_current zone o then soa_of zone else unwrap_or changes (full zone)) asks
 
 -- the records of the messages of a list
-records_so : (query : QueryAsked) (list : List Record) → records_of (packed query.head query.question list) ≡ map as_sent (map (spelt query.question.name) list)
-records_so query list = ap (map as_sent) (all_records query.head (Some query.question) (map (spelt query.question.name) list))
+records_so : (query : QueryAsked) (list : List Record) → records_of (packed query.head query.question (reply_opt query.edns) list) ≡ map as_sent (map (spelt query.question.name) list)
+records_so query list = ap (map as_sent) (all_records query.head (Some query.question) (reply_opt query.edns) (map (spelt query.question.name) list))
 
 abbrev Leads : (first : Zone) (lines : List Line) (world : World) → HoldVersions first lines world → Numbered → Serial → QueryAsked → List Message → Type 0
 Leads first lines world held version serial query messages =
@@ -208,7 +209,7 @@ Leads first lines world held version serial query messages =
 
 leads_by : (first : Zone) (lines : List Line) (world : World) (held : HoldVersions first lines world) (version : Numbered) (serial : Serial) (query : QueryAsked) (less : Bool) (told : Option (List Record)) → IsZone first → AreOctets lines → Served first lines world held version
     → serial_less serial.0 (zone_serial version.zone) ≡ less → told_since world.keep world.window held.replayed.reached.cell.published version.number serial.0 ≡ told
-    → Leads first lines world held version serial query (packed query.head query.question (if not less then soa_of version.zone else unwrap_or told (full version.zone)))
+    → Leads first lines world held version serial query (packed query.head query.question (reply_opt query.edns) (if not less then soa_of version.zone else unwrap_or told (full version.zone)))
 leads_by first lines world held version serial query false told is octets s e f = inl (e, records_so query (soa_of version.zone))
 leads_by first lines world held version serial query true None is octets s e f =
     inr (inr (f, records_so query (full version.zone), λ asker within. ap (taken_by (zone_at first held.replayed.updates asker)) (records_so query (full version.zone)) ∙ whole_so first lines world held version query.question.name is octets s asker within))
@@ -250,8 +251,8 @@ asked_answers first lines world held name version query octets is sent has ixfr 
       served = s.zone;
       serial = serial;
       asks = asks.1;
-      messages = packed query.head query.question (if not (serial_less serial.0 (zone_serial version.zone)) then soa_of version.zone else unwrap_or told (full version.zone));
-      sent = sym a.2 ∙ ap (λ l. octets_of (packed query.head query.question l)) list;
+      messages = packed query.head query.question (reply_opt query.edns) (if not (serial_less serial.0 (zone_serial version.zone)) then soa_of version.zone else unwrap_or told (full version.zone));
+      sent = sym a.2 ∙ ap (λ l. octets_of (packed query.head query.question (reply_opt query.edns) l)) list;
       leads = leads_by first lines world held version serial query (serial_less serial.0 (zone_serial version.zone)) told is sent s refl refl;
     }
 

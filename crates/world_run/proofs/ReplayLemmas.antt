@@ -23,7 +23,8 @@ use Rattle.cell_core.specs.declared.words.WordEvent.{WordEvent}
 use Rattle.cell_core.specs.declared.words.WordEvent.TheVariants as told
 use Rattle.cell_core.specs.declared.words.WordStep.TheVariants as word
 use Rattle.dns_rdata.specs.Record.{Record}
-use Rattle.dns_message.specs.declared.query.Head.{Head}
+use Rattle.serve_core.specs.Heading.{heading_of_update}
+use Rattle.serve_core.specs.declared.heading.Heading.{Heading}
 use Rattle.dns_message.specs.declared.update.Update.{Update as DynamicUpdate}
 use Rattle.dns_message.specs.Request.{reads}
 use Rattle.update_core.specs.Act.{act, replay}
@@ -53,7 +54,7 @@ use Rattle.zone_tree.specs.Version.{Version as Numbered, KnowsChanges}
 use Rattle.world_run.specs.Numbered.{first_version}
 use Rattle.world_run.specs.Phases.{word_step, after, past, oldest_after, updates}
 use Rattle.world_run.specs.InTurn.{LeavesPublished}
-use Rattle.world_run.specs.UpdateAnswers.{head_of, KeepsHead}
+use Rattle.world_run.specs.UpdateAnswers.{heading_of, KeepsHeading}
 use Rattle.world_run.specs.declared.phase.End.{End}
 use Rattle.world_run.specs.declared.phase.End.TheVariants.{Owned, Told, NoSlot, Kept}
 use Rattle.world_run.specs.declared.phase.Keeping.{Keeping}
@@ -92,13 +93,13 @@ behind_once S first us words new at progress e t c =
     subst (λ p. Behind S first us words new at p) one.goes (behind S first us words new at one.event one.makes t c)
 
 -- whether an update has made its swap, behind a step
-oldest_swapped : (head : Head) (kept : ℕ) (oldest : Option ℕ) → swapped_at (oldest_after head kept oldest) ≡ 1
+oldest_swapped : (head : Heading) (kept : ℕ) (oldest : Option ℕ) → swapped_at (oldest_after head kept oldest) ≡ 1
 oldest_swapped head kept None = refl
 oldest_swapped head kept (Some owner) = refl
 
 past_swapped : (for : Purpose) (given : Answer) → swapped_at (past for given) ≡ swapped_for for
 past_swapped purpose.Drop given = refl
-past_swapped (purpose.Publish keeping kept) given = oldest_swapped keeping.head kept keeping.oldest
+past_swapped (purpose.Publish keeping kept) given = oldest_swapped keeping.heading kept keeping.oldest
 past_swapped (purpose.Oldest head kept) given = refl
 
 load_swapped : (name : List ℕ) (event : WordEvent) → swapped_at (after (phase.Load name) event) ≡ 0
@@ -149,17 +150,17 @@ swap_updates (phase.Bury owner for) e = absurd (omega (arith, e))
 swap_updates (phase.Free owner number for) e = absurd (omega (arith, e))
 
 -- an update goes on, or is at its end, with this header
-abbrev pub HeadEnd : Head → End → Type 0
+abbrev pub HeadEnd : Heading → End → Type 0
 HeadEnd head (Owned name owner number) = ⊥
 HeadEnd head (Told given) = ⊥
 HeadEnd head (NoSlot other) = other ≡ head
 HeadEnd head (Kept other owner) = other ≡ head
 
-abbrev pub HeadAt : Head → Progress → Type 0
-HeadAt head (On at) = head_of at ≡ Some head
+abbrev pub HeadAt : Heading → Progress → Type 0
+HeadAt head (On at) = heading_of at ≡ Some head
 HeadAt head (Done end) = HeadEnd head end
 
-keeps_at : (head : Head) (event : WordEvent) (progress : Progress) → KeepsHead head event progress → HeadAt head progress
+keeps_at : (head : Heading) (event : WordEvent) (progress : Progress) → KeepsHeading head event progress → HeadAt head progress
 keeps_at head event (On next) k = k
 keeps_at head event (Done end) k = elim k [
   | inl none ↦ subst (HeadEnd head) (sym none.0) refl
@@ -167,7 +168,7 @@ keeps_at head event (Done end) k = elim k [
 ]
 
 abbrev pub KeepsAt : Phase → Progress → Type 0
-KeepsAt at progress = (head : Head) → head_of at ≡ Some head → HeadAt head progress
+KeepsAt at progress = (head : Heading) → heading_of at ≡ Some head → HeadAt head progress
 
 none_again : (at : Phase) → swapped_in at ≡ 1 → swaps_now at ≡ 0
 none_again (phase.Load name) e = refl
@@ -198,7 +199,7 @@ pub record Leaves (us later : List Placed) (words new : Zones) (at : Phase) (pro
 pub record Adds (S : Script) (us later : List Placed) (at : Phase) (progress : Progress) : Type 0 where
   pub one : Placed
   pub added : later ≡ us ++ one ∷ []
-  pub mine : S.by one.place one.update.head
+  pub mine : S.by one.place (heading_of_update one.update)
   pub update : updates at ≡ true
   pub unswapped : swapped_in at ≡ 0
   pub swapped : swapped_at progress ≡ 1
@@ -292,8 +293,8 @@ pub record Goes (S : Script) (first : List Record) (world : World) : Type 0 wher
   pub one : AtMostOne world.calls
 
 -- a call that begins so is about to publish what the next update makes, and is no second update
-abbrev pub begun_by : ℕ → Phase → ℕ → Head → Type 0
-begun_by place at = λ sent head. (sent ≡ place) × (head_of at ≡ Some head)
+abbrev pub begun_by : ℕ → Phase → ℕ → Heading → Type 0
+begun_by place at = λ sent head. (sent ≡ place) × (heading_of at ≡ Some head)
 
 abbrev pub StartOk : Script → List Record → List Placed → Zones → List UnderWay → ℕ → Start → Type 0
 StartOk S first us words calls place Refused = Unit {0}
@@ -323,6 +324,7 @@ asked_ok S first us words calls place world version query =
 sent_ok : (S : Script) (first : List Record) (us : List Placed) (words : Zones) (calls : List UnderWay) (place : ℕ) (world : World) (version : Numbered) (said : Parsed) → StartOk S first us words calls place (transfer_said world version said)
 sent_ok S first us words calls place world version parsed.Silent = tt
 sent_ok S first us words calls place world version (parsed.Fault head code) = tt
+sent_ok S first us words calls place world version (parsed.BadOpt head question code dnssec_ok) = tt
 sent_ok S first us words calls place world version (parsed.Query query) = asked_ok S first us words calls place world version query
 sent_ok S first us words calls place world version (parsed.Update update) = tt
 sent_ok S first us words calls place world version (parsed.NoMemory head) = tt
@@ -338,7 +340,7 @@ last_replay S first words us last t found =
     let is = t.replays.versions (length (updates_in us)) last (sym given ∙ found) in
     (is.0, is.1 ∙ ap (replay first) (take_all (length (updates_in us)) (updates_in us) (omega arith)))
 
-publication_ok : (S : Script) (first : List Record) (us : List Placed) (words : Zones) (calls : List UnderWay) (place : ℕ) (head : Head) (version : Numbered) (oldest : Option ℕ) → any_update calls ≡ false → IsNext (moved S S.top (λ sent other. (sent ≡ place) × (Some head ≡ Some other))) first us version → StartOk S first us words calls place (publication_start words head version oldest)
+publication_ok : (S : Script) (first : List Record) (us : List Placed) (words : Zones) (calls : List UnderWay) (place : ℕ) (head : Heading) (version : Numbered) (oldest : Option ℕ) → any_update calls ≡ false → IsNext (moved S S.top (λ sent other. (sent ≡ place) × (Some head ≡ Some other))) first us version → StartOk S first us words calls place (publication_start words head version oldest)
 publication_ok S first us words calls place head version oldest none n = ok_if S first us words calls place (nat_lt words.granted grants && is_held words oldest) _ _ (λ e. (n, λ is. none)) (λ e. tt)
 
 update_ok : (S : Script) (first : List Record) (us : List Placed) (world : World) (request : List ℕ) (place : ℕ) (last : Numbered) (what : Option Judged) → judged last request ≡ what → S.sends place request → IsFresh S us place → any_update world.calls ≡ false → found_last world.words ≡ Some last → Tells S first world.words us → StartOk S first us world.words world.calls place (update_start world what)
@@ -381,20 +383,20 @@ start_ok S first world (Update request) place sent g fresh =
 
 -- whichever may have begun the update that is under way behind a line: what may have before it; or the line itself, by the call that it put
 -- under way
-abbrev pub by_after : Script → ℕ → Line → WorldReply → World → ℕ → Head → Type 0
+abbrev pub by_after : Script → ℕ → Line → WorldReply → World → ℕ → Heading → Type 0
 by_after S place line given after = λ sent head.
     S.by sent head
     ⊎ ((sent ≡ place) × (given ≡ Begun) × (name : List ℕ) × (call : Call) × (line ≡ Begin name call)
-    × (under : UnderWay) × (call_of name after.calls ≡ Some under) × (head_of under.phase ≡ Some head))
+    × (under : UnderWay) × (call_of name after.calls ≡ Some under) × (heading_of under.phase ≡ Some head))
 
 -- whose update a line adds: that of the whole call which it is, or of the call that it goes on with
 abbrev pub AddedBy : Script → World → Line → ℕ → Placed → Type 0
 AddedBy S before (Whole call) place one =
     (one.place ≡ place) × (at : Phase) × (start before call ≡ Takes at)
-    × (swapped_at (steps_up_to most_steps before.words at).0 ≡ 1) × HeadAt one.update.head (steps_up_to most_steps before.words at).0
+    × (swapped_at (steps_up_to most_steps before.words at).0 ≡ 1) × HeadAt (heading_of_update one.update) (steps_up_to most_steps before.words at).0
 AddedBy S before (Begin name call) place one = ⊥
 AddedBy S before (Next name) place one =
-    (call : UnderWay) × (call_of name before.calls ≡ Some call) × S.by one.place one.update.head × (updates call.phase ≡ true)
+    (call : UnderWay) × (call_of name before.calls ≡ Some call) × S.by one.place (heading_of_update one.update) × (updates call.phase ≡ true)
     × (progress : Progress) × (words : Zones) × (step_once before.words call.phase ≡ Some (progress, words)) × (swapped_at progress ≡ 1) × KeepsAt call.phase progress
 
 -- a line leaves the updates so far, and what is published, as they were; or it adds an update
@@ -477,7 +479,7 @@ whole_comes : (S : Script) (world : World) (us : List Placed) (call : Call) (pla
 whole_comes S world us call place at came later after_line same how is comes =
     elim comes [
       | inl l ↦ inl (l.same, subst (λ w. LeavesPublished world.words w) (sym same) l.leaves)
-      | inr a ↦ inr (a.one, a.added, (a.mine.0, at, how, ap (λ (c : Progress × Zones). swapped_at c.0) is ∙ a.swapped, subst (λ (c : Progress × Zones). HeadAt a.one.update.head c.0) (sym is) (a.headed a.one.update.head a.mine.1)))
+      | inr a ↦ inr (a.one, a.added, (a.mine.0, at, how, ap (λ (c : Progress × Zones). swapped_at c.0) is ∙ a.swapped, subst (λ (c : Progress × Zones). HeadAt (heading_of_update a.one.update) c.0) (sym is) (a.headed (heading_of_update a.one.update) a.mine.1)))
     ]
 
 made_goes : (S : Script) (first : List Record) (world : World) (us : List Placed) (call : Call) (place : ℕ) (at : Phase) (came : Progress × Zones) → start world call ≡ Takes at → steps_up_to most_steps world.words at ≡ came → AtMostOne world.calls → Came S first us world.words world.calls place at came
@@ -611,7 +613,7 @@ turn_goes_so S first world (Begin name call) place sent g fresh = under_goes S f
 turn_goes_so S first world (Next name) place sent g fresh = to_some S first world g.us (Next name) place _ (next_goes S first world name place (call_of name world.calls) refl g)
 
 -- where more lines were played, and other lines may have begun the update under way
-pub goes_as : (S : Script) (top : ℕ) (by : ℕ → Head → Type 0) (first : List Record) (world : World) → S.top ≤ top → (any_update world.calls ≡ true → (place : ℕ) (head : Head) → S.by place head → by place head) → (g : Goes S first world)
+pub goes_as : (S : Script) (top : ℕ) (by : ℕ → Heading → Type 0) (first : List Record) (world : World) → S.top ≤ top → (any_update world.calls ≡ true → (place : ℕ) (head : Heading) → S.by place head → by place head) → (g : Goes S first world)
     → (h : Goes (moved S top by) first world) × (h.us ≡ g.us)
 goes_as S top by first world more map g = (
   record {

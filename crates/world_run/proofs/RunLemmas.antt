@@ -23,7 +23,7 @@ use Rattle.cell_core.specs.declared.words.WordEvent.TheVariants as told
 use Rattle.cell_core.specs.declared.words.WordStep.{WordStep}
 use Rattle.cell_core.specs.declared.words.WordStep.TheVariants as word
 use Rattle.dns_rdata.specs.Record.{Record}
-use Rattle.dns_message.specs.declared.query.Head.{Head}
+use Rattle.serve_core.specs.declared.heading.Heading.{Heading}
 use Rattle.dns_message.specs.Request.{reads}
 use Rattle.world_run.specs.declared.phase.Phase.{Phase}
 use Rattle.world_run.specs.declared.phase.Phase.TheVariants as phase
@@ -105,13 +105,13 @@ LoadedBy (Done (NoSlot head)) step = Unit {0}
 LoadedBy (Done (Kept head owner)) step = Unit {0}
 LoadedBy (On phase) step = Unit {0}
 
-oldest_by : (head : Head) (kept : ℕ) (oldest : Option ℕ) (step : WordStep Numbered × WordEvent) → LoadedBy (oldest_after head kept oldest) step
+oldest_by : (head : Heading) (kept : ℕ) (oldest : Option ℕ) (step : WordStep Numbered × WordEvent) → LoadedBy (oldest_after head kept oldest) step
 oldest_by head kept None step = tt
 oldest_by head kept (Some owner) step = tt
 
 past_by : (for : Purpose) (given : Answer) (step : WordStep Numbered × WordEvent) → LoadedBy (past for given) step
 past_by purpose.Drop given step = tt
-past_by (purpose.Publish keeping kept) given step = oldest_by keeping.head kept keeping.oldest step
+past_by (purpose.Publish keeping kept) given step = oldest_by keeping.heading kept keeping.oldest step
 past_by (purpose.Oldest head kept) given step = tt
 
 load_by : (name : List ℕ) (event : WordEvent) → LoadedBy (after (phase.Load name) event) (word.Load, event)

@@ -1,7 +1,6 @@
 -- What a request of octets says that is an update: each of its records has a name as its owner, and octets.
 use Rattle.std.proofs.Common.{◌≡◌, refl, sym, ap, subst, ℕ, zero, suc, ◌+◌, ◌<◌, Bool, true, false, inl, inr, List, [], ◌∷◌, ◌++◌, length, take, drop, arith, Option, Some, None, All}
 use Rattle.dns_rdata.specs.declared.numbers.Rcode.TheVariants.{NotImp}
-use Rattle.dns_rdata.specs.declared.numbers.Serial.{Serial}
 use Rattle.std.specs.Prelude.{◌==◌, ◌||◌, nat_lt, nat_le, option_and_then, option_map, if◌then◌else◌, Result, Ok, Err}
 use Rattle.std.specs.List.{flat_map}
 use Rattle.std.proofs.lemmas.Bool.{cases_Bool}
@@ -17,13 +16,13 @@ use Rattle.dns_rdata.specs.declared.layout.Layout.{Layout}
 use Rattle.dns_rdata.specs.declared.layout.Layout.TheVariants.{Fields, Strings}
 use Rattle.dns_message.specs.Expanded.{names_at, octets_from, expanded_by, expanded_data}
 use Rattle.dns_message.specs.Message.{Entry, opcode_QUERY, opcode_UPDATE, number_at}
-use Rattle.dns_message.specs.Reads.{has_opt, opcode_of, header_of, is_reply, body_in, seen, record_of, record_at, records_at}
+use Rattle.dns_message.specs.Opt.{opt_said}
+use Rattle.dns_message.specs.Reads.{opcode_of, header_of, is_reply, body_in, seen, record_of, record_at, records_at}
 use Rattle.dns_message.specs.Request.{query_of, update_of, reads}
-use Rattle.dns_message.specs.Updates.{is_looked_at, octets_of, raw_with, raw_at, raws_at, zone_at, update_with, update_in}
+use Rattle.dns_message.specs.Updates.{is_looked_at, octets_of, raw_with, raw_at, raws_at, zone_at, update_made, update_in}
 use Rattle.dns_message.specs.declared.query.Head.{Head}
 use Rattle.dns_message.specs.declared.query.Parsed.{Parsed}
 use Rattle.dns_message.specs.declared.query.Parsed.TheVariants as parsed
-use Rattle.dns_message.specs.declared.query.Question.{Question}
 use Rattle.dns_message.specs.declared.update.Update.{Update}
 use Rattle.dns_message.specs.declared.update.ZoneEntry.{ZoneEntry}
 use Rattle.update_core.specs.Act.{IsSent}
@@ -174,49 +173,48 @@ raws_sent section zero msg at it h is = let pair : ([], at) ≡ it = (let f = is
 raws_sent section (suc count) msg at it h is = raws_by section count msg (raw_at section msg at) it (λ r f. raw_sent section msg at r h f) (λ at it f. raws_sent section count msg at it h f) is
 
 -- an update by its sections
-additional_sent : (head : Head) (zone : ZoneEntry) (prerequisites updates : List RawRecord) (o : Option (List Entry × ℕ)) (update : Update) → option_and_then (λ additional. update_with head zone prerequisites updates additional.0) o ≡ Some update → All IsSent updates → All IsSent update.updates
+made_sent : (head : Head) (zone : ZoneEntry) (prerequisites updates : List RawRecord) (said : _) (update : Update) → update_made head zone prerequisites updates said ≡ Ok update → All IsSent updates → All IsSent update.updates
+made_sent head zone prerequisites updates (Ok edns) update is all =
+    let same : record { head = head; edns = edns; zone = zone; prerequisites = prerequisites; updates = updates } ≡ update = (let f = is in cc) in
+    subst (λ (u : Update). All IsSent u.updates) same all
+made_sent head zone prerequisites updates (Err fault) update is all = absurd (let wrong = is in cc)
+
+additional_sent : (head : Head) (zone : ZoneEntry) (prerequisites updates : List RawRecord) (o : Option (List Entry × ℕ)) (update : Update) → option_map (λ additional. update_made head zone prerequisites updates (opt_said additional.0)) o ≡ Some (Ok update) → All IsSent updates → All IsSent update.updates
 additional_sent head zone prerequisites updates None update is all = absurd (let wrong = is in cc)
 additional_sent head zone prerequisites updates (Some additional) update is all =
-    elim (cases_Bool (has_opt additional.0)) [
-      | inl opt ↦ (let f = rw opt at is in absurd (let wrong = f in cc))
-      | inr none ↦ (let f = rw none at is in subst (All IsSent) (updates_are _ update f) all)
-    ]
-  where
-    updates_are : (made update : Update) → Some made ≡ Some update → made.updates ≡ update.updates
-    updates_are made update f = let same : made ≡ update = (let g = f in cc) in ap (λ (u : Update). u.updates) same
+    let made : update_made head zone prerequisites updates (opt_said additional.0) ≡ Ok update = (let f = is in cc) in
+    made_sent head zone prerequisites updates (opt_said additional.0) update made all
 
 updates_sent : (head : Head) (msg : List ℕ) (zone : ZoneEntry) (prerequisites : List RawRecord) (o : Option (List RawRecord × ℕ)) (update : Update) → ((it : List RawRecord × ℕ) → o ≡ Some it → All IsSent it.0)
-    → option_and_then (λ updates. option_and_then (λ additional. update_with head zone prerequisites updates.0 additional.0) (records_at (number_at msg 10) msg updates.1)) o ≡ Some update → All IsSent update.updates
+    → option_and_then (λ updates. option_map (λ additional. update_made head zone prerequisites updates.0 (opt_said additional.0)) (records_at (number_at msg 10) msg updates.1)) o ≡ Some (Ok update) → All IsSent update.updates
 updates_sent head msg zone prerequisites None update all is = absurd (let wrong = is in cc)
 updates_sent head msg zone prerequisites (Some updates) update all is = additional_sent head zone prerequisites updates.0 (records_at (number_at msg 10) msg updates.1) update is (all updates refl)
 
 prerequisites_sent : (two : _) (head : Head) (msg : List ℕ) (zone : ZoneEntry) (o : Option (List RawRecord × ℕ)) (update : Update) → Octets msg
-    → option_and_then (λ prerequisites. option_and_then (λ updates. option_and_then (λ additional. update_with head zone prerequisites.0 updates.0 additional.0) (records_at (number_at msg 10) msg updates.1)) (raws_at two (number_at msg 8) msg prerequisites.1)) o ≡ Some update
+    → option_and_then (λ prerequisites. option_and_then (λ updates. option_map (λ additional. update_made head zone prerequisites.0 updates.0 (opt_said additional.0)) (records_at (number_at msg 10) msg updates.1)) (raws_at two (number_at msg 8) msg prerequisites.1)) o ≡ Some (Ok update)
     → All IsSent update.updates
 prerequisites_sent two head msg zone None update h is = absurd (let wrong = is in cc)
 prerequisites_sent two head msg zone (Some before) update h is = updates_sent head msg zone before.0 (raws_at two (number_at msg 8) msg before.1) update (λ it f. raws_sent two (number_at msg 8) msg before.1 it h f) is
 
 zone_sent : (one two : _) (head : Head) (msg : List ℕ) (o : Option (ZoneEntry × ℕ)) (update : Update) → Octets msg
-    → option_and_then (λ zone. option_and_then (λ prerequisites. option_and_then (λ updates. option_and_then (λ additional. update_with head zone.0 prerequisites.0 updates.0 additional.0) (records_at (number_at msg 10) msg updates.1)) (raws_at two (number_at msg 8) msg prerequisites.1)) (raws_at one (number_at msg 6) msg zone.1)) o ≡ Some update
+    → option_and_then (λ zone. option_and_then (λ prerequisites. option_and_then (λ updates. option_map (λ additional. update_made head zone.0 prerequisites.0 updates.0 (opt_said additional.0)) (records_at (number_at msg 10) msg updates.1)) (raws_at two (number_at msg 8) msg prerequisites.1)) (raws_at one (number_at msg 6) msg zone.1)) o ≡ Some (Ok update)
     → All IsSent update.updates
 zone_sent one two head msg None update h is = absurd (let wrong = is in cc)
 zone_sent one two head msg (Some zone) update h is = prerequisites_sent two head msg zone.0 (raws_at one (number_at msg 6) msg zone.1) update h is
 
-update_sent : (head : Head) (msg : List ℕ) (update : Update) → Octets msg → update_in head msg ≡ Some update → All IsSent update.updates
+update_sent : (head : Head) (msg : List ℕ) (update : Update) → Octets msg → update_in head msg ≡ Some (Ok update) → All IsSent update.updates
 unfolding update_in
 update_sent head msg update h is = zone_sent _ _ head msg (zone_at msg) update h is
 
-query_is_none : (head : Head) (o : Option (Question × Option Serial × Bool)) (update : Update) → query_of head o ≡ parsed.Update update → ⊥
+query_is_none : (head : Head) (o : _) (update : Update) → query_of head o ≡ parsed.Update update → ⊥
 query_is_none head None update is = let wrong = is in cc
-query_is_none head (Some r) update is =
-    elim (cases_Bool r.2) [
-      | inl opt ↦ (let f = rw opt at is in let wrong = f in cc)
-      | inr none ↦ (let f = rw none at is in let wrong = f in cc)
-    ]
+query_is_none head (Some (question, serial, Ok edns)) update is = let wrong = is in cc
+query_is_none head (Some (question, serial, Err fault)) update is = let wrong = is in cc
 
-update_is : (head : Head) (o : Option Update) (update : Update) → update_of head o ≡ parsed.Update update → o ≡ Some update
+update_is : (head : Head) (o : _) (update : Update) → update_of head o ≡ parsed.Update update → o ≡ Some (Ok update)
 update_is head None update is = absurd (let wrong = is in cc)
-update_is head (Some other) update is = let same : other ≡ update = (let f = is in cc) in ap Some same
+update_is head (Some (Ok other)) update is = let same : other ≡ update = (let f = is in cc) in ap (λ (u : Update). Some (Ok u)) same
+update_is head (Some (Err bad)) update is = absurd (let wrong = is in cc)
 
 by_tests : (a b c : Bool) (head : Head) (asked said : Parsed) (update : Update) → (asked ≡ parsed.Update update → ⊥) → (if a then parsed.Silent else if b then asked else if c then said else parsed.Fault head NotImp) ≡ parsed.Update update → said ≡ parsed.Update update
 by_tests true b c head asked said update none is = absurd (let wrong = is in cc)

@@ -18,7 +18,8 @@ use Rattle.world_run.specs.declared.step.WorldReply.TheVariants.{Answered, Begun
 use Rattle.world_run.specs.declared.step.WorldStep.{WorldStep}
 use Rattle.world_run.specs.declared.step.WorldStep.TheVariants.{Begin, Next}
 use Rattle.world_run.specs.Replays.{IsReplayed}
-use Rattle.world_run.specs.UpdateAnswers.{head_of}
+use Rattle.serve_core.specs.Heading.{heading_of_update}
+use Rattle.world_run.specs.UpdateAnswers.{heading_of}
 use Rattle.world_run.specs.World.{World, started, call_of, code_reply, turn, play}
 
 -- the line at a place ends a call under way of this name, and tells what it gave (own)
@@ -48,8 +49,8 @@ GivesAt lines replies sent place answer =
 -- the update that a line sends is told NOERROR at its end, or it is under way still behind all lines (RFC 2136, 3.8; own)
 abbrev pub IsToldNoError : List WorldStep → List WorldReply → World → ℕ → DynamicUpdate → Type 0
 IsToldNoError lines replies world sent update =
-    ((place : ℕ) × GivesAt lines replies sent place (code_reply update.head NoError))
-    ⊎ ((name : List ℕ) × (call : UnderWay) × IsOpen lines replies sent (length lines) name × (call_of name world.calls ≡ Some call) × (head_of call.phase ≡ Some update.head))
+    ((place : ℕ) × GivesAt lines replies sent place (code_reply (heading_of_update update) NoError))
+    ⊎ ((name : List ℕ) × (call : UnderWay) × IsOpen lines replies sent (length lines) name × (call_of name world.calls ≡ Some call) × (heading_of call.phase ≡ Some (heading_of_update update)))
 
 -- whatever cell the words show, later ones show one in which the same versions are published (own)
 abbrev pub LeavesPublished : State Numbered → State Numbered → Type 0

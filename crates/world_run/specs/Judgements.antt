@@ -4,9 +4,10 @@ use Rattle.std.specs.Cmp.Lexicographic.{pointwise}
 use Rattle.dns_rdata.specs.declared.numbers.Rcode.{Rcode}
 use Rattle.dns_rdata.specs.declared.numbers.Rcode.TheVariants.{NoError}
 use Rattle.dns_rdata.specs.Record.{Record}
-use Rattle.dns_message.specs.declared.query.Head.{Head}
+use Rattle.serve_core.specs.declared.heading.Heading.{Heading}
+use Rattle.serve_core.specs.Heading.{header_alone, heading_of_update, heading_of_bad}
 use Rattle.dns_message.specs.declared.query.Parsed.{Parsed}
-use Rattle.dns_message.specs.declared.query.Parsed.TheVariants.{Silent, Fault, Query, Update, NoMemory}
+use Rattle.dns_message.specs.declared.query.Parsed.TheVariants.{Silent, Fault, BadOpt, Query, Update, NoMemory}
 use Rattle.dns_message.specs.declared.update.Update.{Update as DynamicUpdate}
 use Rattle.dns_message.specs.Message.{opcode_UPDATE}
 use Rattle.dns_message.specs.Request.{reads}
@@ -28,21 +29,22 @@ is_equal_zone zone other = pointwise is_equal_record zone other
 
 -- an update that each rule lets through, by the zone that it makes: it changes nothing, or it makes the version of the next
 -- number, which knows what it changed (RFC 2136, 3.6; RFC 1995, 4)
-abbrev pub made_of : Numbered → Head → Option (List Record) → Option Judged
-made_of last head None = None
-made_of last head (Some zone) =
-    if is_equal_zone last.zone zone then Some (Told head NoError)
-    else Some (Makes head (record { number = last.number + 1; zone = zone; changes = Some (changes_between last.zone zone) }))
+abbrev pub made_of : Numbered → Heading → Option (List Record) → Option Judged
+made_of last heading None = None
+made_of last heading (Some zone) =
+    if is_equal_zone last.zone zone then Some (Told heading NoError)
+    else Some (Makes heading (record { number = last.number + 1; zone = zone; changes = Some (changes_between last.zone zone) }))
 
 -- an update from a peer that may update, by the code that it gets where a rule or a limit refuses it (RFC 2136, 3)
 abbrev pub judged_by : Numbered → DynamicUpdate → Option Rcode → Option Judged
-judged_by last update (Some code) = Some (Told update.head code)
-judged_by last update None = made_of last update.head (act last.zone update)
+judged_by last update (Some code) = Some (Told (heading_of_update update) code)
+judged_by last update None = made_of last (heading_of_update update) (act last.zone update)
 
 -- what a request that is read asks of the last version, where it asks for an update; else none (RFC 2136, 3)
 abbrev pub judged_said : Numbered → Parsed → Option Judged
 judged_said last Silent = None
-judged_said last (Fault head code) = if head.opcode == opcode_UPDATE then Some (Told head code) else None
+judged_said last (Fault head code) = if head.opcode == opcode_UPDATE then Some (Told (header_alone head) code) else None
+judged_said last (BadOpt head question code dnssec_ok) = if head.opcode == opcode_UPDATE then Some (Told (heading_of_bad head question dnssec_ok) code) else None
 judged_said last (Query query) = None
 judged_said last (Update update) = judged_by last update (code_of last.zone update true)
 judged_said last (NoMemory head) = None

@@ -4,7 +4,7 @@ use Rattle.cell_core.specs.declared.words.WordStep.{WordStep}
 use Rattle.cell_core.specs.declared.words.WordStep.TheVariants as word
 use Rattle.cell_core.specs.declared.words.WordEvent.{WordEvent}
 use Rattle.cell_core.specs.declared.words.WordEvent.TheVariants as told
-use Rattle.dns_message.specs.declared.query.Head.{Head}
+use Rattle.serve_core.specs.declared.heading.Heading.{Heading}
 use Rattle.world_run.specs.declared.phase.Keeping.{Keeping}
 use Rattle.world_run.specs.declared.phase.Purpose.{Purpose}
 use Rattle.world_run.specs.declared.phase.Purpose.TheVariants as purpose
@@ -45,15 +45,15 @@ step_name (Free owner number for) = step.Free
 
 -- an update whose publication's owner is gone gives up the oldest version that is kept, where that is due, and is at its end
 -- (own)
-abbrev pub oldest_after : Head → ℕ → Option ℕ → Progress
-oldest_after head kept None = Done (Kept head kept)
-oldest_after head kept (Some owner) = On (Release owner (purpose.Oldest head kept))
+abbrev pub oldest_after : Heading → ℕ → Option ℕ → Progress
+oldest_after heading kept None = Done (Kept heading kept)
+oldest_after heading kept (Some owner) = On (Release owner (purpose.Oldest heading kept))
 
 -- what follows where an owner is gone; a drop gives this (own)
 abbrev pub past : Purpose → Answer → Progress
 past purpose.Drop answer = Done (Told answer)
-past (purpose.Publish keeping kept) answer = oldest_after keeping.head kept keeping.oldest
-past (purpose.Oldest head kept) answer = Done (Kept head kept)
+past (purpose.Publish keeping kept) answer = oldest_after keeping.heading kept keeping.oldest
+past (purpose.Oldest heading kept) answer = Done (Kept heading kept)
 
 -- a load ends with an owner under its name (own)
 abbrev pub load_after : List ℕ → WordEvent → Progress
@@ -63,7 +63,7 @@ load_after name event = On (Load name)
 -- probes go on up to a slot that is free, or to the last, where the update ends (own)
 abbrev pub probe_after : Numbered → Keeping → WordEvent → Progress
 probe_after version keeping told.Taken = On (Prepare version keeping)
-probe_after version keeping told.NoSlot = Done (NoSlot keeping.head)
+probe_after version keeping told.NoSlot = Done (NoSlot keeping.heading)
 probe_after version keeping event = On (Probe version keeping)
 
 -- on a settle follows a load of the version that was published (own)

@@ -2,12 +2,12 @@
 use Rattle.std.specs.Prelude.{◌≡◌, ℕ, ◌⊎◌, List, Option, None, Some}
 use Rattle.cell_core.specs.declared.words.WordEvent.{WordEvent}
 use Rattle.cell_core.specs.declared.words.WordEvent.TheVariants as told
-use Rattle.dns_message.specs.declared.query.Head.{Head}
+use Rattle.serve_core.specs.declared.heading.Heading.{Heading}
 use Rattle.dns_message.specs.Octets.{fit}
 use Rattle.dns_rdata.specs.declared.numbers.Rcode.{Rcode}
 use Rattle.dns_rdata.specs.Record.{Record}
 use Rattle.serve_core.specs.declared.transport.Transport.TheVariants.{Udp}
-use Rattle.serve_core.specs.Reply.{bare}
+use Rattle.serve_core.specs.Heading.{coded}
 use Rattle.serve_core.specs.Served.{Got}
 use Rattle.serve_core.specs.Transport.{limit_of}
 use Rattle.world_run.specs.declared.phase.End.TheVariants.{NoSlot, Kept}
@@ -18,29 +18,29 @@ use Rattle.world_run.specs.declared.phase.Progress.TheVariants.{On, Done}
 use Rattle.world_run.specs.declared.phase.Purpose.{Purpose}
 use Rattle.world_run.specs.declared.phase.Purpose.TheVariants as purpose
 
--- the header of the update that an owner is released for; none where a name is dropped (own)
-abbrev pub head_for : Purpose → Option Head
-head_for purpose.Drop = None
-head_for (purpose.Publish keeping kept) = Some keeping.head
-head_for (purpose.Oldest head kept) = Some head
+-- what the reply repeats of the update that an owner is released for; none where a name is dropped (own)
+abbrev pub heading_for : Purpose → Option Heading
+heading_for purpose.Drop = None
+heading_for (purpose.Publish keeping kept) = Some keeping.heading
+heading_for (purpose.Oldest heading kept) = Some heading
 
--- the header of the update that a call is; none of another call (own)
-abbrev pub head_of : Phase → Option Head
-head_of (Load name) = None
-head_of (Probe version keeping) = Some keeping.head
-head_of (Prepare version keeping) = Some keeping.head
-head_of (Swap keeping) = Some keeping.head
-head_of (Settle keeping) = Some keeping.head
-head_of (Keep given keeping) = Some keeping.head
-head_of (Release owner for) = head_for for
-head_of (Bury owner for) = head_for for
-head_of (Free owner number for) = head_for for
+-- what the reply repeats of the update that a call is; none of another call (own)
+abbrev pub heading_of : Phase → Option Heading
+heading_of (Load name) = None
+heading_of (Probe version keeping) = Some keeping.heading
+heading_of (Prepare version keeping) = Some keeping.heading
+heading_of (Swap keeping) = Some keeping.heading
+heading_of (Settle keeping) = Some keeping.heading
+heading_of (Keep given keeping) = Some keeping.heading
+heading_of (Release owner for) = heading_for for
+heading_of (Bury owner for) = heading_for for
+heading_of (Free owner number for) = heading_for for
 
--- an update keeps its header from step to step, and ends where no slot was free, or with its version kept (own)
-abbrev pub KeepsHead : Head → WordEvent → Progress → Type 0
-KeepsHead head event (On next) = head_of next ≡ Some head
-KeepsHead head event (Done end) = ((end ≡ NoSlot head) × (event ≡ told.NoSlot)) ⊎ ((owner : ℕ) × (end ≡ Kept head owner))
+-- an update keeps what its reply repeats of it from step to step, and ends where no slot was free, or with its version kept (own)
+abbrev pub KeepsHeading : Heading → WordEvent → Progress → Type 0
+KeepsHeading heading event (On next) = heading_of next ≡ Some heading
+KeepsHeading heading event (Done end) = ((end ≡ NoSlot heading) × (event ≡ told.NoSlot)) ⊎ ((owner : ℕ) × (end ≡ Kept heading owner))
 
--- a request gets a header alone, with a code, and this zone stands behind it (RFC 2136, 3.8)
-abbrev pub got_alone : Head → Rcode → List Record → Got
-got_alone head code zone = record { reply = Some (fit (bare head code) (limit_of Udp)); zone = zone }
+-- a request gets a code, and this zone stands behind it (RFC 2136, 3.8)
+abbrev pub got_alone : Heading → Rcode → List Record → Got
+got_alone heading code zone = record { reply = Some (fit (coded heading code) (limit_of Udp None)); zone = zone }

@@ -12,7 +12,7 @@ use Rattle.dns_rdata.specs.declared.numbers.Rcode.TheVariants.{NoError, ServFail
 use Rattle.dns_rdata.specs.Numbers.{type_IXFR}
 use Rattle.dns_rdata.specs.declared.numbers.Serial.{Serial}
 use Rattle.dns_rdata.specs.Record.{Record}
-use Rattle.dns_message.specs.declared.query.Head.{Head}
+use Rattle.serve_core.specs.declared.heading.Heading.{Heading}
 use Rattle.dns_message.specs.declared.query.Parsed.{Parsed}
 use Rattle.dns_message.specs.declared.query.Parsed.TheVariants.{Query as Asks}
 use Rattle.dns_message.specs.declared.query.Query.{Query as QueryAsked}
@@ -20,7 +20,7 @@ use Rattle.dns_message.specs.Octets.{fit}
 use Rattle.dns_message.specs.Request.{reads}
 use Rattle.serve_core.specs.declared.transport.Transport.{Transport}
 use Rattle.serve_core.specs.declared.transport.Transport.TheVariants.{Udp, Tcp}
-use Rattle.serve_core.specs.Reply.{bare}
+use Rattle.serve_core.specs.Heading.{coded}
 use Rattle.serve_core.specs.Served.{got_for}
 use Rattle.serve_core.specs.Transfers.{peer_over, is_permitted, messages_to}
 use Rattle.serve_core.specs.Transport.{limit_of}
@@ -173,9 +173,9 @@ abbrev pub transfer_start : World → Option Numbered → List ℕ → Start
 transfer_start world None request = Refused
 transfer_start world (Some version) request = transfer_said world version (reads request)
 
--- the reply to an update: its header alone, with a code (RFC 2136, 3.8; own)
-abbrev pub code_reply : Head → Rcode → Answer
-code_reply head code = Reply (fit (bare head code) (limit_of Udp))
+-- the reply to an update: a code, and no record but an OPT (RFC 2136, 3.8; RFC 6891, 6.1.1)
+abbrev pub code_reply : Heading → Rcode → Answer
+code_reply heading code = Reply (fit (coded heading code) (limit_of Udp None))
 
 -- the owner of the oldest version that is kept, where no more are to be kept (own)
 abbrev pub oldest_kept : ℕ → List ℕ → Option ℕ
@@ -188,16 +188,16 @@ is_held words (Some owner) = is_some (found_by words owner)
 
 -- an update that makes a version is enabled where its steps can be made: a share is left to load the version by, and the oldest
 -- that it gives up is held (own)
-abbrev pub publication_start : State Numbered → Head → Numbered → Option ℕ → Start
-publication_start words head version oldest =
-    if nat_lt words.granted grants && is_held words oldest then Takes (phase.Probe version (record { head = head; oldest = oldest }))
+abbrev pub publication_start : State Numbered → Heading → Numbered → Option ℕ → Start
+publication_start words heading version oldest =
+    if nat_lt words.granted grants && is_held words oldest then Takes (phase.Probe version (record { heading = heading; oldest = oldest }))
     else Refused
 
 -- an update by what it comes to: it is told a code, or it makes a version (RFC 2136, 3; own)
 abbrev pub update_start : World → Option Judged → Start
 update_start world None = Refused
-update_start world (Some (judgement.Told head code)) = Answers (code_reply head code)
-update_start world (Some (judgement.Makes head version)) = publication_start world.words head version (oldest_kept world.keep world.kept)
+update_start world (Some (judgement.Told heading code)) = Answers (code_reply heading code)
+update_start world (Some (judgement.Makes heading version)) = publication_start world.words heading version (oldest_kept world.keep world.kept)
 
 -- how a call begins: a name that is in use isn't loaded, and one that isn't is neither dropped nor asked; an update is judged in
 -- the last version, and while one is under way there is no other, and no question for what changed (own)
@@ -223,15 +223,15 @@ names_at end names = names
 -- the owners of the versions that are kept at the end of a call: an update's last one, for which the oldest is given up where no
 -- more are to be kept (own)
 abbrev pub kept_at : ℕ → End → List ℕ → List ℕ
-kept_at keep (Kept head owner) kept = (if nat_lt keep (length kept) then remove kept 0 else kept) ++ owner ∷ []
+kept_at keep (Kept heading owner) kept = (if nat_lt keep (length kept) then remove kept 0 else kept) ++ owner ∷ []
 kept_at keep end kept = kept
 
 -- what a call gives at its end: an update is told NOERROR, or SERVFAIL where it found no slot (own)
 abbrev pub answer_at : End → Answer
 answer_at (Owned name owner number) = Owner name number
 answer_at (Told answer) = answer
-answer_at (NoSlot head) = code_reply head ServFail
-answer_at (Kept head owner) = code_reply head NoError
+answer_at (NoSlot heading) = code_reply heading ServFail
+answer_at (Kept heading owner) = code_reply heading NoError
 
 -- the next step of a call on the words, and what follows on it; none where the words have no such step (own)
 abbrev pub step_once : State Numbered → Phase → Option (Progress × State Numbered)

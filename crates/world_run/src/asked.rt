@@ -8,9 +8,9 @@ ghost use Rattle.world_run.specs.declared.step.Answer.TheVariants.{Reply};
 use crate::fault::WorldFault;
 use crate::lent::Request;
 use crate::step::{Answer, Octets};
-use dns_message::{Head, OPCODE_UPDATE, Parsed, Query, parse};
+use dns_message::{OPCODE_UPDATE, Parsed, Query, parse};
 use dns_rdata::Rcode;
-use serve_core::{Peer, Transport, UDP_LIMIT, is_permitted, respond_to, write_bare};
+use serve_core::{Heading, Peer, Transport, UDP_LIMIT, is_permitted, respond_to, write_code};
 use std::alloc::Global;
 use zone_tree::Version;
 
@@ -27,7 +27,14 @@ pub(crate) fn answer_in(
     match parse(alloc, request.as_slice()) {
         Parsed::Silent => Ok(Some(Answer::Silent)),
         Parsed::Fault(head, _) if head.opcode == OPCODE_UPDATE => Ok(None),
-        Parsed::Fault(head, code) => Ok(Some(reply_with(alloc, head, code)?)),
+        Parsed::Fault(head, code) => {
+            Ok(Some(reply_with(alloc, &Heading::header_alone(head), code)?))
+        }
+        Parsed::BadOpt(head, _, _, _) if head.opcode == OPCODE_UPDATE => Ok(None),
+        Parsed::BadOpt(head, question, code, dnssec_ok) => {
+            let heading = Heading::of_bad(head, &question, dnssec_ok);
+            Ok(Some(reply_with(alloc, &heading, code)?))
+        }
         Parsed::Query(query) => answer_query(alloc, version, &query),
         Parsed::Update(_update) => Ok(None),
         Parsed::NoMemory(_) => Err(WorldFault::NoMemory),
@@ -58,13 +65,17 @@ fn is_sent(version: &Version, query: &Query) -> bool
     is_permitted(version, query, Peer::over(Transport::Udp, true))
 }
 
-/// The reply to an update: its header alone, with a code.
-pub(crate) fn reply_with(alloc: Global, head: Head, code: Rcode) -> Result<Answer, WorldFault>
-    ensures ok { IfOk result (λ answer. answer ≡ code_reply head code) }
+/// A reply over UDP that has a code and no record but an OPT.
+pub(crate) fn reply_with(
+    alloc: Global,
+    heading: &Heading,
+    code: Rcode,
+) -> Result<Answer, WorldFault>
+    ensures ok { IfOk result (λ answer. answer ≡ code_reply heading.now code) }
     ensures refused { IfErr result (λ fault. fault ≡ WorldFault.NoMemory) }
 {
     let mut out = [0; UDP_LIMIT];
-    let len = write_bare(head, code, Transport::Udp, &mut out);
+    let len = write_code(heading, code, Transport::Udp, &mut out);
     reply_of(alloc, &out[..len])
 }
 

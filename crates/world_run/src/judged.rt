@@ -8,8 +8,9 @@ ghost use Rattle.update_core.specs.Applied.{code_of};
 use crate::fault::WorldFault;
 use crate::lent::Request;
 use crate::published::Published;
-use dns_message::{Head, OPCODE_UPDATE, Parsed, Update, parse};
+use dns_message::{OPCODE_UPDATE, Parsed, Update, parse};
 use dns_rdata::Rcode;
+use serve_core::Heading;
 use std::alloc::Global;
 use update_core::{Outcome, apply};
 use zone_tree::Version;
@@ -17,10 +18,10 @@ use zone_tree::Version;
 /// What an update comes to.
 #[derive(Drop)]
 pub enum Judged {
-    /// It gets this code, behind this header, and changes nothing.
-    Told(Head, Rcode),
-    /// It makes this version. The header is the update's.
-    Makes(Head, Published),
+    /// It gets this code, and changes nothing. The reply repeats this of it.
+    Told(Heading, Rcode),
+    /// It makes this version. The reply repeats this of it.
+    Makes(Heading, Published),
 }
 
 /// What an update comes to in the last version; None of another request, and where numbers of 64 bits end (RFC 2136, 3; own).
@@ -40,19 +41,22 @@ pub(crate) fn judge(
     }
     match parse(alloc, request.as_slice()) {
         Parsed::Update(update) => judge_update(alloc, version, &update),
-        Parsed::Fault(head, code) => Ok(judge_fault(head, code)),
+        Parsed::Fault(head, code) => Ok(judge_fault(Heading::header_alone(head), code)),
+        Parsed::BadOpt(head, question, code, dnssec_ok) => {
+            Ok(judge_fault(Heading::of_bad(head, &question, dnssec_ok), code))
+        }
         Parsed::NoMemory(_) => Err(WorldFault::NoMemory),
         Parsed::Silent => Ok(None),
         Parsed::Query(_) => Ok(None),
     }
 }
 
-/// What an update comes to that can't be read; None of another request.
-fn judge_fault(head: Head, code: Rcode) -> Option<Judged>
-    ensures { result ≡ (if head.opcode == opcode_UPDATE then Some (Told head code) else None) }
+/// What an update comes to that can't be read, or whose OPT isn't obeyed; None of another request.
+fn judge_fault(heading: Heading, code: Rcode) -> Option<Judged>
+    ensures { result ≡ (if heading.head.opcode == opcode_UPDATE then Some (Told heading code) else None) }
 {
-    if head.opcode == OPCODE_UPDATE {
-        return Some(Judged::Told(head, code));
+    if heading.head.opcode == OPCODE_UPDATE {
+        return Some(Judged::Told(heading, code));
     }
     None
 }
@@ -67,12 +71,12 @@ fn judge_update(
     ensures ok { IfOk result (λ judged. judged ≡ judged_by version.now update.now (code_of version.now.zone update.now true)) }
     ensures refused { IfErr result (λ fault. fault ≡ WorldFault.NoMemory) }
 {
-    let head = update.head;
+    let heading = Heading::of_update(update);
     let outcome = apply(alloc, version, update, true);
     let code = outcome.code();
     match outcome {
-        Outcome::Refused(_) | Outcome::Unchanged => Ok(Some(Judged::Told(head, code))),
-        Outcome::Next(next) => Ok(Some(Judged::Makes(head, Published::new(alloc, next)?))),
+        Outcome::Refused(_) | Outcome::Unchanged => Ok(Some(Judged::Told(heading, code))),
+        Outcome::Next(next) => Ok(Some(Judged::Makes(heading, Published::new(alloc, next)?))),
         Outcome::NoMemory => Err(WorldFault::NoMemory),
     }
 }

@@ -1,5 +1,5 @@
 //! What the definitions say of lines that are played, each the contract of a function that does nothing.
-ghost use Rattle.std.specs.Prelude.{◌≡◌, ℕ, ◌<◌, ◌≤◌, ◌^◌, filter, true, false, List, [], ◌∷◌, length, codes, Some};
+ghost use Rattle.std.specs.Prelude.{◌≡◌, ℕ, ◌<◌, ◌≤◌, ◌^◌, filter, true, List, [], ◌∷◌, length, codes, Some};
 ghost use Rattle.cell_core.specs.Cell.{Cell};
 ghost use Rattle.cell_core.specs.Shows.{Shows};
 ghost use Rattle.dns_rdata.specs.Record.{Record};
@@ -8,19 +8,19 @@ ghost use Rattle.world_run.specs.Judgements.{judged};
 ghost use Rattle.zone_tree.specs.Version.{Version as Numbered};
 ghost use Rattle.world_run.specs.Numbered.{first_version, changes_between};
 ghost use Rattle.world_run.specs.Phases.{after};
-ghost use Rattle.world_run.specs.UpdateAnswers.{head_of, KeepsHead, got_alone};
+ghost use Rattle.world_run.specs.UpdateAnswers.{heading_of, KeepsHeading, got_alone};
 ghost use Rattle.world_run.specs.declared.judged.Judged.TheVariants.{Told, Makes};
 ghost use Rattle.world_run.specs.declared.phase.End.TheVariants.{NoSlot, Kept};
 ghost use Rattle.world_run.specs.declared.phase.Phase.{Phase};
 ghost use Rattle.cell_core.specs.declared.words.WordEvent.{WordEvent};
 ghost use Rattle.dns_rdata.specs.declared.numbers.Rcode.{Rcode};
 ghost use Rattle.dns_rdata.specs.declared.numbers.Rcode.TheVariants.{NoError, ServFail};
-ghost use Rattle.dns_message.specs.declared.query.Head.{Head};
+ghost use Rattle.serve_core.specs.declared.heading.Heading.{Heading};
 ghost use Rattle.dns_message.specs.declared.query.Parsed.TheVariants.{Query as Asks};
 ghost use Rattle.dns_message.specs.declared.query.Query.{Query};
 ghost use Rattle.dns_rdata.specs.Numbers.{type_IXFR};
 ghost use Rattle.zone_tree.specs.Zone.{IsZone};
-ghost use Rattle.serve_core.specs.Served.{got};
+ghost use Rattle.serve_core.specs.Served.{ForNothing, got};
 ghost use Rattle.serve_core.specs.declared.transport.Transport.TheVariants.{Udp};
 ghost use Rattle.world_run.specs.Held.{HoldVersions, IsGone, IsAtRest, tells_buried};
 ghost use Rattle.world_run.specs.InTurn.{AreToldInTurn};
@@ -77,12 +77,12 @@ pub fn updates_are_told_in_turn()
 /// An update that is told a code at once, or makes a version, gets that code, or NOERROR and the version's zone, in the version that
 /// is last when it begins; one that makes a version ends with NOERROR, or with SERVFAIL where each of the 64 slots was seen in use.
 pub fn updates_are_told()
-    ensures told { (last : Numbered) (request : List ℕ) (head : Head) (code : Rcode) → judged last request ≡ Some (Told head code)
-        → got Udp true false last.zone request ≡ got_alone head code last.zone }
-    ensures made { (last : Numbered) (request : List ℕ) (head : Head) (version : Numbered) → judged last request ≡ Some (Makes head version)
-        → got Udp true false last.zone request ≡ got_alone head NoError version.zone }
-    ensures under_way { (at : Phase) (event : WordEvent) (head : Head) → head_of at ≡ Some head → KeepsHead head event (after at event) }
-    ensures ends { (head : Head) (owner : ℕ) → (answer_at (NoSlot head) ≡ code_reply head ServFail) × (answer_at (Kept head owner) ≡ code_reply head NoError) }
+    ensures told { (last : Numbered) (request : List ℕ) (heading : Heading) (code : Rcode) → judged last request ≡ Some (Told heading code)
+        → got Udp true ForNothing last.zone request ≡ got_alone heading code last.zone }
+    ensures made { (last : Numbered) (request : List ℕ) (heading : Heading) (version : Numbered) → judged last request ≡ Some (Makes heading version)
+        → got Udp true ForNothing last.zone request ≡ got_alone heading NoError version.zone }
+    ensures under_way { (at : Phase) (event : WordEvent) (heading : Heading) → heading_of at ≡ Some heading → KeepsHeading heading event (after at event) }
+    ensures ends { (heading : Heading) (owner : ℕ) → (answer_at (NoSlot heading) ≡ code_reply heading ServFail) × (answer_at (Kept heading owner) ≡ code_reply heading NoError) }
 {}
 
 /// While the numbers of versions fit 64 bits, a line that isn't enabled changes nothing.
@@ -94,17 +94,17 @@ pub fn refused_lines_change_nothing()
 /// Worked examples, of an update that makes the second version: the first outlives it for whom it was loaded, and the last name that
 /// is in use for it buries it; a drop under way takes its steps one at a time, and its name is free at once.
 pub fn examples()
-    ensures two_versions { (first second : List Record) (head : Head) (request : List ℕ)
-        → judged (first_version first) request ≡ Some (Makes head (record { number = 1; zone = second; changes = Some (changes_between first second) }))
+    ensures two_versions { (first second : List Record) (heading : Heading) (request : List ℕ)
+        → judged (first_version first) request ≡ Some (Makes heading (record { number = 1; zone = second; changes = Some (changes_between first second) }))
         → replies_of first 0 0 (Whole (Load (codes "a")) ∷ Whole (Update request) ∷ Whole (Load (codes "b"))
         ∷ Whole (Drop (codes "a")) ∷ Whole (Drop (codes "a")) ∷ Whole (Drop (codes "b")) ∷ [])
-        ≡ Some (Answered (Owner (codes "a") 0) ∷ Answered (code_reply head NoError) ∷ Answered (Owner (codes "b") 1)
+        ≡ Some (Answered (Owner (codes "a") 0) ∷ Answered (code_reply heading NoError) ∷ Answered (Owner (codes "b") 1)
         ∷ Answered (Buried 0) ∷ NotEnabled ∷ Answered Left ∷ []) }
-    ensures one_step_at_a_time { (first second : List Record) (head : Head) (request : List ℕ)
-        → judged (first_version first) request ≡ Some (Makes head (record { number = 1; zone = second; changes = Some (changes_between first second) }))
+    ensures one_step_at_a_time { (first second : List Record) (heading : Heading) (request : List ℕ)
+        → judged (first_version first) request ≡ Some (Makes heading (record { number = 1; zone = second; changes = Some (changes_between first second) }))
         → replies_of first 0 0 (Whole (Load (codes "a")) ∷ Whole (Update request) ∷ Begin (codes "x") (Drop (codes "a")) ∷ Next (codes "x")
         ∷ Whole (Load (codes "a")) ∷ Next (codes "x") ∷ Next (codes "x") ∷ Next (codes "x") ∷ [])
-        ≡ Some (Answered (Owner (codes "a") 0) ∷ Answered (code_reply head NoError) ∷ Begun ∷ Step StepName.Release
+        ≡ Some (Answered (Owner (codes "a") 0) ∷ Answered (code_reply heading NoError) ∷ Begun ∷ Step StepName.Release
         ∷ Answered (Owner (codes "a") 1) ∷ Step StepName.Bury ∷ Last StepName.Free (Buried 0) ∷ NotEnabled ∷ []) }
 {}
 

@@ -7,27 +7,40 @@ use crate::lent::Handle;
 use crate::published::Published;
 use crate::step::{Answer, StepName};
 use cell_core::{WordEvent, WordStep};
-use dns_message::Head;
+use serve_core::Heading;
 
 /// What an update does behind its publication.
-#[derive(Clone, Copy, Drop)]
+#[derive(Drop)]
 pub struct Keeping {
-    /// The update's header, which its reply copies.
-    pub head: Head,
+    /// What the reply repeats of the update.
+    pub heading: Heading,
     /// The owner of the oldest version that is kept, where that is given up for the new one.
     pub oldest: Option<usize>,
 }
 
+impl Keeping {
+    /// The same again.
+    fn copy(&self) -> Keeping
+        ensures { result ≡ self.now }
+    {
+        Keeping {
+            heading: self.heading.copy(),
+            oldest: self.oldest,
+        }
+    }
+}
+
 /// What an owner is released for.
-#[derive(Clone, Copy, Drop)]
+#[derive(Drop)]
 pub enum Purpose {
     /// A name is dropped.
     Drop,
     /// An update has published a version, and has loaded it under this owner: the one before it, which the publication gave,
     /// is given up.
     Publish(Keeping, usize),
-    /// The oldest version that is kept is given up, for the one that an update of this header has loaded under this owner.
-    Oldest(Head, usize),
+    /// The oldest version that is kept is given up, for the one that an update has loaded under this owner, whose reply repeats
+    /// this.
+    Oldest(Heading, usize),
 }
 
 /// How far a call has come, by the step that it takes next.
@@ -60,10 +73,10 @@ pub enum End<'a> {
     Owned(Handle<'a>, usize, u64),
     /// It gives this.
     Told(Answer),
-    /// An update of this header has found no slot.
-    NoSlot(Head),
-    /// An update of this header has made a version, which is kept under this owner.
-    Kept(Head, usize),
+    /// An update has found no slot, whose reply repeats this.
+    NoSlot(Heading),
+    /// An update has made a version, which is kept under this owner; its reply repeats this.
+    Kept(Heading, usize),
 }
 
 /// What follows on a step.
@@ -121,15 +134,15 @@ impl<'a> Phase<'a> {
         ensures refused { IfErr result (λ fault. fault ≡ WorldFault.NoMemory) }
     {
         match self {
-            Phase::Probe(version, keeping) => after_probe(version, *keeping, event),
+            Phase::Probe(version, keeping) => after_probe(version, keeping.copy(), event),
             Phase::Load(name) => Ok(after_load(name, event)),
-            Phase::Prepare(_, keeping) => Ok(Progress::On(Phase::Swap(*keeping))),
-            Phase::Swap(keeping) => Ok(Progress::On(Phase::Settle(*keeping))),
-            Phase::Settle(keeping) => Ok(after_settle(*keeping, event)),
-            Phase::Keep(given, keeping) => Ok(after_keep(*given, *keeping, event)),
-            Phase::Release(owner, purpose) => Ok(after_release(*owner, *purpose, event)),
-            Phase::Bury(owner, purpose) => Ok(after_bury(*owner, *purpose, event)),
-            Phase::Free(_, number, purpose) => Ok(purpose.past(Answer::Buried(*number))),
+            Phase::Prepare(_, keeping) => Ok(Progress::On(Phase::Swap(keeping.copy()))),
+            Phase::Swap(keeping) => Ok(Progress::On(Phase::Settle(keeping.copy()))),
+            Phase::Settle(keeping) => Ok(after_settle(keeping.copy(), event)),
+            Phase::Keep(given, keeping) => Ok(after_keep(*given, keeping.copy(), event)),
+            Phase::Release(owner, purpose) => Ok(after_release(*owner, purpose.copy(), event)),
+            Phase::Bury(owner, purpose) => Ok(after_bury(*owner, purpose.copy(), event)),
+            Phase::Free(_, number, purpose) => Ok(purpose.copy().past(Answer::Buried(*number))),
         }
     }
 
@@ -160,25 +173,36 @@ impl<'a> Phase<'a> {
 ghost use Rattle.world_run.specs.Phases.{load_after, probe_after, settle_after, keep_after, release_after, bury_after, past as says_past, oldest_after};
 
 impl Purpose {
+    /// The same again.
+    fn copy(&self) -> Purpose
+        ensures { result ≡ self.now }
+    {
+        match self {
+            Purpose::Drop => Purpose::Drop,
+            Purpose::Publish(keeping, kept) => Purpose::Publish(keeping.copy(), *kept),
+            Purpose::Oldest(heading, kept) => Purpose::Oldest(heading.copy(), *kept),
+        }
+    }
+
     /// What follows where the owner is gone; a drop gives this.
     fn past<'a>(self, answer: Answer) -> Progress<'a>
         ensures { result ≡ says_past self answer }
     {
         match self {
             Purpose::Drop => Progress::Done(End::Told(answer)),
-            Purpose::Publish(keeping, kept) => oldest_after(keeping.head, kept, keeping.oldest),
-            Purpose::Oldest(head, kept) => Progress::Done(End::Kept(head, kept)),
+            Purpose::Publish(keeping, kept) => oldest_after(keeping.heading, kept, keeping.oldest),
+            Purpose::Oldest(heading, kept) => Progress::Done(End::Kept(heading, kept)),
         }
     }
 }
 
 /// What follows where the owner that a publication gave is gone.
-fn oldest_after<'a>(head: Head, kept: usize, oldest: Option<usize>) -> Progress<'a>
-    ensures { result ≡ oldest_after head kept oldest }
+fn oldest_after<'a>(heading: Heading, kept: usize, oldest: Option<usize>) -> Progress<'a>
+    ensures { result ≡ oldest_after heading kept oldest }
 {
     match oldest {
-        None => Progress::Done(End::Kept(head, kept)),
-        Some(owner) => Progress::On(Phase::Release(owner, Purpose::Oldest(head, kept))),
+        None => Progress::Done(End::Kept(heading, kept)),
+        Some(owner) => Progress::On(Phase::Release(owner, Purpose::Oldest(heading, kept))),
     }
 }
 
@@ -205,7 +229,7 @@ fn after_probe<'a>(
 {
     match event {
         WordEvent::Taken => Ok(Progress::On(Phase::Prepare(version.share()?, keeping))),
-        WordEvent::NoSlot => Ok(Progress::Done(End::NoSlot(keeping.head))),
+        WordEvent::NoSlot => Ok(Progress::Done(End::NoSlot(keeping.heading))),
         _ => Ok(Progress::On(Phase::Probe(version.share()?, keeping))),
     }
 }

@@ -231,10 +231,10 @@ impl<'a> Play<'a> {
                 put_name(&mut self.names, name, owner)?;
                 Ok(Answer::Owner(Octets::new(octets), number))
             }
-            End::NoSlot(head) => reply_with(alloc, head, Rcode::ServFail),
-            End::Kept(head, owner) => {
+            End::NoSlot(heading) => reply_with(alloc, &heading, Rcode::ServFail),
+            End::Kept(heading, owner) => {
                 put_kept(&mut self.kept, self.keep, owner)?;
-                reply_with(alloc, head, Rcode::NoError)
+                reply_with(alloc, &heading, Rcode::NoError)
             }
         }
     }

@@ -18,7 +18,7 @@ use crate::phase::{Keeping, Phase, Purpose};
 use crate::play::Play;
 use crate::published::Published;
 use crate::step::{Answer, Call};
-use dns_message::Head;
+use serve_core::Heading;
 use std::alloc::Global;
 use zone_tree::Version;
 
@@ -123,20 +123,22 @@ impl<'a> Play<'a> {
         };
         match judge(alloc, last, request)? {
             None => Ok(Start::Refused),
-            Some(Judged::Told(head, code)) => Ok(Start::Answers(reply_with(alloc, head, code)?)),
-            Some(Judged::Makes(head, version)) => Ok(self.publication(head, version)),
+            Some(Judged::Told(heading, code)) => {
+                Ok(Start::Answers(reply_with(alloc, &heading, code)?))
+            }
+            Some(Judged::Makes(heading, version)) => Ok(self.publication(heading, version)),
         }
     }
 
     /// How an update begins that makes a version.
-    fn publication(&self, head: Head, version: Published) -> Start<'a>
-        ensures { result ≡ update_start self.now (Some (Makes head version)) }
+    fn publication(&self, heading: Heading, version: Published) -> Start<'a>
+        ensures { result ≡ update_start self.now (Some (Makes heading version)) }
     {
         let oldest = oldest_of(self.keep, &self.kept);
         if !self.machine.has_shares() || !is_held(&self.machine, oldest) {
             return Start::Refused;
         }
-        Start::Takes(Phase::Probe(version, Keeping { head, oldest }))
+        Start::Takes(Phase::Probe(version, Keeping { heading, oldest }))
     }
 
     /// Whether a name is in use, or a call under way is to put it into use.

@@ -49,6 +49,7 @@ impl<'a> Play<'a> {
             Parsed::Query(query) => self.transfer_of(alloc, version, &query),
             Parsed::Silent => Ok(None),
             Parsed::Fault(_, _) => Ok(None),
+            Parsed::BadOpt(_, _, _, _) => Ok(None),
             Parsed::Update(_update) => Ok(None),
             Parsed::NoMemory(_) => Err(WorldFault::NoMemory),
         }

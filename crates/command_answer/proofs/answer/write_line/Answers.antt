@@ -1,7 +1,8 @@
-use Rattle.std.proofs.Common.{◌≡◌, ◌<◌, arith, sym, ap, ◌∙◌, length, take, false}
+use Rattle.std.proofs.Common.{◌≡◌, ◌<◌, arith, sym, ap, ◌∙◌, length, take}
 use Rattle.std.specs.Io.BufRead.{strip_last}
 use Rattle.hex.specs.Hex.{decode_of}
 use Rattle.std.proofs.lemmas.List.{length-take, with_items_is}
+use Rattle.serve_core.specs.Served.{ForNothing}
 use Rattle.command_answer.proofs.LinesLemmas.{request_on-refused, request_on-octets}
 use Rattle.command_answer.proofs.answer.write_line.Goals as goal
 
@@ -10,7 +11,7 @@ returns-in-None-clause-line g c =
     let line_is = c.without_lf.ensures ∙ ap (strip_last 10) c.as_slice.ensures.value in
     let room : length c.deref_mut.result.now ≡ 65535 = ap length c.deref_mut.ensures.value ∙ c.args.buffers.now.request_room in
     let refused = request_on-refused (strip_last 10 c.args.buffers.now.line.items) (λ octets e. let long : length c.deref_mut.result.now < length octets = c.in-None.ensures octets (ap decode_of line_is ∙ e) in omega (arith, long, room)) in
-    λ past holds. rw refused (record { starved = false; line = c.write_whole.ensures; goes_on = holds })
+    λ past holds. rw refused (record { want = ForNothing; line = c.write_whole.ensures; goes_on = holds })
 
 pub returns-in-Some-clause-line : goal.returns-in-Some-clause-line
 returns-in-Some-clause-line g c =

@@ -12,4 +12,4 @@ returns-clause-ok c =
     rw (sym c.is_sent.ensures ∙ c.if-is_sent.false)
     (ap Answers
     (c.in_ok-reply_of.ensures.ok ∙ ap Reply
-    (c.respond_to-len.ensures.octets ∙ ap (λ zone. fit (reply_to_peer zone (peer_over Udp true) c.args.query.now) (limit_of Udp)) c.zone.ensures)))
+    (c.respond_to-len.ensures.octets ∙ ap (λ zone. fit (reply_to_peer zone (peer_over Udp true) c.args.query.now) (limit_of Udp c.args.query.now.edns)) c.zone.ensures)))
