@@ -191,7 +191,9 @@ fn with_answer<'a>(alloc: Global, parser: Parser<'a>) -> Result<Parser<'a>, Allo
     let answer = answer.arg(
         Arg::new(alloc, "tcp")
             .long("tcp")
-            .help("replies as over TCP, of at most 65535 octets; else as over UDP, of at most 512")
+            .help(
+                "replies as over TCP, of at most 65535 octets; else as over UDP, of at most 512, or with an OPT that takes as many 1232",
+            )
             .action(ArgAction::SetTrue),
     )?;
     parser.subcommand(answer)
@@ -248,7 +250,7 @@ fn with_serve<'a>(alloc: Global, parser: Parser<'a>) -> Result<Parser<'a>, Alloc
         alloc,
         "serve",
         "serves a zone on sockets, by UDP and TCP",
-        "Example:\n  dnsd serve --listen 127.0.0.1:5353 zones/example.test.zone\n  dig +noedns @127.0.0.1 -p 5353 www.example.test.",
+        "Example:\n  dnsd serve --listen 127.0.0.1:5353 zones/example.test.zone\n  dig @127.0.0.1 -p 5353 www.example.test.",
     )?;
     parser.subcommand(serve_options(alloc, serve)?)
 }
