@@ -109,7 +109,10 @@ numbers=00000258000002580036ee8000093a80
 first_soa=c00c0006000100000e100021026e73c00c056d6f687461c00c00000003$numbers
 soa() { printf '%s' "c00c0006000100000e100018c028c02d000000$1$numbers"; }
 input=$zone$'\n%\n'"update $second"$'\n'"update $third"$'\nload a\n'"ixfr a $head_of_ixfr$question_of_ixfr$(since 01)"$'\n'
+# and the same with an OPT, of 512 octets with DO, for which there is one behind the same records (RFC 6891, 6.1.1 and 6.1.4)
+input+="ixfr a ${head_of_ixfr%0000}0001$question_of_ixfr$(since 01)0000290200000080000000"$'\n'
 changes=$(message 000b)$question_of_ixfr$first_soa
 changes+=$(soa 01)$(address $nezu 85458805)$(soa 02)$(address $bb 85458804)$(address c0a6 c029c502)
 changes+=$(soa 02)$(address c0a6 85458804)$(soa 03)$(address c0a6 85458803)$(soa 03)
-prints "$taken"$'\n'"$taken"$'\na 2\n'"$changes" steps --keep 1 -
+with_opt=${changes:0:20}0001${changes:24}00002904d0000080000000
+prints "$taken"$'\n'"$taken"$'\na 2\n'"$changes"$'\n'"$with_opt" steps --keep 1 -

@@ -9,6 +9,16 @@ add=432128000001000000010000076578616d706c6504746573740000060001036e6577c00c0001
 taken=4321a8000000000000000000
 # the question for what changed since serial 1 (RFC 1995, 3)
 since_1=123400000001000000010000076578616d706c6504746573740000fb0001c00c0006000100000000001600000000000100000000000000000000000000000000
+# with REQUEST OPT: the request with an OPT behind it, in its additional section
+with() { printf '%s' "${1:0:20}0001${1:24}$2"; }
+# OPTs of requests, of 512 octets with DO, and of version 1; and those of the replies, of 1232 octets: the latter's code is BADVERS, 16
+# (RFC 6891, 6.1.2, 6.1.3 and 9)
+opt=0000290200000080000000
+ours=00002904d0000080000000
+version_1=0000290200000100000000
+badvers=00002904d0010000000000
+# told_with CODE OPT: the reply to an update with an OPT, which has the entry of its zone section (RFC 2136, 2.3; own)
+told_with() { printf '%s' "4321a80${1}0001000000000001${add:24:36}$2"; }
 
 # no step
 input=$zone_text$'%\n'
@@ -42,6 +52,53 @@ load a => a 0
 next x => release left
 next x => not enabled
 begin x drop c => not enabled
+end
+
+# requests with an OPT: each reply has one too, which copies DO, that of an update at its last step (RFC 6891, 6.1.1 and 6.1.4); the first slot
+# is in use
+plays <<end
+load a => a 0
+ask a $(with $www $opt) => $(with $www_reply $ours)
+begin y ask a $(with $www $opt) => $(with $www_reply $ours)
+begin u update $(with ${add}4d $opt) => ok
+next u => probe
+next u => probe
+next u => prepare
+next u => swap
+next u => settle
+next u => load
+next u => release
+next u => release $(told_with 0 $ours)
+update $(with ${add}4d $opt) => $(told_with 0 $ours)
+update ${add}4d => $taken
+load b => b 1
+end
+
+# those whose OPT isn't obeyed, of version 1, make no version: a query and an update get BADVERS, each where it is a step, and a question for
+# what changed gets nothing (RFC 6891, 6.1.3)
+plays <<end
+load a => a 0
+ask a $(with $www $version_1) => 123481000001000000000001${www:24}$badvers
+update $(with ${add}4d $version_1) => $(told_with 0 $badvers)
+ask a $(with ${add}4d $version_1) => not enabled
+ask a $(with ${add}4d $opt) => not enabled
+update $(with $www $version_1) => not enabled
+ixfr a $(with $since_1 $version_1) => not enabled
+ask a $(with $since_1 $opt) => not enabled
+load b => b 0
+end
+
+# a text of two strings of 255 letters at big.example.test.: a reply of 569 octets with an OPT, and of 558 without one. It goes to one who takes
+# as many; others get TC 1 and the question, with an OPT where they sent one (RFC 1035, 4.2.1; RFC 6891, 6.2.3 to 6.2.5).
+letters=ff$(repeat 255 61)
+big=03626967${add:24:28}00100001
+taking() { printf '%s' "000029${1}000000000000"; }
+plays <<end
+update ${add:0:60}03626967c00c0010000100000e100200$letters$letters => $taken
+load a => a 1
+ask a $(with 123401000001000000000000$big $(taking 0239)) => 123485000001000100000001${big}c00c0010000100000e100200$letters${letters}00002904d0000000000000
+ask a $(with 123401000001000000000000$big $(taking 0238)) => 123487000001000000000001${big}00002904d0000000000000
+ask a 123401000001000000000000$big => 123487000001000000000000$big
 end
 
 # an owner that is dropped, and an update, a step at a time: behind its swap its version is loaded, and another update isn't enabled before it
@@ -80,6 +137,7 @@ plays <<end
 load h0 => h0 0
 $(for number in {1..63}; do printf 'update %s%02x => %s\nload h%d => h%d %d\n' $add "$number" $taken "$number" "$number" "$number"; done)
 update ${add}40 => 4321a8020000000000000000
+update $(with ${add}40 $opt) => $(told_with 2 $ours)
 drop h60 => buried 60
 update ${add}40 => $taken
 load a => a 64

@@ -1,5 +1,5 @@
 -- What a run of the program comes to (own).
-use Rattle.std.specs.Prelude.{◌≡◌, ℕ, ◌⊎◌, Bool, List, Option, IfSome, IfOk, Result, Ok, Err, IsOk}
+use Rattle.std.specs.Prelude.{◌≡◌, ℕ, ◌⊎◌, List, Option, IfSome, IfOk, Result, Ok, Err, IsOk}
 use Rattle.std.specs.Io.KnownBytes.{Appends}
 use Rattle.dns_rdata.specs.Record.{Record}
 use Rattle.master_file.specs.declared.fault.FileFault.{FileFault}
@@ -15,6 +15,7 @@ use Rattle.command_steps.specs.declared.fault.StepsFault.{StepsFault}
 use Rattle.command_steps.specs.declared.fault.StepsFault.TheVariants as script
 use Rattle.commands.specs.Apply.{taken, taken_text, TellsTransfer}
 use Rattle.line_io.specs.Input.{zone_text_of, behind_zone_text}
+use Rattle.serve_core.specs.Served.{Want}
 use Rattle.command_answer.specs.Answers.{output_of}
 use Rattle.line_io.specs.Lines.{Begins}
 use Rattle.command_steps.specs.Script.{script_of, script_output}
@@ -77,20 +78,20 @@ origin_of (Check zone origin) = origin
 origin_of (Apply zone origin) = origin
 origin_of (Steps zone origin keep window) = origin
 
--- what a command writes for an input in a zone; a flag for each request says where memory is wanted for an update
-abbrev pub output_for : Command → List Bool → List Record → List ℕ → List ℕ
-output_for (Answer zone origin transport) starved records input = output_of transport starved records input
-output_for (Check zone origin) starved records input = zone_text records
-output_for (Apply zone origin) starved records input = taken_text records input
-output_for (Steps zone origin keep window) starved records input = script_output records keep window input
+-- what a command writes for an input in a zone; by what memory is wanted for at each request
+abbrev pub output_for : Command → List Want → List Record → List ℕ → List ℕ
+output_for (Answer zone origin transport) wants records input = output_of transport wants records input
+output_for (Check zone origin) wants records input = zone_text records
+output_for (Apply zone origin) wants records input = taken_text records input
+output_for (Steps zone origin keep window) wants records input = script_output records keep window input
 
 -- what a command writes for an input in a zone was written, wherever memory was wanted for an update
 abbrev pub DoesIn : Command → List Record → List ℕ → Option (List ℕ) → Option (List ℕ) → Type 0
-DoesIn command records input before after = (starved : List Bool) × Appends before after (output_for command starved records input)
+DoesIn command records input before after = (wants : List Want) × Appends before after (output_for command wants records input)
 
 -- a beginning of it was written
 abbrev pub BeginsToDoIn : Command → List Record → List ℕ → Option (List ℕ) → Option (List ℕ) → Type 0
-BeginsToDoIn command records input before after = (starved : List Bool) × Begins before after (output_for command starved records input)
+BeginsToDoIn command records input before after = (wants : List Want) × Begins before after (output_for command wants records input)
 
 -- a command that takes a transfer tells what becomes of it
 abbrev pub TellsIn : Command → List Record → List ℕ → Result (Unit {0}) Fault → Type 0
