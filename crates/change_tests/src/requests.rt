@@ -87,15 +87,14 @@ fn no_serial_is_told(rt: HostRuntime) {
 }
 
 /// The question `z. IN A` with an OPT, but for its size, its TTL and the length of its data (RFC 6891, 6.1.2).
-const WITH_OPT: &[u8; 22] = b"\x12\x34\x01\x00\x00\x01\x00\x00\x00\x00\x00\x01\x01z\x00\x00\x01\x00\x01\x00\x00\x29";
+const WITH_OPT: &[u8; 22] =
+    b"\x12\x34\x01\x00\x00\x01\x00\x00\x00\x00\x00\x01\x01z\x00\x00\x01\x00\x01\x00\x00\x29";
 
 /// What the OPT of that size and with these flags says; None where it isn't read as a query's.
 fn edns_of(alloc: Global, size: u16, flags: u8) -> Option<Edns> {
     let mut octets = WITH_OPT.to_vec(alloc).ok()?;
     octets.extend_from_slice(&size.to_be_bytes()).ok()?;
-    octets
-        .extend_from_slice(&[0, 0, flags, 0, 0, 0])
-        .ok()?;
+    octets.extend_from_slice(&[0, 0, flags, 0, 0, 0]).ok()?;
     query_of(alloc, &octets)?.edns
 }
 
