@@ -43,6 +43,8 @@ struct Rows<'a> {
 impl Listener for Rows<'_> {
     type Connected = Tape;
 
+    ghost comes = { λ _ _. Unit {0} };
+
     fn accept(&self) -> io::Result<(Option<Tape>, SocketAddr)> {
         let at = self.at.fetch_add(1, Ordering::SeqCst);
         match self.rows.get(at) {
