@@ -1,6 +1,7 @@
 //! Serving a zone on sockets (RFC 1035, 4.2).
 ghost use Rattle.std.specs.Prelude.{◌≤◌};
 ghost use Rattle.transfer_core.specs.declared.kept.TheConstants.{KEPT};
+ghost use Rattle.dnsd.specs.declared.serve.TheConstants.{MAX_WORKERS};
 
 use crate::command::{CommandFault, KEEP, MAX_KEEP, number_for, option};
 use crate::log::{Log, LogLine};
@@ -40,7 +41,7 @@ pub struct Serve<'a> {
     pub most: u64,
     /// The addresses that may update and transfer.
     pub allowed: Vec<IpAddr>,
-    ghost few_workers: { workers ≤ 30 },
+    ghost few_workers: { workers ≤ MAX_WORKERS },
     ghost few_kept: { keep ≤ KEPT },
 }
 

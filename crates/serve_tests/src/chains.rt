@@ -1,8 +1,8 @@
 //! How many versions that updates make, one after the other, are told of to who holds a serial (RFC 1995, 4 and 5; own). Zones, updates
 //! and what is wanted are tables.
-use crate::made::{SetRow, octets_of, version_of};
 use dns_message::{Parsed, parse};
 use dns_rdata::Serial;
+use played_zones::{SetRow, octets_of, version_of};
 use std::alloc::Global;
 use transfer_core::{ChainView, Reach, VersionList, chain_since};
 use update_core::{Outcome, apply};

@@ -1,13 +1,12 @@
 //! Updates of a small zone, published (RFC 2136, 3).
 ghost use Rattle.std.specs.Prelude.{◌≡◌};
 
-use crate::cells::{Play, is_played};
-use crate::made::{SetRow, octets_of, zone_of};
 use dns_engine::{
     Engine, EngineFault, FirstZone, KEPT, NoEngine, VersionCell, VersionPublisher, VersionReader,
 };
 use dns_message::{Parsed, Update, parse};
 use dns_rdata::Rcode;
+use played_zones::{Play, SetRow, is_played, octets_of, zone_of};
 use std::alloc::Global;
 use std::sync::Wait;
 use zone_tree::Zone;
@@ -101,7 +100,7 @@ fn engine_of<'a, R: Wait, Z: FirstZone>(
 }
 
 /// Whether an engine that is made of these publishes updates: one makes a version, is refused, or changes nothing.
-pub(crate) fn are_published<'a, R: Wait, Z: FirstZone>(
+fn are_published<'a, R: Wait, Z: FirstZone>(
     rt: &R,
     alloc: Global,
     cell: &'a VersionCell<Z>,
@@ -119,8 +118,25 @@ pub(crate) fn are_published<'a, R: Wait, Z: FirstZone>(
     Some(true)
 }
 
+/// The rows' updates.
+struct Updates;
+
+impl Play for Updates {
+    fn is_right<R: Wait, Z: FirstZone>(
+        &self,
+        rt: &R,
+        alloc: Global,
+        cell: &VersionCell<Z>,
+        publisher: VersionPublisher<Z>,
+        mut readers: Vec<VersionReader<Z>>,
+    ) -> Option<bool> {
+        let reader = readers.pop()?;
+        are_published(rt, alloc, cell, publisher, reader)
+    }
+}
+
 #[test]
 fn updates_are_published(rt: HostRuntime) {
     let zone = small_zone(rt.alloc()).expect(&rt, "a zone");
-    assert!(rt; is_played(&rt, rt.alloc(), zone, Play::Updates) == Some(true));
+    assert!(rt; is_played(&rt, rt.alloc(), zone, &Updates) == Some(true));
 }

@@ -1,8 +1,8 @@
 //! The order in which a gate is entered, a request answered and the gate left.
 ghost use Rattle.std.specs.Prelude.{[]};
 
-use crate::trays::asker;
 use conversation::{Allowed, Answering, Broken, Counted, Gate, Stream};
+use played_zones::asker;
 use serve_core::{Peer, Transport};
 use snapshot_cell::Spent;
 use std::alloc::Global;

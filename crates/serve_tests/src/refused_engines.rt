@@ -1,14 +1,13 @@
 //! An engine whose memory is refused: what was published last stays, and the same call made anew succeeds.
 ghost use Rattle.std.specs.Prelude.{◌≡◌};
 
-use crate::cells::{Play, is_played};
 use crate::engines::{small_zone, update_of};
 use dns_engine::{Engine, FirstZone, NoEngine, VersionCell, VersionPublisher, VersionReader};
 use dns_message::Update;
 use dns_rdata::{Rcode, Serial};
+use played_zones::{Play, is_played};
 use std::alloc::Global;
 use std::sync::Wait;
-use std::thread::Threads;
 use transfer_core::ChainView;
 use zone_tree::Zone;
 
@@ -90,7 +89,7 @@ fn publishes<'a, R: Wait, Z: FirstZone>(
 }
 
 /// Whether an engine that is made of these publishes the update.
-pub(crate) fn is_published<'a, R: Wait, Z: FirstZone>(
+fn is_published<'a, R: Wait, Z: FirstZone>(
     rt: &R,
     alloc: Global,
     cell: &'a VersionCell<Z>,
@@ -103,10 +102,27 @@ pub(crate) fn is_published<'a, R: Wait, Z: FirstZone>(
     publishes(rt, alloc, cell, &mut engine)
 }
 
+/// An update, sent anew where memory is refused.
+struct UpdateAnew;
+
+impl Play for UpdateAnew {
+    fn is_right<R: Wait, Z: FirstZone>(
+        &self,
+        rt: &R,
+        alloc: Global,
+        cell: &VersionCell<Z>,
+        publisher: VersionPublisher<Z>,
+        mut readers: Vec<VersionReader<Z>>,
+    ) -> Option<bool> {
+        let reader = readers.pop()?;
+        is_published(rt, alloc, cell, publisher, reader)
+    }
+}
+
 /// Whether the update is published in a cell of its own; None where there is no memory for the zone or the cell.
-fn is_published_anew<R: Wait + Threads + Sync>(rt: &R, alloc: Global) -> Option<bool> {
+fn is_published_anew<R: Wait>(rt: &R, alloc: Global) -> Option<bool> {
     let zone = zone_anew(alloc)?;
-    is_played(rt, alloc, zone, Play::UpdateAnew)
+    is_played(rt, alloc, zone, &UpdateAnew)
 }
 
 // With any one growth refused, the version published last stays, and the same update makes the next one once it is sent anew.

@@ -1,41 +1,20 @@
 //! Streams of requests and what is written on them, by the octets that RFC 1035, 4 and RFC 2136, 2 give for them, put together by
 //! hand.
-use crate::cells::{Play, is_played};
-use crate::made::{SetRow, octets_of, zone_of};
-use crate::trays::asker;
 use conversation::{OpenGate, StreamEnd};
-use dns_engine::{FirstZone, VersionReader};
+use dns_engine::{FirstZone, VersionCell, VersionPublisher, VersionReader};
+use played_zones::{Kept, Play, asker, is_played, octets_of, server_of, zone};
 use serve_core::{Peer, Transport};
 use std::alloc::Global;
-use std::sync::{Mutex, Wait};
-use std::thread::Threads;
+use std::sync::Wait;
 use told_streams::{Tape, answer_tape};
-use zone_service::{Asked, Event, Server, ServiceLog};
-use zone_tree::Zone;
-
-/// A zone of five sets, in canonical order.
-const ZONE: &[SetRow] = &[
-    ("example.test.", 2, "036e7331076578616d706c65047465737400"),
-    (
-        "example.test.",
-        6,
-        "036e7331076578616d706c650474657374000561646d696e076578616d706c650474657374000000000100001c2000000384001275000000012c",
-    ),
-    ("ns1.example.test.", 1, "c0000201"),
-    ("web.example.test.", 1, "c000020a"),
-    (
-        "www.example.test.",
-        5,
-        "03776562076578616d706c65047465737400",
-    ),
-];
+use zone_service::{Asked, Server};
 
 /// All reads and writes.
 const ALL: u64 = u64::MAX;
 
 /// A row of a stream.
 #[derive(Clone, Copy)]
-pub(crate) struct Row {
+struct Row {
     /// Whether the peer may update and transfer.
     may: bool,
     /// How many octets can be written.
@@ -211,38 +190,6 @@ const STREAMS: &[Row] = &[
     },
 ];
 
-/// The zone.
-pub(crate) fn zone(alloc: Global) -> Option<Zone> {
-    zone_of(alloc, ZONE)
-}
-
-/// A log that keeps the lines that it is told, each with a semicolon behind it.
-#[derive(Drop)]
-pub(crate) struct Kept {
-    lines: Mutex<String>,
-}
-
-impl ServiceLog for Kept {
-    fn tell<R: Wait>(&self, rt: &R, event: Event) {
-        let mut lines = self.lines.lock(rt);
-        let _ = write!(lines, "{event};");
-    }
-}
-
-impl Kept {
-    /// A log that has been told nothing.
-    pub(crate) fn new(alloc: Global) -> Kept {
-        Kept {
-            lines: Mutex::new(String::new(alloc)),
-        }
-    }
-
-    /// Whether it was told these lines.
-    pub(crate) fn has<R: Wait>(&self, rt: &R, lines: &str) -> bool {
-        self.lines.lock(rt).as_str() == lines
-    }
-}
-
 /// Serves a tape, to a peer that may update and transfer or may not.
 fn serve<R: Wait, Z: FirstZone>(
     rt: &R,
@@ -283,7 +230,7 @@ fn tape_of(alloc: Global, row: &Row) -> Option<Tape> {
 }
 
 /// Whether a row's stream ends as the row says, and what is written and what the log is told are the row's.
-pub(crate) fn is_served<R: Wait, Z: FirstZone>(
+fn is_served<R: Wait, Z: FirstZone>(
     rt: &R,
     alloc: Global,
     server: &Server<'_, Z>,
@@ -298,10 +245,26 @@ pub(crate) fn is_served<R: Wait, Z: FirstZone>(
     Some(is_right && tape.written() == written.as_slice())
 }
 
+impl Play for Row {
+    fn is_right<R: Wait, Z: FirstZone>(
+        &self,
+        rt: &R,
+        alloc: Global,
+        cell: &VersionCell<Z>,
+        publisher: VersionPublisher<Z>,
+        mut readers: Vec<VersionReader<Z>>,
+    ) -> Option<bool> {
+        let reader = readers.pop()?;
+        let server = server_of(rt, cell, publisher, reader)?;
+        let mut reader = readers.pop()?;
+        is_served(rt, alloc, &server, &mut reader, self)
+    }
+}
+
 /// Whether a row's stream goes as it says, over the zone anew.
-fn is_right<R: Wait + Threads + Sync>(rt: &R, alloc: Global, row: &Row) -> bool {
+fn is_right<R: Wait>(rt: &R, alloc: Global, row: &Row) -> bool {
     match zone(alloc) {
-        Some(zone) => is_played(rt, alloc, zone, Play::Stream(row)) == Some(true),
+        Some(zone) => is_played(rt, alloc, zone, row) == Some(true),
         None => false,
     }
 }

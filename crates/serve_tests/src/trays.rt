@@ -1,14 +1,11 @@
 //! Requests as datagrams, by a device that lies in memory (RFC 1035, 4.2.1).
-use crate::cells::{Play, is_played};
-use crate::made::octets_of;
-use crate::streams::{Kept, zone};
 use conversation::{Allowed, Datagrams, DatagramsEnd, OpenGate};
-use dns_engine::{FirstZone, VersionReader};
+use dns_engine::{FirstZone, VersionCell, VersionPublisher, VersionReader};
+use played_zones::{Kept, Play, asker, is_played, octets_of, server_of, zone};
 use serve_core::{Peer, Transport};
 use std::alloc::Global;
-use std::net::{IpAddr, SocketAddr};
+use std::net::IpAddr;
 use std::sync::Wait;
-use std::thread::Threads;
 use told_streams::{Datagram, Tray, answer_tray};
 use zone_service::{Asked, Server};
 
@@ -26,7 +23,7 @@ e 000201000001000000000000046e6f7065076578616d706c6504746573740000010001 0002850
 
 /// A row of datagrams.
 #[derive(Clone, Copy)]
-pub(crate) struct Row {
+struct Row {
     /// Whether the peers may update and transfer.
     may: bool,
     /// How many datagrams may be answered.
@@ -138,12 +135,7 @@ fn octets_for(alloc: Global, letter: u8, column: usize) -> Option<Vec<u8>> {
     None
 }
 
-/// Who asks, by a port: the place of the request.
-pub(crate) fn asker(port: u16) -> SocketAddr {
-    SocketAddr::new(IpAddr::from([192, 0, 2, 7]), port)
-}
-
-/// The datagram of a letter's request, from who asks at a place.
+/// The datagram of a letter's request, from who asks by the port of its place.
 fn datagram_of(alloc: Global, letter: u8, place: u16) -> Option<Datagram> {
     let octets = octets_for(alloc, letter, 1)?;
     if octets.len() > 65_535 {
@@ -213,7 +205,7 @@ fn serve<R: Wait, Z: FirstZone>(
 }
 
 /// Whether the end of a row's datagrams, the count of failures and what is sent are as the row says.
-pub(crate) fn is_served<R: Wait, Z: FirstZone>(
+fn is_served<R: Wait, Z: FirstZone>(
     rt: &R,
     alloc: Global,
     server: &Server<'_, Z>,
@@ -227,10 +219,26 @@ pub(crate) fn is_served<R: Wait, Z: FirstZone>(
     Some(is_right && is_sent(alloc, tray.sent(), row.sent)?)
 }
 
+impl Play for Row {
+    fn is_right<R: Wait, Z: FirstZone>(
+        &self,
+        rt: &R,
+        alloc: Global,
+        cell: &VersionCell<Z>,
+        publisher: VersionPublisher<Z>,
+        mut readers: Vec<VersionReader<Z>>,
+    ) -> Option<bool> {
+        let reader = readers.pop()?;
+        let server = server_of(rt, cell, publisher, reader)?;
+        let mut reader = readers.pop()?;
+        is_served(rt, alloc, &server, &mut reader, self)
+    }
+}
+
 /// Whether a row's datagrams go as it says, over the zone anew.
-fn is_right<R: Wait + Threads + Sync>(rt: &R, alloc: Global, row: &Row) -> bool {
+fn is_right<R: Wait>(rt: &R, alloc: Global, row: &Row) -> bool {
     match zone(alloc) {
-        Some(zone) => is_played(rt, alloc, zone, Play::Datagrams(row)) == Some(true),
+        Some(zone) => is_played(rt, alloc, zone, row) == Some(true),
         None => false,
     }
 }

@@ -82,6 +82,8 @@ impl<'a, S, C: Clock> Connection<'a, S, C> {
     pub fn new(stream: S, clock: &'a C) -> io::Result<Connection<'a, S, C>>
     where
         S: Drop,
+        ensures stream { IfOk result (λ connection. connection.stream ≡ stream) }
+        ensures begins { IfOk result (λ connection. connection.is_writing ≡ false) }
     {
         let begun = clock.monotonic()?;
         Ok(Connection {

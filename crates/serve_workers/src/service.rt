@@ -1,5 +1,6 @@
 //! A zone served on sockets, by workers.
-ghost use Rattle.std.specs.Prelude.{◌≡◌, ◌+◌, ◌*◌, ◌%◌, ◌≤◌, ◌⊎◌, true, false, vec_len, IfErr, IfSome};
+ghost use Rattle.std.specs.Prelude.{◌≡◌, ◌+◌, ◌*◌, ◌%◌, ◌≤◌, ◌⊎◌, true, false, map, vec_len, IfOk, IfErr, IfSome};
+ghost use Rattle.std.specs.List.{range_with_len};
 ghost use Rattle.dns_engine.specs.Held.{KEPT};
 ghost use Rattle.snapshot_cell.specs.declared.cell.TheConstants.{READERS};
 ghost use Rattle.serve_workers.specs.declared.service.ServeFault.{ServeFault as Fault};
@@ -209,14 +210,16 @@ fn job_of<'a, R: Clock>(
     }
 }
 
-/// The readers with their jobs, which are numbered from 1.
+/// The readers in their order, each with its job; the jobs are numbered from 1.
 fn pairs_of<'a, R: Clock, Z: FirstZone>(
     rt: &'a R,
     alloc: Global,
     readers: Vec<VersionReader<Z>>,
     plan: Plan<'a>,
 ) -> Result<Vec<(VersionReader<Z>, SocketJob<'a, R>)>, ServeFault>
-    ensures { IfErr result (λ fault. fault ≡ Fault.NoMemory) }
+    ensures readers { IfOk result (λ pairs. map (λ pair. pair.0) pairs.items ≡ readers.items) }
+    ensures numbers { IfOk result (λ pairs. map (λ pair. number_of pair.1) pairs.items ≡ range_with_len 1 (vec_len readers)) }
+    ensures refused { IfErr result (λ fault. fault ≡ Fault.NoMemory) }
 {
     let mut pairs = Vec::new(alloc);
     let mut number = 0usize;

@@ -116,7 +116,9 @@ impl<'a, L: Listener, C: Clock> TcpJob<'a, L, C> {
         &self,
         rt: &R,
         log: &O,
-    ) -> Option<(Option<L::Connected>, SocketAddr)> {
+    ) -> Option<(Option<L::Connected>, SocketAddr)>
+        ensures { IfSome result (λ accepted. IfSome accepted.0 (λ connected. L.comes connected accepted.1)) }
+    {
         let mut is_told = false;
         for _ in rt.forever() {
             let fault = match self.listener.accept() {
@@ -145,14 +147,15 @@ impl<'a, L: Listener, C: Clock> TcpJob<'a, L, C> {
 
     /// Serves a connection as that of the peer at the address that it came from, until it ends, and gives how that was, and the
     /// connection (RFC 1035, 4.2.2).
-    fn serve<R: Wait, A: Answering, S: Stream, G: Gate>(
+    fn serve<R: Wait, A: Answering, G: Gate>(
         &mut self,
         rt: &R,
         answering: &mut A,
-        accepted: (S, SocketAddr),
+        accepted: (L::Connected, SocketAddr),
         gate: &G,
-    ) -> (StreamEnd, S)
-        ensures served { IfSome (S.octets accepted.0) (λ o. IsServedFor A.is_reply self.old.allowed.addresses.now accepted.1 result.0 (A.seen answering.old) o (A.seen answering.new) (S.octets result.1)) }
+    ) -> (StreamEnd, L::Connected)
+        requires from { L.comes accepted.0 accepted.1 }
+        ensures served { IfSome (L.Connected.octets accepted.0) (λ o. IsServedFor A.is_reply self.old.allowed.addresses.now accepted.1 result.0 (A.seen answering.old) o (A.seen answering.new) (L.Connected.octets result.1)) }
         ensures number { self.new.number ≡ self.old.number }
     {
         let (stream, from) = accepted;

@@ -7,7 +7,7 @@ use std::alloc::Global;
 use zone_tree::{Version, Zone};
 
 /// The octets that hexadecimal stands for.
-pub(crate) fn octets_of(alloc: Global, text: &str) -> Option<Vec<u8>> {
+pub fn octets_of(alloc: Global, text: &str) -> Option<Vec<u8>> {
     hex::decode(alloc, text.as_bytes()).ok()
 }
 
@@ -18,7 +18,7 @@ fn data_of(alloc: Global, rtype: RType, text: &str) -> Option<RData> {
 }
 
 /// A set of one record: its owner, in full or below `example.test.`, its type's number, and the data's octets in hexadecimal.
-pub(crate) type SetRow = (&'static str, u16, &'static str);
+pub type SetRow = (&'static str, u16, &'static str);
 
 /// The set of a row.
 fn set_of(alloc: Global, row: &SetRow) -> Option<RRset> {
@@ -38,15 +38,37 @@ fn sets_of(alloc: Global, rows: &[SetRow]) -> Option<Vec<RRset>> {
 }
 
 /// The zone of rows in canonical order, each a set.
-pub(crate) fn zone_of(alloc: Global, rows: &[SetRow]) -> Option<Zone> {
+pub fn zone_of(alloc: Global, rows: &[SetRow]) -> Option<Zone> {
     let sets = sets_of(alloc, rows)?;
     Zone::new(alloc, sets).ok()
 }
 
 /// The first version of the zone of rows.
-pub(crate) fn version_of(alloc: Global, rows: &[SetRow]) -> Option<Version>
+pub fn version_of(alloc: Global, rows: &[SetRow]) -> Option<Version>
     ensures { IfSome result (λ version. version.number ≡ 0) }
 {
     let zone = zone_of(alloc, rows)?;
     Some(Version::first(zone))
+}
+
+/// A zone of five sets, in canonical order.
+const ZONE: &[SetRow] = &[
+    ("example.test.", 2, "036e7331076578616d706c65047465737400"),
+    (
+        "example.test.",
+        6,
+        "036e7331076578616d706c650474657374000561646d696e076578616d706c650474657374000000000100001c2000000384001275000000012c",
+    ),
+    ("ns1.example.test.", 1, "c0000201"),
+    ("web.example.test.", 1, "c000020a"),
+    (
+        "www.example.test.",
+        5,
+        "03776562076578616d706c65047465737400",
+    ),
+];
+
+/// The zone of five sets; None where memory is refused.
+pub fn zone(alloc: Global) -> Option<Zone> {
+    zone_of(alloc, ZONE)
 }

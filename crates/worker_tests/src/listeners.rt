@@ -1,9 +1,8 @@
 //! A listener that lies in memory: which errors end a worker, and whose rights each connection has (Linux, accept(2); RFC 1035, 4.2.2).
 ghost use Rattle.std.specs.Prelude.{[]};
 
-use crate::streams::Kept;
-use crate::trays::asker;
 use conversation::{Allowed, Answering, Broken, Counted, OpenGate, Stream};
+use played_zones::{Kept, asker};
 use serve_core::{Peer, Transport};
 use serve_workers::{Job, Listener, Scratch, TcpJob};
 use snapshot_cell::Spent;
@@ -43,6 +42,8 @@ struct Rows<'a> {
 
 impl Listener for Rows<'_> {
     type Connected = Tape;
+
+    ghost comes = { λ _ _. Unit {0} };
 
     fn accept(&self) -> io::Result<(Option<Tape>, SocketAddr)> {
         let at = self.at.fetch_add(1, Ordering::SeqCst);

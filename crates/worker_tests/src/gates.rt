@@ -1,15 +1,19 @@
 //! Two workers, of which one waits in the gate for the other.
-use crate::cells::{Play, is_played};
-use crate::streams::zone;
+ghost use Rattle.std.specs.Prelude.{◌≡◌};
+
 use conversation::{Answering, Gate};
-use dns_engine::{FirstZone, VersionReader};
+use dns_engine::{FirstZone, VersionCell, VersionPublisher, VersionReader};
+use played_zones::{server_of, zone};
 use serve_workers::{Job, run_workers};
+use snapshot_cell::{Cell, Parts};
 use std::alloc::Global;
+use std::marker::Brand;
 use std::sync::Wait;
 use std::sync::atomic::{AtomicU64, Ordering};
 use std::thread::{self, Threads};
 use told_streams::{Tape, answer_tape};
 use zone_service::{NoLog, Server, ServiceLog};
+use zone_tree::{Version, Zone};
 
 /// The query for www.example.test., type A, and its reply, each in a frame.
 const QUERY: &[u8] =
@@ -64,14 +68,15 @@ impl HoldingGate {
     }
 }
 
-/// The job of one stream.
+/// The job of one stream, by its number.
 #[derive(Drop)]
 struct TapeJob {
+    number: usize,
     tape: Option<Tape>,
 }
 
 impl Job for TapeJob {
-    ghost number = { λ _. 0 };
+    ghost number = { λ job. job.number };
 
     fn run<R: Wait, A: Answering, G: Gate, L: ServiceLog>(
         &mut self,
@@ -99,27 +104,32 @@ impl Job for TapeJob {
     }
 }
 
-/// A job for each reader, on a stream of these octets.
+/// A job for each reader, numbered from 1, on a stream of these octets.
 fn jobs_of<Z: FirstZone>(
     alloc: Global,
     readers: Vec<VersionReader<Z>>,
     octets: &[u8],
 ) -> Option<Vec<(VersionReader<Z>, TapeJob)>> {
     let mut pairs = Vec::new(alloc);
+    let mut number = 0usize;
     for reader in readers {
+        number = number.saturating_add(1);
         let tape = Tape::new(alloc, octets.to_vec(alloc).ok()?, 9999, 3).ok()?;
-        pairs.push((reader, TapeJob { tape: Some(tape) })).ok()?;
+        let tape = Some(tape);
+        pairs.push((reader, TapeJob { number, tape })).ok()?;
     }
     Some(pairs)
 }
 
-/// Whether two streams were served, each with this written on it.
+/// Whether two streams were served, by jobs 1 and 2 in this order, each with this written on it.
 fn are_written<Z: FirstZone>(pairs: &[(VersionReader<Z>, TapeJob)], written: &[u8]) -> bool {
+    let mut number = 0usize;
     for (_, job) in pairs {
+        number = number.saturating_add(1);
         let Some(tape) = &job.tape else {
             return false;
         };
-        if tape.written() != written {
+        if job.number != number || tape.written() != written {
             return false;
         }
     }
@@ -127,7 +137,7 @@ fn are_written<Z: FirstZone>(pairs: &[(VersionReader<Z>, TapeJob)], written: &[u
 }
 
 /// Whether two streams are served by two workers, of which the first to be asked waits for the other.
-pub(crate) fn are_served<R: Wait + Threads + Sync, Z: FirstZone + Send + Sync>(
+fn are_served<R: Wait + Threads + Sync, Z: FirstZone + Send + Sync>(
     rt: &R,
     alloc: Global,
     server: &Server<'_, Z>,
@@ -139,9 +149,49 @@ pub(crate) fn are_served<R: Wait + Threads + Sync, Z: FirstZone + Send + Sync>(
     Some(gate.is_well() && are_written(&pairs, REPLY))
 }
 
+/// Whether they are over a cell in which a zone's first version alone is published.
+fn are_served_in<R: Wait + Threads + Sync, Z: FirstZone + Send + Sync>(
+    rt: &R,
+    alloc: Global,
+    cell: &VersionCell<Z>,
+    publisher: VersionPublisher<Z>,
+    mut readers: Vec<VersionReader<Z>>,
+) -> Option<bool>
+    requires { publisher.number ≡ 0 }
+{
+    let reader = readers.pop()?;
+    let server = server_of(rt, cell, publisher, reader)?;
+    are_served(rt, alloc, &server, readers)
+}
+
+/// Whether they are over a cell that begins with the zone; None where there is no memory for the cell.
+fn are_served_over<R: Wait + Threads + Sync, Z: FirstZone + Send + Sync>(
+    rt: &R,
+    alloc: Global,
+    zone: Zone,
+) -> Option<bool>
+    requires { zone ≡ Z.zone }
+{
+    match Cell::new(rt, alloc, 3, Version::first(zone)) {
+        Ok(
+            Parts {
+                cell,
+                publisher,
+                readers,
+            },
+        ) => are_served_in::<R, Z>(rt, alloc, &cell, publisher, readers),
+        Err(_) => None,
+    }
+}
+
+/// Whether they are over a zone's first version.
+fn are_served_anew<R: Wait + Threads + Sync>(rt: &R, alloc: Global, zone: Zone) -> Option<bool> {
+    are_served_over::<R, Brand>(rt, alloc, zone)
+}
+
 // The first call waits in the gate until the second one has been answered, so each worker has a thread of its own.
 #[test]
 fn gate_two_workers(rt: HostRuntime) {
     let zone = zone(rt.alloc()).expect(&rt, "a zone");
-    assert!(rt; is_played(&rt, rt.alloc(), zone, Play::Workers) == Some(true));
+    assert!(rt; are_served_anew(&rt, rt.alloc(), zone) == Some(true));
 }
