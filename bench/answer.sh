@@ -30,10 +30,11 @@ exchanges() {
     for i in 0 1 2 3 4 5 6 7 8 9; do echo "m.example.test. 3600 IN MX 10 mx$i.example.test."; done
 }
 
-# So many requests for `m`, with these flags and of this type, in hexadecimal.
+# So many requests for `m`, with these flags and of this type, and with an OPT where one is given, in hexadecimal.
 asked() {
-    awk -v q="$messages" -v flags="$1" -v type="$2" 'BEGIN {
-        for (i = 0; i < q; i++) printf "%04x%s0001000000000000016d076578616d706c65047465737400%s0001\n", i % 65536, flags, type
+    awk -v q="$messages" -v flags="$1" -v type="$2" -v opt="${3:-}" 'BEGIN {
+        count = opt == "" ? "0000" : "0001"
+        for (i = 0; i < q; i++) printf "%04x%s000100000000%s016d076578616d706c65047465737400%s0001%s\n", i % 65536, flags, count, type, opt
     }'
 }
 
@@ -62,16 +63,18 @@ done; done
 
 # Each figure has the line's reading and the reply's writing in it. A reply (QR 1) is read and not answered. Of an IXFR (type 251)
 # the whole request is parsed and a header alone is written; a query of type MX (15) is parsed, looked up and answered by ten
-# records.
+# records, without an OPT and with one.
 exchanges > "$work/zone"
 asked 8100 000f > "$work/none"
 asked 0100 00fb > "$work/parsed"
 asked 0100 000f > "$work/written"
+asked 0100 000f 00002904d0000000000000 > "$work/extended"
 read -r none _ < <(measure "$work/zone" "$work/none")
 read -r parsed _ < <(measure "$work/zone" "$work/parsed")
 read -r written _ < <(measure "$work/zone" "$work/written")
-awk -v q="$messages" -v n="$none" -v p="$parsed" -v w="$written" 'BEGIN {
-    printf "%d messages a second passed over, %d parsed, %d answered by ten records\n", q / n, q / p, q / w
+read -r extended _ < <(measure "$work/zone" "$work/extended")
+awk -v q="$messages" -v n="$none" -v p="$parsed" -v w="$written" -v e="$extended" 'BEGIN {
+    printf "%d messages a second passed over, %d parsed, %d answered by ten records, %d with an OPT\n", q / n, q / p, q / w, q / e
 }'
 
 bench/searches.sh
