@@ -25,7 +25,7 @@ use lookup_core::answer;
 use std::alloc::Global;
 use std::cell::Cell;
 use std::io;
-use zone_tree::{Zone, ZoneRead};
+use zone_tree::{Walk, Zone, ZoneRead};
 
 /// The data of an SOA of serial 1, and of an NS.
 const SOA: &[u8] = b"\0\0\0\0\0\x01\0\0\x1c\x20\0\0\x03\x84\0\x12\x75\0\0\0\x01\x2c";
@@ -73,9 +73,8 @@ impl ZoneRead for Counted {
         self.zone.soa()
     }
 
-    fn sets_after(&self, name: Option<&Name>) -> &[RRset] {
-        self.count();
-        self.zone.sets_after(name)
+    fn walk(&self) -> Walk<'_> {
+        self.zone.walk()
     }
 }
 
