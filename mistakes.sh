@@ -1,26 +1,25 @@
 #!/usr/bin/env bash
-# Tries the edits of crates/NAME/mistakes/, each a believable mistake in the crate's code, which the prover must refuse, and those of
-# crates/NAME/mistakes/by_test/, which no contract meets, so that a test must fail in one of the crates of tests that use the crate;
-# of the crates given, else of all.
-# It works in a copy of the repository, prints a line an edit, and last how many were refused; its status is 1 where one wasn't.
-# Usage: ./mistakes.sh [NAME ..], or make mistakes [CRATE="NAME .."]. It needs python3.
+# Tries the edits of crates/NAME/mistakes/, each a believable mistake in the crate's code, which the prover must refuse (try_edits.py: many in
+# one check), and those of crates/NAME/mistakes/by_test/, which no contract meets, so that a test must fail in one of the crates of tests that
+# use the crate; of the crates given, else of all.
+# It changes no file of the repository but what checks keep in out/, prints a line an edit, and last how many were refused; its status is 1
+# where one wasn't. Usage: ./mistakes.sh [NAME ..], or make mistakes [CRATE="NAME .."]. It needs python3.
 set -euo pipefail
 cd "$(dirname "$0")"
 names=("$@")
 [ $# -gt 0 ] || for folder in crates/*/mistakes; do [ ! -d "$folder" ] || names+=("$(basename "$(dirname "$folder")")"); done
-
-room=$(mktemp -d)
-trap 'rm -rf "$room"' EXIT
-cp -a . "$room/copy"
-cd "$room/copy"
 total=0
 for name in "${names[@]}"; do
     [ -d "crates/$name/mistakes" ] || { echo "mistakes: crates/$name has no folder mistakes" >&2; exit 2; }
-    rm -rf "crates/$name/must-fail"
     total=$((total + $(find "crates/$name/mistakes" -name '*.edit' | wc -l)))
-    [ ! -d "crates/$name/mistakes/by_test" ] || { mkdir -p by_test; mv "crates/$name/mistakes/by_test" "by_test/$name"; }
-    mv "crates/$name/mistakes" "crates/$name/must-fail"
 done
+
+room=$(mktemp -d)
+trap 'rm -rf "$room"' EXIT
+python3 try_edits.py "${names[@]}" | tee "$room/tried" || true
+mkdir "$room/copy"
+tar -c --exclude=./.git --exclude=./crates/*/out . | tar -x -C "$room/copy"
+cd "$room/copy"
 
 # makes an edit in the files of the folder that it runs in
 make_edit() {
@@ -56,18 +55,16 @@ try_by_test() {
     if [ "$status" = 'NOT REFUSED' ]; then
         printf '%s: %s\n%s\n' "$label" "$status" "$(tail -5 <<<"$said")"
     else
-        echo "$label: $status" | tee -a by_test.tried
+        echo "$label: $status" | tee -a "$room/tried"
     fi
     rm -rf "crates/$name/src"
     mv "$room/src" "crates/$name/src"
 }
-for folder in by_test/*/; do
-    [ -d "$folder" ] || continue
-    for edit in "$folder"*.edit; do try_by_test "$(basename "$folder")" "$PWD/$edit"; done
+for name in "${names[@]}"; do
+    for edit in "crates/$name/mistakes/by_test/"*.edit; do
+        [ ! -f "$edit" ] || try_by_test "$name" "$PWD/$edit"
+    done
 done
-# as many crates side by side as there are processors, at most four
-jobs=$(nproc)
-printf '%s\n' "${names[@]}" | xargs -P "$((jobs < 4 ? jobs : 4))" -I{} sh -c 'rt must-fail {} 2>&1 | tee -a {}.tried >&2; true' 2>&1
-refused=$(cat ./*.tried | grep -cE '^(rt: must-fail|by_test) .*: refused, as it must be' || true)
+refused=$(grep -c ': refused, as it must be' "$room/tried" || true)
 echo "$refused refused, $((total - refused)) not"
 [ "$refused" = "$total" ]

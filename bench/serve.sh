@@ -1,9 +1,11 @@
 #!/usr/bin/env bash
 # Measures `dnsd serve` by dnsperf, beside knotd and nsd where these are installed, each with as many workers, in the same run: queries
 # a second over UDP and processor time a query (of the server alone, from /proc), queries a second over TCP; then of dnsd updates a
-# second, and the 99th percentile of queries' times without and with updates beside them.
-# Usage: [DNSD=PROGRAM] bench/serve.sh [--seconds N] [--workers "N .."] [--port N] [RECORDS ..]
-#   by default 5 seconds a figure, 1, 2 and 4 workers, port 15453, and zones of 1000 and 1000000 records
+# second, and the 99th percentile of queries' times without updates, while updates go to another dnsd on the same machine, and while as
+# many go to the one that is asked.
+# Usage: [DNSD=PROGRAM] bench/serve.sh [--seconds N] [--workers "N .."] [--port N] [--updates N] [RECORDS ..]
+#   by default 5 seconds a figure, 1, 2 and 4 workers, ports 15453 and 15454, at most 10000 updates a second beside queries, and zones of
+#   1000 and 1000000 records
 # It needs Debian's dnsperf, and knot and nsd for the figures beside. `make dnsd` builds the program.
 set -euo pipefail
 cd "$(dirname "$0")/.."
@@ -11,12 +13,14 @@ cd "$(dirname "$0")/.."
 seconds=5
 workers="1 2 4"
 port=15453
+most=10000
 sizes=()
 while [ $# -gt 0 ]; do
     case $1 in
         --seconds) seconds=$2; shift 2 ;;
         --workers) workers=$2; shift 2 ;;
         --port) port=$2; shift 2 ;;
+        --updates) most=$2; shift 2 ;;
         *) sizes+=("$1"); shift ;;
     esac
 done
@@ -25,11 +29,15 @@ PATH=$PATH:/usr/sbin:/sbin
 command -v dnsperf >/dev/null || { echo "bench: no dnsperf: it is Debian's package dnsperf" >&2; exit 1; }
 
 server=
+second=
 stop() {
-    [ -n "$server" ] || return 0
-    kill "$server" 2>/dev/null || true
-    wait "$server" 2>/dev/null || true
+    local one
+    for one in $server $second; do
+        kill "$one" 2>/dev/null || true
+        wait "$one" 2>/dev/null || true
+    done
     server=
+    second=
 }
 trap 'stop; rm -rf "$work"' EXIT
 
@@ -43,12 +51,12 @@ questions() {
     }'
 }
 
-# Sends updates for so many seconds, each behind the reply to the one before: an address at a name of its own is added, and then deleted. Prints
-# how many are taken a second.
+# Sends updates to a port for so many seconds, each behind the reply to the one before, and at most so many a second (0: no bound): an address
+# at a name of its own is added, and then deleted. Prints how many are taken a second. PORT SECONDS MOST
 updates() {
-    python3 - "$1" "$port" <<'PY'
+    python3 - "$@" <<'PY'
 import socket, sys, time
-seconds, port = float(sys.argv[1]), int(sys.argv[2])
+port, seconds, most = int(sys.argv[1]), float(sys.argv[2]), int(sys.argv[3])
 zone = bytes.fromhex("076578616d706c65047465737400000600") + b"\1"  # example.test. SOA IN
 client = socket.socket(socket.AF_INET, socket.SOCK_DGRAM)
 client.connect(("127.0.0.1", port))
@@ -58,6 +66,8 @@ while time.time() - began < seconds:
     label = b"u%d" % (taken // 2)
     owner = bytes([len(label)]) + label + b"\xc0\x0c"
     record = owner + (b"\0\1\0\1\0\0\x0e\x10" if taken % 2 == 0 else b"\0\1\0\xfe\0\0\0\0") + b"\0\4\xc0\0\2\1"
+    while most and taken > most * (time.time() - began):
+        pass
     client.send((taken % 65536).to_bytes(2, "big") + b"\x28\0\0\1\0\0\0\1\0\0" + zone + record)
     if client.recv(512)[3] != 0:
         sys.exit("bench: an update is refused")
@@ -171,19 +181,34 @@ measure() {
     stop
 }
 
-# Updates beside queries: WORKERS RECORDS
+# The 99th percentile of 2000 queries a second, while at most so many updates a second go to a port, where one is given: [PORT]
+beside() {
+    local updater=
+    if [ $# -gt 0 ]; then
+        updates "$1" "$((seconds + 1))" "$most" >"$work/beside" &
+        updater=$!
+        sleep 0.5
+    fi
+    dnsperf -v -s 127.0.0.1 -p "$port" -d "$work/questions" -l "$seconds" -c 4 -T 1 -Q 2000 2>/dev/null | percentile
+    [ -z "$updater" ] || wait "$updater"
+}
+
+# Updates, alone and beside queries: WORKERS RECORDS. The other server's queries are nobody's.
 measure_updates() {
-    local alone beside updated
+    local updated alone elsewhere here there at=$port
+    port=$((at + 1))
     start_dnsd "$1"
     wait_for
-    alone=$(dnsperf -v -s 127.0.0.1 -p "$port" -d "$work/questions" -l "$seconds" -c 4 -T 1 -Q 2000 2>/dev/null | percentile)
-    updates "$seconds" >"$work/updated" &
-    local updater=$!
-    beside=$(dnsperf -v -s 127.0.0.1 -p "$port" -d "$work/questions" -l "$seconds" -c 4 -T 1 -Q 2000 2>/dev/null | percentile)
-    wait "$updater"
-    updated=$(cat "$work/updated")
-    awk -v w="$1" -v n="$2" -v u="$updated" -v a="$alone" -v b="$beside" 'BEGIN {
-        printf "dnsd, %d workers, %d records: %d updates a second, one after another; of 2000 queries a second 99 in 100 take at most %s ms without updates and %s ms beside them\n", w, n, u, a, b
+    second=$server port=$at
+    start_dnsd "$1"
+    wait_for
+    alone=$(beside)
+    elsewhere=$(beside "$((at + 1))")
+    there=$(cat "$work/beside")
+    here=$(beside "$at")
+    updated=$(updates "$at" "$seconds" 0)
+    awk -v w="$1" -v n="$2" -v u="$updated" -v a="$alone" -v e="$elsewhere" -v h="$here" -v there="$there" -v to="$(cat "$work/beside")" 'BEGIN {
+        printf "dnsd, %d workers, %d records: %d updates a second, one after another; of 2000 queries a second 99 in 100 take at most %s ms without updates, %s ms while %d a second go to another dnsd, and %s ms while %d a second go to this one\n", w, n, u, a, e, there, h, to
     }'
     stop
 }

@@ -21,6 +21,10 @@ const ADD: &[u8] =
 const ADD_2: &[u8] =
     b"\x43\x21\x28\x00\x00\x01\x00\x00\x00\x01\x00\x00\x07example\x04test\x00\x00\x06\x00\x01\x03new\xc0\x0c\x00\x01\x00\x01\x00\x00\x0e\x10\x00\x04\xc0\x00\x02\x02";
 
+/// The same of 192.0.2.3.
+const ADD_3: &[u8] =
+    b"\x43\x21\x28\x00\x00\x01\x00\x00\x00\x01\x00\x00\x07example\x04test\x00\x00\x06\x00\x01\x03new\xc0\x0c\x00\x01\x00\x01\x00\x00\x0e\x10\x00\x04\xc0\x00\x02\x03";
+
 /// An update that can't be read.
 const UNREAD: &[u8] = b"\x43\x21\x28\0\0\0\0\0\0\0\0\0";
 
@@ -33,6 +37,7 @@ fn request_of(name: &str) -> Request<'static> {
     match name {
         "add" => Request::new(ADD),
         "add-2" => Request::new(ADD_2),
+        "add-3" => Request::new(ADD_3),
         "unread" => Request::new(UNREAD),
         "new" => Request::new(NEW),
         _ => Request::new(b"\0"),
@@ -226,6 +231,31 @@ drop b: left\n";
 #[test]
 fn versions(rt: HostRuntime) {
     assert!(rt; play(rt.alloc(), 0, VERSIONS) == Some(Outcome::AsTold));
+}
+
+/// The last owner of version 0 is stopped behind its release, and again behind its burial.
+const STOPPED: &str = "\
+load a: owner a 0\n\
+update add: reply 4321a800\n\
+begin x drop a: begun\n\
+next x: release,\n\
+load b: owner b 1\n\
+update add-2: reply 4321a800\n\
+drop b: buried 1\n\
+load c: owner c 2\n\
+next x: bury,\n\
+update add-3: reply 4321a800\n\
+load d: owner d 3\n\
+drop c: buried 2\n\
+drop d: left\n\
+next x: free, buried 0\n\
+next x: not enabled\n";
+
+// Nobody waits for an owner that is stopped: while it is between its release and its burial, and between its burial and the release of
+// its slot, versions are loaded, published and buried.
+#[test]
+fn a_stopped_owner(rt: HostRuntime) {
+    assert!(rt; play(rt.alloc(), 0, STOPPED) == Some(Outcome::AsTold));
 }
 
 /// A second update, a step at a time, where one version beside the last is kept: slots 0 and 1 are in use.

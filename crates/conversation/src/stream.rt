@@ -100,6 +100,7 @@ pub fn serve_stream<R: Wait, A: Answering, S: Stream, G: Gate>(
     requires reply_room { message_limit ≤ length out.old }
     requires frame_room { message_limit + 2 ≤ length frame.old }
     ensures served { IfSome (S.octets stream.old.inner) (λ o. EndsAs (A.is_reply (A.peer answering.old)) result (A.seen answering.old) o (A.seen answering.new) (S.octets stream.new.inner)) }
+    ensures grows { BeginsWith (A.seen answering.new) (A.seen answering.old) }
     ensures device { result ≡ End.Device → stream.old.faults < stream.new.faults }
 {
     for _ in rt.forever() {

@@ -87,6 +87,7 @@ pub(crate) fn turn<R: Wait, A: Answering, S: Stream, G: Gate>(
     requires reply_room { message_limit ≤ length out.old }
     requires frame_room { message_limit + 2 ≤ length frame.old }
     ensures peer { A.peer answering.new ≡ A.peer answering.old }
+    ensures grows { BeginsWith (A.seen answering.new) (A.seen answering.old) }
     ensures turns { IfSome (S.octets stream.old.inner) (λ o. TurnsAs (A.is_reply (A.peer answering.old)) result (A.seen answering.old) o (A.seen answering.new) (S.octets stream.new.inner)) }
     ensures same { result ≡ None → stream.new.faults ≡ stream.old.faults }
     ensures device { result ≡ Some End.Device → stream.old.faults < stream.new.faults }

@@ -63,7 +63,8 @@ fn turn<R: Wait, A: Answering, D: Datagrams, G: Gate>(
 ) -> Option<DatagramsEnd>
     requires request_room { message_limit ≤ length request.old }
     requires reply_room { message_limit ≤ length out.old }
-    ensures { IfSome (D.datagrams datagrams.old) (λ o. TurnsBy A.is_reply allowed.entry.addresses.now result (A.seen answering.old) o (D.failed datagrams.old) (A.seen answering.new) (D.datagrams datagrams.new) (D.failed datagrams.new)) }
+    ensures grows { BeginsWith (A.seen answering.new) (A.seen answering.old) }
+    ensures turns { IfSome (D.datagrams datagrams.old) (λ o. TurnsBy A.is_reply allowed.entry.addresses.now result (A.seen answering.old) o (D.failed datagrams.old) (A.seen answering.new) (D.datagrams datagrams.new) (D.failed datagrams.new)) }
 {
     let Some((len, from)) = datagrams.receive(request) else {
         return Some(DatagramsEnd::Device);
@@ -94,7 +95,8 @@ pub fn serve_udp<R: Wait, A: Answering, D: Datagrams, G: Gate>(
 ) -> DatagramsEnd
     requires request_room { message_limit ≤ length request.old }
     requires reply_room { message_limit ≤ length out.old }
-    ensures { IfSome (D.datagrams datagrams.old) (λ o. EndsBy A.is_reply allowed.entry.addresses.now result (A.seen answering.old) o (D.failed datagrams.old) most (A.seen answering.new) (D.datagrams datagrams.new) (D.failed datagrams.new)) }
+    ensures grows { BeginsWith (A.seen answering.new) (A.seen answering.old) }
+    ensures answered { IfSome (D.datagrams datagrams.old) (λ o. EndsBy A.is_reply allowed.entry.addresses.now result (A.seen answering.old) o (D.failed datagrams.old) most (A.seen answering.new) (D.datagrams datagrams.new) (D.failed datagrams.new)) }
 {
     for _done in 0..most {
         match turn(rt, answering, datagrams, allowed, gate, request, out) {

@@ -23,12 +23,13 @@ use Rattle.cell_core.specs.declared.words.Publisher.TheVariants.{Swapping}
 use Rattle.cell_core.specs.declared.words.Owner.TheVariants.{Holding, Burying, Freeing, Spent}
 use Rattle.counted_handles.specs.declared.view.Mark.{Mark}
 use Rattle.counted_handles.specs.declared.view.View.{View}
-use Rattle.counted_handles.specs.declared.view.View.TheVariants.{Begin, Began, Publishes, Reads, Has, Buries, Frees, Gone}
+use Rattle.counted_handles.specs.declared.view.View.TheVariants.{Begin, Began, Publishes, Reads, Has, Buries, Frees, Ends, Gone}
 use Rattle.counted_handles.specs.Shown.{Room, Board, holder, owner_of, shown}
 use Rattle.counted_handles.specs.Ruled.{RoomSpot, HomeIs, MarkIs, Holds}
 use Rattle.counted_handles.specs.Tells.{Tried}
 use Rattle.counted_handles.proofs.Lists.{got_map, one_there, when_equal, when_apart}
 use Rattle.counted_handles.proofs.Slots.{first_kept}
+use Rattle.counted_handles.proofs.FreeSlots.{frees_kept, frees_again}
 use Rattle.counted_handles.proofs.Frames.{mark_in, Undisturbed, undisturbed, unmoved, home_stays, not_first, publisher_is, seat_step}
 use Rattle.counted_handles.proofs.Live.{slotted, live_room, live_mark}
 use Rattle.counted_handles.proofs.WordSteps.{found_shares, shown_shares, shown_place, slots_kept}
@@ -42,6 +43,7 @@ owner_by_mark (Begin value) mark e = absurd (let wrong = e in cc)
 owner_by_mark (Began spot) mark e = absurd (let wrong = e in cc)
 owner_by_mark (Buries slot name) mark e = absurd (let wrong = e in cc)
 owner_by_mark (Frees slot spot) mark e = absurd (let wrong = e in cc)
+owner_by_mark (Ends slot spot) mark e = absurd (let wrong = e in cc)
 owner_by_mark Gone mark e = absurd (let wrong = e in cc)
 
 -- the number of a version, if there is one
@@ -115,6 +117,7 @@ module _ {T : Type 0} (begins : T → Type 0) (follows : T → T → Type 0) (sp
           left = omega arith;
           read = refl;
           fixed = λ p here counts w e. first_kept s.words (slot + slot) dead_word ∙ (counts.fixed w e).1;
+          free = λ last swept are. frees_kept s.words s.homes slot dead_word none last swept (λ is. omega (arith, is.shares, none_left)) are;
           homes_are = λ place home e. ⊎_elim
               (λ (t : (place ≡ slot) × (none ≡ home)).
               let freeing : slice_get after.owners id ≡ Some (Freeing slot) = ap (λ (x : State T). slice_get x.owners id) same ∙ get_set_same st.owners id (Freeing slot) (slice_get_within st.owners id (Burying slot) seat) in
@@ -165,6 +168,7 @@ module _ {T : Type 0} (begins : T → Type 0) (follows : T → T → Type 0) (sp
           left = omega arith;
           read = refl;
           fixed = λ p here counts w e. first_kept s.words (slot + slot) found ∙ (counts.fixed w e).1;
+          free = frees_again s.words s.homes (suc (slot + slot));
           homes_are = λ place home e. home_stays spots h.name st after place home
               (λ p. ap (λ (x : State T). x.publisher) same ∙ p)
               (λ i q. ap (λ (x : State T). slice_get x.owners i) same ∙ seat_stays st.owners id (Burying slot) Spent (Freeing place) seat (λ e. cc) i q)

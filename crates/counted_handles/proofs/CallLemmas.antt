@@ -16,12 +16,12 @@ use Rattle.counted_handles.specs.declared.view.View.TheVariants.{Publishes, Read
 use Rattle.counted_handles.specs.Shown.{Room}
 use Rattle.counted_handles.specs.Ruled.{RoomSpot, Holds, Ruled}
 use Rattle.counted_handles.specs.Cuts.{owner_view, kept_share, given_share}
-use Rattle.counted_handles.specs.Tells.{Sat, IsTaken, Swapped, IsSettled, Loaded, Released, Tried, Freed}
+use Rattle.counted_handles.specs.Tells.{Sat, IsTaken, Swapped, IsSettled, Loaded, Released, Freed}
 use Rattle.counted_handles.specs.Plays.{LoadTells, ReleaseTells, BuryTells, FreeTells, PrepareTells, SwapTells, SettleTells, SettleAt, ProbeTells, ProbeAt}
 use Rattle.counted_handles.specs.Calls.{Drawn, IsReady, IsSwapping, IsSettling, IsProbing, IsSwappedIn}
 use Rattle.counted_handles.proofs.LoadStep.{loads}
 use Rattle.counted_handles.proofs.ReleaseStep.{releases}
-use Rattle.counted_handles.proofs.BuryStep.{buries}
+use Rattle.counted_handles.proofs.EndStep.{buries_ruled}
 use Rattle.counted_handles.proofs.FreeStep.{frees}
 use Rattle.counted_handles.proofs.PrepareStep.{prepares}
 use Rattle.counted_handles.proofs.SwapStep.{swaps}
@@ -87,7 +87,7 @@ module _ {T : Type 0} (begins : T → Type 0) (follows : T → T → Type 0) (sp
       subst (λ k. Allows (Ruled begins follows spots) k id me i (λ k. either (k == 0) dead_word k) (λ found new. BuryTells begins follows me.0 found new)) (sym count)
       (subst (λ j. Allows (Ruled begins follows spots) slots id me j (λ k. either (k == 0) dead_word k) (λ found new. BuryTells begins follows me.0 found new)) (sym index)
       (subst (λ (m : Sat T). Allows (Ruled begins follows spots) slots id m (suc (slot + slot)) (λ k. either (k == 0) dead_word k) (λ found new. BuryTells begins follows m.0 found new)) (sym is)
-      (allowed_later begins follows spots slots id (Buries slot name, []) (suc (slot + slot)) (λ k. either (k == 0) dead_word k) (λ found new. Tried begins follows slot name found new) tt (buries begins follows spots id slot name))))
+      (buries_ruled begins follows spots id slot name)))
 
   pub free_allowed : (n id i slot : ℕ) (spot : RoomSpot T) (room : Room T) (me : Sat T) → n ≡ slots → i ≡ suc (slot + slot) → me ≡ (Frees slot spot, (slot, room) ∷ []) → room.at ≡ spot.at → room.value ≡ None → room.stake ≡ []
       → Allows (Ruled begins follows spots) n id me i (λ _. free_word) (λ _ new. FreeTells me.0 new)
@@ -123,7 +123,7 @@ module _ {T : Type 0} (begins : T → Type 0) (follows : T → T → Type 0) (sp
       (subst (λ j. Allows (Ruled begins follows spots) n id me (suc (slot + slot)) (λ w. (w + (2 ^ 64 - j)) % 2 ^ 64) (λ _ new. SettleTells me.0 new)) (sym less)
       (at_seat n id 0 (suc (slot + slot)) me (Publishes p, []) (λ w. (w + (2 ^ 64 - (bulk - given - 1))) % 2 ^ 64) (λ m _ new. SettleTells m.0 new) count seat due.me_is tt
       (λ s h size at bound.
-      let made = settles begins follows spots p number slot given due.how due.share s h size at bound in
+      let made = settles begins follows spots p number slot given due.how due.share due.unfixed s h size at bound in
       (made.0, made.1, made.2, made.3, subst (λ q. SettleAt p q (made.0, carried_after [] made.1)) (sym due.how) made.4))))
 
   pub probe_allowed : (n id i slot : ℕ) (p : Publishing T) (me : Sat T) → n ≡ slots → id ≡ 0 → i ≡ suc (slot + slot) → IsProbing p slot me → Allows (Ruled begins follows spots) n id me i (λ w. w) (λ found new. ProbeTells me.0 found new)
@@ -170,7 +170,7 @@ module _ {T : Type 0} (begins : T → Type 0) (follows : T → T → Type 0) (sp
   swapped_to p value number found = record p { published = p.published ++ value ∷ []; how = Settling number (slot_of found) (given_of found); next = None; fixed = None }
 
   pub settling_next : (p : Publishing T) (value : T) (found : ℕ) (me : Sat T) → p.share ≡ None → (told : Swapped p value found me) → IsSettling (slot_of found) (given_of found) (swapped_to p value told.0 found) told.0 me
-  settling_next p value found me whole told = record { me_is = told.3; within = told.2; few = omega arith; how = refl; share = whole }
+  settling_next p value found me whole told = record { me_is = told.3; within = told.2; few = omega arith; how = refl; share = whole; unfixed = refl }
 
   pub swapped_in : (p : Publishing T) (value : T) (found : ℕ) (before settled kept share : Sat T) → p.share ≡ None → (told : Swapped p value found before) → IsSettled (swapped_to p value told.0 found) told.0 (slot_of found) settled → kept ≡ (kept_share settled.0, settled.1) → share ≡ (given_share settled.0, []) → IsSwappedIn p value (slot_of found) kept share
   swapped_in p value found before settled kept share whole told is is_kept is_share =

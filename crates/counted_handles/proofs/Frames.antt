@@ -6,7 +6,7 @@ use mathlib.Core.Option.{none, some, some-injective, some-ne-none}
 use lib.ListN.{get_elem?}
 use Rattle.atomic_table.proofs.Lists.{at_set, set_here, set_else}
 use Rattle.cell_core.specs.Cell.{Cell}
-use Rattle.cell_core.specs.Words.{State}
+use Rattle.cell_core.specs.Words.{State, slot_of}
 use Rattle.cell_core.specs.Shows.{Shows}
 use Rattle.cell_core.specs.declared.words.Version.{Version}
 use Rattle.cell_core.specs.declared.words.Publisher.{Publisher}
@@ -14,11 +14,12 @@ use Rattle.cell_core.specs.declared.words.Publisher.TheVariants.{Probing, Prepar
 use Rattle.cell_core.specs.declared.words.Owner.TheVariants.{Freeing}
 use Rattle.counted_handles.specs.declared.view.Mark.{Mark}
 use Rattle.counted_handles.specs.declared.view.Publishing.{Publishing}
+use Rattle.counted_handles.specs.declared.view.Reading.{Reading}
 use Rattle.counted_handles.specs.declared.view.View.{View}
-use Rattle.counted_handles.specs.declared.view.View.TheVariants.{Begin, Began, Publishes, Reads, Has, Buries, Frees, Gone}
+use Rattle.counted_handles.specs.declared.view.View.TheVariants.{Begin, Began, Publishes, Reads, Has, Buries, Frees, Ends, Gone}
 use Rattle.counted_handles.specs.History.{IsHistory}
 use Rattle.counted_handles.specs.Shown.{Room, Board, version_at, how_of, publisher_in, read_of, left_of, shown}
-use Rattle.counted_handles.specs.Ruled.{RoomSpot, HomeIs, MarkIs, ShareIs, NextIs, Comes, Begins, Knows, Counts, Holds}
+use Rattle.counted_handles.specs.Ruled.{RoomSpot, HomeIs, MarkIs, ShareIs, NextIs, Comes, Begins, Knows, Counts, AreGuests, AreFree, Holds}
 use Rattle.counted_handles.proofs.Lists.{sum_set, one_there, got_within}
 
 -- the share that a seat has
@@ -30,6 +31,7 @@ mark_in (Reads r) = r.share
 mark_in (Has mark) = Some mark
 mark_in (Buries slot name) = None
 mark_in (Frees slot spot) = None
+mark_in (Ends slot spot) = None
 mark_in Gone = None
 
 -- what a seat says of places is so after a step, too
@@ -51,6 +53,11 @@ comes_kept spots homes later p (Settling number slot given) keeps is = tt
 pub begins_longer : {T : Type 0} (seen published longer : List T) → Begins published longer → Begins seen published → Begins seen longer
 begins_longer seen published longer more is = (is.0 ++ more.0, sym (append_assoc seen is.0 more.0) ∙ ap (λ l. l ++ more.0) is.1 ∙ more.1)
 
+-- what readers had seen is a beginning of a longer list, too
+pub guests_longer : {T : Type 0} (name : ℕ) (published : List T) (value : T) (guests : List (Reading T)) → AreGuests name published guests → AreGuests name (published ++ value ∷ []) guests
+guests_longer name published value [] is = tt
+guests_longer name published value (r ∷ rs) is = ((is.0.0, is.0.1, begins_longer r.seen published (published ++ value ∷ []) (value ∷ [], refl) is.0.2), guests_longer name published value rs is.1)
+
 -- so what a seat knows is so after a step of another
 pub knows_kept : {T : Type 0} (spots : List (RoomSpot T)) (name : ℕ) (published longer : List T) (homes later : List (maybe.Option (Room T))) (view : View T) → ((p : Publishing T) → view ≡ Publishes p → published ≡ longer) → Begins published longer → Undisturbed homes later name view → Knows spots name published homes view → Knows spots name longer later view
 knows_kept spots name published longer homes later (Begin value) same begins still is = is
@@ -62,6 +69,7 @@ knows_kept spots name published longer homes later (Reads r) same begins still i
 knows_kept spots name published longer homes later (Has mark) same begins still is = still.mark mark refl is
 knows_kept spots name published longer homes later (Buries slot its) same begins still is = is
 knows_kept spots name published longer homes later (Frees slot spot) same begins still is = is
+knows_kept spots name published longer homes later (Ends slot spot) same begins still is = is
 knows_kept spots name published longer homes later Gone same begins still is = tt
 
 -- a place whose version nobody knows of is of no weight to what seats know
@@ -124,6 +132,7 @@ module _ {T : Type 0} (begins : T → Type 0) (follows : T → T → Type 0) (sp
     pub left : left_of new ≤ left_of old
     pub read : read_of new ≡ read_of old
     pub fixed : (p : Publishing T) → get_elem? s.views 0 ≡ some (Publishes p) → Counts s p → (word : ℕ) → p.fixed ≡ Some word → get_or words 0 0 ≡ word
+    pub free : (last swept : ℕ) → AreFree s.words s.homes last swept → AreFree words homes last swept
     pub homes_are : (slot : ℕ) (home : maybe.Option (Room T)) → get_elem? homes slot ≡ some home → HomeIs spots h.name (shown (record { words = words; homes = homes; views = set s.views id new })) slot home
     pub mine : Knows spots h.name h.cell.published homes new
     pub others : (j : ℕ) (view : View T) → j ≢ id → get_elem? s.views j ≡ some view → Undisturbed s.homes homes h.name view
@@ -148,7 +157,12 @@ module _ {T : Type 0} (begins : T → Type 0) (follows : T → T → Type 0) (sp
         first = (
           h.first.0,
           set_else s.views id 0 new (λ e. first (sym e)) ∙ h.first.1,
-          record { readers = omega (arith, counts.readers, counted, o.read); fixed = λ word e. ((counts.fixed word e).0, o.fixed h.first.0 h.first.1 counts word e) },
+          record {
+            readers = omega (arith, counts.readers, counted, o.read);
+            guests = counts.guests;
+            fixed = λ word e. ((counts.fixed word e).0, o.fixed h.first.0 h.first.1 counts word e);
+            free = λ word slot e how. o.free (slot_of word) h.first.0.swept (counts.free word slot e how);
+          },
         );
         only = λ j p e. ⊎_elim
             (λ (t : (j ≡ id) × (new ≡ Publishes p)). absurd (o.is_none p t.1))
@@ -165,7 +179,9 @@ module _ {T : Type 0} (begins : T → Type 0) (follows : T → T → Type 0) (sp
     pub shows : Shows (shown (record { words = words; homes = homes; views = set s.views 0 (Publishes new) })) cell
     pub left : new.left ≤ old.left
     pub readers : new.readers ≡ old.readers
+    pub guests : AreGuests new.name new.published new.guests
     pub fixed : (word : ℕ) → new.fixed ≡ Some word → (new.readers ≡ 0) × (get_or words 0 0 ≡ word)
+    pub free : (word slot : ℕ) → new.fixed ≡ Some word → new.how ≡ Probing slot → AreFree words homes (slot_of word) new.swept
     pub homes_are : (slot : ℕ) (home : maybe.Option (Room T)) → get_elem? homes slot ≡ some home → HomeIs spots h.name (shown (record { words = words; homes = homes; views = set s.views 0 (Publishes new) })) slot home
     pub mine : Knows spots h.name cell.published homes (Publishes new)
     pub others : (j : ℕ) (view : View T) → j ≢ 0 → get_elem? s.views j ≡ some view → Undisturbed s.homes homes h.name view
@@ -193,7 +209,7 @@ module _ {T : Type 0} (begins : T → Type 0) (follows : T → T → Type 0) (sp
         first = (
           new,
           set_here s.views 0 (Publishes new) (got_within s.views 0 (Publishes old) o.at),
-          record { readers = omega (arith, counts.readers, counted, o.readers); fixed = o.fixed },
+          record { readers = omega (arith, counts.readers, counted, o.readers); guests = o.guests; fixed = o.fixed; free = o.free },
         );
         only = λ j p e. ⊎_elim
             (λ (t : (j ≡ 0) × (Publishes new ≡ Publishes p)). t.0)

@@ -18,9 +18,10 @@ use Rattle.counted_handles.specs.Ruled.{RoomSpot, HomeIs, IsShared, Holds}
 use Rattle.counted_handles.specs.Tells.{Freed}
 use Rattle.counted_handles.proofs.Lists.{got_map}
 use Rattle.counted_handles.proofs.Slots.{first_kept}
+use Rattle.counted_handles.proofs.FreeSlots.{frees_kept}
 use Rattle.counted_handles.proofs.Frames.{no_share, home_stays, not_first, seat_step}
 use Rattle.counted_handles.proofs.Live.{slotted}
-use Rattle.counted_handles.proofs.WordSteps.{home_version, shown_place}
+use Rattle.counted_handles.proofs.WordSteps.{found_shares, home_version, shown_place}
 
 module _ {T : Type 0} (begins : T → Type 0) (follows : T → T → Type 0) (spots : List (RoomSpot T)) where
   pub frees : (id slot : ℕ) (spot : RoomSpot T) (room : Room T) → room.at ≡ spot.at → room.value ≡ None → room.stake ≡ [] → Allows (Holds begins follows spots) slots id (Frees slot spot, (slot, room) ∷ []) (suc (slot + slot)) (λ _. free_word) (λ found me. Freed me)
@@ -52,6 +53,7 @@ module _ {T : Type 0} (begins : T → Type 0) (follows : T → T → Type 0) (sp
           left = omega arith;
           read = refl;
           fixed = λ p here counts w e. first_kept s.words (slot + slot) free_word ∙ (counts.fixed w e).1;
+          free = λ last swept are. frees_kept s.words s.homes slot free_word (some room) last swept (λ is. omega (arith, is.shares, found_shares s slot there, was.0)) are;
           homes_are = λ place home e. ⊎_elim
               (λ (t : (place ≡ slot) × (some room ≡ home)).
               subst (λ x. HomeIs spots h.name after place x) t.1 (subst (λ k. HomeIs spots h.name after k (some room)) (sym t.0) ((spot, known, lies), subst (λ v. IsShared h.name slot v room.stake) (sym empty) whole)))

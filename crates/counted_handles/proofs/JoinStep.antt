@@ -1,5 +1,5 @@
 -- A reader's seat that the publisher's takes in keeps the rule.
-use Rattle.std.proofs.Common.{◌≡◌, ◌≢◌, refl, sym, ap, ◌∙◌, subst, ℕ, ◌-◌, ⊎_elim, List, map, set, arith, Option, Some, None}
+use Rattle.std.proofs.Common.{◌≡◌, ◌≢◌, refl, sym, ap, ◌∙◌, subst, ℕ, ◌+◌, ◌-◌, ⊎_elim, List, ◌∷◌, map, set, arith, Option, Some, None}
 use Rattle.std.specs.List.{slice_get}
 use mathlib.Core.Option.{some}
 use lib.ListN.{get_elem?}
@@ -15,17 +15,21 @@ use Rattle.counted_handles.specs.declared.view.Publishing.{Publishing}
 use Rattle.counted_handles.specs.declared.view.View.{View}
 use Rattle.counted_handles.specs.declared.view.View.TheVariants.{Publishes, Reads, Gone}
 use Rattle.counted_handles.specs.Shown.{Board, holder, owner_of, publisher_in, left_of, read_of, lefts, shown}
-use Rattle.counted_handles.specs.Ruled.{RoomSpot, HomeIs, Knows, Holds}
-use Rattle.counted_handles.specs.Cuts.{with_guest}
+use Rattle.counted_handles.specs.Ruled.{RoomSpot, HomeIs, Begins, Knows, AreGuests, Holds}
+use Rattle.counted_handles.specs.Cuts.{lodged}
 use Rattle.counted_handles.proofs.Lists.{got_map, got_within, map_set, sum_set, sum_has}
 use Rattle.counted_handles.proofs.Frames.{publisher_here, publisher_else, publisher_is, knows_publisher, state_is}
 
 module _ {T : Type 0} (begins : T → Type 0) (follows : T → T → Type 0) (spots : List (RoomSpot T)) where
-  joined : (s : Board T) (h : Holds begins follows spots s) (p : Publishing T) (other : ℕ) (r : Reading T) → r.share ≡ None → get_elem? s.views 0 ≡ some (Publishes p) → other ≢ 0 → get_elem? s.views other ≡ some (Reads r)
-      → Holds begins follows spots (record { words = s.words; homes = s.homes; views = set (set s.views 0 (Publishes (with_guest p r.left))) other Gone })
-  joined s h p other r whole at apart there =
+  -- the publisher with a reader taken in, and those that it is to give back
+  abbrev joint : Publishing T → Reading T → List (Reading T) → Publishing T
+  joint p r guests = record p { left = p.left + r.left; readers = p.readers - 1; guests = guests }
+
+  joined : (s : Board T) (h : Holds begins follows spots s) (p : Publishing T) (other : ℕ) (r : Reading T) (guests : List (Reading T)) → AreGuests p.name p.published guests → r.share ≡ None → get_elem? s.views 0 ≡ some (Publishes p) → other ≢ 0 → get_elem? s.views other ≡ some (Reads r)
+      → Holds begins follows spots (record { words = s.words; homes = s.homes; views = set (set s.views 0 (Publishes (joint p r guests))) other Gone })
+  joined s h p other r guests are whole at apart there =
       let st : State T = shown s in
-      let both : View T = Publishes (with_guest p r.left) in
+      let both : View T = Publishes (joint p r guests) in
       let middle : List (View T) = set s.views 0 both in
       let views : List (View T) = set middle other Gone in
       let in_middle : get_elem? middle other ≡ some (Reads r) = set_else s.views 0 other both apart ∙ there in
@@ -57,11 +61,13 @@ module _ {T : Type 0} (begins : T → Type 0) (follows : T → T → Type 0) (sp
             (at_set s.views 0 j both view t.1))
             (at_set middle other j Gone view e);
         first = (
-          with_guest p r.left,
+          joint p r guests,
           set_else middle other 0 Gone (λ e. apart (sym e)) ∙ set_here s.views 0 both (got_within s.views 0 (Publishes p) at),
           record {
             readers = omega (arith, three, four, counts.readers, some_reader.1);
+            guests = are;
             fixed = λ w e. absurd (omega (arith, (counts.fixed w e).0, counts.readers, some_reader.1));
+            free = λ w k e q. absurd (omega (arith, (counts.fixed w e).0, counts.readers, some_reader.1));
           },
         );
         only = λ j q e. ⊎_elim
@@ -73,11 +79,22 @@ module _ {T : Type 0} (begins : T → Type 0) (follows : T → T → Type 0) (sp
             (at_set middle other j Gone (Publishes q) e);
       }
 
-  pub joins : (id other : ℕ) (p : Publishing T) (r : Reading T) → r.share ≡ None → Joins (Holds begins follows spots) id (Publishes p) other (Reads r) (Publishes (with_guest p r.left)) Gone
-  joins id other p r whole s h at apart there =
+  -- the same, for a seat known to be the publisher's
+  taken_in : (id other : ℕ) (p : Publishing T) (r : Reading T) (guests : List (Reading T)) → ((s : Board T) → (h : Holds begins follows spots s) → get_elem? s.views 0 ≡ some (Publishes p) → get_elem? s.views other ≡ some (Reads r) → AreGuests p.name p.published guests) → r.share ≡ None
+      → Joins (Holds begins follows spots) id (Publishes p) other (Reads r) (Publishes (joint p r guests)) Gone
+  taken_in id other p r guests are whole s h at apart there =
       let first : id ≡ 0 = h.only id p at in
-      let both : View T = Publishes (with_guest p r.left) in
+      let both : View T = Publishes (joint p r guests) in
       let here : get_elem? s.views 0 ≡ some (Publishes p) = ap (get_elem? s.views) (sym first) ∙ at in
       let other_apart : other ≢ 0 = λ e. apart (e ∙ sym first) in
       let before : get_elem? s.views other ≡ some (Reads r) = sym (set_else s.views id other both apart) ∙ there in
-      subst (λ k. Holds begins follows spots (record { words = s.words; homes = s.homes; views = set (set s.views k both) other Gone })) (sym first) (joined s h p other r whole here other_apart before)
+      subst (λ k. Holds begins follows spots (record { words = s.words; homes = s.homes; views = set (set s.views k both) other Gone })) (sym first) (joined s h p other r guests (are s h here before) whole here other_apart before)
+
+  pub lodges : (id other : ℕ) (p : Publishing T) (r : Reading T) → r.share ≡ None → Joins (Holds begins follows spots) id (Publishes p) other (Reads r) (Publishes (lodged p r)) Gone
+  lodges id other p r whole =
+      taken_in id other p r (r ∷ p.guests)
+      (λ s h at there.
+      let known = h.knows 0 (Publishes p) at in
+      let its = h.knows other (Reads r) there in
+      ((its.0 ∙ sym known.0, whole, subst (Begins r.seen) (sym known.1) its.1), (knows_publisher begins follows spots s h p at).guests))
+      whole

@@ -1,6 +1,7 @@
 pub mod Lists
 pub mod Slots
 pub mod Owners
+pub mod FreeSlots
 pub mod Frames
 pub mod Live
 pub mod LoadStep
@@ -18,11 +19,15 @@ pub mod SplitStep
 pub mod JoinStep
 pub mod OpenStep
 pub mod Later
+pub mod LastLemmas
+pub mod EndStep
 pub mod Rights
 pub mod Opening
 pub mod CallLemmas
 pub mod GuestLemmas
-pub mod LastLemmas
+pub mod EndLemmas
 pub mod OpenLemmas
 pub mod PutLemmas
 pub mod MadeLemmas
+pub mod UnmadeLemmas
+pub mod Burials

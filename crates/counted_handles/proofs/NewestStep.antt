@@ -20,7 +20,7 @@ use Rattle.counted_handles.specs.History.{IsHistory}
 use Rattle.counted_handles.proofs.Lists.{map_set, sum_set, sum_has}
 use Rattle.counted_handles.proofs.Slots.{behind_first, first_set}
 use Rattle.counted_handles.proofs.Owners.{seated}
-use Rattle.counted_handles.proofs.Frames.{unmoved, home_stays, publisher_step, publisher_here, state_is}
+use Rattle.counted_handles.proofs.Frames.{unmoved, home_stays, publisher_step, knows_publisher, publisher_here, state_is}
 use Rattle.counted_handles.proofs.Live.{slotted, last_room, live_mark, live_mark_is}
 use Rattle.counted_handles.proofs.PublisherWords.{how_is, first_owner, shown_publisher}
 
@@ -62,7 +62,9 @@ module _ {T : Type 0} (begins : T → Type 0) (follows : T → T → Type 0) (sp
           shows = subst (λ x. Shows x (with_strong last h.cell)) (sym same) shows;
           left = omega arith;
           readers = refl;
+          guests = (knows_publisher begins follows spots s h p at).guests;
           fixed = λ w e. absurd (let wrong = e in cc);
+          free = λ w k e q. absurd (let wrong = e in cc);
           homes_are = λ place home e. home_stays spots h.name st after place home
               (λ q. ap (λ (x : State T). x.publisher) same ∙ q)
               (λ i q. ap (λ (x : State T). slice_get x.owners i) same ∙ seat_stays st.owners 0 Spent (Holding last slot) (Freeing place) spent (λ e. cc) i q)
@@ -81,6 +83,7 @@ module _ {T : Type 0} (begins : T → Type 0) (follows : T → T → Type 0) (sp
             within = lies.0;
             name_is = sym known.0;
           },
+          (knows_publisher begins follows spots s h p at).guests,
         ),
       )
 
@@ -89,7 +92,7 @@ module _ {T : Type 0} (begins : T → Type 0) (follows : T → T → Type 0) (sp
       let st : State T = shown s in
       let found : ℕ = get_or s.words 0 0 in
       let words : List ℕ = set s.words 0 found in
-      let new : Publishing T = record p { fixed = Some found } in
+      let new : Publishing T = record p { fixed = Some found; swept = 0 } in
       let known = h.knows 0 (Publishes p) at in
       let lies = last_lies st h.cell h.shows in
       let there = slotted s h (h.shows.plan.slot h.shows.plan.last) lies.0 in
@@ -108,7 +111,9 @@ module _ {T : Type 0} (begins : T → Type 0) (follows : T → T → Type 0) (sp
           shows = subst (λ x. Shows x h.cell) (sym same) h.shows;
           left = omega arith;
           readers = refl;
+          guests = (knows_publisher begins follows spots s h p at).guests;
           fixed = λ w e. (alone, first ∙ (let f : found ≡ w = cc in f));
+          free = λ w k e q slot l. absurd (omega (arith, l));
           homes_are = λ place home e. home_stays spots h.name st after place home
               (λ q. ap (λ (x : State T). x.publisher) same ∙ q)
               (λ i q. ap (λ (x : State T). slice_get x.owners i) same ∙ q)
@@ -116,5 +121,5 @@ module _ {T : Type 0} (begins : T → Type 0) (follows : T → T → Type 0) (sp
           mine = (known.0, known.1, known.2, known.3);
           others = λ j view other e. unmoved s.homes h.name view;
         }),
-        refl,
+        (subst (λ k. k < slots) (sym (latest_slot st h.cell h.shows)) lies.0, refl),
       )

@@ -70,7 +70,8 @@ module _ {T : Type 0} (begins : T → Type 0) (follows : T → T → Type 0) (sp
         record { spot = spot; room = o.room; me_is = refl; lies = o.lies.2; version = o.version ∙ ap (λ v. Some (first_version v)) values; whole = o.whole },
       )
   opens value s (inr (inl o)) size at bound = absurd (let wrong : Began o.spot ≡ Begin value = one_there s.views 0 (Began o.spot) (Begin value) (ap (λ l. get_elem? l 0) o.views) at in cc)
-  opens value s (inr (inr h)) size at bound = absurd (h.knows 0 (Begin value) at)
+  opens value s (inr (inr (inl h))) size at bound = absurd (h.knows 0 (Begin value) at)
+  opens value s (inr (inr (inr ended))) size at bound = absurd (ended.quiet 0 (Begin value) at)
 
   -- a cell with one value published
   offered : (value : T) (name life tally : ℕ) (spot : RoomSpot T) (room : Room T) (homes : List (maybe.Option (Room T))) → length homes ≡ slots → begins value → slice_get spots 0 ≡ Some spot → RestIsFree spots homes → room.at ≡ spot.at → room.value ≡ Some (first_version value)
@@ -108,7 +109,7 @@ module _ {T : Type 0} (begins : T → Type 0) (follows : T → T → Type 0) (sp
             subst (λ x. HomeIs spots name after place x) (sym free.1) (free.2, subst (λ v. IsShared name place v free.0.stake) (sym free.3) free.4))
             (at_set homes 0 place (some room) home e);
         knows = λ j view e. only_knows spots value name spot (set homes 0 (some room)) j view e;
-        first = (opener value name spot, refl, record { readers = refl; fixed = λ w e. absurd (let wrong = e in cc) });
+        first = (opener value name spot, refl, record { readers = refl; guests = tt; fixed = λ w e. absurd (let wrong = e in cc); free = λ w k e. absurd (let wrong = e in cc) });
         only = λ j p e. only_first spots value name spot j p e;
       }
 
@@ -125,7 +126,8 @@ module _ {T : Type 0} (begins : T → Type 0) (follows : T → T → Type 0) (sp
         Publishes (opener value name spot),
         gives,
         tt,
-        inr (inr (subst (λ (b : Board T). Holds begins follows spots b) (λ i. record { words = sym words i; homes = set s.homes 0 (some room); views = sym views i }) holds)),
+        inr (inr (inl (subst (λ (b : Board T). Holds begins follows spots b) (λ i. record { words = sym words i; homes = set s.homes 0 (some room); views = sym views i }) holds))),
         refl,
       )
-  offers value name life tally spot room begun_is lies full stake s (inr (inr h)) size at bound = absurd (h.knows 0 (Began spot) at)
+  offers value name life tally spot room begun_is lies full stake s (inr (inr (inl h))) size at bound = absurd (h.knows 0 (Began spot) at)
+  offers value name life tally spot room begun_is lies full stake s (inr (inr (inr ended))) size at bound = absurd (ended.quiet 0 (Began spot) at)

@@ -10,7 +10,7 @@ use Rattle.cell_core.proofs.ProbeKeeps.{prepare_keeps}
 use Rattle.cell_core.specs.Words.{State, slots, bulk}
 use Rattle.cell_core.specs.WordSteps.{with_publisher, with_slot, with_shares, with_version}
 use Rattle.cell_core.specs.Shows.{Shows, SlotIs, PublisherIs}
-use Rattle.cell_core.specs.declared.words.Publisher.TheVariants.{Preparing, Swapping}
+use Rattle.cell_core.specs.declared.words.Publisher.TheVariants.{Probing, Preparing, Swapping}
 use Rattle.counted_handles.specs.declared.view.Publishing.{Publishing}
 use Rattle.counted_handles.specs.declared.view.View.TheVariants.{Publishes}
 use Rattle.counted_handles.specs.Shown.{Room, version_at, shown}
@@ -60,7 +60,9 @@ module _ {T : Type 0} (begins : T → Type 0) (follows : T → T → Type 0) (sp
           shows = subst (λ x. Shows x h.cell) (sym same) shows;
           left = omega arith;
           readers = refl;
+          guests = counts.guests;
           fixed = λ w e. ((counts.fixed w e).0, first_kept s.words (slot + slot) bulk ∙ (counts.fixed w e).1);
+          free = λ w k e q. absurd (let wrong : Swapping slot ≡ Probing k = q in cc);
           homes_are = λ place home e. ⊎_elim
               (λ (t : (place ≡ slot) × (some room ≡ home)).
               subst (λ x. HomeIs spots h.name after place x) t.1 (subst (λ k. HomeIs spots h.name after k (some room)) (sym t.0) (

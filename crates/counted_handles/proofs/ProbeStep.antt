@@ -8,7 +8,7 @@ use lib.ListN.{get_elem?}
 use Rattle.atomic_table.specs.Table.{Allows, keeps, takes}
 use Rattle.atomic_table.proofs.Lists.{at_set}
 use Rattle.cell_core.proofs.ProbeKeeps.{take_keeps, pass_keeps}
-use Rattle.cell_core.specs.Words.{State, slots, free_word}
+use Rattle.cell_core.specs.Words.{State, slots, free_word, slot_of}
 use Rattle.cell_core.specs.WordSteps.{with_publisher, with_shares, with_version}
 use Rattle.cell_core.specs.Shows.{Shows, SlotIs, PublisherIs}
 use Rattle.cell_core.specs.declared.words.Publisher.TheVariants.{Probing, Preparing}
@@ -20,13 +20,14 @@ use Rattle.counted_handles.specs.Ruled.{RoomSpot, HomeIs, LiesAt, IsShared, Hold
 use Rattle.counted_handles.specs.Tells.{Probed, beyond}
 use Rattle.counted_handles.proofs.Lists.{when_equal, when_apart}
 use Rattle.counted_handles.proofs.Slots.{first_kept}
+use Rattle.counted_handles.proofs.FreeSlots.{frees_again}
 use Rattle.counted_handles.proofs.Frames.{no_share, share_kept, unmoved, home_stays, publisher_step, knows_publisher}
 use Rattle.counted_handles.proofs.Live.{slotted}
 use Rattle.counted_handles.proofs.WordSteps.{found_shares, home_version, place_set, shares_set, slots_kept}
 use Rattle.counted_handles.proofs.PublisherWords.{how_is, shown_publisher}
 
 -- a slot whose S is FREE has its place at home while the publisher probes: whole, and with nothing in it
-free_room : {T : Type 0} (spots : List (RoomSpot T)) (name : ℕ) (state : State T) (place k : ℕ) (home : maybe.Option (Room T)) → state.publisher ≡ Probing k → ((i : ℕ) → slice_get state.owners i ≡ Some (Freeing place) → ⊥) → version_at home ≡ None → HomeIs spots name state place home → (room : Room T) × (home ≡ some room) × LiesAt spots place room × (room.value ≡ None) × (room.stake ≡ [])
+pub free_room : {T : Type 0} (spots : List (RoomSpot T)) (name : ℕ) (state : State T) (place k : ℕ) (home : maybe.Option (Room T)) → state.publisher ≡ Probing k → ((i : ℕ) → slice_get state.owners i ≡ Some (Freeing place) → ⊥) → version_at home ≡ None → HomeIs spots name state place home → (room : Room T) × (home ≡ some room) × LiesAt spots place room × (room.value ≡ None) × (room.stake ≡ [])
 free_room spots name state place k none probing unfreed empty is = ⊎_elim (λ e. absurd (let wrong : Probing k ≡ Preparing place = sym probing ∙ e in cc)) (λ e. absurd (unfreed e.0 e.1)) is
 free_room spots name state place k (some room) probing unfreed empty is = (room, refl, is.0, empty, subst (λ v. IsShared name place v room.stake) empty is.1)
 
@@ -74,7 +75,9 @@ module _ {T : Type 0} (begins : T → Type 0) (follows : T → T → Type 0) (sp
                 shows = subst (λ x. Shows x h.cell) (sym same) taken;
                 left = omega arith;
                 readers = refl;
+                guests = counts.guests;
                 fixed = λ w e. ((counts.fixed w e).0, first_kept s.words (slot + slot) found ∙ (counts.fixed w e).1);
+                free = λ w k e q. absurd (let wrong : Preparing slot ≡ Probing k = q in cc);
                 homes_are = λ place home e. ⊎_elim
                     (λ (t : (place ≡ slot) × (none ≡ home)). subst (λ x. HomeIs spots h.name after place x) t.1 (inl (ap (λ (x : State T). x.publisher) same ∙ ap Preparing (sym t.0))))
                     (λ (t : (place ≢ slot) × (get_elem? s.homes place ≡ some home)). home_stays spots h.name st after place home
@@ -104,7 +107,9 @@ module _ {T : Type 0} (begins : T → Type 0) (follows : T → T → Type 0) (sp
                 shows = subst (λ x. Shows x h.cell) (sym same) (pass_keeps st h.cell slot (beyond slot) h.shows probing (beyond_within slot l));
                 left = omega arith;
                 readers = refl;
+                guests = counts.guests;
                 fixed = λ w e. ((counts.fixed w e).0, first_kept s.words (slot + slot) found ∙ (counts.fixed w e).1);
+                free = λ w k e q. frees_again s.words s.homes (suc (slot + slot)) (slot_of w) p.swept (counts.free w slot e how);
                 homes_are = λ place home e. home_stays spots h.name st after place home
                     (λ q. absurd (let wrong : Probing slot ≡ Preparing place = sym probing ∙ q in cc))
                     (λ i q. ap (λ (x : State T). slice_get x.owners i) same ∙ q)

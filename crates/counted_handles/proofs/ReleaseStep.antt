@@ -21,6 +21,7 @@ use Rattle.counted_handles.specs.Ruled.{RoomSpot, Knows, Holds}
 use Rattle.counted_handles.specs.Tells.{Released}
 use Rattle.counted_handles.proofs.Lists.{got_map, got_within}
 use Rattle.counted_handles.proofs.Slots.{first_kept}
+use Rattle.counted_handles.proofs.FreeSlots.{frees_stay, not_free}
 use Rattle.counted_handles.proofs.Frames.{unmoved, home_stays, not_first, seat_step}
 use Rattle.counted_handles.proofs.Live.{slotted}
 use Rattle.counted_handles.proofs.WordSteps.{found_shares, shown_shares}
@@ -56,6 +57,7 @@ module _ {T : Type 0} (begins : T → Type 0) (follows : T → T → Type 0) (sp
         left = omega (arith, no_left);
         read = no_read;
         fixed = λ p here counts w e. first_kept s.words (place + place) word ∙ (counts.fixed w e).1;
+        free = λ last swept are. frees_stay s.words s.homes place word last swept (λ is. not_free s.words s.homes h.name mark (h.knows id (Has mark) at) is) are;
         homes_are = λ slot home e. home_stays spots h.name st after slot home
             (λ p. ap (λ (x : State T). x.publisher) same ∙ p)
             (λ i q. ap (λ (x : State T). slice_get x.owners i) same ∙ seat_stays st.owners id (Holding mark.number place) (owner_of new) (Freeing slot) seat (λ e. cc) i q)
@@ -63,6 +65,17 @@ module _ {T : Type 0} (begins : T → Type 0) (follows : T → T → Type 0) (sp
         mine = knows;
         others = λ j view other e. unmoved s.homes h.name view;
       })
+
+  -- an owner's share is counted in S
+  is_counted : (s : Board T) (h : Holds begins follows spots s) (id : ℕ) (mark : Mark T) → get_elem? s.views id ≡ some (Has mark) → mark.slot < slots → 0 < get_or s.words (suc (mark.slot + mark.slot)) 0
+  is_counted s h id mark at l =
+      let st : State T = shown s in
+      let place : ℕ = mark.slot in
+      let there = slotted s h place l in
+      let seat : slice_get st.owners id ≡ Some (Holding mark.number place) = got_map owner_of s.views id (Has mark) at in
+      let can = can_release st h.cell h.shows id mark.number place there.there seat there.at in
+      let shares = found_shares s place there in
+      omega (arith, can.less, shares)
 
   pub releases : (id : ℕ) (mark : Mark T) → Allows (Holds begins follows spots) slots id (Has mark, []) (suc (mark.slot + mark.slot)) (λ n. (n + (2 ^ 64 - 1)) % 2 ^ 64) (λ found me. Released mark found me)
   releases id mark s h size at bound =
@@ -76,13 +89,13 @@ module _ {T : Type 0} (begins : T → Type 0) (follows : T → T → Type 0) (sp
           keeps,
           tt,
           gone_on s h id mark (Buries place mark.name) at l (λ p e. cc) refl refl (λ j. refl) (λ e. refl) l known.name_is,
-          rw one.0 refl,
+          (is_counted s h id mark at l, rw one.0 refl),
         )
         | inr other ↦ (
           Gone,
           keeps,
           tt,
           gone_on s h id mark Gone at l (λ p e. cc) refl refl (λ j. refl) (λ e. absurd (other.1 (omega (arith, e, bound)))) tt tt,
-          rw other.0 refl,
+          (is_counted s h id mark at l, rw other.0 refl),
         )
       ]

@@ -24,8 +24,8 @@ use Rattle.counted_handles.proofs.WordSteps.{found_shares, shares_set}
 use Rattle.counted_handles.proofs.PublisherWords.{how_is, first_owner}
 
 module _ {T : Type 0} (begins : T → Type 0) (follows : T → T → Type 0) (spots : List (RoomSpot T)) where
-  pub settles : (p : Publishing T) (number slot given : ℕ) → p.how ≡ Settling number slot given → p.share ≡ None → Allows (Holds begins follows spots) slots 0 (Publishes p, []) (suc (slot + slot)) (λ n. (n + (2 ^ 64 - (bulk - given - 1))) % 2 ^ 64) (λ found me. IsSettled p number slot me)
-  settles p number slot given how whole s h size at bound =
+  pub settles : (p : Publishing T) (number slot given : ℕ) → p.how ≡ Settling number slot given → p.share ≡ None → p.fixed ≡ None → Allows (Holds begins follows spots) slots 0 (Publishes p, []) (suc (slot + slot)) (λ n. (n + (2 ^ 64 - (bulk - given - 1))) % 2 ^ 64) (λ found me. IsSettled p number slot me)
+  settles p number slot given how whole unfixed s h size at bound =
       let st : State T = shown s in
       let plan = h.shows.plan in
       let found : ℕ = get_or s.words (suc (slot + slot)) 0 in
@@ -65,7 +65,9 @@ module _ {T : Type 0} (begins : T → Type 0) (follows : T → T → Type 0) (sp
           shows = subst (λ x. Shows x h.cell) (sym same) shows;
           left = omega arith;
           readers = refl;
-          fixed = λ w e. ((counts.fixed w e).0, first_kept s.words (slot + slot) word ∙ (counts.fixed w e).1);
+          guests = counts.guests;
+          fixed = λ w e. absurd (let wrong = sym unfixed ∙ e in cc);
+          free = λ w k e q. absurd (let wrong = sym unfixed ∙ e in cc);
           homes_are = λ place home e. home_stays spots h.name st after place home
               (λ q. absurd (let wrong : Settling number slot given ≡ Preparing place = sym settling ∙ q in cc))
               (λ i q. ap (λ (x : State T). slice_get x.owners i) same ∙ seat_stays st.owners 0 Spent (Holding number slot) (Freeing place) spent (λ e. cc) i q)

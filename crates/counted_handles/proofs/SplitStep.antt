@@ -1,5 +1,5 @@
 -- A seat that is cut in two keeps the rule.
-use Rattle.std.proofs.Common.{◌≡◌, ◌≢◌, refl, sym, ap, ◌∙◌, subst, ℕ, zero, suc, ◌+◌, ◌-◌, ◌≤◌, ⊎_elim, List, [], ◌∷◌, ◌++◌, map, set, arith, Option, Some, None, append-nil}
+use Rattle.std.proofs.Common.{◌≡◌, ◌≢◌, refl, sym, ap, ◌∙◌, subst, ℕ, zero, suc, ◌+◌, ◌-◌, ◌≤◌, ⊎_elim, List, [], ◌∷◌, ◌++◌, map, set, drop, arith, Option, Some, None, append-nil}
 use Rattle.std.specs.List.{slice_get, slice_set}
 use Rattle.std.proofs.lemmas.List.Sums.{sum_by_push}
 use mathlib.Core.Option.{some, some-injective, some-ne-none}
@@ -17,8 +17,8 @@ use Rattle.counted_handles.specs.declared.view.Publishing.{Publishing}
 use Rattle.counted_handles.specs.declared.view.View.{View}
 use Rattle.counted_handles.specs.declared.view.View.TheVariants.{Publishes, Reads, Has}
 use Rattle.counted_handles.specs.Shown.{Board, holder, owner_of, how_of, publisher_in, left_of, read_of, lefts, reads, shown}
-use Rattle.counted_handles.specs.Ruled.{RoomSpot, ShareIs, Knows, Counts, Holds}
-use Rattle.counted_handles.specs.Cuts.{reader_of, with_reader}
+use Rattle.counted_handles.specs.Ruled.{RoomSpot, Begins, ShareIs, Knows, AreGuests, Counts, Holds}
+use Rattle.counted_handles.specs.Cuts.{reader_of, with_reader, met_guest, without_guest}
 use Rattle.counted_handles.proofs.Lists.{got_map, got_within, map_set, map_push, sum_set}
 use Rattle.counted_handles.proofs.Owners.{passed}
 use Rattle.counted_handles.proofs.Frames.{home_stays, not_first, knows_publisher, state_is}
@@ -111,7 +111,7 @@ module _ {T : Type 0} (begins : T → Type 0) (follows : T → T → Type 0) (sp
         first = (
           h.first.0,
           at_longer (set s.views id (Reads (record r { share = None }))) (Has mark ∷ []) 0 (Publishes h.first.0) (set_else s.views id 0 (Reads (record r { share = None })) (λ e. first (sym e)) ∙ h.first.1),
-          record { readers = omega (arith, readers, counts.readers); fixed = counts.fixed },
+          record { readers = omega (arith, readers, counts.readers); guests = counts.guests; fixed = counts.fixed; free = counts.free },
         );
         only_left = λ p e. absurd (let wrong = e in cc);
         only_right = λ p e. cc;
@@ -140,37 +140,58 @@ module _ {T : Type 0} (begins : T → Type 0) (follows : T → T → Type 0) (sp
         first = (
           record p { share = None },
           at_longer (set s.views id left) (Has mark ∷ []) 0 left (ap (get_elem? (set s.views id left)) (sym first) ∙ set_here s.views id left (got_within s.views id (Publishes p) at)),
-          record { readers = omega (arith, readers, counts.readers); fixed = counts.fixed },
+          record { readers = omega (arith, readers, counts.readers); guests = counts.guests; fixed = counts.fixed; free = counts.free },
         );
         only_left = λ q e. first;
         only_right = λ q e. cc;
       })
 
-  -- a reader with some of the publisher's grants goes off it
-  pub splits_reading : (id n : ℕ) (p : Publishing T) → p.share ≡ None → n ≤ p.left → Splits (Holds begins follows spots) id (Publishes p) (Publishes (with_reader p n)) (reader_of p n)
-  splits_reading id n p whole few s h at =
+  -- a reader with some of the publisher's grants goes off it, which then has these to give back
+  splits_off : (id : ℕ) (p : Publishing T) (r : Reading T) (guests : List (Reading T)) → p.share ≡ None → r.share ≡ None → r.left ≤ p.left → (AreGuests p.name p.published p.guests → (r.name ≡ p.name) × Begins r.seen p.published × AreGuests p.name p.published guests)
+      → Splits (Holds begins follows spots) id (Publishes p) (Publishes (without_guest p r guests)) (Reads r)
+  splits_off id p r guests whole its_whole few are s h at =
       let known = h.knows id (Publishes p) at in
       let first : id ≡ 0 = h.only id p at in
       let here : get_elem? s.views 0 ≡ some (Publishes p) = ap (get_elem? s.views) (sym first) ∙ at in
       let counts = knows_publisher begins follows spots s h p here in
-      let left : View T = Publishes (with_reader p n) in
-      let readers = readers_cut s id (Publishes p) left (reader_of p n) at in
+      let its = are counts.guests in
+      let left : View T = Publishes (without_guest p r guests) in
+      let readers = readers_cut s id (Publishes p) left (Reads r) at in
       let owner : owner_of (Publishes p) ≡ Spent = ap (λ (x : Option (Mark T)). holder x) whole in
-      cut s h id (Publishes p) left (reader_of p n) (record {
+      cut s h id (Publishes p) left (Reads r) (record {
         at = at;
         how = refl;
         grants_are = omega (arith, few);
         left_owner = owner;
-        right_owner = sym owner;
+        right_owner = ap (λ (x : Option (Mark T)). holder x) its_whole ∙ sym owner;
         not_burying = λ slot e. let wrong : Spent ≡ Burying slot = sym owner ∙ e in cc;
         not_freeing = λ slot e. let wrong : Spent ≡ Freeing slot = sym owner ∙ e in cc;
         left_knows = (known.0, known.1, known.2, known.3);
-        right_knows = (known.0, ([], append-nil p.published ∙ known.1), tt);
+        right_knows = (its.0 ∙ known.0, subst (Begins r.seen) known.1 its.1, subst (ShareIs s.homes h.name) (sym its_whole) tt);
         first = (
-          with_reader p n,
-          at_longer (set s.views id left) (reader_of p n ∷ []) 0 left (ap (get_elem? (set s.views id left)) (sym first) ∙ set_here s.views id left (got_within s.views id (Publishes p) at)),
-          record { readers = omega (arith, readers, counts.readers); fixed = λ w e. absurd (let wrong = e in cc) },
+          without_guest p r guests,
+          at_longer (set s.views id left) (Reads r ∷ []) 0 left (ap (get_elem? (set s.views id left)) (sym first) ∙ set_here s.views id left (got_within s.views id (Publishes p) at)),
+          record { readers = omega (arith, readers, counts.readers); guests = its.2; fixed = λ w e. absurd (let wrong = e in cc); free = λ w k e. absurd (let wrong = e in cc) },
         );
         only_left = λ q e. first;
         only_right = λ q e. cc;
       })
+
+  -- a new reader
+  pub splits_reading : (id n : ℕ) (p : Publishing T) → p.share ≡ None → n ≤ p.left → Splits (Holds begins follows spots) id (Publishes p) (Publishes (with_reader p n)) (reader_of p n)
+  splits_reading id n p whole few =
+      splits_off id p (record { seen = p.published; share = None; left = n; name = p.name }) p.guests whole refl few (λ are. (refl, ([], append-nil p.published), are))
+
+  -- the reader taken in last
+  pub splits_guest : (id : ℕ) (p : Publishing T) (r : Reading T) (rest : List (Reading T)) → p.share ≡ None → p.guests ≡ r ∷ rest → r.share ≡ None → r.left ≤ p.left → Splits (Holds begins follows spots) id (Publishes p) (Publishes (without_guest p r rest)) (Reads r)
+  splits_guest id p r rest whole is its_whole few =
+      splits_off id p r rest whole its_whole few (λ are. let its = subst (AreGuests p.name p.published) is are in (its.0.0, its.0.2, its.1))
+
+  guests_drop : (name : ℕ) (published : List T) (guests : List (Reading T)) → AreGuests name published guests → AreGuests name published (drop 1 guests)
+  guests_drop name published [] are = tt
+  guests_drop name published (r ∷ rest) are = are.1
+
+  -- the reader taken in last, with all grants and all that is published
+  pub splits_met : (id : ℕ) (p : Publishing T) → p.share ≡ None → Splits (Holds begins follows spots) id (Publishes p) (Publishes (met_guest p)) (reader_of p p.left)
+  splits_met id p whole =
+      splits_off id p (record { seen = p.published; share = None; left = p.left; name = p.name }) (drop 1 p.guests) whole refl (omega arith) (λ are. (refl, ([], append-nil p.published), guests_drop p.name p.published p.guests are))

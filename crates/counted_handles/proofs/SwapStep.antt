@@ -19,7 +19,7 @@ use Rattle.counted_handles.specs.Ruled.{RoomSpot, Comes, NextIs, Holds}
 use Rattle.counted_handles.specs.Tells.{Swapped}
 use Rattle.counted_handles.proofs.Lists.{one_there}
 use Rattle.counted_handles.proofs.Slots.{behind_first, first_set}
-use Rattle.counted_handles.proofs.Frames.{unmoved, home_stays, publisher_step}
+use Rattle.counted_handles.proofs.Frames.{unmoved, home_stays, publisher_step, knows_publisher, guests_longer}
 use Rattle.counted_handles.proofs.Live.{slotted}
 use Rattle.counted_handles.proofs.WordSteps.{home_version}
 use Rattle.counted_handles.proofs.PublisherWords.{how_is, shown_publisher}
@@ -65,7 +65,9 @@ module _ {T : Type 0} (begins : T → Type 0) (follows : T → T → Type 0) (sp
           shows = subst (λ x. Shows x (with_value value (with_strong last h.cell))) (sym same) shows;
           left = omega arith;
           readers = refl;
+          guests = guests_longer p.name p.published value p.guests (knows_publisher begins follows spots s h p at).guests;
           fixed = λ w e. absurd (let wrong = e in cc);
+          free = λ w k e q. absurd (let wrong = e in cc);
           homes_are = λ place home e. home_stays spots h.name st after place home
               (λ q. absurd (let wrong : Swapping slot ≡ Preparing place = sym swapping ∙ q in cc))
               (λ i q. ap (λ (x : State T). slice_get x.owners i) same ∙ q)

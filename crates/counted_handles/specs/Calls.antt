@@ -1,17 +1,15 @@
 -- What the calls ask and give (own).
-use Rattle.std.specs.Prelude.{◌≡◌, ℕ, ◌+◌, ◌-◌, ◌^◌, ◌<◌, List, [], ◌∷◌, ◌++◌, length, Option, None, Some, vec_len}
+use Rattle.std.specs.Prelude.{◌≡◌, ℕ, ◌+◌, ◌-◌, ◌^◌, ◌<◌, ◌≤◌, List, [], ◌∷◌, ◌++◌, length, Option, None, Some, vec_len}
 use Rattle.std.specs.List.{slice_get}
 use Rattle.atomic_table.specs.Seated.{TableId}
-use Rattle.cell_core.specs.Words.{slots}
+use Rattle.cell_core.specs.Words.{slots, slot_of}
 use Rattle.cell_core.specs.declared.words.Publisher.TheVariants.{Probing, Preparing, Swapping, Settling}
-use Rattle.counted_handles.specs.declared.owner.Released.{Released}
-use Rattle.counted_handles.specs.declared.owner.Released.TheVariants.{Left, Buried}
 use Rattle.counted_handles.specs.declared.rule.Spots.{Spots}
 use Rattle.counted_handles.specs.declared.view.Mark.{Mark}
 use Rattle.counted_handles.specs.declared.view.Publishing.{Publishing}
 use Rattle.counted_handles.specs.declared.view.Reading.{Reading}
 use Rattle.counted_handles.specs.declared.view.View.{View}
-use Rattle.counted_handles.specs.declared.view.View.TheVariants.{Began, Publishes, Reads, Has, Frees}
+use Rattle.counted_handles.specs.declared.view.View.TheVariants.{Began, Publishes, Reads, Has, Frees, Ends}
 use Rattle.raw_slots.specs.Places.{Stake}
 use Rattle.cell_core.specs.declared.words.Version.{Version}
 use Rattle.counted_handles.specs.History.{IsHistory}
@@ -74,6 +72,7 @@ pub record IsSettling {T : Type 0} (slot given : ℕ) (p : Publishing T) (number
   pub few : given < 2 ^ 48
   pub how : p.how ≡ Settling number slot given
   pub share : p.share ≡ None
+  pub unfixed : p.fixed ≡ None
 
 -- a publication's end: the value is published, and the seat of the old version's share has it (own)
 pub record IsSwappedIn {T : Type 0} (p : Publishing T) (value : T) (slot : ℕ) (me share : Sat T) : Type 0 where
@@ -99,13 +98,14 @@ abbrev pub gave_back : {T : Type 0} → Publishing T → Publishing T
 gave_back p = record p { left = 0; readers = p.readers - 1 + 1; fixed = None }
 
 -- what a load by the publisher leaves: its own seat, the one of the share, and a reader's with the rest of the grants, which has
--- seen all that is published (own)
+-- seen all that is published, of which the reader had seen a beginning (own)
 pub record IsNewest {T : Type 0} (begins : T → Type 0) (follows : T → T → Type 0) (p : Publishing T) (r : Reading T) (found : ℕ) (me share reader : Sat T) : Type 0 where
   pub mark : Mark T
   pub last : IsLastMark begins follows p.published p.name found mark
   pub me_is : me ≡ (Publishes (gave_back p), [])
   pub share_is : share ≡ (Has mark, [])
   pub reader_is : reader ≡ (reader_of p (r.left - 1), [])
+  pub begun : Begins r.seen p.published
 
 -- the first seat has slot 0's place, with the first version in it, shared: it is to be given back (own)
 pub record IsOffering {T : Type 0} (begins : T → Type 0) (value : T) (name : ℕ) (spot : RoomSpot T) (me : Sat T) : Type 0 where
@@ -144,11 +144,6 @@ pub record IsLoaded {T : Type 0} (begins : T → Type 0) (follows : T → T → 
   pub slot_is : mark.slot ≡ slot
   pub within : slot < slots
   pub name_is : mark.name ≡ reading.name
-
--- what a release tells: what it buried was published, and isn't the last (own)
-abbrev pub IsReleased : {T : Type 0} → (T → Type 0) → (T → T → Type 0) → Released → Type 0
-IsReleased begins follows Left = Unit {0}
-IsReleased {T} begins follows (Buried number) = (version : Version T) × (version.number ≡ number) × IsOlder begins follows version
 
 -- the seat has the slot's place, whole and empty, to give it back (own)
 pub record IsEmptied {T : Type 0} (slot : ℕ) (me : Sat T) : Type 0 where
@@ -198,8 +193,66 @@ IsNewer {T} p value views = (spot : RoomSpot T) × (views ≡ Publishes (record 
 abbrev pub IsAtRest : {T : Type 0} → Publishing T → List (View T) → Type 0
 IsAtRest p views = (views ≡ Publishes p ∷ []) × (p.share ≡ None) × (p.left ≡ 0)
 
--- what a load by the publisher gives its caller: an owner of its last version, and the reader has seen all that is published (own)
+-- what a load by the publisher gives its caller: an owner of its last version, and the reader has seen all that is published, of which it
+-- had seen a beginning (own)
 pub record IsOwnLast {T : Type 0} (p : Publishing T) (r : Reading T) (views reader : List (View T)) (version : Version T) : Type 0 where
   pub last : IsOld p version
   pub views_are : views ≡ Publishes (gave_back p) ∷ []
   pub reader_is : reader ≡ reader_of p (r.left - 1) ∷ []
+  pub begun : Begins r.seen p.published
+
+-- the publisher with a reader that it took in last, and others before it (own)
+pub record IsHost {T : Type 0} (p : Publishing T) (r : Reading T) (rest : List (Reading T)) (views : List (View T)) : Type 0 where
+  pub views_are : views ≡ Publishes p ∷ []
+  pub whole : p.share ≡ None
+  pub guests : p.guests ≡ r ∷ rest
+  pub guest_whole : r.share ≡ None
+  pub enough : r.left ≤ p.left
+
+-- the publisher has seen so many slots free, from the first one on, beside the one in W, which is this (own)
+pub record IsSweeping {T : Type 0} (p : Publishing T) (word last slot : ℕ) (me : Sat T) : Type 0 where
+  pub me_is : me ≡ (Publishes p, [])
+  pub how : p.how ≡ Probing 0
+  pub fixed : p.fixed ≡ Some word
+  pub last_is : slot_of word ≡ last
+  pub swept : p.swept ≡ slot
+
+-- the publisher that no reader is beside, between two publications (own)
+pub record IsAlone {T : Type 0} (p : Publishing T) (me : Sat T) : Type 0 where
+  pub me_is : me ≡ (Publishes p, [])
+  pub how : p.how ≡ Probing 0
+  pub readers : p.readers ≡ 0
+
+-- the same of its token (own)
+abbrev pub CanEnd : {T : Type 0} → Publishing T → List (View T) → Type 0
+CanEnd p views = (views ≡ Publishes p ∷ []) × (p.how ≡ Probing 0) × (p.readers ≡ 0)
+
+-- the publisher as it was, but for what it has seen of the words (own)
+abbrev pub HasLooked : {T : Type 0} → Publishing T → Sat T → Type 0
+HasLooked p me = (fixed : Option ℕ) × (swept : ℕ) × (me ≡ (Publishes (record p { fixed = fixed; swept = swept }), []))
+
+abbrev pub IsLike : {T : Type 0} → Publishing T → List (View T) → Type 0
+IsLike p views = (fixed : Option ℕ) × (swept : ℕ) × (views ≡ Publishes (record p { fixed = fixed; swept = swept }) ∷ [])
+
+-- the value is the last of those published (own)
+abbrev pub IsLastValue : {T : Type 0} → List T → T → Type 0
+IsLastValue published value = (number : ℕ) × (length published ≡ number + 1) × (slice_get published number ≡ Some value)
+
+-- the first seat has the last version's place, whole, with the version in it (own)
+pub record IsParted {T : Type 0} (p : Publishing T) (slot : ℕ) (me : Sat T) : Type 0 where
+  pub spot : RoomSpot T
+  pub room : Room T
+  pub version : Version T
+  pub me_is : me ≡ (Ends slot spot, (slot, room) ∷ [])
+  pub lies : room.at ≡ spot.at
+  pub holds_it : room.value ≡ Some version
+  pub whole : room.stake ≡ []
+  pub last : IsLastValue p.published version.value
+
+-- it has that place, whole, to give it back (own)
+pub record IsVacant {T : Type 0} (slot : ℕ) (me : Sat T) : Type 0 where
+  pub spot : RoomSpot T
+  pub room : Room T
+  pub me_is : me ≡ (Ends slot spot, (slot, room) ∷ [])
+  pub lies : room.at ≡ spot.at
+  pub whole : room.stake ≡ []

@@ -1,10 +1,10 @@
 -- How views are cut in two, and made one (own).
-use Rattle.std.specs.Prelude.{ℕ, ◌+◌, ◌-◌, ◌^◌, Option, None, Some}
+use Rattle.std.specs.Prelude.{ℕ, ◌+◌, ◌-◌, ◌^◌, List, [], ◌∷◌, drop, Option, None, Some}
 use Rattle.counted_handles.specs.declared.view.Mark.{Mark}
 use Rattle.counted_handles.specs.declared.view.Publishing.{Publishing}
+use Rattle.counted_handles.specs.declared.view.Reading.{Reading}
 use Rattle.counted_handles.specs.declared.view.View.{View}
 use Rattle.counted_handles.specs.declared.view.View.TheVariants.{Publishes, Reads, Has, Gone}
-use Rattle.counted_handles.specs.Shown.{left_of}
 
 -- the owner of a share; none is spent (own)
 abbrev pub owner_view : {T : Type 0} → Option (Mark T) → View T
@@ -30,9 +30,33 @@ reader_of p n = Reads (record { seen = p.published; share = None; left = n; name
 abbrev pub with_reader : {T : Type 0} → Publishing T → ℕ → Publishing T
 with_reader p n = record p { left = p.left - n; readers = p.readers + 1; fixed = None }
 
--- a reader's seat is taken in by the publisher's, with its grants (own)
-abbrev pub with_guest : {T : Type 0} → Publishing T → ℕ → Publishing T
-with_guest p n = record p { left = p.left + n; readers = p.readers - 1 }
+-- a reader's seat is taken in by the publisher's, with its grants: it is to be given back (own)
+abbrev pub lodged : {T : Type 0} → Publishing T → Reading T → Publishing T
+lodged p r = record p { left = p.left + r.left; readers = p.readers - 1; guests = r ∷ p.guests }
+
+abbrev pub lodging : {T : Type 0} → View T → View T → View T
+lodging (Publishes p) (Reads r) = Publishes (lodged p r)
+lodging view guest = view
+
+-- the reader taken in last is given back: what the publisher keeps, and what the reader has (own)
+abbrev pub without_guest : {T : Type 0} → Publishing T → Reading T → List (Reading T) → Publishing T
+without_guest p r rest = record p { left = p.left - r.left; readers = p.readers + 1; fixed = None; guests = rest }
+
+abbrev pub kept_by_host : {T : Type 0} → Publishing T → List (Reading T) → View T
+kept_by_host p [] = Publishes p
+kept_by_host p (r ∷ rest) = Publishes (without_guest p r rest)
+
+abbrev pub kept_home : {T : Type 0} → View T → View T
+kept_home (Publishes p) = kept_by_host p p.guests
+kept_home view = view
+
+abbrev pub last_guest : {T : Type 0} → List (Reading T) → View T
+last_guest [] = Gone
+last_guest (r ∷ rest) = Reads r
+
+abbrev pub sent_home : {T : Type 0} → View T → View T
+sent_home (Publishes p) = last_guest p.guests
+sent_home view = Gone
 
 -- all grants go to a reader: what the publisher keeps, and what the reader has (own)
 abbrev pub kept_back : {T : Type 0} → View T → View T
@@ -42,6 +66,14 @@ kept_back view = view
 abbrev pub handed_back : {T : Type 0} → View T → View T
 handed_back (Publishes p) = reader_of p p.left
 handed_back view = Gone
+
+-- the reader taken in last is given back with all grants, and has then seen all that is published: what the publisher keeps (own)
+abbrev pub met_guest : {T : Type 0} → Publishing T → Publishing T
+met_guest p = record p { left = p.left - p.left; readers = p.readers + 1; fixed = None; guests = drop 1 p.guests }
+
+abbrev pub kept_met : {T : Type 0} → View T → View T
+kept_met (Publishes p) = Publishes (met_guest p)
+kept_met view = view
 
 -- the grants of one of the readers of a new cell (own)
 abbrev pub dealt_grants : ℕ
@@ -54,8 +86,3 @@ kept_dealt view = view
 abbrev pub dealt : {T : Type 0} → View T → View T
 dealt (Publishes p) = reader_of p dealt_grants
 dealt view = Gone
-
--- the publisher with a guest (own)
-abbrev pub guested : {T : Type 0} → View T → View T → View T
-guested (Publishes p) guest = Publishes (with_guest p (left_of guest))
-guested view guest = view

@@ -6,3 +6,4 @@ pub mod Cuts
 pub mod Opens
 pub mod Plays
 pub mod Calls
+pub mod Releases

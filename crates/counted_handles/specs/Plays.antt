@@ -1,12 +1,12 @@
 -- What each step tells, by the view of the seat that makes it; nothing is told of a step that the seat doesn't make (own).
-use Rattle.std.specs.Prelude.{◌≡◌, ℕ, [], ◌∷◌, length, Some}
+use Rattle.std.specs.Prelude.{◌≡◌, ℕ, [], ◌∷◌, length, Option, Some, None}
 use Rattle.cell_core.specs.declared.words.Publisher.{Publisher}
 use Rattle.cell_core.specs.declared.words.Publisher.TheVariants.{Probing, Preparing, Swapping, Settling}
 use Rattle.counted_handles.specs.declared.view.Publishing.{Publishing}
 use Rattle.counted_handles.specs.declared.view.View.{View}
-use Rattle.counted_handles.specs.declared.view.View.TheVariants.{Begin, Began, Publishes, Reads, Has, Buries, Frees}
+use Rattle.counted_handles.specs.declared.view.View.TheVariants.{Begin, Began, Publishes, Reads, Has, Buries, Frees, Ends}
 use Rattle.counted_handles.specs.Ruled.{stake_of, mark_of, first_version}
-use Rattle.counted_handles.specs.Tells.{Sat, Loaded, Newest, Released, Tried, Freed, Probed, Prepared, Swapped, IsSettled, Looked, IsOpened, Offered}
+use Rattle.counted_handles.specs.Tells.{Sat, Loaded, Newest, Released, Tried, Freed, Probed, Prepared, Swapped, IsSettled, Looked, Swept, Skipped, EndsAt, Shut, IsOpened, Offered}
 
 -- load (own)
 abbrev pub LoadTells : {T : Type 0} → (T → Type 0) → (T → T → Type 0) → View T → ℕ → Sat T → Type 0
@@ -69,6 +69,29 @@ SettleTells view me = ⊥
 abbrev pub LookTells : {T : Type 0} → View T → ℕ → Sat T → Type 0
 LookTells (Publishes p) found me = Looked p found me
 LookTells view found me = ⊥
+
+-- looks at S while no reader is about (own)
+abbrev pub SweepTells : {T : Type 0} → View T → ℕ → Sat T → Type 0
+SweepTells (Publishes p) found me = Swept p found me
+SweepTells view found me = ⊥
+
+abbrev pub SkipTells : {T : Type 0} → View T → Sat T → Type 0
+SkipTells (Publishes p) me = Skipped p me
+SkipTells view me = ⊥
+
+-- the look at S by which a cell ends, of the slot in W as the publisher saw it (own)
+abbrev pub EndOf : {T : Type 0} → Publishing T → Option ℕ → ℕ → Sat T → Type 0
+EndOf p (Some word) found me = EndsAt p word found me
+EndOf p None found me = ⊥
+
+abbrev pub EndTells : {T : Type 0} → View T → ℕ → Sat T → Type 0
+EndTells (Publishes p) found me = EndOf p p.fixed found me
+EndTells view found me = ⊥
+
+-- the last version's place is given back, whole (own)
+abbrev pub ShutTells : {T : Type 0} → View T → Sat T → Type 0
+ShutTells (Ends slot spot) me = Shut me
+ShutTells view me = ⊥
 
 -- the first look at W (own)
 abbrev pub OpenTells : {T : Type 0} → View T → Sat T → Type 0

@@ -1,5 +1,5 @@
 -- The rule of the table: what its words show is a cell, and each seat has the rights that its view says (own).
-use Rattle.std.specs.Prelude.{◌≡◌, ◌⊎◌, ℕ, zero, suc, ◌<◌, ◌≤◌, List, [], ◌∷◌, ◌++◌, length, slice_index, Option, None, Some}
+use Rattle.std.specs.Prelude.{◌≡◌, ◌≢◌, ◌⊎◌, ℕ, zero, suc, ◌+◌, ◌<◌, ◌≤◌, List, [], ◌∷◌, ◌++◌, length, slice_index, Option, None, Some}
 use Rattle.std.specs.List.{slice_get}
 use mathlib.Core.Option as maybe
 use mathlib.Core.Option.{none, some}
@@ -8,15 +8,16 @@ use Rattle.raw_slots.specs.Places.{Stake}
 use Rattle.raw_slots.specs.declared.place.Spot.{Spot}
 use Rattle.cell_core.specs.Cell.{Cell}
 use Rattle.cell_core.specs.Shows.{Shows}
-use Rattle.cell_core.specs.Words.{State, slots, grants, free_word, bulk, word_of}
+use Rattle.cell_core.specs.Words.{State, slots, grants, free_word, bulk, word_of, slot_of}
 use Rattle.cell_core.specs.declared.words.Version.{Version}
 use Rattle.cell_core.specs.declared.words.Publisher.{Publisher}
 use Rattle.cell_core.specs.declared.words.Publisher.TheVariants.{Probing, Preparing, Swapping, Settling}
 use Rattle.cell_core.specs.declared.words.Owner.TheVariants.{Freeing}
 use Rattle.counted_handles.specs.declared.view.Mark.{Mark}
 use Rattle.counted_handles.specs.declared.view.Publishing.{Publishing}
+use Rattle.counted_handles.specs.declared.view.Reading.{Reading}
 use Rattle.counted_handles.specs.declared.view.View.{View}
-use Rattle.counted_handles.specs.declared.view.View.TheVariants.{Begin, Began, Publishes, Reads, Has, Buries, Frees, Gone}
+use Rattle.counted_handles.specs.declared.view.View.TheVariants.{Begin, Began, Publishes, Reads, Has, Buries, Frees, Ends, Gone}
 use Rattle.counted_handles.specs.History.{IsHistory}
 use Rattle.counted_handles.specs.Shown.{Room, Board, reads, lefts, shown}
 
@@ -92,12 +93,32 @@ Knows spots name published homes (Reads r) = (r.name ≡ name) × Begins r.seen 
 Knows spots name published homes (Has mark) = MarkIs homes name mark
 Knows spots name published homes (Buries slot its) = its ≡ name
 Knows spots name published homes (Frees slot spot) = slice_get spots slot ≡ Some spot
+Knows spots name published homes (Ends slot spot) = ⊥
 Knows spots name published homes Gone = Unit {0}
 
--- the publisher counts the readers, and where none is about W stays as it saw it (own)
+-- the readers that the publisher has taken in: each had seen a beginning of all that is published (own)
+abbrev pub AreGuests : {T : Type 0} → ℕ → List T → List (Reading T) → Type 0
+AreGuests name published [] = Unit {0}
+AreGuests name published (r ∷ rs) = ((r.name ≡ name) × (r.share ≡ None) × Begins r.seen published) × AreGuests name published rs
+
+-- a slot that nobody has: its S is FREE, and its place is at home and empty (own)
+pub record IsFree {T : Type 0} (words : List ℕ) (homes : List (maybe.Option (Room T))) (slot : ℕ) : Type 0 where
+  pub shares : slice_index words (suc (slot + slot)) ≡ free_word
+  pub room : Room T
+  pub home : get_elem? homes slot ≡ some (some room)
+  pub empty : room.value ≡ None
+
+-- so many slots, from the first one on, are free, but for the one in W (own)
+abbrev pub AreFree : {T : Type 0} → List ℕ → List (maybe.Option (Room T)) → ℕ → ℕ → Type 0
+AreFree words homes last swept = (slot : ℕ) → slot < swept → slot ≢ last → IsFree words homes slot
+
+-- the publisher counts the readers, and where none is about W stays as it saw it, and no slot that it saw free since is taken but by
+-- itself (own)
 pub record Counts {T : Type 0} (board : Board T) (p : Publishing T) : Type 0 where
   pub readers : p.readers ≡ reads board.views
+  pub guests : AreGuests p.name p.published p.guests
   pub fixed : (word : ℕ) → p.fixed ≡ Some word → (p.readers ≡ 0) × (slice_index board.words 0 ≡ word)
+  pub free : (word slot : ℕ) → p.fixed ≡ Some word → p.how ≡ Probing slot → AreFree board.words board.homes (slot_of word) p.swept
 
 -- the rule from the first publication on: what the words show is a cell, its values are a history, and each place and each
 -- view is as the cell says (own)
@@ -153,6 +174,30 @@ pub record Away {T : Type 0} (spots : List (RoomSpot T)) (board : Board T) : Typ
   pub lies : slice_get spots 0 ≡ Some spot
   pub others : RestIsFree spots board.homes
 
--- the rule of the table: at first one seat alone, then for good what Holds says (own)
+-- a seat at a cell's end: nobody has a share or grants, and who is still to try a bury won't win it (own)
+abbrev pub IsQuiet : {T : Type 0} → List (RoomSpot T) → View T → Type 0
+IsQuiet spots (Ends slot spot) = slice_get spots slot ≡ Some spot
+IsQuiet spots (Buries slot name) = slot < slots
+IsQuiet spots Gone = Unit {0}
+IsQuiet spots (Begin value) = ⊥
+IsQuiet spots (Began spot) = ⊥
+IsQuiet spots (Publishes p) = ⊥
+IsQuiet spots (Reads r) = ⊥
+IsQuiet spots (Has mark) = ⊥
+IsQuiet spots (Frees slot spot) = ⊥
+
+-- a place at a cell's end: whole, where it always lies, or away with the first seat (own)
+abbrev pub EndedHome : {T : Type 0} → List (RoomSpot T) → List (View T) → ℕ → maybe.Option (Room T) → Type 0
+EndedHome {T} spots views slot none = (spot : RoomSpot T) × (get_elem? views 0 ≡ some (Ends slot spot))
+EndedHome spots views slot (some room) = LiesAt spots slot room × (room.stake ≡ [])
+
+-- the rule at a cell's end (own)
+pub record Ended {T : Type 0} (spots : List (RoomSpot T)) (board : Board T) : Type 0 where
+  pub quiet : (id : ℕ) (view : View T) → get_elem? board.views id ≡ some view → IsQuiet spots view
+  pub only : (id slot : ℕ) (spot : RoomSpot T) → get_elem? board.views id ≡ some (Ends slot spot) → id ≡ 0
+  pub homes : (slot : ℕ) (home : maybe.Option (Room T)) → get_elem? board.homes slot ≡ some home → EndedHome spots board.views slot home
+  pub used : (slot : ℕ) → slot < slots → slice_index board.words (suc (slot + slot)) ≢ 0
+
+-- the rule of the table: at first one seat alone, then what Holds says, until the cell ends (own)
 abbrev pub Ruled : {T : Type 0} → (T → Type 0) → (T → T → Type 0) → List (RoomSpot T) → Board T → Type 0
-Ruled begins follows spots board = Starting spots board ⊎ (Away spots board ⊎ Holds begins follows spots board)
+Ruled begins follows spots board = Starting spots board ⊎ (Away spots board ⊎ (Holds begins follows spots board ⊎ Ended spots board))

@@ -14,7 +14,7 @@ use Rattle.cell_core.specs.declared.words.Owner.{Owner}
 use Rattle.cell_core.specs.declared.words.Owner.TheVariants.{Holding, Burying, Freeing, Spent}
 use Rattle.counted_handles.specs.declared.view.Mark.{Mark}
 use Rattle.counted_handles.specs.declared.view.View.{View}
-use Rattle.counted_handles.specs.declared.view.View.TheVariants.{Begin, Began, Publishes, Reads, Has, Buries, Frees, Gone}
+use Rattle.counted_handles.specs.declared.view.View.TheVariants.{Begin, Began, Publishes, Reads, Has, Buries, Frees, Ends, Gone}
 
 -- the place of a slot: what lies there is a version, or nothing (own)
 abbrev pub Room : Type 0 → Type 0
@@ -55,6 +55,7 @@ owner_of (Reads r) = holder r.share
 owner_of (Has mark) = Holding mark.number mark.slot
 owner_of (Buries slot name) = Burying slot
 owner_of (Frees slot spot) = Freeing slot
+owner_of (Ends slot spot) = Spent
 owner_of Gone = Spent
 
 -- how far the publisher has come: it has the first seat (own)
@@ -66,6 +67,7 @@ how_of (Reads r) = Probing 0
 how_of (Has mark) = Probing 0
 how_of (Buries slot name) = Probing 0
 how_of (Frees slot spot) = Probing 0
+how_of (Ends slot spot) = Probing 0
 how_of Gone = Probing 0
 
 abbrev pub publisher_in : {T : Type 0} → List (View T) → Publisher
@@ -81,6 +83,7 @@ left_of (Began spot) = 0
 left_of (Has mark) = 0
 left_of (Buries slot name) = 0
 left_of (Frees slot spot) = 0
+left_of (Ends slot spot) = 0
 left_of Gone = 0
 
 -- the grants that all seats still have (own)
@@ -96,6 +99,7 @@ read_of (Began spot) = 0
 read_of (Has mark) = 0
 read_of (Buries slot name) = 0
 read_of (Frees slot spot) = 0
+read_of (Ends slot spot) = 0
 read_of Gone = 0
 
 -- how many seats are readers: the publisher counts them, since only readers change W beside it (own)

@@ -2,18 +2,18 @@
 use Rattle.std.specs.Prelude.{◌≡◌, ℕ, ◌+◌, ◌-◌, ◌<◌, List, [], ◌∷◌, length, ◌==◌, Some, None, MatchBool, if◌then◌else◌, ◌++◌, Option}
 use Rattle.std.specs.List.{slice_get}
 use Rattle.atomic_table.specs.Table.{Me}
-use Rattle.cell_core.specs.Words.{slots, grants, slot_of, given_of, free_word}
+use Rattle.cell_core.specs.Words.{slots, grants, bulk, slot_of, given_of, free_word}
 use Rattle.cell_core.specs.declared.words.Version.{Version}
 use Rattle.cell_core.specs.declared.words.Publisher.TheVariants.{Probing, Preparing, Swapping, Settling}
 use Rattle.counted_handles.specs.declared.view.Mark.{Mark}
 use Rattle.counted_handles.specs.declared.view.Reading.{Reading}
 use Rattle.counted_handles.specs.declared.view.Publishing.{Publishing}
 use Rattle.counted_handles.specs.declared.view.View.{View}
-use Rattle.counted_handles.specs.declared.view.View.TheVariants.{Begin, Began, Publishes, Reads, Has, Buries, Frees, Gone}
+use Rattle.counted_handles.specs.declared.view.View.TheVariants.{Begin, Began, Publishes, Reads, Has, Buries, Frees, Ends, Gone}
 use Rattle.raw_slots.specs.Places.{Stake}
 use Rattle.counted_handles.specs.History.{IsHistory}
 use Rattle.counted_handles.specs.Shown.{Room}
-use Rattle.counted_handles.specs.Ruled.{RoomSpot, Begins, version_of, stake_of, first_version}
+use Rattle.counted_handles.specs.Ruled.{RoomSpot, Begins, AreGuests, version_of, stake_of, first_version}
 
 -- a seat at the table: its view, and the places that it has taken (own)
 abbrev pub Sat : Type 0 → Type 0
@@ -35,9 +35,9 @@ Loaded {T} begins follows reading found me =
     × (me ≡ (Reads (record reading { seen = published; share = Some mark; left = reading.left - 1 }), []))
     × Begins reading.seen published × IsLastMark begins follows published reading.name found mark
 
--- release: S was 1, and a bury is due, or the owner has made all its steps (own)
+-- release: S counted the share; it was 1, and a bury is due, or the owner has made all its steps (own)
 abbrev pub Released : {T : Type 0} → Mark T → ℕ → Sat T → Type 0
-Released mark found me = MatchBool (found == 1) (me ≡ (Buries mark.slot mark.name, [])) (me ≡ (Gone, []))
+Released mark found me = (0 < found) × MatchBool (found == 1) (me ≡ (Buries mark.slot mark.name, [])) (me ≡ (Gone, []))
 
 -- a version that was published, and isn't the last (own)
 pub record IsOlder {T : Type 0} (begins : T → Type 0) (follows : T → T → Type 0) (version : Version T) : Type 0 where
@@ -105,16 +105,47 @@ pub record IsSettled {T : Type 0} (p : Publishing T) (number slot : ℕ) (me : S
   pub value : slice_get p.published number ≡ Some mark.value
   pub name_is : mark.name ≡ p.name
 
--- newest: the publisher has a share of its own last version (own)
+-- newest: the publisher has a share of its own last version, and the readers that it has taken in had seen beginnings of what is published (own)
 abbrev pub Newest : {T : Type 0} → (T → Type 0) → (T → T → Type 0) → Publishing T → ℕ → Sat T → Type 0
 Newest {T} begins follows p found me =
     (mark : Mark T)
     × (me ≡ (Publishes (record p { share = Some mark; left = p.left - 1; fixed = None }), []))
     × IsLastMark begins follows p.published p.name found mark
+    × AreGuests p.name p.published p.guests
 
 -- a look at W while no reader is about (own)
 abbrev pub Looked : {T : Type 0} → Publishing T → ℕ → Sat T → Type 0
-Looked p found me = me ≡ (Publishes (record p { fixed = Some found }), [])
+Looked p found me = (slot_of found < slots) × (me ≡ (Publishes (record p { fixed = Some found; swept = 0 }), []))
+
+-- a look at S of the next slot: it counts where it is FREE (own)
+abbrev pub Swept : {T : Type 0} → Publishing T → ℕ → Sat T → Type 0
+Swept p found me = MatchBool (found == free_word) (me ≡ (Publishes (record p { swept = p.swept + 1 }), [])) (me ≡ (Publishes p, []))
+
+-- the slot in W counts (own)
+abbrev pub Skipped : {T : Type 0} → Publishing T → Sat T → Type 0
+Skipped p me = me ≡ (Publishes (record p { swept = p.swept + 1 }), [])
+
+-- the cell's end: the first seat has the place of the last version, of which nobody has a share (own)
+pub record IsEnding {T : Type 0} (p : Publishing T) (slot : ℕ) (me : Sat T) : Type 0 where
+  pub spot : RoomSpot T
+  pub room : Room T
+  pub mark : Mark T
+  pub me_is : me ≡ (Ends slot spot, (slot, room) ∷ [])
+  pub lies : room.at ≡ spot.at
+  pub version : room.value ≡ Some (version_of mark)
+  pub stake : room.stake ≡ stake_of mark ∷ []
+  pub name_is : mark.name ≡ p.name
+  pub slot_is : mark.slot ≡ slot
+  pub last : length p.published ≡ mark.number + 1
+  pub value : slice_get p.published mark.number ≡ Some mark.value
+
+-- a look at S of the slot in W: the cell ends where it is what the cell has of the last version's shares (own)
+abbrev pub EndsAt : {T : Type 0} → Publishing T → ℕ → ℕ → Sat T → Type 0
+EndsAt p word found me = MatchBool (found == bulk - given_of word) (IsEnding p (slot_of word) me) (me ≡ (Publishes p, []))
+
+-- the first seat has given the place back: it is spent (own)
+abbrev pub Shut : {T : Type 0} → Sat T → Type 0
+Shut me = me ≡ (Gone, [])
 
 -- the first look at W: the first seat has slot 0's place, with the first version in it, whole (own)
 pub record IsOpened {T : Type 0} (value : T) (me : Sat T) : Type 0 where
@@ -128,7 +159,7 @@ pub record IsOpened {T : Type 0} (value : T) (me : Sat T) : Type 0 where
 -- the publisher of a new cell, with all grants (own)
 abbrev pub opener : {T : Type 0} → T → ℕ → RoomSpot T → Publishing T
 opener value name spot =
-    record { published = value ∷ []; how = Probing 0; next = None; share = None; left = grants; readers = 0; fixed = None; name = name; spot = spot }
+    record { published = value ∷ []; how = Probing 0; next = None; share = None; left = grants; readers = 0; fixed = None; swept = 0; guests = []; name = name; spot = spot }
 
 -- the second look at W: the first value is published (own)
 abbrev pub Offered : {T : Type 0} → T → ℕ → RoomSpot T → Sat T → Type 0
@@ -143,4 +174,5 @@ IsClaimed (Publishes p) stake value = ⊥
 IsClaimed (Reads r) stake value = ⊥
 IsClaimed (Buries slot name) stake value = ⊥
 IsClaimed (Frees slot spot) stake value = ⊥
+IsClaimed (Ends slot spot) stake value = ⊥
 IsClaimed Gone stake value = ⊥

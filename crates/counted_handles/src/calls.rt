@@ -7,9 +7,9 @@ ghost use Rattle.counted_handles.specs.declared.view.Publishing.{Publishing};
 ghost use Rattle.counted_handles.specs.declared.view.View.TheVariants.{Begin, Publishes, Has, Buries, Frees, Gone};
 ghost use Rattle.counted_handles.specs.Ruled.{RoomSpot, stake_of, mark_of, version_of};
 ghost use Rattle.counted_handles.specs.Shown.{Room};
-ghost use Rattle.counted_handles.specs.Tells.{IsTaken, IsWon, IsSettled, Swapped, Prepared, Looked, IsOpened, Offered};
+ghost use Rattle.counted_handles.specs.Tells.{IsTaken, Released, Tried, IsSettled, Swapped, Prepared, Looked, IsOpened, Offered};
 ghost use Rattle.counted_handles.specs.declared.view.Reading.{Reading};
-ghost use Rattle.counted_handles.specs.Calls.{CanRead, Fits, AreSpots, Drawn, IsProbing, IsReady, IsSwapping, IsSettling, IsSwappedIn, IsIdle, IsGuest, IsNewest, IsOffering, IsOut, IsLoaded};
+ghost use Rattle.counted_handles.specs.Calls.{CanRead, Fits, AreSpots, Drawn, IsProbing, IsReady, IsSwapping, IsSettling, IsSwappedIn, IsIdle, IsGuest, IsNewest, IsOffering, IsLoaded};
 
 use crate::names::Names;
 use crate::plays;
@@ -19,7 +19,7 @@ use crate::rule::{Room, Rule, Spots};
 use crate::view::View;
 use atomic_table::{Badge, Seat, Shared};
 use cell_core::{SLOTS, Version};
-use raw_slots::{Held, Spot, claim, collect, unclaim};
+use raw_slots::{Held, Spot, claim, unclaim};
 use std::mem;
 
 /// S of a slot whose version is buried.
@@ -54,28 +54,32 @@ fn draw<T, C: Names<T>>(
     (found, share)
 }
 
-// A release: the share goes back, and a bury is due where S was 1.
-fn give_back<T, C: Names<T>>(
+// A release: the share goes back. It gives S as it was.
+pub(crate) fn lower<T, C: Names<T>>(
     words: &Words<T, C>,
     seat: &mut Seat<Room<T>, View<T>>,
     slot: usize,
-) -> bool
+) -> u64
     requires fits { Fits words.now.table_id × (seat.old.table_id ≡ words.now.table_id) }
     requires has { (mark : Mark T) × (seat.old.me ≡ (Has mark, [])) × (mark.slot ≡ slot) × (slot < slots) }
     ensures seat { (seat.new.table_id ≡ seat.old.table_id) × (seat.new.id ≡ seat.old.id) }
-    ensures due { (mark : Mark T) → seat.old.me ≡ (Has mark, []) → MatchBool result (seat.new.me ≡ (Buries mark.slot mark.name, [])) (seat.new.me ≡ (Gone, [])) }
+    ensures lowered { (mark : Mark T) → seat.old.me ≡ (Has mark, []) → Released mark result seat.new.me }
 {
-    words.fetch_sub::<plays::Releases>(seat, slot + slot + 1, 1) == 1
+    words.fetch_sub::<plays::Releases>(seat, slot + slot + 1, 1)
 }
 
-// A bury: whether it won. Then the seat has the slot's place, with the version in it.
-fn bury<T, C: Names<T>>(words: &Words<T, C>, seat: &mut Seat<Room<T>, View<T>>, slot: usize) -> bool
+// A bury. It gives S as it was: it has won where that is 0, and then the seat has the slot's place, with the version in it.
+pub(crate) fn bury<T, C: Names<T>>(
+    words: &Words<T, C>,
+    seat: &mut Seat<Room<T>, View<T>>,
+    slot: usize,
+) -> u64
     requires fits { Fits words.now.table_id × (seat.old.table_id ≡ words.now.table_id) }
     requires due { (name : ℕ) × (seat.old.me ≡ (Buries slot name, [])) × (slot < slots) }
     ensures seat { (seat.new.table_id ≡ seat.old.table_id) × (seat.new.id ≡ seat.old.id) }
-    ensures won { (name : ℕ) → seat.old.me ≡ (Buries slot name, []) → MatchBool result (IsWon C.begins C.follows slot name seat.new.me) (seat.new.me ≡ (Gone, [])) }
+    ensures tried { (name : ℕ) → seat.old.me ≡ (Buries slot name, []) → Tried C.begins C.follows slot name result seat.new.me }
 {
-    words.compare_exchange::<plays::Buries<C>>(seat, slot + slot + 1, 0, DEAD) == 0
+    words.compare_exchange::<plays::Buries<C>>(seat, slot + slot + 1, 0, DEAD)
 }
 
 // A free: the seat gives the slot's place back, whole and empty.
@@ -180,15 +184,15 @@ pub(crate) fn draw_newest<T, C: Names<T>>(
     ensures seats { (seat.new.table_id ≡ seat.old.table_id) × (seat.new.id ≡ seat.old.id) × (result.1.table_id ≡ seat.old.table_id) × (result.2.table_id ≡ seat.old.table_id) }
     ensures newest { (p : Publishing T) (r : Reading T) → IsIdle p seat.old.me → IsGuest r guest.me → IsNewest C.begins C.follows p r result.0 seat.new.me result.1.me result.2.me }
 {
-    words.join_seat::<plays::Guests>(seat, guest);
+    words.join_seat::<plays::Lodges>(seat, guest);
     let found = words.fetch_add::<plays::Newests<C>>(seat, 0, 1);
     let share = words.split_seat::<Shares>(seat);
-    let reader = words.split_seat::<plays::Rests>(seat);
+    let reader = words.split_seat::<plays::Meets>(seat);
     (found, share, reader)
 }
 
 // The publisher's look at W while no reader is about: nobody else changes W then.
-fn look<T, C: Names<T>>(words: &Words<T, C>, seat: &mut Seat<Room<T>, View<T>>) -> u64
+pub(crate) fn look<T, C: Names<T>>(words: &Words<T, C>, seat: &mut Seat<Room<T>, View<T>>) -> u64
     requires fits { Fits words.now.table_id × (seat.old.table_id ≡ words.now.table_id) × (seat.old.id ≡ 0) }
     requires alone { (p : Publishing T) × (seat.old.me ≡ (Publishes p, [])) × (p.readers ≡ 0) }
     ensures seat { (seat.new.table_id ≡ seat.old.table_id) × (seat.new.id ≡ seat.old.id) }
@@ -239,27 +243,20 @@ pub(crate) fn hold<T, C: Names<T>>(
     )
 }
 
-// The claim goes back, and then the share. Some where a bury follows and wins: the seat has the slot's place, whole again.
+// The claim goes back: the seat of the share.
 pub(crate) fn give_up<T, C: Names<T>>(
     words: &Words<T, C>,
     held: Held<Option<Version<T>>, View<T>>,
     slot: usize,
-) -> Option<Seat<Room<T>, View<T>>>
+) -> Seat<Room<T>, View<T>>
     requires fits { Fits words.now.table_id × (slot < slots) }
     requires has { (mark : Mark T) × (held.stake ≡ stake_of mark) × (mark.slot ≡ slot) × (mark.name ≡ words.now.table_id.views_name) }
-    ensures { IfSome result (λ seat. (seat.table_id ≡ words.now.table_id) × IsOut C.begins C.follows slot seat.me) }
+    ensures table { result.table_id ≡ words.now.table_id }
+    ensures has { (mark : Mark T) → held.stake ≡ stake_of mark → result.me ≡ (Has mark, []) }
 {
     let mut badge = Badge::blank();
     unclaim(words, held, &mut badge, slot);
-    let mut seat = badge.into_seat();
-    if !give_back(words, &mut seat, slot) {
-        return None;
-    }
-    if !bury(words, &mut seat, slot) {
-        return None;
-    }
-    collect(words, &mut seat, slot);
-    Some(seat)
+    badge.into_seat()
 }
 
 // A load with its claim: the version published last, and its slot.

@@ -1,9 +1,10 @@
 //! How the publisher of a new cell hands its grants out.
-ghost use Rattle.std.specs.Prelude.{◌≡◌, ◌≤◌, [], ◌∷◌, None};
+ghost use Rattle.std.specs.Prelude.{◌≡◌, ◌≤◌, List, [], ◌∷◌, None};
 ghost use Rattle.counted_handles.specs.declared.view.Publishing.{Publishing};
-ghost use Rattle.counted_handles.specs.declared.view.View.TheVariants.{Publishes};
-ghost use Rattle.counted_handles.specs.Calls.{Fits};
-ghost use Rattle.counted_handles.specs.Cuts.{dealt_grants, with_reader, reader_of};
+ghost use Rattle.counted_handles.specs.declared.view.Reading.{Reading};
+ghost use Rattle.counted_handles.specs.declared.view.View.TheVariants.{Publishes, Reads};
+ghost use Rattle.counted_handles.specs.Calls.{Fits, IsHost};
+ghost use Rattle.counted_handles.specs.Cuts.{dealt_grants, with_reader, reader_of, lodged, without_guest};
 
 use crate::calls::Words;
 use crate::names::Names;
@@ -36,4 +37,33 @@ pub fn deal_rest<T, C: Names<T>>(words: &Words<T, C>, badge: &mut Badge<View<T>>
     let reader = words.split_seat::<plays::Rests>(&mut seat);
     *badge = seat.into_badge();
     reader.into_badge()
+}
+
+/// The publisher's token takes a reader in, which [`give_back`] gives back.
+pub fn take_in<T, C: Names<T>>(
+    words: &Words<T, C>,
+    badge: &mut Badge<View<T>>,
+    guest: Badge<View<T>>,
+)
+    requires fits { Fits words.now.table_id × (badge.old.table_id ≡ words.now.table_id) × (guest.table_id ≡ words.now.table_id) }
+    requires whole { (p : Publishing T) × (r : Reading T) × (badge.old.views ≡ Publishes p ∷ []) × (guest.views ≡ Reads r ∷ []) × (r.share ≡ None) }
+    ensures badge { (badge.new.table_id ≡ badge.old.table_id) × (badge.new.id ≡ badge.old.id) }
+    ensures taken { (p : Publishing T) (r : Reading T) → badge.old.views ≡ Publishes p ∷ [] → guest.views ≡ Reads r ∷ [] → badge.new.views ≡ Publishes (lodged p r) ∷ [] }
+{
+    let mut seat = mem::replace(badge, Badge::blank()).into_seat();
+    words.join_seat::<plays::Lodges>(&mut seat, guest.into_seat());
+    *badge = seat.into_badge();
+}
+
+/// The reader that the publisher's token took in last.
+pub fn give_back<T, C: Names<T>>(words: &Words<T, C>, badge: &mut Badge<View<T>>) -> Badge<View<T>>
+    requires fits { Fits words.now.table_id × (badge.old.table_id ≡ words.now.table_id) }
+    requires guest { (p : Publishing T) × (r : Reading T) × (rest : List (Reading T)) × IsHost p r rest badge.old.views }
+    ensures badges { (badge.new.table_id ≡ badge.old.table_id) × (badge.new.id ≡ badge.old.id) × (result.table_id ≡ badge.old.table_id) }
+    ensures back { (p : Publishing T) (r : Reading T) (rest : List (Reading T)) → IsHost p r rest badge.old.views → (badge.new.views ≡ Publishes (without_guest p r rest) ∷ []) × (result.views ≡ Reads r ∷ []) }
+{
+    let mut seat = mem::replace(badge, Badge::blank()).into_seat();
+    let guest = words.split_seat::<plays::Returns>(&mut seat);
+    *badge = seat.into_badge();
+    guest.into_badge()
 }

@@ -8,6 +8,7 @@
 #![tactic(auto)]
 
 mod calls;
+mod ending;
 mod grants;
 mod made;
 mod names;
@@ -15,15 +16,20 @@ mod owner;
 mod plays;
 mod probed;
 mod publications;
+mod released;
 mod rule;
+mod unmade;
 mod view;
 
 pub use calls::Words;
-pub use grants::{deal, deal_rest};
+pub use ending::end;
+pub use grants::{deal, deal_rest, give_back, take_in};
 pub use made::{Made, make};
 pub use names::Names;
-pub use owner::{Released, Strong, load};
+pub use owner::{Strong, load};
 pub use probed::Probed;
 pub use publications::{NoSlot, newest, publish};
+pub use released::{Released, Steps};
 pub use rule::{Room, Rule, Spots};
+pub use unmade::unmake;
 pub use view::{Mark, Publishing, Reading, View};

@@ -5,12 +5,13 @@ ghost use Rattle.counted_handles.specs.declared.view.Mark.{Mark};
 ghost use Rattle.cell_core.specs.declared.words.Version.{Version};
 ghost use Rattle.counted_handles.specs.declared.view.Reading.{Reading};
 ghost use Rattle.counted_handles.specs.declared.view.View.TheVariants.{Has};
-ghost use Rattle.counted_handles.specs.Calls.{Fits, AreSpots, CanRead, IsOut, IsEmptied, IsOwned, IsReleased};
+ghost use Rattle.counted_handles.specs.Calls.{Fits, AreSpots, CanRead, IsOwned};
+ghost use Rattle.counted_handles.specs.Releases.{IsReleased};
 ghost use Rattle.counted_handles.specs.Ruled.{stake_of, version_of};
-ghost use Rattle.counted_handles.specs.Tells.{IsOlder};
 
-use crate::calls::{Words, free, give_up, hold, load_last};
+use crate::calls::{Words, give_up, hold, load_last};
 use crate::names::Names;
+use crate::released::Released;
 use crate::rule::{Room, Spots};
 use crate::view::View;
 use atomic_table::{Badge, Seat};
@@ -18,15 +19,6 @@ use cell_core::Version;
 use raw_slots::Held;
 use std::marker::Model;
 use std::snapshot::Snapshot;
-
-/// What an owner's release did.
-#[derive(Clone, Copy, Debug, PartialEq, Eq)]
-pub enum Released {
-    /// The owner is gone, and the version isn't: another owns it, or it is the last, or another call buries it.
-    Left,
-    /// The owner is gone, and this call buried the version of this number, which lay in its slot.
-    Buried(u64),
-}
 
 /// An owner of a version, which stays as it is until its last owner is gone. Contracts see the version.
 pub struct Strong<'a, T: Drop, C: Names<T>> {
@@ -47,21 +39,7 @@ impl<'a, T: Drop, C: Names<T>> Model for Strong<'a, T, C> {
     ghost invariant = { λ a. IsOwner a.words.now.table_id a.held.stake a.held.value a.slot a.version.value };
 }
 
-// The version of a place that the seat has taken: the place is empty behind it.
-fn empty<T, C: Names<T>>(
-    words: &Words<T, C>,
-    seat: &mut Seat<Room<T>, View<T>>,
-    slot: usize,
-) -> Option<Version<T>>
-    requires out { (seat.old.table_id ≡ words.now.table_id) × IsOut C.begins C.follows slot seat.old.me }
-    ensures seat { (seat.new.table_id ≡ seat.old.table_id) × (seat.new.id ≡ seat.old.id) }
-    ensures version { (version : Version T) × (result ≡ Some version) × IsOlder C.begins C.follows version }
-    ensures emptied { IsEmptied slot seat.new.me }
-{
-    seat.slot_mut(words, slot).replace(None)
-}
-
-// All steps of a release: the number of the version that it buried. The value of that version is dropped before its slot is free.
+// All steps of a release, by what each saw. The value of the version that it buries is dropped before its slot is free.
 fn let_go<T: Drop, C: Names<T>>(
     words: &Words<T, C>,
     held: Held<Option<Version<T>>, View<T>>,
@@ -71,15 +49,17 @@ fn let_go<T: Drop, C: Names<T>>(
     requires has { (mark : Mark T) × (held.stake ≡ stake_of mark) × (mark.slot ≡ slot) × (mark.name ≡ words.now.table_id.views_name) }
     ensures { IsReleased C.begins C.follows result }
 {
-    let Some(mut seat) = give_up(words, held, slot) else {
-        return Released::Left;
-    };
-    let number = match empty(words, &mut seat, slot) {
-        Some(version) => version.number,
-        None => unreachable!(),
-    };
-    free(words, &mut seat, slot);
-    Released::Buried(number)
+    let mut seat = give_up(words, held, slot);
+    let mut released = Released::lower(words, &mut seat, slot);
+    if !released.is_due() {
+        return released;
+    }
+    if !released.bury(words, &mut seat, slot) {
+        return released;
+    }
+    released.empty(words, &mut seat, slot);
+    released.free(words, &mut seat, slot);
+    released
 }
 
 // The owner of a version that is held, for a share of its slot.
@@ -158,7 +138,8 @@ impl<'a, T: Drop, C: Names<T>> Strong<'a, T, C> {
         }
     }
 
-    /// Gives the owner up. It waits for nobody.
+    /// Gives the owner up, and tells what its steps saw: it subtracts its share from S, tries to bury what lies in its slot exactly
+    /// where it was the last to do so, and makes the slot free where it has buried. It waits for nobody.
     pub fn release(self) -> Released
         ensures { IsReleased C.begins C.follows result }
     {

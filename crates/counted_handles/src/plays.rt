@@ -1,7 +1,7 @@
 //! The steps by name: what each tells, and how seats are cut and made one.
-ghost use Rattle.counted_handles.specs.Plays.{LoadTells, NewestTells, ReleaseTells, BuryTells, FreeTells, ProbeTells, PrepareTells, SwapTells, SettleTells, LookTells, OpenTells, OfferTells};
+ghost use Rattle.counted_handles.specs.Plays.{LoadTells, NewestTells, ReleaseTells, BuryTells, FreeTells, ProbeTells, PrepareTells, SwapTells, SettleTells, LookTells, SweepTells, SkipTells, EndTells, ShutTells, OpenTells, OfferTells};
 ghost use Rattle.counted_handles.specs.Tells.{IsClaimed};
-ghost use Rattle.counted_handles.specs.Cuts.{kept_share, given_share, kept_back, handed_back, kept_dealt, dealt, guested};
+ghost use Rattle.counted_handles.specs.Cuts.{kept_share, given_share, kept_back, handed_back, kept_dealt, dealt, lodging, kept_met, kept_home, sent_home};
 ghost use Rattle.counted_handles.specs.declared.view.View.TheVariants.{Has, Gone};
 ghost use Rattle.counted_handles.specs.Ruled.{mark_of};
 
@@ -90,6 +90,34 @@ impl<T> Play<Room<T>, View<T>> for Looks {
     ghost then = { λ _ me found new. LookTells me.0 found new };
 }
 
+/// A look at S of the next slot while no reader is about.
+pub struct Sweeps;
+
+impl<T> Play<Room<T>, View<T>> for Sweeps {
+    ghost then = { λ _ me found new. SweepTells me.0 found new };
+}
+
+/// The same, of the slot in W.
+pub struct Skips;
+
+impl<T> Play<Room<T>, View<T>> for Skips {
+    ghost then = { λ _ me _ new. SkipTells me.0 new };
+}
+
+/// The look at S of the slot in W that ends the cell.
+pub struct Ends;
+
+impl<T> Play<Room<T>, View<T>> for Ends {
+    ghost then = { λ _ me found new. EndTells me.0 found new };
+}
+
+/// The look behind it, which gives the last version's place back.
+pub struct Shuts;
+
+impl<T> Play<Room<T>, View<T>> for Shuts {
+    ghost then = { λ _ me _ new. ShutTells me.0 new };
+}
+
 /// The first look at W, which takes the first slot's place.
 pub struct Opens;
 
@@ -131,13 +159,31 @@ impl<T> Split<View<T>> for Deals {
     ghost right = { dealt };
 }
 
-/// The publisher takes a reader in.
-pub struct Guests;
+/// The publisher takes a reader in that it is to give back.
+pub struct Lodges;
 
-impl<T> Join<View<T>> for Guests {
-    ghost both = { guested };
+impl<T> Join<View<T>> for Lodges {
+    ghost both = { lodging };
 
     ghost spent = { Gone };
+}
+
+/// The publisher gives the reader back that it took in last.
+pub struct Returns;
+
+impl<T> Split<View<T>> for Returns {
+    ghost left = { kept_home };
+
+    ghost right = { sent_home };
+}
+
+/// The publisher gives the reader back that it took in last, with all its grants and all that is published.
+pub struct Meets;
+
+impl<T> Split<View<T>> for Meets {
+    ghost left = { kept_met };
+
+    ghost right = { handed_back };
 }
 
 /// A claim.

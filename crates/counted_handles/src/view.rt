@@ -47,6 +47,10 @@ pub struct Publishing<T> {
     pub readers: u64,
     /// The word W, where it was seen and nobody can change it.
     pub fixed: Option<u64>,
+    /// So many slots, from the first one on, were seen free since then, beside the one in W.
+    pub swept: u64,
+    /// The readers that it has taken in and is to give back, the last one first.
+    pub guests: LinkedList<Reading<T>>,
     /// The name of the views.
     pub name: u64,
     /// Where the place lies that it has taken.
@@ -69,6 +73,8 @@ pub enum View<T> {
     Buries(usize, u64),
     /// An owner whose bury has won: a slot, and where its place lies.
     Frees(usize, Spot<Option<Version<T>>>),
+    /// The first seat, at the cell's end, which has taken the last version's place: its slot, and where the place lies.
+    Ends(usize, Spot<Option<Version<T>>>),
     /// A seat that is spent.
     Gone,
 }

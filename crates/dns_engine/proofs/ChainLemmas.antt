@@ -11,10 +11,12 @@ use Rattle.transfer_core.specs.Chain.{zones_of, AreBehind, told, told_changes}
 use Rattle.transfer_core.specs.Window.{AreKept, changes_since, kept_since, kept_for}
 use Rattle.transfer_core.proofs.WindowLemmas.{told_kept}
 use Rattle.cell_core.specs.Cell.{EachFollows}
-use Rattle.snapshot_cell.specs.History.{Numbered, IsHistory, IsPublished}
+use Rattle.cell_core.specs.declared.words.Version.{Version as Numbered}
+use Rattle.counted_handles.specs.History.{IsHistory}
+use Rattle.snapshot_cell.specs.Tokens.{IsLastOf}
 use Rattle.dns_engine.specs.Versions.{IsFirst, IsNext}
 use Rattle.dns_engine.specs.Held.{Held, IsNewest}
-use Rattle.dns_engine.proofs.ReplayLemmas.{published_number}
+use Rattle.dns_engine.proofs.ReplayLemmas.{last_latest, newest_latest}
 use Rattle.dns_engine.specs.Chain.{changes_in, TellsSince}
 
 each_behind : (version : Version) (more : List Version) → EachFollows IsNext (version ∷ more) → AreBehind version.zone more
@@ -51,17 +53,20 @@ begun_by (version ∷ older) last = (version, older ++ last ∷ [], refl)
 kept_of_newest : (first : List Record) (held : Held) (p : IsNewest first held) → AreKept (zones_of p.before) (held.older ++ held.last ∷ [])
 kept_of_newest first held p =
     let b = begun_by held.older held.last in
-    let history : IsHistory (IsFirst first) IsNext (p.before ++ (held.older ++ held.last ∷ [])) = subst (IsHistory (IsFirst first) IsNext) (append_assoc p.before held.older (held.last ∷ [])) p.history in
+    let history : IsHistory (IsFirst first) IsNext (p.before ++ (held.older ++ held.last ∷ [])) = subst (IsHistory (IsFirst first) IsNext) (p.ends ∙ append_assoc p.before held.older (held.last ∷ [])) p.history in
     subst (AreKept (zones_of p.before)) (sym b.2) (are_kept first p.before b.0 b.1 (subst (λ l. IsHistory (IsFirst first) IsNext (p.before ++ l)) b.2 history))
 
 -- a published version alone
-pub alone_newest : (first : List Record) (version : Numbered Version) (older : List Version) → older ≡ [] → IsPublished (IsFirst first) IsNext version → IsNewest first (record { last = version.value; keep = 0; older = older })
-alone_newest first version older none p =
-    let front : p.before ++ older ≡ p.before = ap (λ l. p.before ++ l) none ∙ append-nil p.before in
+pub alone_newest : (first : List Record) (published : List Version) (version : Numbered Version) (last : Version) (older : List Version) → last ≡ version.value → older ≡ []
+    → IsHistory (IsFirst first) IsNext published → IsLastOf published version → IsNewest first (record { published = published; last = last; keep = 0; older = older })
+alone_newest first published version last older its none history is =
+    let l = last_latest first published version history is in
+    let front : l.before ++ older ≡ l.before = ap (λ o. l.before ++ o) none ∙ append-nil l.before in
     record {
-      before = p.before;
-      history = subst (λ l. IsHistory (IsFirst first) IsNext (l ++ version.value ∷ [])) (sym front) p.history;
-      number = ap length front ∙ p.number ∙ sym (published_number first version p);
+      before = l.before;
+      history = history;
+      ends = l.ends ∙ ap (λ b. b ++ version.value ∷ []) (sym front) ∙ ap (λ v. (l.before ++ older) ++ v ∷ []) (sym its);
+      number = ap length front ∙ l.number ∙ ap (λ (v : Version). v.number) (sym its);
       most = ap length none ∙ omega arith;
     }
 
@@ -92,16 +97,15 @@ module _ (first : List Record) (held : Held) (p : IsNewest first held) where
       ∙ subst (λ (rest : List Version). told_changes (is_some (kept_since 16 rest serial all)) (soa_of (newest_zone [] (zones_of all))) (unwrap_or (kept_since 16 rest serial all) []) ≡ changes_since 16 (zones_of rest) (length all) serial (zones_of p.before ++ zones_of all)) (dropped all)
       (subst (λ (front : List Version). told_changes (is_some (kept_since 16 (drop (length all) all) serial front)) (soa_of (newest_zone [] (zones_of front))) (unwrap_or (kept_since 16 (drop (length all) all) serial front) []) ≡ changes_since 16 (zones_of (drop (length all) all)) (length all) serial (zones_of p.before ++ zones_of front)) (taken all) by)
 
-  pub tells_since : (serial : Option Serial) → TellsSince first held.keep held.last serial (changes_in held serial)
-  tells_since None = record { before = p.before ++ held.older; history = p.history; told = refl }
+  pub tells_since : (serial : Option Serial) → TellsSince first held.published held.keep held.last serial (changes_in held serial)
+  tells_since None = record { latest = newest_latest first held p; told = refl }
   tells_since (Some serial) =
-      let join : (p.before ++ held.older) ++ held.last ∷ [] ≡ p.before ++ all = append_assoc p.before held.older (held.last ∷ []) in
-      let zones : zones_of p.before ++ zones_of all ≡ zones_of ((p.before ++ held.older) ++ held.last ∷ []) = sym (zones_append p.before all) ∙ ap (λ l. zones_of l) (sym join) in
+      let join : held.published ≡ p.before ++ all = p.ends ∙ append_assoc p.before held.older (held.last ∷ []) in
+      let zones : zones_of p.before ++ zones_of all ≡ zones_of held.published = sym (zones_append p.before all) ∙ ap (λ l. zones_of l) (sym join) in
       let size : length all ≡ length held.older + 1 = length_push held.older held.last in
-      let longer : length ((p.before ++ held.older) ++ held.last ∷ []) ≡ length (p.before ++ held.older) + 1 = length_push (p.before ++ held.older) held.last in
-      let count : length all ≡ min (held.keep + 1) (length ((p.before ++ held.older) ++ held.last ∷ [])) = omega (arith, size, longer, p.number, p.most) in
+      let longer : length held.published ≡ length (p.before ++ held.older) + 1 = ap length p.ends ∙ length_push (p.before ++ held.older) held.last in
+      let count : length all ≡ min (held.keep + 1) (length held.published) = omega (arith, size, longer, p.number, p.most) in
       record {
-        before = p.before ++ held.older;
-        history = p.history;
-        told = serial_told serial.0 ∙ ap (λ l. changes_since 16 [] (length all) serial.0 l) zones ∙ ap (λ n. changes_since 16 [] n serial.0 (zones_of ((p.before ++ held.older) ++ held.last ∷ []))) count;
+        latest = newest_latest first held p;
+        told = serial_told serial.0 ∙ ap (λ l. changes_since 16 [] (length all) serial.0 l) zones ∙ ap (λ n. changes_since 16 [] n serial.0 (zones_of held.published)) count;
       }

@@ -1,4 +1,4 @@
--- Owners in full places, and the newest of a list.
+-- What is in full places, and the newest of a list.
 use Rattle.std.proofs.Common.{◌≡◌, refl, ℕ, suc, zero, ◌+◌, ◌-◌, ◌≤◌, ◌<◌, min, List, [], ◌∷◌, ◌++◌, length, take, drop, take-append-drop, append_assoc, length-drop, Option, None, Some, arith, sym, ap, ◌∙◌, subst}
 use Rattle.std.proofs.lemmas.List.{length_push, drop_all}
 use Rattle.std.specs.List.{slice_get}
@@ -6,67 +6,84 @@ use Rattle.std.proofs.Math.ListN.{get_or}
 use lib.Seq.{drop-append-le}
 use Rattle.dns_rdata.specs.Record.{Record}
 use Rattle.zone_tree.specs.Version.{Version}
-use Rattle.snapshot_cell.specs.History.{Numbered, IsHistory}
-use Rattle.snapshot_cell.proofs.HistoryLemmas.{goes_on}
+use Rattle.cell_core.specs.Cell.{EachFollows}
+use Rattle.cell_core.specs.declared.words.Version.{Version as Numbered}
+use Rattle.counted_handles.specs.History.{IsHistory}
 use Rattle.dns_engine.specs.Versions.{IsFirst, IsNext}
 use Rattle.dns_engine.specs.Held.{Held, newest, IsNewest, held_with}
-use Rattle.dns_engine.specs.Owned.{owned, IsFull}
+use Rattle.dns_engine.specs.Owned.{placed, versions_of, IsFull}
 
-some_none : (owner : Numbered Version) → Some owner ≡ None → ⊥
-some_none owner same = cc
+pub placed-append : {T : Type 0} (places more : List (Option T)) → placed (places ++ more) ≡ placed places ++ placed more
+placed-append [] more = refl
+placed-append (None ∷ places) more = placed-append places more
+placed-append (Some it ∷ places) more = ap (λ l. it ∷ l) (placed-append places more)
 
-pub owned-append : (places more : List (Option (Numbered Version))) → owned (places ++ more) ≡ owned places ++ owned more
-owned-append [] more = refl
-owned-append (None ∷ places) more = owned-append places more
-owned-append (Some owner ∷ places) more = ap (λ l. owner.value ∷ l) (owned-append places more)
+pub length-placed : {T : Type 0} (places : List (Option T)) → IsFull places → length (placed places) ≡ length places
+length-placed [] full = refl
+length-placed (None ∷ places) full = absurd full
+length-placed (Some it ∷ places) full = ap suc (length-placed places full)
 
-pub length-owned : (places : List (Option (Numbered Version))) → IsFull places → length (owned places) ≡ length places
-length-owned [] full = refl
-length-owned (None ∷ places) full = absurd full
-length-owned (Some owner ∷ places) full = ap suc (length-owned places full)
+pub full_push : {T : Type 0} (places : List (Option T)) (it : T) → IsFull places → IsFull (places ++ Some it ∷ [])
+full_push [] it full = tt
+full_push (None ∷ places) it full = full
+full_push (Some other ∷ places) it full = full_push places it full
 
-pub full_push : (places : List (Option (Numbered Version))) (owner : Numbered Version) → IsFull places → IsFull (places ++ Some owner ∷ [])
-full_push [] owner full = tt
-full_push (None ∷ places) owner full = full
-full_push (Some other ∷ places) owner full = full_push places owner full
-
-pub full_drop : (places : List (Option (Numbered Version))) → IsFull places → IsFull (drop 1 places)
+pub full_drop : {T : Type 0} (places : List (Option T)) → IsFull places → IsFull (drop 1 places)
 full_drop [] full = tt
 full_drop (None ∷ places) full = absurd full
 full_drop (Some other ∷ places) full = full
+
+-- what is in a place
+abbrev pub shown : {T : Type 0} → Option (Option T) → Option T
+shown None = None
+shown (Some it) = it
+
+pub placed_get : {T : Type 0} (places : List (Option T)) (at : ℕ) → IsFull places → slice_get (placed places) at ≡ shown (slice_get places at)
+placed_get [] at full = refl
+placed_get (None ∷ places) at full = absurd full
+placed_get (Some it ∷ places) zero full = refl
+placed_get (Some it ∷ places) (suc at) full = placed_get places at full
+
+-- no place is empty
+pub place_full : {T : Type 0} (places : List (Option T)) (at : ℕ) (place : Option T) → IsFull places → at < length places → place ≡ get_or places at place → place ≡ None → ⊥
+place_full [] at place full within is none = absurd (omega arith)
+place_full (None ∷ places) at place full within is none = full
+place_full (Some it ∷ places) zero place full within is none = some_none it (sym is ∙ none)
+  where
+    some_none : {T : Type 0} (it : T) → Some it ≡ None → ⊥
+    some_none it same = cc
+place_full (Some it ∷ places) (suc at) place full within is none = place_full places at place full (omega arith) is none
+
+-- the versions of owners in places
+abbrev pub owned : List (Option (Numbered Version)) → List Version
+owned places = versions_of (placed places)
+
+versions-append : (owners more : List (Numbered Version)) → versions_of (owners ++ more) ≡ versions_of owners ++ versions_of more
+versions-append [] more = refl
+versions-append (owner ∷ owners) more = ap (λ l. owner.value ∷ l) (versions-append owners more)
+
+length-versions : (owners : List (Numbered Version)) → length (versions_of owners) ≡ length owners
+length-versions [] = refl
+length-versions (owner ∷ owners) = ap suc (length-versions owners)
+
+pub owned-append : (places more : List (Option (Numbered Version))) → owned (places ++ more) ≡ owned places ++ owned more
+owned-append places more = ap versions_of (placed-append places more) ∙ versions-append (placed places) (placed more)
+
+pub length-owned : (places : List (Option (Numbered Version))) → IsFull places → length (owned places) ≡ length places
+length-owned places full = length-versions (placed places) ∙ length-placed places full
 
 pub owned-drop : (places : List (Option (Numbered Version))) → IsFull places → owned (drop 1 places) ≡ drop 1 (owned places)
 owned-drop [] full = refl
 owned-drop (None ∷ places) full = absurd full
 owned-drop (Some other ∷ places) full = refl
 
--- the version of the owner in a place
-abbrev pub shown : Option (Option (Numbered Version)) → Option Version
-shown None = None
-shown (Some None) = None
-shown (Some (Some owner)) = Some owner.value
-
-pub owned_get : (places : List (Option (Numbered Version))) (at : ℕ) → IsFull places → slice_get (owned places) at ≡ shown (slice_get places at)
-owned_get [] at full = refl
-owned_get (None ∷ places) at full = absurd full
-owned_get (Some owner ∷ places) zero full = refl
-owned_get (Some owner ∷ places) (suc at) full = owned_get places at full
-
--- no place is without an owner
-pub place_owned : (places : List (Option (Numbered Version))) (at : ℕ) (place : Option (Numbered Version)) → IsFull places → at < length places → place ≡ get_or places at place → place ≡ None → ⊥
-place_owned [] at place full within is none = absurd (omega arith)
-place_owned (None ∷ places) at place full within is none = full
-place_owned (Some owner ∷ places) zero place full within is none = some_none owner (sym is ∙ none)
-place_owned (Some owner ∷ places) (suc at) place full within is none = place_owned places at place full (omega arith) is none
-
--- one owner more, of the version in the next place
-pub share_more : (items places new : List (Option (Numbered Version))) (at : ℕ) (place : Option (Numbered Version)) (owner : Numbered Version) → take (at + 1) items ≡ take at items ++ place ∷ [] → place ≡ Some owner
-    → new ≡ places ++ Some owner ∷ [] → IsFull places → owned places ≡ owned (take at items) → length places ≤ at → IsFull new × (owned new ≡ owned (take (at + 1) items)) × (length new ≤ at + 1)
-share_more items places new at place owner longer is more full same short =
-    let size : length new ≡ length places + 1 = ap length more ∙ length_push places (Some owner) in (
-      subst IsFull (sym more) (full_push places owner full),
-      ap owned more
-          ∙ owned-append places (Some owner ∷ [])
+-- one version more, of the owner in the next place
+pub share_more : (items : List (Option (Numbered Version))) (copies new : List Version) (at : ℕ) (place : Option (Numbered Version)) (owner : Numbered Version) (version : Version) → take (at + 1) items ≡ take at items ++ place ∷ [] → place ≡ Some owner
+    → version ≡ owner.value → new ≡ copies ++ version ∷ [] → copies ≡ owned (take at items) → length copies ≤ at → (new ≡ owned (take (at + 1) items)) × (length new ≤ at + 1)
+share_more items copies new at place owner version longer is its more same short =
+    let size : length new ≡ length copies + 1 = ap length more ∙ length_push copies version in (
+      more
+          ∙ ap (λ v. copies ++ v ∷ []) its
           ∙ ap (λ l. l ++ owner.value ∷ []) same
           ∙ sym (ap owned longer ∙ owned-append (take at items) (place ∷ []) ∙ ap (λ p. owned (take at items) ++ owned (p ∷ [])) is),
       omega (arith, size, short),
@@ -87,6 +104,15 @@ newest_none values = drop_all (length values - 0) values (omega arith)
 pub length-newest : {T : Type 0} (keep : ℕ) (values : List T) → length (newest keep values) ≡ min keep (length values)
 length-newest keep values = length-drop (length values - keep) values ∙ omega arith
 
+each_on : (begins : Version) (before : List Version) (last value : Version) → EachFollows IsNext (begins ∷ (before ++ last ∷ [])) → IsNext last value → EachFollows IsNext (begins ∷ ((before ++ last ∷ []) ++ value ∷ []))
+each_on begins [] last value each may = (each.0, (may, tt))
+each_on begins (next ∷ before) last value each may = (each.0, each_on next before last value each.1 may)
+
+-- a version that may follow the last one makes a history longer
+pub goes_on : (first : List Record) (before : List Version) (last value : Version) → IsHistory (IsFirst first) IsNext (before ++ last ∷ []) → IsNext last value → IsHistory (IsFirst first) IsNext ((before ++ last ∷ []) ++ value ∷ [])
+goes_on first [] last value history may = (history.0, (may, tt))
+goes_on first (begins ∷ before) last value history may = (history.0, each_on begins before last value history.1 may)
+
 -- what is held once a version is published is the newest again
 pub newest_on : (first : List Record) (held : Held) (version : Version) → IsNewest first held → IsNext held.last version → IsNewest first (held_with held version)
 newest_on first held version p may =
@@ -94,12 +120,12 @@ newest_on first held version p may =
     let k : ℕ = length all - held.keep in
     let whole : (p.before ++ take k all) ++ drop k all ≡ (p.before ++ held.older) ++ held.last ∷ [] =
     append_assoc p.before (take k all) (drop k all) ∙ ap (λ l. p.before ++ l) (take-append-drop k all) ∙ sym (append_assoc p.before held.older (held.last ∷ [])) in
-    let longer = goes_on (IsFirst first) IsNext (p.before ++ held.older) held.last version p.history may in
-    let join : ((p.before ++ held.older) ++ held.last ∷ []) ++ version ∷ [] ≡ (p.before ++ held.older) ++ held.last ∷ version ∷ [] = append_assoc (p.before ++ held.older) (held.last ∷ []) (version ∷ []) in
+    let longer = goes_on first (p.before ++ held.older) held.last version (subst (IsHistory (IsFirst first) IsNext) p.ends p.history) may in
     let next : version.number ≡ held.last.number + 1 = may.makes.number in
     record {
       before = p.before ++ take k all;
-      history = subst (IsHistory (IsFirst first) IsNext) (sym join ∙ ap (λ l. l ++ version ∷ []) (sym whole)) longer;
+      history = subst (λ l. IsHistory (IsFirst first) IsNext (l ++ version ∷ [])) (sym p.ends) longer;
+      ends = ap (λ l. l ++ version ∷ []) (p.ends ∙ sym whole);
       number = ap length whole ∙ length_push (p.before ++ held.older) held.last ∙ ap (λ n. n + 1) p.number ∙ sym next;
       most = length-newest held.keep all ∙ ap (min held.keep) (length_push held.older held.last) ∙ omega (arith, p.most, next);
     }

@@ -1,15 +1,18 @@
 -- A history of versions is a replay.
-use Rattle.std.proofs.Common.{◌≡◌, ◌≢◌, refl, ◌+◌, true, List, [], ◌∷◌, ◌++◌, length, None, Some, unwrap_or, arith, sym, ap, ◌∙◌, subst}
+use Rattle.std.proofs.Common.{◌≡◌, ◌≢◌, refl, ℕ, zero, suc, ◌+◌, true, List, [], ◌∷◌, ◌++◌, length, None, Some, unwrap_or, arith, sym, ap, ◌∙◌, subst}
 use Rattle.std.proofs.lemmas.List.{length_push}
+use Rattle.std.specs.List.{slice_get}
 use Rattle.dns_rdata.specs.Record.{Record}
 use Rattle.dns_message.specs.declared.update.Update.{Update}
 use Rattle.zone_tree.specs.Version.{Version}
 use Rattle.update_core.specs.Verdict.{verdict}
 use Rattle.update_core.specs.Act.{act, replay}
 use Rattle.cell_core.specs.Cell.{EachFollows}
-use Rattle.snapshot_cell.specs.History.{Numbered, IsHistory, IsPublished}
+use Rattle.cell_core.specs.declared.words.Version.{Version as Numbered}
+use Rattle.counted_handles.specs.History.{IsHistory}
+use Rattle.snapshot_cell.specs.Tokens.{IsLastOf}
 use Rattle.dns_engine.specs.Versions.{IsFirst, IsNext}
-use Rattle.dns_engine.specs.Held.{Held, IsNewest}
+use Rattle.dns_engine.specs.Held.{Held, IsLatest, IsNewest}
 use Rattle.dns_engine.specs.Replayed.{EachChanges, IsReplay}
 
 -- one update more is replayed on what those before it leave
@@ -65,12 +68,46 @@ number_of first (version ∷ before) last history =
     let ends : last.number ≡ version.number + 1 + length before = last_number version before last history.1 in
     omega arith
 
-pub published_replay : (first : List Record) (version : Numbered Version) → IsPublished (IsFirst first) IsNext version → IsReplay first version.value
-published_replay first version p = replay_of first p.before version.value p.history
+some_same : (a b : Version) → Some a ≡ Some b → a ≡ b
+some_same a b e = cc
 
-pub published_number : (first : List Record) (version : Numbered Version) → IsPublished (IsFirst first) IsNext version → version.value.number ≡ version.number
-published_number first version p = number_of first p.before version.value p.history ∙ p.number
+-- the last of a list stands behind as many as its number
+ends_by : (values : List Version) (at : ℕ) (last : Version) → length values ≡ at + 1 → slice_get values at ≡ Some last → (before : List Version) × (values ≡ before ++ last ∷ []) × (length before ≡ at)
+ends_by [] at last size is = absurd (omega arith)
+ends_by (value ∷ []) zero last size is = ([], ap (λ v. v ∷ []) (some_same value last is), refl)
+ends_by (value ∷ []) (suc at) last size is = absurd (omega arith)
+ends_by (value ∷ (next ∷ more)) zero last size is = absurd (omega arith)
+ends_by (value ∷ (next ∷ more)) (suc at) last size is =
+    let size' : length (next ∷ more) ≡ at + 1 = omega arith in
+    let rest = ends_by (next ∷ more) at last size' is in
+    (value ∷ rest.0, ap (λ l. value ∷ l) rest.1, ap suc rest.2)
 
--- the last version that is held is a replay
+-- the last of published versions, as it is loaded, is the latest
+pub last_latest : (first : List Record) (published : List Version) (version : Numbered Version) → IsHistory (IsFirst first) IsNext published → IsLastOf published version → IsLatest first published version.value
+last_latest first published version history last =
+    let ends = ends_by published version.number version.value last.0 last.1 in
+    record {
+      before = ends.0;
+      history = history;
+      ends = ends.1;
+      number = sym (number_of first ends.0 version.value (subst (IsHistory (IsFirst first) IsNext) ends.1 history));
+    }
+
+-- the latest version is a replay, and its number is how many are in front of it
+pub latest_replay : (first : List Record) (published : List Version) (version : Version) → IsLatest first published version → IsReplay first version
+latest_replay first published version l = replay_of first l.before version (subst (IsHistory (IsFirst first) IsNext) l.ends l.history)
+
+pub last_replay_of : (first : List Record) (published : List Version) (version : Numbered Version) → IsHistory (IsFirst first) IsNext published → IsLastOf published version → IsReplay first version.value
+last_replay_of first published version history last = latest_replay first published version.value (last_latest first published version history last)
+
+pub last_number_of : (first : List Record) (published : List Version) (version : Numbered Version) → IsHistory (IsFirst first) IsNext published → IsLastOf published version → version.value.number ≡ version.number
+last_number_of first published version history last =
+    let ends = ends_by published version.number version.value last.0 last.1 in
+    number_of first ends.0 version.value (subst (IsHistory (IsFirst first) IsNext) ends.1 history) ∙ ends.2
+
+-- the last version that is held is the latest, and a replay
+pub newest_latest : (first : List Record) (held : Held) → IsNewest first held → IsLatest first held.published held.last
+newest_latest first held p = record { before = p.before ++ held.older; history = p.history; ends = p.ends; number = p.number }
+
 pub newest_replay : (first : List Record) (held : Held) → IsNewest first held → IsReplay first held.last
-newest_replay first held p = replay_of first (p.before ++ held.older) held.last p.history
+newest_replay first held p = latest_replay first held.published held.last (newest_latest first held p)

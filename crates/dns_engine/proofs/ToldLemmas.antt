@@ -10,7 +10,7 @@ use Rattle.update_core.specs.declared.outcome.Outcome.{Outcome}
 use Rattle.update_core.specs.declared.outcome.Outcome.TheVariants.{Refused, Unchanged, Next, NoMemory}
 use Rattle.update_core.specs.Verdict.{verdict, permission, check, prescan}
 use Rattle.update_core.specs.Applied.{IsTold, code_told, next_of}
-use Rattle.dns_engine.specs.Held.{Held}
+use Rattle.dns_engine.specs.Held.{EngineState}
 use Rattle.dns_engine.specs.Told.{IsTold as IsToldOf, refused, unchanged, starved}
 use Rattle.dns_engine.specs.Versions.{Makes}
 
@@ -43,9 +43,9 @@ next_code next Unchanged is = cc
 next_code next (Next own) is = refl
 next_code next NoMemory is = cc
 
--- an update that makes no version changes nothing that is held
-pub none_told : (held : Held) (update : Update) (may : Bool) (outcome : Outcome) → IsTold held.last update may outcome → next_of outcome ≡ None → IsToldOf held update may (code_told outcome) held
-none_told held update may (Refused code) told is = refused told refl
-none_told held update may Unchanged told is = unchanged told.0 told.1 refl refl
-none_told held update may (Next own) told is = cc
-none_told held update may NoMemory told is = starved told refl refl
+-- an update that makes no version changes nothing
+pub none_told : (state : EngineState) (update : Update) (may : Bool) (outcome : Outcome) → IsTold state.held.last update may outcome → next_of outcome ≡ None → IsToldOf state update may (code_told outcome) state
+none_told state update may (Refused code) told is = refused told refl
+none_told state update may Unchanged told is = unchanged told.0 told.1 refl refl
+none_told state update may (Next own) told is = cc
+none_told state update may NoMemory told is = starved told refl refl

@@ -8,9 +8,7 @@ use Rattle.zone_tree.specs.Version.{Version}
 use Rattle.transfer_core.specs.Chain.{zones_of, told as told_by}
 use Rattle.transfer_core.specs.Window.{changes_since, kept_since}
 use Rattle.transfer_core.specs.declared.kept.TheConstants.{WINDOW}
-use Rattle.snapshot_cell.specs.History.{IsHistory}
-use Rattle.dns_engine.specs.Versions.{IsFirst, IsNext}
-use Rattle.dns_engine.specs.Held.{Held}
+use Rattle.dns_engine.specs.Held.{Held, IsLatest}
 
 -- what changed since the version of a serial that an asker holds, up to the last of published versions, the first one first, where at most
 -- so many older than the last are kept: none where the asker tells no serial, where it isn't in the window, or where a version after the
@@ -18,12 +16,11 @@ use Rattle.dns_engine.specs.Held.{Held}
 abbrev pub changes_told : ℕ → List Version → Option Serial → Option (List Record)
 changes_told keep versions held = option_and_then (λ serial. changes_since WINDOW [] (min (keep + 1) (length versions)) serial.0 (zones_of versions)) held
 
--- what is told to an asker of what changed up to a version: it was published, behind others, and this is what changed through them, where so
+-- what is told to an asker of what changed up to a version: it is the last of those published, and this is what changed through them, where so
 -- many are kept
-pub record TellsSince (first : List Record) (keep : ℕ) (version : Version) (held : Option Serial) (changes : Option (List Record)) : Type 0 where
-  pub before : List Version
-  pub history : IsHistory (IsFirst first) IsNext (before ++ version ∷ [])
-  pub told : changes ≡ changes_told keep (before ++ version ∷ []) held
+pub record TellsSince (first : List Record) (published : List Version) (keep : ℕ) (version : Version) (held : Option Serial) (changes : Option (List Record)) : Type 0 where
+  pub latest : IsLatest first published version
+  pub told : changes ≡ changes_told keep published held
 
 -- what changed since the version of a serial, by the versions that are held: the steps of those behind it, where all of them are held
 abbrev pub changes_in : Held → Option Serial → Option (List Record)

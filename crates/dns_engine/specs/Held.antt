@@ -2,27 +2,46 @@
 use Rattle.std.specs.Prelude.{◌≡◌, ℕ, ◌-◌, List, [], ◌∷◌, ◌++◌, length, drop, min}
 use Rattle.dns_rdata.specs.Record.{Record}
 use Rattle.zone_tree.specs.Version.{Version}
-use Rattle.snapshot_cell.specs.History.{IsHistory}
+use Rattle.counted_handles.specs.History.{IsHistory}
 use Rattle.dns_engine.specs.Versions.{IsFirst, IsNext}
 pub use Rattle.transfer_core.specs.declared.kept.TheConstants.{KEPT}
 
--- the version published last, and how many versions before it are kept, with those, the oldest first
+-- the versions published, the first one first, the last of them, and how many versions before it are kept, with those, the oldest first
 pub record Held : Type 0 where
+  pub published : List Version
   pub last : Version
   pub keep : ℕ
   pub older : List Version
+
+-- an engine: what it holds, and the grants that its reader has left
+pub record EngineState : Type 0 where
+  pub held : Held
+  pub left : ℕ
 
 -- the last of a list, at most so many
 abbrev pub newest : {T : Type 0} → ℕ → List T → List T
 newest most values = drop (length values - most) values
 
+-- a version is the last of those published, and as many were published before it as its number
+pub record IsLatest (first : List Record) (published : List Version) (version : Version) : Type 0 where
+  pub before : List Version
+  pub history : IsHistory (IsFirst first) IsNext published
+  pub ends : published ≡ before ++ version ∷ []
+  pub number : length before ≡ version.number
+
 -- what is held is the newest that were published: at most so many as are kept older than the last, and all of them where there are no more
 pub record IsNewest (first : List Record) (held : Held) : Type 0 where
   pub before : List Version
-  pub history : IsHistory (IsFirst first) IsNext (before ++ held.older ++ held.last ∷ [])
+  pub history : IsHistory (IsFirst first) IsNext held.published
+  pub ends : held.published ≡ (before ++ held.older) ++ held.last ∷ []
   pub number : length (before ++ held.older) ≡ held.last.number
   pub most : length held.older ≡ min held.keep held.last.number
 
 -- what is held once a version is published behind the last one
 abbrev pub held_with : Held → Version → Held
-held_with held version = record held { last = version; older = newest held.keep (held.older ++ held.last ∷ []) }
+held_with held version =
+    record held { published = held.published ++ version ∷ []; last = version; older = newest held.keep (held.older ++ held.last ∷ []) }
+
+-- an engine once it has published a version, for which its reader has loaded it
+abbrev pub state_with : EngineState → Version → EngineState
+state_with state version = record { held = held_with state.held version; left = state.left - 1 }

@@ -5,5 +5,5 @@ pub mod Owned
 pub mod Told
 pub mod Chain
 pub use Rattle.update_core.specs.Act
-pub use Rattle.snapshot_cell.specs.History
+pub use Rattle.snapshot_cell.specs.Tokens
 pub use Rattle.transfer_core.specs.Window

@@ -1,16 +1,21 @@
--- The versions of owners (own).
+-- What is in places (own).
 use Rattle.std.specs.Prelude.{List, [], ◌∷◌, Option, None, Some}
 use Rattle.zone_tree.specs.Version.{Version}
-use Rattle.snapshot_cell.specs.History.{Numbered}
+use Rattle.cell_core.specs.declared.words.Version.{Version as Numbered}
 
--- the versions of the owners in places
-abbrev pub owned : List (Option (Numbered Version)) → List Version
-owned [] = []
-owned (None ∷ places) = owned places
-owned (Some owner ∷ places) = owner.value ∷ owned places
+-- what is in places
+abbrev pub placed : {T : Type 0} → List (Option T) → List T
+placed [] = []
+placed (None ∷ places) = placed places
+placed (Some it ∷ places) = it ∷ placed places
 
--- each place has an owner
-abbrev pub IsFull : List (Option (Numbered Version)) → Type 0
+-- each place has something in it
+abbrev pub IsFull : {T : Type 0} → List (Option T) → Type 0
 IsFull [] = Unit {0}
 IsFull (None ∷ places) = ⊥
-IsFull (Some owner ∷ places) = IsFull places
+IsFull (Some it ∷ places) = IsFull places
+
+-- the versions of owners
+abbrev pub versions_of : List (Numbered Version) → List Version
+versions_of [] = []
+versions_of (owner ∷ owners) = owner.value ∷ versions_of owners

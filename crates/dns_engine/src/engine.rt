@@ -1,7 +1,8 @@
 //! The engine: who publishes, and the newest versions.
-ghost use Rattle.std.specs.Prelude.{◌≡◌, ◌↔◌, ◌<◌, ◌≤◌, ◌+◌, ◌^◌, [], IfOk, IfErr, MatchBool};
+ghost use Rattle.std.specs.Prelude.{◌≡◌, ◌↔◌, ◌<◌, ◌≤◌, ◌+◌, ◌-◌, ◌^◌, [], IfOk, IfErr, MatchBool};
+ghost use Rattle.counted_handles.specs.Ruled.{Begins};
 ghost use Rattle.dns_engine.specs.Versions.{IsNext};
-ghost use Rattle.dns_engine.specs.Held.{held_with};
+ghost use Rattle.dns_engine.specs.Held.{IsLatest, state_with};
 ghost use Rattle.dns_engine.specs.Replayed.{IsReplay};
 ghost use Rattle.dns_engine.specs.Told.{IsTold};
 ghost use Rattle.dns_engine.specs.declared.fault.EngineFault.{EngineFault as Fault};
@@ -10,55 +11,58 @@ use crate::fault::{EngineFault, NoEngine};
 use crate::learn::learn_last;
 use crate::newest::Newest;
 use crate::owners::Owners;
-use crate::versions::{FirstZone, VersionCell, VersionPublisher, VersionReader};
+use crate::shared::SharedVersion;
+use crate::versions::{FirstZone, VersionCell, VersionOwner, VersionPublisher, VersionReader};
 use dns_message::Update;
 use dns_rdata::Rcode;
-use snapshot_cell::Spent;
+use snapshot_cell::{Naming, Spent};
 use std::alloc::Global;
 use std::marker::Model;
-use std::sync::Wait;
+use std::mem;
 use transfer_core::KEPT;
 use update_core::apply;
 use zone_tree::Version;
 
 /// The one who publishes in a cell of versions, with the newest of them: the last, and at most so many older ones as it was made
-/// to keep. Contracts see these, and know that they are the newest that were published.
+/// to keep. Contracts see these with all that were published and with the grants that its reader has left, and know that they are
+/// the newest that were published. No call of it waits.
 #[derive(Drop)]
-pub struct Engine<'a, Z: FirstZone> {
-    publisher: VersionPublisher<Z>,
-    reader: VersionReader<Z>,
+pub struct Engine<'a, Z: FirstZone, N: Naming> {
+    publisher: VersionPublisher<Z, N>,
+    reader: VersionReader<N>,
+    last: VersionOwner<'a, Z>,
     keep: usize,
     older: Owners<'a, Z>,
 }
 
-impl<'a, Z: FirstZone> Model for Engine<'a, Z> {
+impl<'a, Z: FirstZone, N: Naming> Model for Engine<'a, Z, N> {
     ghost use Rattle.std.specs.Prelude.{◌≡◌, ◌≤◌};
-    ghost use Rattle.transfer_core.specs.declared.kept.TheConstants.{KEPT};
-    ghost use Rattle.dns_engine.specs.Held.{Held, IsNewest};
+    ghost use Rattle.dns_engine.specs.Held.{EngineState, IsNewest, KEPT};
 
-    ghost Value = { Held };
+    ghost Value = { EngineState };
 
-    ghost view = { λ a. record { last = a.publisher.value; keep = a.keep; older = a.older } };
+    ghost view = { λ a. record { held = record { published = a.reader.seen; last = a.last.value; keep = a.keep; older = a.older }; left = a.reader.left } };
 
-    ghost invariant = { λ a. (a.keep ≤ KEPT) × (a.publisher.number ≡ a.publisher.value.number) × IsNewest Z.zone (record { last = a.publisher.value; keep = a.keep; older = a.older }) };
+    ghost invariant = { λ a. (a.keep ≤ KEPT) × (a.publisher.published ≡ a.reader.seen) × (a.publisher.value ≡ a.last.value) × (a.publisher.number ≡ a.last.value.number) × IsNewest Z.zone (record { published = a.reader.seen; last = a.last.value; keep = a.keep; older = a.older }) };
 }
 
-impl<'a, Z: FirstZone> Engine<'a, Z> {
+impl<'a, Z: FirstZone, N: Naming> Engine<'a, Z, N> {
     /// The engine of a cell in which the first version alone is published, to keep so many older versions beside the last.
-    /// [`EngineFault::TooGreat`] exactly where these would be more than [`KEPT`]; [`EngineFault::Spent`] where the reader can't
-    /// load. Both give the publisher and the reader back.
-    pub fn new<R: Wait>(
-        rt: &R,
-        cell: &'a VersionCell<Z>,
-        publisher: VersionPublisher<Z>,
-        mut reader: VersionReader<Z>,
+    /// [`EngineFault::TooGreat`] exactly where these would be more than [`KEPT`]; else [`EngineFault::Spent`] exactly where the
+    /// reader has no grant left. Both give the publisher and the reader back as they were.
+    pub fn new(
+        cell: &'a VersionCell<Z, N>,
+        mut publisher: VersionPublisher<Z, N>,
+        mut reader: VersionReader<N>,
         keep: usize,
-    ) -> Result<Engine<'a, Z>, NoEngine<Z>>
+    ) -> Result<Engine<'a, Z, N>, NoEngine<Z, N>>
         requires { publisher.number ≡ 0 }
-        ensures made { IfOk result (λ engine. engine ≡ record { last = publisher.value; keep = keep; older = [] }) }
+        ensures made { IfOk result (λ engine. engine ≡ record { held = record { published = publisher.published; last = publisher.value; keep = keep; older = [] }; left = reader.left - 1 }) }
         ensures kept { IfOk result (λ _. keep ≤ KEPT) }
+        ensures grant { IfOk result (λ _. 0 < reader.left) }
         ensures refused { IfErr result (λ refused. (refused.fault ≡ Fault.TooGreat) ↔ (KEPT < keep)) }
-        ensures given_back { IfErr result (λ refused. refused.publisher ≡ publisher) }
+        ensures spent { IfErr result (λ refused. refused.fault ≡ Fault.Spent → reader.left ≡ 0) }
+        ensures given_back { IfErr result (λ refused. (refused.publisher ≡ publisher) × (refused.reader ≡ reader)) }
     {
         learn_last(&publisher);
         if keep > KEPT {
@@ -68,16 +72,17 @@ impl<'a, Z: FirstZone> Engine<'a, Z> {
                 reader,
             });
         }
-        if cell.load(rt, &mut reader).is_err() {
+        let Ok(last) = cell.newest(&mut publisher, &mut reader) else {
             return Err(NoEngine {
                 fault: EngineFault::Spent,
                 publisher,
                 reader,
             });
-        }
+        };
         Ok(Engine {
             publisher,
             reader,
+            last,
             keep,
             older: Owners::new(),
         })
@@ -85,42 +90,61 @@ impl<'a, Z: FirstZone> Engine<'a, Z> {
 
     /// The number of the version published last.
     pub fn number(&self) -> u64
-        ensures number { result ≡ self.now.last.number }
-        ensures replayed { IsReplay Z.zone self.now.last }
+        ensures number { result ≡ self.now.held.last.number }
+        ensures latest { IsLatest Z.zone self.now.held.published self.now.held.last }
+        ensures replayed { IsReplay Z.zone self.now.held.last }
     {
         self.publisher.last()
     }
 
     /// The version published last.
     pub fn last_version(&self) -> &Version
-        ensures { result.now ≡ self.now.last }
+        ensures { result.now ≡ self.now.held.last }
     {
-        self.publisher.value()
+        self.last.get().get()
     }
 
-    /// Owners of all versions that it keeps, the last one among them. [`Spent`] where one of them can't be shared. It waits for nobody.
-    pub fn newest(&self, cell: &'a VersionCell<Z>) -> Result<Newest<'a, Z>, Spent>
-        ensures { IfOk result (λ newest. newest ≡ self.now) }
+    /// All versions that it keeps, the last one among them. [`Spent`] where the count of owners of one of them is full. It waits for
+    /// nobody.
+    pub fn newest(&self) -> Result<Newest<Z, N>, Spent>
+        ensures { IfOk result (λ newest. newest ≡ self.now.held) }
     {
-        let last = cell.newest(&self.publisher)?;
+        let last = self.last.get().share()?;
         let older = self.older.share()?;
-        Ok(Newest::new(last, self.keep, older))
+        Ok(Newest::new(last, self.keep, older, &self.reader))
+    }
+
+    /// Lets a reader see all that is published, of which it had seen a beginning, for one of its grants. [`Spent`] exactly where it
+    /// has none left. It waits for nobody.
+    pub fn meet(
+        &mut self,
+        cell: &VersionCell<Z, N>,
+        reader: &mut VersionReader<N>,
+    ) -> Result<(), Spent>
+        ensures met { IfOk result (λ _. (reader.new ≡ record { cell = reader.old.cell; seen = self.old.held.published; left = reader.old.left - 1 }) × (0 < reader.old.left)) }
+        ensures begun { IfOk result (λ _. Begins reader.old.seen self.old.held.published) }
+        ensures same { self.new ≡ self.old }
+        ensures spent { IfErr result (λ _. (reader.old.left ≡ 0) × (reader.new ≡ reader.old)) }
+    {
+        let owner = cell.newest(&mut self.publisher, reader)?;
+        owner.release();
+        Ok(())
     }
 
     /// Publishes what an update makes of the version published last, sent by a peer that may update, or may not, and tells its
-    /// code (RFC 2136, 3). SERVFAIL also tells that there is no number left or that memory is wanted; nothing has then changed.
-    pub fn update<R: Wait>(
+    /// code (RFC 2136, 3). SERVFAIL also tells that there is no number left, or that memory, a slot of the cell or a grant of its
+    /// reader is wanted; nothing has then changed. It waits for nobody.
+    pub fn update(
         &mut self,
-        rt: &R,
         alloc: Global,
-        cell: &'a VersionCell<Z>,
+        cell: &'a VersionCell<Z, N>,
         update: &Update,
         may: bool,
     ) -> Rcode
         ensures told { IsTold self.old update.now may result self.new }
         // Where no number is left, no rule is asked.
-        ensures last { 2 ^ 64 ≤ self.old.last.number + 1 → result ≡ Rcode.ServFail }
-        ensures replayed { IsReplay Z.zone self.old.last }
+        ensures last { 2 ^ 64 ≤ self.old.held.last.number + 1 → result ≡ Rcode.ServFail }
+        ensures replayed { IsReplay Z.zone self.old.held.last }
     {
         if self.number() == u64::MAX {
             return Rcode::ServFail;
@@ -130,24 +154,51 @@ impl<'a, Z: FirstZone> Engine<'a, Z> {
         let Some(version) = outcome.next() else {
             return code;
         };
-        if self.publish(rt, cell, version) {
+        if self.publish(alloc, cell, version) {
             code
         } else {
             Rcode::ServFail
         }
     }
 
-    /// Publishes the version after the last one, and keeps that one beside it. False where there was no memory for it:
-    /// nothing has then changed.
-    fn publish<R: Wait>(&mut self, rt: &R, cell: &'a VersionCell<Z>, version: Version) -> bool
-        requires room { self.old.last.number + 1 < 2 ^ 64 }
-        requires follows { IsNext self.old.last version }
-        ensures { MatchBool result (self.new ≡ held_with self.old version) (self.new ≡ self.old) }
+    /// Publishes the version after the last one, and keeps that one beside it. False where there was no memory for it, no slot or no
+    /// grant: nothing has then changed.
+    fn publish(&mut self, alloc: Global, cell: &'a VersionCell<Z, N>, version: Version) -> bool
+        requires room { self.old.held.last.number + 1 < 2 ^ 64 }
+        requires follows { IsNext self.old.held.last version }
+        ensures { MatchBool result ((0 < self.old.left) × (self.new ≡ state_with self.old version)) (self.new ≡ self.old) }
     {
-        let Ok(old) = cell.publish(rt, &mut self.publisher, version) else {
+        if self.reader.left() == 0 {
+            return false;
+        }
+        let Some(version) = SharedVersion::new(alloc, version) else {
             return false;
         };
+        let Ok(old) = cell.publish(&mut self.publisher, version) else {
+            return false;
+        };
+        let Ok(last) = cell.newest(&mut self.publisher, &mut self.reader) else {
+            unreachable!()
+        };
+        mem::replace(&mut self.last, last).release();
         self.older.keep_newest(self.keep, old);
         true
+    }
+
+    /// Ends the engine: its owners are given up, and its publisher and its reader come back, with all that was published.
+    pub fn finish(self) -> (VersionPublisher<Z, N>, VersionReader<N>)
+        ensures publisher { (result.0.published ≡ self.entry.held.published) × (result.0.number ≡ self.entry.held.last.number) × (result.0.value ≡ self.entry.held.last) }
+        ensures reader { (result.1.seen ≡ self.entry.held.published) × (result.1.left ≡ self.entry.left) }
+    {
+        let Engine {
+            publisher,
+            reader,
+            last,
+            keep: _,
+            older,
+        } = self;
+        drop(older);
+        last.release();
+        (publisher, reader)
     }
 }

@@ -1,15 +1,13 @@
 //! Owners of versions, in no memory of their own.
 ghost use Rattle.std.specs.Prelude.{◌≡◌, ◌-◌, ◌<◌, ◌≤◌, [], ◌∷◌, ◌++◌, length, IfOk};
-ghost use Rattle.std.specs.List.{slice_get};
-ghost use Rattle.std.specs.Option.{option_copied};
 ghost use Rattle.dns_engine.specs.Held.{newest};
 
+use crate::copies::Copies;
 use crate::versions::{FirstZone, VersionOwner};
 use arrayvec::ArrayVec;
 use snapshot_cell::Spent;
 use std::marker::Model;
 use transfer_core::KEPT;
-use zone_tree::Version;
 
 /// Owners of versions, the oldest first. Contracts see the versions.
 #[derive(Drop)]
@@ -20,11 +18,11 @@ pub(crate) struct Owners<'a, Z: FirstZone> {
 impl<'a, Z: FirstZone> Model for Owners<'a, Z> {
     ghost use Rattle.std.specs.Prelude.{List};
     ghost use Rattle.zone_tree.specs.Version.{Version};
-    ghost use Rattle.dns_engine.specs.Owned.{owned, IsFull};
+    ghost use Rattle.dns_engine.specs.Owned.{placed, versions_of, IsFull};
 
     ghost Value = { List Version };
 
-    ghost view = { λ a. owned a.places.items };
+    ghost view = { λ a. versions_of (placed a.places.items) };
 
     ghost invariant = { λ a. IsFull a.places.items };
 }
@@ -39,36 +37,17 @@ impl<'a, Z: FirstZone> Owners<'a, Z> {
         }
     }
 
-    /// How many versions they own.
-    pub(crate) fn len(&self) -> usize
-        ensures len { result ≡ length self.now }
-        ensures most { result ≤ KEPT }
+    /// The same versions, owned beside the cell. [`Spent`] where one of them can't be shared.
+    pub(crate) fn share(&self) -> Result<Copies, Spent>
+        ensures { IfOk result (λ copies. copies ≡ self.now) }
     {
-        self.places.len()
-    }
-
-    /// The version at a place, counted from 0, the oldest; None where there are no more.
-    pub(crate) fn version(&self, at: usize) -> Option<&Version>
-        ensures { option_copied result ≡ slice_get self.now at }
-    {
-        match self.places.get(at) {
-            Some(Some(owner)) => Some(owner.get()),
-            Some(None) => None,
-            None => None,
-        }
-    }
-
-    /// As many owners more, of the same versions. [`Spent`] where one of them can't be shared.
-    pub(crate) fn share(&self) -> Result<Owners<'a, Z>, Spent>
-        ensures { IfOk result (λ owners. owners ≡ self.now) }
-    {
-        let mut places = ArrayVec::new();
+        let mut copies = Copies::new();
         for place in self.places.as_slice() {
             if let Some(owner) = place {
-                places.push(Some(owner.share()?));
+                copies.push(owner.get().share()?);
             }
         }
-        Ok(Owners { places })
+        Ok(copies)
     }
 
     /// Puts an owner of the next version after the others, of which the newest stay, so many in all.

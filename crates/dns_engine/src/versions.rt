@@ -3,10 +3,10 @@ ghost use Rattle.std.specs.Prelude.{List, []};
 ghost use Rattle.dns_rdata.specs.Record.{Record};
 ghost use Rattle.dns_engine.specs.Versions.{IsFirst, IsNext};
 
+use crate::shared::SharedVersion;
 use cell_core::Follows;
-use snapshot_cell::{Cell, Names, Publisher, Reader, Strong};
+use snapshot_cell::{NamedCell, NamedPublisher, NamedReader, Names, Strong};
 use std::marker::{Brand, PhantomData};
-use zone_tree::Version;
 
 /// The first zone of a cell, which contracts alone see. A type has it that stands for a zone known only when the program runs.
 pub trait FirstZone {
@@ -24,22 +24,22 @@ pub struct ZoneVersions<Z: FirstZone> {
     first: PhantomData<Z>,
 }
 
-impl<Z: FirstZone> Follows<Version> for ZoneVersions<Z> {
+impl<Z: FirstZone> Follows<SharedVersion> for ZoneVersions<Z> {
     ghost follows = { IsNext };
 }
 
-impl<Z: FirstZone> Names<Version> for ZoneVersions<Z> {
+impl<Z: FirstZone> Names<SharedVersion> for ZoneVersions<Z> {
     ghost begins = { IsFirst Z.zone };
 }
 
-/// A cell of versions.
-pub type VersionCell<Z> = Cell<Version, ZoneVersions<Z>>;
+/// A cell of versions. What has the same name `N` belongs together.
+pub type VersionCell<Z, N> = NamedCell<SharedVersion, ZoneVersions<Z>, N>;
 
 /// The one who publishes in a cell of versions.
-pub type VersionPublisher<Z> = Publisher<Version, ZoneVersions<Z>>;
+pub type VersionPublisher<Z, N> = NamedPublisher<SharedVersion, ZoneVersions<Z>, N>;
 
 /// One who loads from a cell of versions.
-pub type VersionReader<Z> = Reader<Version, ZoneVersions<Z>>;
+pub type VersionReader<N> = NamedReader<SharedVersion, N>;
 
 /// An owner of a version.
-pub type VersionOwner<'a, Z> = Strong<'a, Version, ZoneVersions<Z>>;
+pub type VersionOwner<'a, Z> = Strong<'a, SharedVersion, ZoneVersions<Z>>;

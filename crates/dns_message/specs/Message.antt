@@ -25,6 +25,10 @@ opcode_UPDATE = 5
 abbrev pub message_limit : ℕ
 message_limit = 65535
 
+-- the most octets of a message of a transfer, up to which pointers lead (RFC 1035, 4.1.4; own)
+abbrev pub max_message : ℕ
+max_message = 16384
+
 -- the number of 16 bits at a position (RFC 1035, 2.3.2)
 abbrev pub number_at : List ℕ → ℕ → ℕ
 number_at msg at = from_be_bytes w16 (take 2 (drop at msg))

@@ -12,7 +12,7 @@ ghost use Rattle.dns_message.specs.Encoded.{IsTrueOf};
 ghost use Rattle.dns_message.specs.Expanded.{expanded_data};
 ghost use Rattle.dns_message.specs.Answers.{answers, filled, StopsTaking};
 ghost use Rattle.dns_message.specs.Asked.{request_of, question_in_full, IsQuestion, IsAnswerTo};
-ghost use Rattle.dns_message.specs.Message.{Message, message_limit};
+ghost use Rattle.dns_message.specs.Message.{Message, max_message, message_limit};
 ghost use Rattle.dns_message.specs.Octets.{record_octets, reply_octets, fits};
 ghost use Rattle.dns_message.specs.declared.query.Question.{Question};
 ghost use Rattle.dns_message.specs.Frame.{frame_of, frame_in};
@@ -103,10 +103,10 @@ pub fn update_keeps_its_header()
     ensures { (head : Head) (msg : List ℕ) (update : Update) → update_in head msg ≡ Some (Ok update) → update.head ≡ head }
 {}
 
-/// A record whose owner is a name and whose data has at most 4,096 octets fits into a message of answers of 16,384 octets by
+/// A record whose owner is a name and whose data has at most 4,096 octets fits into a message of a transfer by
 /// itself (RFC 1035, 2.3.4 and 4.1.3; own).
 pub fn one_record_fits()
-    ensures { (head : Head) (opt : Option Opt) (r : Record) → IsName r.owner → length r.rdata ≤ max_data → fits (answers head None opt (r ∷ [])) 16384 ≡ true }
+    ensures { (head : Head) (opt : Option Opt) (r : Record) → IsName r.owner → length r.rdata ≤ max_data → fits (answers head None opt (r ∷ [])) max_message ≡ true }
 {}
 
 /// Of the records of a list a message takes those from the front that fit together with it, in order, and the others are left

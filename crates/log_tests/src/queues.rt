@@ -12,6 +12,9 @@ const MOST: usize = 4;
 /// How many lines are added while the sink takes none.
 const ADDED: u64 = 100;
 
+/// How often it is looked whether a line was taken, at most.
+const LOOKS: u64 = 10_000_000;
+
 /// What a sink has taken, in its order.
 type Taken = Vec<Told<u64>>;
 
@@ -74,5 +77,44 @@ fn a_sink_that_takes_nothing(rt: HostRuntime) -> Result<(), Fail> {
     let lines = lines_taken(taken.as_slice());
     assert!(rt; lines == Some(MOST) || lines == Some(MOST + 1));
     assert!(rt; queue.close(&rt, Duration::from_millis(0)));
+    Ok(())
+}
+
+/// Whether so many lines are taken, looked for until they are.
+fn are_taken<R: Wait>(rt: &R, taken: &Mutex<Taken>, lines: u64) -> bool {
+    for _ in 0..LOOKS {
+        if taken.lock(rt).len() as u64 == lines {
+            return true;
+        }
+    }
+    false
+}
+
+/// Adds lines, each once the one before is taken, and closes the queue, which waits for its end.
+fn add_in_turn<R: Wait + Clock>(rt: &R, queue: &LogQueue<u64>, taken: &Mutex<Taken>) -> bool {
+    let mut all = true;
+    for line in 0..ADDED {
+        queue.add(rt, line);
+        all = all && are_taken(rt, taken, line + 1);
+    }
+    queue.close(rt, Duration::from_secs(30)) && all
+}
+
+// Each line is written while the queue is open, and who closes it waits until its end is told.
+#[test]
+fn lines_are_written_as_they_come(rt: HostRuntime) -> Result<(), Fail> {
+    let alloc: Global = rt.alloc();
+    let queue = LogQueue::new(alloc, MOST)?;
+    let taken: Mutex<Taken> = Mutex::new(Vec::new(alloc));
+    let (all, ()) = thread::join(
+        &rt,
+        || add_in_turn(&rt, &queue, &taken),
+        || queue.write_to(&rt, &mut GatedSink { taken: &taken }),
+    );
+    assert!(rt; all);
+    assert_eq!(rt;
+        lines_taken(taken.into_inner().as_slice()),
+        Some(ADDED as usize)
+    );
     Ok(())
 }

@@ -1,52 +1,204 @@
 //! Cells of versions that are played in, and servers over them.
-ghost use Rattle.std.specs.Prelude.{◌≡◌};
+ghost use Rattle.std.specs.Prelude.{◌≡◌, IfSome, vec_len};
+ghost use Rattle.std.specs.List.{All};
 
-use dns_engine::{EngineFault, FirstZone, NoEngine, VersionCell, VersionPublisher, VersionReader};
-use snapshot_cell::{Cell, Parts};
+use dns_engine::{
+    EngineFault, FirstZone, Naming, NoEngine, SharedVersion, VersionCell, VersionPublisher,
+    VersionReader, ZoneVersions,
+};
+use snapshot_cell::{Cell, NamedCell, NamedPublisher, NamedReader, Parts, Publisher, Reader};
 use std::alloc::Global;
 use std::marker::Brand;
 use std::sync::Wait;
 use zone_service::Server;
 use zone_tree::{Version, Zone};
 
+/// A cell of versions that a type names, with its publisher and its readers.
+pub struct NamedParts<Z: FirstZone, N: Naming> {
+    /// The cell.
+    pub cell: VersionCell<Z, N>,
+    /// The one who publishes.
+    pub publisher: VersionPublisher<Z, N>,
+    /// Those who load.
+    pub readers: Vec<VersionReader<N>>,
+}
+
+/// What was played in a cell of versions.
+#[derive(Drop)]
+pub struct Played<Z: FirstZone, N: Naming> {
+    /// Whether it went as it should; None where there was no memory for it.
+    pub told: Option<bool>,
+    /// The one who publishes.
+    pub publisher: VersionPublisher<Z, N>,
+    /// Those who load.
+    pub readers: Vec<VersionReader<N>>,
+}
+
 /// What is played in a cell of versions in which a zone's first version alone is published.
 pub trait Play {
-    /// Whether it goes as it should, with three readers of the cell; None where there is no memory for it.
-    fn is_right<R: Wait, Z: FirstZone>(
+    /// Whether it goes as it should, with the publisher and two readers, which come back.
+    fn play<R: Wait, Z: FirstZone, N: Naming>(
         &self,
         rt: &R,
         alloc: Global,
-        cell: &VersionCell<Z>,
-        publisher: VersionPublisher<Z>,
-        readers: Vec<VersionReader<Z>>,
-    ) -> Option<bool>
+        cell: &VersionCell<Z, N>,
+        publisher: VersionPublisher<Z, N>,
+        readers: Vec<VersionReader<N>>,
+    ) -> Played<Z, N>
         requires { publisher.number ≡ 0 };
 }
 
-/// The server of a cell, which keeps eight versions. One that should keep nine is refused; None where it isn't, or no version can be
-/// loaded.
-pub fn server_of<'a, R: Wait, Z: FirstZone>(
+// Keeps what can't be ended, and waits for ever.
+fn keep<R: Wait, K, T>(rt: &R, _kept: K) -> T {
+    for _ in rt.forever() {}
+    unreachable!()
+}
+
+/// The cell of versions that begins with a zone, with so many readers; None where there is no memory for it, or there would be too
+/// many.
+pub fn parts_of<Z: FirstZone>(
+    alloc: Global,
+    zone: Zone,
+    readers: usize,
+) -> Option<Parts<SharedVersion, ZoneVersions<Z>>>
+    requires { zone ≡ Z.zone }
+    ensures publisher { IfSome result (λ parts. (parts.publisher.cell ≡ parts.cell) × (parts.publisher.number ≡ 0)) }
+    ensures readers { IfSome result (λ parts. All (λ r. r.cell ≡ parts.cell) parts.readers.items × (vec_len parts.readers ≡ readers)) }
+{
+    let first = SharedVersion::new(alloc, Version::first(zone))?;
+    Cell::<SharedVersion, ZoneVersions<Z>>::new(alloc, readers, first).ok()
+}
+
+/// Readers, by the name of their cell, as many as there is room for.
+fn name_all<N: Naming>(
+    mut readers: Vec<Reader<SharedVersion>>,
+    mut named: Vec<VersionReader<N>>,
+) -> Vec<VersionReader<N>>
+    requires { All (λ r. r.cell ≡ N.cell) readers.items }
+{
+    while let Some(reader) = readers.pop() {
+        let _ = named.push(NamedReader::of(reader));
+    }
+    named
+}
+
+/// Ends a cell that no type names. It doesn't return where a reader is missing, or an owner is out.
+fn end_unnamed<R: Wait, Z: FirstZone>(
     rt: &R,
-    cell: &'a VersionCell<Z>,
-    publisher: VersionPublisher<Z>,
-    reader: VersionReader<Z>,
-) -> Option<Server<'a, Z>>
+    cell: Cell<SharedVersion, ZoneVersions<Z>>,
+    publisher: Publisher<SharedVersion, ZoneVersions<Z>>,
+    readers: Vec<Reader<SharedVersion>>,
+)
+    requires publisher { publisher.cell ≡ cell }
+    requires readers { All (λ r. r.cell ≡ cell) readers.items }
+{
+    match cell.close(publisher, readers) {
+        Ok(_) => {}
+        Err(out) => keep(rt, out),
+    }
+}
+
+/// A cell with its publisher and its readers, by its name; None where there is no memory for it: the cell is then ended.
+pub fn named_parts<R: Wait, Z: FirstZone, N: Naming>(
+    rt: &R,
+    alloc: Global,
+    parts: Parts<SharedVersion, ZoneVersions<Z>>,
+) -> Option<NamedParts<Z, N>>
+    requires cell { (parts.cell ≡ N.cell) × (parts.publisher.cell ≡ N.cell) }
+    requires readers { All (λ r. r.cell ≡ N.cell) parts.readers.items }
+    ensures { IfSome result (λ named. named.publisher ≡ parts.publisher) }
+{
+    let Parts {
+        cell,
+        publisher,
+        readers,
+    } = parts;
+    let Ok(named) = Vec::with_capacity(alloc, readers.len()) else {
+        end_unnamed(rt, cell, publisher, readers);
+        return None;
+    };
+    Some(NamedParts {
+        cell: NamedCell::of(cell),
+        publisher: NamedPublisher::of(publisher),
+        readers: name_all(readers, named),
+    })
+}
+
+/// Ends a cell. It doesn't return where a reader is missing, or an owner is out.
+pub fn end<R: Wait, Z: FirstZone, N: Naming>(rt: &R, parts: NamedParts<Z, N>) {
+    let NamedParts {
+        cell,
+        publisher,
+        readers,
+    } = parts;
+    match cell.close(publisher, readers) {
+        Ok(_) => {}
+        Err(out) => keep(rt, out),
+    }
+}
+
+/// The server of a cell, which keeps eight versions. One that should keep nine is refused first; there is none where it isn't.
+pub fn server_of<'a, Z: FirstZone, N: Naming>(
+    cell: &'a VersionCell<Z, N>,
+    publisher: VersionPublisher<Z, N>,
+    reader: VersionReader<N>,
+) -> Result<Server<'a, Z, N>, NoEngine<Z, N>>
     requires { publisher.number ≡ 0 }
 {
-    match Server::new(rt, cell, publisher, reader, 9) {
+    match Server::new(cell, publisher, reader, 9) {
         Err(
             NoEngine {
                 fault: EngineFault::TooGreat,
                 publisher,
                 reader,
             },
-        ) => Server::new(rt, cell, publisher, reader, 8).ok(),
-        _ => None,
+        ) => Server::new(cell, publisher, reader, 8),
+        Err(refused) => Err(refused),
+        Ok(server) => {
+            let (publisher, reader) = server.finish();
+            Err(NoEngine {
+                fault: EngineFault::TooGreat,
+                publisher,
+                reader,
+            })
+        }
     }
 }
 
-/// Whether what is played in a cell that begins with the zone goes as it should; None where there is no memory for the cell.
-fn is_played_over<R: Wait, Z: FirstZone, P: Play>(
+/// What is played in a cell, which is then ended.
+fn play_in<R: Wait, Z: FirstZone, N: Naming, P: Play>(
+    rt: &R,
+    alloc: Global,
+    parts: Parts<SharedVersion, ZoneVersions<Z>>,
+    play: &P,
+) -> Option<bool>
+    requires cell { (parts.cell ≡ N.cell) × (parts.publisher.cell ≡ N.cell) }
+    requires readers { All (λ r. r.cell ≡ N.cell) parts.readers.items }
+    requires first { parts.publisher.number ≡ 0 }
+{
+    let NamedParts {
+        cell,
+        publisher,
+        readers,
+    } = named_parts::<R, Z, N>(rt, alloc, parts)?;
+    let Played {
+        told,
+        publisher,
+        readers,
+    } = play.play(rt, alloc, &cell, publisher, readers);
+    end(
+        rt,
+        NamedParts {
+            cell,
+            publisher,
+            readers,
+        },
+    );
+    told
+}
+
+/// What is played in a cell that begins with the zone.
+fn play_from<R: Wait, Z: FirstZone, P: Play>(
     rt: &R,
     alloc: Global,
     zone: Zone,
@@ -54,19 +206,12 @@ fn is_played_over<R: Wait, Z: FirstZone, P: Play>(
 ) -> Option<bool>
     requires { zone ≡ Z.zone }
 {
-    match Cell::new(rt, alloc, 3, Version::first(zone)) {
-        Ok(
-            Parts {
-                cell,
-                publisher,
-                readers,
-            },
-        ) => play.is_right::<R, Z>(rt, alloc, &cell, publisher, readers),
-        Err(_) => None,
-    }
+    let parts = parts_of::<Z>(alloc, zone, 2)?;
+    play_in::<R, Z, Brand, P>(rt, alloc, parts, play)
 }
 
-/// Whether what is played in a cell that begins with a zone goes as it should; None where there is no memory for it.
+/// Whether what is played in a cell that begins with a zone goes as it should; None where there is no memory for it. The cell is
+/// ended.
 pub fn is_played<R: Wait, P: Play>(rt: &R, alloc: Global, zone: Zone, play: &P) -> Option<bool> {
-    is_played_over::<R, Brand, P>(rt, alloc, zone, play)
+    play_from::<R, Brand, P>(rt, alloc, zone, play)
 }

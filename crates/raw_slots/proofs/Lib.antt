@@ -8,3 +8,4 @@ pub mod Holding
 pub mod Lying
 pub mod RowSteps
 pub mod Sent
+pub mod Closing

@@ -8,12 +8,14 @@
 
 mod bare;
 mod claims;
+mod closed;
 mod laid;
 mod place;
 mod row;
 
 pub use bare::Bare;
 pub use claims::{Tells, claim, collect, unclaim};
+pub use closed::gather_closed;
 pub use laid::{cut_all, gather, join_all, lay, lay_places, unlay};
 pub use place::{Held, Keys, Place, Spot};
 pub use row::Row;

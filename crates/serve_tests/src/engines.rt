@@ -2,11 +2,12 @@
 ghost use Rattle.std.specs.Prelude.{◌≡◌};
 
 use dns_engine::{
-    Engine, EngineFault, FirstZone, KEPT, NoEngine, VersionCell, VersionPublisher, VersionReader,
+    Engine, EngineFault, FirstZone, KEPT, Naming, NoEngine, VersionCell, VersionPublisher,
+    VersionReader,
 };
 use dns_message::{Parsed, Update, parse};
 use dns_rdata::Rcode;
-use played_zones::{Play, SetRow, is_played, octets_of, zone_of};
+use played_zones::{Play, Played, SetRow, is_played, octets_of, zone_of};
 use std::alloc::Global;
 use std::sync::Wait;
 use zone_tree::Zone;
@@ -63,75 +64,96 @@ const ROWS: &[Row] = &[
 ];
 
 /// Whether an update gets its row's code, behind which its row's number and serial stand.
-fn is_told<'a, R: Wait, Z: FirstZone>(
-    rt: &R,
+fn is_told<'a, Z: FirstZone, N: Naming>(
     alloc: Global,
-    cell: &'a VersionCell<Z>,
-    engine: &mut Engine<'a, Z>,
+    cell: &'a VersionCell<Z, N>,
+    engine: &mut Engine<'a, Z, N>,
     row: &Row,
 ) -> bool {
     let Some(update) = update_of(alloc, row.0) else {
         return false;
     };
-    engine.update(rt, alloc, cell, &update, row.1) == row.2
+    engine.update(alloc, cell, &update, row.1) == row.2
         && engine.number() == row.3
         && engine.last_version().serial().0 == row.4
 }
 
-/// The engine of a cell that keeps as many versions as an engine may. One that should keep one more is refused.
-fn engine_of<'a, R: Wait, Z: FirstZone>(
-    rt: &R,
-    cell: &'a VersionCell<Z>,
-    publisher: VersionPublisher<Z>,
-    reader: VersionReader<Z>,
-) -> Option<Engine<'a, Z>>
+/// The engine of a cell that keeps as many versions as an engine may. One that should keep one more is refused first; there is none
+/// where it isn't.
+fn engine_of<'a, Z: FirstZone, N: Naming>(
+    cell: &'a VersionCell<Z, N>,
+    publisher: VersionPublisher<Z, N>,
+    reader: VersionReader<N>,
+) -> Result<Engine<'a, Z, N>, NoEngine<Z, N>>
     requires { publisher.number ≡ 0 }
 {
-    match Engine::new(rt, cell, publisher, reader, KEPT + 1) {
+    match Engine::new(cell, publisher, reader, KEPT + 1) {
         Err(
             NoEngine {
                 fault: EngineFault::TooGreat,
                 publisher,
                 reader,
             },
-        ) => Engine::new(rt, cell, publisher, reader, KEPT).ok(),
-        _ => None,
+        ) => Engine::new(cell, publisher, reader, KEPT),
+        Err(refused) => Err(refused),
+        Ok(engine) => {
+            let (publisher, reader) = engine.finish();
+            Err(NoEngine {
+                fault: EngineFault::TooGreat,
+                publisher,
+                reader,
+            })
+        }
     }
 }
 
-/// Whether an engine that is made of these publishes updates: one makes a version, is refused, or changes nothing.
-fn are_published<'a, R: Wait, Z: FirstZone>(
-    rt: &R,
+/// Whether an engine publishes updates: one makes a version, is refused, or changes nothing.
+fn are_published<'a, Z: FirstZone, N: Naming>(
     alloc: Global,
-    cell: &'a VersionCell<Z>,
-    publisher: VersionPublisher<Z>,
-    reader: VersionReader<Z>,
-) -> Option<bool>
-    requires { publisher.number ≡ 0 }
-{
-    let mut engine = engine_of(rt, cell, publisher, reader)?;
+    cell: &'a VersionCell<Z, N>,
+    engine: &mut Engine<'a, Z, N>,
+) -> bool {
     for row in ROWS {
-        if !is_told(rt, alloc, cell, &mut engine, row) {
-            return Some(false);
+        if !is_told(alloc, cell, engine, row) {
+            return false;
         }
     }
-    Some(true)
+    true
 }
 
 /// The rows' updates.
 struct Updates;
 
 impl Play for Updates {
-    fn is_right<R: Wait, Z: FirstZone>(
+    fn play<R: Wait, Z: FirstZone, N: Naming>(
         &self,
-        rt: &R,
+        _rt: &R,
         alloc: Global,
-        cell: &VersionCell<Z>,
-        publisher: VersionPublisher<Z>,
-        mut readers: Vec<VersionReader<Z>>,
-    ) -> Option<bool> {
-        let reader = readers.pop()?;
-        are_published(rt, alloc, cell, publisher, reader)
+        cell: &VersionCell<Z, N>,
+        publisher: VersionPublisher<Z, N>,
+        mut readers: Vec<VersionReader<N>>,
+    ) -> Played<Z, N> {
+        let Some(reader) = readers.pop() else {
+            return Played {
+                told: None,
+                publisher,
+                readers,
+            };
+        };
+        let (told, publisher, reader) = match engine_of(cell, publisher, reader) {
+            Ok(mut engine) => {
+                let told = are_published(alloc, cell, &mut engine);
+                let (publisher, reader) = engine.finish();
+                (Some(told), publisher, reader)
+            }
+            Err(refused) => (None, refused.publisher, refused.reader),
+        };
+        let _ = readers.push(reader);
+        Played {
+            told,
+            publisher,
+            readers,
+        }
     }
 }
 

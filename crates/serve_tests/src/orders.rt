@@ -2,9 +2,9 @@
 ghost use Rattle.std.specs.Prelude.{[]};
 
 use conversation::{Allowed, Answering, Broken, Counted, Gate, Stream};
+use dns_engine::Spent;
 use played_zones::asker;
 use serve_core::{Peer, Transport};
-use snapshot_cell::Spent;
 use std::alloc::Global;
 use std::net::SocketAddr;
 use std::sync::Wait;

@@ -2,10 +2,12 @@
 ghost use Rattle.std.specs.Prelude.{◌≡◌};
 
 use crate::engines::{small_zone, update_of};
-use dns_engine::{Engine, FirstZone, NoEngine, VersionCell, VersionPublisher, VersionReader};
+use dns_engine::{
+    Engine, FirstZone, Naming, NoEngine, VersionCell, VersionPublisher, VersionReader,
+};
 use dns_message::Update;
 use dns_rdata::{Rcode, Serial};
-use played_zones::{Play, is_played};
+use played_zones::{Play, Played, is_played};
 use std::alloc::Global;
 use std::sync::Wait;
 use transfer_core::ChainView;
@@ -29,25 +31,24 @@ fn update_anew(alloc: Global) -> Option<Update> {
 
 /// The code of an update, or, where it is SERVFAIL and the version published last is still the first, that of the same update sent
 /// anew.
-fn sent_anew<'a, R: Wait, Z: FirstZone>(
-    rt: &R,
+fn sent_anew<'a, Z: FirstZone, N: Naming>(
     alloc: Global,
-    cell: &'a VersionCell<Z>,
-    engine: &mut Engine<'a, Z>,
+    cell: &'a VersionCell<Z, N>,
+    engine: &mut Engine<'a, Z, N>,
     update: &Update,
 ) -> Rcode {
-    let code = engine.update(rt, alloc, cell, update, true);
+    let code = engine.update(alloc, cell, update, true);
     if code == Rcode::ServFail && engine.number() == 0 && engine.last_version().serial().0 == 1 {
-        return engine.update(rt, alloc, cell, update, true);
+        return engine.update(alloc, cell, update, true);
     }
     code
 }
 
 /// Whether the versions that the engine keeps tell what changed since the first; asked once more where they can't be owned.
-fn tells_the_change<'a, Z: FirstZone>(engine: &Engine<'a, Z>, cell: &'a VersionCell<Z>) -> bool {
-    let newest = match engine.newest(cell) {
+fn tells_the_change<Z: FirstZone, N: Naming>(engine: &Engine<'_, Z, N>) -> bool {
+    let newest = match engine.newest() {
         Ok(newest) => newest,
-        Err(_) => match engine.newest(cell) {
+        Err(_) => match engine.newest() {
             Ok(newest) => newest,
             Err(_) => return false,
         },
@@ -55,67 +56,64 @@ fn tells_the_change<'a, Z: FirstZone>(engine: &Engine<'a, Z>, cell: &'a VersionC
     newest.last_version().number() == 1 && newest.chain(Some(Serial(1))).is_whole()
 }
 
-/// The engine of a cell that keeps two versions, made anew where memory is refused.
-fn engine_anew<'a, R: Wait, Z: FirstZone>(
-    rt: &R,
-    cell: &'a VersionCell<Z>,
-    publisher: VersionPublisher<Z>,
-    reader: VersionReader<Z>,
-) -> Option<Engine<'a, Z>>
+/// The engine of a cell that keeps two versions, made anew where it is refused.
+fn engine_anew<'a, Z: FirstZone, N: Naming>(
+    cell: &'a VersionCell<Z, N>,
+    publisher: VersionPublisher<Z, N>,
+    reader: VersionReader<N>,
+) -> Result<Engine<'a, Z, N>, NoEngine<Z, N>>
     requires { publisher.number ≡ 0 }
 {
-    match Engine::new(rt, cell, publisher, reader, 2) {
-        Ok(engine) => Some(engine),
-        Err(
-            NoEngine {
-                publisher,
-                reader,
-                ..
-            },
-        ) => Engine::new(rt, cell, publisher, reader, 2).ok(),
+    match Engine::new(cell, publisher, reader, 2) {
+        Ok(engine) => Ok(engine),
+        Err(refused) => Engine::new(cell, refused.publisher, refused.reader, 2),
     }
 }
 
 /// Whether an engine publishes the update.
-fn publishes<'a, R: Wait, Z: FirstZone>(
-    rt: &R,
+fn publishes<'a, Z: FirstZone, N: Naming>(
     alloc: Global,
-    cell: &'a VersionCell<Z>,
-    engine: &mut Engine<'a, Z>,
+    cell: &'a VersionCell<Z, N>,
+    engine: &mut Engine<'a, Z, N>,
 ) -> Option<bool> {
     let update = update_anew(alloc)?;
-    let code = sent_anew(rt, alloc, cell, engine, &update);
-    Some(code == Rcode::NoError && engine.number() == 1 && tells_the_change(engine, cell))
-}
-
-/// Whether an engine that is made of these publishes the update.
-fn is_published<'a, R: Wait, Z: FirstZone>(
-    rt: &R,
-    alloc: Global,
-    cell: &'a VersionCell<Z>,
-    publisher: VersionPublisher<Z>,
-    reader: VersionReader<Z>,
-) -> Option<bool>
-    requires { publisher.number ≡ 0 }
-{
-    let mut engine = engine_anew(rt, cell, publisher, reader)?;
-    publishes(rt, alloc, cell, &mut engine)
+    let code = sent_anew(alloc, cell, engine, &update);
+    Some(code == Rcode::NoError && engine.number() == 1 && tells_the_change(engine))
 }
 
 /// An update, sent anew where memory is refused.
 struct UpdateAnew;
 
 impl Play for UpdateAnew {
-    fn is_right<R: Wait, Z: FirstZone>(
+    fn play<R: Wait, Z: FirstZone, N: Naming>(
         &self,
-        rt: &R,
+        _rt: &R,
         alloc: Global,
-        cell: &VersionCell<Z>,
-        publisher: VersionPublisher<Z>,
-        mut readers: Vec<VersionReader<Z>>,
-    ) -> Option<bool> {
-        let reader = readers.pop()?;
-        is_published(rt, alloc, cell, publisher, reader)
+        cell: &VersionCell<Z, N>,
+        publisher: VersionPublisher<Z, N>,
+        mut readers: Vec<VersionReader<N>>,
+    ) -> Played<Z, N> {
+        let Some(reader) = readers.pop() else {
+            return Played {
+                told: None,
+                publisher,
+                readers,
+            };
+        };
+        let (told, publisher, reader) = match engine_anew(cell, publisher, reader) {
+            Ok(mut engine) => {
+                let told = publishes(alloc, cell, &mut engine);
+                let (publisher, reader) = engine.finish();
+                (told, publisher, reader)
+            }
+            Err(refused) => (None, refused.publisher, refused.reader),
+        };
+        let _ = readers.push(reader);
+        Played {
+            told,
+            publisher,
+            readers,
+        }
     }
 }
 

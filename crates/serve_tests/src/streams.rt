@@ -1,8 +1,8 @@
 //! Streams of requests and what is written on them, by the octets that RFC 1035, 4 and RFC 2136, 2 give for them, put together by
 //! hand.
 use conversation::{OpenGate, StreamEnd};
-use dns_engine::{FirstZone, VersionCell, VersionPublisher, VersionReader};
-use played_zones::{Kept, Play, asker, is_played, octets_of, server_of, zone};
+use dns_engine::{FirstZone, Naming, VersionCell, VersionPublisher, VersionReader};
+use played_zones::{Kept, Play, Played, asker, is_played, octets_of, server_of, zone};
 use serve_core::{Peer, Transport};
 use std::alloc::Global;
 use std::sync::Wait;
@@ -190,28 +190,18 @@ const STREAMS: &[Row] = &[
     },
 ];
 
-/// Serves a tape, to a peer that may update and transfer or may not.
-fn serve<R: Wait, Z: FirstZone>(
+/// Serves a tape.
+fn serve<R: Wait, Z: FirstZone, N: Naming>(
     rt: &R,
-    alloc: Global,
-    server: &Server<'_, Z>,
-    reader: &mut VersionReader<Z>,
-    may: bool,
-    log: &Kept,
+    asked: &mut Asked<'_, '_, Z, N, Kept>,
     tape: Tape,
 ) -> (StreamEnd, Tape) {
-    let peer = Peer {
-        may_update: may,
-        may_transfer: may,
-        transport: Transport::Tcp,
-    };
-    let mut asked = Asked::new(alloc, server, reader, log, peer, asker(4711));
     let mut request = [0u8; 65_535];
     let mut out = [0u8; 65_535];
     let mut frame = [0u8; 65_537];
     answer_tape(
         rt,
-        &mut asked,
+        asked,
         tape,
         &OpenGate,
         &mut request,
@@ -230,34 +220,72 @@ fn tape_of(alloc: Global, row: &Row) -> Option<Tape> {
 }
 
 /// Whether a row's stream ends as the row says, and what is written and what the log is told are the row's.
-fn is_served<R: Wait, Z: FirstZone>(
+fn is_served<R: Wait, Z: FirstZone, N: Naming>(
     rt: &R,
     alloc: Global,
-    server: &Server<'_, Z>,
-    reader: &mut VersionReader<Z>,
+    asked: &mut Asked<'_, '_, Z, N, Kept>,
+    log: &Kept,
     row: &Row,
 ) -> Option<bool> {
     let tape = tape_of(alloc, row)?;
     let written = octets_of(alloc, row.written)?;
-    let log = Kept::new(alloc);
-    let (end, tape) = serve(rt, alloc, server, reader, row.may, &log, tape);
+    let (end, tape) = serve(rt, asked, tape);
     let is_right = end == row.end && log.has(rt, row.told);
     Some(is_right && tape.written() == written.as_slice())
 }
 
+/// Whether a row's stream goes as it says, by a server whom one of these readers asks, which comes back to them; None also where there is
+/// none.
+fn told_by<R: Wait, Z: FirstZone, N: Naming>(
+    rt: &R,
+    alloc: Global,
+    server: &Server<'_, Z, N>,
+    readers: &mut Vec<VersionReader<N>>,
+    row: &Row,
+) -> Option<bool> {
+    let reader = readers.pop()?;
+    let log = Kept::new(alloc);
+    let peer = Peer {
+        may_update: row.may,
+        may_transfer: row.may,
+        transport: Transport::Tcp,
+    };
+    let mut asked = Asked::new(alloc, server, reader, &log, peer, asker(4711));
+    let told = is_served(rt, alloc, &mut asked, &log, row);
+    let _ = readers.push(asked.into_reader());
+    told
+}
+
 impl Play for Row {
-    fn is_right<R: Wait, Z: FirstZone>(
+    fn play<R: Wait, Z: FirstZone, N: Naming>(
         &self,
         rt: &R,
         alloc: Global,
-        cell: &VersionCell<Z>,
-        publisher: VersionPublisher<Z>,
-        mut readers: Vec<VersionReader<Z>>,
-    ) -> Option<bool> {
-        let reader = readers.pop()?;
-        let server = server_of(rt, cell, publisher, reader)?;
-        let mut reader = readers.pop()?;
-        is_served(rt, alloc, &server, &mut reader, self)
+        cell: &VersionCell<Z, N>,
+        publisher: VersionPublisher<Z, N>,
+        mut readers: Vec<VersionReader<N>>,
+    ) -> Played<Z, N> {
+        let Some(reader) = readers.pop() else {
+            return Played {
+                told: None,
+                publisher,
+                readers,
+            };
+        };
+        let (told, publisher, reader) = match server_of(cell, publisher, reader) {
+            Ok(server) => {
+                let told = told_by(rt, alloc, &server, &mut readers, self);
+                let (publisher, reader) = server.finish();
+                (told, publisher, reader)
+            }
+            Err(refused) => (None, refused.publisher, refused.reader),
+        };
+        let _ = readers.push(reader);
+        Played {
+            told,
+            publisher,
+            readers,
+        }
     }
 }
 

@@ -1,7 +1,7 @@
 //! Requests as datagrams, by a device that lies in memory (RFC 1035, 4.2.1).
 use conversation::{Allowed, Datagrams, DatagramsEnd, OpenGate};
-use dns_engine::{FirstZone, VersionCell, VersionPublisher, VersionReader};
-use played_zones::{Kept, Play, asker, is_played, octets_of, server_of, zone};
+use dns_engine::{FirstZone, Naming, VersionCell, VersionPublisher, VersionReader};
+use played_zones::{Kept, Play, Played, asker, is_played, octets_of, server_of, zone};
 use serve_core::{Peer, Transport};
 use std::alloc::Global;
 use std::net::IpAddr;
@@ -176,25 +176,20 @@ fn is_sent(alloc: Global, sent: &[Datagram], row: &[u8]) -> Option<bool> {
 }
 
 /// Serves a tray, of which at most so many datagrams are answered, to peers that may update and transfer or may not.
-fn serve<R: Wait, Z: FirstZone>(
+fn serve<R: Wait, Z: FirstZone, N: Naming>(
     rt: &R,
-    alloc: Global,
-    server: &Server<'_, Z>,
-    reader: &mut VersionReader<Z>,
+    asked: &mut Asked<'_, '_, Z, N, Kept>,
     may: bool,
     most: u64,
-    log: &Kept,
     tray: Tray,
 ) -> (DatagramsEnd, Tray) {
-    let peer = Peer::over(Transport::Udp, false);
-    let mut asked = Asked::new(alloc, server, reader, log, peer, asker(0));
     let mut request = [0u8; 65_535];
     let mut out = [0u8; 65_535];
     let own = [IpAddr::from([192, 0, 2, 7])];
     let allowed = Allowed::new(if may { &own } else { &[] });
     answer_tray(
         rt,
-        &mut asked,
+        asked,
         tray,
         allowed,
         most,
@@ -205,33 +200,66 @@ fn serve<R: Wait, Z: FirstZone>(
 }
 
 /// Whether the end of a row's datagrams, the count of failures and what is sent are as the row says.
-fn is_served<R: Wait, Z: FirstZone>(
+fn is_served<R: Wait, Z: FirstZone, N: Naming>(
     rt: &R,
     alloc: Global,
-    server: &Server<'_, Z>,
-    reader: &mut VersionReader<Z>,
+    asked: &mut Asked<'_, '_, Z, N, Kept>,
     row: &Row,
 ) -> Option<bool> {
     let tray = tray_of(alloc, row)?;
-    let log = Kept::new(alloc);
-    let (end, tray) = serve(rt, alloc, server, reader, row.may, row.most, &log, tray);
+    let (end, tray) = serve(rt, asked, row.may, row.most, tray);
     let is_right = end == row.end && tray.faults() == row.faults;
     Some(is_right && is_sent(alloc, tray.sent(), row.sent)?)
 }
 
+/// Whether a row's datagrams go as it says, by a server whom one of these readers asks, which comes back to them; None also where there
+/// is none.
+fn told_by<R: Wait, Z: FirstZone, N: Naming>(
+    rt: &R,
+    alloc: Global,
+    server: &Server<'_, Z, N>,
+    readers: &mut Vec<VersionReader<N>>,
+    row: &Row,
+) -> Option<bool> {
+    let reader = readers.pop()?;
+    let log = Kept::new(alloc);
+    let peer = Peer::over(Transport::Udp, false);
+    let mut asked = Asked::new(alloc, server, reader, &log, peer, asker(0));
+    let told = is_served(rt, alloc, &mut asked, row);
+    let _ = readers.push(asked.into_reader());
+    told
+}
+
 impl Play for Row {
-    fn is_right<R: Wait, Z: FirstZone>(
+    fn play<R: Wait, Z: FirstZone, N: Naming>(
         &self,
         rt: &R,
         alloc: Global,
-        cell: &VersionCell<Z>,
-        publisher: VersionPublisher<Z>,
-        mut readers: Vec<VersionReader<Z>>,
-    ) -> Option<bool> {
-        let reader = readers.pop()?;
-        let server = server_of(rt, cell, publisher, reader)?;
-        let mut reader = readers.pop()?;
-        is_served(rt, alloc, &server, &mut reader, self)
+        cell: &VersionCell<Z, N>,
+        publisher: VersionPublisher<Z, N>,
+        mut readers: Vec<VersionReader<N>>,
+    ) -> Played<Z, N> {
+        let Some(reader) = readers.pop() else {
+            return Played {
+                told: None,
+                publisher,
+                readers,
+            };
+        };
+        let (told, publisher, reader) = match server_of(cell, publisher, reader) {
+            Ok(server) => {
+                let told = told_by(rt, alloc, &server, &mut readers, self);
+                let (publisher, reader) = server.finish();
+                (told, publisher, reader)
+            }
+            Err(refused) => (None, refused.publisher, refused.reader),
+        };
+        let _ = readers.push(reader);
+        Played {
+            told,
+            publisher,
+            readers,
+        }
     }
 }
 

@@ -1,6 +1,6 @@
 -- Lists whose elements belong together one by one.
-use Rattle.std.proofs.Common.{◌≡◌, refl, ℕ, length, arith, append-nil, Bool, false, List, [], ◌∷◌, ◌++◌, Result, Ok, Err, MatchResult, All, map, sym, ap, subst, ◌∙◌}
-use Rattle.std.proofs.lemmas.List.Elements.{All-nil, All-cons}
+use Rattle.std.proofs.Common.{◌≡◌, refl, ℕ, length, arith, append-nil, Bool, List, [], ◌∷◌, ◌++◌, Result, Ok, Err, MatchResult, All, map, sym, ap, subst, ◌∙◌}
+use Rattle.std.proofs.lemmas.List.Elements.{All-nil, All-cons, All-head, All-tail}
 use Rattle.std.proofs.lemmas.Simd.{map-map}
 use Rattle.serve_workers.specs.GivenBack.{Each, none, one, IsGivenBack, IsReturned}
 
@@ -33,14 +33,37 @@ each_second R P holds _ _ none = All-nil P
 each_second R P holds _ _ (one {x = x} {xs = xs} {y = y} {ys = ys} first all) = All-cons P y ys (holds x y first) (each_second R P holds xs ys all)
 
 -- a work that is begun, and what comes back of it
-pub ended : {H B W : Type 0} (number : W → ℕ) (lock : ℕ) (lock_of : H → ℕ) (given_of : H → W) (told_of : B → ℕ) (may_of : B → Bool) (work_of : B → W)
+pub ended : {H B W T : Type 0} (number : W → ℕ) (seen : W → List T) (lock : ℕ) (lock_of : H → ℕ) (given_of : H → W) (told_of : B → ℕ) (may_of : B → Bool) (work_of : B → W)
     → (given : W) (begun : Result H B) (back : B)
-    → MatchResult begun (λ h. (lock_of h ≡ lock) × (given_of h ≡ given)) (λ b. IsReturned number lock given (told_of b) (may_of b) (work_of b))
-    → MatchResult begun (λ h. IsReturned number (lock_of h) (given_of h) (told_of back) (may_of back) (work_of back)) (λ b. back ≡ b)
-    → IsReturned number lock given (told_of back) (may_of back) (work_of back)
-ended number lock lock_of given_of told_of may_of work_of given (Ok h) back first then = (then.0 ∙ first.0, (then.1.0 ∙ ap number first.1, λ idle. then.1.1 idle ∙ first.1))
-ended number lock lock_of given_of told_of may_of work_of given (Err b) back first then =
-    subst (λ c. IsReturned number lock given (told_of c) (may_of c) (work_of c)) (sym then) first
+    → MatchResult begun (λ h. (lock_of h ≡ lock) × (given_of h ≡ given)) (λ b. IsReturned number seen lock given (told_of b) (may_of b) (work_of b))
+    → MatchResult begun (λ h. IsReturned number seen (lock_of h) (given_of h) (told_of back) (may_of back) (work_of back)) (λ b. back ≡ b)
+    → IsReturned number seen lock given (told_of back) (may_of back) (work_of back)
+ended number seen lock lock_of given_of told_of may_of work_of given (Ok h) back first then =
+    let own = subst (λ g. IsGivenBack number seen g (may_of back) (work_of back)) first.1 then.1 in
+    (then.0 ∙ first.0, own)
+ended number seen lock lock_of given_of told_of may_of work_of given (Err b) back first then =
+    subst (λ c. IsReturned number seen lock given (told_of c) (may_of c) (work_of c)) (sym then) first
+
+-- what comes back as another work does that is the same, where both were told the same
+pub given_along : {W T : Type 0} (number : W → ℕ) (seen : W → List T) (given : W) (own told : Bool) (back work : W) → own ≡ told → work ≡ back → IsGivenBack number seen given own back → IsGivenBack number seen given told work
+given_along number seen given own told back work same is r =
+    let with_told = subst (λ (b : Bool). IsGivenBack number seen given b back) same r in
+    subst (λ w. IsGivenBack number seen given told w) (sym is) with_told
+
+-- what is related one by one is so by a wider relation
+pub each_wider : {A B : Type 0} (R S : A → B → Type 0) → ((x : A) (y : B) → R x y → S x y) → (xs : List A) (ys : List B) → Each R xs ys → Each S xs ys
+each_wider R S wider _ _ none = none
+each_wider R S wider _ _ (one first all) = one (wider _ _ first) (each_wider R S wider _ _ all)
+
+-- what is itself is related to itself
+pub each_itself : {A : Type 0} (R : A → A → Type 0) → ((x : A) → R x x) → (xs : List A) → Each R xs xs
+each_itself R itself [] = none
+each_itself R itself (x ∷ xs) = one (itself x) (each_itself R itself xs)
+
+-- what holds of each holds of the last
+pub all_last : {A : Type 0} (P : A → Type 0) (xs : List A) (x : A) → All P (xs ++ x ∷ []) → P x
+all_last P [] x all = All-head P x [] all
+all_last P (y ∷ ys) x all = all_last P ys x (All-tail P y (ys ++ x ∷ []) all)
 
 -- what was taken from the front is all, where nothing is left
 pub all_taken : {A : Type 0} (front rest all : List A) → front ++ rest ≡ all → length rest ≡ 0 → front ≡ all
@@ -56,3 +79,12 @@ pub numbers_along : {P W : Type 0} (number : P → ℕ) (pair_of : W → P) (pai
     → back ≡ map pair_of done → map (λ w. number (pair_of w)) done ≡ map (λ w. number (pair_of w)) works → map pair_of works ≡ pairs → map number back ≡ map number pairs
 numbers_along number pair_of pairs back works done out same in' =
     ap (map number) out ∙ map-map number pair_of done ∙ same ∙ sym (map-map number pair_of works) ∙ ap (map number) in'
+
+-- what is related by something of each is so when that is taken of each
+pub each_map : {A B : Type 0} (S : B → B → Type 0) (f : A → B) (xs ys : List A) → Each (λ x y. S (f x) (f y)) xs ys → Each S (map f xs) (map f ys)
+each_map S f _ _ none = none
+each_map S f _ _ (one first all) = one first (each_map S f _ _ all)
+
+-- what is put in and taken out again stays related, where what it is put in does
+pub each_put : {P W : Type 0} (S : P → P → Type 0) (pair_of : W → P) (pairs back : List P) (works done : List W) → back ≡ map pair_of done → Each (λ given work. S (pair_of given) (pair_of work)) works done → map pair_of works ≡ pairs → Each S pairs back
+each_put S pair_of pairs back works done out all in' = subst (λ l. Each S pairs l) (sym out) (subst (λ l. Each S l (map pair_of done)) in' (each_map S pair_of works done all))

@@ -1,5 +1,5 @@
 -- Numbers one after the other.
-use Rattle.std.proofs.Common.{◌≡◌, ℕ, zero, suc, ◌+◌, Bool, true, false, not, if◌then◌else◌, List, [], ◌∷◌, ◌++◌, map, arith, ap, ◌∙◌}
+use Rattle.std.proofs.Common.{◌≡◌, ℕ, zero, suc, ◌+◌, Bool, true, false, not, if◌then◌else◌, List, [], ◌∷◌, ◌++◌, map, append_assoc, arith, sym, ap, ◌∙◌}
 use Rattle.std.proofs.lemmas.List.{map_push}
 use Rattle.std.specs.List.{range_with_len}
 
@@ -15,6 +15,11 @@ numbers_more a n more j next last = let on : more ≡ suc n = omega arith in ap 
 -- one more of a list, of which each has something
 pub map_more : {A B : Type 0} (f : A → B) (xs more : List A) (x : A) (ys : List B) (y : B) → more ≡ xs ++ x ∷ [] → map f xs ≡ ys → f x ≡ y → map f more ≡ ys ++ y ∷ []
 map_more f xs more x ys y pushed before last = ap (map f) pushed ∙ map_push f xs x ∙ ap (λ l. l ++ f x ∷ []) before ∙ ap (λ z. ys ++ z ∷ []) last
+
+-- one more of a list, of which each has something that is taken off the front of another
+pub map_taken : {A B : Type 0} (f : A → B) (xs more : List A) (x : A) (before rest all : List B) → more ≡ xs ++ x ∷ [] → map f xs ++ before ≡ all → before ≡ f x ∷ rest → map f more ++ rest ≡ all
+map_taken f xs more x before rest all pushed whole taken =
+    ap (λ l. map f l ++ rest) pushed ∙ ap (λ l. l ++ rest) (map_push f xs x) ∙ append_assoc (map f xs) (f x ∷ []) rest ∙ ap (λ l. map f xs ++ l) (sym taken) ∙ whole
 
 -- what was put where that went well
 pub put_well : {A : Type 0} (well failed : Bool) (more longer same : List A) → more ≡ (if well then longer else same) → well ≡ not failed → failed ≡ false → more ≡ longer

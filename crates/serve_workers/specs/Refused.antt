@@ -1,5 +1,5 @@
 -- Why no connection was accepted, by the number of the system's error (Linux, accept(2); own).
-use Rattle.std.specs.Prelude.{◌≡◌, ◌==◌, ℕ, ℤ, pos, negsuc, Bool, false, if◌then◌else◌, List, [], ◌∷◌, Option, None, Some}
+use Rattle.std.specs.Prelude.{◌==◌, ℕ, ℤ, pos, negsuc, Bool, false, if◌then◌else◌, List, [], ◌∷◌, Option, None, Some}
 use Rattle.std.specs.List.{list_any}
 use Rattle.serve_workers.specs.declared.tcp.Refusal.{Refusal}
 use Rattle.serve_workers.specs.declared.tcp.Refusal.TheVariants.{Client, Room, Listener}

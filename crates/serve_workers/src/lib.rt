@@ -6,6 +6,7 @@
 #![tactic(auto)]
 
 mod connection;
+mod ending;
 mod interrupted;
 mod listener;
 mod scratch;

@@ -1,21 +1,27 @@
 //! A zone served on sockets, by workers.
-ghost use Rattle.std.specs.Prelude.{◌≡◌, ◌+◌, ◌*◌, ◌%◌, ◌≤◌, ◌⊎◌, true, false, map, vec_len, IfOk, IfErr, IfSome};
-ghost use Rattle.std.specs.List.{range_with_len};
+ghost use Rattle.std.specs.Prelude.{◌≡◌, ◌+◌, ◌*◌, ◌%◌, ◌<◌, ◌≤◌, ◌⊎◌, [], true, false, map, vec_len, vec_capacity, IfOk, IfErr, IfSome};
+ghost use Rattle.std.specs.List.{All, range_with_len};
 ghost use Rattle.dns_engine.specs.Held.{KEPT};
-ghost use Rattle.snapshot_cell.specs.declared.cell.TheConstants.{READERS};
+ghost use Rattle.snapshot_cell.specs.declared.tokens.TheConstants.{READERS};
 ghost use Rattle.serve_workers.specs.declared.service.ServeFault.{ServeFault as Fault};
 ghost use Rattle.serve_workers.specs.Numbers.{number_of, takes_datagrams};
 
+use crate::ending::{end_cell, end_named};
 use crate::listener::SharedListener;
 use crate::scratch::Scratch;
 use crate::shared_socket::SharedSocket;
 use crate::tcp::TcpJob;
 use crate::udp_job::UdpJob;
-use crate::workers::{Job, run_workers};
+use crate::workers::{Job, NotStarted, run_workers};
 use conversation::{Allowed, Answering, Gate, OpenGate};
-use dns_engine::{EngineFault, FirstZone, VersionCell, VersionPublisher, VersionReader};
-use snapshot_cell::{Cell, NewFault, Parts};
+use dns_engine::{
+    FirstZone, SharedVersion, VersionCell, VersionPublisher, VersionReader, ZoneVersions,
+};
+use snapshot_cell::{
+    Cell, NamedCell, NamedPublisher, NamedReader, Naming, NewFault, Parts, Reader,
+};
 use std::alloc::Global;
+use std::marker::Brand;
 use std::net::{TcpListener, UdpSocket};
 use std::sync::Wait;
 use std::thread::Threads;
@@ -103,8 +109,8 @@ impl<C: Clock + Sync> Job for SocketJob<'_, C> {
 }
 
 /// Serves a zone on sockets: its workers answer queries in the version that is published last, and updates, each of which publishes
-/// the next one (RFC 1035, 4.2; RFC 2136, 3). It ends once each worker has done what it may, or has failed. The log is told of each
-/// change, and of each end of a worker.
+/// the next one (RFC 1035, 4.2; RFC 2136, 3). It ends once each worker has done what it may, or has failed; then its cell is ended
+/// too. The log is told of each change, and of each end of a worker.
 pub fn serve_zone<
     R: Threads + Wait + Clock + Sync,
     Z: FirstZone + Send + Sync,
@@ -114,70 +120,142 @@ pub fn serve_zone<
     requires workers { 2 * plan.workers + 1 ≤ READERS }
     requires kept { plan.keep ≤ KEPT }
 {
-    let readers = plan.workers.saturating_mul(2).saturating_add(1);
-    let Parts {
-        cell,
-        publisher,
-        readers,
-    } = match Cell::new(rt, alloc, readers, Version::first(zone)) {
+    let workers = plan.workers.saturating_mul(2);
+    let jobs = jobs_of(rt, alloc, plan, workers)?;
+    let Some(first) = SharedVersion::new(alloc, Version::first(zone)) else {
+        return Err(ServeFault::NoMemory);
+    };
+    let parts = match Cell::<SharedVersion, ZoneVersions<Z>>::new(alloc, workers + 1, first) {
         Ok(parts) => parts,
         Err(NewFault::TooManyReaders) => unreachable!(),
         Err(NewFault::NoMemory) => return Err(ServeFault::NoMemory),
     };
-    serve_cell::<R, Z, L>(rt, alloc, &cell, publisher, readers, plan, log)
+    serve_parts::<R, Z, Brand, L>(rt, alloc, parts, jobs, plan.keep, log)
 }
 
-/// Serves the versions of a cell in which the first one alone is published, with a reader for the engine and one for each worker.
-fn serve_cell<R: Threads + Wait + Clock + Sync, Z: FirstZone + Send + Sync, L: ServiceLog + Sync>(
+/// Serves the versions of a cell in which the first one alone is published, by jobs, with a reader for each and one for the engine,
+/// and ends the cell.
+fn serve_parts<
+    R: Threads + Wait + Clock + Sync,
+    Z: FirstZone + Send + Sync,
+    N: Naming + Send + Sync,
+    L: ServiceLog + Sync,
+>(
     rt: &R,
     alloc: Global,
-    cell: &VersionCell<Z>,
-    publisher: VersionPublisher<Z>,
-    mut readers: Vec<VersionReader<Z>>,
-    plan: Plan<'_>,
+    parts: Parts<SharedVersion, ZoneVersions<Z>>,
+    jobs: Vec<SocketJob<'_, R>>,
+    keep: usize,
     log: &L,
 ) -> Result<(), ServeFault>
-    requires first { publisher.number ≡ 0 }
-    requires readers { vec_len readers ≡ 2 * plan.workers + 1 }
-    requires kept { plan.keep ≤ KEPT }
+    requires named { parts.cell ≡ N.cell }
+    requires publisher { (parts.publisher.cell ≡ parts.cell) × (parts.publisher.number ≡ 0) }
+    requires readers { All (λ r. (r.cell ≡ parts.cell) × (0 < r.left)) parts.readers.items }
+    requires count { vec_len parts.readers ≡ vec_len jobs + 1 }
+    requires kept { keep ≤ KEPT }
 {
+    let Parts {
+        cell,
+        publisher,
+        mut readers,
+    } = parts;
+    let pairs: Result<Vec<(VersionReader<N>, SocketJob<'_, R>)>, _> = Vec::with_capacity(
+        alloc,
+        jobs.len(),
+    );
+    let back: Result<Vec<VersionReader<N>>, _> = Vec::with_capacity(alloc, readers.len());
+    let (Ok(pairs), Ok(back)) = (pairs, back) else {
+        end_cell(rt, cell, publisher, readers);
+        return Err(ServeFault::NoMemory);
+    };
     let Some(reader) = readers.pop() else {
         unreachable!()
     };
-    let server = match Server::new(rt, cell, publisher, reader, plan.keep) {
-        Ok(server) => server,
-        Err(refused) => match refused.fault {
-            EngineFault::TooGreat => unreachable!(),
-            EngineFault::Spent => return Err(ServeFault::Spent),
-        },
-    };
-    serve_with(rt, alloc, &server, readers, plan, log)
+    let (cell, publisher) = (NamedCell::of(cell), NamedPublisher::of(publisher));
+    let (reader, pairs) = (NamedReader::of(reader), pairs_of(readers, jobs, pairs));
+    let (served, publisher, readers) = serve_cell::<R, Z, N, L>(
+        rt, alloc, &cell, publisher, reader, pairs, back, keep, log,
+    );
+    end_named(rt, cell, publisher, readers);
+    served
 }
 
-/// Serves the versions of a server's cell, with a worker for each reader.
-fn serve_with<R: Threads + Wait + Clock + Sync, Z: FirstZone + Send + Sync, L: ServiceLog + Sync>(
+/// Serves the versions of a cell in which the first one alone is published, by workers and an engine with readers of it. The cell's
+/// tokens come back: the publisher, and the readers in `back`, which has room for them.
+fn serve_cell<
+    R: Threads + Wait + Clock + Sync,
+    Z: FirstZone + Send + Sync,
+    N: Naming + Send + Sync,
+    L: ServiceLog + Sync,
+>(
     rt: &R,
     alloc: Global,
-    server: &Server<'_, Z>,
-    readers: Vec<VersionReader<Z>>,
-    plan: Plan<'_>,
+    cell: &VersionCell<Z, N>,
+    publisher: VersionPublisher<Z, N>,
+    reader: VersionReader<N>,
+    pairs: Vec<(VersionReader<N>, SocketJob<'_, R>)>,
+    mut back: Vec<VersionReader<N>>,
+    keep: usize,
+    log: &L,
+) -> (
+    Result<(), ServeFault>,
+    VersionPublisher<Z, N>,
+    Vec<VersionReader<N>>,
+)
+    requires first { publisher.number ≡ 0 }
+    requires grant { 0 < reader.left }
+    requires kept { keep ≤ KEPT }
+    requires empty { back.items ≡ [] }
+    requires room { vec_len pairs < vec_capacity back }
+    ensures { vec_len result.2 ≡ vec_len pairs.entry + 1 }
+{
+    let Ok(server) = Server::new(cell, publisher, reader, keep) else {
+        unreachable!()
+    };
+    let served = serve_with(rt, alloc, &server, pairs, &mut back, log);
+    let (publisher, reader) = server.finish();
+    back.push_reserved(reader);
+    (served, publisher, back)
+}
+
+/// Serves the versions of a server's cell, by workers with readers, which are then put into `back`, which has room for them.
+fn serve_with<
+    R: Threads + Wait + Clock + Sync,
+    Z: FirstZone + Send + Sync,
+    N: Naming + Send + Sync,
+    L: ServiceLog + Sync,
+>(
+    rt: &R,
+    alloc: Global,
+    server: &Server<'_, Z, N>,
+    pairs: Vec<(VersionReader<N>, SocketJob<'_, R>)>,
+    back: &mut Vec<VersionReader<N>>,
     log: &L,
 ) -> Result<(), ServeFault>
-    requires { vec_len readers ≡ 2 * plan.workers }
+    requires room { vec_len pairs < vec_capacity back.old }
+    requires empty { back.old.items ≡ [] }
+    ensures count { vec_len back.new ≡ vec_len pairs.entry }
+    ensures room { vec_capacity back.new ≡ vec_capacity back.old }
 {
-    let pairs = pairs_of(rt, alloc, readers, plan)?;
-    let Ok(pairs) = run_workers(rt, alloc, server, pairs, &OpenGate, log) else {
-        return Err(ServeFault::NotStarted);
-    };
-    match fault_in(&pairs) {
-        Some(fault) => Err(fault),
-        None => Ok(()),
+    match run_workers(rt, alloc, server, pairs, &OpenGate, log) {
+        Ok(pairs) => {
+            let fault = fault_in(&pairs);
+            put_readers(pairs, back);
+            match fault {
+                Some(fault) => Err(fault),
+                None => Ok(()),
+            }
+        }
+        Err(NotStarted(pairs)) => {
+            put_readers(pairs, back);
+            Err(ServeFault::NotStarted)
+        }
     }
 }
 
 /// Why the first of the jobs that have failed has done so; none where none has.
-fn fault_in<Z: FirstZone, C: Clock>(
-    pairs: &[(VersionReader<Z>, SocketJob<'_, C>)],
+fn fault_in<N: Naming, C: Clock>(
+    pairs: &[(VersionReader<N>, SocketJob<'_, C>)],
 ) -> Option<ServeFault>
     ensures { IfSome result (λ fault. (fault ≡ Fault.Device) ⊎ (fault ≡ Fault.Spent)) }
 {
@@ -187,6 +265,21 @@ fn fault_in<Z: FirstZone, C: Clock>(
         }
     }
     None
+}
+
+/// Puts the readers of pairs into `back`, which has room for them.
+fn put_readers<N: Naming, C: Clock>(
+    pairs: Vec<(VersionReader<N>, SocketJob<'_, C>)>,
+    back: &mut Vec<VersionReader<N>>,
+)
+    requires room { vec_len pairs ≤ vec_capacity back.old }
+    requires empty { back.old.items ≡ [] }
+    ensures readers { back.new.items ≡ map (λ pair. pair.0) pairs.entry.items }
+    ensures room { vec_capacity back.new ≡ vec_capacity back.old }
+{
+    for (reader, _job) in pairs {
+        back.push_reserved(reader);
+    }
 }
 
 /// The job of a worker, by its number: on datagrams where that is odd, else on connections.
@@ -210,30 +303,49 @@ fn job_of<'a, R: Clock>(
     }
 }
 
-/// The readers in their order, each with its job; the jobs are numbered from 1.
-fn pairs_of<'a, R: Clock, Z: FirstZone>(
+/// The jobs of so many workers, which are numbered from 1.
+fn jobs_of<'a, R: Clock>(
     rt: &'a R,
     alloc: Global,
-    readers: Vec<VersionReader<Z>>,
     plan: Plan<'a>,
-) -> Result<Vec<(VersionReader<Z>, SocketJob<'a, R>)>, ServeFault>
-    ensures readers { IfOk result (λ pairs. map (λ pair. pair.0) pairs.items ≡ readers.items) }
-    ensures numbers { IfOk result (λ pairs. map (λ pair. number_of pair.1) pairs.items ≡ range_with_len 1 (vec_len readers)) }
+    count: usize,
+) -> Result<Vec<SocketJob<'a, R>>, ServeFault>
+    ensures numbers { IfOk result (λ jobs. map (λ job. number_of job) jobs.items ≡ range_with_len 1 count) }
+    ensures count { IfOk result (λ jobs. vec_len jobs ≡ count) }
     ensures refused { IfErr result (λ fault. fault ≡ Fault.NoMemory) }
 {
-    let mut pairs = Vec::new(alloc);
-    let mut number = 0usize;
-    for reader in readers {
-        number = number.saturating_add(1);
+    let mut jobs = Vec::new(alloc);
+    for before in 0..count {
         let Ok(scratch) = Scratch::new(alloc) else {
             return Err(ServeFault::NoMemory);
         };
-        if pairs
-            .push((reader, job_of(rt, plan, number, scratch)))
-            .is_err()
-        {
+        if jobs.push(job_of(rt, plan, before + 1, scratch)).is_err() {
             return Err(ServeFault::NoMemory);
         }
     }
-    Ok(pairs)
+    Ok(jobs)
+}
+
+/// The readers of a cell in their order, each with its job, in `pairs`, which has room for them.
+fn pairs_of<'a, N: Naming, C: Clock>(
+    readers: Vec<Reader<SharedVersion>>,
+    jobs: Vec<SocketJob<'a, C>>,
+    mut pairs: Vec<(VersionReader<N>, SocketJob<'a, C>)>,
+) -> Vec<(VersionReader<N>, SocketJob<'a, C>)>
+    requires named { All (λ r. r.cell ≡ N.cell) readers.items }
+    requires count { vec_len readers ≡ vec_len jobs }
+    requires room { vec_len jobs ≤ vec_capacity pairs }
+    requires empty { (pairs.items ≡ []) × (vec_len pairs ≡ 0) }
+    ensures readers { map (λ pair. pair.0) result.items ≡ readers.items }
+    ensures jobs { map (λ pair. pair.1) result.items ≡ jobs.entry.items }
+    ensures count { vec_len result ≡ vec_len jobs.entry }
+{
+    let mut jobs = jobs.into_iter();
+    for reader in readers {
+        let Some(job) = jobs.next() else {
+            unreachable!()
+        };
+        pairs.push_reserved((NamedReader::of(reader), job));
+    }
+    pairs
 }

@@ -1,10 +1,13 @@
 //! Workers: jobs, each on a thread of its own.
-ghost use Rattle.std.specs.Prelude.{◌≡◌, ℕ, ◌≤◌, false, [], All, map, vec_len, vec_capacity, IfOk, IfErr, MatchResult};
+ghost use Rattle.std.specs.Prelude.{◌≡◌, ℕ, ◌≤◌, false, [], List, All, map, vec_len, vec_capacity, IfOk, IfErr, MatchResult};
+ghost use Rattle.zone_tree.specs.Version.{Version};
+ghost use Rattle.conversation.specs.Served.{BeginsWith};
 ghost use Rattle.serve_workers.specs.GivenBack.{Each, IsReturned};
 
 use conversation::{Answering, Gate};
 use dns_engine::{FirstZone, VersionReader};
 use serve_core::{Peer, Transport};
+use snapshot_cell::Naming;
 use std::alloc::Global;
 use std::net::{Ipv4Addr, SocketAddr, SocketAddrV4};
 use std::snapshot::Snapshot;
@@ -26,22 +29,27 @@ pub trait Job: Send + Drop {
         gate: &G,
         log: &L,
     )
-        ensures { number self.new ≡ number self.old };
+        ensures number { number self.new ≡ number self.old }
+        ensures grows { BeginsWith (A.seen answering.new) (A.seen answering.old) };
 }
 
 /// Not all jobs could be started, since a thread was refused, or there was no memory to keep track of them: the pairs come back, and
 /// none of the jobs has begun.
 #[derive(Drop)]
-pub struct NotStarted<Z: FirstZone, J>(pub Vec<(VersionReader<Z>, J)>);
+pub struct NotStarted<N: Naming, J>(pub Vec<(VersionReader<N>, J)>);
 
 /// What is done on a thread.
 trait Work: Send + Drop {
     /// The work's number, which stays.
     ghost number: { Self → ℕ };
 
+    /// The versions that its reader has seen published, the first one first.
+    ghost seen: { Self → List Version };
+
     /// Does it.
     fn work<R: Wait>(&mut self, rt: &R)
-        ensures { number self.new ≡ number self.old };
+        ensures number { number self.new ≡ number self.old }
+        ensures grows { BeginsWith (seen self.new) (seen self.old) };
 }
 
 /// Nobody's address.
@@ -49,30 +57,30 @@ fn nobody() -> SocketAddr {
     SocketAddr::V4(SocketAddrV4::new(Ipv4Addr::new(0, 0, 0, 0), 0))
 }
 
-/// A job with its reader, and the server, the gate and the log that it is done with.
+/// A job with who answers in it by a reader, and the gate and the log that it is done with.
 #[derive(Drop)]
-struct Worker<'g, 's, Z: FirstZone, J, G, L> {
-    alloc: Global,
-    server: &'g Server<'s, Z>,
+struct Worker<'g, 's, Z: FirstZone, N: Naming, J, G, L> {
+    asked: Asked<'g, 's, Z, N, L>,
+    job: J,
     gate: &'g G,
     log: &'g L,
-    pair: (VersionReader<Z>, J),
 }
 
-impl<'g, 's, Z: FirstZone + Send + Sync, J: Job, G: Gate + Sync, L: ServiceLog + Sync> Work
-    for Worker<'g, 's, Z, J, G, L> {
-    ghost number = { λ worker. J.number worker.pair.1 };
+impl<
+    'g,
+    's,
+    Z: FirstZone + Send + Sync,
+    N: Naming + Send + Sync,
+    J: Job,
+    G: Gate + Sync,
+    L: ServiceLog + Sync,
+> Work for Worker<'g, 's, Z, N, J, G, L> {
+    ghost number = { λ worker. J.number worker.job };
+
+    ghost seen = { λ worker. worker.asked.reader.seen };
 
     fn work<R: Wait>(&mut self, rt: &R) {
-        let mut asked = Asked::new(
-            self.alloc,
-            self.server,
-            &mut self.pair.0,
-            self.log,
-            Peer::over(Transport::Udp, false),
-            nobody(),
-        );
-        self.pair.1.run(rt, &mut asked, self.gate, self.log);
+        self.job.run(rt, &mut self.asked, self.gate, self.log);
     }
 }
 
@@ -91,12 +99,12 @@ struct Given<'m, W> {
 }
 
 impl<'m, W: Work> Promise<Returned<'m, W>> for Given<'m, W> {
-    ghost kept_by = { λ given back. IsReturned W.number given.may.now.id given.work.value back.told.of back.told.value back.work };
+    ghost kept_by = { λ given back. IsReturned W.number W.seen given.may.now.id given.work.value back.told.of back.told.value back.work };
 }
 
 /// Does a work once all threads have been started; not at all where one was refused.
 fn do_one<'m, R: Wait, W: Work>(rt: &R, may: &'m OnceLock<bool>, mut work: W) -> Returned<'m, W>
-    ensures { IsReturned W.number may.entry.now.id work result.told.of result.told.value result.work }
+    ensures { IsReturned W.number W.seen may.entry.now.id work result.told.of result.told.value result.work }
 {
     may.wait(rt);
     let told = may.init(rt, || false);
@@ -118,7 +126,7 @@ fn begin<'s, E, R: Threads + Wait + Sync, W: Work + 's>(
 ) -> Begun<'s, W>
     ensures { MatchResult result
         (λ handle. (handle.promise.may.now.id ≡ may.entry.now.id) × (handle.promise.work.value ≡ work))
-        (λ back. IsReturned W.number may.entry.now.id work back.told.of back.told.value back.work) }
+        (λ back. IsReturned W.number W.seen may.entry.now.id work back.told.of back.told.value back.work) }
 {
     let given = Given {
         may,
@@ -148,7 +156,7 @@ fn begin_all<'s, E, R: Threads + Wait + Sync, W: Work + 's>(
     ensures count { vec_len result ≡ vec_len works }
     ensures begun { Each (λ given one. MatchResult one
         (λ handle. (handle.promise.may.now.id ≡ may.entry.now.id) × (handle.promise.work.value ≡ given))
-        (λ back. IsReturned W.number may.entry.now.id given back.told.of back.told.value back.work)) works.items result.items }
+        (λ back. IsReturned W.number W.seen may.entry.now.id given back.told.of back.told.value back.work)) works.items result.items }
 {
     for work in works {
         begun.push_reserved(begin(rt, scope, may, work));
@@ -159,7 +167,7 @@ fn begin_all<'s, E, R: Threads + Wait + Sync, W: Work + 's>(
 /// Waits for a work.
 fn end<'s, R: Threads, W: Work>(rt: &R, begun: Begun<'s, W>) -> Returned<'s, W>
     ensures { MatchResult begun.entry
-        (λ handle. IsReturned W.number handle.promise.may.now.id handle.promise.work.value result.told.of result.told.value result.work)
+        (λ handle. IsReturned W.number W.seen handle.promise.may.now.id handle.promise.work.value result.told.of result.told.value result.work)
         (λ back. result ≡ back) }
 {
     match begun {
@@ -179,7 +187,7 @@ fn end_all<'s, R: Threads, W: Work>(
     requires len { vec_len returned ≡ 0 }
     ensures count { vec_len result ≡ vec_len begun.entry }
     ensures ended { Each (λ one back. MatchResult one
-        (λ handle. IsReturned W.number handle.promise.may.now.id handle.promise.work.value back.told.of back.told.value back.work)
+        (λ handle. IsReturned W.number W.seen handle.promise.may.now.id handle.promise.work.value back.told.of back.told.value back.work)
         (λ given. back ≡ given)) begun.entry.items result.items }
 {
     for one in begun {
@@ -219,6 +227,7 @@ fn do_in<'s, E, R: Threads + Wait + Sync, W: Work + 's>(
     works: Vec<W>,
 ) -> (bool, Vec<W>)
     ensures numbers { map W.number result.1.items ≡ map W.number works.items }
+    ensures seen { Each (λ given work. BeginsWith (W.seen work) (W.seen given)) works.items result.1.items }
     ensures none { result.0 ≡ false → result.1.items ≡ works.items }
 {
     let count = works.len();
@@ -242,72 +251,82 @@ fn do_in<'s, E, R: Threads + Wait + Sync, W: Work + 's>(
 /// refused, or where there is no memory to keep track of them: none of the works has then begun.
 fn do_all<R: Threads + Wait + Sync, W: Work>(rt: &R, alloc: Global, works: Vec<W>) -> (bool, Vec<W>)
     ensures numbers { map W.number result.1.items ≡ map W.number works.items }
+    ensures seen { Each (λ given work. BeginsWith (W.seen work) (W.seen given)) works.items result.1.items }
     ensures none { result.0 ≡ false → result.1.items ≡ works.items }
 {
     let may = &OnceLock::new();
-    thread::scope(thread::scope_env(), rt, |scope| {
-        do_in(rt, alloc, scope, may, works)
-    })
+    thread::scope(
+        thread::scope_env(),
+        rt,
+        |scope|
+            ensures numbers { map W.number result.1.items ≡ map W.number works.items }
+            ensures seen { Each (λ given work. BeginsWith (W.seen work) (W.seen given)) works.items result.1.items }
+            ensures none { result.0 ≡ false → result.1.items ≡ works.items }
+        { do_in(rt, alloc, scope, may, works) },
+    )
 }
 
 /// Puts the workers of pairs into `works`, which has room for them.
-fn put_workers<'g, 's, Z: FirstZone, J: Drop, G, L>(
+fn put_workers<'g, 's, Z: FirstZone, N: Naming, J: Drop, G, L: ServiceLog>(
     alloc: Global,
-    server: &'g Server<'s, Z>,
+    server: &'g Server<'s, Z, N>,
     gate: &'g G,
     log: &'g L,
-    pairs: Vec<(VersionReader<Z>, J)>,
-    works: &mut Vec<Worker<'g, 's, Z, J, G, L>>,
+    pairs: Vec<(VersionReader<N>, J)>,
+    works: &mut Vec<Worker<'g, 's, Z, N, J, G, L>>,
 )
     requires room { vec_len pairs ≤ vec_capacity works.old }
     requires empty { works.old.items ≡ [] }
-    ensures pairs { map (λ worker. worker.pair) works.new.items ≡ pairs.items }
+    ensures pairs { map (λ worker. (worker.asked.reader, worker.job)) works.new.items ≡ pairs.items }
 {
-    for pair in pairs {
+    for (reader, job) in pairs {
+        let peer = Peer::over(Transport::Udp, false);
         works.push_reserved(Worker {
-            alloc,
-            server,
+            asked: Asked::new(alloc, server, reader, log, peer, nobody()),
+            job,
             gate,
             log,
-            pair,
         });
     }
 }
 
 /// Puts the pairs of workers into `back`, which has room for them.
-fn put_pairs<Z: FirstZone, J: Drop, G, L>(
-    done: Vec<Worker<'_, '_, Z, J, G, L>>,
-    back: &mut Vec<(VersionReader<Z>, J)>,
+fn put_pairs<Z: FirstZone, N: Naming, J: Drop, G, L: ServiceLog>(
+    done: Vec<Worker<'_, '_, Z, N, J, G, L>>,
+    back: &mut Vec<(VersionReader<N>, J)>,
 )
     requires room { vec_len done ≤ vec_capacity back.old }
     requires empty { back.old.items ≡ [] }
-    ensures pairs { back.new.items ≡ map (λ worker. worker.pair) done.entry.items }
+    ensures pairs { back.new.items ≡ map (λ worker. (worker.asked.reader, worker.job)) done.entry.items }
 {
-    for Worker { pair, .. } in done {
-        back.push_reserved(pair);
+    for Worker { asked, job, .. } in done {
+        back.push_reserved((asked.into_reader(), job));
     }
 }
 
-/// Does each job on a thread of its own, with a reader, and waits for all; then gives the pairs back in their order. No job begins
-/// until each has its thread. [`NotStarted`] where a thread was refused, or where there was no memory to keep track of them: no job
-/// has begun, and the pairs come back as they were given.
+/// Does each job on a thread of its own, with a reader, and waits for all; then gives the pairs back in their order: each job with the
+/// reader that it was given, of which what it has seen published begins with what it had seen. No job begins until each has its
+/// thread. [`NotStarted`] where a thread was refused, or where there was no memory to keep track of them: no job has begun, and the
+/// pairs come back as they were given.
 pub fn run_workers<
     'g,
     's,
     R: Threads + Wait + Sync,
     Z: FirstZone + Send + Sync,
+    N: Naming + Send + Sync,
     J: Job,
     G: Gate + Sync,
     L: ServiceLog + Sync,
 >(
     rt: &R,
     alloc: Global,
-    server: &'g Server<'s, Z>,
-    pairs: Vec<(VersionReader<Z>, J)>,
+    server: &'g Server<'s, Z, N>,
+    pairs: Vec<(VersionReader<N>, J)>,
     gate: &'g G,
     log: &'g L,
-) -> Result<Vec<(VersionReader<Z>, J)>, NotStarted<Z, J>>
+) -> Result<Vec<(VersionReader<N>, J)>, NotStarted<N, J>>
     ensures done { IfOk result (λ back. map (λ pair. J.number pair.1) back.items ≡ map (λ pair. J.number pair.1) pairs.items) }
+    ensures seen { IfOk result (λ back. Each (λ given pair. BeginsWith pair.0.seen given.0.seen) pairs.items back.items) }
     ensures none { IfErr result (λ refused. refused.0.items ≡ pairs.items) }
 {
     let count = pairs.len();

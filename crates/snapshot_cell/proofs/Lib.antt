@@ -1,1 +1,4 @@
 pub mod HistoryLemmas
+pub mod SendLemmas
+pub mod TokenLemmas
+pub mod EndLemmas

@@ -1,2 +1,3 @@
-pub mod History
+pub mod Tokens
+pub use Rattle.counted_handles.specs.History
 pub use Rattle.cell_core.specs.Cell

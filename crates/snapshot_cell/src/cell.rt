@@ -1,152 +1,247 @@
-//! The cell, its publisher and its readers.
-ghost use Rattle.std.specs.Prelude.{◌≡◌, ◌↔◌, ◌<◌, ◌≤◌, ◌-◌, ◌^◌, vec_len, IfOk, IfErr, IfSome, IsErrOf};
-ghost use Rattle.snapshot_cell.specs.History.{IsPublished, next};
+//! The cell, and its calls.
+ghost use Rattle.std.specs.Prelude.{◌≡◌, ◌↔◌, ◌<◌, ◌≤◌, ◌-◌, ◌^◌, [], ◌∷◌, vec_len, IfOk, IfErr, IsErrOf};
+ghost use Rattle.std.specs.Vec.{vec_capacity};
+ghost use Rattle.std.specs.List.{All};
+ghost use Rattle.cell_core.specs.Words.{slots};
+ghost use Rattle.counted_handles.specs.Calls.{Fits};
+ghost use Rattle.counted_handles.specs.Opens.{IsBegun};
+ghost use Rattle.counted_handles.specs.Ruled.{Begins};
+ghost use Rattle.counted_handles.specs.declared.view.View.TheVariants.{Gone};
+ghost use Rattle.snapshot_cell.specs.Tokens.{IsDealing, IsLoad, first_publisher, first_reader, published_next};
 
-use crate::fault::{NewFault, NoSlot, Spent};
-use crate::names::Names;
-use crate::owner::{Strong, Version};
+use crate::ending::end_all;
+use crate::fault::{NewFault, Spent};
+use crate::tokens::{LOADS, Publisher, READERS, Reader};
+use atomic_table::{Badge, Table};
+use cell_core::Version;
+use counted_handles::{
+    Made, Names, NoSlot, Room, Rule, Spots, Strong, View, Words, deal, deal_rest, make, unmake,
+};
+use raw_slots::Bare;
 use std::alloc::Global;
 use std::marker::{Model, PhantomData};
-use std::mem;
-use std::sync::{Mutex, Wait};
+use std::snapshot::Snapshot;
 
-/// How many readers a cell may have (own).
-pub const READERS: usize = 64;
-
-/// A cell: the version published last, behind a lock. All that is known of what is under the lock is that it has been published.
-#[derive(Drop)]
+/// A cell: the words and the places of its versions. Contracts see which one it is.
 pub struct Cell<T, C: Names<T>> {
-    last: Mutex<Version<T, C>>,
+    table: Table<Room<T>, View<T>, Spots<T>, Rule<C>, Global>,
+    spots: Spots<T>,
+    bare: Bare<Option<Version<T>>, Global>,
+    heap: Global,
 }
 
-/// The one who publishes. It owns the version that it published last, which is what contracts see of it.
-#[derive(Drop)]
-pub struct Publisher<T, C: Names<T>> {
-    last: Version<T, C>,
-    alloc: Global,
-}
+impl<T, C: Names<T>> Model for Cell<T, C> {
+    ghost use Rattle.std.specs.Prelude.{◌≡◌};
+    ghost use Rattle.atomic_table.specs.Seated.{TableId, table_id_coded};
+    ghost use Rattle.counted_handles.specs.Calls.{AreSpots};
 
-impl<T, C: Names<T>> Model for Publisher<T, C> {
-    ghost use Rattle.snapshot_cell.specs.History.{Numbered};
+    ghost Value = { TableId };
 
-    ghost Value = { Numbered T };
+    ghost coded = { table_id_coded };
 
-    ghost view = { λ a. a.last };
-}
+    ghost view = { λ a. a.table.shared.table_id };
 
-/// One who loads.
-#[derive(Drop)]
-pub struct Reader<T, C: Names<T>> {
-    names: PhantomData<(T, C)>,
+    ghost invariant = { λ a. AreSpots a.table.shared.table_id a.table.shared.key a.spots × (a.bare.spots ≡ a.spots.places.items) };
 }
 
 /// A cell with its publisher and its readers.
-#[derive(Drop)]
 pub struct Parts<T, C: Names<T>> {
     /// The cell.
     pub cell: Cell<T, C>,
     /// The one who publishes.
     pub publisher: Publisher<T, C>,
     /// Those who load.
-    pub readers: Vec<Reader<T, C>>,
+    pub readers: Vec<Reader<T>>,
 }
 
-impl<T: Drop, C: Names<T>> Publisher<T, C> {
-    /// The number of the version published last. It waits for nobody.
-    pub fn last(&self) -> u64
-        ensures number { result ≡ self.now.number }
-        ensures published { IsPublished C.begins C.follows self.now }
-    {
-        self.last.number()
-    }
-
-    /// The value published last. It waits for nobody.
-    pub fn value(&self) -> &T
-        ensures { result.now ≡ self.now.value }
-    {
-        self.last.get()
-    }
+/// The cell is still in use: all three come back as they were.
+pub struct StillOut<T, C: Names<T>> {
+    /// The cell.
+    pub cell: Cell<T, C>,
+    /// Its publisher.
+    pub publisher: Publisher<T, C>,
+    /// The readers that were given back.
+    pub readers: Vec<Reader<T>>,
 }
 
-// So many readers, or None where there is no memory for them.
-fn readers_of<T, C: Names<T>>(alloc: Global, count: usize) -> Option<Vec<Reader<T, C>>>
-    ensures { IfSome result (λ readers. vec_len readers ≡ count) }
+// So many readers go off the publisher's token of a new cell.
+fn deal_all<T, C: Names<T>>(
+    words: &Words<T, C>,
+    badge: &mut Badge<View<T>>,
+    readers: &mut Vec<Reader<T>>,
+    count: usize,
+)
+    requires fits { Fits words.now.table_id × (badge.old.table_id ≡ words.now.table_id) }
+    requires begun { (value : T) × IsBegun value words.now.table_id.views_name badge.old.views }
+    requires room { (readers.old.items ≡ []) × (count ≤ vec_capacity readers.old) × (count ≤ 64) }
+    ensures badge { (badge.new.table_id ≡ badge.old.table_id) × (badge.new.id ≡ badge.old.id) }
+    ensures dealing { (value : T) → IsBegun value words.now.table_id.views_name badge.old.views → IsDealing value words.now.table_id.views_name count badge.new.views }
+    ensures readers { (value : T) → IsBegun value words.now.table_id.views_name badge.old.views → All (λ r. r ≡ first_reader words.now.table_id value) readers.new.items }
+    ensures count { vec_len readers.new ≡ count }
 {
-    let mut readers = Vec::with_capacity(alloc, count).ok()?;
-    for _ in 0..count {
-        readers.push(Reader { names: PhantomData }).ok()?;
+    let mut dealt = 0;
+    while dealt < count {
+        let badge = deal(words, badge);
+        readers.push_reserved(Reader { badge, left: LOADS });
+        dealt += 1;
     }
-    Some(readers)
 }
 
 impl<T: Drop, C: Names<T>> Cell<T, C> {
     /// A cell whose first version has number 0 and this value, with its publisher and so many readers.
     /// [`NewFault::TooManyReaders`] exactly where there would be more than [`READERS`]; [`NewFault::NoMemory`] where a growth
     /// was refused. At both the value is dropped.
-    pub fn new<R: Wait>(
-        rt: &R,
-        alloc: Global,
-        readers: usize,
-        first: T,
-    ) -> Result<Parts<T, C>, NewFault>
+    pub fn new(alloc: Global, readers: usize, first: T) -> Result<Parts<T, C>, NewFault>
         requires { C.begins first }
-        ensures first { IfOk result (λ parts. parts.publisher ≡ record { number = 0; value = first }) }
-        ensures readers { IfOk result (λ parts. vec_len parts.readers ≡ readers) }
+        ensures publisher { IfOk result (λ parts. parts.publisher ≡ first_publisher parts.cell first) }
+        ensures readers { IfOk result (λ parts. All (λ r. r ≡ first_reader parts.cell first) parts.readers.items × (vec_len parts.readers ≡ readers)) }
         ensures too_many { IsErrOf result NewFault.TooManyReaders ↔ (READERS < readers) }
     {
         if readers > READERS {
             return Err(NewFault::TooManyReaders);
         }
-        let readers = readers_of(alloc, readers).ok_or(NewFault::NoMemory)?;
-        let last = Version::first(alloc, first).ok_or(NewFault::NoMemory)?;
-        let cell = Cell {
-            last: Mutex::new(last.shared(rt)),
+        let last = Snapshot::of(&first);
+        let mut tokens = Vec::with_capacity(alloc, readers)
+            .ok()
+            .ok_or(NewFault::NoMemory)?;
+        let Some(made) = make(alloc, first) else {
+            return Err(NewFault::NoMemory);
         };
+        let Made {
+            table,
+            mut badge,
+            spots,
+            bare,
+        } = made;
+        deal_all(&table.shared, &mut badge, &mut tokens, readers);
+        let spare = deal_rest(&table.shared, &mut badge);
         Ok(Parts {
-            cell,
-            publisher: Publisher { last, alloc },
-            readers,
+            cell: Cell {
+                table,
+                spots,
+                bare,
+                heap: alloc,
+            },
+            publisher: Publisher {
+                badge,
+                spare,
+                number: 0,
+                last,
+                readers,
+                names: PhantomData,
+            },
+            readers: tokens,
         })
     }
 
-    /// An owner of the version published last. [`Spent`] where its count of owners is full.
-    pub fn load<R: Wait>(
+    // The words.
+    pub(crate) fn words(&self) -> &Words<T, C>
+        ensures { (result.now.table_id ≡ self.now) × Fits result.now.table_id }
+    {
+        &self.table.shared
+    }
+
+    // Frees the memory, when the cell is ended.
+    pub(crate) fn free(self, badge: Badge<View<T>>)
+        requires { (badge.table_id ≡ self) × (badge.id ≡ 0) × (badge.views ≡ Gone ∷ []) }
+    {
+        let Cell {
+            table,
+            spots,
+            bare,
+            heap,
+        } = self;
+        unmake(heap, table, badge, &spots, bare);
+    }
+
+    /// An owner of the version published last, by one addition to a word. [`Spent`] where the reader has no grant left. It waits
+    /// for nobody.
+    pub fn load(&self, reader: &mut Reader<T>) -> Result<Strong<'_, T, C>, Spent>
+        requires { reader.old.cell ≡ self.now }
+        ensures loaded { IfOk result (λ strong. IsLoad C.begins C.follows reader.old reader.new strong) }
+        ensures spent { IfErr result (λ _. (reader.old.left ≡ 0) × (reader.new ≡ reader.old)) }
+    {
+        if reader.left == 0 {
+            return Err(Spent);
+        }
+        reader.left -= 1;
+        Ok(counted_handles::load(&self.table.shared, &self.spots, &mut reader.badge))
+    }
+
+    /// An owner of the version that its publisher published last. The reader has then seen all that is published, of which it had
+    /// seen a beginning. [`Spent`] where it has no grant left. It waits for nobody.
+    pub fn newest(
         &self,
-        rt: &R,
-        _reader: &mut Reader<T, C>,
+        publisher: &mut Publisher<T, C>,
+        reader: &mut Reader<T>,
     ) -> Result<Strong<'_, T, C>, Spent>
-        ensures { IfOk result (λ strong. IsPublished C.begins C.follows strong) }
+        requires { (publisher.old.cell ≡ self.now) × (reader.old.cell ≡ self.now) }
+        ensures newest { IfOk result (λ strong. (strong ≡ record { number = publisher.old.number; value = publisher.old.value }) × (reader.new ≡ record { cell = self.now; seen = publisher.old.published; left = reader.old.left - 1 }) × (0 < reader.old.left)) }
+        ensures begun { IfOk result (λ _. Begins reader.old.seen publisher.old.published) }
+        ensures same { publisher.new ≡ publisher.old }
+        ensures spent { IfErr result (λ _. (reader.old.left ≡ 0) × (reader.new ≡ reader.old)) }
     {
-        let version = self.last.lock(rt).share().ok_or(Spent)?;
-        Ok(Strong::new(version))
+        if reader.left == 0 {
+            return Err(Spent);
+        }
+        reader.left -= 1;
+        Ok(counted_handles::newest(
+            &self.table.shared,
+            &self.spots,
+            &mut publisher.badge,
+            &mut reader.badge,
+        ))
     }
 
-    /// An owner of the version that its publisher published last. [`Spent`] where its count of owners is full. It waits for nobody.
-    pub fn newest(&self, publisher: &Publisher<T, C>) -> Result<Strong<'_, T, C>, Spent>
-        ensures { IfOk result (λ strong. strong ≡ publisher.now) }
+    /// Ends the cell, and gives the value published last. [`StillOut`] with all three as they were where a reader isn't given back,
+    /// or where somebody has an owner of a version. It waits for nobody and takes no memory.
+    pub fn close(
+        self,
+        publisher: Publisher<T, C>,
+        mut readers: Vec<Reader<T>>,
+    ) -> Result<T, StillOut<T, C>>
+        requires publisher { publisher.cell ≡ self }
+        requires readers { All (λ r. r.cell ≡ self) readers.items }
+        ensures value { IfOk result (λ value. value ≡ publisher.value) }
+        ensures out { IfErr result (λ out. (out.cell ≡ self) × (out.publisher ≡ publisher) × (out.readers.items ≡ readers.items)) }
     {
-        let version = publisher.last.share().ok_or(Spent)?;
-        Ok(Strong::new(version))
+        match end_all(self.words(), publisher, &mut readers) {
+            Ok((value, badge)) => {
+                self.free(badge);
+                Ok(value)
+            }
+            Err(publisher) => Err(StillOut {
+                cell: self,
+                publisher,
+                readers,
+            }),
+        }
     }
 
-    /// Publishes a value that may follow the last one, and gives the old version's owner. [`NoSlot`] with the value where
-    /// there is no memory for its version: nothing is then published.
-    pub fn publish<R: Wait>(
+    /// Publishes a value that may follow the last one, and gives the old version's owner. [`NoSlot`] with the value where this
+    /// call saw none of the 64 slots free: nothing is then published. It waits for nobody.
+    pub fn publish(
         &self,
-        rt: &R,
         publisher: &mut Publisher<T, C>,
         value: T,
     ) -> Result<Strong<'_, T, C>, NoSlot<T>>
+        requires cell { publisher.old.cell ≡ self.now }
         requires room { publisher.old.number < 2 ^ 64 - 1 }
         requires follows { C.follows publisher.old.value value }
-        ensures old { IfOk result (λ strong. strong ≡ publisher.old) }
-        ensures published { IfOk result (λ _. publisher.new ≡ next publisher.old value) }
-        ensures refused { IfErr result (λ refused. (refused.0 ≡ value) × (publisher.new ≡ publisher.old)) }
+        ensures old { IfOk result (λ strong. strong ≡ record { number = publisher.old.number; value = publisher.old.value }) }
+        ensures published { IfOk result (λ _. publisher.new ≡ published_next publisher.old value) }
+        ensures refused { IfErr result (λ refused. (refused.value ≡ value) × (refused.probed ≡ slots) × (publisher.new ≡ publisher.old)) }
     {
-        let made = publisher.last.next(publisher.alloc, value).map_err(NoSlot)?;
-        let shared = made.shared(rt);
-        let _ = mem::replace(&mut *self.last.lock(rt), shared);
-        let old = mem::replace(&mut publisher.last, made);
-        Ok(Strong::new(old))
+        let last = Snapshot::of(&value);
+        let old = counted_handles::publish(
+            &self.table.shared,
+            &self.spots,
+            &mut publisher.badge,
+            publisher.number,
+            value,
+        )?;
+        publisher.number += 1;
+        publisher.last = last;
+        Ok(old)
     }
 }

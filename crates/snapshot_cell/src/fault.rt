@@ -12,11 +12,7 @@ pub enum NewFault {
     TooManyReaders,
 }
 
-/// A reader's owners can't be counted any more: the count of the last version's owners is full.
+/// A reader has no grant left.
 #[derive(Clone, Copy, Debug, PartialEq, Eq, Error)]
 #[error("spent")]
 pub struct Spent;
-
-/// A value that wasn't published, since there was no memory for its version.
-#[derive(Debug, Drop)]
-pub struct NoSlot<T>(pub T);

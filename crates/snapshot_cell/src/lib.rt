@@ -1,21 +1,21 @@
-//! The snapshot cell: the version of a value that was published last, which readers load while others are published after it.
+//! The cell on words that threads share: the version of a value that was published last, which readers load while others are
+//! published after it.
 //!
-//! A [`Cell`] keeps the last version, a number and a value. A [`Reader`] loads it and is given a [`Strong`], an owner that
-//! keeps its version whatever is published after it. The one [`Publisher`] publishes. Contracts see an owner as its version,
-//! and know of each that it has been published (`IsPublished`): its value is the last of a list in which each follows the one
-//! before it, and which begins as the type that names the cell says.
-//!
-//! In this form the cell stands behind a lock, so calls that touch it may wait.
+//! A [`Cell`] keeps the last version, a number and a value, and those before it that somebody owns. A [`Reader`] loads the last
+//! one, by one addition to a word whatever else is under way, and is given a [`Strong`], an owner that keeps its version whatever
+//! is published after it. The one [`Publisher`] publishes. No call waits for another. Contracts see an owner as its version, the
+//! publisher as all that is published, and a reader as a beginning of it, which it has seen.
 #![tactic(auto)]
 
 mod cell;
+mod ending;
 mod fault;
-mod laws;
-mod names;
-mod owner;
+mod named;
+mod named_ending;
+mod tokens;
 
-pub use cell::{Cell, Parts, Publisher, READERS, Reader};
-pub use fault::{NewFault, NoSlot, Spent};
-pub use laws::{examples, histories_go_on};
-pub use names::Names;
-pub use owner::{Released, Strong};
+pub use cell::{Cell, Parts, StillOut};
+pub use counted_handles::{Names, NoSlot, Released, Steps, Strong};
+pub use fault::{NewFault, Spent};
+pub use named::{NamedCell, NamedPublisher, NamedReader, NamedStillOut, Naming};
+pub use tokens::{Publisher, READERS, Reader};

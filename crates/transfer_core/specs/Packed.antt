@@ -4,16 +4,13 @@ use Rattle.dns_name.specs.Name.{Name, is_same}
 use Rattle.dns_rdata.specs.Record.{Record, shown_as}
 use Rattle.dns_message.specs.Answers.{answers, filled}
 use Rattle.dns_message.specs.Message.{Message}
+pub use Rattle.dns_message.specs.Message.{max_message}
 use Rattle.dns_message.specs.Octets.{fits, reply_octets, fit}
 use Rattle.dns_message.specs.declared.edns.Opt.{Opt}
 use Rattle.dns_message.specs.declared.query.Head.{Head}
 use Rattle.dns_message.specs.declared.query.Question.{Question}
 use Rattle.transfer_core.specs.declared.packer.TransferRecords.{TransferRecords}
 use Rattle.transfer_core.specs.declared.packer.TransferRecords.TheVariants.{Set, Full, Changes}
-
--- the most octets of a message of a transfer (own)
-abbrev pub max_message : ℕ
-max_message = 16384
 
 -- the records of a transfer that are left
 abbrev pub listed : {C : Type 0} → TransferRecords C → List Record

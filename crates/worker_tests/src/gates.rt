@@ -1,19 +1,21 @@
 //! Two workers, of which one waits in the gate for the other.
 ghost use Rattle.std.specs.Prelude.{◌≡◌};
+ghost use Rattle.std.specs.List.{All};
 
 use conversation::{Answering, Gate};
-use dns_engine::{FirstZone, VersionCell, VersionPublisher, VersionReader};
-use played_zones::{server_of, zone};
+use dns_engine::{FirstZone, Naming, SharedVersion, VersionReader, ZoneVersions};
+use played_zones::{NamedParts, end, named_parts, parts_of, server_of, zone};
 use serve_workers::{Job, run_workers};
-use snapshot_cell::{Cell, Parts};
+use snapshot_cell::Parts;
 use std::alloc::Global;
 use std::marker::Brand;
+use std::process::Abort;
 use std::sync::Wait;
 use std::sync::atomic::{AtomicU64, Ordering};
 use std::thread::{self, Threads};
 use told_streams::{Tape, answer_tape};
 use zone_service::{NoLog, Server, ServiceLog};
-use zone_tree::{Version, Zone};
+use zone_tree::Zone;
 
 /// The query for www.example.test., type A, and its reply, each in a frame.
 const QUERY: &[u8] =
@@ -105,11 +107,11 @@ impl Job for TapeJob {
 }
 
 /// A job for each reader, numbered from 1, on a stream of these octets.
-fn jobs_of<Z: FirstZone>(
+fn jobs_of<N: Naming>(
     alloc: Global,
-    readers: Vec<VersionReader<Z>>,
+    readers: Vec<VersionReader<N>>,
     octets: &[u8],
-) -> Option<Vec<(VersionReader<Z>, TapeJob)>> {
+) -> Option<Vec<(VersionReader<N>, TapeJob)>> {
     let mut pairs = Vec::new(alloc);
     let mut number = 0usize;
     for reader in readers {
@@ -122,7 +124,7 @@ fn jobs_of<Z: FirstZone>(
 }
 
 /// Whether two streams were served, by jobs 1 and 2 in this order, each with this written on it.
-fn are_written<Z: FirstZone>(pairs: &[(VersionReader<Z>, TapeJob)], written: &[u8]) -> bool {
+fn are_written<N: Naming>(pairs: &[(VersionReader<N>, TapeJob)], written: &[u8]) -> bool {
     let mut number = 0usize;
     for (_, job) in pairs {
         number = number.saturating_add(1);
@@ -136,62 +138,90 @@ fn are_written<Z: FirstZone>(pairs: &[(VersionReader<Z>, TapeJob)], written: &[u
     pairs.len() == 2
 }
 
-/// Whether two streams are served by two workers, of which the first to be asked waits for the other.
-fn are_served<R: Wait + Threads + Sync, Z: FirstZone + Send + Sync>(
+/// The readers of jobs that are done, and one more.
+fn readers_of<N: Naming>(
+    alloc: Global,
+    pairs: Vec<(VersionReader<N>, TapeJob)>,
+    last: VersionReader<N>,
+) -> Option<Vec<VersionReader<N>>> {
+    let mut readers = Vec::new(alloc);
+    for (reader, _) in pairs {
+        readers.push(reader).ok()?;
+    }
+    readers.push(last).ok()?;
+    Some(readers)
+}
+
+/// Two streams are served by two workers, of which the first to be asked waits for the other: their jobs, with their readers.
+fn serve<R: Wait + Threads + Sync + Abort, Z: FirstZone + Send + Sync, N: Naming + Send + Sync>(
     rt: &R,
     alloc: Global,
-    server: &Server<'_, Z>,
-    readers: Vec<VersionReader<Z>>,
-) -> Option<bool> {
-    let pairs = jobs_of(alloc, readers, QUERY)?;
+    server: &Server<'_, Z, N>,
+    readers: Vec<VersionReader<N>>,
+) -> Vec<(VersionReader<N>, TapeJob)> {
+    let pairs = jobs_of(alloc, readers, QUERY).expect(rt, "memory");
     let gate = HoldingGate::new();
-    let pairs = run_workers(rt, alloc, server, pairs, &gate, &NoLog).ok()?;
-    Some(gate.is_well() && are_written(&pairs, REPLY))
+    let Ok(pairs) = run_workers(rt, alloc, server, pairs, &gate, &NoLog) else {
+        panic!(rt; "a thread is refused");
+    };
+    assert!(rt; gate.is_well() && are_written(&pairs, REPLY));
+    pairs
 }
 
-/// Whether they are over a cell in which a zone's first version alone is published.
-fn are_served_in<R: Wait + Threads + Sync, Z: FirstZone + Send + Sync>(
+/// They are served over a cell in which a zone's first version alone is published, which is then ended.
+fn serve_in<R: Wait + Threads + Sync + Abort, Z: FirstZone + Send + Sync, N: Naming + Send + Sync>(
     rt: &R,
     alloc: Global,
-    cell: &VersionCell<Z>,
-    publisher: VersionPublisher<Z>,
-    mut readers: Vec<VersionReader<Z>>,
-) -> Option<bool>
-    requires { publisher.number ≡ 0 }
+    parts: Parts<SharedVersion, ZoneVersions<Z>>,
+)
+    requires cell { (parts.cell ≡ N.cell) × (parts.publisher.cell ≡ N.cell) }
+    requires readers { All (λ r. r.cell ≡ N.cell) parts.readers.items }
+    requires first { parts.publisher.number ≡ 0 }
 {
-    let reader = readers.pop()?;
-    let server = server_of(rt, cell, publisher, reader)?;
-    are_served(rt, alloc, &server, readers)
+    let Some(
+        NamedParts {
+            cell,
+            publisher,
+            mut readers,
+        },
+    ) = named_parts::<R, Z, N>(rt, alloc, parts)
+    else {
+        panic!(rt; "there is no memory");
+    };
+    let reader = readers.pop().expect(rt, "a reader");
+    let Ok(server) = server_of(&cell, publisher, reader) else {
+        panic!(rt; "there is no server");
+    };
+    let pairs = serve(rt, alloc, &server, readers);
+    let (publisher, reader) = server.finish();
+    let readers = readers_of(alloc, pairs, reader).expect(rt, "memory");
+    end(
+        rt,
+        NamedParts {
+            cell,
+            publisher,
+            readers,
+        },
+    );
 }
 
-/// Whether they are over a cell that begins with the zone; None where there is no memory for the cell.
-fn are_served_over<R: Wait + Threads + Sync, Z: FirstZone + Send + Sync>(
+/// They are served over a cell that begins with the zone.
+fn serve_from<R: Wait + Threads + Sync + Abort, Z: FirstZone + Send + Sync>(
     rt: &R,
     alloc: Global,
     zone: Zone,
-) -> Option<bool>
+)
     requires { zone ≡ Z.zone }
 {
-    match Cell::new(rt, alloc, 3, Version::first(zone)) {
-        Ok(
-            Parts {
-                cell,
-                publisher,
-                readers,
-            },
-        ) => are_served_in::<R, Z>(rt, alloc, &cell, publisher, readers),
-        Err(_) => None,
+    match parts_of::<Z>(alloc, zone, 3) {
+        Some(parts) => serve_in::<R, Z, Brand>(rt, alloc, parts),
+        None => panic!(rt; "there is no memory"),
     }
-}
-
-/// Whether they are over a zone's first version.
-fn are_served_anew<R: Wait + Threads + Sync>(rt: &R, alloc: Global, zone: Zone) -> Option<bool> {
-    are_served_over::<R, Brand>(rt, alloc, zone)
 }
 
 // The first call waits in the gate until the second one has been answered, so each worker has a thread of its own.
 #[test]
 fn gate_two_workers(rt: HostRuntime) {
     let zone = zone(rt.alloc()).expect(&rt, "a zone");
-    assert!(rt; are_served_anew(&rt, rt.alloc(), zone) == Some(true));
+    serve_from::<HostRuntime, Brand>(&rt, rt.alloc(), zone);
 }

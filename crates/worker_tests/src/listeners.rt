@@ -2,10 +2,10 @@
 ghost use Rattle.std.specs.Prelude.{[]};
 
 use conversation::{Allowed, Answering, Broken, Counted, OpenGate, Stream};
+use dns_engine::Spent;
 use played_zones::{Kept, asker};
 use serve_core::{Peer, Transport};
 use serve_workers::{Job, Listener, Scratch, TcpJob};
-use snapshot_cell::Spent;
 use std::alloc::Global;
 use std::io::{self, ErrorKind};
 use std::net::{IpAddr, Ipv4Addr, SocketAddr, SocketAddrV4};

@@ -1,3 +1,5 @@
+pub mod KnownLemmas
 pub mod ReplyLemmas
+pub mod NowLemmas
 pub mod SendLemmas
 pub mod TransferLemmas

@@ -1,5 +1,5 @@
 -- What is replied, by what is told of a request.
-use Rattle.std.proofs.Common.{◌≡◌, ◌≤◌, ◌==◌, refl, ℕ, Bool, true, false, not, ◌&&◌, ◌||◌, nat_lt, List, [], ◌∷◌, ◌++◌, length, take, Option, None, Some, option_and_then, ◌⊎◌, inl, inr, ⊎_elim, sym, ap, ◌∙◌, subst, unwrap_or, if◌then◌else◌, Result, Ok, Err, OnErr, lit≤, arith}
+use Rattle.std.proofs.Common.{◌≡◌, ◌≤◌, ◌==◌, refl, ℕ, Bool, true, false, not, ◌&&◌, ◌||◌, nat_lt, List, [], ◌∷◌, length, take, Option, None, Some, option_and_then, ◌⊎◌, inl, inr, ⊎_elim, sym, ap, ◌∙◌, subst, unwrap_or, if◌then◌else◌, Result, Ok, Err, OnErr, lit≤, arith}
 use Rattle.std.proofs.lemmas.Bool.{eqb-true}
 use Rattle.std.proofs.lemmas.Bool.Decides.{nat_tests}
 use Rattle.std.specs.Option.{option_to_list, option_or, is_some}
@@ -23,10 +23,9 @@ use Rattle.update_core.specs.Verdict.{verdict}
 use Rattle.update_core.specs.Act.{act}
 use Rattle.update_core.specs.Applied.{code_of}
 use Rattle.dns_engine.specs.Replayed.{IsReplay}
-use Rattle.dns_engine.specs.Held.{Held}
+use Rattle.dns_engine.specs.Held.{EngineState, IsLatest}
 use Rattle.dns_rdata.specs.declared.numbers.Serial.{Serial}
-use Rattle.snapshot_cell.specs.History.{Numbered, IsPublished}
-use Rattle.dns_engine.specs.Versions.{IsFirst, IsNext}
+use Rattle.snapshot_cell.specs.Tokens.{ReaderState}
 use Rattle.dns_engine.specs.Chain.{TellsSince, changes_told}
 use Rattle.dns_engine.specs.Told.{IsTold, made, refused, unchanged, full, starved}
 use Rattle.serve_core.specs.declared.transport.Transport.{Transport}
@@ -43,8 +42,9 @@ use Rattle.serve_core.proofs.ServedLemmas.{serves_told, serves_reply}
 use Rattle.dns_message.proofs.AskedLemmas.{judged}
 use Rattle.serve_core.proofs.WantLemmas.{reads-want}
 use Rattle.zone_service.specs.declared.answer.Told.{Told}
+use Rattle.zone_service.specs.Known.{HasLoaded}
 use Rattle.zone_service.specs.Updated.{IsJudged, by_engine, in_version, IsToldOf, read, unread, bad_opt, starved as starved_reading}
-use Rattle.zone_service.specs.Replied.{TellsFor, IsReplied, IsUpdate, IsQuery, IsTransfer, IsAtOnce}
+use Rattle.zone_service.specs.Replied.{TellsFor, IsReplied, IsUpdate, IsQuery, IsTransfer, IsAtOnce, LoadsFor}
 
 no_want : (head : Head) (heard : Parsed) → heard ≡ NoMemory head → heard ≡ IsSilent → ⊥
 no_want head heard wants is = cc
@@ -76,13 +76,13 @@ pub heard_query : (request : List ℕ) (heard : Parsed) (query : QueryAsked) →
 heard_query request heard query tells is =
     ⊎_elim (λ (e : heard ≡ reads request). sym e ∙ is) (λ (want : IsWant request heard). absurd (no_query_wanted (header_of request) heard query want.is is)) tells
 
-no_query_told : (first : List Record) (version : Version) (said : Parsed) → IsNoQuery said → TellsFor first version None said
-no_query_told first version IsSilent plain = tt
-no_query_told first version (Fault head code) plain = tt
-no_query_told first version (BadOpt head question code dnssec_ok) plain = tt
-no_query_told first version (Query query) plain = absurd plain
-no_query_told first version (SaysUpdate update) plain = tt
-no_query_told first version (NoMemory head) plain = tt
+no_query_told : (first : List Record) (later : List Version) (version : Version) (said : Parsed) → IsNoQuery said → TellsFor first later version None said
+no_query_told first later version IsSilent plain = tt
+no_query_told first later version (Fault head code) plain = tt
+no_query_told first later version (BadOpt head question code dnssec_ok) plain = tt
+no_query_told first later version (Query query) plain = absurd plain
+no_query_told first later version (SaysUpdate update) plain = tt
+no_query_told first later version (NoMemory head) plain = tt
 
 no_query_replies : (zone : List Record) (changes : Option (List Record)) (peer : Peer) (wants : Want) (said : Parsed) → IsNoQuery said
     → option_to_list (got_of peer.transport peer.may_update wants zone said).reply ≡ replies_to zone changes peer wants said
@@ -94,52 +94,47 @@ no_query_replies zone changes peer wants (SaysUpdate update) plain = refl
 no_query_replies zone changes peer wants (NoMemory head) plain = refl
 
 -- what a request gets that is no query
-got_replied : (first : List Record) (peer : Peer) (version : Version) (request : List ℕ) (messages : List (List ℕ)) (wants : Want) → IsReplay first version → IsNoQuery (reads request)
-    → messages ≡ option_to_list (got peer.transport peer.may_update wants version.zone request).reply → IsReplied first peer request messages
+got_replied : (first : List Record) (peer : Peer) (later : List Version) (version : Version) (request : List ℕ) (messages : List (List ℕ)) (wants : Want) → IsReplay first version → IsNoQuery (reads request)
+    → messages ≡ option_to_list (got peer.transport peer.may_update wants version.zone request).reply → IsReplied first peer later request messages
 unfolding got
-got_replied first peer version request messages wants replayed plain gets = record {
+got_replied first peer later version request messages wants replayed plain gets = record {
   version = version;
   replayed = replayed;
   changes = None;
-  told = no_query_told first version (reads request) plain;
+  told = no_query_told first later version (reads request) plain;
   want = wants;
   reply = gets ∙ no_query_replies version.zone None peer wants (reads request) plain;
 }
 
 -- octets that serve what is told of a request are its reply
-pub said_replied : (first : List Record) (peer : Peer) (version : Version) (request out : List ℕ) (heard said : Parsed) (len : ℕ) (next : Option Version) → IsReplay first version → Tells request heard → heard ≡ said → IsNoQuery said
-    → ServesSaid (record { len = Some len; next = next }) peer.transport peer.may_update version said out → IsReplied first peer request (take len out ∷ [])
-said_replied first peer version request out heard said len next replayed tells is plain serves =
+pub said_replied : (first : List Record) (peer : Peer) (later : List Version) (version : Version) (request out : List ℕ) (heard said : Parsed) (len : ℕ) (next : Option Version) → IsReplay first version → Tells request heard → heard ≡ said → IsNoQuery said
+    → ServesSaid (record { len = Some len; next = next }) peer.transport peer.may_update version said out → IsReplied first peer later request (take len out ∷ [])
+said_replied first peer later version request out heard said len next replayed tells is plain serves =
     let s = serves_told (record { len = Some len; next = next }) peer.transport peer.may_update version request out heard said tells is serves in
-    got_replied first peer version request (take len out ∷ []) s.want replayed (heard_no_query request heard said tells is plain) (ap option_to_list (sym s.reply.1))
+    got_replied first peer later version request (take len out ∷ []) s.want replayed (heard_no_query request heard said tells is plain) (ap option_to_list (sym s.reply.1))
 
--- a query gets what is sent for it in a version
-query_replied : (first : List Record) (peer : Peer) (version : Version) (request : List ℕ) (query : QueryAsked) (messages : List (List ℕ)) (changes : Option (List Record)) (keep : ℕ) → IsReplay first version → TellsSince first keep version query.serial changes
-    → reads request ≡ Query query → messages ≡ replies_to version.zone changes peer ForNothing (Query query) → IsReplied first peer request messages
-query_replied first peer version request query messages changes keep replayed told asked gets = record {
+-- a query gets what is sent for it in a version, by what the versions tell that are known then
+query_replied : (first : List Record) (peer : Peer) (later : List Version) (version : Version) (request : List ℕ) (query : QueryAsked) (messages : List (List ℕ)) (changes : Option (List Record)) (keep : ℕ) → IsReplay first version
+    → TellsSince first later keep version query.serial changes → reads request ≡ Query query → messages ≡ replies_to version.zone changes peer ForNothing (Query query) → IsReplied first peer later request messages
+query_replied first peer later version request query messages changes keep replayed told asked gets = record {
   version = version;
   replayed = replayed;
   changes = changes;
-  told = subst (TellsFor first version changes) (sym asked) (keep, told);
+  told = subst (TellsFor first later version changes) (sym asked) (keep, told);
   want = ForNothing;
   reply = gets ∙ ap (replies_to version.zone changes peer ForNothing) (sym asked);
 }
 
 -- a transfer that is permitted gets its messages
-pub transfer_replied : (first : List Record) (peer : Peer) (version : Version) (request : List ℕ) (query : QueryAsked) (changes : Option (List Record)) (keep : ℕ) → IsReplay first version → TellsSince first keep version query.serial changes
-    → reads request ≡ Query query → is_permitted version.zone peer query ≡ true → IsReplied first peer request (messages_to version.zone changes peer query)
-transfer_replied first peer version request query changes keep replayed told asked may =
-    query_replied first peer version request query (messages_to version.zone changes peer query) changes keep replayed told asked (rw may refl)
-
--- another query gets one reply
-pub other_replied : (first : List Record) (peer : Peer) (version : Version) (request out : List ℕ) (query : QueryAsked) (len : ℕ) (changes : Option (List Record)) (keep : ℕ) → IsReplay first version → TellsSince first keep version query.serial changes
-    → reads request ≡ Query query → is_permitted version.zone peer query ≡ false → take len out ≡ fit (reply_to_peer version.zone peer query) (limit_of peer.transport query.edns) → IsReplied first peer request (take len out ∷ [])
-other_replied first peer version request out query len changes keep replayed told asked may written =
-    query_replied first peer version request query (take len out ∷ []) changes keep replayed told asked (rw (may, written) refl)
+pub transfer_replied : (first : List Record) (peer : Peer) (later : List Version) (version : Version) (request : List ℕ) (query : QueryAsked) (changes : Option (List Record)) (keep : ℕ) → IsReplay first version
+    → TellsSince first later keep version query.serial changes → reads request ≡ Query query → is_permitted version.zone peer query ≡ true
+    → IsReplied first peer later request (messages_to version.zone changes peer query)
+transfer_replied first peer later version request query changes keep replayed told asked may =
+    query_replied first peer later version request query (messages_to version.zone changes peer query) changes keep replayed told asked (rw may refl)
 
 -- what is told of what changed up to a version that is published, where none in front of it is kept
-pub published_tells : (first : List Record) (version : Numbered Version) (serial : Option Serial) → IsPublished (IsFirst first) IsNext version → (changes : Option (List Record)) × TellsSince first 0 version.value serial changes
-published_tells first version serial p = (changes_told 0 (p.before ++ version.value ∷ []) serial, record { before = p.before; history = p.history; told = refl })
+pub latest_tells : (first : List Record) (published : List Version) (version : Version) (serial : Option Serial) → IsLatest first published version → (changes : Option (List Record)) × TellsSince first published 0 version serial changes
+latest_tells first published version serial latest = (changes_told 0 published serial, record { latest = latest; told = refl })
 
 -- the first version is a replay of no update
 abbrev pub first_version : List Record → Version
@@ -149,10 +144,10 @@ pub first_replay : (first : List Record) → IsReplay first (first_version first
 first_replay first = record { updates = []; changing = tt; zone = refl; number = refl }
 
 -- a reply that is the same in each version
-pub same_replied : (first : List Record) (peer : Peer) (version : Version) (request out octets : List ℕ) (heard said : Parsed) (len : ℕ) → IsReplay first version → Tells request heard → heard ≡ said → IsNoQuery said → len ≤ limit_for peer.transport said → take len out ≡ octets
-    → got_of peer.transport peer.may_update ForNothing version.zone said ≡ record { reply = Some octets; zone = version.zone } → IsReplied first peer request (take len out ∷ [])
-same_replied first peer version request out octets heard said len replayed tells is plain short written gets =
-    said_replied first peer version request out heard said len None replayed tells is plain
+pub same_replied : (first : List Record) (peer : Peer) (later : List Version) (version : Version) (request out octets : List ℕ) (heard said : Parsed) (len : ℕ) → IsReplay first version → Tells request heard → heard ≡ said → IsNoQuery said → len ≤ limit_for peer.transport said → take len out ≡ octets
+    → got_of peer.transport peer.may_update ForNothing version.zone said ≡ record { reply = Some octets; zone = version.zone } → IsReplied first peer later request (take len out ∷ [])
+same_replied first peer later version request out octets heard said len replayed tells is plain short written gets =
+    said_replied first peer later version request out heard said len None replayed tells is plain
     (serves_reply (record { len = Some len; next = None }) peer.transport peer.may_update version said octets out len refl refl short written gets)
 
 no_code : (zone after : List Record) (update : Update) (may : Bool) → verdict zone update may ≡ None → act zone update ≡ Some after → code_of zone update may ≡ None
@@ -173,44 +168,44 @@ module _ (transport : Transport) (update : Update) (may : Bool) (out : List ℕ)
   said old code written other same = ap Some (written ∙ ap (λ c. fit (coded (heading_of_update update) c) (limit_of transport None)) same)
 
   -- what is told of an update is what it gets
-  pub told_said : (old new : Held) (code : Rcode) → take len out ≡ fit (coded (heading_of_update update) code) (limit_of transport None) → IsTold old update may code new
-      → (next : Option Version) × ServesSaid (record { len = Some len; next = next }) transport may old.last (SaysUpdate update) out
-  told_said old new code written (made next taken makes is_code is_new) =
-      let gets = taken_got old.last.zone next.zone taken makes.zone in (
+  pub told_said : (old new : EngineState) (code : Rcode) → take len out ≡ fit (coded (heading_of_update update) code) (limit_of transport None) → IsTold old update may code new
+      → (next : Option Version) × ServesSaid (record { len = Some len; next = next }) transport may old.held.last (SaysUpdate update) out
+  told_said old new code written (made next taken makes is_code left is_new) =
+      let gets = taken_got old.held.last.zone next.zone taken makes.zone in (
         Some next,
         record {
           want = ForNothing;
-          reply = subst (λ (g : Got). StandsIn (Some len) (limit_of transport None) out g.reply) (sym gets) (short, sym (said old.last code written NoError is_code));
-          zone = subst (λ (g : Got). IsBehind (Some next) old.last g.zone) (sym gets) (refl, makes.changed, makes.number);
+          reply = subst (λ (g : Got). StandsIn (Some len) (limit_of transport None) out g.reply) (sym gets) (short, sym (said old.held.last code written NoError is_code));
+          zone = subst (λ (g : Got). IsBehind (Some next) old.held.last g.zone) (sym gets) (refl, makes.changed, makes.number);
         },
       )
   told_said old new code written (refused is_code same) =
-      let gets : got_of transport may ForNothing old.last.zone (SaysUpdate update) ≡ told transport (heading_of_update update) code old.last.zone = ap (λ c. answered transport (heading_of_update update) old.last.zone (act old.last.zone update) c) is_code in (
+      let gets : got_of transport may ForNothing old.held.last.zone (SaysUpdate update) ≡ told transport (heading_of_update update) code old.held.last.zone = ap (λ c. answered transport (heading_of_update update) old.held.last.zone (act old.held.last.zone update) c) is_code in (
         None,
         record {
           want = ForNothing;
           reply = subst (λ (g : Got). StandsIn (Some len) (limit_of transport None) out g.reply) (sym gets) (short, sym (ap Some written));
-          zone = subst (λ (g : Got). IsBehind None old.last g.zone) (sym gets) refl;
+          zone = subst (λ (g : Got). IsBehind None old.held.last g.zone) (sym gets) refl;
         },
       )
   told_said old new code written (unchanged taken acts is_code same) =
-      let gets = taken_got old.last.zone old.last.zone taken acts in (
+      let gets = taken_got old.held.last.zone old.held.last.zone taken acts in (
         None,
         record {
           want = ForNothing;
-          reply = subst (λ (g : Got). StandsIn (Some len) (limit_of transport None) out g.reply) (sym gets) (short, sym (said old.last code written NoError is_code));
-          zone = subst (λ (g : Got). IsBehind None old.last g.zone) (sym gets) refl;
+          reply = subst (λ (g : Got). StandsIn (Some len) (limit_of transport None) out g.reply) (sym gets) (short, sym (said old.held.last code written NoError is_code));
+          zone = subst (λ (g : Got). IsBehind None old.held.last g.zone) (sym gets) refl;
         },
       )
-  told_said old new code written (full most is_code same) = (None, record { want = ForMaking; reply = (short, sym (said old.last code written ServFail is_code)); zone = refl })
-  told_said old new code written (starved taken is_code same) = (None, record { want = ForMaking; reply = (short, sym (said old.last code written ServFail is_code)); zone = refl })
+  told_said old new code written (full most is_code same) = (None, record { want = ForMaking; reply = (short, sym (said old.held.last code written ServFail is_code)); zone = refl })
+  told_said old new code written (starved taken is_code same) = (None, record { want = ForMaking; reply = (short, sym (said old.held.last code written ServFail is_code)); zone = refl })
 
 -- an update's code is its reply
-pub update_replied : (first : List Record) (peer : Peer) (request out : List ℕ) (heard : Parsed) (update : Update) (old new : Held) (code : Rcode) (len : ℕ) → IsReplay first old.last → Tells request heard → heard ≡ SaysUpdate update
-    → len ≤ limit_of peer.transport None → take len out ≡ fit (coded (heading_of_update update) code) (limit_of peer.transport None) → IsTold old update peer.may_update code new → IsReplied first peer request (take len out ∷ [])
-update_replied first peer request out heard update old new code len replayed tells is short written t =
+pub update_replied : (first : List Record) (peer : Peer) (later : List Version) (request out : List ℕ) (heard : Parsed) (update : Update) (old new : EngineState) (code : Rcode) (len : ℕ) → IsReplay first old.held.last → Tells request heard → heard ≡ SaysUpdate update
+    → len ≤ limit_of peer.transport None → take len out ≡ fit (coded (heading_of_update update) code) (limit_of peer.transport None) → IsTold old update peer.may_update code new → IsReplied first peer later request (take len out ∷ [])
+update_replied first peer later request out heard update old new code len replayed tells is short written t =
     let s = told_said peer.transport update peer.may_update out len short old new code written t in
-    said_replied first peer old.last request out heard (SaysUpdate update) len s.0 replayed tells is tt s.1
+    said_replied first peer later old.held.last request out heard (SaysUpdate update) len s.0 replayed tells is tt s.1
 
 -- what asks for an update by its header, where memory is wanted to read it
 want_of : (request : List ℕ) → is_update request ≡ true → IsWant request (NoMemory (header_of request))
@@ -289,6 +284,11 @@ other_said request said other is =
     subst IsOther (sym is)
     (judged_other (nat_lt (length request) 12) (is_reply request) (header_of request) (option_and_then (seen request) (body_in request)) (update_in (header_of request) request) other)
 
+-- what asks for an update is no query
+pub update_is_no_query : (request : List ℕ) → is_update request ≡ true → IsQuery request → ⊥
+update_is_no_query request asks query =
+    subst IsOfUpdate (sym (update_said request asks) ∙ query.1) (of_update (header_of request) (update_in (header_of request) request))
+
 -- what is heard as an update is one
 pub heard_update : (request : List ℕ) (heard : Parsed) (update : Update) → Tells request heard → heard ≡ SaysUpdate update → reads request ≡ SaysUpdate update
 heard_update request heard update tells is =
@@ -325,18 +325,18 @@ heard_want request heard head asks tells is =
     (λ (want : IsWant request heard). subst (IsWant request) is want) tells
 
 -- what is told of a request that isn't read as an update is told of it
-pub told_unread : (first : List Record) (may : Bool) (request : List ℕ) (heard : Parsed) (head : Head) (code : Rcode) (heading : Heading) (t : Told) → Tells request heard → heard ≡ Fault head code → heading ≡ header_alone head → t.code ≡ code → t.serials ≡ None → IsToldOf first may request heading t
-told_unread first may request heard head code heading t tells is alone same none =
-    unread head (heard_fault request heard head code tells is ∙ ap (λ c. Fault head c) (sym same)) alone none
+pub told_unread : (first : List Record) (may : Bool) (request : List ℕ) (reader : ReaderState Version) (heard : Parsed) (head : Head) (code : Rcode) (heading : Heading) (t : Told) → Tells request heard → heard ≡ Fault head code → heading ≡ header_alone head → t.code ≡ code → t.serials ≡ None → IsToldOf first may request reader reader heading t
+told_unread first may request reader heard head code heading t tells is alone same none =
+    unread head (heard_fault request heard head code tells is ∙ ap (λ c. Fault head c) (sym same)) alone none refl
 
-pub told_bad : (first : List Record) (may : Bool) (request : List ℕ) (heard : Parsed) (head : Head) (question : Question) (code : Rcode) (dnssec_ok : Bool) (heading : Heading) (t : Told) → Tells request heard → heard ≡ BadOpt head question code dnssec_ok → heading ≡ heading_of_bad head question dnssec_ok
-    → t.code ≡ code → t.serials ≡ None → IsToldOf first may request heading t
-told_bad first may request heard head question code dnssec_ok heading t tells is repeats same none =
-    bad_opt head question dnssec_ok (heard_bad request heard head question code dnssec_ok tells is ∙ ap (λ c. BadOpt head question c dnssec_ok) (sym same)) repeats none
+pub told_bad : (first : List Record) (may : Bool) (request : List ℕ) (reader : ReaderState Version) (heard : Parsed) (head : Head) (question : Question) (code : Rcode) (dnssec_ok : Bool) (heading : Heading) (t : Told) → Tells request heard → heard ≡ BadOpt head question code dnssec_ok → heading ≡ heading_of_bad head question dnssec_ok
+    → t.code ≡ code → t.serials ≡ None → IsToldOf first may request reader reader heading t
+told_bad first may request reader heard head question code dnssec_ok heading t tells is repeats same none =
+    bad_opt head question dnssec_ok (heard_bad request heard head question code dnssec_ok tells is ∙ ap (λ c. BadOpt head question c dnssec_ok) (sym same)) repeats none refl
 
-pub told_starved : (first : List Record) (may : Bool) (request : List ℕ) (heard : Parsed) (head : Head) (heading : Heading) (t : Told) → is_update request ≡ true → Tells request heard → heard ≡ NoMemory head → heading ≡ header_alone head → t.code ≡ ServFail → t.serials ≡ None → IsToldOf first may request heading t
-told_starved first may request heard head heading t asks tells is alone same none =
-    starved_reading head (heard_want request heard head asks tells is) alone same none
+pub told_starved : (first : List Record) (may : Bool) (request : List ℕ) (reader : ReaderState Version) (heard : Parsed) (head : Head) (heading : Heading) (t : Told) → is_update request ≡ true → Tells request heard → heard ≡ NoMemory head → heading ≡ header_alone head → t.code ≡ ServFail → t.serials ≡ None → IsToldOf first may request reader reader heading t
+told_starved first may request reader heard head heading t asks tells is alone same none =
+    starved_reading head (heard_want request heard head asks tells is) alone same none refl
 
 -- an update of a peer that may not update is judged by the first rule that it breaks
 judged_got : (transport : Transport) (zone : List Record) (update : Update) (may : Bool) (code : Rcode) → may ≡ false → verdict zone update false ≡ Some code
@@ -346,38 +346,38 @@ judged_got transport zone update may code is gives =
     ∙ ap (λ v. answered transport (heading_of_update update) zone (act zone update) (option_or v (if is_some (act zone update) then None else Some ServFail))) gives
 
 -- the code that is told of a request that asks for an update is its reply
-module _ (first : List Record) (peer : Peer) (request out : List ℕ) (len : ℕ) (short : len ≤ limit_of peer.transport None) where
+module _ (first : List Record) (peer : Peer) (before after : ReaderState Version) (request out : List ℕ) (len : ℕ) (short : len ≤ limit_of peer.transport None) where
   code_of_heading : Heading → Rcode → List ℕ
   code_of_heading heading code = fit (coded heading code) (limit_of peer.transport None)
 
-  judged_replied : (update : Update) (t : Told) → reads request ≡ SaysUpdate update → IsJudged first update peer.may_update t → take len out ≡ fit (coded (heading_of_update update) t.code) (limit_of peer.transport None) → IsReplied first peer request (take len out ∷ [])
-  judged_replied update t reading (by_engine serials is updated) written =
-      update_replied first peer request out (SaysUpdate update) update updated.0 updated.1 t.code len updated.2 (inl (sym reading)) refl short written updated.3
-  judged_replied update t reading (in_version version may replayed gives none) written =
-      same_replied first peer version request out (fit (coded (heading_of_update update) t.code) (limit_of peer.transport None)) (SaysUpdate update) (SaysUpdate update) len replayed (inl (sym reading)) refl tt short written (judged_got peer.transport version.zone update peer.may_update t.code may gives)
+  judged_replied : (update : Update) (t : Told) → reads request ≡ SaysUpdate update → IsJudged first update peer.may_update before after t → take len out ≡ fit (coded (heading_of_update update) t.code) (limit_of peer.transport None) → IsReplied first peer after.seen request (take len out ∷ [])
+  judged_replied update t reading (by_engine serials asks is updated same) written =
+      update_replied first peer after.seen request out (SaysUpdate update) update updated.0 updated.1 t.code len updated.2 (inl (sym reading)) refl short written updated.4
+  judged_replied update t reading (in_version version may replayed loaded gives none) written =
+      same_replied first peer after.seen version request out (fit (coded (heading_of_update update) t.code) (limit_of peer.transport None)) (SaysUpdate update) (SaysUpdate update) len replayed (inl (sym reading)) refl tt short written (judged_got peer.transport version.zone update peer.may_update t.code may gives)
 
   -- a request that can't be read as an update gets a code, whatever version is served
   said_as : (saying : Parsed) (heading other : Heading) (code : Rcode) → Tells request saying → IsNoQuery saying → len ≤ limit_for peer.transport saying → heading ≡ other
-      → got_of peer.transport peer.may_update ForNothing first saying ≡ told peer.transport other code first → take len out ≡ fit (coded heading code) (limit_of peer.transport None) → IsReplied first peer request (take len out ∷ [])
+      → got_of peer.transport peer.may_update ForNothing first saying ≡ told peer.transport other code first → take len out ≡ fit (coded heading code) (limit_of peer.transport None) → IsReplied first peer after.seen request (take len out ∷ [])
   said_as saying heading other code tells plain within same gets written =
-      same_replied first peer (first_version first) request out (fit (coded other code) (limit_of peer.transport None)) saying saying len (first_replay first) tells refl plain within (written ∙ ap (λ (h : Heading). fit (coded h code) (limit_of peer.transport None)) same) gets
+      same_replied first peer after.seen (first_version first) request out (fit (coded other code) (limit_of peer.transport None)) saying saying len (first_replay first) tells refl plain within (written ∙ ap (λ (h : Heading). fit (coded h code) (limit_of peer.transport None)) same) gets
 
-  pub told_replied : (heading : Heading) (t : Told) → IsToldOf first peer.may_update request heading t → take len out ≡ fit (coded heading t.code) (limit_of peer.transport None) → IsReplied first peer request (take len out ∷ [])
+  pub told_replied : (heading : Heading) (t : Told) → IsToldOf first peer.may_update request before after heading t → take len out ≡ fit (coded heading t.code) (limit_of peer.transport None) → IsReplied first peer after.seen request (take len out ∷ [])
   told_replied heading t (read update reading same judged) written =
       judged_replied update t reading judged (written ∙ ap (λ (h : Heading). fit (coded h t.code) (limit_of peer.transport None)) same)
-  told_replied heading t (unread head reading same none) written = said_as (Fault head t.code) heading (header_alone head) t.code (inl (sym reading)) tt short same refl written
-  told_replied heading t (bad_opt head question dnssec_ok reading same none) written =
+  told_replied heading t (unread head reading same none stays) written = said_as (Fault head t.code) heading (header_alone head) t.code (inl (sym reading)) tt short same refl written
+  told_replied heading t (bad_opt head question dnssec_ok reading same none stays) written =
       said_as (BadOpt head question t.code dnssec_ok) heading (heading_of_bad head question dnssec_ok) t.code (inl (sym reading)) tt short same refl written
-  told_replied heading t (starved_reading head want same code none) written =
+  told_replied heading t (starved_reading head want same code none stays) written =
       said_as (NoMemory head) heading (header_alone head) t.code (inr want) tt short same (ap (λ c. told peer.transport (header_alone head) c first) (sym code)) written
 
 -- octets that get no reply
-pub silent_replied : (first : List Record) (peer : Peer) (request : List ℕ) → reads request ≡ IsSilent → IsReplied first peer request []
-silent_replied first peer request silent = record {
+pub silent_replied : (first : List Record) (peer : Peer) (later : List Version) (request : List ℕ) → reads request ≡ IsSilent → IsReplied first peer later request []
+silent_replied first peer later request silent = record {
   version = first_version first;
   replayed = first_replay first;
   changes = None;
-  told = subst (TellsFor first (first_version first) None) (sym silent) tt;
+  told = subst (TellsFor first later (first_version first) None) (sym silent) tt;
   want = ForNothing;
   reply = ap (replies_to first None peer ForNothing) (sym silent);
 }
@@ -417,30 +417,51 @@ room_most peer = by peer.transport
     by Tcp = lit≤ tt
 
 -- what is answered at once without a version
-pub code_now : (first : List Record) (peer : Peer) (request out : List ℕ) (saying : Parsed) (heading own : Heading) (code : Rcode) (len : ℕ) → is_update request ≡ false → reads request ≡ saying → IsNoQuery saying → len ≤ limit_of peer.transport None
+pub code_now : (first : List Record) (peer : Peer) (reader : ReaderState Version) (request out : List ℕ) (saying : Parsed) (heading own : Heading) (code : Rcode) (len : ℕ) → is_update request ≡ false → reads request ≡ saying → IsNoQuery saying → len ≤ limit_of peer.transport None
     → limit_for peer.transport saying ≡ limit_of peer.transport None → heading ≡ own → got_of peer.transport peer.may_update ForNothing first saying ≡ told peer.transport own code first → ((zone : List Record) → IsNoTransfer zone peer saying)
-    → take len out ≡ fit (coded heading code) (limit_of peer.transport None) → (len ≤ limit_for peer.transport (reads request)) × (replied : IsReplied first peer request (take len out ∷ [])) × IsAtOnce peer request replied.version
-code_now first peer request out saying heading own code len other reading plain short limit same gets none written =
+    → ((version : Version) → LoadsFor first reader reader version saying) → take len out ≡ fit (coded heading code) (limit_of peer.transport None)
+    → (len ≤ limit_for peer.transport (reads request)) × (replied : IsReplied first peer reader.seen request (take len out ∷ [])) × IsAtOnce peer request replied.version × LoadsFor first reader reader replied.version (reads request)
+code_now first peer reader request out saying heading own code len other reading plain short limit same gets none stays written =
     let within : len ≤ limit_for peer.transport saying = subst (λ (n : ℕ). len ≤ n) (sym limit) short in
-    let replied = same_replied first peer (first_version first) request out (fit (coded own code) (limit_of peer.transport None)) saying saying len (first_replay first) (inl (sym reading)) refl plain within (written ∙ ap (λ (h : Heading). fit (coded h code) (limit_of peer.transport None)) same) gets in
-    (subst (λ p. len ≤ limit_for peer.transport p) (sym reading) within, replied, record { other = other; plain = subst (IsNoTransfer replied.version.zone peer) (sym reading) (none replied.version.zone) })
+    let replied = same_replied first peer reader.seen (first_version first) request out (fit (coded own code) (limit_of peer.transport None)) saying saying len (first_replay first) (inl (sym reading)) refl plain within (written ∙ ap (λ (h : Heading). fit (coded h code) (limit_of peer.transport None)) same) gets in (
+      subst (λ p. len ≤ limit_for peer.transport p) (sym reading) within,
+      replied,
+      record { other = other; plain = subst (IsNoTransfer replied.version.zone peer) (sym reading) (none replied.version.zone) },
+      subst (LoadsFor first reader reader replied.version) (sym reading) (stays replied.version),
+    )
 
--- a query that is answered at once in a version
-pub query_now : (first : List Record) (peer : Peer) (version : Version) (request out : List ℕ) (query : QueryAsked) (len : ℕ) (changes : Option (List Record)) (keep : ℕ) → IsReplay first version → TellsSince first keep version query.serial changes
-    → is_update request ≡ false → reads request ≡ Query query → is_permitted version.zone peer query ≡ false → take len out ≡ fit (reply_to_peer version.zone peer query) (limit_of peer.transport query.edns)
-    → len ≤ limit_of peer.transport query.edns → (len ≤ limit_for peer.transport (reads request)) × (replied : IsReplied first peer request (take len out ∷ [])) × IsAtOnce peer request replied.version
-query_now first peer version request out query len changes keep replayed told other asked may written short =
+-- a query that is answered at once, in the version that is loaded for it
+pub query_now : (first : List Record) (peer : Peer) (before after : ReaderState Version) (version : Version) (request out : List ℕ) (query : QueryAsked) (len : ℕ) (changes : Option (List Record)) (keep : ℕ) → IsReplay first version
+    → TellsSince first after.seen keep version query.serial changes → HasLoaded first before after version → is_update request ≡ false → reads request ≡ Query query → is_permitted version.zone peer query ≡ false
+    → take len out ≡ fit (reply_to_peer version.zone peer query) (limit_of peer.transport query.edns) → len ≤ limit_of peer.transport query.edns
+    → (len ≤ limit_for peer.transport (reads request)) × (replied : IsReplied first peer after.seen request (take len out ∷ [])) × IsAtOnce peer request replied.version × LoadsFor first before after replied.version (reads request)
+query_now first peer before after version request out query len changes keep replayed told loaded other asked may written short =
     let gets : take len out ∷ [] ≡ replies_to version.zone changes peer ForNothing (Query query) = rw (may, written) refl in (
       subst (λ p. len ≤ limit_for peer.transport p) (sym asked) short,
       record {
         version = version;
         replayed = replayed;
         changes = changes;
-        told = subst (TellsFor first version changes) (sym asked) (keep, told);
+        told = subst (TellsFor first after.seen version changes) (sym asked) (keep, told);
         want = ForNothing;
         reply = gets ∙ ap (replies_to version.zone changes peer ForNothing) (sym asked);
       },
       record { other = other; plain = subst (IsNoTransfer version.zone peer) (sym asked) may },
+      subst (LoadsFor first before after version) (sym asked) loaded,
+    )
+
+-- a query that is answered from the versions that are found for it
+pub query_served : (first : List Record) (peer : Peer) (before after : ReaderState Version) (version : Version) (request out : List ℕ) (query : QueryAsked) (len : ℕ) (changes : Option (List Record)) (keep : ℕ) → IsReplay first version
+    → TellsSince first after.seen keep version query.serial changes → HasLoaded first before after version → reads request ≡ Query query → is_permitted version.zone peer query ≡ false
+    → take len out ≡ fit (reply_to_peer version.zone peer query) (limit_of peer.transport query.edns) → len ≤ limit_of peer.transport query.edns
+    → (len ≤ limit_for peer.transport (reads request)) × (replied : IsReplied first peer after.seen request (take len out ∷ [])) × IsQuery request × HasLoaded first before after replied.version
+unfolding query_replied
+query_served first peer before after version request out query len changes keep replayed told loaded asked may written short =
+    let gets : take len out ∷ [] ≡ replies_to version.zone changes peer ForNothing (Query query) = rw (may, written) refl in (
+      subst (λ p. len ≤ limit_for peer.transport p) (sym asked) short,
+      query_replied first peer after.seen version request query (take len out ∷ []) changes keep replayed told asked gets,
+      (query, asked),
+      loaded,
     )
 
 -- what comes later and doesn't ask for an update asks for a transfer

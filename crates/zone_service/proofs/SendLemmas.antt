@@ -4,10 +4,11 @@ use denote.Ref.{NamedLft}
 use denote.Param.Send.{IsSync, sendable}
 use Rattle.std.proofs.Crossing as crossing
 use Rattle.std.proofs.sync.Mutex.TheSendSync as mutex
-use Rattle.snapshot_cell.proofs.cell.Cell.TheSendSync as cell
-use Rattle.dns_engine.proofs.SendLemmas.{version_send, version_sync, engine_send}
+use Rattle.snapshot_cell.proofs.SendLemmas as cell
+use Rattle.snapshot_cell.specs.declared.named.Naming as naming
+use Rattle.dns_engine.proofs.SendLemmas as engine
 use Rattle.dns_engine.specs.declared.versions.FirstZone.{Ghosts}
 use Rattle.zone_service.specs.contracts.server.Server as server
 
-pub server_sync : (a : NamedLft) (T : RattleType) (g : Ghosts T.Denot) → IsSync (server.the_row a T g)
-server_sync a T g = search (version_send, version_sync, engine_send, cell.the_sync, cell.the_field_sync, mutex.the_sync, crossing.crosses, sendable) depth 60 fits 20000
+pub server_sync : (a : NamedLft) (T N : RattleType) (g : Ghosts T.Denot) (n : naming.Ghosts N.Denot) → IsSync (server.the_row a T N n g)
+server_sync a T N g n = search (engine.crosses, cell.crosses, mutex.the_sync, crossing.crosses, sendable) depth 60 fits 20000

@@ -1,7 +1,13 @@
 -- Messages one behind the other.
-use Rattle.std.proofs.Common.{◌≡◌, refl, ℕ, List, [], ◌∷◌, ◌++◌, Option, None, Some, sym, ap, ◌∙◌, subst, append_assoc, append-nil, Result, Ok, Err, OnOk, OnErr, IfErr}
+use Rattle.std.proofs.Common.{◌≡◌, refl, ℕ, ◌≤◌, List, [], ◌∷◌, ◌++◌, take, Option, None, Some, MatchOption, IfSome, sym, ap, ◌∙◌, subst, append_assoc, append-nil, Result, Ok, Err, OnOk, OnErr, IfErr}
+use Rattle.dns_rdata.specs.Record.{Record}
 use Rattle.dns_message.specs.Frame.{frame_of}
-use Rattle.conversation.specs.Octets.{Takes, frames_of}
+use Rattle.dns_message.specs.declared.query.Query.{Query as QueryAsked}
+use Rattle.serve_core.specs.Transfers.{messages_to}
+use Rattle.serve_core.specs.declared.peer.Peer.{Peer}
+use Rattle.serve_core.specs.declared.transport.Transport.{Transport}
+use Rattle.serve_core.specs.declared.transport.Transport.TheVariants.{Udp}
+use Rattle.conversation.specs.Octets.{Takes, frames_of, messages_in}
 use Rattle.conversation.specs.Turns.{Replies, IsBrokenAs}
 use Rattle.conversation.specs.declared.turn.Broken.{Broken}
 use Rattle.conversation.specs.declared.turn.Broken.TheVariants.{Spent, Failed}
@@ -73,3 +79,23 @@ module _ {T : Type 0} (IsReply : List T → List ℕ → List (List ℕ) → Typ
       broken_by (Ok x) failed part = tt
       broken_by (Err broken) failed part =
           subst (λ (other : Broken). IsBrokenAs IsReply other seen request later a b) (sym failed) (record { messages = messages; reply = reply; front = part.0; back = part.1; whole = part.2; written = part.3 })
+
+-- a transfer by a datagram has one message
+abbrev pub IsOne : List (List ℕ) → Type 0
+IsOne messages = (message : List ℕ) × (messages ≡ message ∷ [])
+
+pub datagrams_one : (zone : List Record) (changes : Option (List Record)) (peer : Peer) (query : QueryAsked) → peer.transport ≡ Udp → IsOne (messages_to zone changes peer query)
+datagrams_one zone changes peer query by = subst (λ (transport : Transport). IsOne (messages_to zone changes (record peer { transport = transport }) query)) (sym by) (_, refl)
+
+-- and where it is written that is all
+module _ (packer next : List (List ℕ)) (before out : List ℕ) (most : ℕ) (one : IsOne packer) where
+  abbrev pub Given : Option ℕ → Type 0
+  Given result = MatchOption result ((packer ≡ []) × (next ≡ []) × (out ≡ before)) (λ len. (packer ≡ take len out ∷ next) × (len ≤ most))
+
+  pub one_message : (result : Option ℕ) → Given result → messages_in result out ≡ packer
+  one_message None given = let none = given.0 in let is = one.1 in absurd (cc)
+  one_message (Some len) given = let some = given.0 in let is = one.1 in cc
+
+  pub one_short : (result : Option ℕ) → Given result → IfSome result (λ len. len ≤ most)
+  one_short None given = tt
+  one_short (Some len) given = given.1

@@ -1,5 +1,5 @@
 -- What has come of an update (RFC 2136, 3).
-use Rattle.std.specs.Prelude.{◌≡◌, ℕ, Bool, true, false, List, None, Some}
+use Rattle.std.specs.Prelude.{◌≡◌, ◌⊎◌, ℕ, Bool, true, false, List, None, Some}
 use Rattle.dns_rdata.specs.Record.{Record}
 use Rattle.dns_rdata.specs.declared.numbers.Rcode.{Rcode}
 use Rattle.dns_rdata.specs.declared.numbers.Rcode.TheVariants.{ServFail}
@@ -11,41 +11,45 @@ use Rattle.dns_message.specs.declared.query.Parsed.TheVariants.{Fault, BadOpt, U
 use Rattle.dns_message.specs.declared.update.Update.{Update}
 use Rattle.zone_tree.specs.Version.{Version, zone_serial}
 use Rattle.update_core.specs.Verdict.{verdict}
-use Rattle.dns_engine.specs.Held.{Held}
+use Rattle.snapshot_cell.specs.Tokens.{ReaderState}
+use Rattle.dns_engine.specs.Held.{EngineState, IsLatest}
 use Rattle.dns_engine.specs.Told.{IsTold}
 use Rattle.dns_engine.specs.Replayed.{IsReplay}
 use Rattle.serve_core.specs.declared.peer.Peer.{Peer}
 use Rattle.serve_core.specs.declared.heading.Heading.{Heading}
 use Rattle.serve_core.specs.Heading.{header_alone, heading_of_update, heading_of_bad, coded}
 use Rattle.serve_core.specs.Transport.{limit_of}
+use Rattle.zone_service.specs.Known.{HasLoaded}
 use Rattle.zone_service.specs.declared.answer.Told.{Told}
 use Rattle.zone_service.specs.declared.service_log.Serials.{Serials}
 
 -- the code that an engine tells of an update, and the serials of its last version in front of the update and behind it, the first of which is
--- the first zone with updates replayed
+-- the first zone with updates replayed, and the last of the versions that the engine has published
 abbrev pub IsUpdated : List Record → Update → Bool → Rcode → Serials → Type 0
 IsUpdated first update may code serials =
-    (old new : Held) × IsReplay first old.last × IsTold old update may code new × (serials.before.0 ≡ zone_serial old.last.zone) × (serials.after.0 ≡ zone_serial new.last.zone)
+    (old new : EngineState) × IsReplay first old.held.last × IsLatest first old.held.published old.held.last × IsTold old update may code new
+    × (serials.before.0 ≡ zone_serial old.held.last.zone) × (serials.after.0 ≡ zone_serial new.held.last.zone)
 
--- what is told of an update that was read, by whether its peer may update: the code that an engine tells of it, with the serials of that engine's
--- last version before it and after it; or, of a peer that may not, the code of the first rule that it breaks in a version, which is the first zone
--- with updates replayed, and no serials
-pub data IsJudged (first : List Record) (update : Update) (may : Bool) (told : Told) : Type 0 where
-  by_engine : (serials : Serials) → told.serials ≡ Some serials → IsUpdated first update may told.code serials → IsJudged first update may told
-  in_version : (version : Version) → may ≡ false → IsReplay first version → verdict version.zone update false ≡ Some told.code → told.serials ≡ None → IsJudged first update may told
+-- what is told of an update that was read, by whether its peer may update, and by what becomes of the reader of who answers: of a peer that may,
+-- or where no load is left, the code that an engine tells of it, with the serials of that engine's last version before it and after it; else the
+-- code of the first rule that it breaks in the version that is loaded for it, which is the first zone with updates replayed, and no serials
+pub data IsJudged (first : List Record) (update : Update) (may : Bool) (before after : ReaderState Version) (told : Told) : Type 0 where
+  by_engine : (serials : Serials) → (may ≡ true) ⊎ (before.left ≡ 0) → told.serials ≡ Some serials → IsUpdated first update may told.code serials → after ≡ before → IsJudged first update may before after told
+  in_version : (version : Version) → may ≡ false → IsReplay first version → HasLoaded first before after version → verdict version.zone update false ≡ Some told.code → told.serials ≡ None → IsJudged first update may before after told
 
 -- what is told of a request that asks for an update, and what its reply repeats of it: of one that is read what is told of that update; of one that
 -- can't be read, or whose OPT isn't obeyed, its code; and SERVFAIL where memory was wanted while it was read. Only what is told of an update that is
--- read has serials
-pub data IsToldOf (first : List Record) (may : Bool) (request : List ℕ) (heading : Heading) (told : Told) : Type 0 where
-  read : (update : Update) → reads request ≡ SaysUpdate update → heading ≡ heading_of_update update → IsJudged first update may told → IsToldOf first may request heading told
-  unread : (head : Head) → reads request ≡ Fault head told.code → heading ≡ header_alone head → told.serials ≡ None → IsToldOf first may request heading told
-  bad_opt : (head : Head) (question : Question) (dnssec_ok : Bool) → reads request ≡ BadOpt head question told.code dnssec_ok → heading ≡ heading_of_bad head question dnssec_ok → told.serials ≡ None → IsToldOf first may request heading told
-  starved : (head : Head) → IsWant request (NoMemory head) → heading ≡ header_alone head → told.code ≡ ServFail → told.serials ≡ None → IsToldOf first may request heading told
+-- read has serials, and for no other anything is loaded
+pub data IsToldOf (first : List Record) (may : Bool) (request : List ℕ) (before after : ReaderState Version) (heading : Heading) (told : Told) : Type 0 where
+  read : (update : Update) → reads request ≡ SaysUpdate update → heading ≡ heading_of_update update → IsJudged first update may before after told → IsToldOf first may request before after heading told
+  unread : (head : Head) → reads request ≡ Fault head told.code → heading ≡ header_alone head → told.serials ≡ None → after ≡ before → IsToldOf first may request before after heading told
+  bad_opt : (head : Head) (question : Question) (dnssec_ok : Bool) → reads request ≡ BadOpt head question told.code dnssec_ok → heading ≡ heading_of_bad head question dnssec_ok → told.serials ≡ None → after ≡ before
+      → IsToldOf first may request before after heading told
+  starved : (head : Head) → IsWant request (NoMemory head) → heading ≡ header_alone head → told.code ≡ ServFail → told.serials ≡ None → after ≡ before → IsToldOf first may request before after heading told
 
 -- a request asks for an update, and its reply has no record but an OPT, and the code that is told of it (RFC 2136, 3.8; RFC 6891, 6.1.1)
-pub record IsUpdateTold (first : List Record) (peer : Peer) (request octets : List ℕ) (told : Told) : Type 0 where
+pub record IsUpdateTold (first : List Record) (peer : Peer) (request : List ℕ) (before after : ReaderState Version) (octets : List ℕ) (told : Told) : Type 0 where
   pub asks : is_update request ≡ true
   pub heading : Heading
-  pub tells : IsToldOf first peer.may_update request heading told
+  pub tells : IsToldOf first peer.may_update request before after heading told
   pub reply : octets ≡ fit (coded heading told.code) (limit_of peer.transport None)

@@ -1,10 +1,13 @@
 //! Requests that are answered at once, with a version that is loaded (RFC 1034, 4.3.2), and those that the engine answers, or the
 //! versions that it keeps: updates (RFC 2136, 3) and transfers (RFC 1995, 4; RFC 5936, 2.2).
-ghost use Rattle.std.specs.Prelude.{◌≡◌, ◌≤◌, ◌⊎◌, List, ℕ, Some, None, false, length};
+ghost use Rattle.std.specs.Prelude.{◌≡◌, ◌↔◌, ◌≤◌, ◌⊎◌, List, ℕ, Some, None, false, length};
 ghost use Rattle.dns_message.specs.Request.{reads};
 ghost use Rattle.dns_message.specs.declared.query.Parsed.TheVariants.{Query as SaysQuery};
 ghost use Rattle.serve_core.specs.Transport.{room_of};
-ghost use Rattle.zone_service.specs.Replied.{IsUpdate, IsTransfer, IsNow, IsServed};
+ghost use Rattle.snapshot_cell.specs.Tokens.{ReaderState};
+ghost use Rattle.zone_tree.specs.Version.{Version as PublishedVersion};
+ghost use Rattle.zone_service.specs.Replied.{IsUpdate, IsQuery, IsTransfer, IsNow, IsFound, IsServed};
+ghost use Rattle.zone_service.specs.declared.answer.Now.{Now as AtOnce};
 ghost use Rattle.zone_service.specs.Updated.{IsJudged, IsToldOf};
 ghost use Rattle.update_core.specs.Verdict.{verdict};
 
@@ -14,6 +17,7 @@ use dns_engine::{FirstZone, Newest, VersionCell, VersionReader};
 use dns_message::{Parsed, Query, Update, is_update, parse, parse_other};
 use dns_rdata::Rcode;
 use serve_core::{Heading, Peer, is_permitted, respond_to_peer, write_code};
+use snapshot_cell::Naming;
 use std::alloc::Global;
 use std::sync::Wait;
 use update_core::check;
@@ -28,7 +32,7 @@ pub enum Now {
     Silent,
     /// The request is an update, or asks for a transfer that is permitted.
     Later,
-    /// No version could be loaded for a query.
+    /// No load is left for a query.
     Spent,
 }
 
@@ -57,30 +61,30 @@ impl Told {
 
 /// What an update or a transfer gets.
 #[derive(Drop)]
-pub enum Served<'s, Z: FirstZone> {
+pub enum Served<Z: FirstZone, N: Naming> {
     /// A reply of so many octets.
     Reply(usize),
     /// An update's reply of so many octets, and what is told in it.
     Updated(usize, Told),
     /// The messages of a transfer of the last of these versions, which a query asks for.
-    Transfer(Newest<'s, Z>, Query),
+    Transfer(Newest<Z, N>, Query),
     /// No version could be owned for a transfer.
     Spent,
 }
 
 /// Answers a request at once, unless it is an update or a transfer that is permitted: writes the reply in the version that is loaded to
-/// the front of `out`. An update is told by its header alone. Only a query loads a version: [`Now::Spent`] comes of nothing else. It takes
-/// no memory.
-pub fn answer_now<R: Wait, Z: FirstZone>(
-    rt: &R,
-    cell: &VersionCell<Z>,
-    reader: &mut VersionReader<Z>,
+/// the front of `out`. An update is told by its header alone. A query takes one load, anything else none: [`Now::Spent`] comes exactly of
+/// a query for which the reader has no load left. It waits for nobody and takes no memory.
+pub fn answer_now<Z: FirstZone, N: Naming>(
+    cell: &VersionCell<Z, N>,
+    reader: &mut VersionReader<N>,
     peer: Peer,
     request: &[u8],
     out: &mut [u8],
 ) -> Now
     requires { room_of peer.transport ≤ length out.old }
-    ensures { IsNow Z.zone peer request.now out.new result }
+    ensures now { IsNow Z.zone peer request.now reader.old reader.new out.new result }
+    ensures spent { (result ≡ AtOnce.Spent) ↔ (IsQuery request.now × (reader.old.left ≡ 0)) }
 {
     if is_update(request) {
         return Now::Later;
@@ -96,10 +100,10 @@ pub fn answer_now<R: Wait, Z: FirstZone>(
             Now::Bytes(write_code(&heading, code, peer.transport, out))
         }
         Parsed::Query(query) => {
-            let Ok(strong) = cell.load(rt, reader) else {
+            let Ok(strong) = cell.load(reader) else {
                 return Now::Spent;
             };
-            let version = strong.get();
+            let version = strong.get().get();
             if is_permitted(version, &query, peer) {
                 return Now::Later;
             }
@@ -112,18 +116,18 @@ pub fn answer_now<R: Wait, Z: FirstZone>(
 
 /// Answers an update: writes the code that it gets to the front of `out` (RFC 2136, 3.8), and tells it. Of a transfer it gives the
 /// versions that its messages are made of, and the query; where no longer permitted, the reply.
-pub fn serve_one<'s, R: Wait, Z: FirstZone>(
+pub fn serve_one<R: Wait, Z: FirstZone, N: Naming>(
     rt: &R,
     alloc: Global,
-    server: &Server<'s, Z>,
-    reader: &mut VersionReader<Z>,
+    server: &Server<'_, Z, N>,
+    reader: &mut VersionReader<N>,
     peer: Peer,
     request: &[u8],
     out: &mut [u8],
-) -> Served<'s, Z>
+) -> Served<Z, N>
     requires later { IsUpdate request.now ⊎ IsTransfer Z.zone peer request.now }
     requires room { room_of peer.transport ≤ length out.old }
-    ensures { IsServed Z.zone peer request.now out.new result }
+    ensures { IsServed Z.zone peer request.now reader.old reader.new out.new result }
 {
     if is_update(request) {
         let (heading, told) = told_of(rt, alloc, server, reader, peer.may_update, request);
@@ -142,16 +146,16 @@ pub fn serve_one<'s, R: Wait, Z: FirstZone>(
 /// What is told of a request that asks for an update, and what its reply repeats of it: FORMERR of one that can't be read
 /// (RFC 2136, 2), FORMERR or BADVERS of one whose OPT isn't obeyed (RFC 6891, 6.1.1 and 6.1.3), and SERVFAIL where memory is wanted to
 /// read it (own).
-fn told_of<R: Wait, Z: FirstZone>(
+fn told_of<R: Wait, Z: FirstZone, N: Naming>(
     rt: &R,
     alloc: Global,
-    server: &Server<'_, Z>,
-    reader: &mut VersionReader<Z>,
+    server: &Server<'_, Z, N>,
+    reader: &mut VersionReader<N>,
     may: bool,
     request: &[u8],
 ) -> (Heading, Told)
     requires { IsUpdate request.now }
-    ensures { IsToldOf Z.zone may request.now result.0 result.1 }
+    ensures { IsToldOf Z.zone may request.now reader.old reader.new result.0 result.1 }
 {
     match parse(alloc, request) {
         Parsed::Update(update) => {
@@ -170,20 +174,20 @@ fn told_of<R: Wait, Z: FirstZone>(
 }
 
 /// What is told of an update: what the engine tells; but one of a peer that may not update is judged in the version that is loaded, so
-/// that no stranger holds the engine's lock, and by the engine only where none can be loaded.
-fn judge<R: Wait, Z: FirstZone>(
+/// that no stranger holds the engine's lock, and by the engine only where no load is left.
+fn judge<R: Wait, Z: FirstZone, N: Naming>(
     rt: &R,
     alloc: Global,
-    server: &Server<'_, Z>,
-    reader: &mut VersionReader<Z>,
+    server: &Server<'_, Z, N>,
+    reader: &mut VersionReader<N>,
     may: bool,
     update: &Update,
 ) -> Told
-    ensures { IsJudged Z.zone update.now may result }
+    ensures { IsJudged Z.zone update.now may reader.old reader.new result }
 {
     if !may {
-        match server.cell().load(rt, reader) {
-            Ok(strong) => return Told::code(refusal_in(strong.get(), update)),
+        match server.cell().load(reader) {
+            Ok(strong) => return Told::code(refusal_in(strong.get().get(), update)),
             Err(_) => {}
         }
     }
@@ -206,14 +210,14 @@ fn refusal_in(version: &Version, update: &Update) -> Rcode
 }
 
 /// What a query gets in the last of these versions.
-fn serve_query<'s, Z: FirstZone>(
-    newest: Newest<'s, Z>,
+fn serve_query<Z: FirstZone, N: Naming>(
+    newest: Newest<Z, N>,
     query: Query,
     peer: Peer,
     out: &mut [u8],
-) -> Served<'s, Z>
+) -> Served<Z, N>
     requires { room_of peer.transport ≤ length out.old }
-    ensures { (request : List ℕ) → reads request ≡ SaysQuery query → IsServed Z.zone peer request out.new result }
+    ensures { (request : List ℕ) (before after : ReaderState PublishedVersion) → reads request ≡ SaysQuery query → IsFound Z.zone before after newest.published newest.last → IsServed Z.zone peer request before after out.new result }
 {
     if is_permitted(newest.last_version(), &query, peer) {
         return Served::Transfer(newest, query);

@@ -1,5 +1,5 @@
 //! A server as one who answers a peer's requests.
-ghost use Rattle.std.specs.Prelude.{◌≡◌, ◌+◌, ◌-◌, ◌^◌, ◌<◌, ◌≤◌, ◌⊎◌, false, [], length, Some, None, IfErr, IfOk, IfSome, OnOk, OnErr, if◌then◌else◌};
+ghost use Rattle.std.specs.Prelude.{◌≡◌, ◌+◌, ◌-◌, ◌^◌, ◌<◌, ◌≤◌, ◌⊎◌, false, length, Some, None, IfErr, IfOk, IfSome, OnOk, OnErr, if◌then◌else◌};
 ghost use Rattle.std.specs.Result.{IsErrOf};
 ghost use Rattle.dns_message.specs.Message.{message_limit};
 ghost use Rattle.zone_tree.specs.Version.{Version};
@@ -18,32 +18,35 @@ use crate::transfer::{send_transfer, write_transfer};
 use conversation::{Answering, Broken, Counted, Stream, write_frame};
 use dns_engine::{FirstZone, VersionReader};
 use serve_core::{Peer, Transport};
-use snapshot_cell::Spent;
+use snapshot_cell::{Naming, Spent};
 use std::alloc::Global;
 use std::net::SocketAddr;
 use std::sync::Wait;
 
-/// A server that answers one peer, with a worker's reader. A log is told of updates.
+/// A server that answers one peer, with a worker's reader, of which contracts know what it has seen published. A log is told of updates.
 #[derive(Drop)]
-pub struct Asked<'a, 's, Z: FirstZone, L> {
-    server: &'a Server<'s, Z>,
-    reader: &'a mut VersionReader<Z>,
+pub struct Asked<'a, 's, Z: FirstZone, N: Naming, L> {
+    server: &'a Server<'s, Z, N>,
+    reader: VersionReader<N>,
     log: &'a L,
     alloc: Global,
     peer: Peer,
     from: SocketAddr,
 }
 
-impl<'a, 's, Z: FirstZone, L: ServiceLog> Asked<'a, 's, Z, L> {
+impl<'a, 's, Z: FirstZone, N: Naming, L: ServiceLog> Asked<'a, 's, Z, N, L> {
     /// A server that answers a peer, who asks from an address.
     pub fn new(
         alloc: Global,
-        server: &'a Server<'s, Z>,
-        reader: &'a mut VersionReader<Z>,
+        server: &'a Server<'s, Z, N>,
+        reader: VersionReader<N>,
         log: &'a L,
         peer: Peer,
         from: SocketAddr,
-    ) -> Asked<'a, 's, Z, L> {
+    ) -> Asked<'a, 's, Z, N, L>
+        ensures reader { result.reader ≡ reader }
+        ensures peer { result.peer ≡ peer }
+    {
         Asked {
             server,
             reader,
@@ -52,6 +55,13 @@ impl<'a, 's, Z: FirstZone, L: ServiceLog> Asked<'a, 's, Z, L> {
             peer,
             from,
         }
+    }
+
+    /// Its reader, with which it answers no more.
+    pub fn into_reader(self) -> VersionReader<N>
+        ensures { result ≡ self.entry.reader }
+    {
+        self.reader
     }
 
     /// What the log is told of an update: its code and its serials, where the peer may update; nothing of others, who could fill the
@@ -91,14 +101,23 @@ impl<'a, 's, Z: FirstZone, L: ServiceLog> Asked<'a, 's, Z, L> {
         requires reply_room { message_limit ≤ length out.old }
         requires frame_room { message_limit + 2 ≤ length frame.old }
         ensures peer { self.new.peer ≡ self.old.peer }
-        ensures replied { OnOk result (Replies {T = Version} (λ _. IsReplied Z.zone self.old.peer) [] request.now [] (S.octets stream.old.inner) (S.octets stream.new.inner)) }
-        ensures broken { IfErr result (λ broken. IsBrokenAs {T = Version} (λ _. IsReplied Z.zone self.old.peer) broken [] request.now [] (S.octets stream.old.inner) (S.octets stream.new.inner)) }
+        ensures grows { BeginsWith {T = Version} self.new.reader.seen self.old.reader.seen }
+        ensures replied { OnOk result (Replies {T = Version} (IsReplied Z.zone self.old.peer) self.old.reader.seen request.now self.new.reader.seen (S.octets stream.old.inner) (S.octets stream.new.inner)) }
+        ensures broken { IfErr result (λ broken. IsBrokenAs {T = Version} (IsReplied Z.zone self.old.peer) broken self.old.reader.seen request.now self.new.reader.seen (S.octets stream.old.inner) (S.octets stream.new.inner)) }
         ensures same { OnOk result (stream.new.faults ≡ stream.old.faults) }
         ensures counted { IsErrOf result BrokenBy.Failed → stream.old.faults < stream.new.faults }
         ensures spent { IsErrOf result BrokenBy.Spent → IsTransfer Z.zone self.old.peer request.now }
     {
         let peer = self.peer;
-        match serve_one(rt, self.alloc, self.server, self.reader, peer, request, out) {
+        match serve_one(
+            rt,
+            self.alloc,
+            self.server,
+            &mut self.reader,
+            peer,
+            request,
+            out,
+        ) {
             Served::Reply(len) => write_frame(stream, &out[..len], frame),
             Served::Updated(len, told) => {
                 self.tell(rt, told);
@@ -124,11 +143,20 @@ impl<'a, 's, Z: FirstZone, L: ServiceLog> Asked<'a, 's, Z, L> {
         requires datagram { peer.transport ≡ Transport.Udp }
         requires reply_room { message_limit ≤ length out.old }
         ensures peer { self.new.peer ≡ self.old.peer }
+        ensures grows { BeginsWith {T = Version} self.new.reader.seen self.old.reader.seen }
         ensures bound { IfOk result (λ len. IfSome len (λ n. (n ≤ message_limit) × (n ≤ length out.new))) }
-        ensures replied { IfOk result (λ len. IsReplied Z.zone peer request.now (messages_in len out.new)) }
+        ensures replied { IfOk result (λ len. IsReplied Z.zone peer self.new.reader.seen request.now (messages_in len out.new)) }
         ensures spent { OnErr result (IsTransfer Z.zone peer request.now) }
     {
-        match serve_one(rt, self.alloc, self.server, self.reader, peer, request, out) {
+        match serve_one(
+            rt,
+            self.alloc,
+            self.server,
+            &mut self.reader,
+            peer,
+            request,
+            out,
+        ) {
             Served::Reply(len) => Ok(Some(len)),
             Served::Updated(len, told) => {
                 self.tell(rt, told);
@@ -140,12 +168,12 @@ impl<'a, 's, Z: FirstZone, L: ServiceLog> Asked<'a, 's, Z, L> {
     }
 }
 
-impl<'a, 's, Z: FirstZone, L: ServiceLog> Answering for Asked<'a, 's, Z, L> {
-    ghost seen = { λ _. [] };
+impl<'a, 's, Z: FirstZone, N: Naming, L: ServiceLog> Answering for Asked<'a, 's, Z, N, L> {
+    ghost seen = { λ asked. asked.reader.seen };
 
     ghost peer = { λ asked. asked.peer };
 
-    ghost is_reply = { λ peer _ request messages. IsReplied Z.zone peer request messages };
+    ghost is_reply = { λ peer later request messages. IsReplied Z.zone peer later request messages };
 
     #[tactic(auto, using(conversation::proofs::TurnLemmas::begins_itself))]
     fn turn_to(&mut self, other: Peer, from: SocketAddr) {
@@ -162,9 +190,9 @@ impl<'a, 's, Z: FirstZone, L: ServiceLog> Answering for Asked<'a, 's, Z, L> {
     ) -> Result<Option<usize>, Spent>
         requires { message_limit ≤ length out.old }
         ensures same { self.new.peer ≡ self.old.peer }
-        ensures grows { BeginsWith {T = Version} [] [] }
+        ensures grows { BeginsWith {T = Version} self.new.reader.seen self.old.reader.seen }
         ensures bound { IfOk result (λ len. IfSome len (λ n. (n ≤ message_limit) × (n ≤ length out.new))) }
-        ensures reply { IfOk result (λ len. IsReplied Z.zone (by_datagram self.old.peer) request.now (messages_in len out.new)) }
+        ensures reply { IfOk result (λ len. IsReplied Z.zone (by_datagram self.old.peer) self.new.reader.seen request.now (messages_in len out.new)) }
         // What can't be read as a query is answered, or told as silence, whether a version can be loaded or not.
         ensures spent { OnErr result (IsQuery request.now) }
     {
@@ -173,7 +201,7 @@ impl<'a, 's, Z: FirstZone, L: ServiceLog> Answering for Asked<'a, 's, Z, L> {
             ..self.peer
         };
         let cell = self.server.cell();
-        match answer_now(rt, cell, self.reader, peer, request, out) {
+        match answer_now(cell, &mut self.reader, peer, request, out) {
             Now::Bytes(len) => Ok(Some(len)),
             Now::Silent => Ok(None),
             Now::Later => self.answer_datagram_later(rt, peer, request, out),
@@ -194,16 +222,16 @@ impl<'a, 's, Z: FirstZone, L: ServiceLog> Answering for Asked<'a, 's, Z, L> {
         requires reply_room { message_limit ≤ length out.old }
         requires frame_room { message_limit + 2 ≤ length frame.old }
         ensures peer { self.new.peer ≡ self.old.peer }
-        ensures grows { BeginsWith {T = Version} [] [] }
-        ensures replied { OnOk result (Replies {T = Version} (λ _. IsReplied Z.zone self.old.peer) [] request.now [] (S.octets stream.old.inner) (S.octets stream.new.inner)) }
-        ensures broken { IfErr result (λ broken. IsBrokenAs {T = Version} (λ _. IsReplied Z.zone self.old.peer) broken [] request.now [] (S.octets stream.old.inner) (S.octets stream.new.inner)) }
+        ensures grows { BeginsWith {T = Version} self.new.reader.seen self.old.reader.seen }
+        ensures replied { OnOk result (Replies {T = Version} (IsReplied Z.zone self.old.peer) self.old.reader.seen request.now self.new.reader.seen (S.octets stream.old.inner) (S.octets stream.new.inner)) }
+        ensures broken { IfErr result (λ broken. IsBrokenAs {T = Version} (IsReplied Z.zone self.old.peer) broken self.old.reader.seen request.now self.new.reader.seen (S.octets stream.old.inner) (S.octets stream.new.inner)) }
         ensures same { OnOk result (stream.new.faults ≡ stream.old.faults) }
         ensures counted { IsErrOf result BrokenBy.Failed → stream.old.faults < stream.new.faults }
         // What can't be read as a query ends no stream by want of a version.
         ensures spent { IsErrOf result BrokenBy.Spent → IsQuery request.now }
     {
         let cell = self.server.cell();
-        match answer_now(rt, cell, self.reader, self.peer, request, out) {
+        match answer_now(cell, &mut self.reader, self.peer, request, out) {
             Now::Bytes(len) => write_frame(stream, &out[..len], frame),
             Now::Silent => Ok(()),
             Now::Later => self.answer_later(rt, stream, request, out, frame),

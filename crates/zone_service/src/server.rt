@@ -1,6 +1,9 @@
 //! The server: a cell of versions, and its engine behind a lock.
-ghost use Rattle.std.specs.Prelude.{◌≡◌, ◌↔◌, ◌<◌, ◌≤◌, IfOk, IfErr};
+ghost use Rattle.std.specs.Prelude.{◌≡◌, ◌↔◌, ◌<◌, ◌≤◌, IfOk, IfErr, OnErr};
+ghost use Rattle.zone_service.specs.Known.{LoadsAtMostOnce};
+ghost use Rattle.zone_service.specs.Replied.{IsFound};
 ghost use Rattle.zone_service.specs.Updated.{IsUpdated};
+ghost use Rattle.dns_engine.specs.Held.{IsLatest};
 ghost use Rattle.dns_engine.specs.declared.fault.EngineFault.{EngineFault as Fault};
 ghost use Rattle.transfer_core.specs.declared.kept.TheConstants.{KEPT};
 
@@ -10,33 +13,41 @@ use dns_engine::{
 };
 use dns_message::{Query, Update};
 use dns_rdata::{RType, Rcode};
-use snapshot_cell::Spent;
+use snapshot_cell::{Naming, Spent};
 use std::alloc::Global;
 use std::sync::{Mutex, Wait};
 
-/// A cell of versions, with the engine that publishes in it behind a lock. Queries take no lock but the cell's own.
+/// A cell of versions, with the engine that publishes in it behind a lock. Queries take no lock.
 #[derive(Drop)]
-pub struct Server<'a, Z: FirstZone> {
-    cell: &'a VersionCell<Z>,
-    engine: Mutex<Engine<'a, Z>>,
+pub struct Server<'a, Z: FirstZone, N: Naming> {
+    cell: &'a VersionCell<Z, N>,
+    engine: Mutex<Engine<'a, Z, N>>,
 }
 
-impl<'a, Z: FirstZone> Server<'a, Z> {
+/// Looks at an engine's last number for a proof alone, which learns by it that its last version is the latest that it has published.
+fn learn_latest<Z: FirstZone, N: Naming>(engine: &Engine<'_, Z, N>)
+    ensures { IsLatest Z.zone engine.now.held.published engine.now.held.last }
+{
+    let _ = engine.number();
+}
+
+impl<'a, Z: FirstZone, N: Naming> Server<'a, Z, N> {
     /// The server of a cell in which the first version alone is published, whose engine keeps so many older versions beside the
-    /// last. It is refused as the engine is, and both come back.
-    pub fn new<R: Wait>(
-        rt: &R,
-        cell: &'a VersionCell<Z>,
-        publisher: VersionPublisher<Z>,
-        reader: VersionReader<Z>,
+    /// last. It is refused as the engine is, and both tokens come back as they were.
+    pub fn new(
+        cell: &'a VersionCell<Z, N>,
+        publisher: VersionPublisher<Z, N>,
+        reader: VersionReader<N>,
         keep: usize,
-    ) -> Result<Server<'a, Z>, NoEngine<Z>>
+    ) -> Result<Server<'a, Z, N>, NoEngine<Z, N>>
         requires { publisher.number ≡ 0 }
         ensures kept { IfOk result (λ _. keep ≤ KEPT) }
+        ensures grant { IfOk result (λ _. 0 < reader.left) }
         ensures refused { IfErr result (λ refused. (refused.fault ≡ Fault.TooGreat) ↔ (KEPT < keep)) }
-        ensures given_back { IfErr result (λ refused. refused.publisher ≡ publisher) }
+        ensures spent { IfErr result (λ refused. refused.fault ≡ Fault.Spent → reader.left ≡ 0) }
+        ensures given_back { IfErr result (λ refused. (refused.publisher ≡ publisher) × (refused.reader ≡ reader)) }
     {
-        let engine = Engine::new(rt, cell, publisher, reader, keep)?;
+        let engine = Engine::new(cell, publisher, reader, keep)?;
         Ok(Server {
             cell,
             engine: Mutex::new(engine),
@@ -44,7 +55,7 @@ impl<'a, Z: FirstZone> Server<'a, Z> {
     }
 
     /// Its cell.
-    pub fn cell(&self) -> &'a VersionCell<Z> {
+    pub fn cell(&self) -> &'a VersionCell<Z, N> {
         self.cell
     }
 
@@ -60,25 +71,44 @@ impl<'a, Z: FirstZone> Server<'a, Z> {
         ensures { IsUpdated Z.zone update.now may result.0 result.1 }
     {
         let mut engine = self.engine.lock(rt);
+        learn_latest(&engine);
         let before = engine.last_version().serial();
-        let code = engine.update(rt, alloc, self.cell, update, may);
+        let code = engine.update(alloc, self.cell, update, may);
         let after = engine.last_version().serial();
         (code, Serials { before, after })
     }
 
-    /// The versions that a query for a transfer is answered with: of an IXFR all that the engine keeps, which are copied behind its
-    /// lock; of another query the one that is loaded, without that lock. [`Spent`] where one of them can't be owned.
+    /// The versions that a query for a transfer is answered with, up to the last that its reader has then seen published: of an IXFR
+    /// all that the engine keeps, which are shared behind its lock, where the reader meets them; of another query the one that is
+    /// loaded, without that lock. [`Spent`] where no load is left, or one of them can't be shared.
     pub fn versions_for<R: Wait>(
         &self,
         rt: &R,
-        reader: &mut VersionReader<Z>,
+        reader: &mut VersionReader<N>,
         query: &Query,
-    ) -> Result<Newest<'a, Z>, Spent> {
+    ) -> Result<Newest<Z, N>, Spent>
+        ensures found { IfOk result (λ newest. IsFound Z.zone reader.old reader.new newest.published newest.last) }
+        ensures spent { OnErr result (LoadsAtMostOnce Z.zone reader.old reader.new) }
+    {
         if query.question.rtype == RType::IXFR {
-            let engine = self.engine.lock(rt);
-            return engine.newest(self.cell);
+            let mut engine = self.engine.lock(rt);
+            learn_latest(&engine);
+            engine.meet(self.cell, reader)?;
+            return engine.newest();
         }
-        let strong = self.cell.load(rt, reader)?;
-        Ok(Newest::alone(strong))
+        let strong = self.cell.load(reader)?;
+        Newest::alone(&strong, reader)
+    }
+
+    /// Ends the server: its engine's owners are given up, and its publisher and its reader come back, with all that was published.
+    pub fn finish(self) -> (VersionPublisher<Z, N>, VersionReader<N>)
+        ensures latest { IsLatest Z.zone result.0.published result.0.value }
+        ensures number { result.0.number ≡ result.0.value.number }
+        ensures seen { result.1.seen ≡ result.0.published }
+    {
+        let Server { cell: _, engine } = self;
+        let engine = engine.into_inner();
+        learn_latest(&engine);
+        engine.finish()
     }
 }

@@ -10,6 +10,7 @@ use conversation::{Broken, Counted, Stream, write_frame};
 use dns_engine::{FirstZone, Newest};
 use dns_message::Query;
 use serve_core::{Peer, Transport, transfer_reply};
+use snapshot_cell::Naming;
 use transfer_core::{ChainView, MAX_MESSAGE, Packer};
 
 /// Writes the frames of messages to a stream, one after another, so that no more than one message is in memory.
@@ -39,8 +40,8 @@ fn write_messages<C: ChainView, S: Stream>(
 }
 
 /// Writes the frames of a transfer's messages to a stream (RFC 5936, 2.2; RFC 1995, 4).
-pub(crate) fn send_transfer<Z: FirstZone, S: Stream>(
-    newest: &Newest<'_, Z>,
+pub(crate) fn send_transfer<Z: FirstZone, N: Naming, S: Stream>(
+    newest: &Newest<Z, N>,
     query: &Query,
     peer: Peer,
     stream: &mut Counted<S>,
@@ -63,8 +64,8 @@ pub(crate) fn send_transfer<Z: FirstZone, S: Stream>(
 }
 
 /// Writes the one message of a transfer to the front of `out`, for a datagram (RFC 1995, 2).
-pub(crate) fn write_transfer<Z: FirstZone>(
-    newest: &Newest<'_, Z>,
+pub(crate) fn write_transfer<Z: FirstZone, N: Naming>(
+    newest: &Newest<Z, N>,
     query: &Query,
     peer: Peer,
     out: &mut [u8],

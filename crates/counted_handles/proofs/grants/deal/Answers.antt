@@ -1,4 +1,4 @@
-use Rattle.std.proofs.Common.{◌≡◌, sym, ap, ◌∙◌, [], ◌∷◌, arith}
+use Rattle.std.proofs.Common.{sym, ap, ◌∙◌, [], ◌∷◌, arith}
 use Rattle.counted_handles.specs.declared.view.View.TheVariants.{Publishes}
 use Rattle.counted_handles.specs.Cuts.{kept_dealt, dealt}
 use Rattle.counted_handles.proofs.CallLemmas.{only_one}

@@ -1,8 +1,39 @@
-use Rattle.std.proofs.Common.{◌≡◌, sym, ap}
+use Rattle.std.proofs.Common.{refl, sym, ◌∙◌, subst, []}
+use Rattle.counted_handles.specs.declared.view.View.TheVariants.{Buries}
+use Rattle.counted_handles.specs.Releases.{IsReleased}
+use Rattle.counted_handles.specs.Ruled.{version_of}
+use Rattle.counted_handles.proofs.Burials.{is_due, ends_there, ends_lost}
 use Rattle.counted_handles.proofs.owner.let_go.Goals as goal
+
+pub lower-released-requires-clause-has : goal.lower-released-requires-clause-has
+lower-released-requires-clause-has g c =
+    let has = c.requires.has in
+    (has.0, c.give_up-seat.ensures.has has.0 has.1, has.2, c.requires.fits.1)
+
+pub returns-then-not-is_due : goal.returns-then-not-is_due
+returns-then-not-is_due g c =
+    let has = c.requires.has in
+    let told = c.lower-released.ensures.lowered has.0 (c.give_up-seat.ensures.has has.0 has.1) in
+    ends_there g.C.Names.begins g.C.Follows.follows has.0 c.lower-released.result c.lower-released.new.seat.me (λ e. let no = c.if-not-is_due.ensures.1 e in cc) told
+
+pub bury-requires-clause-due : goal.bury-requires-clause-due
+bury-requires-clause-due g c =
+    let has = c.requires.has in
+    let told = c.lower-released.ensures.lowered has.0 (c.give_up-seat.ensures.has has.0 has.1) in
+    let one = c.if-not-is_due.ensures.0 refl in
+    let due = is_due has.0 c.lower-released.result c.lower-released.new.seat.me one told in
+    (one, due ∙ (λ i. (Buries (has.2 i) (has.3 i), [])), c.requires.fits.1)
+
+pub returns-then-not-bury : goal.returns-then-not-bury
+returns-then-not-bury g c = ends_lost g.C.Names.begins g.C.Follows.follows c.bury.new.self c.bury.new.seat.me c.if-not-bury.ensures.tried
+
+pub free-requires-clause-buried : goal.free-requires-clause-buried
+free-requires-clause-buried g c =
+    let out = c.if-not-bury.ensures.tried.1 in
+    (out.mark.number, c.empty.ensures.number (version_of out.mark) (out.spot, out.room, out.me_is, out.version), c.empty.ensures.emptied)
 
 pub returns : goal.returns
 returns g c =
-    let told = c.in-Some-empty.ensures.version in
-    let same : c.in-Some-empty.version ≡ told.0 = (let e = told.1 in cc) in
-    (told.0, ap (λ v. v.number) (sym same), told.2)
+    let out = c.if-not-bury.ensures.tried.1 in
+    let freed = c.free.ensures.freed out.mark.number (c.empty.ensures.number (version_of out.mark) (out.spot, out.room, out.me_is, out.version)) in
+    subst (IsReleased g.C.Names.begins g.C.Follows.follows) (sym freed) (version_of out.mark, refl, out.older)

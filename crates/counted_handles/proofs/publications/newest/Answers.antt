@@ -36,4 +36,5 @@ returns-clause-newest g c p r rest reading =
       last = subst (λ v. IsOld p v) owned (is.last.last, is.last.value);
       views_are = c.into_badge.ensures.2 ∙ ap (λ m. m.0 ∷ []) is.me_is;
       reader_is = c.into_badge-2.ensures.2 ∙ ap (λ m. m.0 ∷ []) is.reader_is;
+      begun = is.begun;
     }

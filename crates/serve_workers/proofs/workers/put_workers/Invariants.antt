@@ -3,8 +3,8 @@ use Rattle.std.proofs.Common.{◌≡◌, ◌+◌, ◌≤◌, vec_len, vec_capaci
 use Rattle.std.specs.Vec.Iter.{into_iter_len}
 use Rattle.serve_workers.proofs.workers.put_workers.Given as goal
 
-abbrev pub invariant-loop-pair : goal.invariant-loop-pair
-invariant-loop-pair g l = record {
-  room : vec_len l.works + into_iter_len l.pair-iterator ≤ vec_capacity l.works;
-  pairs : map (λ worker. worker.pair) l.works.items ≡ l.yielded;
+abbrev pub invariant-loop-reader : goal.invariant-loop-reader
+invariant-loop-reader g l = record {
+  room : vec_len l.works + into_iter_len l.reader-iterator ≤ vec_capacity l.works;
+  pairs : map (λ worker. (worker.asked.reader, worker.job)) l.works.items ≡ l.yielded;
 }

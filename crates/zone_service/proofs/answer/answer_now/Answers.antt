@@ -5,48 +5,69 @@ use Rattle.zone_tree.specs.Version.{Version}
 use Rattle.dns_message.specs.Octets.{fit}
 use Rattle.dns_message.specs.Request.{is_update}
 use Rattle.dns_message.specs.declared.query.Parsed.TheVariants.{Fault, BadOpt}
-use Rattle.dns_engine.proofs.ReplayLemmas.{published_replay}
 use Rattle.serve_core.specs.Transfers.{is_permitted, reply_to_peer}
 use Rattle.serve_core.specs.Transport.{limit_of}
-use Rattle.zone_service.proofs.ReplyLemmas.{published_tells, code_now, query_now}
+use Rattle.zone_service.specs.Replied.{IsNow}
+use Rattle.zone_service.specs.declared.answer.Now.TheVariants.{Bytes, Later, Spent}
+use Rattle.zone_service.proofs.KnownLemmas.{loads, loaded_latest, loaded_replay}
+use Rattle.zone_service.proofs.ReplyLemmas.{latest_tells, code_now, query_now}
+use Rattle.zone_service.proofs.NowLemmas.{now_spent}
 use Rattle.zone_service.proofs.answer.answer_now.Goals as goal
 
 pub returns-in-Fault : goal.returns-in-Fault
 returns-in-Fault g c =
     let other : is_update c.args.request.now ≡ false = sym c.is_update.ensures ∙ c.if-is_update.false in
-    code_now g.Z.FirstZone.zone c.args.peer c.args.request.now c.write_code.new.out (Fault c.in-Fault.head c.in-Fault.code) _ _ c.in-Fault.code c.write_code.result other (sym c.parse_other.ensures ∙ c.in-Fault.is) tt c.write_code.ensures.len refl c.header_alone-heading.ensures refl (λ zone. tt) c.write_code.ensures.octets
+    let now : IsNow g.Z.FirstZone.zone c.args.peer c.args.request.now c.args.reader.now c.args.reader.now c.write_code.new.out (Bytes c.write_code.result) =
+    code_now g.Z.FirstZone.zone c.args.peer c.args.reader.now c.args.request.now c.write_code.new.out (Fault c.in-Fault.head c.in-Fault.code) _ _ c.in-Fault.code c.write_code.result other (sym c.parse_other.ensures ∙ c.in-Fault.is) tt c.write_code.ensures.len refl c.header_alone-heading.ensures refl
+    (λ zone. tt) (λ version. refl) c.write_code.ensures.octets in
+    record { now = now; spent = now_spent g.Z.FirstZone.zone c.args.peer c.args.request.now c.args.reader.now c.args.reader.now c.write_code.new.out (Bytes c.write_code.result) now }
 
 pub returns-in-BadOpt : goal.returns-in-BadOpt
 returns-in-BadOpt g c =
     let other : is_update c.args.request.now ≡ false = sym c.is_update.ensures ∙ c.if-is_update.false in
     let said = BadOpt c.in-BadOpt.head c.in-BadOpt.question c.in-BadOpt.code c.in-BadOpt.dnssec_ok in
-    code_now g.Z.FirstZone.zone c.args.peer c.args.request.now c.write_code-in-BadOpt.new.out said _ _ c.in-BadOpt.code c.write_code-in-BadOpt.result other (sym c.parse_other.ensures ∙ c.in-BadOpt.is) tt c.write_code-in-BadOpt.ensures.len refl c.of_bad-heading.ensures refl (λ zone. tt) c.write_code-in-BadOpt.ensures.octets
+    let now : IsNow g.Z.FirstZone.zone c.args.peer c.args.request.now c.args.reader.now c.args.reader.now c.write_code-in-BadOpt.new.out (Bytes c.write_code-in-BadOpt.result) =
+    code_now g.Z.FirstZone.zone c.args.peer c.args.reader.now c.args.request.now c.write_code-in-BadOpt.new.out said _ _ c.in-BadOpt.code c.write_code-in-BadOpt.result other (sym c.parse_other.ensures ∙ c.in-BadOpt.is) tt c.write_code-in-BadOpt.ensures.len refl c.of_bad-heading.ensures refl
+    (λ zone. tt) (λ version. refl) c.write_code-in-BadOpt.ensures.octets in
+    record { now = now; spent = now_spent g.Z.FirstZone.zone c.args.peer c.args.request.now c.args.reader.now c.args.reader.now c.write_code-in-BadOpt.new.out (Bytes c.write_code-in-BadOpt.result) now }
 
 pub returns-in_default : goal.returns-in_default
-returns-in_default g c = (c.in-Query.query, sym c.parse_other.ensures ∙ c.in-Query.is)
+returns-in_default g c =
+    let now : IsNow g.Z.FirstZone.zone c.args.peer c.args.request.now c.args.reader.now c.load.new.reader c.args.out.now Spent = ((c.in-Query.query, sym c.parse_other.ensures ∙ c.in-Query.is), c.in_default.ensures.spent) in
+    record { now = now; spent = now_spent g.Z.FirstZone.zone c.args.peer c.args.request.now c.args.reader.now c.load.new.reader c.args.out.now Spent now }
 
 pub returns-then-is_permitted : goal.returns-then-is_permitted
 returns-then-is_permitted g c =
+    let first = g.Z.FirstZone.zone in
     let query = c.in-Query.query in
+    let load = c.in-Ok.ensures.loaded in
     let permitted : is_permitted c.in-Ok.strong.value.zone c.args.peer query ≡ true =
-    ap (λ (v : Version). is_permitted v.zone c.args.peer query) (sym c.get-version.ensures) ∙ sym c.is_permitted.ensures ∙ c.if-is_permitted.true in
-    inr (record {
-      query = query;
-      asked = sym c.parse_other.ensures ∙ c.in-Query.is;
-      version = c.in-Ok.strong.value;
-      replayed = published_replay g.Z.FirstZone.zone _ c.in-Ok.ensures;
-      permitted = permitted;
-    })
+    ap (λ (v : Version). is_permitted v.zone c.args.peer query) (sym (c.get-version.ensures ∙ c.get.ensures)) ∙ sym c.is_permitted.ensures ∙ c.if-is_permitted.true in
+    let now : IsNow first c.args.peer c.args.request.now c.args.reader.now c.load.new.reader c.args.out.now Later = inr (
+      record {
+        query = query;
+        asked = sym c.parse_other.ensures ∙ c.in-Query.is;
+        version = c.in-Ok.strong.value;
+        replayed = loaded_replay first _ _ c.in-Ok.strong load;
+        permitted = permitted;
+      },
+      loads first _ _ c.in-Ok.strong load,
+    ) in
+    record { now = now; spent = now_spent g.Z.FirstZone.zone c.args.peer c.args.request.now c.args.reader.now c.load.new.reader c.args.out.now Later now }
 
 pub returns-else-is_permitted : goal.returns-else-is_permitted
 returns-else-is_permitted g c =
     let first = g.Z.FirstZone.zone in
     let query = c.in-Query.query in
+    let load = c.in-Ok.ensures.loaded in
     let version = c.in-Ok.strong.value in
-    let refused : is_permitted version.zone c.args.peer query ≡ false =
-    ap (λ (v : Version). is_permitted v.zone c.args.peer query) (sym c.get-version.ensures) ∙ sym c.is_permitted.ensures ∙ c.if-is_permitted.false in
-    let zone : c.zone.result.now ≡ version.zone = c.zone.ensures ∙ ap (λ (v : Version). v.zone) c.get-version.ensures in
+    let got = c.get-version.ensures ∙ c.get.ensures in
+    let refused : is_permitted version.zone c.args.peer query ≡ false = ap (λ (v : Version). is_permitted v.zone c.args.peer query) (sym got) ∙ sym c.is_permitted.ensures ∙ c.if-is_permitted.false in
+    let zone : c.zone.result.now ≡ version.zone = c.zone.ensures ∙ ap (λ (v : Version). v.zone) got in
     let written = c.respond_to_peer.ensures.octets ∙ ap (λ (z : List Record). fit (reply_to_peer z c.args.peer query) (limit_of c.args.peer.transport query.edns)) zone in
-    let tells = published_tells first c.in-Ok.strong query.serial c.in-Ok.ensures in
+    let tells = latest_tells first c.load.new.reader.seen version query.serial (loaded_latest first c.args.reader.now c.load.new.reader c.in-Ok.strong load) in
     let other : is_update c.args.request.now ≡ false = sym c.is_update.ensures ∙ c.if-is_update.false in
-    query_now first c.args.peer version c.args.request.now c.respond_to_peer.new.out query c.respond_to_peer.result tells.0 0 (published_replay first _ c.in-Ok.ensures) tells.1 other (sym c.parse_other.ensures ∙ c.in-Query.is) refused written c.respond_to_peer.ensures.len
+    let now : IsNow first c.args.peer c.args.request.now c.args.reader.now c.load.new.reader c.respond_to_peer.new.out (Bytes c.respond_to_peer.result) =
+    query_now first c.args.peer c.args.reader.now c.load.new.reader version c.args.request.now c.respond_to_peer.new.out query c.respond_to_peer.result tells.0 0 (loaded_replay first _ _ c.in-Ok.strong load) tells.1 (loads first _ _ c.in-Ok.strong load) other
+    (sym c.parse_other.ensures ∙ c.in-Query.is) refused written c.respond_to_peer.ensures.len in
+    record { now = now; spent = now_spent g.Z.FirstZone.zone c.args.peer c.args.request.now c.args.reader.now c.load.new.reader c.respond_to_peer.new.out (Bytes c.respond_to_peer.result) now }

@@ -1,17 +1,24 @@
 -- A stranger's update is judged in the version that is loaded, any other by the engine.
-use Rattle.std.proofs.Common.{◌≡◌, false, Some, refl, sym, ap, ◌∙◌, rules}
+use Rattle.std.proofs.Common.{◌≡◌, true, false, Some, refl, inl, inr, sym, ap, ◌∙◌, rules}
 use Rattle.zone_tree.specs.Version.{Version}
 use Rattle.update_core.specs.Verdict.{verdict}
-use Rattle.dns_engine.proofs.ReplayLemmas.{published_replay}
 use Rattle.zone_service.specs.Updated.{by_engine, in_version}
+use Rattle.zone_service.proofs.KnownLemmas.{loads, loaded_replay}
 use Rattle.zone_service.proofs.answer.judge.Goals as goal
+use Rattle.zone_service.proofs.answer.judge.Goals.{then-not-may+in-Err, else-not-may}
 
 pub returns-in-Ok : goal.returns-in-Ok
 returns-in-Ok g c =
+    let first = g.Z.FirstZone.zone in
+    let load = c.in-Ok.ensures.loaded in
     let may : c.args.may ≡ false = search rules in
     let gives : verdict c.in-Ok.strong.value.zone c.args.update.now false ≡ Some c.code.result.code =
-    ap (λ (v : Version). verdict v.zone c.args.update.now false) (sym c.get.ensures) ∙ c.refusal_in.ensures ∙ ap Some (sym c.code.ensures.code) in
-    in_version c.in-Ok.strong.value may (published_replay g.Z.FirstZone.zone _ c.in-Ok.ensures) gives c.code.ensures.serials
+    ap (λ (v : Version). verdict v.zone c.args.update.now false) (sym (c.get-in-Ok.ensures ∙ c.get.ensures)) ∙ c.refusal_in.ensures ∙ ap Some (sym c.code.ensures.code) in
+    in_version c.in-Ok.strong.value may (loaded_replay first _ _ c.in-Ok.strong load) (loads first _ _ c.in-Ok.strong load) gives c.code.ensures.serials
 
 pub returns : goal.returns
-returns g c = by_engine c.update-code.result.1 refl c.update-code.ensures
+returns g c =
+    elim c.if-not-may.branch [
+      | then-not-may+in-Err w ↦ by_engine c.update-code.result.1 (inr w.in-Err.ensures.spent.0) refl c.update-code.ensures (w.reader-is ∙ w.in-Err.ensures.spent.1)
+      | else-not-may w ↦ let may : c.args.may ≡ true = search rules in by_engine c.update-code.result.1 (inl may) refl c.update-code.ensures w.reader-is
+    ]

@@ -1,20 +1,34 @@
 -- What is held is the newest again.
-use Rattle.std.proofs.Common.{◌≡◌, ◌+◌, ◌++◌, ◌∷◌, [], ap, sym, ◌∙◌, subst}
+use Rattle.std.proofs.Common.{◌≡◌, ◌+◌, ◌++◌, ◌∷◌, [], List, ap, sym, ◌∙◌, subst}
 use Rattle.zone_tree.specs.Version.{Version}
-use Rattle.snapshot_cell.specs.History.{Numbered}
+use Rattle.cell_core.specs.declared.words.Version.{Version as Numbered}
+use Rattle.snapshot_cell.specs.Tokens.{PublisherState, ReaderState}
 use Rattle.dns_engine.specs.Versions.{IsNext}
-use Rattle.dns_engine.specs.Held.{Held, newest}
+use Rattle.dns_engine.specs.Held.{EngineState, newest}
 use Rattle.dns_engine.proofs.OwnedLemmas.{newest_on}
 use Rattle.dns_engine.proofs.engine.Engine.publish.Goals as goal
 
 pub invariant_of-self-2 : goal.invariant_of-self-2
 invariant_of-self-2 g c =
     let inside = c.self.inside in
-    let follows : IsNext c.self.inside.publisher.value c.args.version = subst (λ (held : Held). IsNext held.last c.args.version) (sym c.self.view_is) c.requires.follows in
-    let last : c.publish.new.publisher.value ≡ c.args.version = ap (λ (p : Numbered Version). p.value) c.in-Ok.ensures.published in
-    let number : c.publish.new.publisher.number ≡ c.self.inside.publisher.number + 1 = ap (λ (p : Numbered Version). p.number) c.in-Ok.ensures.published in
-    let older : c.keep_newest.new.self ≡ newest c.self.inside.keep (c.self.inside.older ++ c.self.inside.publisher.value ∷ []) =
-    c.keep_newest.ensures ∙ ap (λ (o : Numbered Version). newest c.self.inside.keep (c.self.inside.older ++ o.value ∷ [])) c.in-Ok.ensures.old in
-    let same : c.publish.new.publisher.number ≡ c.publish.new.publisher.value.number =
-    number ∙ ap (λ n. n + 1) c.self.invariant.1 ∙ sym follows.makes.number ∙ ap (λ (v : Version). v.number) (sym last) in
-    (c.self.invariant.0, same, rw (last, older) (newest_on g.Z.FirstZone.zone _ c.args.version c.self.invariant.2 follows))
+    let held = c.self.invariant in
+    let version = c.args.version in
+    let follows : IsNext inside.last.value version = subst (λ (state : EngineState). IsNext state.held.last version) (sym c.self.view_is) c.requires.follows in
+    let made : c.in-Some.version ≡ version = c.in-Some.ensures in
+    let next = c.in-Ok.ensures.published in
+    let value : c.publish.new.publisher.value ≡ version = ap (λ (p : PublisherState Version). p.value) next ∙ made in
+    let number : c.publish.new.publisher.number ≡ inside.last.value.number + 1 = ap (λ (p : PublisherState Version). p.number) next ∙ ap (λ n. n + 1) held.3 in
+    let published : c.publish.new.publisher.published ≡ inside.reader.seen ++ version ∷ [] =
+    ap (λ (p : PublisherState Version). p.published) next ∙ ap (λ (v : Version). inside.publisher.published ++ v ∷ []) made ∙ ap (λ (l : List Version). l ++ version ∷ []) held.1 in
+    let same = c.newest.ensures.same in
+    let loaded = c.in-Ok-newest.ensures.newest in
+    let seen : c.newest.new.reader.seen ≡ c.publish.new.publisher.published = ap (λ (r : ReaderState Version). r.seen) loaded.1 in
+    let last : c.replace.new.dest.value ≡ version = ap (λ (o : Numbered Version). o.value) (c.replace.ensures.after ∙ loaded.0) ∙ value in
+    let older : c.keep_newest.new.self ≡ newest inside.keep (inside.older ++ inside.last.value ∷ []) =
+    c.keep_newest.ensures ∙ ap (λ (v : Version). newest inside.keep (inside.older ++ v ∷ [])) (ap (λ (o : Numbered Version). o.value) c.in-Ok.ensures.old ∙ held.2) in (
+      held.0,
+      ap (λ (p : PublisherState Version). p.published) same ∙ sym seen,
+      ap (λ (p : PublisherState Version). p.value) same ∙ value ∙ sym last,
+      ap (λ (p : PublisherState Version). p.number) same ∙ number ∙ sym follows.makes.number ∙ ap (λ (v : Version). v.number) (sym last),
+      rw (seen ∙ published, last, older) (newest_on g.Z.FirstZone.zone _ version held.4 follows),
+    )

@@ -21,4 +21,4 @@ returns-then-publish-clause-told g c =
     let told = next_told c.last_version.result.now next c.args.update.now c.args.may c.apply-outcome.result c.apply-outcome.ensures.told is in
     let makes = subst (λ (v : Version). Makes c.args.update.now v next) c.last_version.ensures (made_of c.last_version.result.now next c.args.update.now c.args.may told) in
     let taken = subst (λ (v : Version). verdict v.zone c.args.update.now c.args.may ≡ None) c.last_version.ensures told.0 in
-    made next taken makes (c.code-code.ensures ∙ next_code next c.apply-outcome.result is) c.if-publish.ensures
+    made next taken makes (c.code-code.ensures ∙ next_code next c.apply-outcome.result is) c.if-publish.ensures.0 c.if-publish.ensures.1

@@ -1,7 +1,7 @@
 -- One owner more, and the newest stay.
 use Rattle.std.proofs.Common.{rules, arith, ◌≡◌, ◌-◌, ◌<◌, ◌++◌, ◌∷◌, [], min, length, ap, sym, ◌∙◌, subst}
-use Rattle.dns_engine.specs.Owned.{owned, IsFull}
-use Rattle.dns_engine.proofs.OwnedLemmas.{length-owned, owned-append, full_push, newest_push, length-newest}
+use Rattle.dns_engine.specs.Owned.{IsFull}
+use Rattle.dns_engine.proofs.OwnedLemmas.{owned, length-owned, owned-append, full_push, newest_push, length-newest}
 use Rattle.dns_engine.proofs.owners.Owners.keep_newest.Goals as goal
 
 pub push-requires : goal.push-requires

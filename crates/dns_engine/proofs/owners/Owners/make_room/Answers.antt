@@ -1,8 +1,7 @@
 -- The oldest goes where there are so many.
 use Rattle.std.proofs.Common.{rules, arith, ◌≡◌, ◌-◌, ◌≤◌, length, ap, sym, ◌∙◌}
 use Rattle.dns_engine.specs.Held.{newest}
-use Rattle.dns_engine.specs.Owned.{owned}
-use Rattle.dns_engine.proofs.OwnedLemmas.{length-owned, oldest_out, all_stay}
+use Rattle.dns_engine.proofs.OwnedLemmas.{owned, length-owned, oldest_out, all_stay}
 use Rattle.dns_engine.proofs.owners.Owners.make_room.Goals as goal
 use Rattle.dns_engine.proofs.owners.Owners.make_room.Goals.{in-Some-1, in-None-1}
 

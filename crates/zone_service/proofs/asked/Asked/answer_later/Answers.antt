@@ -2,6 +2,7 @@
 use Rattle.std.proofs.Common.{sym, arith}
 use Rattle.std.proofs.lemmas.List.{length-take-le}
 use Rattle.dns_message.specs.Request.{reads}
+use Rattle.zone_service.proofs.NowLemmas.{told_grows, at_most_grows}
 use Rattle.zone_service.proofs.ReplyLemmas.{short_reply}
 use Rattle.zone_service.proofs.TransferLemmas.{part_of_one, never_spent, reply_written, reply_broken}
 use Rattle.zone_service.proofs.asked.Asked.answer_later.Goals as goal
@@ -37,3 +38,10 @@ returns-in-Updated-clause-spent g c = never_spent _ c.write_frame-in-Updated.res
 
 pub returns-in-Transfer-clause-spent : goal.returns-in-Transfer-clause-spent
 returns-in-Transfer-clause-spent g c = never_spent _ c.send_transfer.result c.send_transfer.ensures.failed
+
+pub returns-in-Updated-clause-grows : goal.returns-in-Updated-clause-grows
+returns-in-Updated-clause-grows g c =
+    told_grows g.Z.FirstZone.zone c.args.self.now.peer.may_update c.args.request.now c.args.self.now.reader c.serve_one.new.reader c.in-Updated.ensures.2.heading c.in-Updated.told c.in-Updated.ensures.2.tells
+
+pub returns-in-Spent-clause-grows : goal.returns-in-Spent-clause-grows
+returns-in-Spent-clause-grows g c = at_most_grows g.Z.FirstZone.zone c.args.self.now.reader c.serve_one.new.reader c.in-Spent.ensures.1

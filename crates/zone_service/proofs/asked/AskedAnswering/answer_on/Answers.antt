@@ -2,21 +2,31 @@
 use Rattle.std.proofs.Common.{[], arith}
 use Rattle.std.proofs.lemmas.List.{length-take-le}
 use Rattle.dns_message.specs.Request.{reads}
+use Rattle.conversation.proofs.TurnLemmas.{begins_more}
+use Rattle.zone_service.specs.declared.answer.Now.TheVariants.{Bytes, Later}
+use Rattle.zone_service.proofs.NowLemmas.{now_grows}
 use Rattle.zone_service.proofs.ReplyLemmas.{short_reply, silent_replied, transfer_query}
 use Rattle.zone_service.proofs.TransferLemmas.{takes_none, never_spent}
 use Rattle.zone_service.proofs.asked.AskedAnswering.answer_on.Goals as goal
 
 pub write_frame-requires-clause-most : goal.write_frame-requires-clause-most
 write_frame-requires-clause-most g c =
-    let short = short_reply c.args.self.now.peer (reads c.args.request.now) c.in-Bytes.len c.in-Bytes.ensures.0 in
+    let short = short_reply c.args.self.now.peer (reads c.args.request.now) c.in-Bytes.len c.in-Bytes.ensures.now.0 in
     let size = length-take-le c.in-Bytes.len c.answer_now.new.out (omega (arith, short, c.answer_now.auto.out, c.requires.reply_room)) in
     omega (arith, short, size)
 
 pub returns-in-Silent-clause-replied : goal.returns-in-Silent-clause-replied
-returns-in-Silent-clause-replied g c = record { messages = []; reply = silent_replied g.Z.FirstZone.zone _ c.args.request.now c.in-Silent.ensures; written = takes_none _ }
+returns-in-Silent-clause-replied g c = record { messages = []; reply = silent_replied g.Z.FirstZone.zone _ _ c.args.request.now c.in-Silent.ensures.now.0; written = takes_none _ }
 
 pub returns-in-Bytes-clause-spent : goal.returns-in-Bytes-clause-spent
 returns-in-Bytes-clause-spent g c = never_spent _ c.write_frame.result c.write_frame.ensures.failed
 
 pub returns-in-Later-clause-spent : goal.returns-in-Later-clause-spent
 returns-in-Later-clause-spent g c = λ spent. transfer_query g.Z.FirstZone.zone _ c.args.request.now (c.answer_later.ensures.spent spent)
+
+pub returns-in-Bytes-clause-grows : goal.returns-in-Bytes-clause-grows
+returns-in-Bytes-clause-grows g c = now_grows g.Z.FirstZone.zone _ c.args.request.now c.args.self.now.reader c.answer_now.new.reader c.answer_now.new.out (Bytes c.in-Bytes.len) c.in-Bytes.ensures.now
+
+pub returns-in-Later-clause-grows : goal.returns-in-Later-clause-grows
+returns-in-Later-clause-grows g c =
+    begins_more _ _ _ (now_grows g.Z.FirstZone.zone _ c.args.request.now c.args.self.now.reader c.answer_now.new.reader c.answer_now.new.out Later c.in-Later.ensures.now) c.answer_later.ensures.grows

@@ -1,0 +1,143 @@
+//! What an owner's release did, by what its steps saw.
+ghost use Rattle.std.specs.Prelude.{◌≡◌, ◌↔◌, ℕ, ◌<◌, [], true, MatchBool};
+ghost use Rattle.cell_core.specs.Words.{slots};
+ghost use Rattle.cell_core.specs.declared.words.Version.{Version};
+ghost use Rattle.counted_handles.specs.declared.released.Steps.TheVariants.{Lowered, Won, Buried, Freed};
+ghost use Rattle.counted_handles.specs.declared.view.Mark.{Mark};
+ghost use Rattle.counted_handles.specs.declared.view.View.TheVariants.{Has, Buries};
+ghost use Rattle.counted_handles.specs.Calls.{Fits, IsOut, IsEmptied};
+ghost use Rattle.counted_handles.specs.Releases.{IsLowered, HasLost, LiesIn, buried_in};
+
+use crate::calls::{Words, bury, free, lower};
+use crate::names::Names;
+use crate::rule::Room;
+use crate::view::View;
+use atomic_table::Seat;
+use cell_core::Version;
+use raw_slots::collect;
+use std::marker::Model;
+
+/// How far a release has come, by what its steps saw.
+#[derive(Clone, Copy, Debug, PartialEq, Eq)]
+pub enum Steps {
+    /// Its share is subtracted from S, where it found so many shares, its own among them.
+    Lowered(u64),
+    /// It found its own alone, so it tried to bury what lies in the slot: its exchange of S, 0 for DEAD, found this in place of 0.
+    Lost(u64),
+    /// It found its own alone, and the exchange found 0: the slot's place is its own, with the version that lies there.
+    Won,
+    /// And that version, which has this number, is taken out of there.
+    Buried(u64),
+    /// And the slot is free again.
+    Freed(u64),
+}
+
+/// What an owner's release did. Contracts see its steps. Nothing but a subtraction makes one, and nothing but the exchange and the
+/// store behind it carry it on, so who has one has made the steps that it tells.
+#[derive(Debug, Drop)]
+pub struct Released {
+    steps: Steps,
+}
+
+impl Model for Released {
+    ghost use Rattle.counted_handles.specs.declared.released.Steps.{Steps};
+
+    ghost Value = { Steps };
+
+    ghost view = { λ a. a.steps };
+}
+
+impl Released {
+    /// The number of the version that the release buried: it lay in the owner's slot. None where the owner is gone and its version
+    /// isn't: another owns it, or it is the last, or another call buries it.
+    pub fn buried(&self) -> Option<u64>
+        ensures { result ≡ buried_in self.now }
+    {
+        match self.steps {
+            Steps::Buried(number) | Steps::Freed(number) => Some(number),
+            Steps::Lowered(_) | Steps::Lost(_) | Steps::Won => None,
+        }
+    }
+
+    // The share goes back.
+    pub(crate) fn lower<T, C: Names<T>>(
+        words: &Words<T, C>,
+        seat: &mut Seat<Room<T>, View<T>>,
+        slot: usize,
+    ) -> Released
+        requires fits { Fits words.now.table_id × (seat.old.table_id ≡ words.now.table_id) }
+        requires has { (mark : Mark T) × (seat.old.me ≡ (Has mark, [])) × (mark.slot ≡ slot) × (slot < slots) }
+        ensures seat { (seat.new.table_id ≡ seat.old.table_id) × (seat.new.id ≡ seat.old.id) }
+        ensures lowered { (mark : Mark T) → seat.old.me ≡ (Has mark, []) → IsLowered mark result seat.new.me }
+    {
+        let found = lower(words, seat, slot);
+        Released {
+            steps: Steps::Lowered(found),
+        }
+    }
+
+    // Whether a bury is to be tried.
+    pub(crate) fn is_due(&self) -> bool
+        ensures { result ≡ true ↔ self.now ≡ Lowered 1 }
+    {
+        self.steps == Steps::Lowered(1)
+    }
+
+    // A bury: whether it won. Then the seat has the slot's place, with the version that lies there.
+    pub(crate) fn bury<T, C: Names<T>>(
+        &mut self,
+        words: &Words<T, C>,
+        seat: &mut Seat<Room<T>, View<T>>,
+        slot: usize,
+    ) -> bool
+        requires fits { Fits words.now.table_id × (seat.old.table_id ≡ words.now.table_id) }
+        requires due { (self.old ≡ Lowered 1) × (seat.old.me ≡ (Buries slot words.now.table_id.views_name, [])) × (slot < slots) }
+        ensures seat { (seat.new.table_id ≡ seat.old.table_id) × (seat.new.id ≡ seat.old.id) }
+        ensures tried { MatchBool result ((self.new ≡ Won) × IsOut C.begins C.follows slot seat.new.me) (HasLost self.new seat.new.me) }
+    {
+        let found = bury(words, seat, slot);
+        if found != 0 {
+            self.steps = Steps::Lost(found);
+            return false;
+        }
+        collect(words, seat, slot);
+        self.steps = Steps::Won;
+        true
+    }
+
+    // The version that lies in the seat's place is taken out, and dropped.
+    pub(crate) fn empty<T: Drop, C: Names<T>>(
+        &mut self,
+        words: &Words<T, C>,
+        seat: &mut Seat<Room<T>, View<T>>,
+        slot: usize,
+    )
+        requires won { (self.old ≡ Won) × (seat.old.table_id ≡ words.now.table_id) × IsOut C.begins C.follows slot seat.old.me }
+        ensures seat { (seat.new.table_id ≡ seat.old.table_id) × (seat.new.id ≡ seat.old.id) }
+        ensures number { (version : Version T) → LiesIn slot version seat.old.me → self.new ≡ Buried version.number }
+        ensures emptied { IsEmptied slot seat.new.me }
+    {
+        match seat.slot_mut(words, slot).replace(None) {
+            Some(version) => self.steps = Steps::Buried(version.number),
+            None => unreachable!(),
+        }
+    }
+
+    // The slot is free again.
+    pub(crate) fn free<T, C: Names<T>>(
+        &mut self,
+        words: &Words<T, C>,
+        seat: &mut Seat<Room<T>, View<T>>,
+        slot: usize,
+    )
+        requires fits { Fits words.now.table_id × (seat.old.table_id ≡ words.now.table_id) × (slot < slots) }
+        requires buried { (number : ℕ) × (self.old ≡ Buried number) × IsEmptied slot seat.old.me }
+        ensures freed { (number : ℕ) → self.old ≡ Buried number → self.new ≡ Freed number }
+    {
+        free(words, seat, slot);
+        match self.steps {
+            Steps::Buried(number) => self.steps = Steps::Freed(number),
+            _ => unreachable!(),
+        }
+    }
+}

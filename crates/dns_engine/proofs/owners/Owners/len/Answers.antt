@@ -1,7 +1,0 @@
--- Each place has an owner.
-use Rattle.std.proofs.Common.{length, ap, sym, ◌∙◌}
-use Rattle.dns_engine.proofs.OwnedLemmas.{length-owned}
-use Rattle.dns_engine.proofs.owners.Owners.len.Goals as goal
-
-pub returns-clause-len : goal.returns-clause-len
-returns-clause-len g c = c.len.ensures.value ∙ sym (length-owned c.self.inside.places.items c.self.invariant) ∙ ap length c.self.view_is

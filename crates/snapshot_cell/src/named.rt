@@ -1,0 +1,201 @@
+//! A cell and its tokens that a type names: what has the same name belongs together, so no call asks for it.
+ghost use Rattle.std.specs.Prelude.{◌≡◌, ◌<◌, ◌-◌, ◌^◌, IfOk, IfErr};
+ghost use Rattle.cell_core.specs.Words.{slots};
+ghost use Rattle.counted_handles.specs.History.{IsHistory};
+ghost use Rattle.counted_handles.specs.Ruled.{Begins};
+ghost use Rattle.snapshot_cell.specs.Tokens.{IsLoad, IsLastOf, published_next};
+ghost use Rattle.atomic_table.specs.Seated.{TableId};
+
+use crate::cell::Cell;
+use crate::fault::Spent;
+use crate::named_ending::end_all_named;
+use crate::tokens::{Publisher, Reader};
+use counted_handles::{Names, NoSlot, Strong};
+use std::marker::{Brand, Model, PhantomData};
+
+/// Which cell it is. Each call of a program that runs a cell picks it.
+pub trait Naming {
+    ghost cell: { TableId };
+}
+
+impl Naming for Brand {
+    ghost use Rattle.std.specs.Prelude.{[]};
+
+    ghost cell = { record { words = 0; slots = 0; views_name = 0; atom = 0; block = 0; offset = 0; slot_names = [] } };
+}
+
+/// The cell of this name.
+pub struct NamedCell<T, C: Names<T>, N: Naming> {
+    cell: Cell<T, C>,
+    names: PhantomData<N>,
+    ghost named: { cell ≡ N.cell },
+}
+
+/// A reader of the cell of this name. Contracts see the reader.
+#[derive(Drop)]
+pub struct NamedReader<T, N: Naming> {
+    pub(crate) reader: Reader<T>,
+    pub(crate) names: PhantomData<N>,
+}
+
+impl<T, N: Naming> Model for NamedReader<T, N> {
+    ghost use Rattle.std.specs.Prelude.{◌≡◌};
+    ghost use Rattle.snapshot_cell.specs.Tokens.{ReaderState, reader_coded};
+
+    ghost Value = { ReaderState T };
+
+    ghost coded = { reader_coded T.code };
+
+    ghost view = { λ a. a.reader };
+
+    ghost invariant = { λ a. a.reader.cell ≡ N.cell };
+}
+
+/// The publisher of the cell of this name. Contracts see the publisher.
+#[derive(Drop)]
+pub struct NamedPublisher<T, C: Names<T>, N: Naming> {
+    publisher: Publisher<T, C>,
+    names: PhantomData<N>,
+}
+
+impl<T, C: Names<T>, N: Naming> Model for NamedPublisher<T, C, N> {
+    ghost use Rattle.std.specs.Prelude.{◌≡◌};
+    ghost use Rattle.snapshot_cell.specs.Tokens.{PublisherState, publisher_coded};
+
+    ghost Value = { PublisherState T };
+
+    ghost coded = { publisher_coded T.code };
+
+    ghost view = { λ a. a.publisher };
+
+    ghost invariant = { λ a. a.publisher.cell ≡ N.cell };
+}
+
+/// The cell of this name is still in use: all three come back as they were.
+pub struct NamedStillOut<T, C: Names<T>, N: Naming> {
+    /// The cell.
+    pub cell: NamedCell<T, C, N>,
+    /// Its publisher.
+    pub publisher: NamedPublisher<T, C, N>,
+    /// The readers that were given back.
+    pub readers: Vec<NamedReader<T, N>>,
+}
+
+impl<T, N: Naming> NamedReader<T, N> {
+    /// The reader of a cell of this name.
+    pub fn of(reader: Reader<T>) -> NamedReader<T, N>
+        requires { reader.cell ≡ N.cell }
+        ensures { result ≡ reader }
+    {
+        NamedReader {
+            reader,
+            names: PhantomData,
+        }
+    }
+
+    /// The grants that are left: as many loads can be made.
+    pub fn left(&self) -> u64
+        ensures { result ≡ self.now.left }
+    {
+        self.reader.left()
+    }
+}
+
+impl<T, C: Names<T>, N: Naming> NamedPublisher<T, C, N> {
+    /// The publisher of a cell of this name.
+    pub fn of(publisher: Publisher<T, C>) -> NamedPublisher<T, C, N>
+        requires { publisher.cell ≡ N.cell }
+        ensures { result ≡ publisher }
+    {
+        NamedPublisher {
+            publisher,
+            names: PhantomData,
+        }
+    }
+
+    /// The number of the version published last.
+    pub fn last(&self) -> u64
+        ensures number { result ≡ self.now.number }
+        ensures history { IsHistory C.begins C.follows self.now.published }
+        ensures last { IsLastOf self.now.published (record { number = self.now.number; value = self.now.value }) }
+    {
+        self.publisher.last()
+    }
+}
+
+impl<T: Drop, C: Names<T>, N: Naming> NamedCell<T, C, N> {
+    /// The cell of this name.
+    pub fn of(cell: Cell<T, C>) -> NamedCell<T, C, N>
+        requires { cell ≡ N.cell }
+    {
+        NamedCell {
+            cell,
+            names: PhantomData,
+        }
+    }
+
+    /// As [`Cell::load`].
+    pub fn load(&self, reader: &mut NamedReader<T, N>) -> Result<Strong<'_, T, C>, Spent>
+        ensures loaded { IfOk result (λ strong. IsLoad C.begins C.follows reader.old reader.new strong) }
+        ensures spent { IfErr result (λ _. (reader.old.left ≡ 0) × (reader.new ≡ reader.old)) }
+    {
+        self.cell.load(&mut reader.reader)
+    }
+
+    /// As [`Cell::newest`].
+    pub fn newest(
+        &self,
+        publisher: &mut NamedPublisher<T, C, N>,
+        reader: &mut NamedReader<T, N>,
+    ) -> Result<Strong<'_, T, C>, Spent>
+        ensures newest { IfOk result (λ strong. (strong ≡ record { number = publisher.old.number; value = publisher.old.value }) × (reader.new ≡ record { cell = reader.old.cell; seen = publisher.old.published; left = reader.old.left - 1 }) × (0 < reader.old.left)) }
+        ensures begun { IfOk result (λ _. Begins reader.old.seen publisher.old.published) }
+        ensures same { publisher.new ≡ publisher.old }
+        ensures spent { IfErr result (λ _. (reader.old.left ≡ 0) × (reader.new ≡ reader.old)) }
+    {
+        self.cell
+            .newest(&mut publisher.publisher, &mut reader.reader)
+    }
+
+    /// As [`Cell::close`].
+    pub fn close(
+        self,
+        publisher: NamedPublisher<T, C, N>,
+        mut readers: Vec<NamedReader<T, N>>,
+    ) -> Result<T, NamedStillOut<T, C, N>>
+        ensures value { IfOk result (λ value. value ≡ publisher.value) }
+        ensures out { IfErr result (λ out. (out.publisher ≡ publisher) × (out.readers.items ≡ readers.items)) }
+    {
+        let NamedCell { cell, names: _ } = self;
+        let NamedPublisher {
+            publisher,
+            names: _,
+        } = publisher;
+        match end_all_named(cell.words(), publisher, &mut readers) {
+            Ok((value, badge)) => {
+                cell.free(badge);
+                Ok(value)
+            }
+            Err(publisher) => Err(NamedStillOut {
+                cell: NamedCell::of(cell),
+                publisher: NamedPublisher::of(publisher),
+                readers,
+            }),
+        }
+    }
+
+    /// As [`Cell::publish`].
+    pub fn publish(
+        &self,
+        publisher: &mut NamedPublisher<T, C, N>,
+        value: T,
+    ) -> Result<Strong<'_, T, C>, NoSlot<T>>
+        requires room { publisher.old.number < 2 ^ 64 - 1 }
+        requires follows { C.follows publisher.old.value value }
+        ensures old { IfOk result (λ strong. strong ≡ record { number = publisher.old.number; value = publisher.old.value }) }
+        ensures published { IfOk result (λ _. publisher.new ≡ published_next publisher.old value) }
+        ensures refused { IfErr result (λ refused. (refused.value ≡ value) × (refused.probed ≡ slots) × (publisher.new ≡ publisher.old)) }
+    {
+        self.cell.publish(&mut publisher.publisher, value)
+    }
+}

@@ -1,2 +1,0 @@
-pub mod HistoryLemmas
-pub mod TokenLemmas
