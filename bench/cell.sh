@@ -163,9 +163,14 @@ fn load_all<R: Threads + Wait + Sync + Abort, N: Naming + Send + Sync>(
     requires cell { (parts.cell ≡ N.cell) × (parts.publisher.cell ≡ N.cell) }
     requires readers { All (λ r. r.cell ≡ N.cell) parts.readers.items }
 {
-    let cell = NamedCell::<u64, Any, N>::of(parts.cell);
-    let publisher = NamedPublisher::<u64, Any, N>::of(parts.publisher);
-    let loaders = loaders_of(alloc, &cell, parts.readers).expect(rt, "memory");
+    let Parts {
+        cell,
+        publisher,
+        readers,
+    } = parts;
+    let cell = NamedCell::<u64, Any, N>::of(cell);
+    let publisher = NamedPublisher::<u64, Any, N>::of(publisher);
+    let loaders = loaders_of(alloc, &cell, readers).expect(rt, "memory");
     let work = |loader: Loader<'_, N>| -> Loaded<N>
         ensures { Unit {0} }
     { loader.run(count) };
