@@ -4,7 +4,7 @@
 //! Contracts see a cell as the values published, which of their numbers are buried, and how many strong and weak owners
 //! each number has (`Cell`), and a step as what it makes of a cell (`Steps`). A [`WordMachine`] is such a cell on words:
 //! each step reads or writes one of them (`Makes`), and what the words show is a cell (`Shows`), whatever the order of the
-//! steps. Weak owners have no words, and cells that threads share are not here.
+//! steps. Cells that threads share are not here.
 #![tactic(auto)]
 
 mod fault;
@@ -33,4 +33,4 @@ pub use word_laws::{
     word_steps_show_the_cell, words_only_grow,
 };
 pub use word_machine::WordMachine;
-pub use words::{GRANTS, Owner, Publisher, SLOTS, Slot, Version, WordEvent, WordStep};
+pub use words::{GRANTS, NOTES, Owner, Publisher, SLOTS, Slot, Version, WordEvent, WordStep};

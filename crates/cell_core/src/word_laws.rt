@@ -7,9 +7,9 @@ ghost use Rattle.cell_core.specs.WordSteps.{Makes, HasWordStep, with_publisher, 
 ghost use Rattle.cell_core.specs.Made.{made};
 ghost use Rattle.cell_core.specs.WordExample.{once_loaded};
 ghost use Rattle.cell_core.specs.Shows.{Shows, ShowsStep, WordRuns, AtRest, held, owned_by};
-ghost use Rattle.cell_core.specs.declared.words.Owner.TheVariants.{Holding, Burying, Freeing, Spent};
+ghost use Rattle.cell_core.specs.declared.words.Owner.TheVariants.{Holding, Weakly, Burying, Fading, Resetting, Freeing, Spent};
 ghost use Rattle.cell_core.specs.declared.words.Publisher.TheVariants.{Probing, Preparing, Swapping, Settling};
-ghost use Rattle.cell_core.specs.declared.words.WordStep.TheVariants.{Load, Probe, Prepare, Swap, Settle, Release, Bury, Free};
+ghost use Rattle.cell_core.specs.declared.words.WordStep.TheVariants.{Load, Probe, Prepare, Swap, Settle, Release, Bury, Free, Look, Raise, Note, Fade, Reset};
 ghost use Rattle.cell_core.specs.declared.words.WordEvent.TheVariants.{Buried, Loaded, Passed, Left};
 ghost use Rattle.cell_core.specs.declared.words.WordStep.{WordStep};
 ghost use Rattle.cell_core.specs.declared.words.WordEvent.{WordEvent};
