@@ -75,7 +75,7 @@ pub fn no_word_overflows<T>()
         → (after.granted ≤ grants) × (after.latest < 2 ^ 54) }
     ensures shares { (first : T) (after : State T) (run : List (WordStep T × WordEvent)) (place : ℕ) (there : Slot T) → WordRuns (begun first) run after
         → slice_get after.table place ≡ Some there
-        → (there.shares ≡ free_word) ⊎ (there.shares ≡ dead_word) ⊎ (there.shares ≤ bulk + grants) }
+        → (there.shares ≡ free_word) ⊎ ((dead_word ≤ there.shares) × (there.shares ≤ dead_word + grants)) ⊎ (there.shares ≤ bulk + grants) }
     ensures load { (first : T) (after new : State T) (run : List (WordStep T × WordEvent)) (event : WordEvent) → WordRuns (begun first) run after
         → Makes {T = T} after Load event new → (new.latest ≡ after.latest + 1) × (slot_of new.latest ≡ slot_of after.latest) }
     ensures settle { (first : T) (after : State T) (run : List (WordStep T × WordEvent)) (number place given : ℕ) (there : Slot T) → WordRuns (begun first) run after
