@@ -1,18 +1,17 @@
 -- A fade and a reset keep what the words show.
 use Rattle.std.proofs.Common.{◌≡◌, ◌≢◌, refl, sym, ap, ◌∙◌, subst, ℕ, ◌+◌, ◌-◌, ◌<◌, ◌≤◌, ◌⊎◌, inl, inr, List, arith}
-use Rattle.std.specs.Prelude.{Some, ◌==◌, ◌^◌}
+use Rattle.std.specs.Prelude.{Some}
 use Rattle.std.specs.List.{slice_get, slice_set}
 use Rattle.std.proofs.lemmas.Bool.Decides.{eqb_tells}
 use Rattle.std.proofs.lemmas.Option.{slice_get_within}
-use Rattle.cell_core.proofs.SeatLemmas.{get_set_same, weaks_set, weaks_some, one_at, one_at_itself, none_at_others}
+use Rattle.cell_core.proofs.SeatLemmas.{get_set_same, weaks_set, weaks_some, one_at_itself}
 use Rattle.cell_core.proofs.FrameLemmas.{with_phase, charged, charge_of, held_stays, weaks_stay, charge_stays, seat_stays, beside_itself, owner_stays, knows_still, number_stays, rest_stays, phase_here, owners_after}
 use Rattle.cell_core.proofs.SlotFrame.{step_keeps, around_seat, phase_same}
-use Rattle.cell_core.proofs.LittleLemmas.{few_weak}
-use Rattle.cell_core.proofs.RaiseKeeps.{lives, Buried, buried_there}
+use Rattle.cell_core.proofs.RaiseKeeps.{lives, buried_there}
 use Rattle.cell_core.specs.Cell.{Cell, one_less, without_weak}
-use Rattle.cell_core.specs.Words.{State, notes, fetch_sub}
+use Rattle.cell_core.specs.Words.{State}
 use Rattle.cell_core.specs.WordSteps.{with_slot, with_owner, with_weak_word}
-use Rattle.cell_core.specs.Shows.{Rest, Phase, Plan, RestWord, WeakWord, SlotIs, InCharge, number_of, HasRest, OwnerIs, Shows, held, holds, weaks, has_weakly, kept_by, kept_by_cell, owned_by}
+use Rattle.cell_core.specs.Shows.{Rest, Phase, Plan, RestWord, InCharge, number_of, OwnerIs, Shows, held, holds, weaks, has_weakly, kept_by, kept_by_cell, owned_by}
 use Rattle.cell_core.specs.Shows.Rest.{fading, outlived, closing, closed}
 use Rattle.cell_core.specs.Shows.Phase.{free, taken, live, dead}
 use Rattle.cell_core.specs.declared.words.Slot.{Slot}
@@ -229,16 +228,16 @@ burier_fade_keeps {T} state cell i place k after there s seat at less out =
     let within = slice_get_within state.owners i (Fading place) seat in
     elim out [
       | inl none ↦ subst (λ x. Shows (with_owner i x (with_slot place (with_weak_word k there) state)) cell) (sym none.1)
-      (dead_keeps state cell s i place number late there (Fading place) (Resetting place) (fading i) (closing i) cell.weak k seat at c.3
-      (charge_fades state cell i place number late k (Fading place) (Resetting place) s (fading i) (closing i) seat
-      (record { had_none = λ j. refl; has_none = λ j. refl; burying = λ p e. cc }) (λ j. (refl, refl)) (λ p e. (let f : place ≡ p = cc in sym f)) refl
-      (none.0, omega (arith, here.weak, less, none.0)) (get_set_same state.owners i (Resetting place) within)
-      (number, late, c.2, phase_here place (dead number late (closing i)) s.plan)))
+          (dead_keeps state cell s i place number late there (Fading place) (Resetting place) (fading i) (closing i) cell.weak k seat at c.3
+          (charge_fades state cell i place number late k (Fading place) (Resetting place) s (fading i) (closing i) seat
+          (record { had_none = λ j. refl; has_none = λ j. refl; burying = λ p e. cc }) (λ j. (refl, refl)) (λ p e. (let f : place ≡ p = cc in sym f)) refl
+          (none.0, omega (arith, here.weak, less, none.0)) (get_set_same state.owners i (Resetting place) within)
+          (number, late, c.2, phase_here place (dead number late (closing i)) s.plan)))
       | inr left ↦ subst (λ x. Shows (with_owner i x (with_slot place (with_weak_word k there) state)) cell) (sym left.1)
-      (dead_keeps state cell s i place number late there (Fading place) Spent (fading i) outlived cell.weak k seat at c.3
-      (charge_fades state cell i place number late k (Fading place) Spent s (fading i) outlived seat
-      (record { had_none = λ j. refl; has_none = λ j. refl; burying = λ p e. cc }) (λ j. (refl, refl)) (λ p e. (let f : place ≡ p = cc in sym f)) refl
-      (omega (arith, here.weak, less), omega (arith, here.weak, less, left.0)) tt tt))
+          (dead_keeps state cell s i place number late there (Fading place) Spent (fading i) outlived cell.weak k seat at c.3
+          (charge_fades state cell i place number late k (Fading place) Spent s (fading i) outlived seat
+          (record { had_none = λ j. refl; has_none = λ j. refl; burying = λ p e. cc }) (λ j. (refl, refl)) (λ p e. (let f : place ≡ p = cc in sym f)) refl
+          (omega (arith, here.weak, less), omega (arith, here.weak, less, left.0)) tt tt))
     ]
 
 -- reset: K of a slot that nobody else has is 1 again

@@ -6,9 +6,9 @@ use Rattle.std.proofs.lemmas.Bool.Decides.{eqb_tells}
 use Rattle.std.proofs.lemmas.Option.{slice_get_within}
 use Rattle.std.proofs.lemmas.List.{length-set}
 use Rattle.cell_core.proofs.SeatLemmas.{get_set_other, get_push_old, set_cases, held_set, weaks_set, one_at_itself}
-use Rattle.cell_core.specs.Cell.{Cell, IsLast}
-use Rattle.cell_core.specs.Words.{State, slots}
-use Rattle.cell_core.specs.Shows.{Rest, Phase, Plan, SlotIs, IsDead, InCharge, RestWord, WeakWord, LiesIn, number_of, HasRest, OwnerIs, PublisherIs, Numbers, Table, held, holds, has_weakly, weaks, kept_by, kept_by_cell}
+use Rattle.cell_core.specs.Cell.{Cell}
+use Rattle.cell_core.specs.Words.{State}
+use Rattle.cell_core.specs.Shows.{Rest, Phase, Plan, SlotIs, InCharge, RestWord, WeakWord, LiesIn, number_of, HasRest, OwnerIs, PublisherIs, Numbers, Table, held, holds, has_weakly, weaks, kept_by, kept_by_cell}
 use Rattle.cell_core.specs.Shows.Rest.{fading, outlived, closing, closed}
 use Rattle.cell_core.specs.Shows.Phase.{free, taken, live, dead}
 use Rattle.cell_core.specs.declared.words.Slot.{Slot}

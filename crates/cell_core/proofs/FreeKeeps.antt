@@ -1,5 +1,5 @@
 -- A free keeps what the words show.
-use Rattle.std.proofs.Common.{◌≡◌, refl, sym, ap, ◌∙◌, subst, ℕ, ◌+◌, ◌<◌, ◌≤◌, arith}
+use Rattle.std.proofs.Common.{◌≡◌, refl, sym, ap, ◌∙◌, subst, ℕ, ◌+◌, arith}
 use Rattle.std.specs.Prelude.{Some}
 use Rattle.std.specs.List.{slice_get}
 use Rattle.cell_core.proofs.FrameLemmas.{with_phase, charge_of, table_with, held_stays, weaks_stay, beside_itself, owner_stays, publisher_stays, phase_here, phase_there, phase_stays, number_stays, rest_stays, numbers_with, owners_after, seat_elsewhere}

@@ -27,3 +27,4 @@ pub mod LittleLemmas
 pub mod RaiseKeeps
 pub mod FadeKeeps
 pub mod WeakShows
+pub mod WeakLemmas

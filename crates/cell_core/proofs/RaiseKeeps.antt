@@ -1,19 +1,19 @@
 -- A raise keeps what the words show; one that comes too late, too. So does a note.
-use Rattle.std.proofs.Common.{◌≡◌, ◌≢◌, refl, sym, ap, ◌∙◌, subst, ℕ, ◌+◌, ◌-◌, ◌<◌, ◌≤◌, true, false, ◌⊎◌, inl, inr, List, [], ◌∷◌, ◌++◌, arith}
-use Rattle.std.specs.Prelude.{None, Some, ◌==◌, ◌^◌}
+use Rattle.std.proofs.Common.{◌≡◌, refl, sym, ap, ◌∙◌, subst, ℕ, ◌+◌, ◌<◌, inl, inr, List, [], ◌∷◌, ◌++◌, arith}
+use Rattle.std.specs.Prelude.{Some}
 use Rattle.std.specs.List.{slice_get}
 use Rattle.std.proofs.lemmas.Bool.Decides.{eqb_tells}
 use Rattle.std.proofs.lemmas.Option.{slice_get_within}
 use Rattle.cell_core.proofs.SeatLemmas.{get_push_old, push_cases, held_push, weaks_push}
 use Rattle.cell_core.proofs.FrameLemmas.{with_phase, beside_itself, owner_stays, knows_still, number_stays, rest_stays}
-use Rattle.cell_core.proofs.SlotFrame.{Around, step_keeps, around_pushed, phase_same}
+use Rattle.cell_core.proofs.SlotFrame.{step_keeps, around_pushed, phase_same}
 use Rattle.cell_core.proofs.LittleLemmas.{live_little, few_weak}
 use Rattle.cell_core.proofs.LoadKeeps.{held_more, weaks_more, more_of_this, none_of_others}
 use Rattle.cell_core.specs.Cell.{Cell, one_more, with_strong, with_weak}
-use Rattle.cell_core.specs.Words.{State, grants, notes, dead_word, fetch_add}
+use Rattle.cell_core.specs.Words.{State, grants, notes, fetch_add}
 use Rattle.cell_core.specs.WordSteps.{with_slot, with_new_owner, with_shares, with_weak_word, with_grant, with_note}
-use Rattle.cell_core.specs.Shows.{Rest, Phase, Plan, IsLive, IsDead, SlotIs, RestWord, WeakWord, InCharge, number_of, IsOf, HasRest, LiesIn, OwnerIs, Shows, held, weaks, kept_by, kept_by_cell, owned_by}
-use Rattle.cell_core.specs.Shows.Phase.{free, taken, live, dead}
+use Rattle.cell_core.specs.Shows.{Rest, Phase, Plan, IsLive, IsDead, SlotIs, RestWord, WeakWord, InCharge, number_of, LiesIn, OwnerIs, Shows, held, weaks, kept_by, kept_by_cell, owned_by}
+use Rattle.cell_core.specs.Shows.Phase.{taken, live, dead}
 use Rattle.cell_core.specs.declared.words.Slot.{Slot}
 use Rattle.cell_core.specs.declared.words.Owner.{Owner}
 use Rattle.cell_core.specs.declared.words.Owner.TheVariants.{Holding, Weakly, Burying}

@@ -17,7 +17,7 @@ use Rattle.cell_core.proofs.PublishedLemmas.{waits_not, no_probing, RunTells, ru
 use Rattle.cell_core.specs.Cell.{Cell, start}
 use Rattle.cell_core.specs.Words.{State, begun, grants, notes, bulk, free_word, dead_word, slot_of, fetch_add, found_by, found_last}
 use Rattle.cell_core.specs.WordSteps.{Makes}
-use Rattle.cell_core.specs.Shows.{Rest, Phase, IsLive, SlotIs, RestWord, WeakWord, OwnerIs, PublisherIs, Plan, Shows, WordRuns, held, holds, weaks, owned_by, kept_by, kept_by_cell}
+use Rattle.cell_core.specs.Shows.{Rest, Phase, IsLive, SlotIs, RestWord, WeakWord, OwnerIs, PublisherIs, Plan, Shows, WordRuns, held, holds, weaks, owned_by, kept_by}
 use Rattle.cell_core.specs.Shows.Rest.{fading, outlived, closing, closed}
 use Rattle.cell_core.specs.Shows.Phase.{free, taken, live, dead}
 use Rattle.cell_core.specs.Published.{swapped, published_by, IsBuriedBy}
@@ -88,7 +88,7 @@ buried_unowned {T} first after run place owner number r h =
     (at.between, at.made, found.0, found.1, subst (λ (l : List T). number + 1 < length l) t.published before_last)
 
 -- an owner of what is buried
-holds_not : {T : Type 0} (cell : Cell T) (plan : Plan) (number i : ℕ) (how : Owner) → cell.buried number ≡ true → OwnerIs cell plan i how → holds number how ≡ 0
+pub holds_not : {T : Type 0} (cell : Cell T) (plan : Plan) (number i : ℕ) (how : Owner) → cell.buried number ≡ true → OwnerIs cell plan i how → holds number how ≡ 0
 holds_not cell plan number i (Holding j place) gone is =
     elim (eqb_tells number j) [
       | inl same ↦ absurd (true≢false (sym gone ∙ ap cell.buried same.1 ∙ is.unburied))

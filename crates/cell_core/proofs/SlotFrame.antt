@@ -1,12 +1,12 @@
 -- A step that changes one slot, and neither W nor the publisher, keeps what the words show where it keeps what that slot and the
 -- owners are.
-use Rattle.std.proofs.Common.{◌≡◌, ◌≢◌, refl, sym, ap, ◌∙◌, ℕ, ◌+◌, ◌<◌, ◌≤◌, Bool, List, [], ◌∷◌, ◌++◌, arith, subst}
+use Rattle.std.proofs.Common.{◌≡◌, ◌≢◌, refl, sym, ap, ◌∙◌, ℕ, ◌+◌, ◌≤◌, Bool, List, [], ◌∷◌, ◌++◌, arith, subst}
 use Rattle.std.specs.Prelude.{Some}
 use Rattle.std.specs.List.{slice_get, slice_set}
 use Rattle.std.proofs.lemmas.Bool.Decides.{eqb_tells}
 use Rattle.std.proofs.Common.{inl, inr}
 use Rattle.cell_core.proofs.SeatLemmas.{get_push_old}
-use Rattle.cell_core.proofs.FrameLemmas.{with_phase, charged, Elsewhere, table_with, seat_stays, charge_stays, charge_pushed, beside_itself, publisher_stays, phase_here, phase_there, phase_stays, phase_again}
+use Rattle.cell_core.proofs.FrameLemmas.{with_phase, charged, table_with, seat_stays, charge_stays, charge_pushed, beside_itself, publisher_stays, phase_here, phase_there, phase_stays, phase_again}
 use Rattle.cell_core.specs.Cell.{Cell}
 use Rattle.cell_core.specs.Words.{State, grants, notes}
 use Rattle.cell_core.specs.Shows.{Rest, Phase, Plan, SlotIs, InCharge, WeakWord, OwnerIs, Counts, Shows, held, weaks, kept_by, kept_by_cell}

@@ -1,19 +1,19 @@
 -- What a look, a raise, a note, a fade and a reset show.
-use Rattle.std.proofs.Common.{◌≡◌, ◌≢◌, refl, sym, ap, ◌∙◌, subst, ℕ, ◌+◌, ◌<◌, ◌≤◌, true, false, ◌⊎◌, inl, inr, length, arith}
-use Rattle.std.specs.Prelude.{Option, None, Some, nat_lt, ◌==◌, ◌^◌}
+use Rattle.std.proofs.Common.{◌≡◌, refl, sym, ap, ◌∙◌, subst, ℕ, ◌+◌, ◌<◌, ◌≤◌, true, false, ◌⊎◌, inl, inr, length, arith}
+use Rattle.std.specs.Prelude.{Option, None, Some}
 use Rattle.std.specs.List.{slice_get}
 use Rattle.std.specs.Option.{option_and_then}
 use Rattle.std.proofs.lemmas.Bool.{cases_lt, lt-ltb, le-ltb}
 use Rattle.std.proofs.lemmas.Bool.Decides.{eqb_tells}
-use Rattle.cell_core.proofs.SeatLemmas.{held_some, weaks_some, one_at, one_at_itself}
+use Rattle.cell_core.proofs.SeatLemmas.{held_some, weaks_some, one_at_itself}
 use Rattle.cell_core.proofs.LittleLemmas.{live_little, few_weak}
 use Rattle.cell_core.proofs.ReleaseKeeps.{one_share_less}
 use Rattle.cell_core.proofs.RaiseKeeps.{lives, buried_there, raise_keeps, late_keeps, note_keeps}
 use Rattle.cell_core.proofs.FadeKeeps.{weak_fade_keeps, burier_fade_keeps, reset_keeps}
 use Rattle.cell_core.specs.Cell.{Cell, with_strong, with_weak, without_weak}
-use Rattle.cell_core.specs.Words.{State, grants, notes, dead_word, fetch_add, fetch_sub, owned_of, fading_of}
+use Rattle.cell_core.specs.Words.{State, notes, dead_word, fetch_add, fetch_sub, owned_of, fading_of}
 use Rattle.cell_core.specs.WordSteps.{Looks, Raises, Notes, Fades, Resets, with_slot, with_owner, with_new_owner, with_shares, with_weak_word, with_grant, with_note, owned_in}
-use Rattle.cell_core.specs.Shows.{Rest, Phase, RestWord, WeakWord, SlotIs, LiesIn, IsOf, number_of, Shows, ShowsStep, held, weaks}
+use Rattle.cell_core.specs.Shows.{Rest, Phase, RestWord, WeakWord, number_of, Shows, ShowsStep, weaks}
 use Rattle.cell_core.specs.Shows.Rest.{fading, outlived, closing, closed}
 use Rattle.cell_core.specs.Shows.Phase.{free, taken, live, dead}
 use Rattle.cell_core.specs.declared.words.Slot.{Slot}
@@ -145,8 +145,8 @@ raise_shows {T} state new owner event cell s (number, place, there, own, at, roo
                 )
             | inr seat ↦ elim (weak_sees state cell s owner number place there seat at) [
               | inl open_still ↦ shown state new more (Raise owner) event (Raised (length state.owners) number) cell (with_strong number cell) r.0 r.1
-              (place, inr (seat, (weak_counted state cell s owner number place seat, rw open_still.unburied (refl, refl))))
-              (raise_keeps state cell number place there s at open_still.phase room)
+                  (place, inr (seat, (weak_counted state cell s owner number place seat, rw open_still.unburied (refl, refl))))
+                  (raise_keeps state cell number place there s at open_still.phase room)
               | inr gone ↦ absurd (not_both there.shares little gone.great)
             ]
           ]
@@ -158,7 +158,7 @@ raise_shows {T} state new owner event cell s (number, place, there, own, at, roo
             | inr seat ↦ elim (weak_sees state cell s owner number place there seat at) [
               | inl open_still ↦ absurd (not_both there.shares open_still.little great)
               | inr gone ↦ shown state new same (Raise owner) event Dead cell cell r.0 r.1 (number, place, seat, (weak_counted state cell s owner number place seat, rw gone.buried (refl, refl)))
-              (late_keeps state cell number place gone.late gone.rest there s at gone.phase room)
+                  (late_keeps state cell number place gone.late gone.rest there s at gone.phase room)
             ]
           ]
           )
@@ -245,9 +245,9 @@ fade_shows {T} state new owner event cell s (place, there, fades, at, m) =
           let last : 0 + 1 ≡ there.weak = omega (arith, less, none.1) in
           elim who [
             | inl seat ↦ shown state new made (Fade owner) event Closed cell (without_weak seat.0 cell) r.0 r.1 (inl (seat.0, place, seat.1, (weak_counted state cell s owner seat.0 place seat.1, refl, refl)))
-            (weak_fade_keeps state cell owner seat.0 place 0 (Resetting place) there s seat.1 at last (inl (refl, refl)))
+                (weak_fade_keeps state cell owner seat.0 place 0 (Resetting place) there s seat.1 at last (inl (refl, refl)))
             | inr seat ↦ shown state new made (Fade owner) event Closed cell cell r.0 r.1 (inr (place, seat, refl))
-            (burier_fade_keeps state cell owner place 0 (Resetting place) there s seat at last (inl (refl, refl)))
+                (burier_fade_keeps state cell owner place 0 (Resetting place) there s seat at last (inl (refl, refl)))
           ]
           )
       | inr some ↦ (
@@ -256,9 +256,9 @@ fade_shows {T} state new owner event cell s (place, there, fades, at, m) =
           let left : 0 < fetch_sub there.weak 1 = omega (arith, some.1) in
           elim who [
             | inl seat ↦ shown state new made (Fade owner) event Faded cell (without_weak seat.0 cell) r.0 r.1 (inl (seat.0, place, seat.1, (weak_counted state cell s owner seat.0 place seat.1, refl, refl)))
-            (weak_fade_keeps state cell owner seat.0 place (fetch_sub there.weak 1) Spent there s seat.1 at less (inr (left, refl)))
+                (weak_fade_keeps state cell owner seat.0 place (fetch_sub there.weak 1) Spent there s seat.1 at less (inr (left, refl)))
             | inr seat ↦ shown state new made (Fade owner) event Faded cell cell r.0 r.1 (inr (place, seat, refl))
-            (burier_fade_keeps state cell owner place (fetch_sub there.weak 1) Spent there s seat at less (inr (left, refl)))
+                (burier_fade_keeps state cell owner place (fetch_sub there.weak 1) Spent there s seat at less (inr (left, refl)))
           ]
           )
     ]

@@ -6,7 +6,7 @@ use Rattle.cell_core.specs.Words.{State, slots, grants, notes, free_word, dead_w
 use Rattle.cell_core.specs.WordSteps.{with_slot, with_owner, with_new_owner, with_publisher, with_shares, with_weak_word, with_version, with_grant, with_note, owned_in}
 use Rattle.cell_core.specs.declared.words.Slot.{Slot}
 use Rattle.cell_core.specs.declared.words.Owner.{Owner}
-use Rattle.cell_core.specs.declared.words.Owner.TheVariants.{Holding, Twice, Weakly, Both, Burying, Fading, Resetting, Freeing, Spent}
+use Rattle.cell_core.specs.declared.words.Owner.TheVariants.{Holding, Weakly, Burying, Fading, Resetting, Freeing, Spent}
 use Rattle.cell_core.specs.declared.words.Publisher.{Publisher}
 use Rattle.cell_core.specs.declared.words.Publisher.TheVariants.{Probing, Preparing, Swapping, Settling}
 use Rattle.cell_core.specs.declared.words.WordStep.{WordStep}

@@ -494,9 +494,9 @@ impl<T: Drop> WordMachine<T> {
         let Some(weak) = self.weak(slot) else {
             return Err(StepFault::NotEnabled);
         };
-        let left = weak.wrapping_sub(1);
-        self.set_weak(slot, left);
-        if left == 0 {
+        let others = weak.wrapping_sub(1);
+        self.set_weak(slot, others);
+        if others == 0 {
             self.set_owner(owner, Owner::Resetting(slot));
             Ok(WordEvent::Closed)
         } else {
