@@ -69,12 +69,12 @@ version_in state slot = option_and_then (λ there. there.version) (slice_get sta
 abbrev pub number_in : {T : Type 0} → State T → ℕ → Option ℕ
 number_in state slot = option_map (λ version. version.number) (version_in state slot)
 
--- the slot of what an owner has a share of; none where it has none (own)
+-- the slot of what an owner has, and nothing besides; none where it has nothing, or has it weakly (own)
 abbrev pub place_of : Owner → Option ℕ
 place_of (Holding number place) = Some place
-place_of (Twice number place) = Some place
-place_of (Both number place) = Some place
+place_of (Twice number place) = None
 place_of (Weakly number place) = None
+place_of (Both number place) = None
 place_of (Burying place) = None
 place_of (Fading place) = None
 place_of (Resetting place) = None
@@ -105,7 +105,7 @@ fading_of (Resetting place) = None
 fading_of (Freeing place) = None
 fading_of Spent = None
 
--- the value that an owner finds in its slot; none where it has no share (own)
+-- the value that an owner finds in its slot; none where it has nothing, or has it weakly (own)
 abbrev pub found_by : {T : Type 0} → State T → ℕ → Option T
 found_by state owner =
     option_map (λ version. version.value) (option_and_then (version_in state) (option_and_then place_of (slice_get state.owners owner)))

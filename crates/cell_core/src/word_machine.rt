@@ -3,7 +3,7 @@ ghost use Rattle.std.specs.Prelude.{◌≡◌, ◌<◌, ◌↔◌, nat_lt, Optio
 ghost use Rattle.std.specs.List.{slice_get};
 ghost use Rattle.std.specs.Option.{option_copied, option_and_then, option_map};
 ghost use Rattle.std.specs.Result.{IsErrOf};
-ghost use Rattle.cell_core.specs.Words.{State, grants, notes, found_by, found_last, slot_of, given_of, version_in, number_in, place_of, owned_of, fading_of, dead_word, begun, first_slot, free_slot};
+ghost use Rattle.cell_core.specs.Words.{State, grants, notes, found_by, found_last, slot_of, given_of, version_in, number_in, owned_of, fading_of, dead_word, begun, first_slot, free_slot};
 ghost use Rattle.cell_core.specs.Cell.{Cell, start};
 ghost use Rattle.cell_core.specs.Shows.{Shows, ShowsStep};
 ghost use Rattle.cell_core.specs.WordSteps.{Makes, HasWordStep, GrowsOwners, with_new_owner, with_owner, with_slot, with_shares, with_weak_word, with_version, owned_in};
@@ -98,11 +98,13 @@ impl<T: Drop> WordMachine<T> {
         self.granted < GRANTS
     }
 
-    /// The value that an owner finds in its slot; none where it has no share.
+    /// The value that an owner finds in its slot; none where it owns nothing, or owns it weakly.
     pub fn value(&self, owner: usize) -> Option<&T>
         ensures { option_copied result ≡ found_by self.now owner }
     {
-        let slot = share_slot(self.owner(owner)?)?;
+        let Owner::Holding { number: _, slot } = self.owner(owner)? else {
+            return None;
+        };
         Some(&self.version_in(slot)?.value)
     }
 
@@ -528,18 +530,6 @@ impl<T: Drop> WordMachine<T> {
         self.set_weak(slot, 1);
         self.set_owner(owner, Owner::Freeing(slot));
         Ok(WordEvent::Restored)
-    }
-}
-
-/// The slot of what an owner has a share of.
-fn share_slot(how: Owner) -> Option<usize>
-    ensures { result ≡ place_of how }
-{
-    match how {
-        Owner::Holding { number: _, slot } => Some(slot),
-        Owner::Twice { number: _, slot } => Some(slot),
-        Owner::Both { number: _, slot } => Some(slot),
-        _ => None,
     }
 }
 
