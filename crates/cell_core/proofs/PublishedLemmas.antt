@@ -197,6 +197,45 @@ fade_quiet {T} state owner before after s =
       | inr burier ↦ (ap (λ (c : Cell T). c.published) burier.2, λ j. ap (λ (c : Cell T). c.buried j) burier.2)
     ]
 
+-- a step of weak owners, or by which an owner is given another
+abbrev pub OfWeak : {T : Type 0} → WordStep T → Type 0
+OfWeak (Look owner) = Unit {0}
+OfWeak (Raise owner) = Unit {0}
+OfWeak (Note owner) = Unit {0}
+OfWeak (Fade owner) = Unit {0}
+OfWeak (Reset owner) = Unit {0}
+OfWeak Load = ⊥
+OfWeak Probe = ⊥
+OfWeak (Prepare value) = ⊥
+OfWeak Swap = ⊥
+OfWeak Settle = ⊥
+OfWeak (Release owner) = ⊥
+OfWeak (Bury owner) = ⊥
+OfWeak (Free owner) = ⊥
+
+-- it publishes and buries nothing
+same_quiet : {T : Type 0} (before after : Cell T) → after ≡ before → (after.published ≡ before.published) × ((j : ℕ) → after.buried j ≡ before.buried j)
+same_quiet {T} before after e = (ap (λ (c : Cell T). c.published) e, λ j. ap (λ (c : Cell T). c.buried j) e)
+
+pub weak_quiet : {T : Type 0} (state : State T) (step : WordStep T) (event : WordEvent) (before after : Cell T) → OfWeak step → ShowsStep state step event before after → (after.published ≡ before.published) × ((j : ℕ) → after.buried j ≡ before.buried j)
+weak_quiet state (Look owner) Dead before after of s = up_quiet before after s.0 None s.3
+weak_quiet state (Look owner) event before after of s = same_quiet before after s
+weak_quiet state (Raise owner) Dead before after of s = up_quiet before after s.0 None s.3
+weak_quiet state (Raise owner) (Raised given number) before after of s = raise_quiet state owner number before after s
+weak_quiet state (Raise owner) event before after of s = same_quiet before after s
+weak_quiet {T} state (Note owner) (Noted given number) before after of s = (ap (λ (c : Cell T). c.published) s.2, λ j. ap (λ (c : Cell T). c.buried j) s.2)
+weak_quiet state (Note owner) event before after of s = same_quiet before after s
+weak_quiet state (Fade owner) event before after of s = fade_quiet state owner before after s
+weak_quiet state (Reset owner) event before after of s = same_quiet before after s
+weak_quiet state Load event before after of s = absurd of
+weak_quiet state Probe event before after of s = absurd of
+weak_quiet state (Prepare value) event before after of s = absurd of
+weak_quiet state Swap event before after of s = absurd of
+weak_quiet state Settle event before after of s = absurd of
+weak_quiet state (Release owner) event before after of s = absurd of
+weak_quiet state (Bury owner) event before after of s = absurd of
+weak_quiet state (Free owner) event before after of s = absurd of
+
 -- a swap publishes the value that waits
 swap_tells : {T : Type 0} (state new : State T) (number : ℕ) (waiting : Option T) (cell next : Cell T) → Waits state waiting → Makes {T = T} state Swap (Swapped number) new → ShowsStep {T = T} state Swap (Swapped number) cell next → Tells {T = T} new Swap (Swapped number) waiting cell next
 swap_tells {T} state new number waiting cell next w m s =
@@ -241,24 +280,21 @@ step_tells {T} state new (Release owner) event waiting cell next w m s =
 step_tells state new (Bury owner) (Buried number) waiting cell next w m s = bury_tells state new owner number waiting cell next w m s
 step_tells state new (Bury owner) event waiting cell next w m s = same_cell new (Bury owner) event waiting waiting cell next s (λ more. refl) (bury_waits state new owner event waiting m w)
 step_tells state new (Free owner) event waiting cell next w m s = same_cell new (Free owner) event waiting waiting cell next s (λ more. refl) (free_waits state new owner event waiting m w)
-step_tells state new (Look owner) Dead waiting cell next w m s =
-    let up = up_quiet cell next s.0 None s.3 in
-    quiet new (Look owner) Dead waiting waiting cell next up.0 up.1 (λ more. refl) (look_waits state new owner Dead waiting m w)
-step_tells state new (Look owner) event waiting cell next w m s = same_cell new (Look owner) event waiting waiting cell next s (λ more. refl) (look_waits state new owner event waiting m w)
-step_tells state new (Raise owner) Dead waiting cell next w m s =
-    let up = up_quiet cell next s.0 None s.3 in
-    quiet new (Raise owner) Dead waiting waiting cell next up.0 up.1 (λ more. refl) (raise_waits state new owner Dead waiting m w)
-step_tells state new (Raise owner) (Raised given number) waiting cell next w m s =
-    let up = raise_quiet state owner number cell next s in
-    quiet new (Raise owner) (Raised given number) waiting waiting cell next up.0 up.1 (λ more. refl) (raise_waits state new owner (Raised given number) waiting m w)
-step_tells state new (Raise owner) event waiting cell next w m s = same_cell new (Raise owner) event waiting waiting cell next s (λ more. refl) (raise_waits state new owner event waiting m w)
-step_tells {T} state new (Note owner) (Noted given number) waiting cell next w m s =
-    quiet new (Note owner) (Noted given number) waiting waiting cell next (ap (λ (c : Cell T). c.published) s.2) (λ j. ap (λ (c : Cell T). c.buried j) s.2) (λ more. refl) (note_waits state new owner (Noted given number) waiting m w)
-step_tells state new (Note owner) event waiting cell next w m s = same_cell new (Note owner) event waiting waiting cell next s (λ more. refl) (note_waits state new owner event waiting m w)
+step_tells state new (Look owner) event waiting cell next w m s =
+    let q = weak_quiet state (Look owner) event cell next tt s in
+    quiet new (Look owner) event waiting waiting cell next q.0 q.1 (λ more. refl) (look_waits state new owner event waiting m w)
+step_tells state new (Raise owner) event waiting cell next w m s =
+    let q = weak_quiet state (Raise owner) event cell next tt s in
+    quiet new (Raise owner) event waiting waiting cell next q.0 q.1 (λ more. refl) (raise_waits state new owner event waiting m w)
+step_tells state new (Note owner) event waiting cell next w m s =
+    let q = weak_quiet state (Note owner) event cell next tt s in
+    quiet new (Note owner) event waiting waiting cell next q.0 q.1 (λ more. refl) (note_waits state new owner event waiting m w)
 step_tells state new (Fade owner) event waiting cell next w m s =
-    let less = fade_quiet state owner cell next s in
-    quiet new (Fade owner) event waiting waiting cell next less.0 less.1 (λ more. refl) (fade_waits state new owner event waiting m w)
-step_tells state new (Reset owner) event waiting cell next w m s = same_cell new (Reset owner) event waiting waiting cell next s (λ more. refl) (reset_waits state new owner event waiting m w)
+    let q = weak_quiet state (Fade owner) event cell next tt s in
+    quiet new (Fade owner) event waiting waiting cell next q.0 q.1 (λ more. refl) (fade_waits state new owner event waiting m w)
+step_tells state new (Reset owner) event waiting cell next w m s =
+    let q = weak_quiet state (Reset owner) event cell next tt s in
+    quiet new (Reset owner) event waiting waiting cell next q.0 q.1 (λ more. refl) (reset_waits state new owner event waiting m w)
 
 -- what a run publishes, and what it buries
 pub record RunTells {T : Type 0} (after : State T) (run : List (WordStep T × WordEvent)) (waiting : Option T) (cell : Cell T) : Type 0 where

@@ -29,7 +29,7 @@ use Rattle.world_run.specs.declared.step.Answer.TheVariants as answer
 use Rattle.world_run.specs.Judgements.{is_equal_zone, made_of, judged_by, judged_said, judged}
 use Rattle.zone_tree.specs.Version.{Version as Numbered}
 use Rattle.world_run.specs.Numbered.{changes_between}
-use Rattle.world_run.specs.Phases.{after, past, oldest_after}
+use Rattle.world_run.specs.Phases.{after, past, gone, oldest_after}
 use Rattle.world_run.specs.UpdateAnswers.{heading_for, heading_of, KeepsHeading, got_alone}
 use Rattle.world_run.proofs.JudgeLemmas.{zones_told}
 
@@ -59,6 +59,13 @@ probe_told version keeping told.Emptied = refl
 probe_told version keeping (told.Buried number) = refl
 probe_told version keeping told.Kept = refl
 probe_told version keeping told.Freed = refl
+probe_told version keeping told.Alive = refl
+probe_told version keeping told.Dead = refl
+probe_told version keeping (told.Raised owner number) = refl
+probe_told version keeping (told.Noted owner number) = refl
+probe_told version keeping told.Faded = refl
+probe_told version keeping told.Closed = refl
+probe_told version keeping told.Restored = refl
 
 settle_told : (keeping : Keeping) (event : WordEvent) → KeepsHeading keeping.heading event (after (phase.Settle keeping) event)
 settle_told keeping (told.Loaded owner number) = refl
@@ -73,6 +80,13 @@ settle_told keeping told.Emptied = refl
 settle_told keeping (told.Buried number) = refl
 settle_told keeping told.Kept = refl
 settle_told keeping told.Freed = refl
+settle_told keeping told.Alive = refl
+settle_told keeping told.Dead = refl
+settle_told keeping (told.Raised owner number) = refl
+settle_told keeping (told.Noted owner number) = refl
+settle_told keeping told.Faded = refl
+settle_told keeping told.Closed = refl
+settle_told keeping told.Restored = refl
 
 keep_told : (given : ℕ) (keeping : Keeping) (event : WordEvent) → KeepsHeading keeping.heading event (after (phase.Keep given keeping) event)
 keep_told given keeping (told.Loaded owner number) = refl
@@ -87,6 +101,13 @@ keep_told given keeping told.Emptied = refl
 keep_told given keeping (told.Buried number) = refl
 keep_told given keeping told.Kept = refl
 keep_told given keeping told.Freed = refl
+keep_told given keeping told.Alive = refl
+keep_told given keeping told.Dead = refl
+keep_told given keeping (told.Raised owner number) = refl
+keep_told given keeping (told.Noted owner number) = refl
+keep_told given keeping told.Faded = refl
+keep_told given keeping told.Closed = refl
+keep_told given keeping told.Restored = refl
 
 release_told : (at : ℕ) (for : Purpose) (head : Heading) → heading_for for ≡ Some head → (event : WordEvent) → KeepsHeading head event (after (phase.Release at for) event)
 release_told at for head e (told.Loaded owner number) = past_told head _ for answer.Left e
@@ -101,6 +122,13 @@ release_told at for head e told.Emptied = e
 release_told at for head e (told.Buried number) = past_told head _ for answer.Left e
 release_told at for head e told.Kept = past_told head _ for answer.Left e
 release_told at for head e told.Freed = past_told head _ for answer.Left e
+release_told at for head e told.Alive = past_told head _ for answer.Left e
+release_told at for head e told.Dead = past_told head _ for answer.Left e
+release_told at for head e (told.Raised owner number) = past_told head _ for answer.Left e
+release_told at for head e (told.Noted owner number) = past_told head _ for answer.Left e
+release_told at for head e told.Faded = past_told head _ for answer.Left e
+release_told at for head e told.Closed = past_told head _ for answer.Left e
+release_told at for head e told.Restored = past_told head _ for answer.Left e
 
 bury_told : (at : ℕ) (for : Purpose) (head : Heading) → heading_for for ≡ Some head → (event : WordEvent) → KeepsHeading head event (after (phase.Bury at for) event)
 bury_told at for head e (told.Loaded owner number) = past_told head _ for answer.Left e
@@ -115,6 +143,17 @@ bury_told at for head e told.Emptied = past_told head _ for answer.Left e
 bury_told at for head e (told.Buried number) = e
 bury_told at for head e told.Kept = past_told head _ for answer.Left e
 bury_told at for head e told.Freed = past_told head _ for answer.Left e
+bury_told at for head e told.Alive = past_told head _ for answer.Left e
+bury_told at for head e told.Dead = past_told head _ for answer.Left e
+bury_told at for head e (told.Raised owner number) = past_told head _ for answer.Left e
+bury_told at for head e (told.Noted owner number) = past_told head _ for answer.Left e
+bury_told at for head e told.Faded = past_told head _ for answer.Left e
+bury_told at for head e told.Closed = past_told head _ for answer.Left e
+bury_told at for head e told.Restored = past_told head _ for answer.Left e
+
+fade_told : (at : ℕ) (number : Option ℕ) (for : Purpose) (head : Heading) → heading_for for ≡ Some head → (event : WordEvent) → KeepsHeading head event (after (phase.Fade at number for) event)
+fade_told at number for head e told.Closed = e
+fade_told at number for head e event = past_told head event for (gone number) e
 
 under : (at : Phase) (event : WordEvent) (one head : Heading) → Some one ≡ Some head → KeepsHeading one event (after at event) → KeepsHeading head event (after at event)
 under at event one head e k = let same : one ≡ head = (let f = e in cc) in subst (λ h. KeepsHeading h event (after at event)) same k
@@ -129,7 +168,9 @@ keeps_head (phase.Settle keeping) event head e = under (phase.Settle keeping) ev
 keeps_head (phase.Keep given keeping) event head e = under (phase.Keep given keeping) event keeping.heading head e (keep_told given keeping event)
 keeps_head (phase.Release at for) event head e = release_told at for head e event
 keeps_head (phase.Bury at for) event head e = bury_told at for head e event
-keeps_head (phase.Free at number for) event head e = past_told head event for (answer.Buried number) e
+keeps_head (phase.Fade at number for) event head e = fade_told at number for head e event
+keeps_head (phase.Reset at number for) event head e = e
+keeps_head (phase.Free at number for) event head e = past_told head event for (gone number) e
 
 -- what a judgement says that is got
 abbrev GotBy : Numbered → Got → Option Judged → Type 0

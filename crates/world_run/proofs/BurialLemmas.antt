@@ -14,7 +14,7 @@ use Rattle.cell_core.specs.Made.{made}
 use Rattle.cell_core.proofs.SeatLemmas.{held_none}
 use Rattle.cell_core.specs.Shows.{Shows, ShowsStep, OwnerIs, holds as owner_has}
 use Rattle.cell_core.specs.declared.words.Owner.{Owner}
-use Rattle.cell_core.specs.declared.words.Owner.TheVariants.{Holding, Burying, Freeing, Spent}
+use Rattle.cell_core.specs.declared.words.Owner.TheVariants.{Holding, Twice, Weakly, Both, Burying, Fading, Resetting, Freeing, Spent}
 use Rattle.cell_core.specs.Words.{found_last, grants}
 use Rattle.cell_core.specs.WordSteps.{Makes}
 use Rattle.cell_core.specs.declared.words.WordEvent.{WordEvent}
@@ -55,12 +55,17 @@ use Rattle.world_run.specs.declared.step.WorldStep.{WorldStep as Line}
 use Rattle.world_run.specs.declared.step.WorldStep.TheVariants.{Whole, Begin, Next}
 use Rattle.world_run.specs.Held.{tells_buried, IsGone}
 use Rattle.world_run.specs.Judgements.{asks_update, judged}
-use Rattle.world_run.specs.Phases.{word_step, step_name, after, past, oldest_after, load_after, probe_after, settle_after, keep_after, updates}
+use Rattle.world_run.specs.Phases.{word_step, step_name, after, past, gone, oldest_after, load_after, probe_after, settle_after, keep_after, updates}
 use Rattle.world_run.specs.World.{World, started, call_of, without_call, owner_of, is_taken, zone_of, version_of, answer_of, asks_sent, ask_start, drop_start, transfer_asked, transfer_said, transfer_start, is_held, oldest_kept, update_start, start, answer_at, step_once, steps_up_to, go_on, most_steps, is_full, all_made, whole, begin, begin_under, stepped, next, turn, onto_replies, play}
 use Rattle.world_run.proofs.EndLemmas.{IsFirst, FirstOf, start_first}
 use Rattle.world_run.proofs.HandPlay.{started_hands}
 use Rattle.world_run.proofs.HandSteps.{Zones}
 use Rattle.world_run.proofs.ReplayLemmas.{step_by}
+
+-- a number that is to be told
+abbrev pub told_of : ℕ → Option ℕ → ℕ
+told_of n None = 0
+told_of n (Some number) = one_if (number == n)
 
 -- a number that a call has buried and is to tell
 abbrev pub freed : ℕ → Phase → ℕ
@@ -72,7 +77,9 @@ freed n (phase.Settle keeping) = 0
 freed n (phase.Keep given keeping) = 0
 freed n (phase.Release owner for) = 0
 freed n (phase.Bury owner for) = 0
-freed n (phase.Free owner number for) = one_if (number == n)
+freed n (phase.Fade owner number for) = told_of n number
+freed n (phase.Reset owner number for) = told_of n number
+freed n (phase.Free owner number for) = told_of n number
 
 abbrev pub frees : ℕ → List UnderWay → ℕ
 frees n [] = 0
@@ -82,6 +89,7 @@ abbrev pub buried_in : ℕ → Answer → ℕ
 buried_in n (answer.Owner name number) = 0
 buried_in n answer.Left = 0
 buried_in n (answer.Buried number) = one_if (number == n)
+buried_in n answer.Faded = 0
 buried_in n (answer.Reply octets) = 0
 buried_in n answer.Silent = 0
 buried_in n (answer.Messages messages) = 0
@@ -134,6 +142,14 @@ release_none : (n owner : ℕ) (for : Purpose) (event : WordEvent) → told_by n
 release_none n owner for told.Emptied = omega arith
 release_none n owner for event = past_less n for answer.Left
 
+gone_less : (n : ℕ) (for : Purpose) (number : Option ℕ) → told_by n (past for (gone number)) ≤ told_of n number
+gone_less n for None = past_less n for answer.Faded
+gone_less n for (Some number) = past_less n for (answer.Buried number)
+
+fade_less : (n owner : ℕ) (number : Option ℕ) (for : Purpose) (event : WordEvent) → told_by n (after (phase.Fade owner number for) event) ≤ told_of n number
+fade_less n owner number for told.Closed = omega arith
+fade_less n owner number for event = gone_less n for number
+
 -- what a step makes of numbers that are to be told
 record Goes (cell next : Cell Numbered) (at : Phase) (progress : Progress) : Type 0 where
   stays : (n : ℕ) → cell.buried n ≡ true → next.buried n ≡ true
@@ -172,7 +188,9 @@ goes words new (phase.Settle keeping) event cell next m s = record { stays = gro
 goes words new (phase.Keep given keeping) event cell next m s = record { stays = grows words (phase.Keep given keeping) event cell next s; less = inl (λ n. let e = keep_none n given keeping event in omega (arith, e)) }
 goes words new (phase.Release owner for) event cell next m s = record { stays = grows words (phase.Release owner for) event cell next s; less = inl (λ n. release_none n owner for event) }
 goes words new (phase.Bury owner for) event cell next m s = bury_goes words new owner for event cell next m s
-goes words new (phase.Free owner number for) event cell next m s = record { stays = grows words (phase.Free owner number for) event cell next s; less = inl (λ n. past_less n for (answer.Buried number)) }
+goes words new (phase.Fade owner number for) event cell next m s = record { stays = grows words (phase.Fade owner number for) event cell next s; less = inl (λ n. fade_less n owner number for event) }
+goes words new (phase.Reset owner number for) event cell next m s = record { stays = grows words (phase.Reset owner number for) event cell next s; less = inl (λ n. omega arith) }
+goes words new (phase.Free owner number for) event cell next m s = record { stays = grows words (phase.Free owner number for) event cell next s; less = inl (λ n. gone_less n for number) }
 
 step_once_by : (words new : Zones) (seen : ℕ → ℕ) (calls : List UnderWay) (at : Phase) (event : WordEvent) → Makes words (word_step at) event new → Once words seen calls (On at) → Once new seen calls (after at event)
 step_once_by words new seen calls at event m o =
@@ -250,6 +268,7 @@ end_less n (Owned name owner number) = omega arith
 end_less n (Told (answer.Owner name number)) = omega arith
 end_less n (Told answer.Left) = omega arith
 end_less n (Told (answer.Buried number)) = omega arith
+end_less n (Told answer.Faded) = omega arith
 end_less n (Told (answer.Reply octets)) = omega arith
 end_less n (Told answer.Silent) = omega arith
 end_less n (Told (answer.Messages messages)) = omega arith
@@ -275,6 +294,8 @@ first_quiet words (phase.Settle keeping) n is = refl
 first_quiet words (phase.Keep given keeping) n is = refl
 first_quiet words (phase.Release owner for) n is = refl
 first_quiet words (phase.Bury owner for) n is = refl
+first_quiet words (phase.Fade owner number for) n is = absurd is
+first_quiet words (phase.Reset owner number for) n is = absurd is
 first_quiet words (phase.Free owner number for) n is = absurd is
 
 begun_once : (words : Zones) (seen : ℕ → ℕ) (calls : List UnderWay) (at : Phase) → IsFirst words at → Once words seen calls quiet → Once words seen calls (On at)
@@ -340,6 +361,7 @@ told_same : (n : ℕ) (given : Answer) → one_if (tells_buried n (Answered give
 told_same n (answer.Owner name number) = omega arith
 told_same n answer.Left = omega arith
 told_same n (answer.Buried number) = omega arith
+told_same n answer.Faded = omega arith
 told_same n (answer.Reply octets) = omega arith
 told_same n answer.Silent = omega arith
 told_same n (answer.Messages messages) = omega arith
@@ -522,13 +544,26 @@ told_once first keep window lines replies world number e =
     let a = t.few number in omega (arith, a)
 
 -- an owner of a number that is buried is none
-unheld : (words : Zones) (cell : Cell Numbered) (s : Shows words cell) (number i : ℕ) (how : Owner) → cell.buried number ≡ true → OwnerIs cell s.plan i how → owner_has number how ≡ false
+unheld : (words : Zones) (cell : Cell Numbered) (s : Shows words cell) (number i : ℕ) (how : Owner) → cell.buried number ≡ true → OwnerIs cell s.plan i how → owner_has number how ≡ 0
 unheld words cell s number i (Holding other place) gone is =
     elim (eqb_tells number other) [
       | inl same ↦ absurd (let f : cell.buried number ≡ false = ap cell.buried same.1 ∙ is.unburied in let wrong : true ≡ false = sym gone ∙ f in cc)
-      | inr apart ↦ apart.0
+      | inr apart ↦ rw apart.0 refl
     ]
+unheld words cell s number i (Twice other place) gone is =
+    elim (eqb_tells number other) [
+      | inl same ↦ absurd (let f : cell.buried number ≡ false = ap cell.buried same.1 ∙ is.unburied in let wrong : true ≡ false = sym gone ∙ f in cc)
+      | inr apart ↦ rw apart.0 refl
+    ]
+unheld words cell s number i (Both other place) gone is =
+    elim (eqb_tells number other) [
+      | inl same ↦ absurd (let f : cell.buried number ≡ false = ap cell.buried same.1 ∙ is.0.unburied in let wrong : true ≡ false = sym gone ∙ f in cc)
+      | inr apart ↦ rw apart.0 refl
+    ]
+unheld words cell s number i (Weakly other place) gone is = refl
 unheld words cell s number i (Burying place) gone is = refl
+unheld words cell s number i (Fading place) gone is = refl
+unheld words cell s number i (Resetting place) gone is = refl
 unheld words cell s number i (Freeing place) gone is = refl
 unheld words cell s number i Spent gone is = refl
 

@@ -1,6 +1,6 @@
 -- Calls as steps: what each step makes of the versions that a run publishes, and of the calls under way.
 use Rattle.std.proofs.Common.{◌≡◌, ◌≢◌, refl, sym, ap, ◌∙◌, subst, ℕ, zero, suc, ◌+◌, ◌<◌, ◌≤◌, Bool, true, false, ◌⊎◌, inl, inr, List, [], ◌∷◌, ◌++◌, length, map, take, arith, Option, Some, None, length-append}
-use Rattle.std.specs.Prelude.{◌==◌, ◌||◌, not, bytes_eq, unwrap_or}
+use Rattle.std.specs.Prelude.{◌==◌, ◌||◌, not, bytes_eq, nat_lt, unwrap_or}
 use Rattle.std.specs.List.{slice_get, slice_set, list_any}
 use Rattle.std.specs.Option.{option_and_then}
 use Rattle.std.proofs.lemmas.Bool.{cases_Bool}
@@ -10,10 +10,11 @@ use Rattle.std.proofs.lemmas.Option.{slice_get_within}
 use Rattle.cell_core.proofs.RunShows.{step_runs}
 use Rattle.cell_core.proofs.SeatLemmas.{get_set_same, get_set_other}
 use Rattle.cell_core.proofs.StepShows.{step_shows}
+use Rattle.cell_core.proofs.PublishedLemmas.{OfWeak, weak_quiet}
 use Rattle.cell_core.specs.Cell.{Cell, CellStep, Runs, start as cell_start}
 use Rattle.cell_core.specs.Shows.{Shows, ShowsStep, PublisherIs, SlotIs, Phase as SlotPhase}
-use Rattle.cell_core.specs.Words.{State, bulk, free_word, dead_word, fetch_sub, version_in}
-use Rattle.cell_core.specs.WordSteps.{Makes, with_version, with_shares}
+use Rattle.cell_core.specs.Words.{State, bulk, free_word, dead_word, fetch_add, fetch_sub, version_in}
+use Rattle.cell_core.specs.WordSteps.{Makes, with_version, with_shares, with_weak_word}
 use Rattle.cell_core.specs.declared.words.Publisher.TheVariants.{Swapping}
 use Rattle.cell_core.specs.declared.words.Slot.{Slot}
 use Rattle.cell_core.specs.declared.words.Version.{Version}
@@ -40,7 +41,7 @@ use Rattle.world_run.specs.declared.step.Answer.{Answer}
 use Rattle.world_run.specs.declared.step.Answer.TheVariants as answer
 use Rattle.zone_tree.specs.Version.{Version as Numbered, KnowsChanges}
 use Rattle.world_run.specs.Numbered.{first_version}
-use Rattle.world_run.specs.Phases.{word_step, after, past, oldest_after, updates}
+use Rattle.world_run.specs.Phases.{word_step, after, past, gone, oldest_after, updates}
 use Rattle.world_run.specs.Replays.{IsAccepted, AreReplays}
 use Rattle.world_run.specs.InTurn.{LeavesPublished}
 use Rattle.world_run.specs.World.{call_of, without_call, next}
@@ -210,6 +211,11 @@ NoSwap word.Settle = Unit {0}
 NoSwap (word.Release owner) = Unit {0}
 NoSwap (word.Bury owner) = Unit {0}
 NoSwap (word.Free owner) = Unit {0}
+NoSwap (word.Look owner) = Unit {0}
+NoSwap (word.Raise owner) = Unit {0}
+NoSwap (word.Note owner) = Unit {0}
+NoSwap (word.Fade owner) = Unit {0}
+NoSwap (word.Reset owner) = Unit {0}
 
 -- it publishes nothing
 load_publishes : (words new : Zones) (event : WordEvent) (cell later : Cell Numbered) → Makes {T = Numbered} words word.Load event new → ShowsStep {T = Numbered} words word.Load event cell later → later.published ≡ cell.published
@@ -232,6 +238,9 @@ bury_publishes words new owner event cell later (place, there, seat, found, m) s
           )
     ]
 
+weak_publishes : (words : Zones) (step : WordStep Numbered) (event : WordEvent) (cell later : Cell Numbered) → OfWeak step → ShowsStep words step event cell later → later.published ≡ cell.published
+weak_publishes words step event cell later of s = (weak_quiet words step event cell later of s).0
+
 pub publishes_nothing : (words new : Zones) (step : WordStep Numbered) (event : WordEvent) (cell later : Cell Numbered) → NoSwap step → Makes words step event new → ShowsStep words step event cell later → later.published ≡ cell.published
 publishes_nothing words new word.Load event cell later apart m s = load_publishes words new event cell later m s
 publishes_nothing words new word.Probe event cell later apart m s = ap (λ (c : Cell Numbered). c.published) s
@@ -241,6 +250,11 @@ publishes_nothing words new word.Settle event cell later apart m s = ap (λ (c :
 publishes_nothing words new (word.Release owner) event cell later apart m s = ap (λ (c : Cell Numbered). c.published) s.3.2
 publishes_nothing words new (word.Bury owner) event cell later apart m s = bury_publishes words new owner event cell later m s
 publishes_nothing words new (word.Free owner) event cell later apart m s = ap (λ (c : Cell Numbered). c.published) s
+publishes_nothing words new (word.Look owner) event cell later apart m s = weak_publishes words (word.Look owner) event cell later tt s
+publishes_nothing words new (word.Raise owner) event cell later apart m s = weak_publishes words (word.Raise owner) event cell later tt s
+publishes_nothing words new (word.Note owner) event cell later apart m s = weak_publishes words (word.Note owner) event cell later tt s
+publishes_nothing words new (word.Fade owner) event cell later apart m s = weak_publishes words (word.Fade owner) event cell later tt s
+publishes_nothing words new (word.Reset owner) event cell later apart m s = weak_publishes words (word.Reset owner) event cell later tt s
 
 pub tells_same : (S : Script) (first : List Record) (words new : Zones) (us : List Placed) (step : WordStep Numbered) (event : WordEvent) → NoSwap step → Makes words step event new → Tells S first words us → Tells S first new us
 tells_same S first words new us step event apart m t =
@@ -306,6 +320,8 @@ Coherent S first us words (phase.Settle keeping) = Unit {0}
 Coherent S first us words (phase.Keep given keeping) = Unit {0}
 Coherent S first us words (phase.Release owner for) = Unit {0}
 Coherent S first us words (phase.Bury owner for) = Unit {0}
+Coherent S first us words (phase.Fade owner number for) = Unit {0}
+Coherent S first us words (phase.Reset owner number for) = Unit {0}
 Coherent S first us words (phase.Free owner number for) = Unit {0}
 
 -- a call that is no update is about to publish nothing
@@ -318,6 +334,8 @@ no_update S first us words (phase.Settle keeping) e = tt
 no_update S first us words (phase.Keep given keeping) e = tt
 no_update S first us words (phase.Release owner for) e = tt
 no_update S first us words (phase.Bury owner for) e = tt
+no_update S first us words (phase.Fade owner number for) e = tt
+no_update S first us words (phase.Reset owner number for) e = tt
 no_update S first us words (phase.Free owner number for) e = tt
 
 -- an owner's step, or a load
@@ -330,6 +348,11 @@ OfOwner word.Settle = ⊥
 OfOwner (word.Release owner) = Unit {0}
 OfOwner (word.Bury owner) = Unit {0}
 OfOwner (word.Free owner) = Unit {0}
+OfOwner (word.Look owner) = Unit {0}
+OfOwner (word.Raise owner) = Unit {0}
+OfOwner (word.Note owner) = Unit {0}
+OfOwner (word.Fade owner) = Unit {0}
+OfOwner (word.Reset owner) = Unit {0}
 
 -- a slot whose version stays
 version_stays : (words new : Zones) (place at : ℕ) (there other : Slot Numbered) → slice_get words.table at ≡ Some there → new.table ≡ slice_set words.table at other → other.version ≡ there.version → version_in new place ≡ version_in words place
@@ -386,6 +409,27 @@ release_keeps_swap S first us words new owner event (number, at, there, seat, fo
           )
     ]
 
+look_keeps_swap : (S : Script) (first : List Record) (us : List Placed) (words new : Zones) (owner : ℕ) (event : WordEvent) → Makes {T = Numbered} words (word.Look owner) event new → SwapsNext S first us words → SwapsNext S first us new
+look_keeps_swap S first us words new owner event (number, at, there, own, found, m) n =
+    elim (cases_Bool (nat_lt there.shares dead_word)) [
+      | inl little ↦ (let h = rw little at m in swaps_kept S first us words new (ap (λ (w : Zones). w.publisher) h.1) (λ place publisher. ap (λ (w : Zones). version_in w place) h.1) n)
+      | inr great ↦ (let h = rw great at m in swaps_kept S first us words new (ap (λ (w : Zones). w.publisher) h.1) (λ place publisher. ap (λ (w : Zones). version_in w place) h.1) n)
+    ]
+
+raise_keeps_swap : (S : Script) (first : List Record) (us : List Placed) (words new : Zones) (owner : ℕ) (event : WordEvent) → Makes {T = Numbered} words (word.Raise owner) event new → SwapsNext S first us words → SwapsNext S first us new
+raise_keeps_swap S first us words new owner event (number, at, there, own, found, room, m) n =
+    elim (cases_Bool (nat_lt there.shares dead_word)) [
+      | inl little ↦ (let h = rw little at m in swaps_kept S first us words new (ap (λ (w : Zones). w.publisher) h.1) (λ place publisher. version_stays words new place at there (with_shares (fetch_add there.shares 1) there) found (ap (λ (w : Zones). w.table) h.1) refl) n)
+      | inr great ↦ (let h = rw great at m in swaps_kept S first us words new (ap (λ (w : Zones). w.publisher) h.1) (λ place publisher. version_stays words new place at there (with_shares (fetch_add there.shares 1) there) found (ap (λ (w : Zones). w.table) h.1) refl) n)
+    ]
+
+fade_keeps_swap : (S : Script) (first : List Record) (us : List Placed) (words new : Zones) (owner : ℕ) (event : WordEvent) → Makes {T = Numbered} words (word.Fade owner) event new → SwapsNext S first us words → SwapsNext S first us new
+fade_keeps_swap S first us words new owner event (at, there, fades, found, m) n =
+    elim (cases_Bool (fetch_sub there.weak 1 == 0)) [
+      | inl none ↦ (let h = rw none at m in swaps_kept S first us words new (ap (λ (w : Zones). w.publisher) h.1) (λ place publisher. version_stays words new place at there (with_weak_word 0 there) found (ap (λ (w : Zones). w.table) h.1) refl) n)
+      | inr some ↦ (let h = rw some at m in swaps_kept S first us words new (ap (λ (w : Zones). w.publisher) h.1) (λ place publisher. version_stays words new place at there (with_weak_word (fetch_sub there.weak 1) there) found (ap (λ (w : Zones). w.table) h.1) refl) n)
+    ]
+
 owner_keeps_swap : (S : Script) (first : List Record) (us : List Placed) (words new : Zones) (cell : Cell Numbered) (step : WordStep Numbered) (event : WordEvent) → OfOwner step → Shows words cell → Makes words step event new → SwapsNext S first us words → SwapsNext S first us new
 owner_keeps_swap S first us words new cell word.Load event of s (number, found, few, told_is, new_is) n =
     swaps_kept S first us words new (ap (λ (w : Zones). w.publisher) new_is) (λ place publisher. ap (λ (w : Zones). version_in w place) new_is) n
@@ -398,6 +442,14 @@ owner_keeps_swap S first us words new cell (word.Bury owner) event of s m n = bu
 owner_keeps_swap S first us words new cell (word.Free owner) event of s (at, there, seat, found, told_is, new_is) n =
     swaps_kept S first us words new (ap (λ (w : Zones). w.publisher) new_is) (λ place publisher. version_stays words new place at there (with_shares free_word there) found (ap (λ (w : Zones). w.table) new_is) refl) n
 
+owner_keeps_swap S first us words new cell (word.Look owner) event of s m n = look_keeps_swap S first us words new owner event m n
+owner_keeps_swap S first us words new cell (word.Raise owner) event of s m n = raise_keeps_swap S first us words new owner event m n
+owner_keeps_swap S first us words new cell (word.Note owner) event of s (number, at, there, seat, found, room, told_is, new_is) n =
+    swaps_kept S first us words new (ap (λ (w : Zones). w.publisher) new_is) (λ place publisher. version_stays words new place at there (with_weak_word (fetch_add there.weak 1) there) found (ap (λ (w : Zones). w.table) new_is) refl) n
+owner_keeps_swap S first us words new cell (word.Fade owner) event of s m n = fade_keeps_swap S first us words new owner event m n
+owner_keeps_swap S first us words new cell (word.Reset owner) event of s (at, there, seat, found, told_is, new_is) n =
+    swaps_kept S first us words new (ap (λ (w : Zones). w.publisher) new_is) (λ place publisher. version_stays words new place at there (with_weak_word 1 there) found (ap (λ (w : Zones). w.table) new_is) refl) n
+
 owner_keeps : (S : Script) (first : List Record) (us : List Placed) (words new : Zones) (cell : Cell Numbered) (step : WordStep Numbered) (event : WordEvent) (other : Phase) → OfOwner step → Shows words cell → Makes words step event new → Coherent S first us words other → Coherent S first us new other
 owner_keeps S first us words new cell step event (phase.Load name) of s m c = tt
 owner_keeps S first us words new cell step event (phase.Probe version keeping) of s m c = c
@@ -407,6 +459,8 @@ owner_keeps S first us words new cell step event (phase.Settle keeping) of s m c
 owner_keeps S first us words new cell step event (phase.Keep given keeping) of s m c = tt
 owner_keeps S first us words new cell step event (phase.Release owner for) of s m c = tt
 owner_keeps S first us words new cell step event (phase.Bury owner for) of s m c = tt
+owner_keeps S first us words new cell step event (phase.Fade owner number for) of s m c = tt
+owner_keeps S first us words new cell step event (phase.Reset owner number for) of s m c = tt
 owner_keeps S first us words new cell step event (phase.Free owner number for) of s m c = tt
 
 -- a call that is no update takes such steps
@@ -419,6 +473,8 @@ of_owner (phase.Settle keeping) e = absurd (let wrong = e in cc)
 of_owner (phase.Keep given keeping) e = absurd (let wrong = e in cc)
 of_owner (phase.Release owner for) e = tt
 of_owner (phase.Bury owner for) e = tt
+of_owner (phase.Fade owner number for) e = tt
+of_owner (phase.Reset owner number for) e = tt
 of_owner (phase.Free owner number for) e = tt
 
 owner_no_swap : (step : WordStep Numbered) → OfOwner step → NoSwap step
@@ -430,6 +486,11 @@ owner_no_swap word.Settle of = absurd of
 owner_no_swap (word.Release owner) of = tt
 owner_no_swap (word.Bury owner) of = tt
 owner_no_swap (word.Free owner) of = tt
+owner_no_swap (word.Look owner) of = tt
+owner_no_swap (word.Raise owner) of = tt
+owner_no_swap (word.Note owner) of = tt
+owner_no_swap (word.Fade owner) of = tt
+owner_no_swap (word.Reset owner) of = tt
 
 -- what follows on a step of a call is of the same kind, and about to publish the same
 abbrev pub Follows : Script → List Record → List Placed → Zones → Bool → Progress → Type 0
@@ -458,6 +519,13 @@ load_follows S first us words name told.Emptied = (tt, refl)
 load_follows S first us words name (told.Buried number) = (tt, refl)
 load_follows S first us words name told.Kept = (tt, refl)
 load_follows S first us words name told.Freed = (tt, refl)
+load_follows S first us words name told.Alive = (tt, refl)
+load_follows S first us words name told.Dead = (tt, refl)
+load_follows S first us words name (told.Raised owner number) = (tt, refl)
+load_follows S first us words name (told.Noted owner number) = (tt, refl)
+load_follows S first us words name told.Faded = (tt, refl)
+load_follows S first us words name told.Closed = (tt, refl)
+load_follows S first us words name told.Restored = (tt, refl)
 
 probe_follows : (S : Script) (first : List Record) (us : List Placed) (words : Zones) (version : Numbered) (keeping : Keeping) → IsNext S first us version → (event : WordEvent) → Follows S first us words true (after (phase.Probe version keeping) event)
 probe_follows S first us words version keeping n (told.Loaded owner number) = (n, refl)
@@ -472,6 +540,13 @@ probe_follows S first us words version keeping n told.Emptied = (n, refl)
 probe_follows S first us words version keeping n (told.Buried number) = (n, refl)
 probe_follows S first us words version keeping n told.Kept = (n, refl)
 probe_follows S first us words version keeping n told.Freed = (n, refl)
+probe_follows S first us words version keeping n told.Alive = (n, refl)
+probe_follows S first us words version keeping n told.Dead = (n, refl)
+probe_follows S first us words version keeping n (told.Raised owner number) = (n, refl)
+probe_follows S first us words version keeping n (told.Noted owner number) = (n, refl)
+probe_follows S first us words version keeping n told.Faded = (n, refl)
+probe_follows S first us words version keeping n told.Closed = (n, refl)
+probe_follows S first us words version keeping n told.Restored = (n, refl)
 
 settle_follows : (S : Script) (first : List Record) (us : List Placed) (words : Zones) (keeping : Keeping) (event : WordEvent) → Follows S first us words true (after (phase.Settle keeping) event)
 settle_follows S first us words keeping (told.Loaded owner number) = (tt, refl)
@@ -486,6 +561,13 @@ settle_follows S first us words keeping told.Emptied = (tt, refl)
 settle_follows S first us words keeping (told.Buried number) = (tt, refl)
 settle_follows S first us words keeping told.Kept = (tt, refl)
 settle_follows S first us words keeping told.Freed = (tt, refl)
+settle_follows S first us words keeping told.Alive = (tt, refl)
+settle_follows S first us words keeping told.Dead = (tt, refl)
+settle_follows S first us words keeping (told.Raised owner number) = (tt, refl)
+settle_follows S first us words keeping (told.Noted owner number) = (tt, refl)
+settle_follows S first us words keeping told.Faded = (tt, refl)
+settle_follows S first us words keeping told.Closed = (tt, refl)
+settle_follows S first us words keeping told.Restored = (tt, refl)
 
 keep_follows : (S : Script) (first : List Record) (us : List Placed) (words : Zones) (given : ℕ) (keeping : Keeping) (event : WordEvent) → Follows S first us words true (after (phase.Keep given keeping) event)
 keep_follows S first us words given keeping (told.Loaded owner number) = (tt, refl)
@@ -500,6 +582,13 @@ keep_follows S first us words given keeping told.Emptied = (tt, refl)
 keep_follows S first us words given keeping (told.Buried number) = (tt, refl)
 keep_follows S first us words given keeping told.Kept = (tt, refl)
 keep_follows S first us words given keeping told.Freed = (tt, refl)
+keep_follows S first us words given keeping told.Alive = (tt, refl)
+keep_follows S first us words given keeping told.Dead = (tt, refl)
+keep_follows S first us words given keeping (told.Raised owner number) = (tt, refl)
+keep_follows S first us words given keeping (told.Noted owner number) = (tt, refl)
+keep_follows S first us words given keeping told.Faded = (tt, refl)
+keep_follows S first us words given keeping told.Closed = (tt, refl)
+keep_follows S first us words given keeping told.Restored = (tt, refl)
 
 release_follows : (S : Script) (first : List Record) (us : List Placed) (words : Zones) (at : ℕ) (for : Purpose) (event : WordEvent) → Follows S first us words (updates (phase.Release at for)) (after (phase.Release at for) event)
 release_follows S first us words at for (told.Loaded owner number) = past_follows S first us words at for answer.Left
@@ -514,6 +603,13 @@ release_follows S first us words at for told.Emptied = (tt, refl)
 release_follows S first us words at for (told.Buried number) = past_follows S first us words at for answer.Left
 release_follows S first us words at for told.Kept = past_follows S first us words at for answer.Left
 release_follows S first us words at for told.Freed = past_follows S first us words at for answer.Left
+release_follows S first us words at for told.Alive = past_follows S first us words at for answer.Left
+release_follows S first us words at for told.Dead = past_follows S first us words at for answer.Left
+release_follows S first us words at for (told.Raised owner number) = past_follows S first us words at for answer.Left
+release_follows S first us words at for (told.Noted owner number) = past_follows S first us words at for answer.Left
+release_follows S first us words at for told.Faded = past_follows S first us words at for answer.Left
+release_follows S first us words at for told.Closed = past_follows S first us words at for answer.Left
+release_follows S first us words at for told.Restored = past_follows S first us words at for answer.Left
 
 bury_follows : (S : Script) (first : List Record) (us : List Placed) (words : Zones) (at : ℕ) (for : Purpose) (event : WordEvent) → Follows S first us words (updates (phase.Bury at for)) (after (phase.Bury at for) event)
 bury_follows S first us words at for (told.Loaded owner number) = past_follows S first us words at for answer.Left
@@ -528,6 +624,17 @@ bury_follows S first us words at for told.Emptied = past_follows S first us word
 bury_follows S first us words at for (told.Buried number) = (tt, refl)
 bury_follows S first us words at for told.Kept = past_follows S first us words at for answer.Left
 bury_follows S first us words at for told.Freed = past_follows S first us words at for answer.Left
+bury_follows S first us words at for told.Alive = past_follows S first us words at for answer.Left
+bury_follows S first us words at for told.Dead = past_follows S first us words at for answer.Left
+bury_follows S first us words at for (told.Raised owner number) = past_follows S first us words at for answer.Left
+bury_follows S first us words at for (told.Noted owner number) = past_follows S first us words at for answer.Left
+bury_follows S first us words at for told.Faded = past_follows S first us words at for answer.Left
+bury_follows S first us words at for told.Closed = past_follows S first us words at for answer.Left
+bury_follows S first us words at for told.Restored = past_follows S first us words at for answer.Left
+
+fade_follows : (S : Script) (first : List Record) (us : List Placed) (words : Zones) (at : ℕ) (number : Option ℕ) (for : Purpose) (event : WordEvent) → Follows S first us words (updates (phase.Fade at number for)) (after (phase.Fade at number for) event)
+fade_follows S first us words at number for told.Closed = (tt, refl)
+fade_follows S first us words at number for event = past_follows S first us words at for (gone number)
 
 -- a step leaves the updates so far, and the versions that are published, as they were; or it is the swap of an update, which is the next
 abbrev pub Grown : Script → List Placed → List Placed → Zones → Zones → Phase → Type 0
@@ -549,6 +656,8 @@ none_now (phase.Settle keeping) apart = refl
 none_now (phase.Keep given keeping) apart = refl
 none_now (phase.Release owner for) apart = refl
 none_now (phase.Bury owner for) apart = refl
+none_now (phase.Fade owner number for) apart = refl
+none_now (phase.Reset owner number for) apart = refl
 none_now (phase.Free owner number for) apart = refl
 
 -- the words and the updates behind a step of a call, with what the call is about to publish
@@ -594,7 +703,9 @@ behind S first us words new (phase.Settle keeping) event m t c = behind_update S
 behind S first us words new (phase.Keep given keeping) event m t c = behind_update S first us words new (phase.Keep given keeping) event tt refl m t (keep_follows S first us new given keeping event)
 behind S first us words new (phase.Release at for) event m t c = behind_owner S first us words new (phase.Release at for) event tt m t (release_follows S first us new at for event)
 behind S first us words new (phase.Bury at for) event m t c = behind_owner S first us words new (phase.Bury at for) event tt m t (bury_follows S first us new at for event)
-behind S first us words new (phase.Free at number for) event m t c = behind_owner S first us words new (phase.Free at number for) event tt m t (past_follows S first us new at for (answer.Buried number))
+behind S first us words new (phase.Fade at number for) event m t c = behind_owner S first us words new (phase.Fade at number for) event tt m t (fade_follows S first us new at number for event)
+behind S first us words new (phase.Reset at number for) event m t c = behind_owner S first us words new (phase.Reset at number for) event tt m t (tt, refl)
+behind S first us words new (phase.Free at number for) event m t c = behind_owner S first us words new (phase.Free at number for) event tt m t (past_follows S first us new at for (gone number))
 
 -- each call under way is about to publish what the next update makes
 abbrev pub AllCoherent : Script → List Record → List Placed → Zones → List UnderWay → Type 0
@@ -718,6 +829,8 @@ coherent_on S top by first us words (phase.Settle keeping) more map c = tt
 coherent_on S top by first us words (phase.Keep given keeping) more map c = tt
 coherent_on S top by first us words (phase.Release owner for) more map c = tt
 coherent_on S top by first us words (phase.Bury owner for) more map c = tt
+coherent_on S top by first us words (phase.Fade owner number for) more map c = tt
+coherent_on S top by first us words (phase.Reset owner number for) more map c = tt
 coherent_on S top by first us words (phase.Free owner number for) more map c = tt
 
 pub all_on : (S : Script) (top : ℕ) (by : ℕ → Heading → Type 0) (first : List Record) (us : List Placed) (words : Zones) (calls : List UnderWay) → S.top ≤ top → ((place : ℕ) (head : Heading) → S.by place head → by place head) → AllCoherent S first us words calls → AllCoherent (moved S top by) first us words calls

@@ -8,16 +8,16 @@ use Rattle.std.specs.List.{list_any}
 use Rattle.std.proofs.lemmas.Bool.{cases_Bool, ltb-true}
 use Rattle.std.proofs.lemmas.Bool.Decides.{eqb_tells}
 use Rattle.std.proofs.lemmas.Option.{slice_get_within}
-use Rattle.cell_core.proofs.GoesOn.{release_goes_on, bury_goes_on, free_goes_on, probe_goes_on, prepare_goes_on, swap_goes_on, settle_goes_on}
+use Rattle.cell_core.proofs.GoesOn.{release_goes_on, bury_goes_on, free_goes_on, fade_goes_on, reset_goes_on, probe_goes_on, prepare_goes_on, swap_goes_on, settle_goes_on}
 use Rattle.cell_core.proofs.MadeLemmas.{makes_made}
 use Rattle.cell_core.proofs.SeatLemmas.{get_set_same, get_push_new}
 use Rattle.cell_core.proofs.StepShows.{step_shows}
 use Rattle.cell_core.specs.Cell.{Cell}
 use Rattle.cell_core.specs.Shows.{Shows, PublisherIs}
-use Rattle.cell_core.specs.Words.{State, slots, free_word, fetch_sub, slot_of, given_of}
+use Rattle.cell_core.specs.Words.{State, slots, free_word, fetch_sub, slot_of, given_of, fading_of}
 use Rattle.cell_core.specs.WordSteps.{Makes}
 use Rattle.cell_core.specs.declared.words.Owner.{Owner}
-use Rattle.cell_core.specs.declared.words.Owner.TheVariants.{Holding, Burying, Freeing, Spent}
+use Rattle.cell_core.specs.declared.words.Owner.TheVariants.{Holding, Twice, Weakly, Both, Burying, Fading, Resetting, Freeing, Spent}
 use Rattle.cell_core.specs.declared.words.Publisher.TheVariants.{Probing, Preparing, Swapping, Settling}
 use Rattle.cell_core.specs.declared.words.WordEvent.{WordEvent}
 use Rattle.cell_core.specs.declared.words.WordEvent.TheVariants as told
@@ -58,7 +58,7 @@ use Rattle.world_run.specs.declared.step.WorldReply.{WorldReply}
 use Rattle.world_run.specs.declared.step.WorldReply.TheVariants.{Answered, NotEnabled}
 use Rattle.world_run.specs.declared.step.WorldStep.{WorldStep}
 use Rattle.world_run.specs.declared.step.WorldStep.TheVariants.{Whole, Begin, Next}
-use Rattle.world_run.specs.Phases.{word_step, after, past, oldest_after, updates}
+use Rattle.world_run.specs.Phases.{word_step, after, past, gone, oldest_after, updates}
 use Rattle.world_run.specs.World.{World, owner_of, call_of, is_taken, zone_of, drop_start, ask_said, ask_start, is_held, publication_start, update_start, oldest_kept, start, answer_at, step_once, steps_up_to, most_steps, is_full, all_made, whole, begin, begin_under, stepped, next, turn}
 use Rattle.world_run.proofs.RunLemmas.{one_step}
 use Rattle.world_run.proofs.StepLemmas.{stays_there}
@@ -113,7 +113,7 @@ CanPass owner owners (purpose.Oldest head kept) = Unit {0}
 -- so many steps follow at most
 abbrev pub behind_owner : Purpose → ℕ
 behind_owner purpose.Drop = 0
-behind_owner (purpose.Publish keeping kept) = 3
+behind_owner (purpose.Publish keeping kept) = 5
 behind_owner (purpose.Oldest head kept) = 0
 
 held_set : (owner : ℕ) (owners : List Owner) (next : Owner) (oldest : Option ℕ) → HeldBeside owner owners oldest → HeldBeside owner (slice_set owners owner next) oldest
@@ -133,30 +133,69 @@ can_after words new owner next for is can = subst (λ o. CanPass owner o for) (s
 abbrev pub Passes : ℕ → Purpose → Type 0
 Passes owner for = (left : ℕ) (words : Zones) (cell : Cell Numbered) (given : Answer) → behind_owner for ≤ left → Shows words cell → CanPass owner words.owners for → EndsFrom left words (past for given)
 
-free_ends : (left : ℕ) (words : Zones) (cell : Cell Numbered) (owner number place : ℕ) (for : Purpose) → Passes owner for → 1 + behind_owner for ≤ left → Shows words cell → slice_get words.owners owner ≡ Some (Freeing place) → CanPass owner words.owners for
-    → IsDone (steps_up_to left words (phase.Free owner number for)).0
-free_ends left words cell owner number place for passes enough s seat can =
-    let has = free_goes_on words cell owner place s seat in
-    let shown = step_shows words has.1 (word.Free owner) has.0 cell s has.2 in
-    let (there_place, there, freed, found, told_is, new_is) = has.2 in
-    step_ends left words has.1 (phase.Free owner number for) (past for (answer.Buried number)) (omega (arith, enough)) (went words has.1 (phase.Free owner number for) has.0 _ has.2 refl)
-    (passes (left - 1) has.1 shown.0 (answer.Buried number) (omega (arith, enough)) shown.2 (can_after words has.1 owner Spent for (ap (λ (w : Zones). w.owners) new_is) can))
-
 -- an owner that has come further stands there
 seat_after : (words new : Zones) (owner : ℕ) (before next : Owner) → slice_get words.owners owner ≡ Some before → new.owners ≡ slice_set words.owners owner next → slice_get new.owners owner ≡ Some next
 seat_after words new owner before next seat is =
     ap (λ (o : List Owner). slice_get o owner) is ∙ get_set_same words.owners owner next (slice_get_within words.owners owner before seat)
 
-bury_done : (left : ℕ) (words new : Zones) (cell : Cell Numbered) (owner : ℕ) (for : Purpose) (event : WordEvent) → Passes owner for → 2 + behind_owner for ≤ left → Shows new cell → CanPass owner words.owners for → Makes words (word.Bury owner) event new → IsDone (steps_up_to left words (phase.Bury owner for)).0
+free_ends : (left : ℕ) (words : Zones) (cell : Cell Numbered) (owner place : ℕ) (number : Option ℕ) (for : Purpose) → Passes owner for → 1 + behind_owner for ≤ left → Shows words cell → slice_get words.owners owner ≡ Some (Freeing place) → CanPass owner words.owners for
+    → IsDone (steps_up_to left words (phase.Free owner number for)).0
+free_ends left words cell owner place number for passes enough s seat can =
+    let has = free_goes_on words cell owner place s seat in
+    let shown = step_shows words has.1 (word.Free owner) has.0 cell s has.2 in
+    let (there_place, there, freed, found, told_is, new_is) = has.2 in
+    step_ends left words has.1 (phase.Free owner number for) (past for (gone number)) (omega (arith, enough)) (went words has.1 (phase.Free owner number for) has.0 _ has.2 refl)
+    (passes (left - 1) has.1 shown.0 (gone number) (omega (arith, enough)) shown.2 (can_after words has.1 owner Spent for (ap (λ (w : Zones). w.owners) new_is) can))
+
+reset_ends : (left : ℕ) (words : Zones) (cell : Cell Numbered) (owner place : ℕ) (number : Option ℕ) (for : Purpose) → Passes owner for → 2 + behind_owner for ≤ left → Shows words cell → slice_get words.owners owner ≡ Some (Resetting place) → CanPass owner words.owners for
+    → IsDone (steps_up_to left words (phase.Reset owner number for)).0
+reset_ends left words cell owner place number for passes enough s seat can =
+    let has = reset_goes_on words cell owner place s seat in
+    let shown = step_shows words has.1 (word.Reset owner) has.0 cell s has.2 in
+    let (there_place, there, resets, found, told_is, new_is) = has.2 in
+    let owners_is : has.1.owners ≡ slice_set words.owners owner (Freeing there_place) = ap (λ (w : Zones). w.owners) new_is in
+    let next_seat = seat_after words has.1 owner (Resetting place) (Freeing there_place) seat owners_is in
+    on_by left words has.1 (phase.Reset owner number for) (phase.Free owner number for) (omega (arith, enough)) (went words has.1 (phase.Reset owner number for) has.0 _ has.2 refl)
+    (free_ends (left - 1) has.1 shown.0 owner there_place number for passes (omega (arith, enough)) shown.2 next_seat (can_after words has.1 owner (Freeing there_place) for owners_is can))
+
+fade_done : (left : ℕ) (words new : Zones) (cell : Cell Numbered) (owner : ℕ) (how : Owner) (number : Option ℕ) (for : Purpose) (event : WordEvent) → Passes owner for → 3 + behind_owner for ≤ left → Shows new cell → slice_get words.owners owner ≡ Some how → CanPass owner words.owners for
+    → Makes words (word.Fade owner) event new → IsDone (steps_up_to left words (phase.Fade owner number for)).0
+fade_done left words new cell owner how number for event passes enough s seat can (place, there, fades, found, m) =
+    elim (cases_Bool (fetch_sub there.weak 1 == 0)) [
+      | inl none ↦ (
+          let h = rw none at m in
+          let made_here : Makes words (word.Fade owner) told.Closed new = (place, there, fades, found, rw none (refl, h.1)) in
+          let owners_is : new.owners ≡ slice_set words.owners owner (Resetting place) = ap (λ (w : Zones). w.owners) h.1 in
+          let next_seat = seat_after words new owner how (Resetting place) seat owners_is in
+          on_by left words new (phase.Fade owner number for) (phase.Reset owner number for) (omega (arith, enough)) (went words new (phase.Fade owner number for) told.Closed _ made_here refl)
+          (reset_ends (left - 1) new cell owner place number for passes (omega (arith, enough)) s next_seat (can_after words new owner (Resetting place) for owners_is can))
+          )
+      | inr some ↦ (
+          let h = rw some at m in
+          let made_here : Makes words (word.Fade owner) told.Faded new = (place, there, fades, found, rw some (refl, h.1)) in
+          let owners_is : new.owners ≡ slice_set words.owners owner Spent = ap (λ (w : Zones). w.owners) h.1 in
+          step_ends left words new (phase.Fade owner number for) (past for (gone number)) (omega (arith, enough)) (went words new (phase.Fade owner number for) told.Faded _ made_here refl)
+          (passes (left - 1) new cell (gone number) (omega (arith, enough)) s (can_after words new owner Spent for owners_is can))
+          )
+    ]
+
+fade_ends : (left : ℕ) (words : Zones) (cell : Cell Numbered) (owner place : ℕ) (how : Owner) (number : Option ℕ) (for : Purpose) → Passes owner for → 3 + behind_owner for ≤ left → Shows words cell → slice_get words.owners owner ≡ Some how → fading_of how ≡ Some place → CanPass owner words.owners for
+    → IsDone (steps_up_to left words (phase.Fade owner number for)).0
+fade_ends left words cell owner place how number for passes enough s seat fades can =
+    let has = fade_goes_on words cell owner place s (ap (option_and_then fading_of) seat ∙ fades) in
+    let shown = step_shows words has.1 (word.Fade owner) has.0 cell s has.2 in
+    fade_done left words has.1 shown.0 owner how number for has.0 passes enough shown.2 seat can has.2
+
+bury_done : (left : ℕ) (words new : Zones) (cell : Cell Numbered) (owner : ℕ) (for : Purpose) (event : WordEvent) → Passes owner for → 4 + behind_owner for ≤ left → Shows new cell → CanPass owner words.owners for → Makes words (word.Bury owner) event new → IsDone (steps_up_to left words (phase.Bury owner for)).0
 bury_done left words new cell owner for event passes enough s can (place, there, seat, found, m) =
     elim (cases_Bool (there.shares == 0)) [
       | inl none ↦ (
           let h = rw none at m in
           let made_here : Makes words (word.Bury owner) (told.Buried h.0) new = (place, there, seat, found, rw none (h.0, h.1, refl, h.3)) in
-          let owners_is : new.owners ≡ slice_set words.owners owner (Freeing place) = ap (λ (w : Zones). w.owners) h.3 in
-          let next_seat = seat_after words new owner (Burying place) (Freeing place) seat owners_is in
-          on_by left words new (phase.Bury owner for) (phase.Free owner h.0 for) (omega (arith, enough)) (went words new (phase.Bury owner for) (told.Buried h.0) _ made_here refl)
-          (free_ends (left - 1) new cell owner h.0 place for passes (omega (arith, enough)) s next_seat (can_after words new owner (Freeing place) for owners_is can))
+          let owners_is : new.owners ≡ slice_set words.owners owner (Fading place) = ap (λ (w : Zones). w.owners) h.3 in
+          let next_seat = seat_after words new owner (Burying place) (Fading place) seat owners_is in
+          on_by left words new (phase.Bury owner for) (phase.Fade owner (Some h.0) for) (omega (arith, enough)) (went words new (phase.Bury owner for) (told.Buried h.0) _ made_here refl)
+          (fade_ends (left - 1) new cell owner place (Fading place) (Some h.0) for passes (omega (arith, enough)) s next_seat refl (can_after words new owner (Fading place) for owners_is can))
           )
       | inr some ↦ (
           let h = rw some at m in
@@ -167,13 +206,13 @@ bury_done left words new cell owner for event passes enough s can (place, there,
           )
     ]
 
-bury_ends : (left : ℕ) (words : Zones) (cell : Cell Numbered) (owner place : ℕ) (for : Purpose) → Passes owner for → 2 + behind_owner for ≤ left → Shows words cell → slice_get words.owners owner ≡ Some (Burying place) → CanPass owner words.owners for → IsDone (steps_up_to left words (phase.Bury owner for)).0
+bury_ends : (left : ℕ) (words : Zones) (cell : Cell Numbered) (owner place : ℕ) (for : Purpose) → Passes owner for → 4 + behind_owner for ≤ left → Shows words cell → slice_get words.owners owner ≡ Some (Burying place) → CanPass owner words.owners for → IsDone (steps_up_to left words (phase.Bury owner for)).0
 bury_ends left words cell owner place for passes enough s seat can =
     let has = bury_goes_on words cell owner place s seat in
     let shown = step_shows words has.1 (word.Bury owner) has.0 cell s has.2 in
     bury_done left words has.1 shown.0 owner for has.0 passes enough shown.2 can has.2
 
-release_done : (left : ℕ) (words new : Zones) (cell : Cell Numbered) (owner : ℕ) (for : Purpose) (event : WordEvent) → Passes owner for → 3 + behind_owner for ≤ left → Shows new cell → CanPass owner words.owners for → Makes words (word.Release owner) event new → IsDone (steps_up_to left words (phase.Release owner for)).0
+release_done : (left : ℕ) (words new : Zones) (cell : Cell Numbered) (owner : ℕ) (for : Purpose) (event : WordEvent) → Passes owner for → 5 + behind_owner for ≤ left → Shows new cell → CanPass owner words.owners for → Makes words (word.Release owner) event new → IsDone (steps_up_to left words (phase.Release owner for)).0
 release_done left words new cell owner for event passes enough s can (number, place, there, seat, found, m) =
     elim (cases_Bool (fetch_sub there.shares 1 == 0)) [
       | inl none ↦ (
@@ -193,7 +232,7 @@ release_done left words new cell owner for event passes enough s can (number, pl
           )
     ]
 
-release_ends : (left : ℕ) (words : Zones) (cell : Cell Numbered) (owner number place : ℕ) (for : Purpose) → Passes owner for → 3 + behind_owner for ≤ left → Shows words cell → slice_get words.owners owner ≡ Some (Holding number place) → CanPass owner words.owners for
+release_ends : (left : ℕ) (words : Zones) (cell : Cell Numbered) (owner number place : ℕ) (for : Purpose) → Passes owner for → 5 + behind_owner for ≤ left → Shows words cell → slice_get words.owners owner ≡ Some (Holding number place) → CanPass owner words.owners for
     → IsDone (steps_up_to left words (phase.Release owner for)).0
 release_ends left words cell owner number place for passes enough s seat can =
     let has = release_goes_on words cell owner number place s seat in
@@ -206,7 +245,7 @@ drop_passes owner left words cell given enough s can = tt
 oldest_passes : (owner : ℕ) (head : Heading) (kept : ℕ) → Passes owner (purpose.Oldest head kept)
 oldest_passes owner head kept left words cell given enough s can = tt
 
-past_oldest : (owner : ℕ) (head : Heading) (kept left : ℕ) (words : Zones) (cell : Cell Numbered) (oldest : Option ℕ) → 3 ≤ left → Shows words cell → HeldBeside owner words.owners oldest → EndsFrom left words (oldest_after head kept oldest)
+past_oldest : (owner : ℕ) (head : Heading) (kept left : ℕ) (words : Zones) (cell : Cell Numbered) (oldest : Option ℕ) → 5 ≤ left → Shows words cell → HeldBeside owner words.owners oldest → EndsFrom left words (oldest_after head kept oldest)
 past_oldest owner head kept left words cell None enough s held = tt
 past_oldest owner head kept left words cell (Some oldest) enough s held =
     release_ends left words cell oldest held.1 held.2 (purpose.Oldest head kept) (oldest_passes oldest head kept) enough s held.3 tt
@@ -239,7 +278,7 @@ held_push : (owner : ℕ) (owners : List Owner) (one : Owner) (oldest : Option �
 held_push owner owners one None held = tt
 held_push owner owners one (Some oldest) held = (held.0, held.1, held.2, get_push_old owners one (Holding held.1 held.2) oldest held.3)
 
-keep_ends : (left : ℕ) (words : Zones) (cell : Cell Numbered) (given number place : ℕ) (keeping : Keeping) → 7 ≤ left → Shows words cell → words.granted < grants → slice_get words.owners given ≡ Some (Holding number place) → HeldBeside given words.owners keeping.oldest
+keep_ends : (left : ℕ) (words : Zones) (cell : Cell Numbered) (given number place : ℕ) (keeping : Keeping) → 11 ≤ left → Shows words cell → words.granted < grants → slice_get words.owners given ≡ Some (Holding number place) → HeldBeside given words.owners keeping.oldest
     → IsDone (steps_up_to left words (phase.Keep given keeping)).0
 keep_ends left words cell given number place keeping enough s few seat held =
     let has = load_goes_on words cell s few in
@@ -253,7 +292,7 @@ keep_ends left words cell given number place keeping enough s few seat held =
     on_by left words has.1 (phase.Keep given keeping) (phase.Release given (purpose.Publish keeping (length words.owners))) (omega (arith, enough)) (went words has.1 (phase.Keep given keeping) (told.Loaded (length words.owners) last) _ made_here refl)
     (release_ends (left - 1) has.1 shown.0 given number place (purpose.Publish keeping (length words.owners)) (publish_passes given keeping (length words.owners)) (omega (arith, enough)) shown.2 still beside)
 
-settle_done : (left : ℕ) (words new : Zones) (cell : Cell Numbered) (keeping : Keeping) (event : WordEvent) → 8 ≤ left → Shows new cell → CanEnd words keeping → Makes words word.Settle event new → IsDone (steps_up_to left words (phase.Settle keeping)).0
+settle_done : (left : ℕ) (words new : Zones) (cell : Cell Numbered) (keeping : Keeping) (event : WordEvent) → 12 ≤ left → Shows new cell → CanEnd words keeping → Makes words word.Settle event new → IsDone (steps_up_to left words (phase.Settle keeping)).0
 settle_done left words new cell keeping event enough s can (number, place, given, there, is, found, told_is, new_is) =
     let made_here : Makes words word.Settle (told.Settled (length words.owners) number) new = (number, place, given, there, is, found, refl, new_is) in
     let owners_is : new.owners ≡ words.owners ++ Holding number place ∷ [] = ap (λ (w : Zones). w.owners) new_is in
@@ -263,7 +302,7 @@ settle_done left words new cell keeping event enough s can (number, place, given
     on_by left words new (phase.Settle keeping) (phase.Keep (length words.owners) keeping) (omega (arith, enough)) (went words new (phase.Settle keeping) (told.Settled (length words.owners) number) _ made_here refl)
     (keep_ends (left - 1) new cell (length words.owners) number place keeping (omega (arith, enough)) s (subst (λ n. n < grants) (sym granted_is) can.shares) seat beside)
 
-swap_done : (left : ℕ) (words new : Zones) (cell : Cell Numbered) (keeping : Keeping) (event : WordEvent) → 9 ≤ left → Shows new cell → CanEnd words keeping → Makes words word.Swap event new → IsDone (steps_up_to left words (phase.Swap keeping)).0
+swap_done : (left : ℕ) (words new : Zones) (cell : Cell Numbered) (keeping : Keeping) (event : WordEvent) → 13 ≤ left → Shows new cell → CanEnd words keeping → Makes words word.Swap event new → IsDone (steps_up_to left words (phase.Swap keeping)).0
 swap_done left words new cell keeping event enough s can (place, last, is, within, number, told_is, new_is) =
     let at : new.publisher ≡ Settling last (slot_of words.latest) (given_of words.latest) = ap (λ (w : Zones). w.publisher) new_is in
     let has = settle_goes_on new cell last (slot_of words.latest) (given_of words.latest) s at in
@@ -272,7 +311,7 @@ swap_done left words new cell keeping event enough s can (place, last, is, withi
     on_by left words new (phase.Swap keeping) (phase.Settle keeping) (omega (arith, enough)) (went words new (phase.Swap keeping) event _ (place, last, is, within, number, told_is, new_is) refl)
     (settle_done (left - 1) new has.1 shown.0 keeping has.0 (omega (arith, enough)) shown.2 still has.2)
 
-prepare_done : (left : ℕ) (words new : Zones) (cell : Cell Numbered) (version : Numbered) (keeping : Keeping) (event : WordEvent) → 10 ≤ left → Shows new cell → CanEnd words keeping → Makes words (word.Prepare version) event new → IsDone (steps_up_to left words (phase.Prepare version keeping)).0
+prepare_done : (left : ℕ) (words new : Zones) (cell : Cell Numbered) (version : Numbered) (keeping : Keeping) (event : WordEvent) → 14 ≤ left → Shows new cell → CanEnd words keeping → Makes words (word.Prepare version) event new → IsDone (steps_up_to left words (phase.Prepare version keeping)).0
 prepare_done left words new cell version keeping event enough s can (place, there, last, is, found, number, fits, told_is, new_is) =
     let at : new.publisher ≡ Swapping place = ap (λ (w : Zones). w.publisher) new_is in
     let has = swap_goes_on new cell place s at in
@@ -281,7 +320,7 @@ prepare_done left words new cell version keeping event enough s can (place, ther
     on_by left words new (phase.Prepare version keeping) (phase.Swap keeping) (omega (arith, enough)) (went words new (phase.Prepare version keeping) event _ (place, there, last, is, found, number, fits, told_is, new_is) refl)
     (swap_done (left - 1) new has.1 shown.0 keeping has.0 (omega (arith, enough)) shown.2 still has.2)
 
-prepare_ends : (left : ℕ) (words : Zones) (cell : Cell Numbered) (version : Numbered) (keeping : Keeping) (place : ℕ) → 10 ≤ left → Shows words cell → CanEnd words keeping → length cell.published < 2 ^ 64 → words.publisher ≡ Preparing place → IsDone (steps_up_to left words (phase.Prepare version keeping)).0
+prepare_ends : (left : ℕ) (words : Zones) (cell : Cell Numbered) (version : Numbered) (keeping : Keeping) (place : ℕ) → 14 ≤ left → Shows words cell → CanEnd words keeping → length cell.published < 2 ^ 64 → words.publisher ≡ Preparing place → IsDone (steps_up_to left words (phase.Prepare version keeping)).0
 prepare_ends left words cell version keeping place enough s can few at =
     let has = prepare_goes_on words cell place version s at few in
     let shown = step_shows words has.1 (word.Prepare version) has.0 cell s has.2 in
@@ -291,8 +330,8 @@ prepare_ends left words cell version keeping place enough s can few at =
 publisher_after : (new : Zones) (state : Zones) → new ≡ state → new.publisher ≡ state.publisher
 publisher_after new state e = ap (λ (w : Zones). w.publisher) e
 
-probe_done : (left : ℕ) (words new : Zones) (cell : Cell Numbered) (version : Numbered) (keeping : Keeping) (place : ℕ) (event : WordEvent) → 10 + (64 - place) ≤ left → place < slots → Shows new cell → CanEnd words keeping → length cell.published < 2 ^ 64 → words.publisher ≡ Probing place
-    → Makes words word.Probe event new → ((next : ℕ) → new.publisher ≡ Probing next → CanEnd new keeping → 10 + (64 - next) ≤ left - 1 → IsDone (steps_up_to (left - 1) new (phase.Probe version keeping)).0) → IsDone (steps_up_to left words (phase.Probe version keeping)).0
+probe_done : (left : ℕ) (words new : Zones) (cell : Cell Numbered) (version : Numbered) (keeping : Keeping) (place : ℕ) (event : WordEvent) → 14 + (64 - place) ≤ left → place < slots → Shows new cell → CanEnd words keeping → length cell.published < 2 ^ 64 → words.publisher ≡ Probing place
+    → Makes words word.Probe event new → ((next : ℕ) → new.publisher ≡ Probing next → CanEnd new keeping → 14 + (64 - next) ≤ left - 1 → IsDone (steps_up_to (left - 1) new (phase.Probe version keeping)).0) → IsDone (steps_up_to left words (phase.Probe version keeping)).0
 probe_done left words new cell version keeping place event enough within s can few at (seen, there, is, found, m) goes =
     let same : seen ≡ place = (let e : Probing seen ≡ Probing place = sym is ∙ at in cc) in
     elim (cases_Bool (there.shares == free_word)) [
@@ -322,7 +361,7 @@ probe_done left words new cell version keeping place event enough within s can f
 probing_within : (words : Zones) (cell : Cell Numbered) (place : ℕ) → Shows words cell → words.publisher ≡ Probing place → place < slots
 probing_within words cell place s at = subst (λ p. PublisherIs cell s.plan words.granted p) at s.publisher_is
 
-probe_ends : (left : ℕ) (words : Zones) (cell : Cell Numbered) (version : Numbered) (keeping : Keeping) (place : ℕ) → 10 + (64 - place) ≤ left → Shows words cell → CanEnd words keeping → length cell.published < 2 ^ 64 → words.publisher ≡ Probing place → IsDone (steps_up_to left words (phase.Probe version keeping)).0
+probe_ends : (left : ℕ) (words : Zones) (cell : Cell Numbered) (version : Numbered) (keeping : Keeping) (place : ℕ) → 14 + (64 - place) ≤ left → Shows words cell → CanEnd words keeping → length cell.published < 2 ^ 64 → words.publisher ≡ Probing place → IsDone (steps_up_to left words (phase.Probe version keeping)).0
 probe_ends zero words cell version keeping place enough s can few at = absurd (omega (arith, enough))
 probe_ends (suc left) words cell version keeping place enough s can few at =
     let has = probe_goes_on words cell place s at in
@@ -354,6 +393,8 @@ IsFirst words (phase.Swap keeping) = ⊥
 IsFirst words (phase.Settle keeping) = ⊥
 IsFirst words (phase.Keep given keeping) = ⊥
 IsFirst words (phase.Bury owner for) = ⊥
+IsFirst words (phase.Fade owner number for) = ⊥
+IsFirst words (phase.Reset owner number for) = ⊥
 IsFirst words (phase.Free owner number for) = ⊥
 
 -- it begins with a probe
@@ -366,6 +407,8 @@ IsProbe (phase.Settle keeping) = ⊥
 IsProbe (phase.Keep given keeping) = ⊥
 IsProbe (phase.Release owner for) = ⊥
 IsProbe (phase.Bury owner for) = ⊥
+IsProbe (phase.Fade owner number for) = ⊥
+IsProbe (phase.Reset owner number for) = ⊥
 IsProbe (phase.Free owner number for) = ⊥
 
 load_done : (left : ℕ) (words new : Zones) (name : List ℕ) (event : WordEvent) → 1 ≤ left → Makes words word.Load event new → IsDone (steps_up_to left words (phase.Load name)).0
@@ -384,6 +427,8 @@ first_done words new cell (phase.Swap keeping) event is s few m = absurd is
 first_done words new cell (phase.Settle keeping) event is s few m = absurd is
 first_done words new cell (phase.Keep given keeping) event is s few m = absurd is
 first_done words new cell (phase.Bury owner for) event is s few m = absurd is
+first_done words new cell (phase.Fade owner number for) event is s few m = absurd is
+first_done words new cell (phase.Reset owner number for) event is s few m = absurd is
 first_done words new cell (phase.Free owner number for) event is s few m = absurd is
 
 pub first_by : (words : Zones) (cell : Cell Numbered) (at : Phase) (o : Option (Progress × Zones)) → step_once words at ≡ o → IsFirst words at → Shows words cell → (IsProbe at → length cell.published < 2 ^ 64) → Unchanged words (steps_up_to most_steps words at)
@@ -437,6 +482,11 @@ holding_by : (words : Zones) (owner : ℕ) (o : Option Owner) → slice_get word
 holding_by words owner None e found = absurd (let wrong = found in cc)
 holding_by words owner (Some (Holding number place)) e found = (number, place, e)
 holding_by words owner (Some (Burying place)) e found = absurd (let wrong = found in cc)
+holding_by words owner (Some (Twice number place)) e found = absurd (let wrong = found in cc)
+holding_by words owner (Some (Weakly number place)) e found = absurd (let wrong = found in cc)
+holding_by words owner (Some (Both number place)) e found = absurd (let wrong = found in cc)
+holding_by words owner (Some (Fading place)) e found = absurd (let wrong = found in cc)
+holding_by words owner (Some (Resetting place)) e found = absurd (let wrong = found in cc)
 holding_by words owner (Some (Freeing place)) e found = absurd (let wrong = found in cc)
 holding_by words owner (Some Spent) e found = absurd (let wrong = found in cc)
 

@@ -223,8 +223,14 @@ same_phase (phase.Release owner (purpose.Oldest head kept)) one two from first e
 same_phase (phase.Bury owner purpose.Drop) one two from first e = refl
 same_phase (phase.Bury owner (purpose.Publish keeping kept)) one two from first e = absurd (let wrong = e in cc)
 same_phase (phase.Bury owner (purpose.Oldest head kept)) one two from first e = absurd (let wrong = e in cc)
+same_phase (phase.Fade owner number purpose.Drop) one two from first e = refl
+same_phase (phase.Reset owner number purpose.Drop) one two from first e = refl
 same_phase (phase.Free owner number purpose.Drop) one two from first e = refl
+same_phase (phase.Fade owner number (purpose.Publish keeping kept)) one two from first e = absurd (let wrong = e in cc)
+same_phase (phase.Reset owner number (purpose.Publish keeping kept)) one two from first e = absurd (let wrong = e in cc)
 same_phase (phase.Free owner number (purpose.Publish keeping kept)) one two from first e = absurd (let wrong = e in cc)
+same_phase (phase.Fade owner number (purpose.Oldest head kept)) one two from first e = absurd (let wrong = e in cc)
+same_phase (phase.Reset owner number (purpose.Oldest head kept)) one two from first e = absurd (let wrong = e in cc)
 same_phase (phase.Free owner number (purpose.Oldest head kept)) one two from first e = absurd (let wrong = e in cc)
 
 old_phase : (at : Phase) (oldest : Option ℕ) → updates at ≡ false → OldestIn oldest at
@@ -240,8 +246,14 @@ old_phase (phase.Release owner (purpose.Oldest head kept)) oldest e = tt
 old_phase (phase.Bury owner purpose.Drop) oldest e = tt
 old_phase (phase.Bury owner (purpose.Publish keeping kept)) oldest e = absurd (let wrong = e in cc)
 old_phase (phase.Bury owner (purpose.Oldest head kept)) oldest e = tt
+old_phase (phase.Fade owner number purpose.Drop) oldest e = tt
+old_phase (phase.Reset owner number purpose.Drop) oldest e = tt
 old_phase (phase.Free owner number purpose.Drop) oldest e = tt
+old_phase (phase.Fade owner number (purpose.Publish keeping kept)) oldest e = absurd (let wrong = e in cc)
+old_phase (phase.Reset owner number (purpose.Publish keeping kept)) oldest e = absurd (let wrong = e in cc)
 old_phase (phase.Free owner number (purpose.Publish keeping kept)) oldest e = absurd (let wrong = e in cc)
+old_phase (phase.Fade owner number (purpose.Oldest head kept)) oldest e = tt
+old_phase (phase.Reset owner number (purpose.Oldest head kept)) oldest e = tt
 old_phase (phase.Free owner number (purpose.Oldest head kept)) oldest e = tt
 
 or_false : (a b : Bool) → (a || b) ≡ false → (a ≡ false) × (b ≡ false)
@@ -273,6 +285,8 @@ no_swaps_phase (phase.Settle keeping) e = absurd (let wrong = e in cc)
 no_swaps_phase (phase.Keep given keeping) e = absurd (let wrong = e in cc)
 no_swaps_phase (phase.Release owner for) e = no_swaps_for for e
 no_swaps_phase (phase.Bury owner for) e = no_swaps_for for e
+no_swaps_phase (phase.Fade owner number for) e = no_swaps_for for e
+no_swaps_phase (phase.Reset owner number for) e = no_swaps_for for e
 no_swaps_phase (phase.Free owner number for) e = no_swaps_for for e
 
 pub no_swaps : (calls : List UnderWay) → any_update calls ≡ false → swaps_of calls ≡ 0

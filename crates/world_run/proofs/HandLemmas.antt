@@ -7,13 +7,15 @@ use Rattle.std.proofs.lemmas.Option.{slice_get_within}
 use Rattle.cell_core.proofs.CountLemmas.{one_if}
 use Rattle.cell_core.proofs.SeatLemmas.{get_set_same, get_set_other, get_push_old, get_push_new}
 use Rattle.cell_core.specs.declared.words.Owner.{Owner}
-use Rattle.cell_core.specs.declared.words.Owner.TheVariants.{Holding, Burying, Freeing, Spent}
+use Rattle.cell_core.specs.declared.words.Owner.TheVariants.{Holding, Twice, Weakly, Both, Burying, Fading, Resetting, Freeing, Spent}
 
--- what an owner in hand is: it holds a version, or that of a number; it is to bury, or to free
+-- what an owner in hand is: it holds a version, or that of a number; it is to bury, to fade, to reset, or to free
 pub data Hand : Type 0 where
   holds : Hand
   has : ℕ → Hand
   buries : Hand
+  fades : Hand
+  resets : Hand
   frees : Hand
 
 pub record Seat : Type 0 where
@@ -24,6 +26,8 @@ abbrev pub HandIs : List Owner → ℕ → Hand → Type 0
 HandIs owners owner holds = (number : ℕ) × (place : ℕ) × (slice_get owners owner ≡ Some (Holding number place))
 HandIs owners owner (has number) = (place : ℕ) × (slice_get owners owner ≡ Some (Holding number place))
 HandIs owners owner buries = (place : ℕ) × (slice_get owners owner ≡ Some (Burying place))
+HandIs owners owner fades = (place : ℕ) × (slice_get owners owner ≡ Some (Fading place))
+HandIs owners owner resets = (place : ℕ) × (slice_get owners owner ≡ Some (Resetting place))
 HandIs owners owner frees = (place : ℕ) × (slice_get owners owner ≡ Some (Freeing place))
 
 abbrev pub AllFit : List Owner → List Seat → Type 0
@@ -40,6 +44,11 @@ abbrev pub lives : Option Owner → ℕ
 lives None = 0
 lives (Some (Holding number place)) = 1
 lives (Some (Burying place)) = 1
+lives (Some (Twice number place)) = 1
+lives (Some (Weakly number place)) = 1
+lives (Some (Both number place)) = 1
+lives (Some (Fading place)) = 1
+lives (Some (Resetting place)) = 1
 lives (Some (Freeing place)) = 1
 lives (Some Spent) = 0
 
@@ -73,6 +82,8 @@ hand_still : (old new : List Owner) (owner : ℕ) (hand : Hand) → ((how : Owne
 hand_still old new owner holds same h = (h.0, h.1, same (Holding h.0 h.1) h.2)
 hand_still old new owner (has number) same h = (h.0, same (Holding number h.0) h.1)
 hand_still old new owner buries same h = (h.0, same (Burying h.0) h.1)
+hand_still old new owner fades same h = (h.0, same (Fading h.0) h.1)
+hand_still old new owner resets same h = (h.0, same (Resetting h.0) h.1)
 hand_still old new owner frees same h = (h.0, same (Freeing h.0) h.1)
 
 self_equal : (i : ℕ) → one_if (i == i) ≡ 1

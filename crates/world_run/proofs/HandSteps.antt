@@ -6,7 +6,7 @@ use Rattle.std.proofs.lemmas.Bool.{cases_Bool}
 use Rattle.cell_core.proofs.CountLemmas.{one_if}
 use Rattle.cell_core.specs.Words.{State, slots, free_word, fetch_sub, slot_of, number_in}
 use Rattle.cell_core.specs.WordSteps.{Makes}
-use Rattle.cell_core.specs.declared.words.Owner.TheVariants.{Holding, Burying, Freeing}
+use Rattle.cell_core.specs.declared.words.Owner.TheVariants.{Holding, Burying, Fading, Resetting, Freeing}
 use Rattle.cell_core.specs.declared.words.Publisher.TheVariants.{Probing}
 use Rattle.cell_core.specs.declared.words.WordEvent.{WordEvent}
 use Rattle.cell_core.specs.declared.words.WordStep.TheVariants as word
@@ -22,9 +22,9 @@ use Rattle.world_run.specs.declared.phase.Progress.TheVariants.{On, Done}
 use Rattle.world_run.specs.declared.step.Answer.{Answer}
 use Rattle.world_run.specs.declared.step.Answer.TheVariants as answer
 use Rattle.zone_tree.specs.Version.{Version as Numbered}
-use Rattle.world_run.specs.Phases.{word_step, after, past, oldest_after, reserves, is_for_update, updates}
+use Rattle.world_run.specs.Phases.{word_step, after, past, gone, oldest_after, reserves, is_for_update, updates}
 use Rattle.world_run.proofs.HandLemmas.{Hand, Seat, Seated, seated_push, push_there, seated_spent, seated_next, seated_swap, seated_where}
-use Rattle.world_run.proofs.HandLemmas.Hand.{holds, has, buries, frees}
+use Rattle.world_run.proofs.HandLemmas.Hand.{holds, has, buries, fades, resets, frees}
 
 abbrev pub Zones : Type 0
 Zones = State Numbered
@@ -51,6 +51,8 @@ phase_seats last before (phase.Settle keeping) = oldest_seats before keeping.old
 phase_seats last before (phase.Keep given keeping) = seat given holds ∷ oldest_seats before keeping.oldest
 phase_seats last before (phase.Release owner for) = seat owner holds ∷ for_seats last before for
 phase_seats last before (phase.Bury owner for) = seat owner buries ∷ for_seats last before for
+phase_seats last before (phase.Fade owner number for) = seat owner fades ∷ for_seats last before for
+phase_seats last before (phase.Reset owner number for) = seat owner resets ∷ for_seats last before for
 phase_seats last before (phase.Free owner number for) = seat owner frees ∷ for_seats last before for
 
 abbrev pub end_seats : ℕ → ℕ → Option ℕ → End → List Seat
@@ -78,6 +80,8 @@ OldestIn oldest (phase.Settle keeping) = keeping.oldest ≡ oldest
 OldestIn oldest (phase.Keep given keeping) = keeping.oldest ≡ oldest
 OldestIn oldest (phase.Release owner for) = OldestFor oldest for
 OldestIn oldest (phase.Bury owner for) = OldestFor oldest for
+OldestIn oldest (phase.Fade owner number for) = OldestFor oldest for
+OldestIn oldest (phase.Reset owner number for) = OldestFor oldest for
 OldestIn oldest (phase.Free owner number for) = OldestFor oldest for
 
 abbrev pub OldestAt : Option ℕ → Progress → Type 0
@@ -99,6 +103,8 @@ swapped_in (phase.Settle keeping) = 1
 swapped_in (phase.Keep given keeping) = 1
 swapped_in (phase.Release owner for) = swapped_for for
 swapped_in (phase.Bury owner for) = swapped_for for
+swapped_in (phase.Fade owner number for) = swapped_for for
+swapped_in (phase.Reset owner number for) = swapped_for for
 swapped_in (phase.Free owner number for) = swapped_for for
 
 abbrev pub swapped_at : Progress → ℕ
@@ -118,6 +124,8 @@ swaps_now (phase.Settle keeping) = 0
 swaps_now (phase.Keep given keeping) = 0
 swaps_now (phase.Release owner for) = 0
 swaps_now (phase.Bury owner for) = 0
+swaps_now (phase.Fade owner number for) = 0
+swaps_now (phase.Reset owner number for) = 0
 swaps_now (phase.Free owner number for) = 0
 
 -- whether a call takes the publisher's steps
@@ -130,6 +138,8 @@ publishes_in (phase.Settle keeping) = true
 publishes_in (phase.Keep given keeping) = false
 publishes_in (phase.Release owner for) = false
 publishes_in (phase.Bury owner for) = false
+publishes_in (phase.Fade owner number for) = false
+publishes_in (phase.Reset owner number for) = false
 publishes_in (phase.Free owner number for) = false
 
 abbrev pub publishes_at : Progress → Bool
@@ -237,7 +247,7 @@ bury_went old new owner for event last before oldest rest is (place, there, at, 
           let h = rw none at m in
           let owners_are = ap (λ (w : Zones). w.owners) h.3 in
           subst (λ e. Went old new (phase.Bury owner for) (after (phase.Bury owner for) e) last before oldest rest) (sym h.2) (record {
-            seated = seated_next old.owners new.owners owner buries frees (for_seats last before for ++ rest) (Burying place) (Freeing place) refl refl at owners_are (λ e. (place, e)) s;
+            seated = seated_next old.owners new.owners owner buries fades (for_seats last before for ++ rest) (Burying place) (Fading place) refl refl at owners_are (λ e. (place, e)) s;
             still = is;
             swapped = omega arith;
             publisher = λ e. ((λ t. absurd (no_false t)), (λ t. ap (λ (w : Zones). w.publisher) h.3));
@@ -254,11 +264,51 @@ bury_went old new owner for event last before oldest rest is (place, there, at, 
           )
     ]
 
-free_went : (old new : Zones) (owner number : ℕ) (for : Purpose) (event : WordEvent) (last before : ℕ) (oldest : Option ℕ) (rest : List Seat) → Makes {T = Numbered} old (word.Free owner) event new → Seated old.owners (seat owner frees ∷ (for_seats last before for ++ rest))
+-- who buried fades, and the last one is to reset
+fade_went : (old new : Zones) (owner : ℕ) (number : Option ℕ) (for : Purpose) (event : WordEvent) (last before : ℕ) (oldest : Option ℕ) (rest : List Seat) → OldestFor oldest for → Makes {T = Numbered} old (word.Fade owner) event new → Seated old.owners (seat owner fades ∷ (for_seats last before for ++ rest))
+    → Went old new (phase.Fade owner number for) (after (phase.Fade owner number for) event) last before oldest rest
+fade_went old new owner number for event last before oldest rest is (place, there, fades_at, found, m) s =
+    let seat_is = s.fit.0 in
+    elim (cases_Bool (fetch_sub there.weak 1 == 0)) [
+      | inl none ↦ (
+          let h = rw none at m in
+          let owners_are = ap (λ (w : Zones). w.owners) h.1 in
+          subst (λ e. Went old new (phase.Fade owner number for) (after (phase.Fade owner number for) e) last before oldest rest) (sym h.0) (record {
+            seated = seated_next old.owners new.owners owner fades resets (for_seats last before for ++ rest) (Fading seat_is.0) (Resetting place) refl refl seat_is.1 owners_are (λ e. (place, e)) s;
+            still = is;
+            swapped = omega arith;
+            publisher = λ e. ((λ t. absurd (no_false t)), (λ t. ap (λ (w : Zones). w.publisher) h.1));
+            names = λ name. refl;
+            update = refl;
+          })
+          )
+      | inr some ↦ (
+          let h = rw some at m in
+          let owners_are = ap (λ (w : Zones). w.owners) h.1 in
+          let p = passed new for (gone number) last before oldest rest (seated_spent old.owners new.owners owner fades (for_seats last before for ++ rest) (Fading seat_is.0) refl seat_is.1 owners_are s) in
+          subst (λ e. Went old new (phase.Fade owner number for) (after (phase.Fade owner number for) e) last before oldest rest) (sym h.0)
+          (record { seated = p.seated; still = p.still; swapped = omega (arith, p.swapped); publisher = λ e. ((λ t. absurd (no_false t)), (λ t. ap (λ (w : Zones). w.publisher) h.1)); names = p.names; update = p.update })
+          )
+    ]
+
+reset_went : (old new : Zones) (owner : ℕ) (number : Option ℕ) (for : Purpose) (event : WordEvent) (last before : ℕ) (oldest : Option ℕ) (rest : List Seat) → OldestFor oldest for → Makes {T = Numbered} old (word.Reset owner) event new → Seated old.owners (seat owner resets ∷ (for_seats last before for ++ rest))
+    → Went old new (phase.Reset owner number for) (after (phase.Reset owner number for) event) last before oldest rest
+reset_went old new owner number for event last before oldest rest is (place, there, at, found, told_is, new_is) s =
+    let owners_are = ap (λ (w : Zones). w.owners) new_is in
+    record {
+      seated = seated_next old.owners new.owners owner resets frees (for_seats last before for ++ rest) (Resetting place) (Freeing place) refl refl at owners_are (λ e. (place, e)) s;
+      still = is;
+      swapped = omega arith;
+      publisher = λ e. ((λ t. absurd (no_false t)), (λ t. ap (λ (w : Zones). w.publisher) new_is));
+      names = λ name. refl;
+      update = refl;
+    }
+
+free_went : (old new : Zones) (owner : ℕ) (number : Option ℕ) (for : Purpose) (event : WordEvent) (last before : ℕ) (oldest : Option ℕ) (rest : List Seat) → Makes {T = Numbered} old (word.Free owner) event new → Seated old.owners (seat owner frees ∷ (for_seats last before for ++ rest))
     → Went old new (phase.Free owner number for) (after (phase.Free owner number for) event) last before oldest rest
 free_went old new owner number for event last before oldest rest (place, there, at, found, told_is, new_is) s =
     let owners_are = ap (λ (w : Zones). w.owners) new_is in
-    let p = passed new for (answer.Buried number) last before oldest rest (seated_spent old.owners new.owners owner frees (for_seats last before for ++ rest) (Freeing place) refl at owners_are s) in
+    let p = passed new for (gone number) last before oldest rest (seated_spent old.owners new.owners owner frees (for_seats last before for ++ rest) (Freeing place) refl at owners_are s) in
     record { seated = p.seated; still = p.still; swapped = omega (arith, p.swapped); publisher = λ e. ((λ t. absurd (no_false t)), (λ t. ap (λ (w : Zones). w.publisher) new_is)); names = p.names; update = p.update }
 
 load_went : (old new : Zones) (name : List ℕ) (event : WordEvent) (last before : ℕ) (oldest : Option ℕ) (rest : List Seat) → Makes {T = Numbered} old word.Load event new → Seated old.owners rest
@@ -378,4 +428,6 @@ went old new (phase.Settle keeping) event last before oldest rest is is_last m s
 went old new (phase.Keep given keeping) event last before oldest rest is is_last m s = keep_went old new given keeping event last before oldest rest is (is_last refl) m s
 went old new (phase.Release owner for) event last before oldest rest is is_last m s = release_went old new owner for event last before oldest rest is m s
 went old new (phase.Bury owner for) event last before oldest rest is is_last m s = bury_went old new owner for event last before oldest rest is m s
+went old new (phase.Fade owner number for) event last before oldest rest is is_last m s = fade_went old new owner number for event last before oldest rest is m s
+went old new (phase.Reset owner number for) event last before oldest rest is is_last m s = reset_went old new owner number for event last before oldest rest is m s
 went old new (phase.Free owner number for) event last before oldest rest is is_last m s = free_went old new owner number for event last before oldest rest m s

@@ -29,7 +29,7 @@ use Rattle.world_run.proofs.CallReplays.{publishes_nothing, any_update, AtMostOn
 use Rattle.world_run.proofs.ReplayLemmas.{step_by}
 use Rattle.cell_core.specs.Made.{made}
 use Rattle.world_run.proofs.HandLemmas.{Seat, Seated}
-use Rattle.world_run.proofs.HandLemmas.Hand.{holds, has, buries, frees}
+use Rattle.world_run.proofs.HandLemmas.Hand.{holds, has, buries, fades, resets, frees}
 use Rattle.world_run.proofs.HandSteps.{Zones, seat, for_seats, phase_seats, hand_seats, OldestIn, OldestAt, swapped_in, swapped_at, swaps_now, publishes_in, publishes_at, reserved_at, updates_at, went}
 
 abbrev pub name_seats : List Named → List Seat
@@ -136,6 +136,8 @@ count_step old new (phase.Settle keeping) event cell s m = let t = step_shows ol
 count_step old new (phase.Keep given keeping) event cell s m = let t = step_shows old new word.Load event cell s m in record { next = t.0; shows = t.2; count = same_count t.0 cell (publishes_nothing old new word.Load event cell t.0 tt m t.1) }
 count_step old new (phase.Release owner for) event cell s m = let t = step_shows old new (word.Release owner) event cell s m in record { next = t.0; shows = t.2; count = same_count t.0 cell (publishes_nothing old new (word.Release owner) event cell t.0 tt m t.1) }
 count_step old new (phase.Bury owner for) event cell s m = let t = step_shows old new (word.Bury owner) event cell s m in record { next = t.0; shows = t.2; count = same_count t.0 cell (publishes_nothing old new (word.Bury owner) event cell t.0 tt m t.1) }
+count_step old new (phase.Fade owner number for) event cell s m = let t = step_shows old new (word.Fade owner) event cell s m in record { next = t.0; shows = t.2; count = same_count t.0 cell (publishes_nothing old new (word.Fade owner) event cell t.0 tt m t.1) }
+count_step old new (phase.Reset owner number for) event cell s m = let t = step_shows old new (word.Reset owner) event cell s m in record { next = t.0; shows = t.2; count = same_count t.0 cell (publishes_nothing old new (word.Reset owner) event cell t.0 tt m t.1) }
 count_step old new (phase.Free owner number for) event cell s m = let t = step_shows old new (word.Free owner) event cell s m in record { next = t.0; shows = t.2; count = same_count t.0 cell (publishes_nothing old new (word.Free owner) event cell t.0 tt m t.1) }
 
 -- calls that are no updates have nothing in hand that goes by the last number
@@ -157,6 +159,8 @@ same_phase (phase.Settle keeping) one two from e = refl
 same_phase (phase.Keep given keeping) one two from e = refl
 same_phase (phase.Release owner for) one two from e = ap (λ ss. seat owner holds ∷ ss) (same_for for one two from e)
 same_phase (phase.Bury owner for) one two from e = ap (λ ss. seat owner buries ∷ ss) (same_for for one two from e)
+same_phase (phase.Fade owner number for) one two from e = ap (λ ss. seat owner fades ∷ ss) (same_for for one two from e)
+same_phase (phase.Reset owner number for) one two from e = ap (λ ss. seat owner resets ∷ ss) (same_for for one two from e)
 same_phase (phase.Free owner number for) one two from e = ap (λ ss. seat owner frees ∷ ss) (same_for for one two from e)
 
 same_calls : (calls : List UnderWay) (one two from : ℕ) → any_update calls ≡ false → call_seats one from calls ≡ call_seats two from calls
@@ -175,6 +179,8 @@ swap_is (phase.Settle keeping) = inl refl
 swap_is (phase.Keep given keeping) = inl refl
 swap_is (phase.Release owner for) = inl refl
 swap_is (phase.Bury owner for) = inl refl
+swap_is (phase.Fade owner number for) = inl refl
+swap_is (phase.Reset owner number for) = inl refl
 swap_is (phase.Free owner number for) = inl refl
 
 -- the same in hand, by the number that is last behind a step

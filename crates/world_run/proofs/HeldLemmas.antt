@@ -16,7 +16,7 @@ use Rattle.cell_core.specs.Cell.{Cell}
 use Rattle.cell_core.specs.Shows.{Shows, IsLive, SlotIs, AtRest}
 use Rattle.cell_core.specs.Words.{found_by, slot_of, number_in}
 use Rattle.cell_core.specs.declared.words.Owner.{Owner}
-use Rattle.cell_core.specs.declared.words.Owner.TheVariants.{Holding, Burying, Freeing, Spent}
+use Rattle.cell_core.specs.declared.words.Owner.TheVariants.{Holding, Twice, Weakly, Both, Burying, Fading, Resetting, Freeing, Spent}
 use Rattle.dns_rdata.specs.Record.{Record}
 use Rattle.transfer_core.proofs.VersionLemmas.{drop_here}
 use Rattle.zone_tree.specs.Version.{Version as Numbered}
@@ -149,6 +149,11 @@ spent_or_kept : (owners : List Owner) (from : ℕ) (kept : List ℕ) (owner : �
     → (how ≡ Spent) ⊎ ((number : ℕ) × (place : ℕ) × (from ≤ number) × (how ≡ Holding number place))
 spent_or_kept owners from kept owner (Holding number place) fits exact at = inr (kept_one owners from kept owner (Holding number place) fits exact at refl)
 spent_or_kept owners from kept owner (Burying place) fits exact at = inr (kept_one owners from kept owner (Burying place) fits exact at refl)
+spent_or_kept owners from kept owner (Twice number place) fits exact at = inr (kept_one owners from kept owner (Twice number place) fits exact at refl)
+spent_or_kept owners from kept owner (Weakly number place) fits exact at = inr (kept_one owners from kept owner (Weakly number place) fits exact at refl)
+spent_or_kept owners from kept owner (Both number place) fits exact at = inr (kept_one owners from kept owner (Both number place) fits exact at refl)
+spent_or_kept owners from kept owner (Fading place) fits exact at = inr (kept_one owners from kept owner (Fading place) fits exact at refl)
+spent_or_kept owners from kept owner (Resetting place) fits exact at = inr (kept_one owners from kept owner (Resetting place) fits exact at refl)
 spent_or_kept owners from kept owner (Freeing place) fits exact at = inr (kept_one owners from kept owner (Freeing place) fits exact at refl)
 spent_or_kept owners from kept owner Spent fits exact at = inl refl
 

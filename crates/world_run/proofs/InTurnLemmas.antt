@@ -75,6 +75,8 @@ head_updates (phase.Settle keeping) head e = refl
 head_updates (phase.Keep given keeping) head e = refl
 head_updates (phase.Release owner for) head e = head_updates_for for head owner e
 head_updates (phase.Bury owner for) head e = head_updates_for for head owner e
+head_updates (phase.Fade owner number for) head e = head_updates_for for head owner e
+head_updates (phase.Reset owner number for) head e = head_updates_for for head owner e
 head_updates (phase.Free owner number for) head e = head_updates_for for head owner e
 
 -- an update that made its swap is told NOERROR

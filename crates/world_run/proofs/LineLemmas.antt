@@ -28,6 +28,8 @@ name_is (phase.Settle keeping) = refl
 name_is (phase.Keep given keeping) = refl
 name_is (phase.Release owner for) = refl
 name_is (phase.Bury owner for) = refl
+name_is (phase.Fade owner number for) = refl
+name_is (phase.Reset owner number for) = refl
 name_is (phase.Free owner number for) = refl
 
 stepped_one : (world : World) (name : List ℕ) (at : Phase) (o : Option (Progress × State Numbered)) → step_once world.words at ≡ o → TakesOneStep world (stepped world name at o).0 (stepped world name at o).1

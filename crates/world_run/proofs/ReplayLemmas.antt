@@ -17,7 +17,7 @@ use Rattle.cell_core.specs.Made.{made}
 use Rattle.cell_core.specs.Words.{State, grants, begun, version_in, place_of, found_by, found_last}
 use Rattle.cell_core.specs.WordSteps.{Makes}
 use Rattle.cell_core.specs.declared.words.Owner.{Owner}
-use Rattle.cell_core.specs.declared.words.Owner.TheVariants.{Holding, Burying, Freeing, Spent}
+use Rattle.cell_core.specs.declared.words.Owner.TheVariants.{Holding, Twice, Weakly, Both, Burying, Fading, Resetting, Freeing, Spent}
 use Rattle.cell_core.specs.declared.words.Version.{Version}
 use Rattle.cell_core.specs.declared.words.WordEvent.{WordEvent}
 use Rattle.cell_core.specs.declared.words.WordEvent.TheVariants as told
@@ -52,7 +52,7 @@ use Rattle.world_run.specs.declared.step.WorldStep.TheVariants.{Whole, Begin, Ne
 use Rattle.world_run.specs.Judgements.{asks_update, judged}
 use Rattle.zone_tree.specs.Version.{Version as Numbered, KnowsChanges}
 use Rattle.world_run.specs.Numbered.{first_version}
-use Rattle.world_run.specs.Phases.{word_step, after, past, oldest_after, updates}
+use Rattle.world_run.specs.Phases.{word_step, after, past, oldest_after, updates, gone}
 use Rattle.world_run.specs.InTurn.{LeavesPublished}
 use Rattle.world_run.specs.UpdateAnswers.{heading_of, KeepsHeading}
 use Rattle.world_run.specs.declared.phase.End.{End}
@@ -127,6 +127,10 @@ bury_swapped : (owner : ℕ) (for : Purpose) (event : WordEvent) → swapped_at 
 bury_swapped owner for (told.Buried number) = refl
 bury_swapped owner for event = past_swapped for answer.Left
 
+fade_swapped : (owner : ℕ) (number : Option ℕ) (for : Purpose) (event : WordEvent) → swapped_at (after (phase.Fade owner number for) event) ≡ swapped_for for
+fade_swapped owner number for told.Closed = refl
+fade_swapped owner number for event = past_swapped for (gone number)
+
 after_swapped : (at : Phase) (event : WordEvent) → swapped_at (after at event) ≡ swapped_in at + swaps_now at
 after_swapped (phase.Load name) event = load_swapped name event
 after_swapped (phase.Probe version keeping) event = probe_swapped version keeping event
@@ -136,7 +140,9 @@ after_swapped (phase.Settle keeping) event = settle_swapped keeping event
 after_swapped (phase.Keep given keeping) event = keep_swapped given keeping event
 after_swapped (phase.Release owner for) event = (let e = release_swapped owner for event in omega (arith, e))
 after_swapped (phase.Bury owner for) event = (let e = bury_swapped owner for event in omega (arith, e))
-after_swapped (phase.Free owner number for) event = (let e = past_swapped for (answer.Buried number) in omega (arith, e))
+after_swapped (phase.Fade owner number for) event = (let e = fade_swapped owner number for event in omega (arith, e))
+after_swapped (phase.Reset owner number for) event = omega arith
+after_swapped (phase.Free owner number for) event = (let e = past_swapped for (gone number) in omega (arith, e))
 
 swap_updates : (at : Phase) → swaps_now at ≡ 1 → updates at ≡ true
 swap_updates (phase.Load name) e = absurd (omega (arith, e))
@@ -147,6 +153,8 @@ swap_updates (phase.Settle keeping) e = refl
 swap_updates (phase.Keep given keeping) e = refl
 swap_updates (phase.Release owner for) e = absurd (omega (arith, e))
 swap_updates (phase.Bury owner for) e = absurd (omega (arith, e))
+swap_updates (phase.Fade owner number for) e = absurd (omega (arith, e))
+swap_updates (phase.Reset owner number for) e = absurd (omega (arith, e))
 swap_updates (phase.Free owner number for) e = absurd (omega (arith, e))
 
 -- an update goes on, or is at its end, with this header
@@ -179,6 +187,8 @@ none_again (phase.Settle keeping) e = refl
 none_again (phase.Keep given keeping) e = refl
 none_again (phase.Release owner for) e = refl
 none_again (phase.Bury owner for) e = refl
+none_again (phase.Fade owner number for) e = refl
+none_again (phase.Reset owner number for) e = refl
 none_again (phase.Free owner number for) e = refl
 
 -- a step of an update behind its swap, and of one with a header
@@ -765,6 +775,11 @@ holds_by : (words : Zones) (owner : ℕ) (version : Numbered) (o : Option Owner)
 holds_by words owner version None e found = absurd (let wrong = found in cc)
 holds_by words owner version (Some (Holding number place)) e found = (number, place, e)
 holds_by words owner version (Some (Burying place)) e found = absurd (let wrong = found in cc)
+holds_by words owner version (Some (Twice number place)) e found = absurd (let wrong = found in cc)
+holds_by words owner version (Some (Weakly number place)) e found = absurd (let wrong = found in cc)
+holds_by words owner version (Some (Both number place)) e found = absurd (let wrong = found in cc)
+holds_by words owner version (Some (Fading place)) e found = absurd (let wrong = found in cc)
+holds_by words owner version (Some (Resetting place)) e found = absurd (let wrong = found in cc)
 holds_by words owner version (Some (Freeing place)) e found = absurd (let wrong = found in cc)
 holds_by words owner version (Some Spent) e found = absurd (let wrong = found in cc)
 

@@ -11,7 +11,7 @@ use Rattle.cell_core.proofs.RunShows.{run_shows}
 use Rattle.cell_core.proofs.UserLemmas.{owner_is_given}
 use Rattle.cell_core.specs.Cell.{start as cell_start}
 use Rattle.cell_core.specs.declared.words.Owner.{Owner}
-use Rattle.cell_core.specs.declared.words.Owner.TheVariants.{Holding, Burying, Freeing, Spent}
+use Rattle.cell_core.specs.declared.words.Owner.TheVariants.{Holding, Twice, Weakly, Both, Burying, Fading, Resetting, Freeing, Spent}
 use Rattle.cell_core.specs.declared.words.Version.{Version}
 use Rattle.cell_core.proofs.SeatLemmas.{get_push_old, get_push_new}
 use Rattle.cell_core.specs.Made.{made}
@@ -46,7 +46,7 @@ use Rattle.world_run.specs.declared.step.WorldStep.{WorldStep as Line}
 use Rattle.world_run.specs.declared.step.WorldStep.TheVariants.{Whole, Begin, Next}
 use Rattle.zone_tree.specs.Version.{Version as Numbered}
 use Rattle.world_run.specs.Numbered.{first_version}
-use Rattle.world_run.specs.Phases.{word_step, after, past, oldest_after}
+use Rattle.world_run.specs.Phases.{word_step, after, past, gone, oldest_after}
 use Rattle.world_run.specs.Runs.{Run, IsLoadOf, IsShownBy, ShowsReached, IsAnsweredAtLoaded}
 use Rattle.world_run.specs.World.{World, loaded_once, started, owner_of, without_name, zone_of, call_of, ask_said, ask_start, start, given_up, step_once, steps_up_to, go_on, most_steps, is_full, all_made, whole, begin, begin_under, stepped, next, turn, onto_replies, play}
 
@@ -127,6 +127,13 @@ load_by name told.Emptied = tt
 load_by name (told.Buried number) = tt
 load_by name told.Kept = tt
 load_by name told.Freed = tt
+load_by name told.Alive = tt
+load_by name told.Dead = tt
+load_by name (told.Raised owner number) = tt
+load_by name (told.Noted owner number) = tt
+load_by name told.Faded = tt
+load_by name told.Closed = tt
+load_by name told.Restored = tt
 
 probe_by : (version : Numbered) (keeping : Keeping) (event : WordEvent) → LoadedBy (after (phase.Probe version keeping) event) (word.Probe, event)
 probe_by version keeping (told.Loaded owner number) = tt
@@ -141,6 +148,13 @@ probe_by version keeping told.Emptied = tt
 probe_by version keeping (told.Buried number) = tt
 probe_by version keeping told.Kept = tt
 probe_by version keeping told.Freed = tt
+probe_by version keeping told.Alive = tt
+probe_by version keeping told.Dead = tt
+probe_by version keeping (told.Raised owner number) = tt
+probe_by version keeping (told.Noted owner number) = tt
+probe_by version keeping told.Faded = tt
+probe_by version keeping told.Closed = tt
+probe_by version keeping told.Restored = tt
 
 settle_by : (keeping : Keeping) (event : WordEvent) → LoadedBy (after (phase.Settle keeping) event) (word.Settle, event)
 settle_by keeping (told.Loaded owner number) = tt
@@ -155,6 +169,13 @@ settle_by keeping told.Emptied = tt
 settle_by keeping (told.Buried number) = tt
 settle_by keeping told.Kept = tt
 settle_by keeping told.Freed = tt
+settle_by keeping told.Alive = tt
+settle_by keeping told.Dead = tt
+settle_by keeping (told.Raised owner number) = tt
+settle_by keeping (told.Noted owner number) = tt
+settle_by keeping told.Faded = tt
+settle_by keeping told.Closed = tt
+settle_by keeping told.Restored = tt
 
 keep_by : (given : ℕ) (keeping : Keeping) (event : WordEvent) → LoadedBy (after (phase.Keep given keeping) event) (word.Load, event)
 keep_by given keeping (told.Loaded owner number) = tt
@@ -169,6 +190,13 @@ keep_by given keeping told.Emptied = tt
 keep_by given keeping (told.Buried number) = tt
 keep_by given keeping told.Kept = tt
 keep_by given keeping told.Freed = tt
+keep_by given keeping told.Alive = tt
+keep_by given keeping told.Dead = tt
+keep_by given keeping (told.Raised owner number) = tt
+keep_by given keeping (told.Noted owner number) = tt
+keep_by given keeping told.Faded = tt
+keep_by given keeping told.Closed = tt
+keep_by given keeping told.Restored = tt
 
 release_by : (at : ℕ) (for : Purpose) (event : WordEvent) → LoadedBy (after (phase.Release at for) event) (word.Release at, event)
 release_by at for (told.Loaded owner number) = past_by for answer.Left _
@@ -183,6 +211,13 @@ release_by at for told.Emptied = tt
 release_by at for (told.Buried number) = past_by for answer.Left _
 release_by at for told.Kept = past_by for answer.Left _
 release_by at for told.Freed = past_by for answer.Left _
+release_by at for told.Alive = past_by for answer.Left _
+release_by at for told.Dead = past_by for answer.Left _
+release_by at for (told.Raised owner number) = past_by for answer.Left _
+release_by at for (told.Noted owner number) = past_by for answer.Left _
+release_by at for told.Faded = past_by for answer.Left _
+release_by at for told.Closed = past_by for answer.Left _
+release_by at for told.Restored = past_by for answer.Left _
 
 bury_by : (at : ℕ) (for : Purpose) (event : WordEvent) → LoadedBy (after (phase.Bury at for) event) (word.Bury at, event)
 bury_by at for (told.Loaded owner number) = past_by for answer.Left _
@@ -197,6 +232,17 @@ bury_by at for told.Emptied = past_by for answer.Left _
 bury_by at for (told.Buried number) = tt
 bury_by at for told.Kept = past_by for answer.Left _
 bury_by at for told.Freed = past_by for answer.Left _
+bury_by at for told.Alive = past_by for answer.Left _
+bury_by at for told.Dead = past_by for answer.Left _
+bury_by at for (told.Raised owner number) = past_by for answer.Left _
+bury_by at for (told.Noted owner number) = past_by for answer.Left _
+bury_by at for told.Faded = past_by for answer.Left _
+bury_by at for told.Closed = past_by for answer.Left _
+bury_by at for told.Restored = past_by for answer.Left _
+
+fade_by : (at : ℕ) (number : Option ℕ) (for : Purpose) (event : WordEvent) → LoadedBy (after (phase.Fade at number for) event) (word.Fade at, event)
+fade_by at number for told.Closed = tt
+fade_by at number for event = past_by for (gone number) _
 
 loaded_by : (phase : Phase) (event : WordEvent) → LoadedBy (after phase event) (word_step phase, event)
 loaded_by (phase.Load name) event = load_by name event
@@ -207,7 +253,9 @@ loaded_by (phase.Settle keeping) event = settle_by keeping event
 loaded_by (phase.Keep given keeping) event = keep_by given keeping event
 loaded_by (phase.Release at for) event = release_by at for event
 loaded_by (phase.Bury at for) event = bury_by at for event
-loaded_by (phase.Free at number for) event = past_by for (answer.Buried number) _
+loaded_by (phase.Fade at number for) event = fade_by at number for event
+loaded_by (phase.Reset at number for) event = tt
+loaded_by (phase.Free at number for) event = past_by for (gone number) _
 
 -- a step that follows is one of the words
 pub record OneStep (words : State Numbered) (phase : Phase) (progress : Progress) (after_step : State Numbered) : Type 0 where
@@ -406,6 +454,11 @@ held_by : (words : State Numbered) (owner : ℕ) (zone : List Record) (o : Optio
 held_by words owner zone None e found = absurd (let wrong = found in cc)
 held_by words owner zone (Some (Holding number place)) e found = (number, place, e)
 held_by words owner zone (Some (Burying place)) e found = absurd (let wrong = found in cc)
+held_by words owner zone (Some (Twice number place)) e found = absurd (let wrong = found in cc)
+held_by words owner zone (Some (Weakly number place)) e found = absurd (let wrong = found in cc)
+held_by words owner zone (Some (Both number place)) e found = absurd (let wrong = found in cc)
+held_by words owner zone (Some (Fading place)) e found = absurd (let wrong = found in cc)
+held_by words owner zone (Some (Resetting place)) e found = absurd (let wrong = found in cc)
 held_by words owner zone (Some (Freeing place)) e found = absurd (let wrong = found in cc)
 held_by words owner zone (Some Spent) e found = absurd (let wrong = found in cc)
 

@@ -1,11 +1,12 @@
 -- The steps of a call, one after the other.
-use Rattle.std.proofs.Common.{◌≡◌, refl, sym, ap, ◌∙◌, ℕ, zero, suc, ◌+◌, ◌-◌, ◌<◌, arith, Option, Some, None}
+use Rattle.std.proofs.Common.{◌≡◌, refl, sym, ap, ◌∙◌, subst, ℕ, zero, suc, ◌+◌, ◌-◌, ◌<◌, arith, Option, Some, None}
 use Rattle.std.specs.Prelude.{MatchOption}
 use Rattle.std.specs.Option.{option_map}
 use Rattle.cell_core.specs.Words.{State}
-use Rattle.cell_core.specs.WordSteps.{HasWordStep}
+use Rattle.cell_core.specs.WordSteps.{Makes, HasWordStep}
 use Rattle.cell_core.specs.declared.words.WordStep.{WordStep}
-use Rattle.cell_core.proofs.MadeLemmas.{none_made}
+use Rattle.cell_core.specs.declared.words.WordEvent.{WordEvent}
+use Rattle.cell_core.proofs.MadeLemmas.{none_made, makes_made}
 use Rattle.zone_tree.specs.Version.{Version as Numbered}
 use Rattle.world_run.specs.declared.phase.Phase.{Phase}
 use Rattle.world_run.specs.declared.phase.End.{End}
@@ -77,3 +78,9 @@ no_more (suc left) words phase is = absurd (omega (arith, is))
 pub passed : (at : ℕ) (first words : State Numbered) (begun phase : Phase) → at ≡ most_steps
     → steps_up_to most_steps first begun ≡ steps_up_to (most_steps - at) words phase → (On phase, words) ≡ steps_up_to most_steps first begun
 passed at first words begun phase is so_far = sym (so_far ∙ no_more (most_steps - at) words phase (omega arith))
+
+-- a step that is made is the call's, and what follows on it does
+pub made_once : (words new : State Numbered) (at : Phase) (taken : WordStep Numbered) (event : WordEvent) (progress : Progress) → taken ≡ word_step at → Makes words taken event new → progress ≡ after at event → step_once words at ≡ Some (progress, new)
+made_once words new at taken event progress is m goes =
+    let here : Makes words (word_step at) event new = subst (λ s. Makes words s event new) is m in
+    ap (option_map (λ t. (after at t.0, t.1))) (makes_made words new (word_step at) event here) ∙ ap (λ (p : Progress). Some (p, new)) (sym goes)

@@ -9,7 +9,7 @@ use Rattle.world_run.specs.declared.phase.Keeping.{Keeping}
 use Rattle.world_run.specs.declared.phase.Purpose.{Purpose}
 use Rattle.world_run.specs.declared.phase.Purpose.TheVariants as purpose
 use Rattle.world_run.specs.declared.phase.Phase.{Phase}
-use Rattle.world_run.specs.declared.phase.Phase.TheVariants.{Load, Probe, Prepare, Swap, Settle, Keep, Release, Bury, Free}
+use Rattle.world_run.specs.declared.phase.Phase.TheVariants.{Load, Probe, Prepare, Swap, Settle, Keep, Release, Bury, Fade, Reset, Free}
 use Rattle.world_run.specs.declared.phase.End.TheVariants.{Owned, Told, NoSlot, Kept}
 use Rattle.world_run.specs.declared.phase.Progress.{Progress}
 use Rattle.world_run.specs.declared.phase.Progress.TheVariants.{On, Done}
@@ -29,6 +29,8 @@ word_step (Settle keeping) = word.Settle
 word_step (Keep given keeping) = word.Load
 word_step (Release owner for) = word.Release owner
 word_step (Bury owner for) = word.Bury owner
+word_step (Fade owner number for) = word.Fade owner
+word_step (Reset owner number for) = word.Reset owner
 word_step (Free owner number for) = word.Free owner
 
 -- that step's name (own)
@@ -41,6 +43,8 @@ step_name (Settle keeping) = step.Settle
 step_name (Keep given keeping) = step.Load
 step_name (Release owner for) = step.Release
 step_name (Bury owner for) = step.Bury
+step_name (Fade owner number for) = step.Fade
+step_name (Reset owner number for) = step.Reset
 step_name (Free owner number for) = step.Free
 
 -- an update whose publication's owner is gone gives up the oldest version that is kept, where that is due, and is at its end
@@ -81,10 +85,20 @@ abbrev pub release_after : ℕ → Purpose → WordEvent → Progress
 release_after owner for told.Emptied = On (Bury owner for)
 release_after owner for event = past for answer.Left
 
--- on a bury that won follows a free (own)
+-- on a bury that won follows a fade (own)
 abbrev pub bury_after : ℕ → Purpose → WordEvent → Progress
-bury_after owner for (told.Buried number) = On (Free owner number for)
+bury_after owner for (told.Buried number) = On (Fade owner (Some number) for)
 bury_after owner for event = past for answer.Left
+
+-- what a release gives that has buried a number, or that of a weak owner (own)
+abbrev pub gone : Option ℕ → Answer
+gone None = answer.Faded
+gone (Some number) = answer.Buried number
+
+-- on a fade follows a reset where nobody else is to fade (own)
+abbrev pub fade_after : ℕ → Option ℕ → Purpose → WordEvent → Progress
+fade_after owner number for told.Closed = On (Reset owner number for)
+fade_after owner number for event = past for (gone number)
 
 -- what follows on a call's step, by what the step told (own)
 abbrev pub after : Phase → WordEvent → Progress
@@ -96,7 +110,9 @@ after (Settle keeping) event = settle_after keeping event
 after (Keep given keeping) event = keep_after given keeping event
 after (Release owner for) event = release_after owner for event
 after (Bury owner for) event = bury_after owner for event
-after (Free owner number for) event = past for (answer.Buried number)
+after (Fade owner number for) event = fade_after owner number for event
+after (Reset owner number for) event = On (Free owner number for)
+after (Free owner number for) event = past for (gone number)
 
 -- a call is to put a name into use (own)
 abbrev pub reserves : List ℕ → Phase → Bool
@@ -113,5 +129,7 @@ abbrev pub updates : Phase → Bool
 updates (Load name) = false
 updates (Release owner for) = is_for_update for
 updates (Bury owner for) = is_for_update for
+updates (Fade owner number for) = is_for_update for
+updates (Reset owner number for) = is_for_update for
 updates (Free owner number for) = is_for_update for
 updates phase = true

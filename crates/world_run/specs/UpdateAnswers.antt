@@ -12,7 +12,7 @@ use Rattle.serve_core.specs.Served.{Got}
 use Rattle.serve_core.specs.Transport.{limit_of}
 use Rattle.world_run.specs.declared.phase.End.TheVariants.{NoSlot, Kept}
 use Rattle.world_run.specs.declared.phase.Phase.{Phase}
-use Rattle.world_run.specs.declared.phase.Phase.TheVariants.{Load, Probe, Prepare, Swap, Settle, Keep, Release, Bury, Free}
+use Rattle.world_run.specs.declared.phase.Phase.TheVariants.{Load, Probe, Prepare, Swap, Settle, Keep, Release, Bury, Fade, Reset, Free}
 use Rattle.world_run.specs.declared.phase.Progress.{Progress}
 use Rattle.world_run.specs.declared.phase.Progress.TheVariants.{On, Done}
 use Rattle.world_run.specs.declared.phase.Purpose.{Purpose}
@@ -34,6 +34,8 @@ heading_of (Settle keeping) = Some keeping.heading
 heading_of (Keep given keeping) = Some keeping.heading
 heading_of (Release owner for) = heading_for for
 heading_of (Bury owner for) = heading_for for
+heading_of (Fade owner number for) = heading_for for
+heading_of (Reset owner number for) = heading_for for
 heading_of (Free owner number for) = heading_for for
 
 -- an update keeps what its reply repeats of it from step to step, and ends where no slot was free, or with its version kept (own)

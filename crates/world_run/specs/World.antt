@@ -76,10 +76,10 @@ started first keep window = record { words = loaded_once (first_version first); 
 abbrev pub most_calls : ℕ
 most_calls = 64
 
--- no call takes more steps: an update has 64 probes, a prepare, a swap, a settle, a load, and a release, a bury and a free of
--- the owner that the publication gives and of the oldest that is kept (own)
+-- no call takes more steps: an update has 64 probes, a prepare, a swap, a settle, a load, and a release, a bury, a fade, a reset and
+-- a free of the owner that the publication gives and of the oldest that is kept (own)
 abbrev pub most_steps : ℕ
-most_steps = 74
+most_steps = 78
 
 -- the owner that a name is in use for; none where it isn't in use (own)
 abbrev pub owner_of : List ℕ → List Named → Option ℕ

@@ -103,9 +103,9 @@ pub fn examples()
     ensures one_step_at_a_time { (first second : List Record) (heading : Heading) (request : List ℕ)
         → judged (first_version first) request ≡ Some (Makes heading (record { number = 1; zone = second; changes = Some (changes_between first second) }))
         → replies_of first 0 0 (Whole (Load (codes "a")) ∷ Whole (Update request) ∷ Begin (codes "x") (Drop (codes "a")) ∷ Next (codes "x")
-        ∷ Whole (Load (codes "a")) ∷ Next (codes "x") ∷ Next (codes "x") ∷ Next (codes "x") ∷ [])
+        ∷ Whole (Load (codes "a")) ∷ Next (codes "x") ∷ Next (codes "x") ∷ Next (codes "x") ∷ Next (codes "x") ∷ Next (codes "x") ∷ [])
         ≡ Some (Answered (Owner (codes "a") 0) ∷ Answered (code_reply heading NoError) ∷ Begun ∷ Step StepName.Release
-        ∷ Answered (Owner (codes "a") 1) ∷ Step StepName.Bury ∷ Last StepName.Free (Buried 0) ∷ NotEnabled ∷ []) }
+        ∷ Answered (Owner (codes "a") 1) ∷ Step StepName.Bury ∷ Step StepName.Fade ∷ Step StepName.Reset ∷ Last StepName.Free (Buried 0) ∷ NotEnabled ∷ []) }
 {}
 
 /// Whatever lines were played, each name in use holds the version that was published with its number, through any reuse of its slot;

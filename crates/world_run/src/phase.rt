@@ -62,8 +62,12 @@ pub enum Phase<'a> {
     Release(usize, Purpose),
     /// A bury by this owner.
     Bury(usize, Purpose),
-    /// A free by this owner, which has buried the version of this number.
-    Free(usize, u64, Purpose),
+    /// A fade by this owner: it has buried the version of this number, or it is a weak owner.
+    Fade(usize, Option<u64>, Purpose),
+    /// A reset by this owner, behind its fade.
+    Reset(usize, Option<u64>, Purpose),
+    /// A free by this owner, behind its reset.
+    Free(usize, Option<u64>, Purpose),
 }
 
 /// What a call comes to.
@@ -105,6 +109,8 @@ impl<'a> Phase<'a> {
             Phase::Keep(_, _) => WordStep::Load,
             Phase::Release(owner, _) => WordStep::Release(*owner),
             Phase::Bury(owner, _) => WordStep::Bury(*owner),
+            Phase::Fade(owner, _, _) => WordStep::Fade(*owner),
+            Phase::Reset(owner, _, _) => WordStep::Reset(*owner),
             Phase::Free(owner, _, _) => WordStep::Free(*owner),
         })
     }
@@ -122,6 +128,8 @@ impl<'a> Phase<'a> {
             Phase::Keep(_, _) => StepName::Load,
             Phase::Release(_, _) => StepName::Release,
             Phase::Bury(_, _) => StepName::Bury,
+            Phase::Fade(_, _, _) => StepName::Fade,
+            Phase::Reset(_, _, _) => StepName::Reset,
             Phase::Free(_, _, _) => StepName::Free,
         }
     }
@@ -142,7 +150,13 @@ impl<'a> Phase<'a> {
             Phase::Keep(given, keeping) => Ok(after_keep(*given, keeping.copy(), event)),
             Phase::Release(owner, purpose) => Ok(after_release(*owner, purpose.copy(), event)),
             Phase::Bury(owner, purpose) => Ok(after_bury(*owner, purpose.copy(), event)),
-            Phase::Free(_, number, purpose) => Ok(purpose.copy().past(Answer::Buried(*number))),
+            Phase::Fade(owner, number, purpose) => {
+                Ok(after_fade(*owner, *number, purpose.copy(), event))
+            }
+            Phase::Reset(owner, number, purpose) => {
+                Ok(Progress::On(Phase::Free(*owner, *number, purpose.copy())))
+            }
+            Phase::Free(_, number, purpose) => Ok(purpose.copy().past(gone(*number))),
         }
     }
 
@@ -162,15 +176,17 @@ impl<'a> Phase<'a> {
     {
         match self {
             Phase::Load(_) => false,
-            Phase::Release(_, purpose) | Phase::Bury(_, purpose) | Phase::Free(_, _, purpose) => {
-                !matches!(purpose, Purpose::Drop)
-            }
+            Phase::Release(_, purpose)
+            | Phase::Bury(_, purpose)
+            | Phase::Fade(_, _, purpose)
+            | Phase::Reset(_, _, purpose)
+            | Phase::Free(_, _, purpose) => !matches!(purpose, Purpose::Drop),
             _ => true,
         }
     }
 }
 
-ghost use Rattle.world_run.specs.Phases.{load_after, probe_after, settle_after, keep_after, release_after, bury_after, past as says_past, oldest_after};
+ghost use Rattle.world_run.specs.Phases.{load_after, probe_after, settle_after, keep_after, release_after, bury_after, fade_after, gone as says_gone, past as says_past, oldest_after};
 
 impl Purpose {
     /// The same again.
@@ -271,7 +287,32 @@ fn after_bury<'a>(owner: usize, purpose: Purpose, event: WordEvent) -> Progress<
     ensures { result ≡ bury_after owner purpose event }
 {
     match event {
-        WordEvent::Buried(number) => Progress::On(Phase::Free(owner, number, purpose)),
+        WordEvent::Buried(number) => Progress::On(Phase::Fade(owner, Some(number), purpose)),
         _ => purpose.past(Answer::Left),
+    }
+}
+
+/// What a release gives that has buried the version of this number, or that of a weak owner.
+fn gone(number: Option<u64>) -> Answer
+    ensures { result ≡ says_gone number }
+{
+    match number {
+        None => Answer::Faded,
+        Some(number) => Answer::Buried(number),
+    }
+}
+
+/// What follows on a fade.
+fn after_fade<'a>(
+    owner: usize,
+    number: Option<u64>,
+    purpose: Purpose,
+    event: WordEvent,
+) -> Progress<'a>
+    ensures { result ≡ fade_after owner number purpose event }
+{
+    match event {
+        WordEvent::Closed => Progress::On(Phase::Reset(owner, number, purpose)),
+        _ => purpose.past(gone(number)),
     }
 }

@@ -51,7 +51,17 @@ pub enum StepName {
     Release,
     /// An owner tries to bury the version that it left without an owner.
     Bury,
-    /// The owner whose bury won gives the slot free.
+    /// It is seen whether a version is buried.
+    Look,
+    /// A share of a version is given out that isn't buried.
+    Raise,
+    /// The publisher makes a weak owner.
+    Note,
+    /// An owner is counted no more among those that keep a slot from being used again.
+    Fade,
+    /// The owner that is the last of them opens the slot again.
+    Reset,
+    /// It gives the slot free.
     Free,
 }
 
@@ -67,6 +77,11 @@ impl fmt::Display for StepName {
             StepName::Settle => write!(f, "settle"),
             StepName::Release => write!(f, "release"),
             StepName::Bury => write!(f, "bury"),
+            StepName::Look => write!(f, "look"),
+            StepName::Raise => write!(f, "raise"),
+            StepName::Note => write!(f, "note"),
+            StepName::Fade => write!(f, "fade"),
+            StepName::Reset => write!(f, "reset"),
             StepName::Free => write!(f, "free"),
         }
     }
@@ -113,6 +128,8 @@ pub enum Answer {
     Left,
     /// The strong owner is gone, and the call has buried the version of this number.
     Buried(u64),
+    /// The weak owner is gone.
+    Faded,
     /// The reply to a request, as on the wire.
     Reply(Octets),
     /// A request that gets no reply.

@@ -9,7 +9,7 @@ use cell_core::{StepFault, WordMachine, WordStep};
 use std::alloc::Global;
 
 /// No call takes more steps.
-const MOST_STEPS: usize = 74;
+const MOST_STEPS: usize = 78;
 
 /// Takes the next step of a call; none where the words have no such step.
 pub(crate) fn step_once<'a>(

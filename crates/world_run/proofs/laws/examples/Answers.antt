@@ -41,4 +41,4 @@ returns-clause-two_versions c first second head request made =
 pub returns-clause-one_step_at_a_time : goal.returns-clause-one_step_at_a_time
 unfolding steps_up_to
 returns-clause-one_step_at_a_time c first second head request made =
-    ap (behind_update first request (Begin (codes "x") (Drop (codes "a")) ∷ Next (codes "x") ∷ Whole (Load (codes "a")) ∷ Next (codes "x") ∷ Next (codes "x") ∷ Next (codes "x") ∷ [])) made
+    ap (behind_update first request (Begin (codes "x") (Drop (codes "a")) ∷ Next (codes "x") ∷ Whole (Load (codes "a")) ∷ Next (codes "x") ∷ Next (codes "x") ∷ Next (codes "x") ∷ Next (codes "x") ∷ Next (codes "x") ∷ [])) made
