@@ -161,6 +161,9 @@ under at event one head e k = let same : one ≡ head = (let f = e in cc) in sub
 -- an update under way keeps its header up to its end
 pub keeps_head : (at : Phase) (event : WordEvent) (head : Heading) → heading_of at ≡ Some head → KeepsHeading head event (after at event)
 keeps_head (phase.Load name) event head e = absurd (let wrong = e in cc)
+keeps_head (phase.Look name owner) event head e = absurd (let wrong = e in cc)
+keeps_head (phase.Raise name owner) event head e = absurd (let wrong = e in cc)
+keeps_head (phase.Note name owner) event head e = absurd (let wrong = e in cc)
 keeps_head (phase.Probe version keeping) event head e = under (phase.Probe version keeping) event keeping.heading head e (probe_told version keeping event)
 keeps_head (phase.Prepare version keeping) event head e = e
 keeps_head (phase.Swap keeping) event head e = e

@@ -34,7 +34,7 @@ use Rattle.zone_tree.specs.Version.{Version as Numbered}
 use Rattle.world_run.specs.declared.judged.Judged.{Judged}
 use Rattle.world_run.specs.declared.judged.Judged.TheVariants as judgement
 use Rattle.world_run.specs.declared.phase.End.{End}
-use Rattle.world_run.specs.declared.phase.End.TheVariants.{Owned, Told, NoSlot, Kept}
+use Rattle.world_run.specs.declared.phase.End.TheVariants.{Owned, OwnedWeakly, Told, NoSlot, Kept}
 use Rattle.world_run.specs.declared.phase.Keeping.{Keeping}
 use Rattle.world_run.specs.declared.phase.Phase.{Phase}
 use Rattle.world_run.specs.declared.phase.Phase.TheVariants as phase
@@ -48,15 +48,15 @@ use Rattle.world_run.specs.declared.start.Start.TheVariants.{Refused, Answers, T
 use Rattle.world_run.specs.declared.step.Answer.{Answer}
 use Rattle.world_run.specs.declared.step.Answer.TheVariants as answer
 use Rattle.world_run.specs.declared.step.Call.{Call}
-use Rattle.world_run.specs.declared.step.Call.TheVariants.{Load, Drop, Ask, Transfer, Update}
+use Rattle.world_run.specs.declared.step.Call.TheVariants.{Load, Drop, Copy, Weak, Fade, Up, Ask, Transfer, Update}
 use Rattle.world_run.specs.declared.step.WorldReply.{WorldReply}
 use Rattle.world_run.specs.declared.step.WorldReply.TheVariants.{Answered, Begun, Step, Last, NotEnabled}
 use Rattle.world_run.specs.declared.step.WorldStep.{WorldStep as Line}
 use Rattle.world_run.specs.declared.step.WorldStep.TheVariants.{Whole, Begin, Next}
 use Rattle.world_run.specs.Held.{tells_buried, IsGone}
 use Rattle.world_run.specs.Judgements.{asks_update, judged}
-use Rattle.world_run.specs.Phases.{word_step, step_name, after, past, gone, oldest_after, load_after, probe_after, settle_after, keep_after, updates}
-use Rattle.world_run.specs.World.{World, started, call_of, without_call, owner_of, is_taken, zone_of, version_of, answer_of, asks_sent, ask_start, drop_start, transfer_asked, transfer_said, transfer_start, is_held, oldest_kept, update_start, start, answer_at, step_once, steps_up_to, go_on, most_steps, is_full, all_made, whole, begin, begin_under, stepped, next, turn, onto_replies, play}
+use Rattle.world_run.specs.Phases.{word_step, step_name, after, past, gone, oldest_after, load_after, look_after, raise_after, note_after, probe_after, settle_after, keep_after, updates}
+use Rattle.world_run.specs.World.{World, started, call_of, without_call, owner_of, is_taken, zone_of, version_of, answer_of, asks_sent, ask_start, drop_start, fade_start, copy_start, weak_start, up_start, is_used, is_taken_weakly, transfer_asked, transfer_said, transfer_start, is_held, oldest_kept, update_start, start, answer_at, step_once, steps_up_to, go_on, most_steps, is_full, all_made, whole, begin, begin_under, stepped, next, turn, onto_replies, play}
 use Rattle.world_run.proofs.EndLemmas.{IsFirst, FirstOf, start_first}
 use Rattle.world_run.proofs.HandPlay.{started_hands}
 use Rattle.world_run.proofs.HandSteps.{Zones}
@@ -70,6 +70,9 @@ told_of n (Some number) = one_if (number == n)
 -- a number that a call has buried and is to tell
 abbrev pub freed : ℕ → Phase → ℕ
 freed n (phase.Load name) = 0
+freed n (phase.Look name owner) = 0
+freed n (phase.Raise name owner) = 0
+freed n (phase.Note name owner) = 0
 freed n (phase.Probe version keeping) = 0
 freed n (phase.Prepare version keeping) = 0
 freed n (phase.Swap keeping) = 0
@@ -90,6 +93,7 @@ buried_in n (answer.Owner name number) = 0
 buried_in n answer.Left = 0
 buried_in n (answer.Buried number) = one_if (number == n)
 buried_in n answer.Faded = 0
+buried_in n answer.Nothing = 0
 buried_in n (answer.Reply octets) = 0
 buried_in n answer.Silent = 0
 buried_in n (answer.Messages messages) = 0
@@ -97,6 +101,7 @@ buried_in n (answer.Messages messages) = 0
 abbrev pub told_by : ℕ → Progress → ℕ
 told_by n (On at) = freed n at
 told_by n (Done (Owned name owner number)) = 0
+told_by n (Done (OwnedWeakly name owner number)) = 0
 told_by n (Done (Told given)) = buried_in n given
 told_by n (Done (NoSlot head)) = 0
 told_by n (Done (Kept head owner)) = 0
@@ -124,6 +129,20 @@ past_less n (purpose.Oldest head kept) given = omega arith
 load_none : (n : ℕ) (name : List ℕ) (event : WordEvent) → told_by n (load_after name event) ≡ 0
 load_none n name (told.Loaded owner number) = refl
 load_none n name event = refl
+
+look_none : (n : ℕ) (name : List ℕ) (owner : ℕ) (event : WordEvent) → told_by n (look_after name owner event) ≡ 0
+look_none n name owner told.Alive = refl
+look_none n name owner told.Dead = refl
+look_none n name owner event = refl
+
+raise_none : (n : ℕ) (name : List ℕ) (owner : ℕ) (event : WordEvent) → told_by n (raise_after name owner event) ≡ 0
+raise_none n name owner (told.Raised next number) = refl
+raise_none n name owner told.Dead = refl
+raise_none n name owner event = refl
+
+note_none : (n : ℕ) (name : List ℕ) (owner : ℕ) (event : WordEvent) → told_by n (note_after name owner event) ≡ 0
+note_none n name owner (told.Noted next number) = refl
+note_none n name owner event = refl
 
 probe_none : (n : ℕ) (version : Numbered) (keeping : Keeping) (event : WordEvent) → told_by n (probe_after version keeping event) ≡ 0
 probe_none n version keeping told.Taken = refl
@@ -181,6 +200,9 @@ bury_goes words new owner for event cell next (place, there, seat, found, m) s =
 
 goes : (words new : Zones) (at : Phase) (event : WordEvent) (cell next : Cell Numbered) → Makes words (word_step at) event new → ShowsStep words (word_step at) event cell next → Goes cell next at (after at event)
 goes words new (phase.Load name) event cell next m s = record { stays = grows words (phase.Load name) event cell next s; less = inl (λ n. let e = load_none n name event in omega (arith, e)) }
+goes words new (phase.Look name owner) event cell next m s = record { stays = grows words (phase.Look name owner) event cell next s; less = inl (λ n. let e = look_none n name owner event in omega (arith, e)) }
+goes words new (phase.Raise name owner) event cell next m s = record { stays = grows words (phase.Raise name owner) event cell next s; less = inl (λ n. let e = raise_none n name owner event in omega (arith, e)) }
+goes words new (phase.Note name owner) event cell next m s = record { stays = grows words (phase.Note name owner) event cell next s; less = inl (λ n. let e = note_none n name owner event in omega (arith, e)) }
 goes words new (phase.Probe version keeping) event cell next m s = record { stays = grows words (phase.Probe version keeping) event cell next s; less = inl (λ n. let e = probe_none n version keeping event in omega (arith, e)) }
 goes words new (phase.Prepare version keeping) event cell next m s = record { stays = grows words (phase.Prepare version keeping) event cell next s; less = inl (λ n. omega arith) }
 goes words new (phase.Swap keeping) event cell next m s = record { stays = grows words (phase.Swap keeping) event cell next s; less = inl (λ n. omega arith) }
@@ -265,10 +287,12 @@ silent words seen calls given none o = record {
 
 end_less : (n : ℕ) (end : End) → one_if (tells_buried n (Answered (answer_at end))) ≤ told_by n (Done end)
 end_less n (Owned name owner number) = omega arith
+end_less n (OwnedWeakly name owner number) = omega arith
 end_less n (Told (answer.Owner name number)) = omega arith
 end_less n (Told answer.Left) = omega arith
 end_less n (Told (answer.Buried number)) = omega arith
 end_less n (Told answer.Faded) = omega arith
+end_less n (Told answer.Nothing) = omega arith
 end_less n (Told (answer.Reply octets)) = omega arith
 end_less n (Told answer.Silent) = omega arith
 end_less n (Told (answer.Messages messages)) = omega arith
@@ -287,6 +311,9 @@ ended words seen calls end given less o = record {
 -- a call that takes its first step has nothing to tell
 first_quiet : (words : Zones) (at : Phase) (n : ℕ) → IsFirst words at → freed n at ≡ 0
 first_quiet words (phase.Load name) n is = refl
+first_quiet words (phase.Look name owner) n is = refl
+first_quiet words (phase.Raise name owner) n is = refl
+first_quiet words (phase.Note name owner) n is = refl
 first_quiet words (phase.Probe version keeping) n is = refl
 first_quiet words (phase.Prepare version keeping) n is = refl
 first_quiet words (phase.Swap keeping) n is = refl
@@ -294,7 +321,8 @@ first_quiet words (phase.Settle keeping) n is = refl
 first_quiet words (phase.Keep given keeping) n is = refl
 first_quiet words (phase.Release owner for) n is = refl
 first_quiet words (phase.Bury owner for) n is = refl
-first_quiet words (phase.Fade owner number for) n is = absurd is
+first_quiet words (phase.Fade owner None for) n is = refl
+first_quiet words (phase.Fade owner (Some number) for) n is = absurd is
 first_quiet words (phase.Reset owner number for) n is = absurd is
 first_quiet words (phase.Free owner number for) n is = absurd is
 
@@ -320,9 +348,25 @@ answer_still : (n : ℕ) (o : Option (List ℕ)) → buried_in n (answer_of o) �
 answer_still n None = refl
 answer_still n (Some octets) = refl
 
-drop_still : (o : Option ℕ) → IsStill (drop_start o)
-drop_still None = tt
-drop_still (Some owner) = tt
+drop_still : (calls : List UnderWay) (o : Option ℕ) → IsStill (drop_start calls o)
+drop_still calls None = tt
+drop_still calls (Some owner) = still_if (is_used calls owner) _ _ tt tt
+
+fade_still : (calls : List UnderWay) (o : Option ℕ) → IsStill (fade_start calls o)
+fade_still calls None = tt
+fade_still calls (Some owner) = still_if (is_used calls owner) _ _ tt tt
+
+copy_still : (name : List ℕ) (o : Option ℕ) → IsStill (copy_start name o)
+copy_still name None = tt
+copy_still name (Some owner) = tt
+
+weak_still : (name : List ℕ) (o : Option ℕ) → IsStill (weak_start name o)
+weak_still name None = tt
+weak_still name (Some owner) = tt
+
+up_still : (calls : List UnderWay) (name : List ℕ) (o : Option ℕ) → IsStill (up_start calls name o)
+up_still calls name None = tt
+up_still calls name (Some owner) = still_if (is_used calls owner) _ _ tt tt
 
 ask_still : (zone : Option (List Record)) (request : List ℕ) → IsStill (ask_start zone request)
 ask_still None request = tt
@@ -352,7 +396,11 @@ update_still world (Some (judgement.Makes head version)) = still_if (nat_lt worl
 
 start_still : (world : World) (call : Call) → IsStill (start world call)
 start_still world (Load name) = still_if (is_taken name world) _ _ tt tt
-start_still world (Drop name) = drop_still (owner_of name world.names)
+start_still world (Drop name) = drop_still world.calls (owner_of name world.names)
+start_still world (Copy given name) = still_if (is_taken name world) _ _ tt (copy_still name (owner_of given world.names))
+start_still world (Weak given name) = still_if (is_taken_weakly name world || list_any (λ call. updates call.phase) world.calls) _ _ tt (weak_still name (owner_of given world.names))
+start_still world (Fade name) = fade_still world.calls (owner_of name world.weak_names)
+start_still world (Up weak name) = still_if (is_taken name world) _ _ tt (up_still world.calls name (owner_of weak world.weak_names))
 start_still world (Ask name request) = ask_still (zone_of name world) request
 start_still world (Transfer name request) = transfer_still world (version_of name world) request
 start_still world (Update request) = still_if (list_any (λ call. updates call.phase) world.calls) _ _ tt (update_still world (option_and_then (λ last. judged last request) (found_last world.words)))
@@ -362,6 +410,7 @@ told_same n (answer.Owner name number) = omega arith
 told_same n answer.Left = omega arith
 told_same n (answer.Buried number) = omega arith
 told_same n answer.Faded = omega arith
+told_same n answer.Nothing = omega arith
 told_same n (answer.Reply octets) = omega arith
 told_same n answer.Silent = omega arith
 told_same n (answer.Messages messages) = omega arith

@@ -313,6 +313,9 @@ tells_swapped S first words new us event n m t =
 -- what a call under way is about to publish
 abbrev pub Coherent : Script → List Record → List Placed → Zones → Phase → Type 0
 Coherent S first us words (phase.Load name) = Unit {0}
+Coherent S first us words (phase.Look name owner) = Unit {0}
+Coherent S first us words (phase.Raise name owner) = Unit {0}
+Coherent S first us words (phase.Note name owner) = Unit {0}
 Coherent S first us words (phase.Probe version keeping) = IsNext S first us version
 Coherent S first us words (phase.Prepare version keeping) = IsNext S first us version
 Coherent S first us words (phase.Swap keeping) = SwapsNext S first us words
@@ -327,6 +330,9 @@ Coherent S first us words (phase.Free owner number for) = Unit {0}
 -- a call that is no update is about to publish nothing
 pub no_update : (S : Script) (first : List Record) (us : List Placed) (words : Zones) (at : Phase) → updates at ≡ false → Coherent S first us words at
 no_update S first us words (phase.Load name) e = tt
+no_update S first us words (phase.Look name owner) e = tt
+no_update S first us words (phase.Raise name owner) e = tt
+no_update S first us words (phase.Note name owner) e = tt
 no_update S first us words (phase.Probe version keeping) e = absurd (let wrong = e in cc)
 no_update S first us words (phase.Prepare version keeping) e = absurd (let wrong = e in cc)
 no_update S first us words (phase.Swap keeping) e = absurd (let wrong = e in cc)
@@ -452,6 +458,9 @@ owner_keeps_swap S first us words new cell (word.Reset owner) event of s (at, th
 
 owner_keeps : (S : Script) (first : List Record) (us : List Placed) (words new : Zones) (cell : Cell Numbered) (step : WordStep Numbered) (event : WordEvent) (other : Phase) → OfOwner step → Shows words cell → Makes words step event new → Coherent S first us words other → Coherent S first us new other
 owner_keeps S first us words new cell step event (phase.Load name) of s m c = tt
+owner_keeps S first us words new cell step event (phase.Look name owner) of s m c = tt
+owner_keeps S first us words new cell step event (phase.Raise name owner) of s m c = tt
+owner_keeps S first us words new cell step event (phase.Note name owner) of s m c = tt
 owner_keeps S first us words new cell step event (phase.Probe version keeping) of s m c = c
 owner_keeps S first us words new cell step event (phase.Prepare version keeping) of s m c = c
 owner_keeps S first us words new cell step event (phase.Swap keeping) of s m c = owner_keeps_swap S first us words new cell step event of s m c
@@ -466,6 +475,9 @@ owner_keeps S first us words new cell step event (phase.Free owner number for) o
 -- a call that is no update takes such steps
 of_owner : (at : Phase) → updates at ≡ false → OfOwner (word_step at)
 of_owner (phase.Load name) e = tt
+of_owner (phase.Look name owner) e = tt
+of_owner (phase.Raise name owner) e = tt
+of_owner (phase.Note name owner) e = tt
 of_owner (phase.Probe version keeping) e = absurd (let wrong = e in cc)
 of_owner (phase.Prepare version keeping) e = absurd (let wrong = e in cc)
 of_owner (phase.Swap keeping) e = absurd (let wrong = e in cc)
@@ -526,6 +538,20 @@ load_follows S first us words name (told.Noted owner number) = (tt, refl)
 load_follows S first us words name told.Faded = (tt, refl)
 load_follows S first us words name told.Closed = (tt, refl)
 load_follows S first us words name told.Restored = (tt, refl)
+
+look_follows : (S : Script) (first : List Record) (us : List Placed) (words : Zones) (name : List ℕ) (owner : ℕ) (event : WordEvent) → Follows S first us words false (after (phase.Look name owner) event)
+look_follows S first us words name owner told.Alive = (tt, refl)
+look_follows S first us words name owner told.Dead = tt
+look_follows S first us words name owner event = (tt, refl)
+
+raise_follows : (S : Script) (first : List Record) (us : List Placed) (words : Zones) (name : List ℕ) (owner : ℕ) (event : WordEvent) → Follows S first us words false (after (phase.Raise name owner) event)
+raise_follows S first us words name owner (told.Raised next number) = tt
+raise_follows S first us words name owner told.Dead = tt
+raise_follows S first us words name owner event = (tt, refl)
+
+note_follows : (S : Script) (first : List Record) (us : List Placed) (words : Zones) (name : List ℕ) (owner : ℕ) (event : WordEvent) → Follows S first us words false (after (phase.Note name owner) event)
+note_follows S first us words name owner (told.Noted next number) = tt
+note_follows S first us words name owner event = (tt, refl)
 
 probe_follows : (S : Script) (first : List Record) (us : List Placed) (words : Zones) (version : Numbered) (keeping : Keeping) → IsNext S first us version → (event : WordEvent) → Follows S first us words true (after (phase.Probe version keeping) event)
 probe_follows S first us words version keeping n (told.Loaded owner number) = (n, refl)
@@ -649,6 +675,9 @@ leaves_step words new step event apart m cell s =
 
 none_now : (at : Phase) → NoSwap (word_step at) → swaps_now at ≡ 0
 none_now (phase.Load name) apart = refl
+none_now (phase.Look name owner) apart = refl
+none_now (phase.Raise name owner) apart = refl
+none_now (phase.Note name owner) apart = refl
 none_now (phase.Probe version keeping) apart = refl
 none_now (phase.Prepare version keeping) apart = refl
 none_now (phase.Swap keeping) apart = absurd apart
@@ -696,6 +725,9 @@ behind_swap S first us words new keeping event n m t =
 
 pub behind : (S : Script) (first : List Record) (us : List Placed) (words new : Zones) (at : Phase) (event : WordEvent) → Makes words (word_step at) event new → Tells S first words us → Coherent S first us words at → Behind S first us words new at (after at event)
 behind S first us words new (phase.Load name) event m t c = behind_owner S first us words new (phase.Load name) event tt m t (load_follows S first us new name event)
+behind S first us words new (phase.Look name owner) event m t c = behind_owner S first us words new (phase.Look name owner) event tt m t (look_follows S first us new name owner event)
+behind S first us words new (phase.Raise name owner) event m t c = behind_owner S first us words new (phase.Raise name owner) event tt m t (raise_follows S first us new name owner event)
+behind S first us words new (phase.Note name owner) event m t c = behind_owner S first us words new (phase.Note name owner) event tt m t (note_follows S first us new name owner event)
 behind S first us words new (phase.Probe version keeping) event m t c = behind_update S first us words new (phase.Probe version keeping) event tt refl m t (probe_follows S first us new version keeping c event)
 behind S first us words new (phase.Prepare version keeping) event m t c = behind_update S first us words new (phase.Prepare version keeping) event tt refl m t (prepared_next S first us words new version event c m, refl)
 behind S first us words new (phase.Swap keeping) event m t c = behind_swap S first us words new keeping event c m t
@@ -822,6 +854,9 @@ next_on S top by first us version more map n =
 
 pub coherent_on : (S : Script) (top : ℕ) (by : ℕ → Heading → Type 0) (first : List Record) (us : List Placed) (words : Zones) (at : Phase) → S.top ≤ top → ((place : ℕ) (head : Heading) → S.by place head → by place head) → Coherent S first us words at → Coherent (moved S top by) first us words at
 coherent_on S top by first us words (phase.Load name) more map c = tt
+coherent_on S top by first us words (phase.Look name owner) more map c = tt
+coherent_on S top by first us words (phase.Raise name owner) more map c = tt
+coherent_on S top by first us words (phase.Note name owner) more map c = tt
 coherent_on S top by first us words (phase.Probe version keeping) more map c = next_on S top by first us version more map c
 coherent_on S top by first us words (phase.Prepare version keeping) more map c = next_on S top by first us version more map c
 coherent_on S top by first us words (phase.Swap keeping) more map c = record { place = c.place; number = c.number; version = c.version; publisher = c.publisher; there = c.there; is_next = next_on S top by first us c.version more map c.is_next }

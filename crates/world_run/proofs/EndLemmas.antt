@@ -14,7 +14,7 @@ use Rattle.cell_core.proofs.SeatLemmas.{get_set_same, get_push_new}
 use Rattle.cell_core.proofs.StepShows.{step_shows}
 use Rattle.cell_core.specs.Cell.{Cell}
 use Rattle.cell_core.specs.Shows.{Shows, PublisherIs}
-use Rattle.cell_core.specs.Words.{State, slots, free_word, fetch_sub, slot_of, given_of, fading_of}
+use Rattle.cell_core.specs.Words.{State, slots, free_word, dead_word, fetch_sub, slot_of, given_of, fading_of}
 use Rattle.cell_core.specs.WordSteps.{Makes}
 use Rattle.cell_core.specs.declared.words.Owner.{Owner}
 use Rattle.cell_core.specs.declared.words.Owner.TheVariants.{Holding, Twice, Weakly, Both, Burying, Fading, Resetting, Freeing, Spent}
@@ -53,15 +53,17 @@ use Rattle.world_run.specs.declared.start.Start.TheVariants.{Refused, Answers, T
 use Rattle.world_run.specs.declared.step.Answer.{Answer}
 use Rattle.world_run.specs.declared.step.Answer.TheVariants as answer
 use Rattle.world_run.specs.declared.step.Call.{Call}
-use Rattle.world_run.specs.declared.step.Call.TheVariants.{Load, Drop, Ask, Transfer, Update}
+use Rattle.world_run.specs.declared.step.Call.TheVariants.{Load, Drop, Copy, Weak, Fade, Up, Ask, Transfer, Update}
 use Rattle.world_run.specs.declared.step.WorldReply.{WorldReply}
 use Rattle.world_run.specs.declared.step.WorldReply.TheVariants.{Answered, NotEnabled}
 use Rattle.world_run.specs.declared.step.WorldStep.{WorldStep}
 use Rattle.world_run.specs.declared.step.WorldStep.TheVariants.{Whole, Begin, Next}
 use Rattle.world_run.specs.Phases.{word_step, after, past, gone, oldest_after, updates}
+use Rattle.world_run.specs.World.{fade_start, copy_start, weak_start, up_start, is_used, is_taken_weakly}
 use Rattle.world_run.specs.World.{World, owner_of, call_of, is_taken, zone_of, drop_start, ask_said, ask_start, is_held, publication_start, update_start, oldest_kept, start, answer_at, step_once, steps_up_to, most_steps, is_full, all_made, whole, begin, begin_under, stepped, next, turn}
 use Rattle.world_run.proofs.RunLemmas.{one_step}
-use Rattle.world_run.proofs.StepLemmas.{stays_there}
+use Rattle.world_run.proofs.StepLemmas.{stays_there, goes_further}
+use Rattle.cell_core.proofs.WeakShows.{to_fade}
 
 abbrev pub Zones : Type 0
 Zones = State Numbered
@@ -384,6 +386,9 @@ done_unchanged words (Done end, after_steps) is = tt
 -- a call begins so
 abbrev pub IsFirst : Zones → Phase → Type 0
 IsFirst words (phase.Load name) = Unit {0}
+IsFirst words (phase.Look name owner) = Unit {0}
+IsFirst words (phase.Raise name owner) = Unit {0}
+IsFirst words (phase.Note name owner) = Unit {0}
 IsFirst words (phase.Probe version keeping) = CanEnd words keeping
 IsFirst words (phase.Release owner purpose.Drop) = Unit {0}
 IsFirst words (phase.Release owner (purpose.Publish keeping kept)) = ⊥
@@ -393,13 +398,19 @@ IsFirst words (phase.Swap keeping) = ⊥
 IsFirst words (phase.Settle keeping) = ⊥
 IsFirst words (phase.Keep given keeping) = ⊥
 IsFirst words (phase.Bury owner for) = ⊥
-IsFirst words (phase.Fade owner number for) = ⊥
+IsFirst words (phase.Fade owner None purpose.Drop) = Unit {0}
+IsFirst words (phase.Fade owner None (purpose.Publish keeping kept)) = ⊥
+IsFirst words (phase.Fade owner None (purpose.Oldest head kept)) = ⊥
+IsFirst words (phase.Fade owner (Some number) for) = ⊥
 IsFirst words (phase.Reset owner number for) = ⊥
 IsFirst words (phase.Free owner number for) = ⊥
 
 -- it begins with a probe
 abbrev pub IsProbe : Phase → Type 0
 IsProbe (phase.Load name) = ⊥
+IsProbe (phase.Look name owner) = ⊥
+IsProbe (phase.Raise name owner) = ⊥
+IsProbe (phase.Note name owner) = ⊥
 IsProbe (phase.Probe version keeping) = Unit {0}
 IsProbe (phase.Prepare version keeping) = ⊥
 IsProbe (phase.Swap keeping) = ⊥
@@ -416,26 +427,104 @@ load_done left words new name event enough (number, found, few, told_is, new_is)
     let made_here : Makes words word.Load (told.Loaded (length words.owners) number) new = (number, found, few, refl, new_is) in
     done_by left words new (phase.Load name) _ (omega arith) (went words new (phase.Load name) (told.Loaded (length words.owners) number) _ made_here refl) tt
 
-first_done : (words new : Zones) (cell : Cell Numbered) (at : Phase) (event : WordEvent) → IsFirst words at → Shows words cell → (IsProbe at → length cell.published < 2 ^ 64) → Makes words (word_step at) event new → IsDone (steps_up_to most_steps words at).0
-first_done words new cell (phase.Load name) event is s few m = load_done most_steps words new name event (omega arith) m
-first_done words new cell (phase.Probe version keeping) event is s few (place, there, at, found, m) = probe_ends most_steps words cell version keeping place (omega arith) s is (few tt) at
-first_done words new cell (phase.Release owner purpose.Drop) event is s few (number, place, there, seat, found, m) = release_ends most_steps words cell owner number place purpose.Drop (drop_passes owner) (omega arith) s seat tt
-first_done words new cell (phase.Release owner (purpose.Publish keeping kept)) event is s few m = absurd is
-first_done words new cell (phase.Release owner (purpose.Oldest head kept)) event is s few m = absurd is
-first_done words new cell (phase.Prepare version keeping) event is s few m = absurd is
-first_done words new cell (phase.Swap keeping) event is s few m = absurd is
-first_done words new cell (phase.Settle keeping) event is s few m = absurd is
-first_done words new cell (phase.Keep given keeping) event is s few m = absurd is
-first_done words new cell (phase.Bury owner for) event is s few m = absurd is
-first_done words new cell (phase.Fade owner number for) event is s few m = absurd is
-first_done words new cell (phase.Reset owner number for) event is s few m = absurd is
-first_done words new cell (phase.Free owner number for) event is s few m = absurd is
+raise_done : (left : ℕ) (words new : Zones) (name : List ℕ) (from : ℕ) (event : WordEvent) → 1 ≤ left → Makes words (word.Raise from) event new → IsDone (steps_up_to left words (phase.Raise name from)).0
+raise_done left words new name from event enough (number, place, there, own, found, room, m) =
+    elim (cases_Bool (nat_lt there.shares dead_word)) [
+      | inl little ↦ (
+          let h = rw little at m in
+          let made_here : Makes words (word.Raise from) (told.Raised (length words.owners) number) new = (number, place, there, own, found, room, rw little (refl, h.1)) in
+          done_by left words new (phase.Raise name from) _ (omega (arith, enough)) (went words new (phase.Raise name from) (told.Raised (length words.owners) number) _ made_here refl) tt
+          )
+      | inr great ↦ (
+          let h = rw great at m in
+          let made_here : Makes words (word.Raise from) told.Dead new = (number, place, there, own, found, room, rw great (refl, h.1)) in
+          done_by left words new (phase.Raise name from) _ (omega (arith, enough)) (went words new (phase.Raise name from) told.Dead _ made_here refl) tt
+          )
+    ]
+
+note_done : (left : ℕ) (words new : Zones) (name : List ℕ) (from : ℕ) (event : WordEvent) → 1 ≤ left → Makes words (word.Note from) event new → IsDone (steps_up_to left words (phase.Note name from)).0
+note_done left words new name from event enough (number, place, there, seat, found, room, told_is, new_is) =
+    let made_here : Makes words (word.Note from) (told.Noted (length words.owners) number) new = (number, place, there, seat, found, room, refl, new_is) in
+    done_by left words new (phase.Note name from) _ (omega (arith, enough)) (went words new (phase.Note name from) (told.Noted (length words.owners) number) _ made_here refl) tt
+
+-- a weak owner's release
+weak_done : (words new : Zones) (cell : Cell Numbered) (owner : ℕ) (event : WordEvent) → Shows words cell → Makes words (word.Fade owner) event new → IsDone (steps_up_to most_steps words (phase.Fade owner None purpose.Drop)).0
+weak_done words new cell owner event s (place, there, fades, found, m) =
+    elim (to_fade words owner place fades) [
+      | inl seat ↦ fade_ends most_steps words cell owner place (Weakly seat.0 place) None purpose.Drop (drop_passes owner) (omega arith) s seat.1 refl tt
+      | inr seat ↦ fade_ends most_steps words cell owner place (Fading place) None purpose.Drop (drop_passes owner) (omega arith) s seat refl tt
+    ]
+
+-- a raise behind a look is made, or nothing has changed
+raise_then : (left : ℕ) (words : Zones) (name : List ℕ) (from : ℕ) (o : Option (Progress × Zones)) → 1 ≤ left → step_once words (phase.Raise name from) ≡ o → Unchanged words (steps_up_to left words (phase.Raise name from))
+raise_then left words name from None enough e = subst (λ (c : Progress × Zones). Unchanged words c) (sym (stays_there left words (phase.Raise name from) (omega (arith, enough)) e)) refl
+raise_then left words name from (Some came) enough e =
+    let one = one_step words came.1 (phase.Raise name from) came.0 e in
+    done_unchanged words (steps_up_to left words (phase.Raise name from)) (raise_done left words came.1 name from one.event enough one.makes)
+
+look_then : (words new : Zones) (name : List ℕ) (from : ℕ) (event : WordEvent) → Makes words (word.Look from) event new → Unchanged words (steps_up_to most_steps words (phase.Look name from))
+look_then words new name from event (number, place, there, own, found, m) =
+    elim (cases_Bool (nat_lt there.shares dead_word)) [
+      | inl little ↦ (
+          let made_here : Makes words (word.Look from) told.Alive words = (number, place, there, own, found, rw little (refl, refl)) in
+          let goes = goes_further most_steps words words (phase.Look name from) (phase.Raise name from) (omega arith) (went words words (phase.Look name from) told.Alive (On (phase.Raise name from)) made_here refl) in
+          subst (λ (c : Progress × Zones). Unchanged words c) (sym goes) (raise_then (most_steps - 1) words name from (step_once words (phase.Raise name from)) (omega arith) refl)
+          )
+      | inr great ↦ (
+          let made_here : Makes words (word.Look from) told.Dead words = (number, place, there, own, found, rw great (refl, refl)) in
+          done_unchanged words (steps_up_to most_steps words (phase.Look name from))
+          (done_by most_steps words words (phase.Look name from) _ (omega arith) (went words words (phase.Look name from) told.Dead _ made_here refl) tt)
+          )
+    ]
+
+-- it isn't a look
+abbrev IsNoLook : Phase → Type 0
+IsNoLook (phase.Look name owner) = ⊥
+IsNoLook at = Unit {0}
+
+first_done : (words new : Zones) (cell : Cell Numbered) (at : Phase) (event : WordEvent) → IsFirst words at → IsNoLook at → Shows words cell → (IsProbe at → length cell.published < 2 ^ 64) → Makes words (word_step at) event new → IsDone (steps_up_to most_steps words at).0
+first_done words new cell (phase.Load name) event is not_look s few m = load_done most_steps words new name event (omega arith) m
+first_done words new cell (phase.Look name owner) event is not_look s few m = absurd not_look
+first_done words new cell (phase.Raise name owner) event is not_look s few m = raise_done most_steps words new name owner event (omega arith) m
+first_done words new cell (phase.Note name owner) event is not_look s few m = note_done most_steps words new name owner event (omega arith) m
+first_done words new cell (phase.Probe version keeping) event is not_look s few (place, there, at, found, m) = probe_ends most_steps words cell version keeping place (omega arith) s is (few tt) at
+first_done words new cell (phase.Release owner purpose.Drop) event is not_look s few (number, place, there, seat, found, m) = release_ends most_steps words cell owner number place purpose.Drop (drop_passes owner) (omega arith) s seat tt
+first_done words new cell (phase.Release owner (purpose.Publish keeping kept)) event is not_look s few m = absurd is
+first_done words new cell (phase.Release owner (purpose.Oldest head kept)) event is not_look s few m = absurd is
+first_done words new cell (phase.Prepare version keeping) event is not_look s few m = absurd is
+first_done words new cell (phase.Swap keeping) event is not_look s few m = absurd is
+first_done words new cell (phase.Settle keeping) event is not_look s few m = absurd is
+first_done words new cell (phase.Keep given keeping) event is not_look s few m = absurd is
+first_done words new cell (phase.Bury owner for) event is not_look s few m = absurd is
+first_done words new cell (phase.Fade owner None purpose.Drop) event is not_look s few m = weak_done words new cell owner event s m
+first_done words new cell (phase.Fade owner None (purpose.Publish keeping kept)) event is not_look s few m = absurd is
+first_done words new cell (phase.Fade owner None (purpose.Oldest head kept)) event is not_look s few m = absurd is
+first_done words new cell (phase.Fade owner (Some number) for) event is not_look s few m = absurd is
+first_done words new cell (phase.Reset owner number for) event is not_look s few m = absurd is
+first_done words new cell (phase.Free owner number for) event is not_look s few m = absurd is
+
+-- a call that begins and takes its first step comes to its end, or has changed nothing
+first_then : (words new : Zones) (cell : Cell Numbered) (at : Phase) (event : WordEvent) → IsFirst words at → Shows words cell → (IsProbe at → length cell.published < 2 ^ 64) → Makes words (word_step at) event new → Unchanged words (steps_up_to most_steps words at)
+first_then words new cell (phase.Look name owner) event is s few m = look_then words new name owner event m
+first_then words new cell (phase.Load name) event is s few m = done_unchanged words (steps_up_to most_steps words (phase.Load name)) (first_done words new cell (phase.Load name) event is tt s few m)
+first_then words new cell (phase.Raise name owner) event is s few m = done_unchanged words (steps_up_to most_steps words (phase.Raise name owner)) (first_done words new cell (phase.Raise name owner) event is tt s few m)
+first_then words new cell (phase.Note name owner) event is s few m = done_unchanged words (steps_up_to most_steps words (phase.Note name owner)) (first_done words new cell (phase.Note name owner) event is tt s few m)
+first_then words new cell (phase.Probe version keeping) event is s few m = done_unchanged words (steps_up_to most_steps words (phase.Probe version keeping)) (first_done words new cell (phase.Probe version keeping) event is tt s few m)
+first_then words new cell (phase.Prepare version keeping) event is s few m = absurd is
+first_then words new cell (phase.Swap keeping) event is s few m = absurd is
+first_then words new cell (phase.Settle keeping) event is s few m = absurd is
+first_then words new cell (phase.Keep given keeping) event is s few m = absurd is
+first_then words new cell (phase.Release owner for) event is s few m = done_unchanged words (steps_up_to most_steps words (phase.Release owner for)) (first_done words new cell (phase.Release owner for) event is tt s few m)
+first_then words new cell (phase.Bury owner for) event is s few m = absurd is
+first_then words new cell (phase.Fade owner number for) event is s few m = done_unchanged words (steps_up_to most_steps words (phase.Fade owner number for)) (first_done words new cell (phase.Fade owner number for) event is tt s few m)
+first_then words new cell (phase.Reset owner number for) event is s few m = absurd is
+first_then words new cell (phase.Free owner number for) event is s few m = absurd is
 
 pub first_by : (words : Zones) (cell : Cell Numbered) (at : Phase) (o : Option (Progress × Zones)) → step_once words at ≡ o → IsFirst words at → Shows words cell → (IsProbe at → length cell.published < 2 ^ 64) → Unchanged words (steps_up_to most_steps words at)
 first_by words cell at None e is s few = subst (λ (c : Progress × Zones). Unchanged words c) (sym (stays_there most_steps words at (omega arith) e)) refl
 first_by words cell at (Some came) e is s few =
     let one = one_step words came.1 at came.0 e in
-    done_unchanged words (steps_up_to most_steps words at) (first_done words came.1 cell at one.event is s few one.makes)
+    first_then words came.1 cell at one.event is s few one.makes
 
 -- calls begin so
 abbrev pub FirstOf : Zones → Start → Type 0
@@ -447,9 +536,25 @@ first_if : (words : Zones) (test : Bool) (one two : Start) → (test ≡ true �
 first_if words true one two a b = a refl
 first_if words false one two a b = b refl
 
-drop_first : (words : Zones) (owner : Option ℕ) → FirstOf words (drop_start owner)
-drop_first words None = tt
-drop_first words (Some owner) = tt
+drop_first : (words : Zones) (calls : List UnderWay) (owner : Option ℕ) → FirstOf words (drop_start calls owner)
+drop_first words calls None = tt
+drop_first words calls (Some owner) = first_if words (is_used calls owner) _ _ (λ e. tt) (λ e. tt)
+
+fade_first : (words : Zones) (calls : List UnderWay) (owner : Option ℕ) → FirstOf words (fade_start calls owner)
+fade_first words calls None = tt
+fade_first words calls (Some owner) = first_if words (is_used calls owner) _ _ (λ e. tt) (λ e. tt)
+
+copy_first : (words : Zones) (name : List ℕ) (owner : Option ℕ) → FirstOf words (copy_start name owner)
+copy_first words name None = tt
+copy_first words name (Some owner) = tt
+
+weak_first : (words : Zones) (name : List ℕ) (owner : Option ℕ) → FirstOf words (weak_start name owner)
+weak_first words name None = tt
+weak_first words name (Some owner) = tt
+
+up_first : (words : Zones) (calls : List UnderWay) (name : List ℕ) (owner : Option ℕ) → FirstOf words (up_start calls name owner)
+up_first words calls name None = tt
+up_first words calls name (Some owner) = first_if words (is_used calls owner) _ _ (λ e. tt) (λ e. tt)
 
 said_first : (words : Zones) (zone : List Record) (said : Parsed) → FirstOf words (ask_said zone said)
 said_first words zone said = first_if words (asks_update said || asks_sent Udp zone said) _ _ (λ e. tt) (λ e. tt)
@@ -511,7 +616,11 @@ update_first world (Some (judgement.Makes head version)) = publication_first wor
 
 pub start_first : (world : World) (call : Call) → FirstOf world.words (start world call)
 start_first world (Load name) = first_if world.words (is_taken name world) _ _ (λ e. tt) (λ e. tt)
-start_first world (Drop name) = drop_first world.words (owner_of name world.names)
+start_first world (Drop name) = drop_first world.words world.calls (owner_of name world.names)
+start_first world (Copy given name) = first_if world.words (is_taken name world) _ _ (λ e. tt) (λ e. copy_first world.words name (owner_of given world.names))
+start_first world (Weak given name) = first_if world.words (is_taken_weakly name world || list_any (λ call. updates call.phase) world.calls) _ _ (λ e. tt) (λ e. weak_first world.words name (owner_of given world.names))
+start_first world (Fade name) = fade_first world.words world.calls (owner_of name world.weak_names)
+start_first world (Up weak name) = first_if world.words (is_taken name world) _ _ (λ e. tt) (λ e. up_first world.words world.calls name (owner_of weak world.weak_names))
 start_first world (Ask name request) = ask_first world.words (zone_of name world) request
 start_first world (Transfer name request) = transfer_first world.words world (version_of name world) request
 start_first world (Update request) = first_if world.words (list_any (λ call. updates call.phase) world.calls) _ _ (λ e. tt) (λ e. update_first world (option_and_then (λ last. judged last request) (found_last world.words)))

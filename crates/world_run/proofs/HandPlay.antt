@@ -34,15 +34,15 @@ use Rattle.world_run.specs.declared.calls.UnderWay.{UnderWay}
 use Rattle.world_run.specs.declared.start.Start.{Start}
 use Rattle.world_run.specs.declared.start.Start.TheVariants.{Refused, Answers, Takes}
 use Rattle.world_run.specs.declared.step.Call.{Call}
-use Rattle.world_run.specs.declared.step.Call.TheVariants.{Load, Drop, Ask, Transfer, Update}
+use Rattle.world_run.specs.declared.step.Call.TheVariants.{Load, Drop, Copy, Weak, Fade, Up, Ask, Transfer, Update}
 use Rattle.world_run.specs.declared.step.WorldReply.{WorldReply}
 use Rattle.world_run.specs.declared.step.WorldStep.{WorldStep as Line}
 use Rattle.world_run.specs.declared.step.WorldStep.TheVariants.{Whole, Begin, Next}
 use Rattle.world_run.specs.Judgements.{asks_update, judged}
 use Rattle.world_run.specs.Numbered.{first_version}
-use Rattle.world_run.specs.Phases.{reserves, updates}
+use Rattle.world_run.specs.Phases.{reserves, reserves_weakly, updates}
 use Rattle.world_run.specs.Replays.{IsSentAt}
-use Rattle.world_run.specs.World.{World, loaded_once, started, owner_of, call_of, without_call, is_taken, is_held, drop_start, asks_sent, ask_start, transfer_asked, transfer_said, transfer_start, oldest_kept, publication_start, update_start, start, version_of, zone_of, given_up, step_once, steps_up_to, most_steps, is_full, all_made, whole, begin, begin_under, stepped, next, turn, onto_replies, play}
+use Rattle.world_run.specs.World.{World, loaded_once, started, owner_of, call_of, without_call, is_taken, is_taken_weakly, is_used, is_held, drop_start, fade_start, copy_start, weak_start, up_start, asks_sent, ask_start, transfer_asked, transfer_said, transfer_start, oldest_kept, publication_start, update_start, start, version_of, zone_of, given_up, weak_given_up, step_once, steps_up_to, most_steps, is_full, all_made, whole, begin, begin_under, stepped, next, turn, onto_replies, play}
 use Rattle.world_run.proofs.CallReplays.{Script, script, any_update}
 use Rattle.world_run.proofs.EndLemmas.{IsProbe, FirstOf, Unchanged, first_by, start_first}
 use Rattle.world_run.proofs.ReplayLemmas.{Goes, AllSent, turn_goes, all_sent, start_goes, last_replay}
@@ -50,15 +50,15 @@ use Rattle.cell_core.specs.declared.words.Owner.TheVariants.{Holding}
 use Rattle.world_run.proofs.HandLemmas.{times, lives, other_equal}
 use Rattle.world_run.proofs.HandSteps.{Zones, seat}
 use Rattle.world_run.proofs.HandLemmas.Hand.{has}
-use Rattle.world_run.proofs.HandWorld.{reserved_by, called, named_by, Open, Hands, nothing_apart, step_open, many_open}
+use Rattle.world_run.proofs.HandWorld.{reserved_by, weak_reserved_by, called, named_by, Open, Hands, nothing_apart, step_open, many_open}
 use Rattle.world_run.proofs.HandTurns.{taken_out, put_back, Among, among}
-use Rattle.world_run.proofs.HandEnds.{closed, load_open, drop_open, update_open}
+use Rattle.world_run.proofs.HandEnds.{closed, load_open, look_open, raise_open, note_open, drop_open, fade_open, update_open}
 
 -- a call that begins has in hand what it is to give up
 abbrev pub BeginsOk : World → Cell Numbered → Call → Start → Type 0
 BeginsOk world cell call Refused = Unit {0}
 BeginsOk world cell call (Answers given) = Unit {0}
-BeginsOk world cell call (Takes at) = Open world.words (given_up call world.names) world.kept world.keep world.calls (On at) × (IsProbe at → length cell.published < 2 ^ 64)
+BeginsOk world cell call (Takes at) = Open world.words (given_up call world.names) (weak_given_up call world.weak_names) world.kept world.keep world.calls (On at) × (IsProbe at → length cell.published < 2 ^ 64)
 
 begins_if : (world : World) (cell : Cell Numbered) (call : Call) (test : Bool) (one two : Start) → (test ≡ true → BeginsOk world cell call one) → (test ≡ false → BeginsOk world cell call two) → BeginsOk world cell call (if test then one else two)
 begins_if world cell call true one two a b = a refl
@@ -84,14 +84,56 @@ none_reserved name (x ∷ calls) e =
     let more = none_reserved name calls parts.1 in
     omega (arith, one, more)
 
+none_weakly : (name : List ℕ) (calls : List UnderWay) → list_any (λ (call : UnderWay). reserves_weakly name call.phase) calls ≡ false → weak_reserved_by name calls ≡ 0
+none_weakly name [] e = refl
+none_weakly name (x ∷ calls) e =
+    let parts = or_false (reserves_weakly name x.phase) (list_any (λ (call : UnderWay). reserves_weakly name call.phase) calls) e in
+    let one : one_if (reserves_weakly name x.phase) ≡ 0 = rw parts.0 refl in
+    let more = none_weakly name calls parts.1 in
+    omega (arith, one, more)
+
+-- a name that isn't taken
+untaken : (world : World) (name : List ℕ) → is_taken name world ≡ false → (named_by name world.names ≡ 0) × (reserved_by name world.calls ≡ 0)
+untaken world name e =
+    let parts = or_false (list_any (λ (named : Named). bytes_eq named.name name) world.names) (list_any (λ (call : UnderWay). reserves name call.phase) world.calls) e in
+    (none_named name world.names parts.0, none_reserved name world.calls parts.1)
+
 load_begins : (world : World) (cell : Cell Numbered) (name : List ℕ) → Hands world → is_taken name world ≡ false → BeginsOk world cell (Load name) (Takes (phase.Load name))
 load_begins world cell name h e =
-    let parts = or_false (list_any (λ (named : Named). bytes_eq named.name name) world.names) (list_any (λ (call : UnderWay). reserves name call.phase) world.calls) e in
-    (load_open world.words world.names world.kept world.keep world.calls name (none_named name world.names parts.0) (none_reserved name world.calls parts.1) h, λ p. absurd p)
+    let t = untaken world name e in
+    (load_open world.words world.names world.weak_names world.kept world.keep world.calls name t.0 t.1 h, λ p. absurd p)
 
-drop_begins : (world : World) (cell : Cell Numbered) (name : List ℕ) (o : Option ℕ) → owner_of name world.names ≡ o → Hands world → BeginsOk world cell (Drop name) (drop_start o)
+drop_begins : (world : World) (cell : Cell Numbered) (name : List ℕ) (o : Option ℕ) → owner_of name world.names ≡ o → Hands world → BeginsOk world cell (Drop name) (drop_start world.calls o)
 drop_begins world cell name None e h = tt
-drop_begins world cell name (Some owner) e h = (drop_open world.words world.names world.kept world.keep world.calls name owner e h, λ p. absurd p)
+drop_begins world cell name (Some owner) e h =
+    begins_if world cell (Drop name) (is_used world.calls owner) _ _ (λ used. tt)
+    (λ unused. (drop_open world.words world.names world.weak_names world.kept world.keep world.calls name owner e h, λ p. absurd p))
+
+fade_begins : (world : World) (cell : Cell Numbered) (name : List ℕ) (o : Option ℕ) → owner_of name world.weak_names ≡ o → Hands world → BeginsOk world cell (Fade name) (fade_start world.calls o)
+fade_begins world cell name None e h = tt
+fade_begins world cell name (Some owner) e h =
+    begins_if world cell (Fade name) (is_used world.calls owner) _ _ (λ used. tt)
+    (λ unused. (fade_open world.words world.names world.weak_names world.kept world.keep world.calls name owner e h, λ p. absurd p))
+
+copy_begins : (world : World) (cell : Cell Numbered) (given name : List ℕ) (o : Option ℕ) → Hands world → is_taken name world ≡ false → BeginsOk world cell (Copy given name) (copy_start name o)
+copy_begins world cell given name None h e = tt
+copy_begins world cell given name (Some owner) h e =
+    let t = untaken world name e in
+    (raise_open world.words world.names world.weak_names world.kept world.keep world.calls name owner t.0 t.1 h, λ p. absurd p)
+
+up_begins : (world : World) (cell : Cell Numbered) (weak name : List ℕ) (o : Option ℕ) → Hands world → is_taken name world ≡ false → BeginsOk world cell (Up weak name) (up_start world.calls name o)
+up_begins world cell weak name None h e = tt
+up_begins world cell weak name (Some owner) h e =
+    let t = untaken world name e in
+    begins_if world cell (Up weak name) (is_used world.calls owner) _ _ (λ used. tt)
+    (λ unused. (look_open world.words world.names world.weak_names world.kept world.keep world.calls name owner t.0 t.1 h, λ p. absurd p))
+
+weak_begins : (world : World) (cell : Cell Numbered) (given name : List ℕ) (o : Option ℕ) → Hands world → (is_taken_weakly name world || any_update world.calls) ≡ false → BeginsOk world cell (Weak given name) (weak_start name o)
+weak_begins world cell given name None h e = tt
+weak_begins world cell given name (Some owner) h e =
+    let taken = (or_false (is_taken_weakly name world) (any_update world.calls) e).0 in
+    let parts = or_false (list_any (λ (named : Named). bytes_eq named.name name) world.weak_names) (list_any (λ (call : UnderWay). reserves_weakly name call.phase) world.calls) taken in
+    (note_open world.words world.names world.weak_names world.kept world.keep world.calls name owner (none_named name world.weak_names parts.0) (none_weakly name world.calls parts.1) h, λ p. absurd p)
 
 -- calls that take no step
 abbrev IsStill : Start → Type 0
@@ -146,7 +188,7 @@ has_room last request what e =
 publication_begins : (world : World) (cell : Cell Numbered) (request : List ℕ) (head : Heading) (version : Numbered) → any_update world.calls ≡ false → length cell.published < 2 ^ 64 → Hands world → BeginsOk world cell (Update request) (publication_start world.words head version (oldest_kept world.keep world.kept))
 publication_begins world cell request head version none few h =
     begins_if world cell (Update request) (nat_lt world.words.granted grants && is_held world.words (oldest_kept world.keep world.kept)) _ _
-    (λ e. (update_open world.words world.names world.kept world.keep world.calls head version none h, λ p. few)) (λ e. tt)
+    (λ e. (update_open world.words world.names world.weak_names world.kept world.keep world.calls head version none h, λ p. few)) (λ e. tt)
 
 judged_begins : (S : Script) (first : List Record) (world : World) (request : List ℕ) (last : Numbered) (what : Option Judged) (g : Goes S first world) → judged last request ≡ what → found_last world.words ≡ Some last → any_update world.calls ≡ false → Hands world
     → BeginsOk world g.tells.cell (Update request) (update_start world what)
@@ -165,6 +207,10 @@ found_begins S first world request (Some last) g found none h = judged_begins S 
 pub start_begins : (S : Script) (first : List Record) (world : World) (call : Call) (g : Goes S first world) → Hands world → BeginsOk world g.tells.cell call (start world call)
 start_begins S first world (Load name) g h = begins_if world g.tells.cell (Load name) (is_taken name world) _ _ (λ e. tt) (λ e. load_begins world g.tells.cell name h e)
 start_begins S first world (Drop name) g h = drop_begins world g.tells.cell name (owner_of name world.names) refl h
+start_begins S first world (Copy given name) g h = begins_if world g.tells.cell (Copy given name) (is_taken name world) _ _ (λ e. tt) (λ e. copy_begins world g.tells.cell given name (owner_of given world.names) h e)
+start_begins S first world (Weak given name) g h = begins_if world g.tells.cell (Weak given name) (is_taken_weakly name world || any_update world.calls) _ _ (λ e. tt) (λ e. weak_begins world g.tells.cell given name (owner_of given world.names) h e)
+start_begins S first world (Fade name) g h = fade_begins world g.tells.cell name (owner_of name world.weak_names) refl h
+start_begins S first world (Up weak name) g h = begins_if world g.tells.cell (Up weak name) (is_taken name world) _ _ (λ e. tt) (λ e. up_begins world g.tells.cell weak name (owner_of weak world.weak_names) h e)
 start_begins S first world (Ask name request) g h = still_begins world g.tells.cell (Ask name request) _ (ask_still (zone_of name world) request)
 start_begins S first world (Transfer name request) g h = still_begins world g.tells.cell (Transfer name request) _ (transfer_still world (version_of name world) request)
 start_begins S first world (Update request) g h =
@@ -186,9 +232,9 @@ to_if : (test : Bool) (one two : Option (WorldReply × World)) → HandsBehind o
 to_if true one two a b = a
 to_if false one two a b = b
 
-made_hands : (world : World) (call : Call) (came : Progress × Zones) → Hands world → Unchanged world.words came → Open came.1 (given_up call world.names) world.kept world.keep world.calls came.0 → Hands (all_made world call came).1
-made_hands world call (On at, words) h same o = subst (λ (w : Zones). Open w world.names world.kept world.keep world.calls nothing_apart) (sym same) h
-made_hands world call (Done end, words) h same o = closed words (given_up call world.names) world.kept world.keep world.calls end o
+made_hands : (world : World) (call : Call) (came : Progress × Zones) → Hands world → Unchanged world.words came → Open came.1 (given_up call world.names) (weak_given_up call world.weak_names) world.kept world.keep world.calls came.0 → Hands (all_made world call came).1
+made_hands world call (On at, words) h same o = subst (λ (w : Zones). Open w world.names world.weak_names world.kept world.keep world.calls nothing_apart) (sym same) h
+made_hands world call (Done end, words) h same o = closed words (given_up call world.names) (weak_given_up call world.weak_names) world.kept world.keep world.calls end o
 
 whole_hands : (world : World) (cell : Cell Numbered) (call : Call) (how : Start) → Hands world → Shows world.words cell → FirstOf world.words how → BeginsOk world cell call how → HandsBehind (whole world call how)
 whole_hands world cell call Refused h s is ok = to_some _ h
@@ -197,7 +243,7 @@ whole_hands world cell call (Takes at) h s is ok =
     to_if (is_full world) _ _ to_none
     (to_some _ (made_hands world call (steps_up_to most_steps world.words at) h
     (first_by world.words cell at (step_once world.words at) refl is s ok.1)
-    (many_open most_steps (given_up call world.names) world.kept world.keep world.calls world.words at ok.0)))
+    (many_open most_steps (given_up call world.names) (weak_given_up call world.weak_names) world.kept world.keep world.calls world.words at ok.0)))
 
 none_called : (name : List ℕ) (calls : List UnderWay) → call_of name calls ≡ None → called name calls ≡ 0
 none_called name [] e = refl
@@ -212,37 +258,37 @@ none_called name (x ∷ calls) e =
     ]
 
 -- a call goes to the end of those under way
-to_calls : (words : Zones) (names : List Named) (kept : List ℕ) (keep : ℕ) (calls : List UnderWay) (name : List ℕ) (at : Phase) → called name calls ≡ 0 → Open words names kept keep calls (On at) → Open words names kept keep (calls ++ record { name = name; phase = at } ∷ []) nothing_apart
-to_calls words names kept keep calls name at none o =
+to_calls : (words : Zones) (names weaks : List Named) (kept : List ℕ) (keep : ℕ) (calls : List UnderWay) (name : List ℕ) (at : Phase) → called name calls ≡ 0 → Open words names weaks kept keep calls (On at) → Open words names weaks kept keep (calls ++ record { name = name; phase = at } ∷ []) nothing_apart
+to_calls words names weaks kept keep calls name at none o =
     let e = append-nil calls in
-    put_back words names kept keep calls [] (record { name = name; phase = at }) (ap (called name) e ∙ none) (subst (λ cs. Open words names kept keep cs (On at)) (sym e) o)
+    put_back words names weaks kept keep calls [] (record { name = name; phase = at }) (ap (called name) e ∙ none) (subst (λ cs. Open words names weaks kept keep cs (On at)) (sym e) o)
 
 begin_hands : (world : World) (cell : Cell Numbered) (name : List ℕ) (call : Call) (how : Start) → call_of name world.calls ≡ None → Hands world → BeginsOk world cell call how → HandsBehind (begin world name call how)
 begin_hands world cell name call Refused none h ok = to_some _ h
 begin_hands world cell name call (Answers given) none h ok = to_if (is_full world) _ _ to_none (to_some _ h)
 begin_hands world cell name call (Takes at) none h ok =
-    to_if (is_full world) _ _ to_none (to_some _ (to_calls world.words (given_up call world.names) world.kept world.keep world.calls name at (none_called name world.calls none) ok.0))
+    to_if (is_full world) _ _ to_none (to_some _ (to_calls world.words (given_up call world.names) (weak_given_up call world.weak_names) world.kept world.keep world.calls name at (none_called name world.calls none) ok.0))
 
 under_hands : (S : Script) (first : List Record) (world : World) (name : List ℕ) (call : Call) (other : Option UnderWay) → call_of name world.calls ≡ other → Goes S first world → Hands world → HandsBehind (begin_under world name call other)
 under_hands S first world name call None e g h = begin_hands world g.tells.cell name call (start world call) e h (start_begins S first world call g h)
 under_hands S first world name call (Some other) e g h = to_some _ h
 
 -- the call of a name, apart from the others
-apart : (world : World) (name : List ℕ) (call : UnderWay) → Among name world.calls call → Hands world → Open world.words world.names world.kept world.keep (without_call name world.calls) (On call.phase)
+apart : (world : World) (name : List ℕ) (call : UnderWay) → Among name world.calls call → Hands world → Open world.words world.names world.weak_names world.kept world.keep (without_call name world.calls) (On call.phase)
 apart world name call a h =
-    subst (λ cs. Open world.words world.names world.kept world.keep cs (On call.phase)) (sym a.rest)
-    (taken_out world.words world.names world.kept world.keep a.front a.back call (subst (λ cs. Open world.words world.names world.kept world.keep cs nothing_apart) a.whole h))
+    subst (λ cs. Open world.words world.names world.weak_names world.kept world.keep cs (On call.phase)) (sym a.rest)
+    (taken_out world.words world.names world.weak_names world.kept world.keep a.front a.back call (subst (λ cs. Open world.words world.names world.weak_names world.kept world.keep cs nothing_apart) a.whole h))
 
 stepped_hands : (world : World) (name : List ℕ) (call : UnderWay) (o : Option (Progress × Zones)) → call_of name world.calls ≡ Some call → step_once world.words call.phase ≡ o → Hands world → Hands (stepped world name call.phase o).1
 stepped_hands world name call None found is h = h
 stepped_hands world name call (Some (On further, words)) found is h =
     let a = among name world.calls call (h.calls_once name) found in
-    to_calls words world.names world.kept world.keep (without_call name world.calls) name further (ap (called name) a.rest ∙ a.none)
-    (step_open world.words words world.names world.kept world.keep (without_call name world.calls) call.phase (On further) is (apart world name call a h))
+    to_calls words world.names world.weak_names world.kept world.keep (without_call name world.calls) name further (ap (called name) a.rest ∙ a.none)
+    (step_open world.words words world.names world.weak_names world.kept world.keep (without_call name world.calls) call.phase (On further) is (apart world name call a h))
 stepped_hands world name call (Some (Done end, words)) found is h =
     let a = among name world.calls call (h.calls_once name) found in
-    closed words world.names world.kept world.keep (without_call name world.calls) end
-    (step_open world.words words world.names world.kept world.keep (without_call name world.calls) call.phase (Done end) is (apart world name call a h))
+    closed words world.names world.weak_names world.kept world.keep (without_call name world.calls) end
+    (step_open world.words words world.names world.weak_names world.kept world.keep (without_call name world.calls) call.phase (Done end) is (apart world name call a h))
 
 next_hands : (world : World) (name : List ℕ) (o : Option UnderWay) → call_of name world.calls ≡ o → Hands world → Hands (next world name o).1
 next_hands world name None found h = h
@@ -361,6 +407,7 @@ started_hands first keep window =
       seated = record { fit = ((0, refl), tt); exact = λ i. first_exact i };
       publisher = λ e f. refl;
       names_once = λ name. omega arith;
+      weak_once = λ name. omega arith;
       calls_once = λ name. omega arith;
     }
   where

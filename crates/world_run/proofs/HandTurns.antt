@@ -8,12 +8,12 @@ use Rattle.cell_core.specs.declared.words.Owner.{Owner}
 use Rattle.world_run.specs.declared.phase.Progress.TheVariants.{On}
 use Rattle.world_run.specs.declared.names.Named.{Named}
 use Rattle.world_run.specs.declared.calls.UnderWay.{UnderWay}
-use Rattle.world_run.specs.Phases.{reserves, updates}
+use Rattle.world_run.specs.Phases.{reserves, reserves_weakly, updates}
 use Rattle.world_run.specs.World.{call_of, without_call, oldest_kept}
 use Rattle.world_run.proofs.CallReplays.{any_update, AtMostOne}
 use Rattle.world_run.proofs.HandLemmas.{Seat, AllFit, Seated, times, times_append, fit_append, fit_front, fit_back, seated_as}
 use Rattle.world_run.proofs.HandSteps.{Zones, phase_seats, OldestIn, swapped_in, publishes_in}
-use Rattle.world_run.proofs.HandWorld.{name_seats, kept_left, call_seats, AllOldest, swaps_of, any_publishes, reserved_by, called, rest_seats, Open, nothing_apart}
+use Rattle.world_run.proofs.HandWorld.{both_seats, kept_left, call_seats, AllOldest, swaps_of, any_publishes, reserved_by, weak_reserved_by, called, rest_seats, Open, nothing_apart}
 
 -- four lists of those in hand, one behind the other
 pub times_four : (i : ℕ) (a b c d : List Seat) → times i (a ++ (b ++ (c ++ d))) ≡ times i a + (times i b + (times i c + times i d))
@@ -56,6 +56,10 @@ swaps_split (x ∷ front) back c = let more = swaps_split front back c in omega 
 reserved_split : (name : List ℕ) (front back : List UnderWay) (c : UnderWay) → reserved_by name (front ++ c ∷ back) ≡ one_if (reserves name c.phase) + reserved_by name (front ++ back)
 reserved_split name [] back c = refl
 reserved_split name (x ∷ front) back c = let more = reserved_split name front back c in omega (arith, more)
+
+weak_reserved_split : (name : List ℕ) (front back : List UnderWay) (c : UnderWay) → weak_reserved_by name (front ++ c ∷ back) ≡ one_if (reserves_weakly name c.phase) + weak_reserved_by name (front ++ back)
+weak_reserved_split name [] back c = refl
+weak_reserved_split name (x ∷ front) back c = let more = weak_reserved_split name front back c in omega (arith, more)
 
 called_split : (name : List ℕ) (front back : List UnderWay) (c : UnderWay) → called name (front ++ c ∷ back) ≡ one_if (bytes_eq c.name name) + called name (front ++ back)
 called_split name [] back c = refl
@@ -114,20 +118,20 @@ one_join (x ∷ front) back c one alone =
     )
 
 -- a call is taken out from among the others
-pub taken_out : (words : Zones) (names : List Named) (kept : List ℕ) (keep : ℕ) (front back : List UnderWay) (c : UnderWay) → Open words names kept keep (front ++ c ∷ back) nothing_apart → Open words names kept keep (front ++ back) (On c.phase)
-taken_out words names kept keep front back c o =
+pub taken_out : (words : Zones) (names weaks : List Named) (kept : List ℕ) (keep : ℕ) (front back : List UnderWay) (c : UnderWay) → Open words names weaks kept keep (front ++ c ∷ back) nothing_apart → Open words names weaks kept keep (front ++ back) (On c.phase)
+taken_out words names weaks kept keep front back c o =
     let flag = any_split front back c in
     let kept_ones = kept_left o.from keep kept (any_update (front ++ c ∷ back)) in
-    let all = fits_four words.owners [] (name_seats names) kept_ones (call_seats o.last o.from (front ++ c ∷ back)) o.seated.fit in
+    let all = fits_four words.owners [] (both_seats names weaks) kept_ones (call_seats o.last o.from (front ++ c ∷ back)) o.seated.fit in
     let parts = call_fits words.owners o.last o.from front back c all.3 in
     let one = one_split front back c o.one in
     let olds = oldest_split (oldest_kept keep kept) front back c o.stills in
-    let s : Seated words.owners (phase_seats o.last o.from c.phase ++ rest_seats o.last o.from names kept keep (front ++ back) (any_update (front ++ c ∷ back))) =
-    seated_as words.owners _ (phase_seats o.last o.from c.phase ++ rest_seats o.last o.from names kept keep (front ++ back) (any_update (front ++ c ∷ back)))
-    (fit_four words.owners (phase_seats o.last o.from c.phase) (name_seats names) kept_ones (call_seats o.last o.from (front ++ back)) parts.0 all.1 all.2 parts.1)
+    let s : Seated words.owners (phase_seats o.last o.from c.phase ++ rest_seats o.last o.from names weaks kept keep (front ++ back) (any_update (front ++ c ∷ back))) =
+    seated_as words.owners _ (phase_seats o.last o.from c.phase ++ rest_seats o.last o.from names weaks kept keep (front ++ back) (any_update (front ++ c ∷ back)))
+    (fit_four words.owners (phase_seats o.last o.from c.phase) (both_seats names weaks) kept_ones (call_seats o.last o.from (front ++ back)) parts.0 all.1 all.2 parts.1)
     (λ i. (
-    let a = times_four i (phase_seats o.last o.from c.phase) (name_seats names) kept_ones (call_seats o.last o.from (front ++ back)) in
-    let b = times_four i [] (name_seats names) kept_ones (call_seats o.last o.from (front ++ c ∷ back)) in
+    let a = times_four i (phase_seats o.last o.from c.phase) (both_seats names weaks) kept_ones (call_seats o.last o.from (front ++ back)) in
+    let b = times_four i [] (both_seats names weaks) kept_ones (call_seats o.last o.from (front ++ c ∷ back)) in
     let d = call_times i o.last o.from front back c in
     omega (arith, a, b, d)
     )) o.seated in
@@ -146,24 +150,25 @@ taken_out words names kept keep front back c o =
       one = one.0;
       still = olds.0;
       stills = olds.1;
-      seated = subst (λ b. Seated words.owners (phase_seats o.last o.from c.phase ++ rest_seats o.last o.from names kept keep (front ++ back) b)) flag s;
+      seated = subst (λ b. Seated words.owners (phase_seats o.last o.from c.phase ++ rest_seats o.last o.from names weaks kept keep (front ++ back) b)) flag s;
       publisher = λ e f. o.publisher refl (publishes_split front back c ∙ rw e f);
       names_once = λ name. (let n = o.names_once name in let r = reserved_split name front back c in omega (arith, n, r));
+      weak_once = λ name. (let n = o.weak_once name in let r = weak_reserved_split name front back c in omega (arith, n, r));
       calls_once = λ name. (let n = o.calls_once name in let r = called_split name front back c in omega (arith, n, r));
     }
 
 -- and put back
-pub put_back : (words : Zones) (names : List Named) (kept : List ℕ) (keep : ℕ) (front back : List UnderWay) (c : UnderWay) → called c.name (front ++ back) ≡ 0 → Open words names kept keep (front ++ back) (On c.phase) → Open words names kept keep (front ++ c ∷ back) nothing_apart
-put_back words names kept keep front back c none o =
+pub put_back : (words : Zones) (names weaks : List Named) (kept : List ℕ) (keep : ℕ) (front back : List UnderWay) (c : UnderWay) → called c.name (front ++ back) ≡ 0 → Open words names weaks kept keep (front ++ back) (On c.phase) → Open words names weaks kept keep (front ++ c ∷ back) nothing_apart
+put_back words names weaks kept keep front back c none o =
     let flag = any_split front back c in
     let kept_ones = kept_left o.from keep kept (updates c.phase || any_update (front ++ back)) in
-    let all = fits_four words.owners (phase_seats o.last o.from c.phase) (name_seats names) kept_ones (call_seats o.last o.from (front ++ back)) o.seated.fit in
-    let s : Seated words.owners (rest_seats o.last o.from names kept keep (front ++ c ∷ back) (updates c.phase || any_update (front ++ back))) =
-    seated_as words.owners _ (rest_seats o.last o.from names kept keep (front ++ c ∷ back) (updates c.phase || any_update (front ++ back)))
-    (fit_four words.owners [] (name_seats names) kept_ones (call_seats o.last o.from (front ++ c ∷ back)) tt all.1 all.2 (calls_fit words.owners o.last o.from front back c all.0 all.3))
+    let all = fits_four words.owners (phase_seats o.last o.from c.phase) (both_seats names weaks) kept_ones (call_seats o.last o.from (front ++ back)) o.seated.fit in
+    let s : Seated words.owners (rest_seats o.last o.from names weaks kept keep (front ++ c ∷ back) (updates c.phase || any_update (front ++ back))) =
+    seated_as words.owners _ (rest_seats o.last o.from names weaks kept keep (front ++ c ∷ back) (updates c.phase || any_update (front ++ back)))
+    (fit_four words.owners [] (both_seats names weaks) kept_ones (call_seats o.last o.from (front ++ c ∷ back)) tt all.1 all.2 (calls_fit words.owners o.last o.from front back c all.0 all.3))
     (λ i. (
-    let a = times_four i (phase_seats o.last o.from c.phase) (name_seats names) kept_ones (call_seats o.last o.from (front ++ back)) in
-    let b = times_four i [] (name_seats names) kept_ones (call_seats o.last o.from (front ++ c ∷ back)) in
+    let a = times_four i (phase_seats o.last o.from c.phase) (both_seats names weaks) kept_ones (call_seats o.last o.from (front ++ back)) in
+    let b = times_four i [] (both_seats names weaks) kept_ones (call_seats o.last o.from (front ++ c ∷ back)) in
     let d = call_times i o.last o.from front back c in
     omega (arith, a, b, d)
     )) o.seated in
@@ -182,9 +187,10 @@ put_back words names kept keep front back c none o =
       one = one_join front back c o.one o.alone;
       still = tt;
       stills = oldest_join (oldest_kept keep kept) front back c o.still o.stills;
-      seated = subst (λ b. Seated words.owners (rest_seats o.last o.from names kept keep (front ++ c ∷ back) b)) (sym flag) s;
+      seated = subst (λ b. Seated words.owners (rest_seats o.last o.from names weaks kept keep (front ++ c ∷ back) b)) (sym flag) s;
       publisher = λ e f. (let parts = or_false (publishes_in c.phase) (any_publishes (front ++ back)) (sym (publishes_split front back c) ∙ f) in o.publisher parts.0 parts.1);
       names_once = λ name. (let n = o.names_once name in let r = reserved_split name front back c in omega (arith, n, r));
+      weak_once = λ name. (let n = o.weak_once name in let r = weak_reserved_split name front back c in omega (arith, n, r));
       calls_once = λ name. (
           let n = o.calls_once name in
           let r = called_split name front back c in

@@ -23,18 +23,23 @@ use Rattle.world_run.specs.declared.step.Answer.TheVariants as answer
 use Rattle.zone_tree.specs.Version.{Version as Numbered}
 use Rattle.world_run.specs.declared.phase.Purpose.{Purpose}
 use Rattle.world_run.specs.declared.phase.Purpose.TheVariants as purpose
-use Rattle.world_run.specs.Phases.{word_step, after, reserves, is_for_update, updates}
+use Rattle.world_run.specs.Phases.{word_step, after, reserves, reserves_weakly, is_for_update, updates}
 use Rattle.world_run.specs.World.{World, oldest_kept, step_once, steps_up_to, go_on}
 use Rattle.world_run.proofs.CallReplays.{publishes_nothing, any_update, AtMostOne}
 use Rattle.world_run.proofs.ReplayLemmas.{step_by}
 use Rattle.cell_core.specs.Made.{made}
-use Rattle.world_run.proofs.HandLemmas.{Seat, Seated}
-use Rattle.world_run.proofs.HandLemmas.Hand.{holds, has, buries, fades, resets, frees}
-use Rattle.world_run.proofs.HandSteps.{Zones, seat, for_seats, phase_seats, hand_seats, OldestIn, OldestAt, swapped_in, swapped_at, swaps_now, publishes_in, publishes_at, reserved_at, updates_at, went}
+use Rattle.world_run.proofs.HandLemmas.{Hand, Seat, Seated}
+use Rattle.world_run.proofs.HandLemmas.Hand.{holds, has, weakly, buries, fades, resets, frees}
+use Rattle.world_run.proofs.HandSteps.{Zones, seat, for_seats, phase_seats, hand_seats, OldestIn, OldestAt, swapped_in, swapped_at, swaps_now, publishes_in, publishes_at, reserved_at, weak_reserved_at, updates_at, went}
 
-abbrev pub name_seats : List Named → List Seat
-name_seats [] = []
-name_seats (n ∷ ns) = seat n.owner holds ∷ name_seats ns
+-- the owners of names, which are alike
+abbrev pub seats_as : Hand → List Named → List Seat
+seats_as hand [] = []
+seats_as hand (n ∷ ns) = seat n.owner hand ∷ seats_as hand ns
+
+-- the strong ones, and behind them the weak ones
+abbrev pub both_seats : List Named → List Named → List Seat
+both_seats names weaks = seats_as holds names ++ seats_as weakly weaks
 
 -- the versions that are kept have numbers in turn
 abbrev pub kept_seats : ℕ → List ℕ → List Seat
@@ -69,6 +74,10 @@ abbrev pub reserved_by : List ℕ → List UnderWay → ℕ
 reserved_by name [] = 0
 reserved_by name (c ∷ cs) = one_if (reserves name c.phase) + reserved_by name cs
 
+abbrev pub weak_reserved_by : List ℕ → List UnderWay → ℕ
+weak_reserved_by name [] = 0
+weak_reserved_by name (c ∷ cs) = one_if (reserves_weakly name c.phase) + weak_reserved_by name cs
+
 abbrev pub called : List ℕ → List UnderWay → ℕ
 called name [] = 0
 called name (c ∷ cs) = one_if (bytes_eq c.name name) + called name cs
@@ -78,11 +87,11 @@ named_by name [] = 0
 named_by name (n ∷ ns) = one_if (bytes_eq n.name name) + named_by name ns
 
 -- all that is in hand, beside a call apart
-abbrev pub rest_seats : ℕ → ℕ → List Named → List ℕ → ℕ → List UnderWay → Bool → List Seat
-rest_seats last from names kept keep calls update = name_seats names ++ (kept_left from keep kept update ++ call_seats last from calls)
+abbrev pub rest_seats : ℕ → ℕ → List Named → List Named → List ℕ → ℕ → List UnderWay → Bool → List Seat
+rest_seats last from names weaks kept keep calls update = both_seats names weaks ++ (kept_left from keep kept update ++ call_seats last from calls)
 
 -- the words with names, versions kept and calls under way, and a call apart: each owner that isn't spent is in one hand
-pub record Open (words : Zones) (names : List Named) (kept : List ℕ) (keep : ℕ) (calls : List UnderWay) (progress : Progress) : Type 0 where
+pub record Open (words : Zones) (names weaks : List Named) (kept : List ℕ) (keep : ℕ) (calls : List UnderWay) (progress : Progress) : Type 0 where
   pub cell : Cell Numbered
   pub shows : Shows words cell
   pub last : ℕ
@@ -96,9 +105,10 @@ pub record Open (words : Zones) (names : List Named) (kept : List ℕ) (keep : �
   pub one : AtMostOne calls
   pub still : OldestAt (oldest_kept keep kept) progress
   pub stills : AllOldest (oldest_kept keep kept) calls
-  pub seated : Seated words.owners (hand_seats last from (oldest_kept keep kept) progress ++ rest_seats last from names kept keep calls (updates_at progress || any_update calls))
+  pub seated : Seated words.owners (hand_seats last from (oldest_kept keep kept) progress ++ rest_seats last from names weaks kept keep calls (updates_at progress || any_update calls))
   pub publisher : publishes_at progress ≡ false → any_publishes calls ≡ false → words.publisher ≡ Probing 0
   pub names_once : (name : List ℕ) → named_by name names + (reserved_at name progress + reserved_by name calls) ≤ 1
+  pub weak_once : (name : List ℕ) → named_by name weaks + (weak_reserved_at name progress + weak_reserved_by name calls) ≤ 1
   pub calls_once : (name : List ℕ) → called name calls ≤ 1
 
 -- no call is apart
@@ -106,7 +116,7 @@ abbrev pub nothing_apart : Progress
 nothing_apart = Done (Told answer.Left)
 
 abbrev pub Hands : World → Type 0
-Hands world = Open world.words world.names world.kept world.keep world.calls nothing_apart
+Hands world = Open world.words world.names world.weak_names world.kept world.keep world.calls nothing_apart
 
 no_true : true ≡ false → ⊥
 no_true e = let wrong = e in cc
@@ -129,6 +139,9 @@ same_count next cell e = let n : length next.published ≡ length cell.published
 
 count_step : (old new : Zones) (at : Phase) (event : WordEvent) (cell : Cell Numbered) → Shows old cell → Makes old (word_step at) event new → Counted new at cell
 count_step old new (phase.Load name) event cell s m = let t = step_shows old new word.Load event cell s m in record { next = t.0; shows = t.2; count = same_count t.0 cell (publishes_nothing old new word.Load event cell t.0 tt m t.1) }
+count_step old new (phase.Look name owner) event cell s m = let t = step_shows old new (word.Look owner) event cell s m in record { next = t.0; shows = t.2; count = same_count t.0 cell (publishes_nothing old new (word.Look owner) event cell t.0 tt m t.1) }
+count_step old new (phase.Raise name owner) event cell s m = let t = step_shows old new (word.Raise owner) event cell s m in record { next = t.0; shows = t.2; count = same_count t.0 cell (publishes_nothing old new (word.Raise owner) event cell t.0 tt m t.1) }
+count_step old new (phase.Note name owner) event cell s m = let t = step_shows old new (word.Note owner) event cell s m in record { next = t.0; shows = t.2; count = same_count t.0 cell (publishes_nothing old new (word.Note owner) event cell t.0 tt m t.1) }
 count_step old new (phase.Probe version keeping) event cell s m = let t = step_shows old new word.Probe event cell s m in record { next = t.0; shows = t.2; count = same_count t.0 cell (publishes_nothing old new word.Probe event cell t.0 tt m t.1) }
 count_step old new (phase.Prepare version keeping) event cell s m = let t = step_shows old new (word.Prepare version) event cell s m in record { next = t.0; shows = t.2; count = same_count t.0 cell (publishes_nothing old new (word.Prepare version) event cell t.0 tt m t.1) }
 count_step old new (phase.Swap keeping) event cell s m = let t = step_shows old new word.Swap event cell s m in record { next = t.0; shows = t.2; count = count_swap old new event cell t.0 m t.1 }
@@ -152,6 +165,9 @@ same_for (purpose.Oldest head kept) one two from e = absurd (let wrong = e in cc
 
 same_phase : (at : Phase) (one two from : ℕ) → updates at ≡ false → phase_seats one from at ≡ phase_seats two from at
 same_phase (phase.Load name) one two from e = refl
+same_phase (phase.Look name owner) one two from e = refl
+same_phase (phase.Raise name owner) one two from e = refl
+same_phase (phase.Note name owner) one two from e = refl
 same_phase (phase.Probe version keeping) one two from e = refl
 same_phase (phase.Prepare version keeping) one two from e = refl
 same_phase (phase.Swap keeping) one two from e = refl
@@ -159,7 +175,8 @@ same_phase (phase.Settle keeping) one two from e = refl
 same_phase (phase.Keep given keeping) one two from e = refl
 same_phase (phase.Release owner for) one two from e = ap (λ ss. seat owner holds ∷ ss) (same_for for one two from e)
 same_phase (phase.Bury owner for) one two from e = ap (λ ss. seat owner buries ∷ ss) (same_for for one two from e)
-same_phase (phase.Fade owner number for) one two from e = ap (λ ss. seat owner fades ∷ ss) (same_for for one two from e)
+same_phase (phase.Fade owner None for) one two from e = ap (λ ss. seat owner weakly ∷ ss) (same_for for one two from e)
+same_phase (phase.Fade owner (Some number) for) one two from e = ap (λ ss. seat owner fades ∷ ss) (same_for for one two from e)
 same_phase (phase.Reset owner number for) one two from e = ap (λ ss. seat owner resets ∷ ss) (same_for for one two from e)
 same_phase (phase.Free owner number for) one two from e = ap (λ ss. seat owner frees ∷ ss) (same_for for one two from e)
 
@@ -172,6 +189,9 @@ same_calls (c ∷ cs) one two from e =
 -- the call apart takes a step
 swap_is : (at : Phase) → (swaps_now at ≡ 0) ⊎ ((updates at ≡ true) × (swaps_now at ≡ 1) × ((one two from : ℕ) → phase_seats one from at ≡ phase_seats two from at))
 swap_is (phase.Load name) = inl refl
+swap_is (phase.Look name owner) = inl refl
+swap_is (phase.Raise name owner) = inl refl
+swap_is (phase.Note name owner) = inl refl
 swap_is (phase.Probe version keeping) = inl refl
 swap_is (phase.Prepare version keeping) = inl refl
 swap_is (phase.Swap keeping) = inr (refl, refl, (λ one two from. refl))
@@ -184,27 +204,27 @@ swap_is (phase.Reset owner number for) = inl refl
 swap_is (phase.Free owner number for) = inl refl
 
 -- the same in hand, by the number that is last behind a step
-seats_behind : (words : Zones) (names : List Named) (kept : List ℕ) (keep : ℕ) (calls : List UnderWay) (at : Phase) (o : Open words names kept keep calls (On at)) (later : ℕ) → later ≡ o.last + swaps_now at
-    → Seated words.owners (phase_seats later o.from at ++ rest_seats later o.from names kept keep calls (updates at || any_update calls))
-seats_behind words names kept keep calls at o later is =
+seats_behind : (words : Zones) (names weaks : List Named) (kept : List ℕ) (keep : ℕ) (calls : List UnderWay) (at : Phase) (o : Open words names weaks kept keep calls (On at)) (later : ℕ) → later ≡ o.last + swaps_now at
+    → Seated words.owners (phase_seats later o.from at ++ rest_seats later o.from names weaks kept keep calls (updates at || any_update calls))
+seats_behind words names weaks kept keep calls at o later is =
     elim (swap_is at) [
-      | inl none ↦ (let e : o.last ≡ later = omega (arith, is, none) in subst (λ l. Seated words.owners (phase_seats l o.from at ++ rest_seats l o.from names kept keep calls (updates at || any_update calls))) e o.seated)
+      | inl none ↦ (let e : o.last ≡ later = omega (arith, is, none) in subst (λ l. Seated words.owners (phase_seats l o.from at ++ rest_seats l o.from names weaks kept keep calls (updates at || any_update calls))) e o.seated)
       | inr swap ↦ (
           let e = swap.2 o.last later o.from in
           let f = same_calls calls o.last later o.from (o.alone swap.0) in
-          subst (λ ss. Seated words.owners (ss ++ rest_seats later o.from names kept keep calls (updates at || any_update calls))) e
-          (subst (λ ss. Seated words.owners (phase_seats o.last o.from at ++ (name_seats names ++ (kept_left o.from keep kept (updates at || any_update calls) ++ ss)))) f o.seated)
+          subst (λ ss. Seated words.owners (ss ++ rest_seats later o.from names weaks kept keep calls (updates at || any_update calls))) e
+          (subst (λ ss. Seated words.owners (phase_seats o.last o.from at ++ (both_seats names weaks ++ (kept_left o.from keep kept (updates at || any_update calls) ++ ss)))) f o.seated)
           )
     ]
 
-step_open_by : (words new : Zones) (names : List Named) (kept : List ℕ) (keep : ℕ) (calls : List UnderWay) (at : Phase) (event : WordEvent) → Makes words (word_step at) event new → Open words names kept keep calls (On at) → Open new names kept keep calls (after at event)
-step_open_by words new names kept keep calls at event m o =
+step_open_by : (words new : Zones) (names weaks : List Named) (kept : List ℕ) (keep : ℕ) (calls : List UnderWay) (at : Phase) (event : WordEvent) → Makes words (word_step at) event new → Open words names weaks kept keep calls (On at) → Open new names weaks kept keep calls (after at event)
+step_open_by words new names weaks kept keep calls at event m o =
     let c = count_step words new at event o.cell o.shows m in
     let later : ℕ = o.last + swaps_now at in
-    let rest = rest_seats later o.from names kept keep calls (updates at || any_update calls) in
+    let rest = rest_seats later o.from names weaks kept keep calls (updates at || any_update calls) in
     let w = went words new at event later o.from (oldest_kept keep kept) rest o.still
     (λ none number found. (let is = latest_number words o.cell o.shows number found in let l = o.shows.numbers.last in omega (arith, is, l, o.counted, none))) m
-    (seats_behind words names kept keep calls at o later refl) in
+    (seats_behind words names weaks kept keep calls at o later refl) in
     record {
       cell = c.next;
       shows = c.shows;
@@ -219,28 +239,29 @@ step_open_by words new names kept keep calls at event m o =
       one = o.one;
       still = w.still;
       stills = o.stills;
-      seated = subst (λ b. Seated new.owners (hand_seats later o.from (oldest_kept keep kept) (after at event) ++ rest_seats later o.from names kept keep calls (b || any_update calls))) (sym w.update) w.seated;
+      seated = subst (λ b. Seated new.owners (hand_seats later o.from (oldest_kept keep kept) (after at event) ++ rest_seats later o.from names weaks kept keep calls (b || any_update calls))) (sym w.update) w.seated;
       publisher = λ e f. elim (cases_Bool (publishes_in at)) [
         | inl it ↦ (w.publisher e).0 it
         | inr other ↦ (w.publisher e).1 other ∙ o.publisher other f
       ];
       names_once = λ name. (let n = o.names_once name in let same = w.names name in omega (arith, n, same));
+      weak_once = λ name. (let n = o.weak_once name in let same = w.weak_names name in omega (arith, n, same));
       calls_once = o.calls_once;
     }
 
-pub step_open : (words new : Zones) (names : List Named) (kept : List ℕ) (keep : ℕ) (calls : List UnderWay) (at : Phase) (progress : Progress) → step_once words at ≡ Some (progress, new) → Open words names kept keep calls (On at) → Open new names kept keep calls progress
-step_open words new names kept keep calls at progress e o =
+pub step_open : (words new : Zones) (names weaks : List Named) (kept : List ℕ) (keep : ℕ) (calls : List UnderWay) (at : Phase) (progress : Progress) → step_once words at ≡ Some (progress, new) → Open words names weaks kept keep calls (On at) → Open new names weaks kept keep calls progress
+step_open words new names weaks kept keep calls at progress e o =
     let one = step_by words new at progress (made words (word_step at)) refl e in
-    subst (λ p. Open new names kept keep calls p) one.goes (step_open_by words new names kept keep calls at one.event one.makes o)
+    subst (λ p. Open new names weaks kept keep calls p) one.goes (step_open_by words new names weaks kept keep calls at one.event one.makes o)
 
-many_by : (names : List Named) (kept : List ℕ) (keep : ℕ) (calls : List UnderWay) (words : Zones) (at : Phase) (more : Zones → Phase → Progress × Zones) (o : Option (Progress × Zones))
-    → ((words : Zones) (at : Phase) → Open words names kept keep calls (On at) → Open (more words at).1 names kept keep calls (more words at).0)
-    → Open words names kept keep calls (On at) → step_once words at ≡ o → Open (go_on more words at o).1 names kept keep calls (go_on more words at o).0
-many_by names kept keep calls words at more None all it e = it
-many_by names kept keep calls words at more (Some (On next, between)) all it e = all between next (step_open words between names kept keep calls at (On next) e it)
-many_by names kept keep calls words at more (Some (Done end, between)) all it e = step_open words between names kept keep calls at (Done end) e it
+many_by : (names weaks : List Named) (kept : List ℕ) (keep : ℕ) (calls : List UnderWay) (words : Zones) (at : Phase) (more : Zones → Phase → Progress × Zones) (o : Option (Progress × Zones))
+    → ((words : Zones) (at : Phase) → Open words names weaks kept keep calls (On at) → Open (more words at).1 names weaks kept keep calls (more words at).0)
+    → Open words names weaks kept keep calls (On at) → step_once words at ≡ o → Open (go_on more words at o).1 names weaks kept keep calls (go_on more words at o).0
+many_by names weaks kept keep calls words at more None all it e = it
+many_by names weaks kept keep calls words at more (Some (On next, between)) all it e = all between next (step_open words between names weaks kept keep calls at (On next) e it)
+many_by names weaks kept keep calls words at more (Some (Done end, between)) all it e = step_open words between names weaks kept keep calls at (Done end) e it
 
-pub many_open : (left : ℕ) (names : List Named) (kept : List ℕ) (keep : ℕ) (calls : List UnderWay) (words : Zones) (at : Phase) → Open words names kept keep calls (On at) → Open (steps_up_to left words at).1 names kept keep calls (steps_up_to left words at).0
+pub many_open : (left : ℕ) (names weaks : List Named) (kept : List ℕ) (keep : ℕ) (calls : List UnderWay) (words : Zones) (at : Phase) → Open words names weaks kept keep calls (On at) → Open (steps_up_to left words at).1 names weaks kept keep calls (steps_up_to left words at).0
 unfolding steps_up_to
-many_open zero names kept keep calls words at it = it
-many_open (suc left) names kept keep calls words at it = many_by names kept keep calls words at (steps_up_to left) (step_once words at) (many_open left names kept keep calls) it refl
+many_open zero names weaks kept keep calls words at it = it
+many_open (suc left) names weaks kept keep calls words at it = many_by names weaks kept keep calls words at (steps_up_to left) (step_once words at) (many_open left names weaks kept keep calls) it refl

@@ -28,12 +28,12 @@ use Rattle.world_run.specs.Replays.{IsSentAt}
 use Rattle.world_run.specs.World.{World, started, owner_of, kept_versions, play}
 use Rattle.world_run.proofs.CallReplays.{script, any_update}
 use Rattle.world_run.proofs.HandEnds.{no_swaps}
-use Rattle.world_run.proofs.HandLemmas.{HandIs, AllFit, times, lives}
-use Rattle.world_run.proofs.HandLemmas.Hand.{holds}
+use Rattle.world_run.proofs.HandLemmas.{HandIs, AllFit, times, times_append, fit_front, lives}
+use Rattle.world_run.proofs.HandLemmas.Hand.{holds, weakly}
 use Rattle.world_run.proofs.HandPlay.{Kept, played_kept}
 use Rattle.world_run.proofs.HandSteps.{Zones}
 use Rattle.world_run.proofs.HandTurns.{times_four, fits_four}
-use Rattle.world_run.proofs.HandWorld.{name_seats, kept_seats, kept_left, call_seats, any_publishes, Hands}
+use Rattle.world_run.proofs.HandWorld.{seats_as, both_seats, kept_seats, kept_left, call_seats, any_publishes, Hands}
 use Rattle.world_run.proofs.ReplayLemmas.{goes_replayed}
 
 -- the number in W is the last
@@ -53,7 +53,7 @@ same_length words one two s t =
     omega (arith, is, a, b)
 
 -- a name's owner is in hand
-named_holds : (owners : List Owner) (name : List ℕ) (names : List Named) (owner : ℕ) → AllFit owners (name_seats names) → owner_of name names ≡ Some owner → HandIs owners owner holds
+named_holds : (owners : List Owner) (name : List ℕ) (names : List Named) (owner : ℕ) → AllFit owners (seats_as holds names) → owner_of name names ≡ Some owner → HandIs owners owner holds
 named_holds owners name [] owner fits e = absurd (let wrong = e in cc)
 named_holds owners name (x ∷ names) owner fits e =
     elim (cases_Bool (bytes_eq x.name name)) [
@@ -62,9 +62,10 @@ named_holds owners name (x ∷ names) owner fits e =
     ]
 
 -- what is in hand beside the calls under way
-parts_of : (world : World) (h : Hands world) → AllFit world.words.owners (name_seats world.names) × AllFit world.words.owners (kept_left h.from world.keep world.kept (any_update world.calls))
+parts_of : (world : World) (h : Hands world) → AllFit world.words.owners (seats_as holds world.names) × AllFit world.words.owners (kept_left h.from world.keep world.kept (any_update world.calls))
 parts_of world h =
-    let all = fits_four world.words.owners [] (name_seats world.names) (kept_left h.from world.keep world.kept (any_update world.calls)) (call_seats h.last h.from world.calls) h.seated.fit in (all.1, all.2)
+    let all = fits_four world.words.owners [] (both_seats world.names world.weak_names) (kept_left h.from world.keep world.kept (any_update world.calls)) (call_seats h.last h.from world.calls) h.seated.fit in
+    (fit_front world.words.owners (seats_as holds world.names) (seats_as weakly world.weak_names) all.1, all.2)
 
 name_has : (world : World) (cell : Cell Numbered) (name : List ℕ) (owner : ℕ) → Hands world → Shows world.words cell → owner_of name world.names ≡ Some owner → HoldsVersion cell.published world name owner
 name_has world cell name owner h s e =
@@ -158,8 +159,8 @@ spent_or_kept owners from kept owner (Freeing place) fits exact at = inr (kept_o
 spent_or_kept owners from kept owner Spent fits exact at = inl refl
 
 -- the versions that are kept have the last number and those before it
-rests_so : (world : World) (h : Hands world) → world.names ≡ [] → world.calls ≡ [] → (last : ℕ) → length h.cell.published ≡ last + 1 → AtRest world.words (last - world.keep) last
-rests_so world h no_names no_calls last count =
+rests_so : (world : World) (h : Hands world) → world.names ≡ [] → world.weak_names ≡ [] → world.calls ≡ [] → (last : ℕ) → length h.cell.published ≡ last + 1 → AtRest world.words (last - world.keep) last
+rests_so world h no_names no_weak no_calls last count =
     let no_update : any_update world.calls ≡ false = ap any_update no_calls in
     let no_publisher : any_publishes world.calls ≡ false = ap any_publishes no_calls in
     let swaps = no_swaps world.calls no_update in
@@ -173,23 +174,25 @@ rests_so world h no_names no_calls last count =
       owners = λ owner how at. spent_or_kept world.words.owners h.from world.kept owner how fits
           (λ i. (
           let all = h.seated.exact i in
-          let four = times_four i [] (name_seats world.names) (kept_left h.from world.keep world.kept (any_update world.calls)) (call_seats h.last h.from world.calls) in
-          let names : times i (name_seats world.names) ≡ 0 = ap (λ ns. times i (name_seats ns)) no_names in
+          let four = times_four i [] (both_seats world.names world.weak_names) (kept_left h.from world.keep world.kept (any_update world.calls)) (call_seats h.last h.from world.calls) in
+          let both = times_append i (seats_as holds world.names) (seats_as weakly world.weak_names) in
+          let names : times i (seats_as holds world.names) ≡ 0 = ap (λ ns. times i (seats_as holds ns)) no_names in
+          let weaks : times i (seats_as weakly world.weak_names) ≡ 0 = ap (λ ns. times i (seats_as weakly ns)) no_weak in
           let calls : times i (call_seats h.last h.from world.calls) ≡ 0 = ap (λ cs. times i (call_seats h.last h.from cs)) no_calls in
           let kept : times i (kept_left h.from world.keep world.kept (any_update world.calls)) ≡ times i (kept_seats h.from world.kept) = ap (λ b. times i (kept_left h.from world.keep world.kept b)) no_update in
-          omega (arith, all, four, names, calls, kept)
+          omega (arith, all, four, both, names, weaks, calls, kept)
           )) at;
       owned = λ number within less. kept_owns world.words.owners h.from world.kept number fits within (omega (arith, less, h.kept_count, h.swapped, swaps, same));
     })
 
 -- when no call is under way and no name is in use, exactly the versions before those that are kept are buried
-pub played_rests : (first : List Record) (keep window : ℕ) (lines : List Line) (replies : List WorldReply) (world : World) → play (started first keep window) lines ≡ Some (replies, world) → world.names ≡ [] → world.calls ≡ [] → IsAtRest first keep lines world
-played_rests first keep window lines replies world e no_names no_calls =
+pub played_rests : (first : List Record) (keep window : ℕ) (lines : List Line) (replies : List WorldReply) (world : World) → play (started first keep window) lines ≡ Some (replies, world) → world.names ≡ [] → world.weak_names ≡ [] → world.calls ≡ [] → IsAtRest first keep lines world
+played_rests first keep window lines replies world e no_names no_weak no_calls =
     let all = played_kept first keep window lines replies world e in
     let k = all.1 in
     let r = goes_replayed first lines all.0 world k.goes in
     let same = same_length world.words k.hands.cell r.reached.cell k.hands.shows r.reached.shows in
-    let rest = subst (λ n. AtRest world.words (length r.updates - n) (length r.updates)) k.same.0 (rests_so world k.hands no_names no_calls (length r.updates) (omega (arith, same, r.replays.counted))) in
+    let rest = subst (λ n. AtRest world.words (length r.updates - n) (length r.updates)) k.same.0 (rests_so world k.hands no_names no_weak no_calls (length r.updates) (omega (arith, same, r.replays.counted))) in
     let free = rest_free world.words r.reached.cell (length r.updates - keep) (length r.updates) r.reached.shows r.replays.counted rest in
     let kept = sub-add-min_cancel (length r.updates) keep in
     let either = min_comm keep (length r.updates) in

@@ -20,7 +20,7 @@ use Rattle.dns_rdata.specs.Record.{Record}
 use Rattle.zone_tree.specs.Version.{Version as Numbered}
 use Rattle.world_run.specs.declared.calls.UnderWay.{UnderWay}
 use Rattle.world_run.specs.declared.phase.End.{End}
-use Rattle.world_run.specs.declared.phase.End.TheVariants.{Owned, Told, NoSlot, Kept}
+use Rattle.world_run.specs.declared.phase.End.TheVariants.{Owned, OwnedWeakly, Told, NoSlot, Kept}
 use Rattle.world_run.specs.declared.phase.Phase.{Phase}
 use Rattle.world_run.specs.declared.phase.Phase.TheVariants as phase
 use Rattle.world_run.specs.declared.phase.Progress.{Progress}
@@ -68,6 +68,9 @@ head_updates_for (purpose.Oldest other kept) head owner e = refl
 
 head_updates : (at : Phase) (head : Heading) → heading_of at ≡ Some head → updates at ≡ true
 head_updates (phase.Load name) head e = absurd (let wrong = e in cc)
+head_updates (phase.Look name owner) head e = absurd (let wrong = e in cc)
+head_updates (phase.Raise name owner) head e = absurd (let wrong = e in cc)
+head_updates (phase.Note name owner) head e = absurd (let wrong = e in cc)
 head_updates (phase.Probe version keeping) head e = refl
 head_updates (phase.Prepare version keeping) head e = refl
 head_updates (phase.Swap keeping) head e = refl
@@ -82,6 +85,7 @@ head_updates (phase.Free owner number for) head e = head_updates_for for head ow
 -- an update that made its swap is told NOERROR
 kept_answer : (end : End) (head : Heading) → swapped_at (Done end) ≡ 1 → HeadEnd head end → answer_at end ≡ code_reply head NoError
 kept_answer (Owned name owner number) head swapped is = absurd (omega (arith, swapped))
+kept_answer (OwnedWeakly name owner number) head swapped is = absurd (omega (arith, swapped))
 kept_answer (Told given) head swapped is = absurd (omega (arith, swapped))
 kept_answer (NoSlot other) head swapped is = absurd (omega (arith, swapped))
 kept_answer (Kept other owner) head swapped is = ap (λ h. code_reply h NoError) is

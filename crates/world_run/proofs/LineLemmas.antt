@@ -21,6 +21,9 @@ use Rattle.world_run.proofs.RunLemmas.{one_step}
 -- a call's step has its word step's name
 name_is : (at : Phase) → step_name at ≡ name_of (word_step at)
 name_is (phase.Load name) = refl
+name_is (phase.Look name owner) = refl
+name_is (phase.Raise name owner) = refl
+name_is (phase.Note name owner) = refl
 name_is (phase.Probe version keeping) = refl
 name_is (phase.Prepare version keeping) = refl
 name_is (phase.Swap keeping) = refl

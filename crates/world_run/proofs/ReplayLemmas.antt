@@ -45,7 +45,7 @@ use Rattle.world_run.specs.declared.calls.UnderWay.{UnderWay}
 use Rattle.world_run.specs.declared.start.Start.{Start}
 use Rattle.world_run.specs.declared.start.Start.TheVariants.{Refused, Answers, Takes}
 use Rattle.world_run.specs.declared.step.Call.{Call}
-use Rattle.world_run.specs.declared.step.Call.TheVariants.{Load, Drop, Ask, Transfer, Update}
+use Rattle.world_run.specs.declared.step.Call.TheVariants.{Load, Drop, Copy, Weak, Fade, Up, Ask, Transfer, Update}
 use Rattle.world_run.specs.declared.step.WorldReply.{WorldReply}
 use Rattle.world_run.specs.declared.step.WorldStep.{WorldStep as Line}
 use Rattle.world_run.specs.declared.step.WorldStep.TheVariants.{Whole, Begin, Next}
@@ -56,7 +56,7 @@ use Rattle.world_run.specs.Phases.{word_step, after, past, oldest_after, updates
 use Rattle.world_run.specs.InTurn.{LeavesPublished}
 use Rattle.world_run.specs.UpdateAnswers.{heading_of, KeepsHeading}
 use Rattle.world_run.specs.declared.phase.End.{End}
-use Rattle.world_run.specs.declared.phase.End.TheVariants.{Owned, Told, NoSlot, Kept}
+use Rattle.world_run.specs.declared.phase.End.TheVariants.{Owned, OwnedWeakly, Told, NoSlot, Kept}
 use Rattle.world_run.specs.declared.phase.Keeping.{Keeping}
 use Rattle.world_run.specs.declared.phase.Phase.TheVariants as phase
 use Rattle.world_run.specs.declared.phase.Purpose.{Purpose}
@@ -67,7 +67,7 @@ use Rattle.world_run.specs.declared.step.WorldReply.TheVariants.{Answered, Begun
 use Rattle.world_run.proofs.AnswerLemmas.{keeps_head}
 use Rattle.world_run.proofs.HandSteps.{swapped_for, swapped_in, swapped_at, swaps_now}
 use Rattle.world_run.specs.Replays.{Sends, IsSentAt, AreSentInTurn}
-use Rattle.world_run.specs.World.{World, loaded_once, started, call_of, without_call, publication_start, update_start, oldest_kept, is_held, start, step_once, steps_up_to, go_on, most_steps, is_full, given_up, all_made, whole, begin, begin_under, stepped, next, turn, onto_replies, play, zone_of, owner_of, is_taken, drop_start, ask_start}
+use Rattle.world_run.specs.World.{World, loaded_once, started, call_of, without_call, publication_start, update_start, oldest_kept, is_held, start, step_once, steps_up_to, go_on, most_steps, is_full, given_up, all_made, whole, begin, begin_under, stepped, next, turn, onto_replies, play, zone_of, owner_of, is_taken, is_taken_weakly, is_used, drop_start, fade_start, copy_start, weak_start, up_start, weak_given_up, ask_start}
 use Rattle.world_run.specs.Replays.{IsReplayed, IsAnsweredInReplay}
 use Rattle.world_run.specs.Runs.{IsAnsweredAtLoaded}
 use Rattle.world_run.proofs.JudgeLemmas.{made_by}
@@ -106,6 +106,20 @@ load_swapped : (name : List ℕ) (event : WordEvent) → swapped_at (after (phas
 load_swapped name (told.Loaded owner number) = refl
 load_swapped name event = refl
 
+look_swapped : (name : List ℕ) (owner : ℕ) (event : WordEvent) → swapped_at (after (phase.Look name owner) event) ≡ 0
+look_swapped name owner told.Alive = refl
+look_swapped name owner told.Dead = refl
+look_swapped name owner event = refl
+
+raise_swapped : (name : List ℕ) (owner : ℕ) (event : WordEvent) → swapped_at (after (phase.Raise name owner) event) ≡ 0
+raise_swapped name owner (told.Raised next number) = refl
+raise_swapped name owner told.Dead = refl
+raise_swapped name owner event = refl
+
+note_swapped : (name : List ℕ) (owner : ℕ) (event : WordEvent) → swapped_at (after (phase.Note name owner) event) ≡ 0
+note_swapped name owner (told.Noted next number) = refl
+note_swapped name owner event = refl
+
 probe_swapped : (version : Numbered) (keeping : Keeping) (event : WordEvent) → swapped_at (after (phase.Probe version keeping) event) ≡ 0
 probe_swapped version keeping told.Taken = refl
 probe_swapped version keeping told.NoSlot = refl
@@ -133,6 +147,9 @@ fade_swapped owner number for event = past_swapped for (gone number)
 
 after_swapped : (at : Phase) (event : WordEvent) → swapped_at (after at event) ≡ swapped_in at + swaps_now at
 after_swapped (phase.Load name) event = load_swapped name event
+after_swapped (phase.Look name owner) event = look_swapped name owner event
+after_swapped (phase.Raise name owner) event = raise_swapped name owner event
+after_swapped (phase.Note name owner) event = note_swapped name owner event
 after_swapped (phase.Probe version keeping) event = probe_swapped version keeping event
 after_swapped (phase.Prepare version keeping) event = refl
 after_swapped (phase.Swap keeping) event = refl
@@ -146,6 +163,9 @@ after_swapped (phase.Free owner number for) event = (let e = past_swapped for (g
 
 swap_updates : (at : Phase) → swaps_now at ≡ 1 → updates at ≡ true
 swap_updates (phase.Load name) e = absurd (omega (arith, e))
+swap_updates (phase.Look name owner) e = absurd (omega (arith, e))
+swap_updates (phase.Raise name owner) e = absurd (omega (arith, e))
+swap_updates (phase.Note name owner) e = absurd (omega (arith, e))
 swap_updates (phase.Probe version keeping) e = refl
 swap_updates (phase.Prepare version keeping) e = refl
 swap_updates (phase.Swap keeping) e = refl
@@ -160,6 +180,7 @@ swap_updates (phase.Free owner number for) e = absurd (omega (arith, e))
 -- an update goes on, or is at its end, with this header
 abbrev pub HeadEnd : Heading → End → Type 0
 HeadEnd head (Owned name owner number) = ⊥
+HeadEnd head (OwnedWeakly name owner number) = ⊥
 HeadEnd head (Told given) = ⊥
 HeadEnd head (NoSlot other) = other ≡ head
 HeadEnd head (Kept other owner) = other ≡ head
@@ -180,6 +201,9 @@ KeepsAt at progress = (head : Heading) → heading_of at ≡ Some head → HeadA
 
 none_again : (at : Phase) → swapped_in at ≡ 1 → swaps_now at ≡ 0
 none_again (phase.Load name) e = refl
+none_again (phase.Look name owner) e = refl
+none_again (phase.Raise name owner) e = refl
+none_again (phase.Note name owner) e = refl
 none_again (phase.Probe version keeping) e = refl
 none_again (phase.Prepare version keeping) e = refl
 none_again (phase.Swap keeping) e = absurd (omega (arith, e))
@@ -318,9 +342,25 @@ ok_if S first us words calls place false one two a b = b refl
 no_true : (false ≡ true) → ⊥
 no_true e = let wrong = e in cc
 
-drop_ok : (S : Script) (first : List Record) (us : List Placed) (words : Zones) (calls : List UnderWay) (place : ℕ) (owner : Option ℕ) → StartOk S first us words calls place (drop_start owner)
+drop_ok : (S : Script) (first : List Record) (us : List Placed) (words : Zones) (calls : List UnderWay) (place : ℕ) (owner : Option ℕ) → StartOk S first us words calls place (drop_start calls owner)
 drop_ok S first us words calls place None = tt
-drop_ok S first us words calls place (Some owner) = (tt, λ e. absurd (no_true e))
+drop_ok S first us words calls place (Some owner) = ok_if S first us words calls place (is_used calls owner) _ _ (λ e. tt) (λ e. (tt, λ is. absurd (no_true is)))
+
+fade_ok : (S : Script) (first : List Record) (us : List Placed) (words : Zones) (calls : List UnderWay) (place : ℕ) (owner : Option ℕ) → StartOk S first us words calls place (fade_start calls owner)
+fade_ok S first us words calls place None = tt
+fade_ok S first us words calls place (Some owner) = ok_if S first us words calls place (is_used calls owner) _ _ (λ e. tt) (λ e. (tt, λ is. absurd (no_true is)))
+
+copy_ok : (S : Script) (first : List Record) (us : List Placed) (words : Zones) (calls : List UnderWay) (place : ℕ) (name : List ℕ) (owner : Option ℕ) → StartOk S first us words calls place (copy_start name owner)
+copy_ok S first us words calls place name None = tt
+copy_ok S first us words calls place name (Some owner) = (tt, λ is. absurd (no_true is))
+
+weak_ok : (S : Script) (first : List Record) (us : List Placed) (words : Zones) (calls : List UnderWay) (place : ℕ) (name : List ℕ) (owner : Option ℕ) → StartOk S first us words calls place (weak_start name owner)
+weak_ok S first us words calls place name None = tt
+weak_ok S first us words calls place name (Some owner) = (tt, λ is. absurd (no_true is))
+
+up_ok : (S : Script) (first : List Record) (us : List Placed) (words : Zones) (calls : List UnderWay) (place : ℕ) (name : List ℕ) (owner : Option ℕ) → StartOk S first us words calls place (up_start calls name owner)
+up_ok S first us words calls place name None = tt
+up_ok S first us words calls place name (Some owner) = ok_if S first us words calls place (is_used calls owner) _ _ (λ e. tt) (λ e. (tt, λ is. absurd (no_true is)))
 
 ask_ok : (S : Script) (first : List Record) (us : List Placed) (words : Zones) (calls : List UnderWay) (place : ℕ) (zone : Option (List Record)) (request : List ℕ) → StartOk S first us words calls place (ask_start zone request)
 ask_ok S first us words calls place None request = tt
@@ -386,6 +426,10 @@ found_ok S first us world request place (Some last) found sent fresh none t = up
 start_ok : (S : Script) (first : List Record) (world : World) (call : Call) (place : ℕ) → ((request : List ℕ) → call ≡ Update request → S.sends place request) → (g : Goes S first world) → IsFresh S g.us place → StartOk S first g.us world.words world.calls place (start world call)
 start_ok S first world (Load name) place sent g fresh = ok_if S first g.us world.words world.calls place (is_taken name world) _ _ (λ e. tt) (λ e. (tt, λ is. absurd (no_true is)))
 start_ok S first world (Drop name) place sent g fresh = drop_ok S first g.us world.words world.calls place (owner_of name world.names)
+start_ok S first world (Copy given name) place sent g fresh = ok_if S first g.us world.words world.calls place (is_taken name world) _ _ (λ e. tt) (λ e. copy_ok S first g.us world.words world.calls place name (owner_of given world.names))
+start_ok S first world (Weak given name) place sent g fresh = ok_if S first g.us world.words world.calls place (is_taken_weakly name world || any_update world.calls) _ _ (λ e. tt) (λ e. weak_ok S first g.us world.words world.calls place name (owner_of given world.names))
+start_ok S first world (Fade name) place sent g fresh = fade_ok S first g.us world.words world.calls place (owner_of name world.weak_names)
+start_ok S first world (Up weak name) place sent g fresh = ok_if S first g.us world.words world.calls place (is_taken name world) _ _ (λ e. tt) (λ e. up_ok S first g.us world.words world.calls place name (owner_of weak world.weak_names))
 start_ok S first world (Ask name request) place sent g fresh = ask_ok S first g.us world.words world.calls place (zone_of name world) request
 start_ok S first world (Transfer name request) place sent g fresh = transfer_ok S first g.us world.words world.calls place world (version_of name world) request
 start_ok S first world (Update request) place sent g fresh =
@@ -538,9 +582,9 @@ found_new name (x ∷ calls) at e =
     ]
 
 begun_goes : (S : Script) (first : List Record) (world : World) (name : List ℕ) (call : Call) (place : ℕ) (at : Phase) → call_of name world.calls ≡ None → (g : Goes S first world) → StartOk S first g.us world.words world.calls place (Takes at)
-    → Turned S first world g.us (Begin name call) place Begun (record world { names = given_up call world.names; calls = world.calls ++ record { name = name; phase = at } ∷ [] })
+    → Turned S first world g.us (Begin name call) place Begun (record world { names = given_up call world.names; weak_names = weak_given_up call world.weak_names; calls = world.calls ++ record { name = name; phase = at } ∷ [] })
 begun_goes S first world name call place at unused g ok =
-    let after_line : World = record world { names = given_up call world.names; calls = world.calls ++ record { name = name; phase = at } ∷ [] } in
+    let after_line : World = record world { names = given_up call world.names; weak_names = weak_given_up call world.weak_names; calls = world.calls ++ record { name = name; phase = at } ∷ [] } in
     record {
       goes = record {
         us = g.us;
@@ -792,7 +836,7 @@ zone_replayed first lines world name zone at r found =
     let here : option_map (λ (v : Numbered). v.zone) (found_by world.words at.owner) ≡ Some zone = ap (λ o. option_map (λ (v : Numbered). v.zone) (option_and_then (found_by world.words) o)) (sym at.owns) ∙ found in
     let v = version_by zone (found_by world.words at.owner) here in
     let held = holds_by world.words at.owner v.0 (slice_get world.words.owners at.owner) refl v.1 in
-    let same : held.0 ≡ at.number = keeps_number (begun (first_version first)) world.words at.run at.place at.owner at.number held.0 held.1 at.runs at.is_load held.2 in
+    let same : held.0 ≡ at.number = at.has held.0 held.1 held.2 in
     let given = owner_is_given world.words r.reached.cell at.owner held.0 held.1 r.reached.shows held.2 in
     let is = r.replays.versions held.0 v.0 (sym given ∙ v.1) in
     sym v.2 ∙ (is.1 ∙ ap (λ n. replay first (take n r.updates)) same)

@@ -1,5 +1,5 @@
 -- Calls as steps on words: the step that each takes next, and what follows on it (own).
-use Rattle.std.specs.Prelude.{ℕ, Bool, true, false, List, bytes_eq, Option, None, Some}
+use Rattle.std.specs.Prelude.{ℕ, ◌==◌, Bool, true, false, List, bytes_eq, Option, None, Some}
 use Rattle.cell_core.specs.declared.words.WordStep.{WordStep}
 use Rattle.cell_core.specs.declared.words.WordStep.TheVariants as word
 use Rattle.cell_core.specs.declared.words.WordEvent.{WordEvent}
@@ -9,8 +9,8 @@ use Rattle.world_run.specs.declared.phase.Keeping.{Keeping}
 use Rattle.world_run.specs.declared.phase.Purpose.{Purpose}
 use Rattle.world_run.specs.declared.phase.Purpose.TheVariants as purpose
 use Rattle.world_run.specs.declared.phase.Phase.{Phase}
-use Rattle.world_run.specs.declared.phase.Phase.TheVariants.{Load, Probe, Prepare, Swap, Settle, Keep, Release, Bury, Fade, Reset, Free}
-use Rattle.world_run.specs.declared.phase.End.TheVariants.{Owned, Told, NoSlot, Kept}
+use Rattle.world_run.specs.declared.phase.Phase.TheVariants.{Load, Look, Raise, Note, Probe, Prepare, Swap, Settle, Keep, Release, Bury, Fade, Reset, Free}
+use Rattle.world_run.specs.declared.phase.End.TheVariants.{Owned, OwnedWeakly, Told, NoSlot, Kept}
 use Rattle.world_run.specs.declared.phase.Progress.{Progress}
 use Rattle.world_run.specs.declared.phase.Progress.TheVariants.{On, Done}
 use Rattle.world_run.specs.declared.step.Answer.{Answer}
@@ -22,6 +22,9 @@ use Rattle.zone_tree.specs.Version.{Version as Numbered}
 -- the step on a word that a call takes next (own)
 abbrev pub word_step : Phase → WordStep Numbered
 word_step (Load name) = word.Load
+word_step (Look name owner) = word.Look owner
+word_step (Raise name owner) = word.Raise owner
+word_step (Note name owner) = word.Note owner
 word_step (Probe version keeping) = word.Probe
 word_step (Prepare version keeping) = word.Prepare version
 word_step (Swap keeping) = word.Swap
@@ -36,6 +39,9 @@ word_step (Free owner number for) = word.Free owner
 -- that step's name (own)
 abbrev pub step_name : Phase → StepName
 step_name (Load name) = step.Load
+step_name (Look name owner) = step.Look
+step_name (Raise name owner) = step.Raise
+step_name (Note name owner) = step.Note
 step_name (Probe version keeping) = step.Probe
 step_name (Prepare version keeping) = step.Prepare
 step_name (Swap keeping) = step.Swap
@@ -63,6 +69,23 @@ past (purpose.Oldest heading kept) answer = Done (Kept heading kept)
 abbrev pub load_after : List ℕ → WordEvent → Progress
 load_after name (told.Loaded owner number) = Done (Owned name owner number)
 load_after name event = On (Load name)
+
+-- on a look follows a raise, where the version isn't buried; else there is no owner (own)
+abbrev pub look_after : List ℕ → ℕ → WordEvent → Progress
+look_after name owner told.Alive = On (Raise name owner)
+look_after name owner told.Dead = Done (Told answer.Nothing)
+look_after name owner event = On (Look name owner)
+
+-- a raise ends with an owner under its name, or with none, where the version is buried (own)
+abbrev pub raise_after : List ℕ → ℕ → WordEvent → Progress
+raise_after name owner (told.Raised next number) = Done (Owned name next number)
+raise_after name owner told.Dead = Done (Told answer.Nothing)
+raise_after name owner event = On (Raise name owner)
+
+-- a note ends with a weak owner under its name (own)
+abbrev pub note_after : List ℕ → ℕ → WordEvent → Progress
+note_after name owner (told.Noted next number) = Done (OwnedWeakly name next number)
+note_after name owner event = On (Note name owner)
 
 -- probes go on up to a slot that is free, or to the last, where the update ends (own)
 abbrev pub probe_after : Numbered → Keeping → WordEvent → Progress
@@ -103,6 +126,9 @@ fade_after owner number for event = past for (gone number)
 -- what follows on a call's step, by what the step told (own)
 abbrev pub after : Phase → WordEvent → Progress
 after (Load name) event = load_after name event
+after (Look name owner) event = look_after name owner event
+after (Raise name owner) event = raise_after name owner event
+after (Note name owner) event = note_after name owner event
 after (Probe version keeping) event = probe_after version keeping event
 after (Prepare version keeping) event = On (Swap keeping)
 after (Swap keeping) event = On (Settle keeping)
@@ -114,10 +140,24 @@ after (Fade owner number for) event = fade_after owner number for event
 after (Reset owner number for) event = On (Free owner number for)
 after (Free owner number for) event = past for (gone number)
 
--- a call is to put a name into use (own)
+-- a call is to put a name into use for a strong owner (own)
 abbrev pub reserves : List ℕ → Phase → Bool
 reserves name (Load other) = bytes_eq other name
+reserves name (Look other owner) = bytes_eq other name
+reserves name (Raise other owner) = bytes_eq other name
 reserves name phase = false
+
+-- or for a weak one (own)
+abbrev pub reserves_weakly : List ℕ → Phase → Bool
+reserves_weakly name (Note other owner) = bytes_eq other name
+reserves_weakly name phase = false
+
+-- a call uses an owner, so that its name can't be given up (own)
+abbrev pub uses : ℕ → Phase → Bool
+uses owner (Look name other) = other == owner
+uses owner (Raise name other) = other == owner
+uses owner (Note name other) = other == owner
+uses owner phase = false
 
 -- whether an owner is released for an update (own)
 abbrev pub is_for_update : Purpose → Bool
@@ -127,6 +167,9 @@ is_for_update for = true
 -- a call is an update (own)
 abbrev pub updates : Phase → Bool
 updates (Load name) = false
+updates (Look name owner) = false
+updates (Raise name owner) = false
+updates (Note name owner) = false
 updates (Release owner for) = is_for_update for
 updates (Bury owner for) = is_for_update for
 updates (Fade owner number for) = is_for_update for

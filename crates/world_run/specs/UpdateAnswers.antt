@@ -12,7 +12,7 @@ use Rattle.serve_core.specs.Served.{Got}
 use Rattle.serve_core.specs.Transport.{limit_of}
 use Rattle.world_run.specs.declared.phase.End.TheVariants.{NoSlot, Kept}
 use Rattle.world_run.specs.declared.phase.Phase.{Phase}
-use Rattle.world_run.specs.declared.phase.Phase.TheVariants.{Load, Probe, Prepare, Swap, Settle, Keep, Release, Bury, Fade, Reset, Free}
+use Rattle.world_run.specs.declared.phase.Phase.TheVariants.{Load, Look, Raise, Note, Probe, Prepare, Swap, Settle, Keep, Release, Bury, Fade, Reset, Free}
 use Rattle.world_run.specs.declared.phase.Progress.{Progress}
 use Rattle.world_run.specs.declared.phase.Progress.TheVariants.{On, Done}
 use Rattle.world_run.specs.declared.phase.Purpose.{Purpose}
@@ -27,6 +27,9 @@ heading_for (purpose.Oldest heading kept) = Some heading
 -- what the reply repeats of the update that a call is; none of another call (own)
 abbrev pub heading_of : Phase → Option Heading
 heading_of (Load name) = None
+heading_of (Look name owner) = None
+heading_of (Raise name owner) = None
+heading_of (Note name owner) = None
 heading_of (Probe version keeping) = Some keeping.heading
 heading_of (Prepare version keeping) = Some keeping.heading
 heading_of (Swap keeping) = Some keeping.heading

@@ -30,7 +30,7 @@ use Rattle.world_run.specs.declared.phase.Phase.{Phase}
 use Rattle.world_run.specs.declared.phase.Phase.TheVariants as phase
 use Rattle.world_run.specs.declared.phase.Purpose.TheVariants as purpose
 use Rattle.world_run.specs.declared.phase.End.{End}
-use Rattle.world_run.specs.declared.phase.End.TheVariants.{Owned, Told, NoSlot, Kept}
+use Rattle.world_run.specs.declared.phase.End.TheVariants.{Owned, OwnedWeakly, Told, NoSlot, Kept}
 use Rattle.world_run.specs.declared.phase.Progress.{Progress}
 use Rattle.world_run.specs.declared.phase.Progress.TheVariants.{On, Done}
 use Rattle.world_run.specs.declared.names.Named.{Named}
@@ -40,7 +40,7 @@ use Rattle.world_run.specs.declared.start.Start.TheVariants.{Refused, Answers, T
 use Rattle.world_run.specs.declared.step.Answer.{Answer}
 use Rattle.world_run.specs.declared.step.Answer.TheVariants.{Owner, Reply, Silent, Messages}
 use Rattle.world_run.specs.declared.step.Call.{Call}
-use Rattle.world_run.specs.declared.step.Call.TheVariants.{Load, Drop, Ask, Transfer, Update}
+use Rattle.world_run.specs.declared.step.Call.TheVariants.{Load, Drop, Copy, Weak, Fade, Up, Ask, Transfer, Update}
 use Rattle.world_run.specs.declared.step.WorldReply.{WorldReply}
 use Rattle.world_run.specs.declared.step.WorldReply.TheVariants.{Answered, Begun, Step, Last, NotEnabled}
 use Rattle.world_run.specs.declared.step.WorldStep.{WorldStep}
@@ -51,14 +51,15 @@ use Rattle.zone_tree.specs.Zone.{soa_of}
 use Rattle.transfer_core.specs.Chain.{told}
 use Rattle.transfer_core.specs.Window.{kept_since}
 use Rattle.world_run.specs.Numbered.{first_version}
-use Rattle.world_run.specs.Phases.{word_step, step_name, after, reserves, updates}
+use Rattle.world_run.specs.Phases.{word_step, step_name, after, reserves, reserves_weakly, uses, updates}
 
--- the words of a cell of zone versions, the names in use with their owners, and the calls under way; how many versions are kept
+-- the words of a cell of zone versions, the names in use with their strong owners, those with weak owners, and the calls under way; how many versions are kept
 -- beside the last, how many entries the window has at most from which changes are sent (RFC 1995, 5), and the owners of the
 -- versions that are kept, the oldest first (own)
 pub record World : Type 0 where
   pub words : State Numbered
   pub names : List Named
+  pub weak_names : List Named
   pub calls : List UnderWay
   pub keep : ℕ
   pub window : ℕ
@@ -70,7 +71,7 @@ loaded_once first = with_new_owner (Holding 0 0) (record (begun first) { latest 
 
 -- the world in which one version is published and kept, no name is in use, and no call is under way (own)
 abbrev pub started : List Record → ℕ → ℕ → World
-started first keep window = record { words = loaded_once (first_version first); names = []; calls = []; keep = keep; window = window; kept = 0 ∷ [] }
+started first keep window = record { words = loaded_once (first_version first); names = []; weak_names = []; calls = []; keep = keep; window = window; kept = 0 ∷ [] }
 
 -- at most so many calls are under way (own)
 abbrev pub most_calls : ℕ
@@ -97,10 +98,19 @@ call_of name calls = find (λ call. bytes_eq call.name name) calls
 abbrev pub without_call : List ℕ → List UnderWay → List UnderWay
 without_call name calls = filter (λ call. not (bytes_eq call.name name)) calls
 
--- a name is in use for an owner, or a call under way is to put it into use (own)
+-- a name is in use for a strong owner, or a call under way is to put it into use (own)
 abbrev pub is_taken : List ℕ → World → Bool
 is_taken name world =
     list_any (λ named. bytes_eq named.name name) world.names || list_any (λ call. reserves name call.phase) world.calls
+
+-- the same of a weak owner (own)
+abbrev pub is_taken_weakly : List ℕ → World → Bool
+is_taken_weakly name world =
+    list_any (λ named. bytes_eq named.name name) world.weak_names || list_any (λ call. reserves_weakly name call.phase) world.calls
+
+-- a call under way uses an owner (own)
+abbrev pub is_used : List UnderWay → ℕ → Bool
+is_used calls owner = list_any (λ call. uses owner call.phase) calls
 
 -- the version that a name's owner has; none where the name isn't in use (own)
 abbrev pub version_of : List ℕ → World → Option Numbered
@@ -124,10 +134,30 @@ abbrev pub answering : Option Answer → Start
 answering None = Refused
 answering (Some answer) = Answers answer
 
--- a name is dropped where it is in use (own)
-abbrev pub drop_start : Option ℕ → Start
-drop_start None = Refused
-drop_start (Some owner) = Takes (phase.Release owner purpose.Drop)
+-- a name is dropped where it is in use, and no call under way uses its owner (own)
+abbrev pub drop_start : List UnderWay → Option ℕ → Start
+drop_start calls None = Refused
+drop_start calls (Some owner) = if is_used calls owner then Refused else Takes (phase.Release owner purpose.Drop)
+
+-- and so is that of a weak owner (own)
+abbrev pub fade_start : List UnderWay → Option ℕ → Start
+fade_start calls None = Refused
+fade_start calls (Some owner) = if is_used calls owner then Refused else Takes (phase.Fade owner None purpose.Drop)
+
+-- another owner of what a name's owner has (own)
+abbrev pub copy_start : List ℕ → Option ℕ → Start
+copy_start name None = Refused
+copy_start name (Some owner) = Takes (phase.Raise name owner)
+
+-- a weak one (own)
+abbrev pub weak_start : List ℕ → Option ℕ → Start
+weak_start name None = Refused
+weak_start name (Some owner) = Takes (phase.Note name owner)
+
+-- a strong owner of what a weak one has, which no other call uses (own)
+abbrev pub up_start : List UnderWay → List ℕ → Option ℕ → Start
+up_start calls name None = Refused
+up_start calls name (Some owner) = if is_used calls owner then Refused else Takes (phase.Look name owner)
 
 -- whether a request over a transport is for a transfer that is sent, where each peer may have it (RFC 5936, 2.2.1)
 abbrev pub asks_sent : Transport → List Record → Parsed → Bool
@@ -200,10 +230,16 @@ update_start world (Some (judgement.Told heading code)) = Answers (code_reply he
 update_start world (Some (judgement.Makes heading version)) = publication_start world.words heading version (oldest_kept world.keep world.kept)
 
 -- how a call begins: a name that is in use isn't loaded, and one that isn't is neither dropped nor asked; an update is judged in
--- the last version, and while one is under way there is no other, and no question for what changed (own)
+-- the last version, and while one is under way there is no other, no weak owner, and no question for what changed (own)
 abbrev pub start : World → Call → Start
 start world (Load name) = if is_taken name world then Refused else Takes (phase.Load name)
-start world (Drop name) = drop_start (owner_of name world.names)
+start world (Drop name) = drop_start world.calls (owner_of name world.names)
+start world (Copy given name) = if is_taken name world then Refused else copy_start name (owner_of given world.names)
+start world (Weak given name) =
+    if is_taken_weakly name world || list_any (λ call. updates call.phase) world.calls then Refused
+    else weak_start name (owner_of given world.names)
+start world (Fade name) = fade_start world.calls (owner_of name world.weak_names)
+start world (Up weak name) = if is_taken name world then Refused else up_start world.calls name (owner_of weak world.weak_names)
 start world (Ask name request) = ask_start (zone_of name world) request
 start world (Transfer name request) = transfer_start world (version_of name world) request
 start world (Update request) =
@@ -214,6 +250,16 @@ start world (Update request) =
 abbrev pub given_up : Call → List Named → List Named
 given_up (Drop name) names = without_name name names
 given_up call names = names
+
+-- the weak owners' names without the one that a call gives up (own)
+abbrev pub weak_given_up : Call → List Named → List Named
+weak_given_up (Fade name) names = without_name name names
+weak_given_up call names = names
+
+-- the weak owners' names at the end of a call (own)
+abbrev pub weak_names_at : End → List Named → List Named
+weak_names_at (OwnedWeakly name owner number) names = names ++ record { name = name; owner = owner } ∷ []
+weak_names_at end names = names
 
 -- the names in use at the end of a call (own)
 abbrev pub names_at : End → List Named → List Named
@@ -229,6 +275,7 @@ kept_at keep end kept = kept
 -- what a call gives at its end: an update is told NOERROR, or SERVFAIL where it found no slot (own)
 abbrev pub answer_at : End → Answer
 answer_at (Owned name owner number) = Owner name number
+answer_at (OwnedWeakly name owner number) = Owner name number
 answer_at (Told answer) = answer
 answer_at (NoSlot heading) = code_reply heading ServFail
 answer_at (Kept heading owner) = code_reply heading NoError
@@ -255,7 +302,7 @@ is_full world = nat_le most_calls (length world.calls)
 abbrev pub all_made : World → Call → Progress × State Numbered → WorldReply × World
 all_made world call (On phase, words) = (NotEnabled, record world { words = words })
 all_made world call (Done end, words) =
-    (Answered (answer_at end), record world { words = words; names = names_at end (given_up call world.names); kept = kept_at world.keep end world.kept })
+    (Answered (answer_at end), record world { words = words; names = names_at end (given_up call world.names); weak_names = weak_names_at end (weak_given_up call world.weak_names); kept = kept_at world.keep end world.kept })
 
 -- a call at once, by how it begins (own)
 abbrev pub whole : World → Call → Start → Option (WorldReply × World)
@@ -270,7 +317,7 @@ begin world name call Refused = Some (NotEnabled, world)
 begin world name call (Answers answer) = if is_full world then None else Some (Answered answer, world)
 begin world name call (Takes phase) =
     if is_full world then None
-    else Some (Begun, record world { names = given_up call world.names; calls = world.calls ++ record { name = name; phase = phase } ∷ [] })
+    else Some (Begun, record world { names = given_up call world.names; weak_names = weak_given_up call world.weak_names; calls = world.calls ++ record { name = name; phase = phase } ∷ [] })
 
 abbrev pub begin_under : World → List ℕ → Call → Option UnderWay → Option (WorldReply × World)
 begin_under world name call None = begin world name call (start world call)
@@ -282,7 +329,7 @@ stepped world name phase None = (NotEnabled, world)
 stepped world name phase (Some (On next, words)) =
     (Step (step_name phase), record world { words = words; calls = without_call name world.calls ++ record { name = name; phase = next } ∷ [] })
 stepped world name phase (Some (Done end, words)) =
-    (Last (step_name phase) (answer_at end), record world { words = words; names = names_at end world.names; calls = without_call name world.calls; kept = kept_at world.keep end world.kept })
+    (Last (step_name phase) (answer_at end), record world { words = words; names = names_at end world.names; weak_names = weak_names_at end world.weak_names; calls = without_call name world.calls; kept = kept_at world.keep end world.kept })
 
 abbrev pub next : World → List ℕ → Option UnderWay → WorldReply × World
 next world name None = (NotEnabled, world)

@@ -2,8 +2,8 @@
 ghost use Rattle.std.specs.Prelude.{◌≡◌, ◌++◌, ◌∷◌, [], IfErr, OnOk, filter, not, bytes_eq, find};
 ghost use Rattle.std.specs.List.{list_any};
 ghost use Rattle.std.specs.Option.{option_copied};
-ghost use Rattle.world_run.specs.Phases.{reserves as says_reserves, updates as says_updates};
-ghost use Rattle.world_run.specs.World.{call_of, without_call};
+ghost use Rattle.world_run.specs.Phases.{reserves as says_reserves, reserves_weakly as says_reserves_weakly, updates as says_updates};
+ghost use Rattle.world_run.specs.World.{call_of, is_used as says_used, without_call};
 ghost use Rattle.world_run.specs.declared.calls.UnderWay.{UnderWay as UnderWayRow};
 
 use crate::fault::WorldFault;
@@ -38,6 +38,20 @@ pub(crate) fn is_reserved(calls: &[UnderWay<'_>], name: &Handle<'_>) -> bool
     ensures { result ≡ list_any (λ call. says_reserves name.now call.phase) calls.now }
 {
     calls.iter().any(|call| call.phase.reserves(name))
+}
+
+/// Whether a call under way is to put a name into use for a weak owner.
+pub(crate) fn is_reserved_weakly(calls: &[UnderWay<'_>], name: &Handle<'_>) -> bool
+    ensures { result ≡ list_any (λ call. says_reserves_weakly name.now call.phase) calls.now }
+{
+    calls.iter().any(|call| call.phase.reserves_weakly(name))
+}
+
+/// Whether a call under way uses an owner.
+pub(crate) fn is_used(calls: &[UnderWay<'_>], owner: usize) -> bool
+    ensures { result ≡ says_used calls.now owner }
+{
+    calls.iter().any(|call| call.phase.uses(owner))
 }
 
 /// Whether an update is under way.

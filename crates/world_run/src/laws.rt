@@ -40,7 +40,7 @@ ghost use Rattle.world_run.specs.declared.step.WorldReply.TheVariants.{Answered,
 ghost use Rattle.world_run.specs.declared.step.WorldStep.{WorldStep};
 
 /// Lines that are played make a run of steps on words, which shows a run of the cell; each name in use is that of an owner
-/// which a load of the run gave.
+/// which comes from a load of the run.
 pub fn plays_are_runs()
     ensures run { (first : List Record) (keep window : ℕ) (lines : List WorldStep) (replies : List WorldReply) (world : World)
         → play (started first keep window) lines ≡ Some (replies, world) → (run : Run) × IsShownBy first run world }
@@ -48,8 +48,8 @@ pub fn plays_are_runs()
         → play (started first keep window) lines ≡ Some (replies, world) → ShowsReached first world.words }
 {}
 
-/// Whatever lines were played, a request of a name in use is answered in the version that was last at the load which gave the
-/// name its owner.
+/// Whatever lines were played, a request of a name in use is answered in the version that was last at the load from which the
+/// name's owner comes.
 pub fn asks_are_answered_at_loaded()
     ensures version { (first : List Record) (keep window : ℕ) (lines : List WorldStep) (replies : List WorldReply) (world : World) (name : List ℕ) (zone : List Record)
         → play (started first keep window) lines ≡ Some (replies, world) → zone_of name world ≡ Some zone → IsAnsweredAtLoaded first world name zone }
@@ -59,7 +59,7 @@ pub fn asks_are_answered_at_loaded()
 
 /// Whatever lines were played, the versions that were published are the first zone and its replays: each further version is what
 /// the next update that a line sent makes of the one before it, let through by each rule there. A request of a name in use is
-/// answered in the replay of as many updates as the number says that was last at the load which gave the name its owner.
+/// answered in the replay of as many updates as the number says that was last at the load from which the name's owner comes.
 pub fn versions_are_replays()
     ensures replay { (first : List Record) (keep window : ℕ) (lines : List WorldStep) (replies : List WorldReply) (world : World)
         → play (started first keep window) lines ≡ Some (replies, world) → IsReplayed first lines world }
@@ -115,11 +115,11 @@ pub fn versions_are_held()
         → play (started first keep window) lines ≡ Some (replies, world) → HoldVersions first lines world }
 {}
 
-/// When no call is under way and no name is in use, exactly the versions before those that are kept are buried, and all slots are free but
+/// When no call is under way and no name is in use, for strong owners or weak, exactly the versions before those that are kept are buried, and all slots are free but
 /// that of the last version and one for each other that is kept.
 pub fn versions_before_the_kept_are_buried()
     ensures { (first : List Record) (keep window : ℕ) (lines : List WorldStep) (replies : List WorldReply) (world : World)
-        → play (started first keep window) lines ≡ Some (replies, world) → world.names ≡ [] → world.calls ≡ [] → IsAtRest first keep lines world }
+        → play (started first keep window) lines ≡ Some (replies, world) → world.names ≡ [] → world.weak_names ≡ [] → world.calls ≡ [] → IsAtRest first keep lines world }
 {}
 
 /// Whatever lines were played from a zone on, an IXFR that is answered gets the SOA alone where its serial isn't less than that of

@@ -1,6 +1,6 @@
 //! How far calls have come: the step that each takes next, and what follows on it.
 ghost use Rattle.std.specs.Prelude.{◌≡◌, IfOk, IfErr};
-ghost use Rattle.world_run.specs.Phases.{word_step, step_name, after, reserves as says_reserves, updates as says_updates};
+ghost use Rattle.world_run.specs.Phases.{word_step, step_name, after, reserves as says_reserves, reserves_weakly as says_reserves_weakly, uses as says_uses, updates as says_updates};
 
 use crate::fault::WorldFault;
 use crate::lent::Handle;
@@ -48,6 +48,12 @@ pub enum Purpose {
 pub enum Phase<'a> {
     /// A load, under this name.
     Load(Handle<'a>),
+    /// A look at the version of this weak owner, to own it strongly under this name.
+    Look(Handle<'a>, usize),
+    /// A raise of what this owner has, under this name.
+    Raise(Handle<'a>, usize),
+    /// A note of what this owner has, under this name.
+    Note(Handle<'a>, usize),
     /// A probe of the next slot, for this version.
     Probe(Published, Keeping),
     /// A prepare of this version.
@@ -75,6 +81,8 @@ pub enum Phase<'a> {
 pub enum End<'a> {
     /// The name is in use, for this owner, of the version of this number.
     Owned(Handle<'a>, usize, u64),
+    /// The name is in use, for this weak owner, of the version of this number.
+    OwnedWeakly(Handle<'a>, usize, u64),
     /// It gives this.
     Told(Answer),
     /// An update has found no slot, whose reply repeats this.
@@ -102,6 +110,9 @@ impl<'a> Phase<'a> {
     {
         Ok(match self {
             Phase::Load(_) => WordStep::Load,
+            Phase::Look(_, owner) => WordStep::Look(*owner),
+            Phase::Raise(_, owner) => WordStep::Raise(*owner),
+            Phase::Note(_, owner) => WordStep::Note(*owner),
             Phase::Probe(_, _) => WordStep::Probe,
             Phase::Prepare(version, _) => WordStep::Prepare(version.share()?),
             Phase::Swap(_) => WordStep::Swap,
@@ -121,6 +132,9 @@ impl<'a> Phase<'a> {
     {
         match self {
             Phase::Load(_) => StepName::Load,
+            Phase::Look(_, _) => StepName::Look,
+            Phase::Raise(_, _) => StepName::Raise,
+            Phase::Note(_, _) => StepName::Note,
             Phase::Probe(_, _) => StepName::Probe,
             Phase::Prepare(_, _) => StepName::Prepare,
             Phase::Swap(_) => StepName::Swap,
@@ -144,6 +158,9 @@ impl<'a> Phase<'a> {
         match self {
             Phase::Probe(version, keeping) => after_probe(version, keeping.copy(), event),
             Phase::Load(name) => Ok(after_load(name, event)),
+            Phase::Look(name, owner) => Ok(after_look(name, *owner, event)),
+            Phase::Raise(name, owner) => Ok(after_raise(name, *owner, event)),
+            Phase::Note(name, owner) => Ok(after_note(name, *owner, event)),
             Phase::Prepare(_, keeping) => Ok(Progress::On(Phase::Swap(keeping.copy()))),
             Phase::Swap(keeping) => Ok(Progress::On(Phase::Settle(keeping.copy()))),
             Phase::Settle(keeping) => Ok(after_settle(keeping.copy(), event)),
@@ -160,12 +177,36 @@ impl<'a> Phase<'a> {
         }
     }
 
-    /// Whether the call is to put this name into use.
+    /// Whether the call is to put this name into use for a strong owner.
     pub fn reserves(&self, name: &Handle<'_>) -> bool
         ensures { result ≡ says_reserves name.now self.now }
     {
         match self {
-            Phase::Load(other) => other.as_slice() == name.as_slice(),
+            Phase::Load(other) | Phase::Look(other, _) | Phase::Raise(other, _) => {
+                other.as_slice() == name.as_slice()
+            }
+            _ => false,
+        }
+    }
+
+    /// Whether the call is to put this name into use for a weak owner.
+    pub fn reserves_weakly(&self, name: &Handle<'_>) -> bool
+        ensures { result ≡ says_reserves_weakly name.now self.now }
+    {
+        match self {
+            Phase::Note(other, _) => other.as_slice() == name.as_slice(),
+            _ => false,
+        }
+    }
+
+    /// Whether the call uses this owner, so that its name can't be given up.
+    pub fn uses(&self, owner: usize) -> bool
+        ensures { result ≡ says_uses owner self.now }
+    {
+        match self {
+            Phase::Look(_, other) | Phase::Raise(_, other) | Phase::Note(_, other) => {
+                *other == owner
+            }
             _ => false,
         }
     }
@@ -175,7 +216,7 @@ impl<'a> Phase<'a> {
         ensures { result ≡ says_updates self.now }
     {
         match self {
-            Phase::Load(_) => false,
+            Phase::Load(_) | Phase::Look(_, _) | Phase::Raise(_, _) | Phase::Note(_, _) => false,
             Phase::Release(_, purpose)
             | Phase::Bury(_, purpose)
             | Phase::Fade(_, _, purpose)
@@ -186,7 +227,7 @@ impl<'a> Phase<'a> {
     }
 }
 
-ghost use Rattle.world_run.specs.Phases.{load_after, probe_after, settle_after, keep_after, release_after, bury_after, fade_after, gone as says_gone, past as says_past, oldest_after};
+ghost use Rattle.world_run.specs.Phases.{load_after, look_after, raise_after, note_after, probe_after, settle_after, keep_after, release_after, bury_after, fade_after, gone as says_gone, past as says_past, oldest_after};
 
 impl Purpose {
     /// The same again.
@@ -231,6 +272,44 @@ fn after_load<'a>(name: &Handle<'a>, event: WordEvent) -> Progress<'a>
             Progress::Done(End::Owned(name.copy(), owner, number))
         }
         _ => Progress::On(Phase::Load(name.copy())),
+    }
+}
+
+/// What follows on a look.
+fn after_look<'a>(name: &Handle<'a>, owner: usize, event: WordEvent) -> Progress<'a>
+    ensures { result ≡ look_after name.now owner event }
+{
+    match event {
+        WordEvent::Alive => Progress::On(Phase::Raise(name.copy(), owner)),
+        WordEvent::Dead => Progress::Done(End::Told(Answer::Nothing)),
+        _ => Progress::On(Phase::Look(name.copy(), owner)),
+    }
+}
+
+/// What follows on a raise.
+fn after_raise<'a>(name: &Handle<'a>, owner: usize, event: WordEvent) -> Progress<'a>
+    ensures { result ≡ raise_after name.now owner event }
+{
+    match event {
+        WordEvent::Raised {
+            owner: next,
+            number,
+        } => Progress::Done(End::Owned(name.copy(), next, number)),
+        WordEvent::Dead => Progress::Done(End::Told(Answer::Nothing)),
+        _ => Progress::On(Phase::Raise(name.copy(), owner)),
+    }
+}
+
+/// What follows on a note.
+fn after_note<'a>(name: &Handle<'a>, owner: usize, event: WordEvent) -> Progress<'a>
+    ensures { result ≡ note_after name.now owner event }
+{
+    match event {
+        WordEvent::Noted {
+            owner: next,
+            number,
+        } => Progress::Done(End::OwnedWeakly(name.copy(), next, number)),
+        _ => Progress::On(Phase::Note(name.copy(), owner)),
     }
 }
 

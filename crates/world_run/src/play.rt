@@ -1,7 +1,7 @@
 //! The zone versions in the words of a cell, the names of their owners, the versions that are kept, and the calls under way, a
 //! line at a time.
 ghost use Rattle.std.specs.Prelude.{◌≡◌, IsTrue, IsFalse, Some, None, IfOk, IfErr, OnOk};
-ghost use Rattle.world_run.specs.World.{World, started, most_steps, call_of, start as says_start, names_at, kept_at, answer_at, steps_up_to, is_full as says_full, all_made as says_all_made, whole as says_whole, begin as says_begin, begin_under, next as says_next, turn as says_turn};
+ghost use Rattle.world_run.specs.World.{World, started, most_steps, call_of, start as says_start, names_at, weak_names_at, kept_at, answer_at, steps_up_to, is_full as says_full, all_made as says_all_made, whole as says_whole, begin as says_begin, begin_under, next as says_next, turn as says_turn};
 ghost use Rattle.world_run.specs.declared.start.Start.TheVariants.{Takes};
 ghost use Rattle.world_run.specs.declared.step.WorldReply.TheVariants.{Answered};
 
@@ -10,7 +10,7 @@ use crate::calls::{UnderWay, call_under, put_under_way, take_out};
 use crate::fault::WorldFault;
 use crate::kept_owners::put_kept;
 use crate::lent::Handle;
-use crate::names::{Named, give_up, put_name};
+use crate::names::{Named, give_up, give_up_weakly, put_name};
 use crate::options::Options;
 use crate::phase::{End, Phase, Progress};
 use crate::published::Published;
@@ -29,13 +29,14 @@ const FIRST_OWNER: usize = 0;
 /// At most so many calls are under way.
 const MOST_CALLS: usize = 64;
 
-/// The words of a cell of zone versions, the names in use, and the calls under way; how many versions are kept beside the last,
+/// The words of a cell of zone versions, the names in use of strong and of weak owners, and the calls under way; how many versions are kept beside the last,
 /// how many entries the window has at most from which changes are sent (RFC 1995, 5), and the owners of the versions that are
 /// kept, the oldest first.
 #[derive(Drop)]
 pub struct Play<'a> {
     pub(crate) machine: WordMachine<Published>,
     pub(crate) names: Vec<Named<'a>>,
+    pub(crate) weak_names: Vec<Named<'a>>,
     pub(crate) calls: Vec<UnderWay<'a>>,
     pub(crate) keep: usize,
     pub(crate) window: usize,
@@ -47,7 +48,7 @@ impl<'a> Model for Play<'a> {
 
     ghost Value = { World };
 
-    ghost view = { λ a. record { words = a.machine; names = a.names.items; calls = a.calls.items; keep = a.keep; window = a.window; kept = a.kept.items } };
+    ghost view = { λ a. record { words = a.machine; names = a.names.items; weak_names = a.weak_names.items; calls = a.calls.items; keep = a.keep; window = a.window; kept = a.kept.items } };
 }
 
 impl<'a> Play<'a> {
@@ -67,6 +68,7 @@ impl<'a> Play<'a> {
         Ok(Play {
             machine,
             names: Vec::new(alloc),
+            weak_names: Vec::new(alloc),
             calls: Vec::new(alloc),
             keep: options.keep,
             window: options.window,
@@ -156,6 +158,7 @@ impl<'a> Play<'a> {
     {
         self.room()?;
         give_up(&mut self.names, call);
+        give_up_weakly(&mut self.weak_names, call);
         put_under_way(&mut self.calls, name, phase)?;
         Ok(WorldReply::Begun)
     }
@@ -210,6 +213,7 @@ impl<'a> Play<'a> {
             Progress::On(_) => Ok(WorldReply::NotEnabled),
             Progress::Done(end) => {
                 give_up(&mut self.names, call);
+                give_up_weakly(&mut self.weak_names, call);
                 let answer = self.finish(alloc, end)?;
                 Ok(WorldReply::Answered(answer))
             }
@@ -219,7 +223,7 @@ impl<'a> Play<'a> {
     /// Puts a name into use, or keeps a version, where a call ends with one, and gives what the call gives.
     fn finish(&mut self, alloc: Global, end: End<'a>) -> Result<Answer, WorldFault>
         ensures ok { IfOk result (λ answer. (answer ≡ answer_at end.entry)
-            × (self.new ≡ record self.old { names = names_at end.entry self.old.names; kept = kept_at self.old.keep end.entry self.old.kept })) }
+            × (self.new ≡ record self.old { names = names_at end.entry self.old.names; weak_names = weak_names_at end.entry self.old.weak_names; kept = kept_at self.old.keep end.entry self.old.kept })) }
         ensures refused { IfErr result (λ fault. fault ≡ WorldFault.NoMemory) }
     {
         match end {
@@ -229,6 +233,13 @@ impl<'a> Play<'a> {
                     return Err(WorldFault::NoMemory);
                 };
                 put_name(&mut self.names, name, owner)?;
+                Ok(Answer::Owner(Octets::new(octets), number))
+            }
+            End::OwnedWeakly(name, owner, number) => {
+                let Ok(octets) = name.as_slice().to_vec(alloc) else {
+                    return Err(WorldFault::NoMemory);
+                };
+                put_name(&mut self.weak_names, name, owner)?;
                 Ok(Answer::Owner(Octets::new(octets), number))
             }
             End::NoSlot(heading) => reply_with(alloc, &heading, Rcode::ServFail),

@@ -3,12 +3,12 @@ ghost use Rattle.std.specs.Prelude.{◌≡◌, ◌||◌, Some, IfOk, IfErr};
 ghost use Rattle.std.specs.Option.{option_copied, option_and_then};
 ghost use Rattle.cell_core.specs.Words.{found_last};
 ghost use Rattle.world_run.specs.Judgements.{judged as says_judged};
-ghost use Rattle.world_run.specs.World.{answering, ask_start, drop_start, is_taken as says_taken, owner_of, start as says_start, transfer_start, update_start, version_of, zone_of};
+ghost use Rattle.world_run.specs.World.{answering, ask_start, drop_start, fade_start, is_taken as says_taken, is_taken_weakly as says_taken_weakly, owner_of, start as says_start, transfer_start, update_start, version_of, zone_of};
 ghost use Rattle.world_run.specs.declared.judged.Judged.TheVariants.{Makes};
-ghost use Rattle.world_run.specs.declared.step.Call.TheVariants.{Load};
+ghost use Rattle.world_run.specs.declared.step.Call.TheVariants.{Load, Copy, Weak, Up};
 
 use crate::asked::{answer_in, reply_with};
-use crate::calls::{is_reserved, is_updating};
+use crate::calls::{is_reserved, is_reserved_weakly, is_updating, is_used};
 use crate::fault::WorldFault;
 use crate::judged::{Judged, judge};
 use crate::kept_owners::{is_held, oldest_of};
@@ -54,6 +54,10 @@ impl<'a> Play<'a> {
         match call {
             Call::Load(name) => Ok(self.load(name)),
             Call::Drop(name) => Ok(self.release(name)),
+            Call::Copy(given, name) => Ok(self.copy(given, name)),
+            Call::Weak(given, name) => Ok(self.weaken(given, name)),
+            Call::Fade(name) => Ok(self.fade(name)),
+            Call::Up(weak, name) => Ok(self.raise(weak, name)),
             Call::Ask(name, request) => self.ask(alloc, name, request),
             Call::Transfer(name, request) => self.ask_transfer(alloc, name, request),
             Call::Update(_) if is_updating(&self.calls) => Ok(Start::Refused),
@@ -73,11 +77,63 @@ impl<'a> Play<'a> {
 
     /// How a drop begins.
     fn release(&self, name: &Handle<'_>) -> Start<'a>
-        ensures { result ≡ drop_start (owner_of name.now self.now.names) }
+        ensures { result ≡ drop_start self.now.calls (owner_of name.now self.now.names) }
     {
         match owner_under(&self.names, name) {
             None => Start::Refused,
+            Some(owner) if is_used(&self.calls, owner) => Start::Refused,
             Some(owner) => Start::Takes(Phase::Release(owner, Purpose::Drop)),
+        }
+    }
+
+    /// How a copy begins.
+    fn copy(&self, given: &Handle<'_>, name: &Handle<'a>) -> Start<'a>
+        ensures { result ≡ says_start self.now (Copy given.now name.now) }
+    {
+        if self.is_taken(name) {
+            return Start::Refused;
+        }
+        match owner_under(&self.names, given) {
+            None => Start::Refused,
+            Some(owner) => Start::Takes(Phase::Raise(name.copy(), owner)),
+        }
+    }
+
+    /// How a weak owner is begun.
+    fn weaken(&self, given: &Handle<'_>, name: &Handle<'a>) -> Start<'a>
+        ensures { result ≡ says_start self.now (Weak given.now name.now) }
+    {
+        if self.is_taken_weakly(name) || is_updating(&self.calls) {
+            return Start::Refused;
+        }
+        match owner_under(&self.names, given) {
+            None => Start::Refused,
+            Some(owner) => Start::Takes(Phase::Note(name.copy(), owner)),
+        }
+    }
+
+    /// How the release of a weak owner begins.
+    fn fade(&self, name: &Handle<'_>) -> Start<'a>
+        ensures { result ≡ fade_start self.now.calls (owner_of name.now self.now.weak_names) }
+    {
+        match owner_under(&self.weak_names, name) {
+            None => Start::Refused,
+            Some(owner) if is_used(&self.calls, owner) => Start::Refused,
+            Some(owner) => Start::Takes(Phase::Fade(owner, None, Purpose::Drop)),
+        }
+    }
+
+    /// How an upgrade begins.
+    fn raise(&self, weak: &Handle<'_>, name: &Handle<'a>) -> Start<'a>
+        ensures { result ≡ says_start self.now (Up weak.now name.now) }
+    {
+        if self.is_taken(name) {
+            return Start::Refused;
+        }
+        match owner_under(&self.weak_names, weak) {
+            None => Start::Refused,
+            Some(owner) if is_used(&self.calls, owner) => Start::Refused,
+            Some(owner) => Start::Takes(Phase::Look(name.copy(), owner)),
         }
     }
 
@@ -146,6 +202,13 @@ impl<'a> Play<'a> {
         ensures { result ≡ says_taken name.now self.now }
     {
         is_in_use(&self.names, name) || is_reserved(&self.calls, name)
+    }
+
+    /// Whether a name is in use for a weak owner, or a call under way is to put it into use.
+    fn is_taken_weakly(&self, name: &Handle<'_>) -> bool
+        ensures { result ≡ says_taken_weakly name.now self.now }
+    {
+        is_in_use(&self.weak_names, name) || is_reserved_weakly(&self.calls, name)
     }
 
     /// The version that a name's owner has; none where the name isn't in use.

@@ -14,6 +14,14 @@ pub enum Call<'a> {
     Load(Handle<'a>),
     /// A strong owner is given up.
     Drop(Handle<'a>),
+    /// Another strong owner of the version that the first name's has, under the second name.
+    Copy(Handle<'a>, Handle<'a>),
+    /// A weak owner of the version that the first name's strong owner has, under the second name.
+    Weak(Handle<'a>, Handle<'a>),
+    /// A weak owner is given up.
+    Fade(Handle<'a>),
+    /// A strong owner of the version that the first name's weak owner has, under the second name, or none where it is buried.
+    Up(Handle<'a>, Handle<'a>),
     /// A request over UDP that asks for no update and for no transfer that is sent, answered in the version that a strong owner has.
     Ask(Handle<'a>, Request<'a>),
     /// A question over TCP for a transfer that is sent, with the version that a strong owner has as the one that is served
@@ -122,7 +130,7 @@ impl Octets {
 /// What a call gave.
 #[derive(Drop)]
 pub enum Answer {
-    /// The name of the strong owner, and the number of the version that it has, from 0 on.
+    /// The name of the strong or weak owner, and the number of the version that it has, from 0 on.
     Owner(Octets, u64),
     /// The strong owner is gone, and the call has buried nothing.
     Left,
@@ -130,6 +138,8 @@ pub enum Answer {
     Buried(u64),
     /// The weak owner is gone.
     Faded,
+    /// There is no strong owner, since the version is buried.
+    Nothing,
     /// The reply to a request, as on the wire.
     Reply(Octets),
     /// A request that gets no reply.

@@ -22,6 +22,7 @@ abbrev a_loaded : List Record → World
 a_loaded first = record {
   words = with_new_owner (Holding 0 0) (record (loaded_once (first_version first)) { latest = word_of 0 2; granted = 2 });
   names = record { name = codes "a"; owner = 1 } ∷ [];
+  weak_names = [];
   calls = [];
   keep = 0;
   window = 0;
