@@ -133,6 +133,8 @@ fn is_answer(answer: &Answer, told: &str) -> bool {
         }
         Answer::Left => kind == "left",
         Answer::Buried(number) => kind == "buried" && first.parse::<u64>() == Ok(*number),
+        Answer::Faded => kind == "ok",
+        Answer::Nothing => kind == "none",
         Answer::Reply(octets) => {
             kind == "reply"
                 && begin_with(octets.as_slice(), first)
@@ -152,6 +154,11 @@ fn name_of(step: StepName) -> &'static str {
         StepName::Settle => "settle",
         StepName::Release => "release",
         StepName::Bury => "bury",
+        StepName::Look => "look",
+        StepName::Raise => "raise",
+        StepName::Note => "note",
+        StepName::Fade => "fade",
+        StepName::Reset => "reset",
         StepName::Free => "free",
     }
 }
