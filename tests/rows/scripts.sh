@@ -109,6 +109,8 @@ update ${add}4d => $taken
 begin x drop a => ok
 next x => release
 next x => bury
+next x => fade
+next x => reset
 next x => free buried 0
 begin u update ${add}4e => ok
 next u => probe
@@ -121,7 +123,37 @@ next u => load
 next u => release
 next u => release
 next u => bury
+next u => fade
+next u => reset
 next u => free $taken
+end
+
+# an owner copied, and a weak owner: an upgrade gives an owner until the version is buried, and none from then on
+plays <<end
+load a => a 0
+copy a b => b 0
+copy c d => not enabled
+copy a b => not enabled
+weak a w => w 0
+weak b w => not enabled
+update ${add}4d => $taken
+drop b => left
+begin x drop a => ok
+next x => release
+begin z up w c => ok
+fade w => not enabled
+up w d => not enabled
+next z => look
+next z => raise c 0
+next x => bury left
+drop c => buried 0
+up w c => none
+up c d => not enabled
+begin y fade w => ok
+next y => fade
+next y => reset
+next y => free ok
+fade w => not enabled
 end
 
 # a version that is owned stays as it is through 200 others
