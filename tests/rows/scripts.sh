@@ -233,6 +233,15 @@ LOAD a
 loada
 drop
 drop a b
+copy a
+copy a B
+copy a b c
+weak a
+weak a  b
+fade
+fade a b
+up a
+up A b
 ask a
 ask a␠
 ask a 0

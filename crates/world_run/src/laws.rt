@@ -31,8 +31,8 @@ ghost use Rattle.world_run.specs.Runs.{Run, IsShownBy, IsAnsweredAtLoaded, Shows
 ghost use Rattle.world_run.specs.World.{World, started, turn, play, replies_of, zone_of, start, ask_said, code_reply, answer_at};
 ghost use Rattle.world_run.specs.declared.start.Start.TheVariants.{Answers};
 ghost use Rattle.world_run.specs.declared.step.Call.{Call};
-ghost use Rattle.world_run.specs.declared.step.Call.TheVariants.{Load, Drop, Ask, Transfer, Update};
-ghost use Rattle.world_run.specs.declared.step.Answer.TheVariants.{Owner, Left, Buried, Messages};
+ghost use Rattle.world_run.specs.declared.step.Call.TheVariants.{Load, Drop, Copy, Weak, Fade, Up, Ask, Transfer, Update};
+ghost use Rattle.world_run.specs.declared.step.Answer.TheVariants.{Owner, Left, Buried, Faded, Nothing, Messages};
 ghost use Rattle.world_run.specs.declared.step.StepName.TheVariants as StepName;
 ghost use Rattle.world_run.specs.declared.step.WorldStep.TheVariants.{Whole, Begin, Next};
 ghost use Rattle.world_run.specs.declared.step.WorldReply.{WorldReply};
@@ -92,7 +92,8 @@ pub fn refused_lines_change_nothing()
 {}
 
 /// Worked examples, of an update that makes the second version: the first outlives it for whom it was loaded, and the last name that
-/// is in use for it buries it; a drop under way takes its steps one at a time, and its name is free at once.
+/// is in use for it buries it; a drop under way takes its steps one at a time, and its name is free at once; and an upgrade between a
+/// release and its bury, which finds an owner then.
 pub fn examples()
     ensures two_versions { (first second : List Record) (heading : Heading) (request : List ℕ)
         → judged (first_version first) request ≡ Some (Makes heading (record { number = 1; zone = second; changes = Some (changes_between first second) }))
@@ -106,6 +107,16 @@ pub fn examples()
         ∷ Whole (Load (codes "a")) ∷ Next (codes "x") ∷ Next (codes "x") ∷ Next (codes "x") ∷ Next (codes "x") ∷ Next (codes "x") ∷ [])
         ≡ Some (Answered (Owner (codes "a") 0) ∷ Answered (code_reply heading NoError) ∷ Begun ∷ Step StepName.Release
         ∷ Answered (Owner (codes "a") 1) ∷ Step StepName.Bury ∷ Step StepName.Fade ∷ Step StepName.Reset ∷ Last StepName.Free (Buried 0) ∷ NotEnabled ∷ []) }
+    ensures weak_lines { (first : List Record) → replies_of first 0 0 (Whole (Load (codes "a")) ∷ Whole (Copy (codes "a") (codes "b")) ∷ Whole (Weak (codes "b") (codes "w"))
+        ∷ Whole (Weak (codes "a") (codes "w")) ∷ Whole (Up (codes "w") (codes "c")) ∷ Whole (Fade (codes "w")) ∷ Whole (Fade (codes "w")) ∷ [])
+        ≡ Some (Answered (Owner (codes "a") 0) ∷ Answered (Owner (codes "b") 0) ∷ Answered (Owner (codes "w") 0) ∷ NotEnabled ∷ Answered (Owner (codes "c") 0)
+        ∷ Answered Faded ∷ NotEnabled ∷ []) }
+    ensures raised { (first second : List Record) (heading : Heading) (request : List ℕ)
+        → judged (first_version first) request ≡ Some (Makes heading (record { number = 1; zone = second; changes = Some (changes_between first second) }))
+        → replies_of first 0 0 (Whole (Load (codes "a")) ∷ Whole (Weak (codes "a") (codes "w")) ∷ Whole (Update request) ∷ Begin (codes "x") (Drop (codes "a"))
+        ∷ Next (codes "x") ∷ Whole (Up (codes "w") (codes "b")) ∷ Next (codes "x") ∷ Whole (Drop (codes "b")) ∷ Whole (Up (codes "w") (codes "e")) ∷ Whole (Fade (codes "w")) ∷ [])
+        ≡ Some (Answered (Owner (codes "a") 0) ∷ Answered (Owner (codes "w") 0) ∷ Answered (code_reply heading NoError) ∷ Begun ∷ Step StepName.Release
+        ∷ Answered (Owner (codes "b") 0) ∷ Last StepName.Bury Left ∷ Answered (Buried 0) ∷ Answered Nothing ∷ Answered Faded ∷ []) }
 {}
 
 /// Whatever lines were played, each name in use holds the version that was published with its number, through any reuse of its slot;
