@@ -60,7 +60,7 @@ use Rattle.world_run.specs.World.{World, started, call_of, without_call, owner_o
 use Rattle.world_run.proofs.EndLemmas.{IsFirst, FirstOf, start_first}
 use Rattle.world_run.proofs.HandPlay.{started_hands}
 use Rattle.world_run.proofs.HandSteps.{Zones}
-use Rattle.world_run.proofs.ReplayLemmas.{step_by}
+use Rattle.world_run.proofs.SwapLemmas.{step_by}
 
 -- a number that is to be told
 abbrev pub told_of : ℕ → Option ℕ → ℕ

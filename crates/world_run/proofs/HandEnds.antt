@@ -19,7 +19,7 @@ use Rattle.zone_tree.specs.Version.{Version as Numbered}
 use Rattle.world_run.specs.declared.phase.Purpose.{Purpose}
 use Rattle.world_run.specs.Phases.{is_for_update, updates}
 use Rattle.world_run.specs.World.{owner_of, without_name, oldest_kept, names_at, weak_names_at, kept_at}
-use Rattle.world_run.proofs.CallReplays.{any_update}
+use Rattle.world_run.proofs.OtherCalls.{any_update}
 use Rattle.world_run.proofs.HandLemmas.{Hand, Seat, HandIs, AllFit, Seated, times, times_append, fit_append, fit_front, fit_back, seated_as}
 use Rattle.world_run.proofs.HandLemmas.Hand.{holds, has, weakly}
 use Rattle.world_run.proofs.HandSteps.{Zones, seat, phase_seats, oldest_seats, OldestIn, swapped_for, swapped_in}

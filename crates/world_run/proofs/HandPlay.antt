@@ -43,7 +43,8 @@ use Rattle.world_run.specs.Numbered.{first_version}
 use Rattle.world_run.specs.Phases.{reserves, reserves_weakly, updates}
 use Rattle.world_run.specs.Replays.{IsSentAt}
 use Rattle.world_run.specs.World.{World, loaded_once, started, owner_of, call_of, without_call, is_taken, is_taken_weakly, is_used, is_held, drop_start, fade_start, copy_start, weak_start, up_start, asks_sent, ask_start, transfer_asked, transfer_said, transfer_start, oldest_kept, publication_start, update_start, start, version_of, zone_of, given_up, weak_given_up, step_once, steps_up_to, most_steps, is_full, all_made, whole, begin, begin_under, stepped, next, turn, onto_replies, play}
-use Rattle.world_run.proofs.CallReplays.{Script, script, any_update}
+use Rattle.world_run.proofs.CallReplays.{Script, script}
+use Rattle.world_run.proofs.OtherCalls.{any_update}
 use Rattle.world_run.proofs.EndLemmas.{IsProbe, FirstOf, Unchanged, first_by, start_first}
 use Rattle.world_run.proofs.ReplayLemmas.{Goes, AllSent, turn_goes, all_sent, start_goes, last_replay}
 use Rattle.cell_core.specs.declared.words.Owner.TheVariants.{Holding}

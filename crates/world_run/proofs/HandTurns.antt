@@ -10,7 +10,7 @@ use Rattle.world_run.specs.declared.names.Named.{Named}
 use Rattle.world_run.specs.declared.calls.UnderWay.{UnderWay}
 use Rattle.world_run.specs.Phases.{reserves, reserves_weakly, updates}
 use Rattle.world_run.specs.World.{call_of, without_call, oldest_kept}
-use Rattle.world_run.proofs.CallReplays.{any_update, AtMostOne}
+use Rattle.world_run.proofs.OtherCalls.{any_update, AtMostOne}
 use Rattle.world_run.proofs.HandLemmas.{Seat, AllFit, Seated, times, times_append, fit_append, fit_front, fit_back, seated_as}
 use Rattle.world_run.proofs.HandSteps.{Zones, phase_seats, OldestIn, swapped_in, publishes_in}
 use Rattle.world_run.proofs.HandWorld.{both_seats, kept_left, call_seats, AllOldest, swaps_of, any_publishes, reserved_by, weak_reserved_by, called, rest_seats, Open, nothing_apart}

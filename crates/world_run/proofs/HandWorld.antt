@@ -25,8 +25,9 @@ use Rattle.world_run.specs.declared.phase.Purpose.{Purpose}
 use Rattle.world_run.specs.declared.phase.Purpose.TheVariants as purpose
 use Rattle.world_run.specs.Phases.{word_step, after, reserves, reserves_weakly, is_for_update, updates}
 use Rattle.world_run.specs.World.{World, oldest_kept, step_once, steps_up_to, go_on}
-use Rattle.world_run.proofs.CallReplays.{publishes_nothing, any_update, AtMostOne}
-use Rattle.world_run.proofs.ReplayLemmas.{step_by}
+use Rattle.world_run.proofs.CallReplays.{publishes_nothing}
+use Rattle.world_run.proofs.OtherCalls.{any_update, AtMostOne}
+use Rattle.world_run.proofs.SwapLemmas.{step_by}
 use Rattle.cell_core.specs.Made.{made}
 use Rattle.world_run.proofs.HandLemmas.{Hand, Seat, Seated}
 use Rattle.world_run.proofs.HandLemmas.Hand.{holds, has, weakly, buries, fades, resets, frees}

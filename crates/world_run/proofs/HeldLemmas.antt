@@ -26,7 +26,8 @@ use Rattle.world_run.specs.declared.step.WorldStep.{WorldStep as Line}
 use Rattle.world_run.specs.Held.{HoldsVersion, HoldVersions, IsAtRest}
 use Rattle.world_run.specs.Replays.{IsSentAt}
 use Rattle.world_run.specs.World.{World, started, owner_of, kept_versions, play}
-use Rattle.world_run.proofs.CallReplays.{script, any_update}
+use Rattle.world_run.proofs.CallReplays.{script}
+use Rattle.world_run.proofs.OtherCalls.{any_update}
 use Rattle.world_run.proofs.HandEnds.{no_swaps}
 use Rattle.world_run.proofs.HandLemmas.{HandIs, AllFit, times, times_append, fit_front, lives}
 use Rattle.world_run.proofs.HandLemmas.Hand.{holds, weakly}

@@ -41,13 +41,15 @@ use Rattle.world_run.specs.Phases.{step_name, updates}
 use Rattle.world_run.specs.Replays.{Sends, IsSentAt}
 use Rattle.world_run.specs.UpdateAnswers.{heading_for, heading_of}
 use Rattle.world_run.specs.World.{World, started, call_of, without_call, code_reply, answer_at, step_once, steps_up_to, most_steps, is_full, all_made, whole, begin, begin_under, start, stepped, next, turn, onto_replies, play}
-use Rattle.world_run.proofs.CallReplays.{Script, scripted, Placed, updates_in, Zones, any_update, AtMostOne, found_any, found_alone}
+use Rattle.world_run.proofs.CallReplays.{Script, scripted, Placed, updates_in, Zones}
+use Rattle.world_run.proofs.OtherCalls.{any_update, AtMostOne, found_any, found_alone}
 use Rattle.world_run.proofs.EndLemmas.{Unchanged, FirstOf, IsFirst, IsProbe, first_by, start_first}
 use Rattle.world_run.proofs.HandPlay.{BeginsOk, start_begins, turn_hands, started_hands}
 use Rattle.world_run.proofs.HandSteps.{swapped_in, swapped_at}
 use Rattle.world_run.proofs.HandWorld.{Hands}
 use Rattle.world_run.proofs.HeldLemmas.{same_length}
-use Rattle.world_run.proofs.ReplayLemmas.{Goes, HeadEnd, HeadAt, step_keeps, found_here, found_behind, found_new, by_after, AddedBy, Turned, turn_comes, goes_as, AllSent, all_sent, start_goes, no_updates, place_in, update_at, goes_replayed, replayed_us}
+use Rattle.world_run.proofs.ReplayLemmas.{Goes, found_here, found_behind, found_new, by_after, AddedBy, Turned, turn_comes, goes_as, AllSent, all_sent, start_goes, no_updates, place_in, update_at, goes_replayed, replayed_us}
+use Rattle.world_run.proofs.SwapLemmas.{HeadEnd, HeadAt, step_keeps}
 
 -- which line may have begun the update that is under way
 abbrev BeganBy : List Line → List WorldReply → ℕ → List UnderWay → ℕ → Heading → Type 0

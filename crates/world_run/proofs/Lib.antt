@@ -16,10 +16,12 @@ pub mod KeptLemmas
 pub mod LeadLemmas
 pub mod LeadReplies
 pub mod LineLemmas
+pub mod OtherCalls
 pub mod PlayLemmas
 pub mod ReplayLemmas
 pub mod RunLemmas
 pub mod SentUpdates
 pub mod SpeltLemmas
 pub mod StepLemmas
+pub mod SwapLemmas
 pub mod ToldLemmas

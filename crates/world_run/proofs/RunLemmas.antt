@@ -57,7 +57,7 @@ use Rattle.world_run.specs.declared.step.WorldStep.TheVariants.{Whole, Begin, Ne
 use Rattle.zone_tree.specs.Version.{Version as Numbered}
 use Rattle.world_run.specs.Numbered.{first_version}
 use Rattle.world_run.specs.Phases.{word_step, after, past, gone, oldest_after, updates}
-use Rattle.world_run.specs.Runs.{Run, IsLoadOf, Comes, IsFromLoad, IsShownBy, ShowsReached, IsAnsweredAtLoaded}
+use Rattle.world_run.specs.Runs.{Run, Comes, IsFromLoad, IsShownBy, ShowsReached, IsAnsweredAtLoaded}
 use Rattle.world_run.specs.Runs.Comes.{loaded, raised, noted}
 use Rattle.world_run.specs.World.{World, loaded_once, started, owner_of, without_name, zone_of, version_of, call_of, without_call, is_taken, is_taken_weakly, is_used, drop_start, fade_start, copy_start, weak_start, up_start, asks_sent, ask_said, ask_start, transfer_asked, transfer_said, transfer_start, is_held, oldest_kept, update_start, start, given_up, weak_given_up, names_at, weak_names_at, step_once, steps_up_to, go_on, most_steps, is_full, all_made, whole, begin, begin_under, stepped, next, turn, onto_replies, play}
 
