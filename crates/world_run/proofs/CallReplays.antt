@@ -446,7 +446,6 @@ owner_keeps_swap S first us words new cell (word.Release owner) event of s m n =
 owner_keeps_swap S first us words new cell (word.Bury owner) event of s m n = bury_keeps_swap S first us words new cell owner event s m n
 owner_keeps_swap S first us words new cell (word.Free owner) event of s (at, there, seat, found, told_is, new_is) n =
     swaps_kept S first us words new (ap (λ (w : Zones). w.publisher) new_is) (λ place publisher. version_stays words new place at there (with_shares free_word there) found (ap (λ (w : Zones). w.table) new_is) refl) n
-
 owner_keeps_swap S first us words new cell (word.Look owner) event of s m n = look_keeps_swap S first us words new owner event m n
 owner_keeps_swap S first us words new cell (word.Raise owner) event of s m n = raise_keeps_swap S first us words new owner event m n
 owner_keeps_swap S first us words new cell (word.Note owner) event of s (number, at, there, seat, found, room, told_is, new_is) n =

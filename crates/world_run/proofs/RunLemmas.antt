@@ -551,12 +551,14 @@ played_shown first keep window lines replies world e = play_shown first (started
 
 pub play_runs : (first : List Record) (keep window : ℕ) (lines : List Line) (replies : List WorldReply) (world : World) → play (started first keep window) lines ≡ Some (replies, world) → (run : Run) × IsShownBy first run world
 play_runs first keep window lines replies world e =
-    let s = played_shown first keep window lines replies world e in
-    (s.run, record {
-      runs = s.runs;
-      names = λ name owner is. (found_loaded s.run world.words.owners name world.names owner s.names is).from;
-      weak_names = λ name owner is. (found_loaded s.run world.words.owners name world.weak_names owner s.weak_names is).from;
-    })
+    let s = played_shown first keep window lines replies world e in (
+      s.run,
+      record {
+        runs = s.runs;
+        names = λ name owner is. (found_loaded s.run world.words.owners name world.names owner s.names is).from;
+        weak_names = λ name owner is. (found_loaded s.run world.words.owners name world.weak_names owner s.weak_names is).from;
+      },
+    )
 
 -- the words show a cell that is reached
 pub play_reached : (first : List Record) (keep window : ℕ) (lines : List Line) (replies : List WorldReply) (world : World) → play (started first keep window) lines ≡ Some (replies, world) → ShowsReached first world.words
