@@ -58,7 +58,10 @@ fn call_of<'a>(kind: &str, first: &'a str, second: &'a str) -> Option<Call<'a>> 
             Handle::new(second.as_bytes()),
         )),
         "fade" => Some(Call::Fade(Handle::new(first.as_bytes()))),
-        "up" => Some(Call::Up(Handle::new(first.as_bytes()), Handle::new(second.as_bytes()))),
+        "up" => Some(Call::Up(
+            Handle::new(first.as_bytes()),
+            Handle::new(second.as_bytes()),
+        )),
         "ask" => Some(Call::Ask(Handle::new(first.as_bytes()), request_of(second))),
         "update" => Some(Call::Update(request_of(first))),
         _ => None,
