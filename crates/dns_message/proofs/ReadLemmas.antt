@@ -7,11 +7,26 @@ use Rattle.dns_message.specs.Reads.{question_at, questions_at, record_at, record
 use Rattle.dns_message.specs.Opt.{opt_said}
 use Rattle.dns_message.specs.declared.edns.Edns.{Edns}
 use Rattle.dns_message.specs.declared.edns.OptFault.{OptFault}
+use Rattle.dns_message.specs.declared.query.Head.{Head}
 use Rattle.dns_message.specs.declared.query.Question.{Question}
+use Rattle.dns_message.specs.declared.query.Parsed.{Parsed}
+use Rattle.dns_message.specs.declared.query.Parsed.TheVariants.{Silent, Fault}
+use Rattle.dns_message.specs.declared.update.Update.{Update}
+use Rattle.dns_message.specs.Request.{query_of, update_of}
+use Rattle.dns_rdata.specs.declared.numbers.Rcode.TheVariants.{NotImp}
 
 -- what OPTs say
 abbrev pub Said : Type 0
 Said = Result (Option Edns) OptFault
+
+-- what is said where these parts of the octets are known: whether they are silent, the header, what stands behind it in a
+-- query, and in an update
+abbrev pub judged : Bool → Head → Option (Question × Option Serial × Said) → Option (Result Update (Question × OptFault)) → Parsed
+judged silent head asked update =
+    if silent then Silent
+    else if head.opcode == 0 then query_of head asked
+    else if head.opcode == 5 then update_of head update
+    else Fault head NotImp
 
 -- the position behind records
 abbrev pub place_of : List Entry × ℕ → ℕ

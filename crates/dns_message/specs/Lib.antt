@@ -1,14 +1,11 @@
-pub mod Again
 pub mod Answers
 pub mod Asked
 pub mod Encoded
 pub mod Encoding
-pub mod Examples
 pub mod Expanded
 pub mod Frame
 pub mod Message
 pub mod Opt
-pub mod OptExamples
 pub mod Reads
 pub mod Received
 pub mod Request

@@ -42,7 +42,7 @@ pub(crate) const UPCOUNT: usize = NSCOUNT;
 pub(crate) const ADCOUNT: usize = ARCOUNT;
 
 /// QR, by its place in the third octet: set in a reply (RFC 1035, 4.1.1).
-pub(crate) const QR: u8 = 128;
+pub const QR: u8 = 128;
 
 /// OPCODE's lowest bit, by its place in the third octet (RFC 1035, 4.1.1).
 pub(crate) const OPCODE: u8 = 8;

@@ -6,7 +6,7 @@ use Rattle.dns_message.specs.Request.{update_of, reads, IsWant}
 use Rattle.dns_message.specs.Updates.{update_in}
 use Rattle.dns_message.specs.declared.query.Head.{Head}
 use Rattle.dns_message.specs.declared.query.Parsed.{Parsed}
-use Rattle.dns_message.proofs.AskedLemmas.{judged}
+use Rattle.dns_message.proofs.ReadLemmas.{judged}
 
 judged_update : (head : Head) (asked : _) (update : _) → head.opcode ≡ 5 → judged false head asked update ≡ update_of head update
 judged_update head asked update e =

@@ -9,7 +9,7 @@ use Rattle.dns_rdata.specs.Numbers.{class_IN}
 use Rattle.dns_rdata.specs.Raw.{RawRecord}
 use Rattle.dns_rdata.specs.Record.{Record, IsLawful, shown_as}
 use Rattle.dns_rdata.specs.declared.numbers.Rcode.TheVariants.{NoError}
-use Rattle.dns_message.specs.Again.{IsRecord, IsReply}
+use Rattle.message_laws.specs.Again.{IsRecord, IsReply}
 use Rattle.dns_message.specs.Answers.{answers, filled}
 use Rattle.dns_message.specs.Asked.{IsQuestion}
 use Rattle.dns_message.specs.Message.{Message}
@@ -18,7 +18,7 @@ use Rattle.dns_message.specs.Received.{as_received}
 use Rattle.dns_message.specs.declared.edns.Opt.{Opt}
 use Rattle.dns_message.specs.declared.query.Head.{Head}
 use Rattle.dns_message.specs.declared.query.Question.{Question}
-use Rattle.dns_message.proofs.AnsweredLemmas.{answers_received}
+use Rattle.message_laws.proofs.AnsweredLemmas.{answers_received}
 use Rattle.dns_message.proofs.AnswersLemmas.{filled_is}
 use Rattle.dns_message.proofs.SizeLemmas.{one_fits, question_fits}
 use Rattle.zone_tree.proofs.NameOrder.{folds_from_same}

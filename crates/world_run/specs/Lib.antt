@@ -1,12 +1,5 @@
-pub mod Held
-pub mod InTurn
 pub mod Judgements
-pub mod Leads
-pub mod Lines
 pub mod Numbered
 pub mod Phases
-pub mod Replays
-pub mod Runs
 pub mod Told
-pub mod UpdateAnswers
 pub mod World

@@ -14,7 +14,6 @@ mod fault;
 mod judged;
 mod kept;
 mod kept_owners;
-mod laws;
 mod lent;
 mod message_list;
 mod names;
@@ -29,12 +28,6 @@ mod words;
 mod world;
 
 pub use fault::WorldFault;
-pub use laws::{
-    asks_are_answered_at_loaded, burials_are_told_once, examples, lines_take_one_step,
-    plays_are_runs, refused_lines_change_nothing, transfers_lead_to_the_served, updates_are_told,
-    updates_are_told_in_turn, versions_are_held, versions_are_replays,
-    versions_before_the_kept_are_buried,
-};
 pub use lent::{Handle, Request};
 pub use message_list::MessageList;
 pub use options::Options;

@@ -39,7 +39,7 @@ use Rattle.serve_core.specs.Transfers.{is_permitted, reply_to_peer, messages_to}
 use Rattle.serve_core.specs.Replies.{replies_to, IsNoTransfer}
 use Rattle.serve_core.specs.Served.{Got, Want, ForNothing, ForMaking, got, got_of, told, answered, limit_for, StandsIn, IsBehind, ServesSaid}
 use Rattle.serve_core.proofs.ServedLemmas.{serves_told, serves_reply}
-use Rattle.dns_message.proofs.AskedLemmas.{judged}
+use Rattle.dns_message.proofs.ReadLemmas.{judged}
 use Rattle.serve_core.proofs.WantLemmas.{reads-want}
 use Rattle.zone_service.specs.declared.answer.Told.{Told}
 use Rattle.zone_service.specs.Known.{HasLoaded}

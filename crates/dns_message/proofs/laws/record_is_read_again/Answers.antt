@@ -1,5 +1,0 @@
-use Rattle.dns_message.proofs.AgainLemmas.{record_read, record_enters}
-use Rattle.dns_message.proofs.laws.record_is_read_again.Goals as goal
-
-pub returns : goal.returns
-returns c = record { read = record_read; table = record_enters }

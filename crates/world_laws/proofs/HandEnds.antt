@@ -1,0 +1,686 @@
+-- What is in hand where a call begins, and where it ends.
+use Rattle.std.proofs.Common.{◌≡◌, refl, sym, ap, ◌∙◌, subst, ℕ, ◌+◌, ◌-◌, ◌≤◌, Bool, true, false, inl, inr, List, [], ◌∷◌, ◌++◌, length, arith, Option, Some, None, length-append}
+use Rattle.std.specs.Prelude.{◌==◌, ◌||◌, nat_lt, remove, bytes_eq, if◌then◌else◌}
+use Rattle.std.proofs.lemmas.Bool.{cases_Bool, ltb-true, ltb-false}
+use Rattle.std.proofs.lemmas.Slice.Eq.{bytes_eq-Decides}
+use Rattle.cell_core.proofs.CountLemmas.{one_if}
+use Rattle.cell_core.specs.declared.words.Owner.{Owner}
+use Rattle.serve_core.specs.declared.heading.Heading.{Heading}
+use Rattle.world_run.specs.declared.phase.Phase.{Phase}
+use Rattle.world_run.specs.declared.phase.Phase.TheVariants as phase
+use Rattle.world_run.specs.declared.phase.Progress.TheVariants.{On, Done}
+use Rattle.world_run.specs.declared.phase.End.{End}
+use Rattle.world_run.specs.declared.phase.End.TheVariants.{Owned, OwnedWeakly, Told, NoSlot, Kept}
+use Rattle.world_run.specs.declared.phase.Purpose.TheVariants as purpose
+use Rattle.world_run.specs.declared.names.Named.{Named}
+use Rattle.world_run.specs.declared.calls.UnderWay.{UnderWay}
+use Rattle.world_run.specs.declared.step.Answer.{Answer}
+use Rattle.zone_tree.specs.Version.{Version as Numbered}
+use Rattle.world_run.specs.declared.phase.Purpose.{Purpose}
+use Rattle.world_run.specs.Phases.{is_for_update, updates}
+use Rattle.world_run.specs.World.{owner_of, without_name, oldest_kept, names_at, weak_names_at, kept_at}
+use Rattle.world_laws.proofs.OtherCalls.{any_update}
+use Rattle.world_laws.proofs.HandLemmas.{Hand, Seat, HandIs, AllFit, Seated, times, times_append, fit_append, fit_front, fit_back, seated_as}
+use Rattle.world_laws.proofs.HandLemmas.Hand.{holds, has, weakly}
+use Rattle.world_laws.proofs.HandSteps.{Zones, seat, phase_seats, oldest_seats, OldestIn, swapped_for, swapped_in}
+use Rattle.world_laws.proofs.HandTurns.{times_four, fit_four, fits_four}
+use Rattle.world_laws.proofs.HandWorld.{seats_as, both_seats, kept_seats, kept_left, call_seats, AllOldest, swaps_of, reserved_by, weak_reserved_by, named_by, rest_seats, Open, nothing_apart}
+
+-- the oldest version that is kept, and the others
+oldest_apart : (from keep : ℕ) (kept : List ℕ) → oldest_seats from (oldest_kept keep kept) ++ kept_left from keep kept true ≡ kept_seats from kept
+oldest_apart from keep [] = elim (cases_Bool (nat_lt keep 0)) [ inl more ↦ rw more refl | inr all ↦ rw all refl ]
+oldest_apart from keep (o ∷ os) = elim (cases_Bool (nat_lt keep (length (o ∷ os)))) [ inl more ↦ rw more refl | inr all ↦ rw all refl ]
+
+-- it moves between an update's hand and the others, behind names
+seated_kept : (owners : List Owner) (last from keep : ℕ) (names weaks : List Named) (kept : List ℕ) (calls : List UnderWay) → Seated owners (rest_seats last from names weaks kept keep calls false) → Seated owners (oldest_seats from (oldest_kept keep kept) ++ rest_seats last from names weaks kept keep calls true)
+seated_kept owners last from keep names weaks kept calls s =
+    let e = oldest_apart from keep kept in
+    let all = fits_four owners [] (both_seats names weaks) (kept_seats from kept) (call_seats last from calls) s.fit in
+    let kept_fit = subst (λ ss. AllFit owners ss) (sym e) all.2 in
+    seated_as owners _ (oldest_seats from (oldest_kept keep kept) ++ rest_seats last from names weaks kept keep calls true)
+    (fit_four owners (oldest_seats from (oldest_kept keep kept)) (both_seats names weaks) (kept_left from keep kept true) (call_seats last from calls)
+    (fit_front owners (oldest_seats from (oldest_kept keep kept)) (kept_left from keep kept true) kept_fit) all.1
+    (fit_back owners (oldest_seats from (oldest_kept keep kept)) (kept_left from keep kept true) kept_fit) all.3)
+    (λ i. (
+    let a = times_four i (oldest_seats from (oldest_kept keep kept)) (both_seats names weaks) (kept_left from keep kept true) (call_seats last from calls) in
+    let b = times_four i [] (both_seats names weaks) (kept_seats from kept) (call_seats last from calls) in
+    let d = times_append i (oldest_seats from (oldest_kept keep kept)) (kept_left from keep kept true) in
+    let f : times i (oldest_seats from (oldest_kept keep kept) ++ kept_left from keep kept true) ≡ times i (kept_seats from kept) = ap (times i) e in
+    omega (arith, a, b, d, f)
+    )) s
+
+seated_given : (owners : List Owner) (last from keep : ℕ) (names weaks : List Named) (kept : List ℕ) (calls : List UnderWay) → Seated owners (oldest_seats from (oldest_kept keep kept) ++ rest_seats last from names weaks kept keep calls true) → Seated owners (rest_seats last from names weaks kept keep calls false)
+seated_given owners last from keep names weaks kept calls s =
+    let e = oldest_apart from keep kept in
+    let all = fits_four owners (oldest_seats from (oldest_kept keep kept)) (both_seats names weaks) (kept_left from keep kept true) (call_seats last from calls) s.fit in
+    seated_as owners _ (rest_seats last from names weaks kept keep calls false)
+    (fit_four owners [] (both_seats names weaks) (kept_seats from kept) (call_seats last from calls) tt all.1
+    (subst (λ ss. AllFit owners ss) e (fit_append owners (oldest_seats from (oldest_kept keep kept)) (kept_left from keep kept true) all.0 all.2)) all.3)
+    (λ i. (
+    let a = times_four i (oldest_seats from (oldest_kept keep kept)) (both_seats names weaks) (kept_left from keep kept true) (call_seats last from calls) in
+    let b = times_four i [] (both_seats names weaks) (kept_seats from kept) (call_seats last from calls) in
+    let d = times_append i (oldest_seats from (oldest_kept keep kept)) (kept_left from keep kept true) in
+    let f : times i (oldest_seats from (oldest_kept keep kept) ++ kept_left from keep kept true) ≡ times i (kept_seats from kept) = ap (times i) e in
+    omega (arith, a, b, d, f)
+    )) s
+
+-- one version more is kept, behind the others
+kept_push : (from : ℕ) (kept : List ℕ) (owner : ℕ) → kept_seats from (kept ++ owner ∷ []) ≡ kept_seats from kept ++ seat owner (has (from + length kept)) ∷ []
+kept_push from [] owner = let e : from ≡ from + 0 = omega arith in ap (λ n. seat owner (has n) ∷ []) e
+kept_push from (o ∷ os) owner = let e : from + 1 + length os ≡ from + length (o ∷ os) = omega arith in ap (λ ss. seat o (has from) ∷ ss) (kept_push (from + 1) os owner ∙ ap (λ n. kept_seats (from + 1) os ++ seat owner (has n) ∷ []) e)
+
+-- the versions that are kept where an update has made one
+pub record KeptNow (from keep : ℕ) (kept : List ℕ) (owner last : ℕ) : Type 0 where
+  pub first : ℕ
+  pub now : List ℕ
+  pub now_is : now ≡ (if nat_lt keep (length kept) then remove kept 0 else kept) ++ owner ∷ []
+  pub seats : kept_seats first now ≡ kept_left from keep kept true ++ seat owner (has last) ∷ []
+  pub count : first + length now ≡ last + 1
+  pub first_is : first ≡ last + 1 - (keep + 1)
+
+not_more : (a b : ℕ) → nat_lt a b ≡ false → b ≤ a
+not_more a b e = elim (cases_Bool (nat_lt a b)) [ inl less ↦ absurd (let wrong : true ≡ false = sym less ∙ e in cc) | inr isnt ↦ ltb-false a b isnt ]
+
+kept_now : (from keep : ℕ) (kept : List ℕ) (owner last : ℕ) → from + length kept ≡ last → from ≡ last - (keep + 1) → KeptNow from keep kept owner last
+kept_now from keep [] owner last count is =
+    elim (cases_Bool (nat_lt keep 0)) [
+      | inl more ↦ (let l = ltb-true keep 0 more in absurd (omega (arith, l)))
+      | inr all ↦ record {
+        first = from;
+        now = owner ∷ [];
+        now_is = rw all refl;
+        seats = rw all (let e : from ≡ last = omega (arith, count) in ap (λ n. seat owner (has n) ∷ []) e);
+        count = omega (arith, count);
+        first_is = omega (arith, count, is);
+      }
+    ]
+kept_now from keep (o ∷ os) owner last count is =
+    elim (cases_Bool (nat_lt keep (length (o ∷ os)))) [
+      | inl more ↦ (
+          let l = ltb-true keep (length (o ∷ os)) more in
+          let e : from + 1 + length os ≡ last = omega (arith, count) in
+          record {
+            first = from + 1;
+            now = os ++ owner ∷ [];
+            now_is = rw more refl;
+            seats = rw more (kept_push (from + 1) os owner ∙ ap (λ n. kept_seats (from + 1) os ++ seat owner (has n) ∷ []) e);
+            count = omega (arith, e, length-append os (owner ∷ []));
+            first_is = omega (arith, count, is, l);
+          }
+          )
+      | inr all ↦ (
+          let few = not_more keep (length (o ∷ os)) all in
+          record {
+            first = from;
+            now = (o ∷ os) ++ owner ∷ [];
+            now_is = rw all refl;
+            seats = rw all (kept_push from (o ∷ os) owner ∙ ap (λ n. kept_seats from (o ∷ os) ++ seat owner (has n) ∷ []) count);
+            count = omega (arith, count, length-append (o ∷ os) (owner ∷ []));
+            first_is = omega (arith, count, is, few);
+          }
+          )
+    ]
+
+-- one name more
+name_push : (hand : Hand) (names : List Named) (x : Named) → seats_as hand (names ++ x ∷ []) ≡ seats_as hand names ++ seat x.owner hand ∷ []
+name_push hand [] x = refl
+name_push hand (n ∷ names) x = ap (λ ss. seat n.owner hand ∷ ss) (name_push hand names x)
+
+named_push : (name : List ℕ) (names : List Named) (x : Named) → named_by name (names ++ x ∷ []) ≡ named_by name names + one_if (bytes_eq x.name name)
+named_push name [] x = omega arith
+named_push name (n ∷ names) x = let more = named_push name names x in omega (arith, more)
+
+-- a call that gives an answer alone has nothing in hand
+told_closed : (words : Zones) (names weaks : List Named) (kept : List ℕ) (keep : ℕ) (calls : List UnderWay) (given : Answer) → Open words names weaks kept keep calls (Done (Told given)) → Open words names weaks kept keep calls nothing_apart
+told_closed words names weaks kept keep calls given o = record {
+  cell = o.cell;
+  shows = o.shows;
+  last = o.last;
+  from = o.from;
+  settled = o.settled;
+  counted = o.counted;
+  swapped = o.swapped;
+  kept_count = o.kept_count;
+  kept_from = o.kept_from;
+  alone = o.alone;
+  one = o.one;
+  still = tt;
+  stills = o.stills;
+  seated = o.seated;
+  publisher = o.publisher;
+  names_once = o.names_once;
+  weak_once = o.weak_once;
+  calls_once = o.calls_once;
+}
+
+-- an owner more among those of names
+both_push : (i : ℕ) (a b : List Seat) (x : Seat) → times i ((a ++ x ∷ []) ++ b) ≡ times i (x ∷ []) + times i (a ++ b)
+both_push i a b x =
+    let one = times_append i (a ++ x ∷ []) b in
+    let two = times_append i a (x ∷ []) in
+    let three = times_append i a b in
+    omega (arith, one, two, three)
+
+weak_push : (i : ℕ) (a b : List Seat) (x : Seat) → times i (a ++ (b ++ x ∷ [])) ≡ times i (x ∷ []) + times i (a ++ b)
+weak_push i a b x =
+    let one = times_append i a (b ++ x ∷ []) in
+    let two = times_append i b (x ∷ []) in
+    let three = times_append i a b in
+    omega (arith, one, two, three)
+
+-- it moves from a call's hand to the names
+given_seats : (owners : List Owner) (x : Seat) (more both kept_ones calls : List Seat) → AllFit owners more → ((i : ℕ) → times i more ≡ times i (x ∷ []) + times i both) → Seated owners ((x ∷ []) ++ (both ++ (kept_ones ++ calls))) → Seated owners (more ++ (kept_ones ++ calls))
+given_seats owners x more both kept_ones calls fits count s =
+    let all = fits_four owners (x ∷ []) both kept_ones calls s.fit in
+    seated_as owners _ (more ++ (kept_ones ++ calls)) (fit_four owners [] more kept_ones calls tt fits all.2 all.3)
+    (λ i. (
+    let a = times_four i (x ∷ []) both kept_ones calls in
+    let b = times_four i [] more kept_ones calls in
+    let d = count i in
+    omega (arith, a, b, d)
+    )) s
+
+owned_closed : (words : Zones) (names weaks : List Named) (kept : List ℕ) (keep : ℕ) (calls : List UnderWay) (name : List ℕ) (owner number : ℕ) → Open words names weaks kept keep calls (Done (Owned name owner number)) → Open words (names ++ record { name = name; owner = owner } ∷ []) weaks kept keep calls nothing_apart
+owned_closed words names weaks kept keep calls name owner number o =
+    let x : Named = record { name = name; owner = owner } in
+    let kept_ones = kept_left o.from keep kept (any_update calls) in
+    let push = name_push holds names x in
+    let all = fits_four words.owners (seat owner holds ∷ []) (both_seats names weaks) kept_ones (call_seats o.last o.from calls) o.seated.fit in
+    let front = fit_front words.owners (seats_as holds names) (seats_as weakly weaks) all.1 in
+    let behind = fit_back words.owners (seats_as holds names) (seats_as weakly weaks) all.1 in
+    record {
+      cell = o.cell;
+      shows = o.shows;
+      last = o.last;
+      from = o.from;
+      settled = o.settled;
+      counted = o.counted;
+      swapped = o.swapped;
+      kept_count = o.kept_count;
+      kept_from = o.kept_from;
+      alone = o.alone;
+      one = o.one;
+      still = tt;
+      stills = o.stills;
+      seated = given_seats words.owners (seat owner holds) (both_seats (names ++ x ∷ []) weaks) (both_seats names weaks) kept_ones (call_seats o.last o.from calls)
+          (subst (λ ss. AllFit words.owners (ss ++ seats_as weakly weaks)) (sym push) (fit_append words.owners (seats_as holds names ++ seat owner holds ∷ []) (seats_as weakly weaks) (fit_append words.owners (seats_as holds names) (seat owner holds ∷ []) front all.0) behind))
+          (λ i. subst (λ ss. times i (ss ++ seats_as weakly weaks) ≡ times i (seat owner holds ∷ []) + times i (both_seats names weaks)) (sym push) (both_push i (seats_as holds names) (seats_as weakly weaks) (seat owner holds))) o.seated;
+      publisher = o.publisher;
+      names_once = λ n. (let once = o.names_once n in let more = named_push n names x in omega (arith, once, more));
+      weak_once = o.weak_once;
+      calls_once = o.calls_once;
+    }
+
+weakly_closed : (words : Zones) (names weaks : List Named) (kept : List ℕ) (keep : ℕ) (calls : List UnderWay) (name : List ℕ) (owner number : ℕ) → Open words names weaks kept keep calls (Done (OwnedWeakly name owner number)) → Open words names (weaks ++ record { name = name; owner = owner } ∷ []) kept keep calls nothing_apart
+weakly_closed words names weaks kept keep calls name owner number o =
+    let x : Named = record { name = name; owner = owner } in
+    let kept_ones = kept_left o.from keep kept (any_update calls) in
+    let push = name_push weakly weaks x in
+    let all = fits_four words.owners (seat owner weakly ∷ []) (both_seats names weaks) kept_ones (call_seats o.last o.from calls) o.seated.fit in
+    let front = fit_front words.owners (seats_as holds names) (seats_as weakly weaks) all.1 in
+    let behind = fit_back words.owners (seats_as holds names) (seats_as weakly weaks) all.1 in
+    record {
+      cell = o.cell;
+      shows = o.shows;
+      last = o.last;
+      from = o.from;
+      settled = o.settled;
+      counted = o.counted;
+      swapped = o.swapped;
+      kept_count = o.kept_count;
+      kept_from = o.kept_from;
+      alone = o.alone;
+      one = o.one;
+      still = tt;
+      stills = o.stills;
+      seated = given_seats words.owners (seat owner weakly) (both_seats names (weaks ++ x ∷ [])) (both_seats names weaks) kept_ones (call_seats o.last o.from calls)
+          (subst (λ ss. AllFit words.owners (seats_as holds names ++ ss)) (sym push) (fit_append words.owners (seats_as holds names) (seats_as weakly weaks ++ seat owner weakly ∷ []) front (fit_append words.owners (seats_as weakly weaks) (seat owner weakly ∷ []) behind all.0)))
+          (λ i. subst (λ ss. times i (seats_as holds names ++ ss) ≡ times i (seat owner weakly ∷ []) + times i (both_seats names weaks)) (sym push) (weak_push i (seats_as holds names) (seats_as weakly weaks) (seat owner weakly))) o.seated;
+      publisher = o.publisher;
+      names_once = o.names_once;
+      weak_once = λ n. (let once = o.weak_once n in let more = named_push n weaks x in omega (arith, once, more));
+      calls_once = o.calls_once;
+    }
+
+no_slot_closed : (words : Zones) (names weaks : List Named) (kept : List ℕ) (keep : ℕ) (calls : List UnderWay) (head : Heading) → Open words names weaks kept keep calls (Done (NoSlot head)) → Open words names weaks kept keep calls nothing_apart
+no_slot_closed words names weaks kept keep calls head o =
+    let none = o.alone refl in
+    record {
+      cell = o.cell;
+      shows = o.shows;
+      last = o.last;
+      from = o.from;
+      settled = o.settled;
+      counted = o.counted;
+      swapped = o.swapped;
+      kept_count = o.kept_count;
+      kept_from = o.kept_from;
+      alone = λ e. none;
+      one = o.one;
+      still = tt;
+      stills = o.stills;
+      seated = rw none (seated_given words.owners o.last o.from keep names weaks kept calls o.seated);
+      publisher = o.publisher;
+      names_once = o.names_once;
+      weak_once = o.weak_once;
+      calls_once = o.calls_once;
+    }
+
+-- where no update is under way nothing goes by what is kept, nor by the last number
+same_phase : (at : Phase) (one two from first : ℕ) → updates at ≡ false → phase_seats one from at ≡ phase_seats two first at
+same_phase (phase.Load name) one two from first e = refl
+same_phase (phase.Look name owner) one two from first e = refl
+same_phase (phase.Raise name owner) one two from first e = refl
+same_phase (phase.Note name owner) one two from first e = refl
+same_phase (phase.Probe version keeping) one two from first e = absurd (let wrong = e in cc)
+same_phase (phase.Prepare version keeping) one two from first e = absurd (let wrong = e in cc)
+same_phase (phase.Swap keeping) one two from first e = absurd (let wrong = e in cc)
+same_phase (phase.Settle keeping) one two from first e = absurd (let wrong = e in cc)
+same_phase (phase.Keep given keeping) one two from first e = absurd (let wrong = e in cc)
+same_phase (phase.Release owner purpose.Drop) one two from first e = refl
+same_phase (phase.Release owner (purpose.Publish keeping kept)) one two from first e = absurd (let wrong = e in cc)
+same_phase (phase.Release owner (purpose.Oldest head kept)) one two from first e = absurd (let wrong = e in cc)
+same_phase (phase.Bury owner purpose.Drop) one two from first e = refl
+same_phase (phase.Bury owner (purpose.Publish keeping kept)) one two from first e = absurd (let wrong = e in cc)
+same_phase (phase.Bury owner (purpose.Oldest head kept)) one two from first e = absurd (let wrong = e in cc)
+same_phase (phase.Fade owner None purpose.Drop) one two from first e = refl
+same_phase (phase.Fade owner (Some number) purpose.Drop) one two from first e = refl
+same_phase (phase.Reset owner number purpose.Drop) one two from first e = refl
+same_phase (phase.Free owner number purpose.Drop) one two from first e = refl
+same_phase (phase.Fade owner number (purpose.Publish keeping kept)) one two from first e = absurd (let wrong = e in cc)
+same_phase (phase.Reset owner number (purpose.Publish keeping kept)) one two from first e = absurd (let wrong = e in cc)
+same_phase (phase.Free owner number (purpose.Publish keeping kept)) one two from first e = absurd (let wrong = e in cc)
+same_phase (phase.Fade owner number (purpose.Oldest head kept)) one two from first e = absurd (let wrong = e in cc)
+same_phase (phase.Reset owner number (purpose.Oldest head kept)) one two from first e = absurd (let wrong = e in cc)
+same_phase (phase.Free owner number (purpose.Oldest head kept)) one two from first e = absurd (let wrong = e in cc)
+
+old_phase : (at : Phase) (oldest : Option ℕ) → updates at ≡ false → OldestIn oldest at
+old_phase (phase.Load name) oldest e = tt
+old_phase (phase.Look name owner) oldest e = tt
+old_phase (phase.Raise name owner) oldest e = tt
+old_phase (phase.Note name owner) oldest e = tt
+old_phase (phase.Probe version keeping) oldest e = absurd (let wrong = e in cc)
+old_phase (phase.Prepare version keeping) oldest e = absurd (let wrong = e in cc)
+old_phase (phase.Swap keeping) oldest e = absurd (let wrong = e in cc)
+old_phase (phase.Settle keeping) oldest e = absurd (let wrong = e in cc)
+old_phase (phase.Keep given keeping) oldest e = absurd (let wrong = e in cc)
+old_phase (phase.Release owner purpose.Drop) oldest e = tt
+old_phase (phase.Release owner (purpose.Publish keeping kept)) oldest e = absurd (let wrong = e in cc)
+old_phase (phase.Release owner (purpose.Oldest head kept)) oldest e = tt
+old_phase (phase.Bury owner purpose.Drop) oldest e = tt
+old_phase (phase.Bury owner (purpose.Publish keeping kept)) oldest e = absurd (let wrong = e in cc)
+old_phase (phase.Bury owner (purpose.Oldest head kept)) oldest e = tt
+old_phase (phase.Fade owner number purpose.Drop) oldest e = tt
+old_phase (phase.Reset owner number purpose.Drop) oldest e = tt
+old_phase (phase.Free owner number purpose.Drop) oldest e = tt
+old_phase (phase.Fade owner number (purpose.Publish keeping kept)) oldest e = absurd (let wrong = e in cc)
+old_phase (phase.Reset owner number (purpose.Publish keeping kept)) oldest e = absurd (let wrong = e in cc)
+old_phase (phase.Free owner number (purpose.Publish keeping kept)) oldest e = absurd (let wrong = e in cc)
+old_phase (phase.Fade owner number (purpose.Oldest head kept)) oldest e = tt
+old_phase (phase.Reset owner number (purpose.Oldest head kept)) oldest e = tt
+old_phase (phase.Free owner number (purpose.Oldest head kept)) oldest e = tt
+
+or_false : (a b : Bool) → (a || b) ≡ false → (a ≡ false) × (b ≡ false)
+or_false true b e = absurd (let wrong = e in cc)
+or_false false b e = (refl, e)
+
+same_calls : (calls : List UnderWay) (one two from first : ℕ) → any_update calls ≡ false → call_seats one from calls ≡ call_seats two first calls
+same_calls [] one two from first e = refl
+same_calls (c ∷ cs) one two from first e =
+    let parts = or_false (updates c.phase) (any_update cs) e in
+    ap (λ ss. ss ++ call_seats one from cs) (same_phase c.phase one two from first parts.0) ∙ ap (λ ss. phase_seats two first c.phase ++ ss) (same_calls cs one two from first parts.1)
+
+old_calls : (calls : List UnderWay) (oldest : Option ℕ) → any_update calls ≡ false → AllOldest oldest calls
+old_calls [] oldest e = tt
+old_calls (c ∷ cs) oldest e =
+    let parts = or_false (updates c.phase) (any_update cs) e in (old_phase c.phase oldest parts.0, old_calls cs oldest parts.1)
+
+no_swaps_for : (for : Purpose) → is_for_update for ≡ false → swapped_for for ≡ 0
+no_swaps_for purpose.Drop e = refl
+no_swaps_for (purpose.Publish keeping kept) e = absurd (let wrong = e in cc)
+no_swaps_for (purpose.Oldest head kept) e = absurd (let wrong = e in cc)
+
+no_swaps_phase : (at : Phase) → updates at ≡ false → swapped_in at ≡ 0
+no_swaps_phase (phase.Load name) e = refl
+no_swaps_phase (phase.Look name owner) e = refl
+no_swaps_phase (phase.Raise name owner) e = refl
+no_swaps_phase (phase.Note name owner) e = refl
+no_swaps_phase (phase.Probe version keeping) e = refl
+no_swaps_phase (phase.Prepare version keeping) e = refl
+no_swaps_phase (phase.Swap keeping) e = refl
+no_swaps_phase (phase.Settle keeping) e = absurd (let wrong = e in cc)
+no_swaps_phase (phase.Keep given keeping) e = absurd (let wrong = e in cc)
+no_swaps_phase (phase.Release owner for) e = no_swaps_for for e
+no_swaps_phase (phase.Bury owner for) e = no_swaps_for for e
+no_swaps_phase (phase.Fade owner number for) e = no_swaps_for for e
+no_swaps_phase (phase.Reset owner number for) e = no_swaps_for for e
+no_swaps_phase (phase.Free owner number for) e = no_swaps_for for e
+
+pub no_swaps : (calls : List UnderWay) → any_update calls ≡ false → swaps_of calls ≡ 0
+no_swaps [] e = refl
+no_swaps (c ∷ cs) e =
+    let parts = or_false (updates c.phase) (any_update cs) e in
+    let one = no_swaps_phase c.phase parts.0 in
+    let more = no_swaps cs parts.1 in
+    omega (arith, one, more)
+
+kept_closed : (words : Zones) (names weaks : List Named) (kept : List ℕ) (keep : ℕ) (calls : List UnderWay) (head : Heading) (owner : ℕ) → Open words names weaks kept keep calls (Done (Kept head owner)) → Open words names weaks (kept_at keep (Kept head owner) kept) keep calls nothing_apart
+kept_closed words names weaks kept keep calls head owner o =
+    let none = o.alone refl in
+    let swaps = no_swaps calls none in
+    let k = kept_now o.from keep kept owner o.last (omega (arith, o.swapped, swaps, o.kept_count)) (let f = o.kept_from in let s = o.swapped in let e : o.settled ≡ o.last = omega (arith, s, swaps) in f ∙ ap (λ n. n - (keep + 1)) e) in
+    let others = same_calls calls o.last o.last o.from k.first none in
+    let all = fits_four words.owners (seat owner (has o.last) ∷ []) (both_seats names weaks) (kept_left o.from keep kept true) (call_seats o.last o.from calls) o.seated.fit in
+    let s : Seated words.owners (rest_seats o.last k.first names weaks k.now keep calls false) =
+    seated_as words.owners _ (rest_seats o.last k.first names weaks k.now keep calls false)
+    (fit_four words.owners [] (both_seats names weaks) (kept_seats k.first k.now) (call_seats o.last k.first calls) tt all.1
+    (subst (λ ss. AllFit words.owners ss) (sym k.seats) (fit_append words.owners (kept_left o.from keep kept true) (seat owner (has o.last) ∷ []) all.2 all.0))
+    (subst (λ ss. AllFit words.owners ss) others all.3))
+    (λ i. (
+    let a = times_four i (seat owner (has o.last) ∷ []) (both_seats names weaks) (kept_left o.from keep kept true) (call_seats o.last o.from calls) in
+    let b = times_four i [] (both_seats names weaks) (kept_seats k.first k.now) (call_seats o.last k.first calls) in
+    let d : times i (kept_seats k.first k.now) ≡ times i (kept_left o.from keep kept true ++ seat owner (has o.last) ∷ []) = ap (times i) k.seats in
+    let f = times_append i (kept_left o.from keep kept true) (seat owner (has o.last) ∷ []) in
+    let g : times i (call_seats o.last o.from calls) ≡ times i (call_seats o.last k.first calls) = ap (times i) others in
+    omega (arith, a, b, d, f, g)
+    )) o.seated in
+    let later : Open words names weaks k.now keep calls nothing_apart = record {
+      cell = o.cell;
+      shows = o.shows;
+      last = o.last;
+      from = k.first;
+      settled = o.last + 1;
+      counted = o.counted;
+      swapped = omega (arith, swaps);
+      kept_count = k.count;
+      kept_from = k.first_is;
+      alone = λ e. none;
+      one = o.one;
+      still = tt;
+      stills = old_calls calls (oldest_kept keep k.now) none;
+      seated = rw none s;
+      publisher = o.publisher;
+      names_once = o.names_once;
+      weak_once = o.weak_once;
+      calls_once = o.calls_once;
+    } in
+    subst (λ ks. Open words names weaks ks keep calls nothing_apart) k.now_is later
+
+-- a call at its end gives what it has in hand to a name, or to the versions that are kept
+pub closed : (words : Zones) (names weaks : List Named) (kept : List ℕ) (keep : ℕ) (calls : List UnderWay) (end : End) → Open words names weaks kept keep calls (Done end) → Open words (names_at end names) (weak_names_at end weaks) (kept_at keep end kept) keep calls nothing_apart
+closed words names weaks kept keep calls (Owned name owner number) o = owned_closed words names weaks kept keep calls name owner number o
+closed words names weaks kept keep calls (OwnedWeakly name owner number) o = weakly_closed words names weaks kept keep calls name owner number o
+closed words names weaks kept keep calls (Told given) o = told_closed words names weaks kept keep calls given o
+closed words names weaks kept keep calls (NoSlot head) o = no_slot_closed words names weaks kept keep calls head o
+closed words names weaks kept keep calls (Kept head owner) o = kept_closed words names weaks kept keep calls head owner o
+
+-- a name that isn't taken may be put into use
+once_more : (name n : List ℕ) (named reserved : List ℕ → ℕ) → named name ≡ 0 → reserved name ≡ 0 → named n + (0 + reserved n) ≤ 1 → named n + (one_if (bytes_eq name n) + reserved n) ≤ 1
+once_more name n named reserved unnamed unreserved once =
+    elim (cases_Bool (bytes_eq name n)) [
+      | inl same ↦ (
+          let e : name ≡ n = (bytes_eq-Decides name n).0 same in
+          let f : named n ≡ 0 = ap named (sym e) ∙ unnamed in
+          let g : reserved n ≡ 0 = ap reserved (sym e) ∙ unreserved in
+          let h : one_if (bytes_eq name n) ≡ 1 = rw same refl in
+          omega (arith, f, g, h)
+          )
+      | inr other ↦ (let h : one_if (bytes_eq name n) ≡ 0 = rw other refl in omega (arith, once, h))
+    ]
+
+-- a load begins: its name isn't taken
+pub load_open : (words : Zones) (names weaks : List Named) (kept : List ℕ) (keep : ℕ) (calls : List UnderWay) (name : List ℕ) → named_by name names ≡ 0 → reserved_by name calls ≡ 0 → Open words names weaks kept keep calls nothing_apart → Open words names weaks kept keep calls (On (phase.Load name))
+load_open words names weaks kept keep calls name unnamed unreserved o = record {
+  cell = o.cell;
+  shows = o.shows;
+  last = o.last;
+  from = o.from;
+  settled = o.settled;
+  counted = o.counted;
+  swapped = o.swapped;
+  kept_count = o.kept_count;
+  kept_from = o.kept_from;
+  alone = o.alone;
+  one = o.one;
+  still = tt;
+  stills = o.stills;
+  seated = o.seated;
+  publisher = o.publisher;
+  names_once = λ n. once_more name n (λ m. named_by m names) (λ m. reserved_by m calls) unnamed unreserved (o.names_once n);
+  weak_once = o.weak_once;
+  calls_once = o.calls_once;
+}
+
+-- an upgrade begins
+pub look_open : (words : Zones) (names weaks : List Named) (kept : List ℕ) (keep : ℕ) (calls : List UnderWay) (name : List ℕ) (owner : ℕ) → named_by name names ≡ 0 → reserved_by name calls ≡ 0 → Open words names weaks kept keep calls nothing_apart → Open words names weaks kept keep calls (On (phase.Look name owner))
+look_open words names weaks kept keep calls name owner unnamed unreserved o = record {
+  cell = o.cell;
+  shows = o.shows;
+  last = o.last;
+  from = o.from;
+  settled = o.settled;
+  counted = o.counted;
+  swapped = o.swapped;
+  kept_count = o.kept_count;
+  kept_from = o.kept_from;
+  alone = o.alone;
+  one = o.one;
+  still = tt;
+  stills = o.stills;
+  seated = o.seated;
+  publisher = o.publisher;
+  names_once = λ n. once_more name n (λ m. named_by m names) (λ m. reserved_by m calls) unnamed unreserved (o.names_once n);
+  weak_once = o.weak_once;
+  calls_once = o.calls_once;
+}
+
+-- a copy begins
+pub raise_open : (words : Zones) (names weaks : List Named) (kept : List ℕ) (keep : ℕ) (calls : List UnderWay) (name : List ℕ) (owner : ℕ) → named_by name names ≡ 0 → reserved_by name calls ≡ 0 → Open words names weaks kept keep calls nothing_apart → Open words names weaks kept keep calls (On (phase.Raise name owner))
+raise_open words names weaks kept keep calls name owner unnamed unreserved o = record {
+  cell = o.cell;
+  shows = o.shows;
+  last = o.last;
+  from = o.from;
+  settled = o.settled;
+  counted = o.counted;
+  swapped = o.swapped;
+  kept_count = o.kept_count;
+  kept_from = o.kept_from;
+  alone = o.alone;
+  one = o.one;
+  still = tt;
+  stills = o.stills;
+  seated = o.seated;
+  publisher = o.publisher;
+  names_once = λ n. once_more name n (λ m. named_by m names) (λ m. reserved_by m calls) unnamed unreserved (o.names_once n);
+  weak_once = o.weak_once;
+  calls_once = o.calls_once;
+}
+
+-- a weak owner is begun
+pub note_open : (words : Zones) (names weaks : List Named) (kept : List ℕ) (keep : ℕ) (calls : List UnderWay) (name : List ℕ) (owner : ℕ) → named_by name weaks ≡ 0 → weak_reserved_by name calls ≡ 0 → Open words names weaks kept keep calls nothing_apart → Open words names weaks kept keep calls (On (phase.Note name owner))
+note_open words names weaks kept keep calls name owner unnamed unreserved o = record {
+  cell = o.cell;
+  shows = o.shows;
+  last = o.last;
+  from = o.from;
+  settled = o.settled;
+  counted = o.counted;
+  swapped = o.swapped;
+  kept_count = o.kept_count;
+  kept_from = o.kept_from;
+  alone = o.alone;
+  one = o.one;
+  still = tt;
+  stills = o.stills;
+  seated = o.seated;
+  publisher = o.publisher;
+  names_once = o.names_once;
+  weak_once = λ n. once_more name n (λ m. named_by m weaks) (λ m. weak_reserved_by m calls) unnamed unreserved (o.weak_once n);
+  calls_once = o.calls_once;
+}
+
+-- the owner of a name, and those of the others
+none_named : (name : List ℕ) (names : List Named) → named_by name names ≡ 0 → without_name name names ≡ names
+none_named name [] e = refl
+none_named name (x ∷ names) e =
+    elim (cases_Bool (bytes_eq x.name name)) [
+      | inl same ↦ (let g : one_if (bytes_eq x.name name) ≡ 1 = rw same refl in absurd (omega (arith, e, g)))
+      | inr other ↦ rw other (ap (λ ns. x ∷ ns) (none_named name names (omega (arith, e))))
+    ]
+
+less_named : (n name : List ℕ) (names : List Named) → named_by n (without_name name names) ≤ named_by n names
+less_named n name [] = omega arith
+less_named n name (x ∷ names) =
+    let more = less_named n name names in
+    elim (cases_Bool (bytes_eq x.name name)) [
+      | inl same ↦ (let e : without_name name (x ∷ names) ≡ without_name name names = rw same refl in let f : named_by n (without_name name (x ∷ names)) ≡ named_by n (without_name name names) = ap (named_by n) e in omega (arith, more, f))
+      | inr other ↦ (let e : without_name name (x ∷ names) ≡ x ∷ without_name name names = rw other refl in let f : named_by n (without_name name (x ∷ names)) ≡ one_if (bytes_eq x.name n) + named_by n (without_name name names) = ap (named_by n) e in omega (arith, more, f))
+    ]
+
+without_other : (name : List ℕ) (x : Named) (names rest : List Named) → bytes_eq x.name name ≡ false → without_name name names ≡ rest → without_name name (x ∷ names) ≡ x ∷ rest
+without_other name x names rest other e = rw other (ap (λ ns. x ∷ ns) e)
+
+without_this : (name : List ℕ) (x : Named) (names rest : List Named) → bytes_eq x.name name ≡ true → without_name name names ≡ rest → without_name name (x ∷ names) ≡ rest
+without_this name x names rest same e = rw same e
+
+record OwnerApart (owners : List Owner) (hand : Hand) (name : List ℕ) (names : List Named) (owner : ℕ) : Type 0 where
+  fit : HandIs owners owner hand
+  others : AllFit owners (seats_as hand (without_name name names))
+  count : (i : ℕ) → times i (seats_as hand names) ≡ one_if (owner == i) + times i (seats_as hand (without_name name names))
+
+owner_apart : (owners : List Owner) (hand : Hand) (name : List ℕ) (names : List Named) (owner : ℕ) → named_by name names ≤ 1 → AllFit owners (seats_as hand names) → owner_of name names ≡ Some owner → OwnerApart owners hand name names owner
+owner_apart owners hand name [] owner few fits e = absurd (let wrong = e in cc)
+owner_apart owners hand name (x ∷ names) owner few fits e =
+    elim (cases_Bool (bytes_eq x.name name)) [
+      | inl same ↦ (
+          let found = rw same at e in
+          let it : x.owner ≡ owner = (let f = found in cc) in
+          let g : one_if (bytes_eq x.name name) ≡ 1 = rw same refl in
+          let none : named_by name names ≡ 0 = omega (arith, few, g) in
+          let rest : without_name name (x ∷ names) ≡ names = without_this name x names names same (none_named name names none) in
+          record {
+            fit = subst (λ o. HandIs owners o hand) it fits.0;
+            others = subst (λ ns. AllFit owners (seats_as hand ns)) (sym rest) fits.1;
+            count = λ i. (
+                let a : times i (seats_as hand (without_name name (x ∷ names))) ≡ times i (seats_as hand names) = ap (λ ns. times i (seats_as hand ns)) rest in
+                let b : one_if (x.owner == i) ≡ one_if (owner == i) = ap (λ o. one_if (o == i)) it in
+                omega (arith, a, b)
+                );
+          }
+          )
+      | inr other ↦ (
+          let g : one_if (bytes_eq x.name name) ≡ 0 = rw other refl in
+          let there : owner_of name names ≡ Some owner = rw other at e in
+          let more = owner_apart owners hand name names owner (omega (arith, few, g)) fits.1 there in
+          let rest : without_name name (x ∷ names) ≡ x ∷ without_name name names = without_other name x names (without_name name names) other refl in
+          record {
+            fit = more.fit;
+            others = subst (λ ns. AllFit owners (seats_as hand ns)) (sym rest) (fits.0, more.others);
+            count = λ i. (
+                let a : times i (seats_as hand (without_name name (x ∷ names))) ≡ one_if (x.owner == i) + times i (seats_as hand (without_name name names)) = ap (λ ns. times i (seats_as hand ns)) rest in
+                let b = more.count i in
+                omega (arith, a, b)
+                );
+          }
+          )
+    ]
+
+-- the owner of a name goes to a call's hand
+pub drop_open : (words : Zones) (names weaks : List Named) (kept : List ℕ) (keep : ℕ) (calls : List UnderWay) (name : List ℕ) (owner : ℕ) → owner_of name names ≡ Some owner → Open words names weaks kept keep calls nothing_apart → Open words (without_name name names) weaks kept keep calls (On (phase.Release owner purpose.Drop))
+drop_open words names weaks kept keep calls name owner e o =
+    let kept_ones = kept_left o.from keep kept (any_update calls) in
+    let all = fits_four words.owners [] (both_seats names weaks) kept_ones (call_seats o.last o.from calls) o.seated.fit in
+    let few : named_by name names ≤ 1 = (let n = o.names_once name in omega (arith, n)) in
+    let apart = owner_apart words.owners holds name names owner few (fit_front words.owners (seats_as holds names) (seats_as weakly weaks) all.1) e in
+    let behind = fit_back words.owners (seats_as holds names) (seats_as weakly weaks) all.1 in
+    record {
+      cell = o.cell;
+      shows = o.shows;
+      last = o.last;
+      from = o.from;
+      settled = o.settled;
+      counted = o.counted;
+      swapped = o.swapped;
+      kept_count = o.kept_count;
+      kept_from = o.kept_from;
+      alone = o.alone;
+      one = o.one;
+      still = tt;
+      stills = o.stills;
+      seated = seated_as words.owners _ (seat owner holds ∷ ([] ++ rest_seats o.last o.from (without_name name names) weaks kept keep calls (any_update calls)))
+          (fit_four words.owners (seat owner holds ∷ []) (both_seats (without_name name names) weaks) kept_ones (call_seats o.last o.from calls) (apart.fit, tt) (fit_append words.owners (seats_as holds (without_name name names)) (seats_as weakly weaks) apart.others behind) all.2 all.3)
+          (λ i. (
+          let a = times_four i (seat owner holds ∷ []) (both_seats (without_name name names) weaks) kept_ones (call_seats o.last o.from calls) in
+          let b = times_four i [] (both_seats names weaks) kept_ones (call_seats o.last o.from calls) in
+          let f = times_append i (seats_as holds names) (seats_as weakly weaks) in
+          let g = times_append i (seats_as holds (without_name name names)) (seats_as weakly weaks) in
+          let d = apart.count i in
+          omega (arith, a, b, d, f, g)
+          )) o.seated;
+      publisher = o.publisher;
+      names_once = λ n. (let once = o.names_once n in let less = less_named n name names in omega (arith, once, less));
+      weak_once = o.weak_once;
+      calls_once = o.calls_once;
+    }
+
+pub fade_open : (words : Zones) (names weaks : List Named) (kept : List ℕ) (keep : ℕ) (calls : List UnderWay) (name : List ℕ) (owner : ℕ) → owner_of name weaks ≡ Some owner → Open words names weaks kept keep calls nothing_apart → Open words names (without_name name weaks) kept keep calls (On (phase.Fade owner None purpose.Drop))
+fade_open words names weaks kept keep calls name owner e o =
+    let kept_ones = kept_left o.from keep kept (any_update calls) in
+    let all = fits_four words.owners [] (both_seats names weaks) kept_ones (call_seats o.last o.from calls) o.seated.fit in
+    let few : named_by name weaks ≤ 1 = (let n = o.weak_once name in omega (arith, n)) in
+    let apart = owner_apart words.owners weakly name weaks owner few (fit_back words.owners (seats_as holds names) (seats_as weakly weaks) all.1) e in
+    let front = fit_front words.owners (seats_as holds names) (seats_as weakly weaks) all.1 in
+    record {
+      cell = o.cell;
+      shows = o.shows;
+      last = o.last;
+      from = o.from;
+      settled = o.settled;
+      counted = o.counted;
+      swapped = o.swapped;
+      kept_count = o.kept_count;
+      kept_from = o.kept_from;
+      alone = o.alone;
+      one = o.one;
+      still = tt;
+      stills = o.stills;
+      seated = seated_as words.owners _ (seat owner weakly ∷ ([] ++ rest_seats o.last o.from names (without_name name weaks) kept keep calls (any_update calls)))
+          (fit_four words.owners (seat owner weakly ∷ []) (both_seats names (without_name name weaks)) kept_ones (call_seats o.last o.from calls) (apart.fit, tt) (fit_append words.owners (seats_as holds names) (seats_as weakly (without_name name weaks)) front apart.others) all.2 all.3)
+          (λ i. (
+          let a = times_four i (seat owner weakly ∷ []) (both_seats names (without_name name weaks)) kept_ones (call_seats o.last o.from calls) in
+          let b = times_four i [] (both_seats names weaks) kept_ones (call_seats o.last o.from calls) in
+          let f = times_append i (seats_as holds names) (seats_as weakly weaks) in
+          let g = times_append i (seats_as holds names) (seats_as weakly (without_name name weaks)) in
+          let d = apart.count i in
+          omega (arith, a, b, d, f, g)
+          )) o.seated;
+      publisher = o.publisher;
+      names_once = o.names_once;
+      weak_once = λ n. (let once = o.weak_once n in let less = less_named n name weaks in omega (arith, once, less));
+      calls_once = o.calls_once;
+    }
+
+-- an update begins, where none is under way
+pub update_open : (words : Zones) (names weaks : List Named) (kept : List ℕ) (keep : ℕ) (calls : List UnderWay) (head : Heading) (version : Numbered) → any_update calls ≡ false → Open words names weaks kept keep calls nothing_apart
+    → Open words names weaks kept keep calls (On (phase.Probe version (record { heading = head; oldest = oldest_kept keep kept })))
+update_open words names weaks kept keep calls head version none o = record {
+  cell = o.cell;
+  shows = o.shows;
+  last = o.last;
+  from = o.from;
+  settled = o.settled;
+  counted = o.counted;
+  swapped = o.swapped;
+  kept_count = o.kept_count;
+  kept_from = o.kept_from;
+  alone = λ e. none;
+  one = o.one;
+  still = refl;
+  stills = o.stills;
+  seated = seated_kept words.owners o.last o.from keep names weaks kept calls (let s = o.seated in rw none at s);
+  publisher = λ e. absurd (let wrong = e in cc);
+  names_once = o.names_once;
+  weak_once = o.weak_once;
+  calls_once = o.calls_once;
+}

@@ -1,0 +1,422 @@
+-- What is in hand, line by line.
+use Rattle.std.proofs.Common.{lit<, ◌≡◌, refl, sym, ap, ◌∙◌, subst, ℕ, zero, suc, ◌+◌, ◌^◌, ◌<◌, Bool, true, false, inl, inr, List, [], ◌∷◌, ◌++◌, length, arith, Option, Some, None}
+use Rattle.std.specs.Prelude.{◌==◌, ◌||◌, ◌&&◌, not, nat_lt, bytes_eq, if◌then◌else◌}
+use Rattle.std.specs.List.{slice_get, list_any}
+use Rattle.std.specs.Option.{option_and_then}
+use Rattle.std.proofs.lemmas.Bool.{cases_Bool, ltb-true}
+use Rattle.std.proofs.lemmas.List.{append-nil}
+use Rattle.cell_core.proofs.BeginShows.{begun_shows}
+use Rattle.cell_core.proofs.CountLemmas.{one_if}
+use Rattle.cell_core.proofs.StepShows.{step_shows}
+use Rattle.cell_core.specs.Cell.{Cell, start as cell_start}
+use Rattle.cell_core.specs.Shows.{Shows}
+use Rattle.cell_core.specs.Words.{begun, found_last, grants}
+use Rattle.cell_core.specs.declared.words.WordStep.TheVariants as word
+use Rattle.cell_core.specs.declared.words.WordEvent.TheVariants as told
+use Rattle.dns_rdata.specs.Record.{Record}
+use Rattle.dns_rdata.specs.Numbers.{type_IXFR}
+use Rattle.serve_core.specs.declared.heading.Heading.{Heading}
+use Rattle.dns_message.specs.declared.query.Parsed.{Parsed}
+use Rattle.dns_message.specs.declared.query.Parsed.TheVariants as parsed
+use Rattle.dns_message.specs.declared.query.Query.{Query as QueryAsked}
+use Rattle.dns_message.specs.Request.{reads}
+use Rattle.serve_core.specs.declared.transport.Transport.TheVariants.{Udp, Tcp}
+use Rattle.serve_core.specs.Transfers.{peer_over, is_permitted}
+use Rattle.zone_tree.specs.Version.{Version as Numbered}
+use Rattle.world_run.specs.declared.judged.Judged.{Judged}
+use Rattle.world_run.specs.declared.judged.Judged.TheVariants as judgement
+use Rattle.world_run.specs.declared.phase.Phase.{Phase}
+use Rattle.world_run.specs.declared.phase.Phase.TheVariants as phase
+use Rattle.world_run.specs.declared.phase.Progress.{Progress}
+use Rattle.world_run.specs.declared.phase.Progress.TheVariants.{On, Done}
+use Rattle.world_run.specs.declared.names.Named.{Named}
+use Rattle.world_run.specs.declared.calls.UnderWay.{UnderWay}
+use Rattle.world_run.specs.declared.start.Start.{Start}
+use Rattle.world_run.specs.declared.start.Start.TheVariants.{Refused, Answers, Takes}
+use Rattle.world_run.specs.declared.step.Call.{Call}
+use Rattle.world_run.specs.declared.step.Call.TheVariants.{Load, Drop, Copy, Weak, Fade, Up, Ask, Transfer, Update}
+use Rattle.world_run.specs.declared.step.WorldReply.{WorldReply}
+use Rattle.world_run.specs.declared.step.WorldStep.{WorldStep as Line}
+use Rattle.world_run.specs.declared.step.WorldStep.TheVariants.{Whole, Begin, Next}
+use Rattle.world_run.specs.Judgements.{asks_update, judged}
+use Rattle.world_run.specs.Numbered.{first_version}
+use Rattle.world_run.specs.Phases.{reserves, reserves_weakly, updates}
+use Rattle.world_laws.specs.Replays.{IsSentAt}
+use Rattle.world_run.specs.World.{World, loaded_once, started, owner_of, call_of, without_call, is_taken, is_taken_weakly, is_used, is_held, drop_start, fade_start, copy_start, weak_start, up_start, asks_sent, ask_start, transfer_asked, transfer_said, transfer_start, oldest_kept, publication_start, update_start, start, version_of, zone_of, given_up, weak_given_up, step_once, steps_up_to, most_steps, is_full, all_made, whole, begin, begin_under, stepped, next, turn, onto_replies, play}
+use Rattle.world_laws.proofs.CallReplays.{Script, script}
+use Rattle.world_laws.proofs.OtherCalls.{any_update}
+use Rattle.world_laws.proofs.EndLemmas.{IsProbe, FirstOf, Unchanged, first_by, start_first}
+use Rattle.world_laws.proofs.ReplayLemmas.{Goes, AllSent, turn_goes, all_sent, start_goes, last_replay}
+use Rattle.cell_core.specs.declared.words.Owner.TheVariants.{Holding}
+use Rattle.world_laws.proofs.HandLemmas.{times, lives, other_equal}
+use Rattle.world_laws.proofs.HandSteps.{Zones, seat}
+use Rattle.world_laws.proofs.HandLemmas.Hand.{has}
+use Rattle.world_laws.proofs.HandWorld.{reserved_by, weak_reserved_by, called, named_by, Open, Hands, nothing_apart, step_open, many_open}
+use Rattle.world_laws.proofs.HandTurns.{taken_out, put_back, Among, among}
+use Rattle.world_laws.proofs.HandEnds.{closed, load_open, look_open, raise_open, note_open, drop_open, fade_open, update_open}
+
+-- a call that begins has in hand what it is to give up
+abbrev pub BeginsOk : World → Cell Numbered → Call → Start → Type 0
+BeginsOk world cell call Refused = Unit {0}
+BeginsOk world cell call (Answers given) = Unit {0}
+BeginsOk world cell call (Takes at) = Open world.words (given_up call world.names) (weak_given_up call world.weak_names) world.kept world.keep world.calls (On at) × (IsProbe at → length cell.published < 2 ^ 64)
+
+begins_if : (world : World) (cell : Cell Numbered) (call : Call) (test : Bool) (one two : Start) → (test ≡ true → BeginsOk world cell call one) → (test ≡ false → BeginsOk world cell call two) → BeginsOk world cell call (if test then one else two)
+begins_if world cell call true one two a b = a refl
+begins_if world cell call false one two a b = b refl
+
+or_false : (a b : Bool) → (a || b) ≡ false → (a ≡ false) × (b ≡ false)
+or_false true b e = absurd (let wrong = e in cc)
+or_false false b e = (refl, e)
+
+none_named : (name : List ℕ) (names : List Named) → list_any (λ (named : Named). bytes_eq named.name name) names ≡ false → named_by name names ≡ 0
+none_named name [] e = refl
+none_named name (x ∷ names) e =
+    let parts = or_false (bytes_eq x.name name) (list_any (λ (named : Named). bytes_eq named.name name) names) e in
+    let one : one_if (bytes_eq x.name name) ≡ 0 = rw parts.0 refl in
+    let more = none_named name names parts.1 in
+    omega (arith, one, more)
+
+none_reserved : (name : List ℕ) (calls : List UnderWay) → list_any (λ (call : UnderWay). reserves name call.phase) calls ≡ false → reserved_by name calls ≡ 0
+none_reserved name [] e = refl
+none_reserved name (x ∷ calls) e =
+    let parts = or_false (reserves name x.phase) (list_any (λ (call : UnderWay). reserves name call.phase) calls) e in
+    let one : one_if (reserves name x.phase) ≡ 0 = rw parts.0 refl in
+    let more = none_reserved name calls parts.1 in
+    omega (arith, one, more)
+
+none_weakly : (name : List ℕ) (calls : List UnderWay) → list_any (λ (call : UnderWay). reserves_weakly name call.phase) calls ≡ false → weak_reserved_by name calls ≡ 0
+none_weakly name [] e = refl
+none_weakly name (x ∷ calls) e =
+    let parts = or_false (reserves_weakly name x.phase) (list_any (λ (call : UnderWay). reserves_weakly name call.phase) calls) e in
+    let one : one_if (reserves_weakly name x.phase) ≡ 0 = rw parts.0 refl in
+    let more = none_weakly name calls parts.1 in
+    omega (arith, one, more)
+
+-- a name that isn't taken
+untaken : (world : World) (name : List ℕ) → is_taken name world ≡ false → (named_by name world.names ≡ 0) × (reserved_by name world.calls ≡ 0)
+untaken world name e =
+    let parts = or_false (list_any (λ (named : Named). bytes_eq named.name name) world.names) (list_any (λ (call : UnderWay). reserves name call.phase) world.calls) e in
+    (none_named name world.names parts.0, none_reserved name world.calls parts.1)
+
+load_begins : (world : World) (cell : Cell Numbered) (name : List ℕ) → Hands world → is_taken name world ≡ false → BeginsOk world cell (Load name) (Takes (phase.Load name))
+load_begins world cell name h e =
+    let t = untaken world name e in
+    (load_open world.words world.names world.weak_names world.kept world.keep world.calls name t.0 t.1 h, λ p. absurd p)
+
+drop_begins : (world : World) (cell : Cell Numbered) (name : List ℕ) (o : Option ℕ) → owner_of name world.names ≡ o → Hands world → BeginsOk world cell (Drop name) (drop_start world.calls o)
+drop_begins world cell name None e h = tt
+drop_begins world cell name (Some owner) e h =
+    begins_if world cell (Drop name) (is_used world.calls owner) _ _ (λ used. tt)
+    (λ unused. (drop_open world.words world.names world.weak_names world.kept world.keep world.calls name owner e h, λ p. absurd p))
+
+fade_begins : (world : World) (cell : Cell Numbered) (name : List ℕ) (o : Option ℕ) → owner_of name world.weak_names ≡ o → Hands world → BeginsOk world cell (Fade name) (fade_start world.calls o)
+fade_begins world cell name None e h = tt
+fade_begins world cell name (Some owner) e h =
+    begins_if world cell (Fade name) (is_used world.calls owner) _ _ (λ used. tt)
+    (λ unused. (fade_open world.words world.names world.weak_names world.kept world.keep world.calls name owner e h, λ p. absurd p))
+
+copy_begins : (world : World) (cell : Cell Numbered) (given name : List ℕ) (o : Option ℕ) → Hands world → is_taken name world ≡ false → BeginsOk world cell (Copy given name) (copy_start name o)
+copy_begins world cell given name None h e = tt
+copy_begins world cell given name (Some owner) h e =
+    let t = untaken world name e in
+    (raise_open world.words world.names world.weak_names world.kept world.keep world.calls name owner t.0 t.1 h, λ p. absurd p)
+
+up_begins : (world : World) (cell : Cell Numbered) (weak name : List ℕ) (o : Option ℕ) → Hands world → is_taken name world ≡ false → BeginsOk world cell (Up weak name) (up_start world.calls name o)
+up_begins world cell weak name None h e = tt
+up_begins world cell weak name (Some owner) h e =
+    let t = untaken world name e in
+    begins_if world cell (Up weak name) (is_used world.calls owner) _ _ (λ used. tt)
+    (λ unused. (look_open world.words world.names world.weak_names world.kept world.keep world.calls name owner t.0 t.1 h, λ p. absurd p))
+
+weak_begins : (world : World) (cell : Cell Numbered) (given name : List ℕ) (o : Option ℕ) → Hands world → (is_taken_weakly name world || any_update world.calls) ≡ false → BeginsOk world cell (Weak given name) (weak_start name o)
+weak_begins world cell given name None h e = tt
+weak_begins world cell given name (Some owner) h e =
+    let taken = (or_false (is_taken_weakly name world) (any_update world.calls) e).0 in
+    let parts = or_false (list_any (λ (named : Named). bytes_eq named.name name) world.weak_names) (list_any (λ (call : UnderWay). reserves_weakly name call.phase) world.calls) taken in
+    (note_open world.words world.names world.weak_names world.kept world.keep world.calls name owner (none_named name world.weak_names parts.0) (none_weakly name world.calls parts.1) h, λ p. absurd p)
+
+-- calls that take no step
+abbrev IsStill : Start → Type 0
+IsStill Refused = Unit {0}
+IsStill (Answers given) = Unit {0}
+IsStill (Takes at) = ⊥
+
+still_if : (test : Bool) (one two : Start) → IsStill one → IsStill two → IsStill (if test then one else two)
+still_if true one two a b = a
+still_if false one two a b = b
+
+still_begins : (world : World) (cell : Cell Numbered) (call : Call) (how : Start) → IsStill how → BeginsOk world cell call how
+still_begins world cell call Refused s = tt
+still_begins world cell call (Answers given) s = tt
+still_begins world cell call (Takes at) s = absurd s
+
+ask_still : (zone : Option (List Record)) (request : List ℕ) → IsStill (ask_start zone request)
+ask_still None request = tt
+ask_still (Some zone) request = still_if (asks_update (reads request) || asks_sent Udp zone (reads request)) _ _ tt tt
+
+asked_still : (world : World) (version : Numbered) (query : QueryAsked) → IsStill (transfer_asked world version query)
+asked_still world version query =
+    still_if (not (is_permitted version.zone (peer_over Tcp true) query)) _ _ tt
+    (still_if (query.question.rtype.0 == type_IXFR && list_any (λ call. updates call.phase) world.calls) _ _ tt tt)
+
+said_still : (world : World) (version : Numbered) (said : Parsed) → IsStill (transfer_said world version said)
+said_still world version parsed.Silent = tt
+said_still world version (parsed.Fault head code) = tt
+said_still world version (parsed.BadOpt head question code dnssec_ok) = tt
+said_still world version (parsed.Query query) = asked_still world version query
+said_still world version (parsed.Update update) = tt
+said_still world version (parsed.NoMemory head) = tt
+
+transfer_still : (world : World) (version : Option Numbered) (request : List ℕ) → IsStill (transfer_start world version request)
+transfer_still world None request = tt
+transfer_still world (Some version) request = said_still world version (reads request)
+
+-- an update that makes a version has room for its number
+has_room : (last : Numbered) (request : List ℕ) (what : Judged) → judged last request ≡ Some what → last.number + 1 < 2 ^ 64
+has_room last request what e =
+    elim (cases_Bool (nat_lt (last.number + 1) (2 ^ 64))) [
+      | inl less ↦ ltb-true (last.number + 1) (2 ^ 64) less
+      | inr isnt ↦ absurd (none_some (judged last request) what (none_judged last request isnt) e)
+    ]
+  where
+    none_judged : (last : Numbered) (request : List ℕ) → nat_lt (last.number + 1) (2 ^ 64) ≡ false → judged last request ≡ None
+    none_judged last request isnt = rw isnt refl
+
+    none_some : (o : Option Judged) (what : Judged) → o ≡ None → o ≡ Some what → ⊥
+    none_some o what n s = let wrong : None ≡ Some what = sym n ∙ s in cc
+
+publication_begins : (world : World) (cell : Cell Numbered) (request : List ℕ) (head : Heading) (version : Numbered) → any_update world.calls ≡ false → length cell.published < 2 ^ 64 → Hands world → BeginsOk world cell (Update request) (publication_start world.words head version (oldest_kept world.keep world.kept))
+publication_begins world cell request head version none few h =
+    begins_if world cell (Update request) (nat_lt world.words.granted grants && is_held world.words (oldest_kept world.keep world.kept)) _ _
+    (λ e. (update_open world.words world.names world.weak_names world.kept world.keep world.calls head version none h, λ p. few)) (λ e. tt)
+
+judged_begins : (S : Script) (first : List Record) (world : World) (request : List ℕ) (last : Numbered) (what : Option Judged) (g : Goes S first world) → judged last request ≡ what → found_last world.words ≡ Some last → any_update world.calls ≡ false → Hands world
+    → BeginsOk world g.tells.cell (Update request) (update_start world what)
+judged_begins S first world request last None g is found none h = tt
+judged_begins S first world request last (Some (judgement.Told head code)) g is found none h = tt
+judged_begins S first world request last (Some (judgement.Makes head version)) g is found none h =
+    let room = has_room last request (judgement.Makes head version) is in
+    let l = last_replay S first world.words g.us last g.tells found in
+    publication_begins world g.tells.cell request head version none (omega (arith, room, l.0, g.tells.replays.counted)) h
+
+found_begins : (S : Script) (first : List Record) (world : World) (request : List ℕ) (o : Option Numbered) (g : Goes S first world) → found_last world.words ≡ o → any_update world.calls ≡ false → Hands world
+    → BeginsOk world g.tells.cell (Update request) (update_start world (option_and_then (λ last. judged last request) o))
+found_begins S first world request None g found none h = tt
+found_begins S first world request (Some last) g found none h = judged_begins S first world request last (judged last request) g refl found none h
+
+pub start_begins : (S : Script) (first : List Record) (world : World) (call : Call) (g : Goes S first world) → Hands world → BeginsOk world g.tells.cell call (start world call)
+start_begins S first world (Load name) g h = begins_if world g.tells.cell (Load name) (is_taken name world) _ _ (λ e. tt) (λ e. load_begins world g.tells.cell name h e)
+start_begins S first world (Drop name) g h = drop_begins world g.tells.cell name (owner_of name world.names) refl h
+start_begins S first world (Copy given name) g h = begins_if world g.tells.cell (Copy given name) (is_taken name world) _ _ (λ e. tt) (λ e. copy_begins world g.tells.cell given name (owner_of given world.names) h e)
+start_begins S first world (Weak given name) g h = begins_if world g.tells.cell (Weak given name) (is_taken_weakly name world || any_update world.calls) _ _ (λ e. tt) (λ e. weak_begins world g.tells.cell given name (owner_of given world.names) h e)
+start_begins S first world (Fade name) g h = fade_begins world g.tells.cell name (owner_of name world.weak_names) refl h
+start_begins S first world (Up weak name) g h = begins_if world g.tells.cell (Up weak name) (is_taken name world) _ _ (λ e. tt) (λ e. up_begins world g.tells.cell weak name (owner_of weak world.weak_names) h e)
+start_begins S first world (Ask name request) g h = still_begins world g.tells.cell (Ask name request) _ (ask_still (zone_of name world) request)
+start_begins S first world (Transfer name request) g h = still_begins world g.tells.cell (Transfer name request) _ (transfer_still world (version_of name world) request)
+start_begins S first world (Update request) g h =
+    begins_if world g.tells.cell (Update request) (any_update world.calls) _ _ (λ e. tt) (λ none. found_begins S first world request (found_last world.words) g refl none h)
+
+-- a world behind a line, where that is played
+abbrev pub HandsBehind : Option (WorldReply × World) → Type 0
+HandsBehind o = (given : WorldReply) (world : World) → o ≡ Some (given, world) → Hands world
+
+to_some : (played : WorldReply × World) → Hands played.1 → HandsBehind (Some played)
+to_some played h given world e =
+    let pair : played ≡ (given, world) = (let i = e in cc) in
+    subst (λ (w : World). Hands w) (ap (λ (p : WorldReply × World). p.1) pair) h
+
+to_none : HandsBehind None
+to_none given world e = absurd (let wrong = e in cc)
+
+to_if : (test : Bool) (one two : Option (WorldReply × World)) → HandsBehind one → HandsBehind two → HandsBehind (if test then one else two)
+to_if true one two a b = a
+to_if false one two a b = b
+
+made_hands : (world : World) (call : Call) (came : Progress × Zones) → Hands world → Unchanged world.words came → Open came.1 (given_up call world.names) (weak_given_up call world.weak_names) world.kept world.keep world.calls came.0 → Hands (all_made world call came).1
+made_hands world call (On at, words) h same o = subst (λ (w : Zones). Open w world.names world.weak_names world.kept world.keep world.calls nothing_apart) (sym same) h
+made_hands world call (Done end, words) h same o = closed words (given_up call world.names) (weak_given_up call world.weak_names) world.kept world.keep world.calls end o
+
+whole_hands : (world : World) (cell : Cell Numbered) (call : Call) (how : Start) → Hands world → Shows world.words cell → FirstOf world.words how → BeginsOk world cell call how → HandsBehind (whole world call how)
+whole_hands world cell call Refused h s is ok = to_some _ h
+whole_hands world cell call (Answers given) h s is ok = to_if (is_full world) _ _ to_none (to_some _ h)
+whole_hands world cell call (Takes at) h s is ok =
+    to_if (is_full world) _ _ to_none
+    (to_some _ (made_hands world call (steps_up_to most_steps world.words at) h
+    (first_by world.words cell at (step_once world.words at) refl is s ok.1)
+    (many_open most_steps (given_up call world.names) (weak_given_up call world.weak_names) world.kept world.keep world.calls world.words at ok.0)))
+
+none_called : (name : List ℕ) (calls : List UnderWay) → call_of name calls ≡ None → called name calls ≡ 0
+none_called name [] e = refl
+none_called name (x ∷ calls) e =
+    elim (cases_Bool (bytes_eq x.name name)) [
+      | inl same ↦ (let f = rw same at e in absurd (let wrong = f in cc))
+      | inr other ↦ (
+          let one : one_if (bytes_eq x.name name) ≡ 0 = rw other refl in
+          let more = none_called name calls (rw other at e) in
+          omega (arith, one, more)
+          )
+    ]
+
+-- a call goes to the end of those under way
+to_calls : (words : Zones) (names weaks : List Named) (kept : List ℕ) (keep : ℕ) (calls : List UnderWay) (name : List ℕ) (at : Phase) → called name calls ≡ 0 → Open words names weaks kept keep calls (On at) → Open words names weaks kept keep (calls ++ record { name = name; phase = at } ∷ []) nothing_apart
+to_calls words names weaks kept keep calls name at none o =
+    let e = append-nil calls in
+    put_back words names weaks kept keep calls [] (record { name = name; phase = at }) (ap (called name) e ∙ none) (subst (λ cs. Open words names weaks kept keep cs (On at)) (sym e) o)
+
+begin_hands : (world : World) (cell : Cell Numbered) (name : List ℕ) (call : Call) (how : Start) → call_of name world.calls ≡ None → Hands world → BeginsOk world cell call how → HandsBehind (begin world name call how)
+begin_hands world cell name call Refused none h ok = to_some _ h
+begin_hands world cell name call (Answers given) none h ok = to_if (is_full world) _ _ to_none (to_some _ h)
+begin_hands world cell name call (Takes at) none h ok =
+    to_if (is_full world) _ _ to_none (to_some _ (to_calls world.words (given_up call world.names) (weak_given_up call world.weak_names) world.kept world.keep world.calls name at (none_called name world.calls none) ok.0))
+
+under_hands : (S : Script) (first : List Record) (world : World) (name : List ℕ) (call : Call) (other : Option UnderWay) → call_of name world.calls ≡ other → Goes S first world → Hands world → HandsBehind (begin_under world name call other)
+under_hands S first world name call None e g h = begin_hands world g.tells.cell name call (start world call) e h (start_begins S first world call g h)
+under_hands S first world name call (Some other) e g h = to_some _ h
+
+-- the call of a name, apart from the others
+apart : (world : World) (name : List ℕ) (call : UnderWay) → Among name world.calls call → Hands world → Open world.words world.names world.weak_names world.kept world.keep (without_call name world.calls) (On call.phase)
+apart world name call a h =
+    subst (λ cs. Open world.words world.names world.weak_names world.kept world.keep cs (On call.phase)) (sym a.rest)
+    (taken_out world.words world.names world.weak_names world.kept world.keep a.front a.back call (subst (λ cs. Open world.words world.names world.weak_names world.kept world.keep cs nothing_apart) a.whole h))
+
+stepped_hands : (world : World) (name : List ℕ) (call : UnderWay) (o : Option (Progress × Zones)) → call_of name world.calls ≡ Some call → step_once world.words call.phase ≡ o → Hands world → Hands (stepped world name call.phase o).1
+stepped_hands world name call None found is h = h
+stepped_hands world name call (Some (On further, words)) found is h =
+    let a = among name world.calls call (h.calls_once name) found in
+    to_calls words world.names world.weak_names world.kept world.keep (without_call name world.calls) name further (ap (called name) a.rest ∙ a.none)
+    (step_open world.words words world.names world.weak_names world.kept world.keep (without_call name world.calls) call.phase (On further) is (apart world name call a h))
+stepped_hands world name call (Some (Done end, words)) found is h =
+    let a = among name world.calls call (h.calls_once name) found in
+    closed words world.names world.weak_names world.kept world.keep (without_call name world.calls) end
+    (step_open world.words words world.names world.weak_names world.kept world.keep (without_call name world.calls) call.phase (Done end) is (apart world name call a h))
+
+next_hands : (world : World) (name : List ℕ) (o : Option UnderWay) → call_of name world.calls ≡ o → Hands world → Hands (next world name o).1
+next_hands world name None found h = h
+next_hands world name (Some call) found h = stepped_hands world name call (step_once world.words call.phase) found refl h
+
+pub turn_hands : (S : Script) (first : List Record) (world : World) (line : Line) → Goes S first world → Hands world → HandsBehind (turn world line)
+turn_hands S first world (Whole call) g h = whole_hands world g.tells.cell call (start world call) h g.tells.shows (start_first world call) (start_begins S first world call g h)
+turn_hands S first world (Begin name call) g h = under_hands S first world name call (call_of name world.calls) refl g h
+turn_hands S first world (Next name) g h = to_some _ (next_hands world name (call_of name world.calls) refl h)
+
+-- how many versions are kept, and how many entries the window has, stays
+abbrev pub Same : World → World → Type 0
+Same world other = (other.keep ≡ world.keep) × (other.window ≡ world.window)
+
+abbrev SameBehind : World → Option (WorldReply × World) → Type 0
+SameBehind world o = (given : WorldReply) (other : World) → o ≡ Some (given, other) → Same world other
+
+same_some : (world : World) (played : WorldReply × World) → Same world played.1 → SameBehind world (Some played)
+same_some world played s given other e =
+    let pair : played ≡ (given, other) = (let i = e in cc) in
+    subst (λ (w : World). Same world w) (ap (λ (p : WorldReply × World). p.1) pair) s
+
+same_none : (world : World) → SameBehind world None
+same_none world given other e = absurd (let wrong = e in cc)
+
+same_if : (world : World) (test : Bool) (one two : Option (WorldReply × World)) → SameBehind world one → SameBehind world two → SameBehind world (if test then one else two)
+same_if world true one two a b = a
+same_if world false one two a b = b
+
+made_same : (world : World) (call : Call) (came : Progress × Zones) → Same world (all_made world call came).1
+made_same world call (On at, words) = (refl, refl)
+made_same world call (Done end, words) = (refl, refl)
+
+whole_same : (world : World) (call : Call) (how : Start) → SameBehind world (whole world call how)
+whole_same world call Refused = same_some world _ (refl, refl)
+whole_same world call (Answers given) = same_if world (is_full world) _ _ (same_none world) (same_some world _ (refl, refl))
+whole_same world call (Takes at) = same_if world (is_full world) _ _ (same_none world) (same_some world _ (made_same world call (steps_up_to most_steps world.words at)))
+
+begin_same : (world : World) (name : List ℕ) (call : Call) (how : Start) → SameBehind world (begin world name call how)
+begin_same world name call Refused = same_some world _ (refl, refl)
+begin_same world name call (Answers given) = same_if world (is_full world) _ _ (same_none world) (same_some world _ (refl, refl))
+begin_same world name call (Takes at) = same_if world (is_full world) _ _ (same_none world) (same_some world _ (refl, refl))
+
+under_same : (world : World) (name : List ℕ) (call : Call) (other : Option UnderWay) → SameBehind world (begin_under world name call other)
+under_same world name call None = begin_same world name call (start world call)
+under_same world name call (Some other) = same_some world _ (refl, refl)
+
+stepped_same : (world : World) (name : List ℕ) (at : Phase) (o : Option (Progress × Zones)) → Same world (stepped world name at o).1
+stepped_same world name at None = (refl, refl)
+stepped_same world name at (Some (On further, words)) = (refl, refl)
+stepped_same world name at (Some (Done end, words)) = (refl, refl)
+
+next_same : (world : World) (name : List ℕ) (o : Option UnderWay) → Same world (next world name o).1
+next_same world name None = (refl, refl)
+next_same world name (Some call) = stepped_same world name call.phase (step_once world.words call.phase)
+
+turn_same : (world : World) (line : Line) → SameBehind world (turn world line)
+turn_same world (Whole call) = whole_same world call (start world call)
+turn_same world (Begin name call) = under_same world name call (call_of name world.calls)
+turn_same world (Next name) = same_some world _ (next_same world name (call_of name world.calls))
+
+-- a world whose versions are replays, with all that is in hand
+pub record Kept (S : Script) (first : List Record) (begun_as world : World) : Type 0 where
+  pub goes : Goes S first world
+  pub hands : Hands world
+  pub same : Same begun_as world
+
+abbrev pub KeptOn : (ℕ → List ℕ → Type 0) → List Record → World → World → Type 0
+KeptOn sends first begun_as world = (top : ℕ) × Kept (script sends top) first begun_as world
+
+rest_kept : (sends : ℕ → List ℕ → Type 0) (first : List Record) (begun_as : World) (lines : List Line) (given : WorldReply) (world behind : World) (replies : List WorldReply) (o : Option (List WorldReply × World)) → play world lines ≡ o
+    → ((replies : List WorldReply) (behind : World) → play world lines ≡ Some (replies, behind) → KeptOn sends first begun_as behind) → onto_replies given o ≡ Some (replies, behind) → KeptOn sends first begun_as behind
+rest_kept sends first begun_as lines given world behind replies None p all e = absurd (let wrong = e in cc)
+rest_kept sends first begun_as lines given world behind replies (Some rest) p all e =
+    let pair : (given ∷ rest.0, rest.1) ≡ (replies, behind) = (let i = e in cc) in
+    subst (λ (w : World). KeptOn sends first begun_as w) (ap (λ (t : List WorldReply × World). t.1) pair) (all rest.0 rest.1 p)
+
+line_kept : (sends : ℕ → List ℕ → Type 0) (top : ℕ) (first : List Record) (begun_as : World) (world behind : World) (lines : List Line) (replies : List WorldReply) (o : Option (WorldReply × World)) → ((given : WorldReply) (between : World) → o ≡ Some (given, between) → Kept (script sends top) first begun_as between)
+    → ((given : WorldReply) (world : World) → Kept (script sends top) first begun_as world → (replies : List WorldReply) (behind : World) → play world lines ≡ Some (replies, behind) → KeptOn sends first begun_as behind)
+    → option_and_then (λ t. onto_replies t.0 (play t.1 lines)) o ≡ Some (replies, behind) → KeptOn sends first begun_as behind
+line_kept sends top first begun_as world behind lines replies None g all e = absurd (let wrong = e in cc)
+line_kept sends top first begun_as world behind lines replies (Some t) g all e =
+    rest_kept sends first begun_as lines t.0 t.1 behind replies (play t.1 lines) refl (all t.0 t.1 (g t.0 t.1 refl)) e
+
+play_kept : (sends : ℕ → List ℕ → Type 0) (top : ℕ) (first : List Record) (begun_as : World) (world : World) (lines : List Line) (replies : List WorldReply) (behind : World) → AllSent sends top lines → Kept (script sends top) first begun_as world → play world lines ≡ Some (replies, behind) → KeptOn sends first begun_as behind
+play_kept sends top first begun_as world [] replies behind sent k e =
+    let pair : ([], world) ≡ (replies, behind) = (let i = e in cc) in
+    subst (λ (w : World). KeptOn sends first begun_as w) (ap (λ (t : List WorldReply × World). t.1) pair) (top, k)
+play_kept sends top first begun_as world (line ∷ lines) replies behind sent k e =
+    line_kept sends (top + 1) first begun_as world behind lines replies (turn world line)
+    (λ given between is. record {
+      goes = turn_goes sends top first world line sent.0 k.goes given between is;
+      hands = turn_hands (script sends top) first world line k.goes k.hands given between is;
+      same = (let s = turn_same world line given between is in (s.0 ∙ k.same.0, s.1 ∙ k.same.1));
+    })
+    (λ given between kept more last p. play_kept sends (top + 1) first begun_as between lines more last sent.1 kept p) e
+
+-- at the start version 0 is kept, and nothing else is in hand
+pub started_hands : (first : List Record) (keep window : ℕ) → Hands (started first keep window)
+started_hands first keep window =
+    let shown = step_shows {T = Numbered} (begun (first_version first)) (loaded_once (first_version first)) word.Load (told.Loaded 0 0) (cell_start (first_version first)) (begun_shows (first_version first)) (0, refl, lit< tt, refl, refl) in
+    record {
+      cell = shown.0;
+      shows = shown.2;
+      last = 0;
+      from = 0;
+      settled = 1;
+      counted = ap (λ (c : Cell Numbered). length c.published) shown.1.3;
+      swapped = refl;
+      kept_count = refl;
+      kept_from = omega arith;
+      alone = λ e. refl;
+      one = tt;
+      still = tt;
+      stills = tt;
+      seated = record { fit = ((0, refl), tt); exact = λ i. first_exact i };
+      publisher = λ e f. refl;
+      names_once = λ name. omega arith;
+      weak_once = λ name. omega arith;
+      calls_once = λ name. omega arith;
+    }
+  where
+    first_exact : (i : ℕ) → times i (seat 0 (has 0) ∷ []) ≡ lives (slice_get (Holding 0 0 ∷ []) i)
+    first_exact zero = refl
+    first_exact (suc i) = let none = other_equal 0 (suc i) (λ e. absurd (omega (arith, e))) in omega (arith, none)
+
+pub played_kept : (first : List Record) (keep window : ℕ) (lines : List Line) (replies : List WorldReply) (world : World) → play (started first keep window) lines ≡ Some (replies, world) → KeptOn (IsSentAt lines) first (started first keep window) world
+played_kept first keep window lines replies world e =
+    play_kept (IsSentAt lines) 0 first (started first keep window) (started first keep window) lines replies world (all_sent lines)
+    (record { goes = start_goes (script (IsSentAt lines) 0) first keep window; hands = started_hands first keep window; same = (refl, refl) }) e

@@ -1,0 +1,204 @@
+-- The versions that names have, and that are kept, by what is in hand.
+use Rattle.std.proofs.Common.{◌≡◌, refl, sym, ap, ◌∙◌, subst, ℕ, ◌+◌, ◌-◌, ◌<◌, ◌≤◌, ◌⊎◌, false, inl, inr, List, [], ◌∷◌, ◌++◌, length, drop, arith, Some}
+use Rattle.std.specs.Prelude.{◌==◌, bytes_eq}
+use Rattle.std.specs.List.{slice_get, flat_map}
+use Rattle.std.specs.Option.{option_and_then, option_to_list}
+use Rattle.std.proofs.lemmas.Bool.{cases_Bool}
+use Rattle.std.proofs.lemmas.Bool.Decides.{eqb_tells}
+use Rattle.std.proofs.lemmas.List.{drop_all}
+use Rattle.cell_core.proofs.CountLemmas.{one_if}
+use Rattle.cell_core.proofs.SeatLemmas.{get_within}
+use Rattle.cell_core.proofs.ShowsLemmas.{last_lies, latest_slot, number_there, latest_number}
+use Rattle.cell_core.proofs.RestLemmas.{rest_buried, rest_free}
+use Rattle.cell_core.proofs.UserLemmas.{owner_finds, owner_is_given}
+use Rattle.std.proofs.Math.Nat.{min_comm, sub-add-min_cancel}
+use Rattle.cell_core.specs.Cell.{Cell}
+use Rattle.cell_core.specs.Shows.{Shows, IsLive, SlotIs, AtRest}
+use Rattle.cell_core.specs.Words.{found_by, slot_of, number_in}
+use Rattle.cell_core.specs.declared.words.Owner.{Owner}
+use Rattle.cell_core.specs.declared.words.Owner.TheVariants.{Holding, Twice, Weakly, Both, Burying, Fading, Resetting, Freeing, Spent}
+use Rattle.dns_rdata.specs.Record.{Record}
+use Rattle.transfer_core.proofs.VersionLemmas.{drop_here}
+use Rattle.zone_tree.specs.Version.{Version as Numbered}
+use Rattle.world_run.specs.declared.names.Named.{Named}
+use Rattle.world_run.specs.declared.step.WorldReply.{WorldReply}
+use Rattle.world_run.specs.declared.step.WorldStep.{WorldStep as Line}
+use Rattle.world_laws.specs.Held.{HoldsVersion, HoldVersions, IsAtRest}
+use Rattle.world_laws.specs.Replays.{IsSentAt}
+use Rattle.world_run.specs.World.{World, started, owner_of, kept_versions, play}
+use Rattle.world_laws.proofs.CallReplays.{script}
+use Rattle.world_laws.proofs.OtherCalls.{any_update}
+use Rattle.world_laws.proofs.HandEnds.{no_swaps}
+use Rattle.world_laws.proofs.HandLemmas.{HandIs, AllFit, times, times_append, fit_front, lives}
+use Rattle.world_laws.proofs.HandLemmas.Hand.{holds, weakly}
+use Rattle.world_laws.proofs.HandPlay.{Kept, played_kept}
+use Rattle.world_laws.proofs.HandSteps.{Zones}
+use Rattle.world_laws.proofs.HandTurns.{times_four, fits_four}
+use Rattle.world_laws.proofs.HandWorld.{seats_as, both_seats, kept_seats, kept_left, call_seats, any_publishes, Hands}
+use Rattle.world_laws.proofs.ReplayLemmas.{goes_replayed}
+
+-- the number in W is the last
+latest_has : (words : Zones) (cell : Cell Numbered) (s : Shows words cell) → number_in words (slot_of words.latest) ≡ Some s.plan.last
+latest_has words cell s =
+    let lies = last_lies words cell s in
+    let found = get_within words.table (s.plan.slot s.plan.last) (omega (arith, lies.0, s.table.size)) in
+    let is : IsLive words cell s.plan (s.plan.slot s.plan.last) s.plan.last found.0 = subst (λ p. SlotIs words cell s.plan (s.plan.slot s.plan.last) p found.0) lies.1 (s.table.slot_is (s.plan.slot s.plan.last) found.0 found.1) in
+    ap (number_in words) (latest_slot words cell s) ∙ number_there words (s.plan.slot s.plan.last) s.plan.last is.value found.0 found.1 is.version
+
+-- cells that the same words show have as many versions
+pub same_length : (words : Zones) (one two : Cell Numbered) → Shows words one → Shows words two → length one.published ≡ length two.published
+same_length words one two s t =
+    let is = latest_number words two t s.plan.last (latest_has words one s) in
+    let a = s.numbers.last in
+    let b = t.numbers.last in
+    omega (arith, is, a, b)
+
+-- a name's owner is in hand
+named_holds : (owners : List Owner) (name : List ℕ) (names : List Named) (owner : ℕ) → AllFit owners (seats_as holds names) → owner_of name names ≡ Some owner → HandIs owners owner holds
+named_holds owners name [] owner fits e = absurd (let wrong = e in cc)
+named_holds owners name (x ∷ names) owner fits e =
+    elim (cases_Bool (bytes_eq x.name name)) [
+      | inl same ↦ (let found = rw same at e in let it : x.owner ≡ owner = (let f = found in cc) in subst (λ o. HandIs owners o holds) it fits.0)
+      | inr other ↦ named_holds owners name names owner fits.1 (rw other at e)
+    ]
+
+-- what is in hand beside the calls under way
+parts_of : (world : World) (h : Hands world) → AllFit world.words.owners (seats_as holds world.names) × AllFit world.words.owners (kept_left h.from world.keep world.kept (any_update world.calls))
+parts_of world h =
+    let all = fits_four world.words.owners [] (both_seats world.names world.weak_names) (kept_left h.from world.keep world.kept (any_update world.calls)) (call_seats h.last h.from world.calls) h.seated.fit in
+    (fit_front world.words.owners (seats_as holds world.names) (seats_as weakly world.weak_names) all.1, all.2)
+
+name_has : (world : World) (cell : Cell Numbered) (name : List ℕ) (owner : ℕ) → Hands world → Shows world.words cell → owner_of name world.names ≡ Some owner → HoldsVersion cell.published world name owner
+name_has world cell name owner h s e =
+    let held = named_holds world.words.owners name world.names owner (parts_of world h).0 e in
+    let found = owner_finds world.words cell owner held.0 held.1 s held.2 in
+    record {
+      number = held.0;
+      place = held.1;
+      version = found.0;
+      holds = held.2;
+      lies = found.1;
+      has = ap (option_and_then (found_by world.words)) e ∙ (owner_is_given world.words cell owner held.0 held.1 s held.2 ∙ found.2);
+      published_so = found.2;
+    }
+
+-- the versions that are kept are those published with their numbers, in turn
+kept_are : (words : Zones) (cell : Cell Numbered) (from : ℕ) (kept : List ℕ) → Shows words cell → AllFit words.owners (kept_seats from kept) → from + length kept ≡ length cell.published → flat_map (λ owner. option_to_list (found_by words owner)) kept ≡ drop from cell.published
+kept_are words cell from [] s fits count = sym (drop_all from cell.published (omega (arith, count)))
+kept_are words cell from (o ∷ os) s fits count =
+    let found = owner_finds words cell o from fits.0.0 s fits.0.1 in
+    let given : found_by words o ≡ Some found.0 = owner_is_given words cell o from fits.0.0 s fits.0.1 ∙ found.2 in
+    let more = kept_are words cell (from + 1) os s fits.1 (omega (arith, count)) in
+    ap (λ v. option_to_list v ++ flat_map (λ owner. option_to_list (found_by words owner)) os) given ∙ (ap (λ vs. found.0 ∷ vs) more ∙ sym (drop_here cell.published from found.0 (sym found.2)))
+
+kept_is : (world : World) (cell : Cell Numbered) (h : Hands world) → any_update world.calls ≡ false → Shows world.words cell → kept_versions world ≡ drop h.from cell.published
+kept_is world cell h none s =
+    let fits = rw none at (parts_of world h).1 in
+    let swaps = no_swaps world.calls none in
+    let same = same_length world.words h.cell cell h.shows s in
+    kept_are world.words cell h.from world.kept s fits (omega (arith, h.kept_count, h.swapped, swaps, h.counted, same))
+
+held_by_kept : (first : List Record) (lines : List Line) (top : ℕ) (begun_as world : World) → Kept (script (IsSentAt lines) top) first begun_as world → HoldVersions first lines world
+held_by_kept first lines top begun_as world k =
+    let r = goes_replayed first lines top world k.goes in
+    record {
+      replayed = r;
+      names = λ name owner e. name_has world r.reached.cell name owner k.hands r.reached.shows e;
+      kept = λ none. (
+          let swaps = no_swaps world.calls none in
+          let same = same_length world.words k.hands.cell r.reached.cell k.hands.shows r.reached.shows in
+          let e : k.hands.from ≡ length r.updates - world.keep = omega (arith, k.hands.kept_from, k.hands.swapped, swaps, k.hands.counted, same, r.replays.counted) in
+          kept_is world r.reached.cell k.hands none r.reached.shows ∙ ap (λ n. drop n r.reached.cell.published) e
+          );
+    }
+
+-- whatever lines were played, versions are held
+pub played_held : (first : List Record) (keep window : ℕ) (lines : List Line) (replies : List WorldReply) (world : World) → play (started first keep window) lines ≡ Some (replies, world) → HoldVersions first lines world
+played_held first keep window lines replies world e = (let k = played_kept first keep window lines replies world e in held_by_kept first lines k.0 (started first keep window) world k.1)
+
+-- what is kept has a number from that of the oldest on
+kept_has : (owners : List Owner) (from : ℕ) (kept : List ℕ) (i : ℕ) → AllFit owners (kept_seats from kept) → 0 < times i (kept_seats from kept) → (number : ℕ) × (place : ℕ) × (from ≤ number) × (slice_get owners i ≡ Some (Holding number place))
+kept_has owners from [] i fits some = absurd (omega (arith, some))
+kept_has owners from (o ∷ os) i fits some =
+    elim (eqb_tells o i) [
+      | inl same ↦ (from, fits.0.0, omega arith, ap (slice_get owners) (sym same.1) ∙ fits.0.1)
+      | inr other ↦ (
+          let none : one_if (o == i) ≡ 0 = rw other.0 refl in
+          let more = kept_has owners (from + 1) os i fits.1 (omega (arith, some, none)) in
+          (more.0, more.1, omega (arith, more.2), more.3)
+          )
+    ]
+
+-- and each of these numbers has an owner
+kept_owns : (owners : List Owner) (from : ℕ) (kept : List ℕ) (number : ℕ) → AllFit owners (kept_seats from kept) → from ≤ number → number < from + length kept → (owner : ℕ) × (place : ℕ) × (slice_get owners owner ≡ Some (Holding number place))
+kept_owns owners from [] number fits within less = absurd (omega (arith, within, less))
+kept_owns owners from (o ∷ os) number fits within less =
+    elim (eqb_tells from number) [
+      | inl same ↦ (o, fits.0.0, fits.0.1 ∙ ap (λ n. Some (Holding n fits.0.0)) same.1)
+      | inr other ↦ kept_owns owners (from + 1) os number fits.1 (omega (arith, within, other.1)) (omega (arith, less))
+    ]
+
+-- an owner that isn't spent is among those of the versions that are kept, where nobody else has one in hand
+kept_one : (owners : List Owner) (from : ℕ) (kept : List ℕ) (owner : ℕ) (how : Owner) → AllFit owners (kept_seats from kept) → ((i : ℕ) → times i (kept_seats from kept) ≡ lives (slice_get owners i)) → slice_get owners owner ≡ Some how → lives (Some how) ≡ 1
+    → (number : ℕ) × (place : ℕ) × (from ≤ number) × (how ≡ Holding number place)
+kept_one owners from kept owner how fits exact at one =
+    let count = exact owner in
+    let is : lives (slice_get owners owner) ≡ 1 = ap lives at ∙ one in
+    let has = kept_has owners from kept owner fits (omega (arith, count, is)) in
+    (has.0, has.1, has.2, (let e : Some how ≡ Some (Holding has.0 has.1) = sym at ∙ has.3 in cc))
+
+spent_or_kept : (owners : List Owner) (from : ℕ) (kept : List ℕ) (owner : ℕ) (how : Owner) → AllFit owners (kept_seats from kept) → ((i : ℕ) → times i (kept_seats from kept) ≡ lives (slice_get owners i)) → slice_get owners owner ≡ Some how
+    → (how ≡ Spent) ⊎ ((number : ℕ) × (place : ℕ) × (from ≤ number) × (how ≡ Holding number place))
+spent_or_kept owners from kept owner (Holding number place) fits exact at = inr (kept_one owners from kept owner (Holding number place) fits exact at refl)
+spent_or_kept owners from kept owner (Burying place) fits exact at = inr (kept_one owners from kept owner (Burying place) fits exact at refl)
+spent_or_kept owners from kept owner (Twice number place) fits exact at = inr (kept_one owners from kept owner (Twice number place) fits exact at refl)
+spent_or_kept owners from kept owner (Weakly number place) fits exact at = inr (kept_one owners from kept owner (Weakly number place) fits exact at refl)
+spent_or_kept owners from kept owner (Both number place) fits exact at = inr (kept_one owners from kept owner (Both number place) fits exact at refl)
+spent_or_kept owners from kept owner (Fading place) fits exact at = inr (kept_one owners from kept owner (Fading place) fits exact at refl)
+spent_or_kept owners from kept owner (Resetting place) fits exact at = inr (kept_one owners from kept owner (Resetting place) fits exact at refl)
+spent_or_kept owners from kept owner (Freeing place) fits exact at = inr (kept_one owners from kept owner (Freeing place) fits exact at refl)
+spent_or_kept owners from kept owner Spent fits exact at = inl refl
+
+-- the versions that are kept have the last number and those before it
+rests_so : (world : World) (h : Hands world) → world.names ≡ [] → world.weak_names ≡ [] → world.calls ≡ [] → (last : ℕ) → length h.cell.published ≡ last + 1 → AtRest world.words (last - world.keep) last
+rests_so world h no_names no_weak no_calls last count =
+    let no_update : any_update world.calls ≡ false = ap any_update no_calls in
+    let no_publisher : any_publishes world.calls ≡ false = ap any_publishes no_calls in
+    let swaps = no_swaps world.calls no_update in
+    let same : h.last ≡ last = omega (arith, count, h.counted) in
+    let from_is : h.from ≡ last - world.keep = omega (arith, h.kept_from, h.swapped, swaps, same) in
+    let fits = rw no_update at (parts_of world h).1 in
+    subst (λ from. AtRest world.words from last) from_is
+    (record {
+      publisher = h.publisher refl no_publisher;
+      within = omega (arith, from_is);
+      owners = λ owner how at. spent_or_kept world.words.owners h.from world.kept owner how fits
+          (λ i. (
+          let all = h.seated.exact i in
+          let four = times_four i [] (both_seats world.names world.weak_names) (kept_left h.from world.keep world.kept (any_update world.calls)) (call_seats h.last h.from world.calls) in
+          let both = times_append i (seats_as holds world.names) (seats_as weakly world.weak_names) in
+          let names : times i (seats_as holds world.names) ≡ 0 = ap (λ ns. times i (seats_as holds ns)) no_names in
+          let weaks : times i (seats_as weakly world.weak_names) ≡ 0 = ap (λ ns. times i (seats_as weakly ns)) no_weak in
+          let calls : times i (call_seats h.last h.from world.calls) ≡ 0 = ap (λ cs. times i (call_seats h.last h.from cs)) no_calls in
+          let kept : times i (kept_left h.from world.keep world.kept (any_update world.calls)) ≡ times i (kept_seats h.from world.kept) = ap (λ b. times i (kept_left h.from world.keep world.kept b)) no_update in
+          omega (arith, all, four, both, names, weaks, calls, kept)
+          )) at;
+      owned = λ number within less. kept_owns world.words.owners h.from world.kept number fits within (omega (arith, less, h.kept_count, h.swapped, swaps, same));
+    })
+
+-- when no call is under way and no name is in use, exactly the versions before those that are kept are buried
+pub played_rests : (first : List Record) (keep window : ℕ) (lines : List Line) (replies : List WorldReply) (world : World) → play (started first keep window) lines ≡ Some (replies, world) → world.names ≡ [] → world.weak_names ≡ [] → world.calls ≡ [] → IsAtRest first keep lines world
+played_rests first keep window lines replies world e no_names no_weak no_calls =
+    let all = played_kept first keep window lines replies world e in
+    let k = all.1 in
+    let r = goes_replayed first lines all.0 world k.goes in
+    let same = same_length world.words k.hands.cell r.reached.cell k.hands.shows r.reached.shows in
+    let rest = subst (λ n. AtRest world.words (length r.updates - n) (length r.updates)) k.same.0 (rests_so world k.hands no_names no_weak no_calls (length r.updates) (omega (arith, same, r.replays.counted))) in
+    let free = rest_free world.words r.reached.cell (length r.updates - keep) (length r.updates) r.reached.shows r.replays.counted rest in
+    let kept = sub-add-min_cancel (length r.updates) keep in
+    let either = min_comm keep (length r.updates) in
+    record {
+      replayed = r;
+      buried = rest_buried world.words r.reached.cell (length r.updates - keep) (length r.updates) r.reached.shows r.replays.counted rest;
+      free = omega (arith, free, kept, either);
+    }

@@ -1,6 +1,0 @@
--- Once a call has taken its first step, each further one can be made.
-use Rattle.world_run.proofs.EndLemmas.{turn_refusal}
-use Rattle.world_run.proofs.laws.refused_lines_change_nothing.Goals as goal
-
-pub returns : goal.returns
-returns c = turn_refusal
