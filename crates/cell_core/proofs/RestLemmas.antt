@@ -134,7 +134,7 @@ all_but_fewer p ok xs places count passes within a = record {
   ];
 }
 
-count_but : {X : Type 0} (p : X → Bool) (ok : X) (xs : List X) (places : ℕ → ℕ) (count : ℕ) → p ok ≡ true → AllBut p xs places count → count_by p xs + count ≡ length xs
+pub count_but : {X : Type 0} (p : X → Bool) (ok : X) (xs : List X) (places : ℕ → ℕ) (count : ℕ) → p ok ≡ true → AllBut p xs places count → count_by p xs + count ≡ length xs
 count_but p ok xs places zero passes a =
     let all = count_all p xs (λ j x e. elim (cases_Bool (p x)) [ inl passed ↦ passed | inr fails ↦ (let it = a.others j x e fails in absurd (omega (arith, it.1))) ]) in
     omega (arith, all)
@@ -149,10 +149,10 @@ count_but p ok xs places (suc count) passes a =
     omega (arith, fewer, sums, there, none, one, length-set xs (places count) ok)
 
 -- S is FREE
-is_free_word : (shares : ℕ) → shares ≡ free_word → (shares == free_word) ≡ true
+pub is_free_word : (shares : ℕ) → shares ≡ free_word → (shares == free_word) ≡ true
 is_free_word shares e = elim (eqb_tells shares free_word) [ inl same ↦ same.0 | inr other ↦ absurd (other.1 e) ]
 
-isnt_free_word : (shares : ℕ) → (shares ≡ free_word → ⊥) → (shares == free_word) ≡ false
+pub isnt_free_word : (shares : ℕ) → (shares ≡ free_word → ⊥) → (shares == free_word) ≡ false
 isnt_free_word shares h = elim (eqb_tells shares free_word) [ inl same ↦ absurd (h same.1) | inr other ↦ other.0 ]
 
 abbrev is_free : {T : Type 0} → Slot T → Bool

@@ -1,5 +1,5 @@
 //! A cell of words on plain data, one atomic act at a time.
-ghost use Rattle.std.specs.Prelude.{◌≡◌, ◌<◌, ◌↔◌, nat_lt, Option, Some, None, IfOk, IfErr, OnErr, length, ◌∷◌, replicate};
+ghost use Rattle.std.specs.Prelude.{◌≡◌, ◌<◌, ◌+◌, ◌↔◌, nat_lt, nat_le, Option, Some, None, IfOk, IfErr, OnErr, length, ◌∷◌, replicate};
 ghost use Rattle.std.specs.List.{slice_get};
 ghost use Rattle.std.specs.Option.{option_copied, option_and_then, option_map};
 ghost use Rattle.std.specs.Result.{IsErrOf};
@@ -96,6 +96,23 @@ impl<T: Drop> WordMachine<T> {
         ensures { result ≡ nat_lt self.now.granted grants }
     {
         self.granted < GRANTS
+    }
+
+    /// Whether so many shares are left to give out: so many loads and raises can be made.
+    pub fn has_shares_for(&self, count: usize) -> bool
+        ensures { result ≡ nat_le (self.now.granted + count) grants }
+    {
+        match GRANTS.checked_sub(self.granted) {
+            Some(left) => count as u64 <= left,
+            None => false,
+        }
+    }
+
+    /// Whether one more weak owner can be made: a note can be made.
+    pub fn has_notes(&self) -> bool
+        ensures { result ≡ nat_lt self.now.noted notes }
+    {
+        self.noted < NOTES
     }
 
     /// The value that an owner finds in its slot; none where it owns nothing, or owns it weakly.

@@ -1,6 +1,6 @@
 -- Calls as steps: what each step makes of the versions that a run publishes, and of the calls under way.
 use Rattle.std.proofs.Common.{◌≡◌, ◌≢◌, refl, sym, ap, ◌∙◌, subst, ℕ, zero, suc, ◌+◌, ◌<◌, ◌≤◌, Bool, true, false, ◌⊎◌, inl, inr, List, [], ◌∷◌, ◌++◌, length, map, take, arith, Option, Some, None, length-append}
-use Rattle.std.specs.Prelude.{◌==◌, nat_lt, unwrap_or}
+use Rattle.std.specs.Prelude.{◌==◌, is_some, nat_lt, unwrap_or, if◌then◌else◌}
 use Rattle.std.specs.List.{slice_get, slice_set}
 use Rattle.std.specs.Option.{option_and_then}
 use Rattle.std.proofs.lemmas.Bool.{cases_Bool}
@@ -13,7 +13,7 @@ use Rattle.cell_core.proofs.StepShows.{step_shows}
 use Rattle.cell_core.proofs.PublishedLemmas.{OfWeak, weak_quiet}
 use Rattle.cell_core.specs.Cell.{Cell, CellStep, Runs, start as cell_start}
 use Rattle.cell_core.specs.Shows.{Shows, ShowsStep, PublisherIs, SlotIs, Phase as SlotPhase}
-use Rattle.cell_core.specs.Words.{State, bulk, free_word, dead_word, fetch_add, fetch_sub, version_in}
+use Rattle.cell_core.specs.Words.{State, bulk, free_word, dead_word, fetch_add, fetch_sub, found_by, version_in}
 use Rattle.cell_core.specs.WordSteps.{Makes, with_version, with_shares, with_weak_word}
 use Rattle.cell_core.specs.declared.words.Publisher.TheVariants.{Swapping}
 use Rattle.cell_core.specs.declared.words.Slot.{Slot}
@@ -29,6 +29,9 @@ use Rattle.dns_message.specs.declared.query.Parsed.TheVariants as parsed
 use Rattle.dns_message.specs.declared.update.Update.{Update as DynamicUpdate}
 use Rattle.dns_message.specs.Request.{reads}
 use Rattle.update_core.specs.Act.{act, replay}
+use Rattle.world_run.specs.declared.entries.Entry.{Entry}
+use Rattle.world_run.specs.declared.sending.Seeking.{Seeking}
+use Rattle.world_run.specs.declared.sending.Sending.{Sending}
 use Rattle.world_run.specs.declared.phase.Keeping.{Keeping}
 use Rattle.world_run.specs.declared.phase.Phase.{Phase}
 use Rattle.world_run.specs.declared.phase.Phase.TheVariants as phase
@@ -40,7 +43,7 @@ use Rattle.world_run.specs.declared.step.Answer.{Answer}
 use Rattle.world_run.specs.declared.step.Answer.TheVariants as answer
 use Rattle.zone_tree.specs.Version.{Version as Numbered, KnowsChanges}
 use Rattle.world_run.specs.Numbered.{first_version}
-use Rattle.world_run.specs.Phases.{word_step, after, past, gone, oldest_after, updates}
+use Rattle.world_run.specs.Phases.{word_step, after, past, gone, leaving_after, oldest_after, sent_after, completed, with_got, gained_after, got_after, updates}
 use Rattle.world_laws.specs.Replays.{IsAccepted, AreReplays}
 use Rattle.world_laws.specs.InTurn.{LeavesPublished}
 use Rattle.world_run.specs.World.{next}
@@ -313,6 +316,8 @@ tells_swapped S first words new us event n m t =
 abbrev pub Coherent : Script → List Record → List Placed → Zones → Phase → Type 0
 Coherent S first us words (phase.Load name) = Unit {0}
 Coherent S first us words (phase.Look name owner) = Unit {0}
+Coherent S first us words (phase.Seek owner seeking) = Unit {0}
+Coherent S first us words (phase.Gain owner seeking) = Unit {0}
 Coherent S first us words (phase.Raise name owner) = Unit {0}
 Coherent S first us words (phase.Note name owner) = Unit {0}
 Coherent S first us words (phase.Probe version keeping) = IsNext S first us version
@@ -320,6 +325,7 @@ Coherent S first us words (phase.Prepare version keeping) = IsNext S first us ve
 Coherent S first us words (phase.Swap keeping) = SwapsNext S first us words
 Coherent S first us words (phase.Settle keeping) = Unit {0}
 Coherent S first us words (phase.Keep given keeping) = Unit {0}
+Coherent S first us words (phase.Enter given kept keeping) = Unit {0}
 Coherent S first us words (phase.Release owner for) = Unit {0}
 Coherent S first us words (phase.Bury owner for) = Unit {0}
 Coherent S first us words (phase.Fade owner number for) = Unit {0}
@@ -330,6 +336,8 @@ Coherent S first us words (phase.Free owner number for) = Unit {0}
 pub no_update : (S : Script) (first : List Record) (us : List Placed) (words : Zones) (at : Phase) → updates at ≡ false → Coherent S first us words at
 no_update S first us words (phase.Load name) e = tt
 no_update S first us words (phase.Look name owner) e = tt
+no_update S first us words (phase.Seek owner seeking) e = tt
+no_update S first us words (phase.Gain owner seeking) e = tt
 no_update S first us words (phase.Raise name owner) e = tt
 no_update S first us words (phase.Note name owner) e = tt
 no_update S first us words (phase.Probe version keeping) e = absurd (let wrong = e in cc)
@@ -337,6 +345,7 @@ no_update S first us words (phase.Prepare version keeping) e = absurd (let wrong
 no_update S first us words (phase.Swap keeping) e = absurd (let wrong = e in cc)
 no_update S first us words (phase.Settle keeping) e = tt
 no_update S first us words (phase.Keep given keeping) e = tt
+no_update S first us words (phase.Enter given kept keeping) e = tt
 no_update S first us words (phase.Release owner for) e = tt
 no_update S first us words (phase.Bury owner for) e = tt
 no_update S first us words (phase.Fade owner number for) e = tt
@@ -457,6 +466,8 @@ owner_keeps_swap S first us words new cell (word.Reset owner) event of s (at, th
 owner_keeps : (S : Script) (first : List Record) (us : List Placed) (words new : Zones) (cell : Cell Numbered) (step : WordStep Numbered) (event : WordEvent) (other : Phase) → OfOwner step → Shows words cell → Makes words step event new → Coherent S first us words other → Coherent S first us new other
 owner_keeps S first us words new cell step event (phase.Load name) of s m c = tt
 owner_keeps S first us words new cell step event (phase.Look name owner) of s m c = tt
+owner_keeps S first us words new cell step event (phase.Seek owner seeking) of s m c = tt
+owner_keeps S first us words new cell step event (phase.Gain owner seeking) of s m c = tt
 owner_keeps S first us words new cell step event (phase.Raise name owner) of s m c = tt
 owner_keeps S first us words new cell step event (phase.Note name owner) of s m c = tt
 owner_keeps S first us words new cell step event (phase.Probe version keeping) of s m c = c
@@ -464,6 +475,7 @@ owner_keeps S first us words new cell step event (phase.Prepare version keeping)
 owner_keeps S first us words new cell step event (phase.Swap keeping) of s m c = owner_keeps_swap S first us words new cell step event of s m c
 owner_keeps S first us words new cell step event (phase.Settle keeping) of s m c = tt
 owner_keeps S first us words new cell step event (phase.Keep given keeping) of s m c = tt
+owner_keeps S first us words new cell step event (phase.Enter given kept keeping) of s m c = tt
 owner_keeps S first us words new cell step event (phase.Release owner for) of s m c = tt
 owner_keeps S first us words new cell step event (phase.Bury owner for) of s m c = tt
 owner_keeps S first us words new cell step event (phase.Fade owner number for) of s m c = tt
@@ -474,6 +486,8 @@ owner_keeps S first us words new cell step event (phase.Free owner number for) o
 of_owner : (at : Phase) → updates at ≡ false → OfOwner (word_step at)
 of_owner (phase.Load name) e = tt
 of_owner (phase.Look name owner) e = tt
+of_owner (phase.Seek owner seeking) e = tt
+of_owner (phase.Gain owner seeking) e = tt
 of_owner (phase.Raise name owner) e = tt
 of_owner (phase.Note name owner) e = tt
 of_owner (phase.Probe version keeping) e = absurd (let wrong = e in cc)
@@ -481,6 +495,7 @@ of_owner (phase.Prepare version keeping) e = absurd (let wrong = e in cc)
 of_owner (phase.Swap keeping) e = absurd (let wrong = e in cc)
 of_owner (phase.Settle keeping) e = absurd (let wrong = e in cc)
 of_owner (phase.Keep given keeping) e = absurd (let wrong = e in cc)
+of_owner (phase.Enter given kept keeping) e = absurd (let wrong = e in cc)
 of_owner (phase.Release owner for) e = tt
 of_owner (phase.Bury owner for) e = tt
 of_owner (phase.Fade owner number for) e = tt
@@ -507,16 +522,26 @@ abbrev pub Follows : Script → List Record → List Placed → Zones → Bool �
 Follows S first us words kind (On next) = Coherent S first us words next × (updates next ≡ kind)
 Follows S first us words kind (Done end) = Unit {0}
 
-oldest_follows : (S : Script) (first : List Record) (us : List Placed) (words : Zones) (head : Heading) (kept : ℕ) (oldest : Option ℕ) → Follows S first us words true (oldest_after head kept oldest)
-oldest_follows S first us words head kept None = tt
-oldest_follows S first us words head kept (Some owner) = (tt, refl)
+leaving_follows : (S : Script) (first : List Record) (us : List Placed) (words : Zones) (head : Heading) (kept : ℕ) (entry : Option Entry) (leaving : List ℕ) → Follows S first us words true (leaving_after head kept entry leaving)
+leaving_follows S first us words head kept entry [] = tt
+leaving_follows S first us words head kept entry (owner ∷ leaving) = (tt, refl)
+
+oldest_follows : (S : Script) (first : List Record) (us : List Placed) (words : Zones) (head : Heading) (kept : ℕ) (entry : Option Entry) (leaving : List ℕ) (oldest : Option ℕ) → Follows S first us words true (oldest_after head kept entry leaving oldest)
+oldest_follows S first us words head kept entry leaving None = leaving_follows S first us words head kept entry leaving
+oldest_follows S first us words head kept entry leaving (Some owner) = (tt, refl)
+
+sent_follows : (S : Script) (first : List Record) (us : List Placed) (words : Zones) (sending : Sending) (got : List ℕ) → Follows S first us words false (sent_after sending got)
+sent_follows S first us words sending [] = tt
+sent_follows S first us words sending (owner ∷ got) = (tt, refl)
 
 past_follows : (S : Script) (first : List Record) (us : List Placed) (words : Zones) (owner : ℕ) (for : Purpose) (given : Answer) → Follows S first us words (updates (phase.Release owner for)) (past for given)
 past_follows S first us words owner purpose.Drop given = tt
-past_follows S first us words owner (purpose.Publish keeping kept) given = oldest_follows S first us words keeping.heading kept keeping.oldest
-past_follows S first us words owner (purpose.Oldest head kept) given = tt
+past_follows S first us words owner (purpose.Publish keeping kept entry) given = oldest_follows S first us words keeping.heading kept entry keeping.leaving keeping.oldest
+past_follows S first us words owner (purpose.Oldest head kept entry leaving) given = leaving_follows S first us words head kept entry leaving
+past_follows S first us words owner (purpose.Leaves head kept entry leaving) given = leaving_follows S first us words head kept entry leaving
+past_follows S first us words owner (purpose.Sent sending got) given = sent_follows S first us words sending got
 
-load_follows : (S : Script) (first : List Record) (us : List Placed) (words : Zones) (name : List ℕ) (event : WordEvent) → Follows S first us words false (after (phase.Load name) event)
+load_follows : (S : Script) (first : List Record) (us : List Placed) (words : Zones) (name : List ℕ) (event : WordEvent) → Follows S first us words false (after words (phase.Load name) event)
 load_follows S first us words name (told.Loaded owner number) = tt
 load_follows S first us words name told.Passed = (tt, refl)
 load_follows S first us words name told.Taken = (tt, refl)
@@ -537,21 +562,21 @@ load_follows S first us words name told.Faded = (tt, refl)
 load_follows S first us words name told.Closed = (tt, refl)
 load_follows S first us words name told.Restored = (tt, refl)
 
-look_follows : (S : Script) (first : List Record) (us : List Placed) (words : Zones) (name : List ℕ) (owner : ℕ) (event : WordEvent) → Follows S first us words false (after (phase.Look name owner) event)
+look_follows : (S : Script) (first : List Record) (us : List Placed) (words : Zones) (name : List ℕ) (owner : ℕ) (event : WordEvent) → Follows S first us words false (after words (phase.Look name owner) event)
 look_follows S first us words name owner told.Alive = (tt, refl)
 look_follows S first us words name owner told.Dead = tt
 look_follows S first us words name owner event = (tt, refl)
 
-raise_follows : (S : Script) (first : List Record) (us : List Placed) (words : Zones) (name : List ℕ) (owner : ℕ) (event : WordEvent) → Follows S first us words false (after (phase.Raise name owner) event)
+raise_follows : (S : Script) (first : List Record) (us : List Placed) (words : Zones) (name : List ℕ) (owner : ℕ) (event : WordEvent) → Follows S first us words false (after words (phase.Raise name owner) event)
 raise_follows S first us words name owner (told.Raised next number) = tt
 raise_follows S first us words name owner told.Dead = tt
 raise_follows S first us words name owner event = (tt, refl)
 
-note_follows : (S : Script) (first : List Record) (us : List Placed) (words : Zones) (name : List ℕ) (owner : ℕ) (event : WordEvent) → Follows S first us words false (after (phase.Note name owner) event)
+note_follows : (S : Script) (first : List Record) (us : List Placed) (words : Zones) (name : List ℕ) (owner : ℕ) (event : WordEvent) → Follows S first us words false (after words (phase.Note name owner) event)
 note_follows S first us words name owner (told.Noted next number) = tt
 note_follows S first us words name owner event = (tt, refl)
 
-probe_follows : (S : Script) (first : List Record) (us : List Placed) (words : Zones) (version : Numbered) (keeping : Keeping) → IsNext S first us version → (event : WordEvent) → Follows S first us words true (after (phase.Probe version keeping) event)
+probe_follows : (S : Script) (first : List Record) (us : List Placed) (words : Zones) (version : Numbered) (keeping : Keeping) → IsNext S first us version → (event : WordEvent) → Follows S first us words true (after words (phase.Probe version keeping) event)
 probe_follows S first us words version keeping n (told.Loaded owner number) = (n, refl)
 probe_follows S first us words version keeping n told.Passed = (n, refl)
 probe_follows S first us words version keeping n told.Taken = (n, refl)
@@ -572,7 +597,7 @@ probe_follows S first us words version keeping n told.Faded = (n, refl)
 probe_follows S first us words version keeping n told.Closed = (n, refl)
 probe_follows S first us words version keeping n told.Restored = (n, refl)
 
-settle_follows : (S : Script) (first : List Record) (us : List Placed) (words : Zones) (keeping : Keeping) (event : WordEvent) → Follows S first us words true (after (phase.Settle keeping) event)
+settle_follows : (S : Script) (first : List Record) (us : List Placed) (words : Zones) (keeping : Keeping) (event : WordEvent) → Follows S first us words true (after words (phase.Settle keeping) event)
 settle_follows S first us words keeping (told.Loaded owner number) = (tt, refl)
 settle_follows S first us words keeping told.Passed = (tt, refl)
 settle_follows S first us words keeping told.Taken = (tt, refl)
@@ -593,8 +618,13 @@ settle_follows S first us words keeping told.Faded = (tt, refl)
 settle_follows S first us words keeping told.Closed = (tt, refl)
 settle_follows S first us words keeping told.Restored = (tt, refl)
 
-keep_follows : (S : Script) (first : List Record) (us : List Placed) (words : Zones) (given : ℕ) (keeping : Keeping) (event : WordEvent) → Follows S first us words true (after (phase.Keep given keeping) event)
-keep_follows S first us words given keeping (told.Loaded owner number) = (tt, refl)
+entered_follows : (S : Script) (first : List Record) (us : List Placed) (words : Zones) (given : ℕ) (keeping : Keeping) (owner : ℕ) (enters : Bool)
+    → Follows S first us words true (if enters then On (phase.Enter given owner keeping) else On (phase.Release given (purpose.Publish keeping owner None)))
+entered_follows S first us words given keeping owner true = (tt, refl)
+entered_follows S first us words given keeping owner false = (tt, refl)
+
+keep_follows : (S : Script) (first : List Record) (us : List Placed) (words : Zones) (given : ℕ) (keeping : Keeping) (event : WordEvent) → Follows S first us words true (after words (phase.Keep given keeping) event)
+keep_follows S first us words given keeping (told.Loaded owner number) = entered_follows S first us words given keeping owner (is_some keeping.enters)
 keep_follows S first us words given keeping told.Passed = (tt, refl)
 keep_follows S first us words given keeping told.Taken = (tt, refl)
 keep_follows S first us words given keeping told.NoSlot = (tt, refl)
@@ -614,7 +644,46 @@ keep_follows S first us words given keeping told.Faded = (tt, refl)
 keep_follows S first us words given keeping told.Closed = (tt, refl)
 keep_follows S first us words given keeping told.Restored = (tt, refl)
 
-release_follows : (S : Script) (first : List Record) (us : List Placed) (words : Zones) (at : ℕ) (for : Purpose) (event : WordEvent) → Follows S first us words (updates (phase.Release at for)) (after (phase.Release at for) event)
+enter_follows : (S : Script) (first : List Record) (us : List Placed) (words : Zones) (given kept : ℕ) (keeping : Keeping) (event : WordEvent) → Follows S first us words true (after words (phase.Enter given kept keeping) event)
+enter_follows S first us words given kept keeping (told.Loaded owner number) = (tt, refl)
+enter_follows S first us words given kept keeping told.Passed = (tt, refl)
+enter_follows S first us words given kept keeping told.Taken = (tt, refl)
+enter_follows S first us words given kept keeping told.NoSlot = (tt, refl)
+enter_follows S first us words given kept keeping told.Prepared = (tt, refl)
+enter_follows S first us words given kept keeping (told.Swapped number) = (tt, refl)
+enter_follows S first us words given kept keeping (told.Settled owner number) = (tt, refl)
+enter_follows S first us words given kept keeping told.Left = (tt, refl)
+enter_follows S first us words given kept keeping told.Emptied = (tt, refl)
+enter_follows S first us words given kept keeping (told.Buried number) = (tt, refl)
+enter_follows S first us words given kept keeping told.Kept = (tt, refl)
+enter_follows S first us words given kept keeping told.Freed = (tt, refl)
+enter_follows S first us words given kept keeping told.Alive = (tt, refl)
+enter_follows S first us words given kept keeping told.Dead = (tt, refl)
+enter_follows S first us words given kept keeping (told.Raised owner number) = (tt, refl)
+enter_follows S first us words given kept keeping (told.Noted owner number) = (tt, refl)
+enter_follows S first us words given kept keeping told.Faded = (tt, refl)
+enter_follows S first us words given kept keeping told.Closed = (tt, refl)
+enter_follows S first us words given kept keeping told.Restored = (tt, refl)
+
+seek_follows : (S : Script) (first : List Record) (us : List Placed) (words : Zones) (owner : ℕ) (seeking : Seeking) (event : WordEvent) → Follows S first us words false (after words (phase.Seek owner seeking) event)
+seek_follows S first us words owner seeking told.Alive = (tt, refl)
+seek_follows S first us words owner seeking told.Dead = sent_follows S first us words seeking.sending seeking.owners
+seek_follows S first us words owner seeking event = (tt, refl)
+
+gained_follows : (S : Script) (first : List Record) (us : List Placed) (words : Zones) (seeking : Seeking) (left : List ℕ) → Follows S first us words false (gained_after seeking left)
+gained_follows S first us words seeking [] = sent_follows S first us words (completed seeking.sending) seeking.owners
+gained_follows S first us words seeking (owner ∷ left) = (tt, refl)
+
+got_follows : (S : Script) (first : List Record) (us : List Placed) (words : Zones) (owner : ℕ) (seeking : Seeking) (next : ℕ) (found : Option Numbered) → Follows S first us words false (got_after owner seeking next found)
+got_follows S first us words owner seeking next None = (tt, refl)
+got_follows S first us words owner seeking next (Some version) = gained_follows S first us words (with_got next version seeking) seeking.left
+
+gain_follows : (S : Script) (first : List Record) (us : List Placed) (words : Zones) (owner : ℕ) (seeking : Seeking) (event : WordEvent) → Follows S first us words false (after words (phase.Gain owner seeking) event)
+gain_follows S first us words owner seeking (told.Raised next number) = got_follows S first us words owner seeking next (found_by words next)
+gain_follows S first us words owner seeking told.Dead = sent_follows S first us words seeking.sending seeking.owners
+gain_follows S first us words owner seeking event = (tt, refl)
+
+release_follows : (S : Script) (first : List Record) (us : List Placed) (words : Zones) (at : ℕ) (for : Purpose) (event : WordEvent) → Follows S first us words (updates (phase.Release at for)) (after words (phase.Release at for) event)
 release_follows S first us words at for (told.Loaded owner number) = past_follows S first us words at for answer.Left
 release_follows S first us words at for told.Passed = past_follows S first us words at for answer.Left
 release_follows S first us words at for told.Taken = past_follows S first us words at for answer.Left
@@ -635,7 +704,7 @@ release_follows S first us words at for told.Faded = past_follows S first us wor
 release_follows S first us words at for told.Closed = past_follows S first us words at for answer.Left
 release_follows S first us words at for told.Restored = past_follows S first us words at for answer.Left
 
-bury_follows : (S : Script) (first : List Record) (us : List Placed) (words : Zones) (at : ℕ) (for : Purpose) (event : WordEvent) → Follows S first us words (updates (phase.Bury at for)) (after (phase.Bury at for) event)
+bury_follows : (S : Script) (first : List Record) (us : List Placed) (words : Zones) (at : ℕ) (for : Purpose) (event : WordEvent) → Follows S first us words (updates (phase.Bury at for)) (after words (phase.Bury at for) event)
 bury_follows S first us words at for (told.Loaded owner number) = past_follows S first us words at for answer.Left
 bury_follows S first us words at for told.Passed = past_follows S first us words at for answer.Left
 bury_follows S first us words at for told.Taken = past_follows S first us words at for answer.Left
@@ -656,7 +725,7 @@ bury_follows S first us words at for told.Faded = past_follows S first us words 
 bury_follows S first us words at for told.Closed = past_follows S first us words at for answer.Left
 bury_follows S first us words at for told.Restored = past_follows S first us words at for answer.Left
 
-fade_follows : (S : Script) (first : List Record) (us : List Placed) (words : Zones) (at : ℕ) (number : Option ℕ) (for : Purpose) (event : WordEvent) → Follows S first us words (updates (phase.Fade at number for)) (after (phase.Fade at number for) event)
+fade_follows : (S : Script) (first : List Record) (us : List Placed) (words : Zones) (at : ℕ) (number : Option ℕ) (for : Purpose) (event : WordEvent) → Follows S first us words (updates (phase.Fade at number for)) (after words (phase.Fade at number for) event)
 fade_follows S first us words at number for told.Closed = (tt, refl)
 fade_follows S first us words at number for event = past_follows S first us words at for (gone number)
 
@@ -674,6 +743,8 @@ leaves_step words new step event apart m cell s =
 none_now : (at : Phase) → NoSwap (word_step at) → swaps_now at ≡ 0
 none_now (phase.Load name) apart = refl
 none_now (phase.Look name owner) apart = refl
+none_now (phase.Seek owner seeking) apart = refl
+none_now (phase.Gain owner seeking) apart = refl
 none_now (phase.Raise name owner) apart = refl
 none_now (phase.Note name owner) apart = refl
 none_now (phase.Probe version keeping) apart = refl
@@ -681,6 +752,7 @@ none_now (phase.Prepare version keeping) apart = refl
 none_now (phase.Swap keeping) apart = absurd apart
 none_now (phase.Settle keeping) apart = refl
 none_now (phase.Keep given keeping) apart = refl
+none_now (phase.Enter given kept keeping) apart = refl
 none_now (phase.Release owner for) apart = refl
 none_now (phase.Bury owner for) apart = refl
 none_now (phase.Fade owner number for) apart = refl
@@ -707,23 +779,25 @@ prepared_next S first us words new version event n (place, there, last, is, foun
     record { place = place; number = last + 1; version = version; publisher = ap (λ (w : Zones). w.publisher) new_is; there = ap (option_and_then (λ (s : Slot Numbered). s.version)) here; is_next = n }
 
 -- a step that is no swap, of an update
-behind_update : (S : Script) (first : List Record) (us : List Placed) (words new : Zones) (at : Phase) (event : WordEvent) → NoSwap (word_step at) → updates at ≡ true → Makes words (word_step at) event new → Tells S first words us → Follows S first us new (updates at) (after at event)
-    → Behind S first us words new at (after at event)
+behind_update : (S : Script) (first : List Record) (us : List Placed) (words new : Zones) (at : Phase) (event : WordEvent) → NoSwap (word_step at) → updates at ≡ true → Makes words (word_step at) event new → Tells S first words us → Follows S first us new (updates at) (after new at event)
+    → Behind S first us words new at (after new at event)
 behind_update S first us words new at event apart is m t follows = record { later = us; tells = tells_same S first words new us (word_step at) event apart m t; follows = follows; others = λ other alone c. others_none S first us us words new other (alone is) c; grown = inl (refl, none_now at apart, leaves_step words new (word_step at) event apart m) }
 
 -- a step that is no update's
-behind_owner : (S : Script) (first : List Record) (us : List Placed) (words new : Zones) (at : Phase) (event : WordEvent) → OfOwner (word_step at) → Makes words (word_step at) event new → Tells S first words us → Follows S first us new (updates at) (after at event)
-    → Behind S first us words new at (after at event)
+behind_owner : (S : Script) (first : List Record) (us : List Placed) (words new : Zones) (at : Phase) (event : WordEvent) → OfOwner (word_step at) → Makes words (word_step at) event new → Tells S first words us → Follows S first us new (updates at) (after new at event)
+    → Behind S first us words new at (after new at event)
 behind_owner S first us words new at event of m t follows =
     record { later = us; tells = tells_same S first words new us (word_step at) event (owner_no_swap (word_step at) of) m t; follows = follows; others = λ other alone c. owner_keeps S first us words new t.cell (word_step at) event other of t.shows m c; grown = inl (refl, none_now at (owner_no_swap (word_step at) of), leaves_step words new (word_step at) event (owner_no_swap (word_step at) of) m) }
 
-behind_swap : (S : Script) (first : List Record) (us : List Placed) (words new : Zones) (keeping : Keeping) (event : WordEvent) → SwapsNext S first us words → Makes {T = Numbered} words word.Swap event new → Tells S first words us → Behind S first us words new (phase.Swap keeping) (after (phase.Swap keeping) event)
+behind_swap : (S : Script) (first : List Record) (us : List Placed) (words new : Zones) (keeping : Keeping) (event : WordEvent) → SwapsNext S first us words → Makes {T = Numbered} words word.Swap event new → Tells S first words us → Behind S first us words new (phase.Swap keeping) (after new (phase.Swap keeping) event)
 behind_swap S first us words new keeping event n m t =
     record { later = us ++ placed_next S first us n.version n.is_next ∷ []; tells = tells_swapped S first words new us event n m t; follows = (tt, refl); others = λ other alone c. others_none S first us (us ++ placed_next S first us n.version n.is_next ∷ []) words new other (alone refl) c; grown = inr (placed_next S first us n.version n.is_next, refl, refl, refl, n.is_next.mine) }
 
-pub behind : (S : Script) (first : List Record) (us : List Placed) (words new : Zones) (at : Phase) (event : WordEvent) → Makes words (word_step at) event new → Tells S first words us → Coherent S first us words at → Behind S first us words new at (after at event)
+pub behind : (S : Script) (first : List Record) (us : List Placed) (words new : Zones) (at : Phase) (event : WordEvent) → Makes words (word_step at) event new → Tells S first words us → Coherent S first us words at → Behind S first us words new at (after new at event)
 behind S first us words new (phase.Load name) event m t c = behind_owner S first us words new (phase.Load name) event tt m t (load_follows S first us new name event)
 behind S first us words new (phase.Look name owner) event m t c = behind_owner S first us words new (phase.Look name owner) event tt m t (look_follows S first us new name owner event)
+behind S first us words new (phase.Seek owner seeking) event m t c = behind_owner S first us words new (phase.Seek owner seeking) event tt m t (seek_follows S first us new owner seeking event)
+behind S first us words new (phase.Gain owner seeking) event m t c = behind_owner S first us words new (phase.Gain owner seeking) event tt m t (gain_follows S first us new owner seeking event)
 behind S first us words new (phase.Raise name owner) event m t c = behind_owner S first us words new (phase.Raise name owner) event tt m t (raise_follows S first us new name owner event)
 behind S first us words new (phase.Note name owner) event m t c = behind_owner S first us words new (phase.Note name owner) event tt m t (note_follows S first us new name owner event)
 behind S first us words new (phase.Probe version keeping) event m t c = behind_update S first us words new (phase.Probe version keeping) event tt refl m t (probe_follows S first us new version keeping c event)
@@ -731,6 +805,7 @@ behind S first us words new (phase.Prepare version keeping) event m t c = behind
 behind S first us words new (phase.Swap keeping) event m t c = behind_swap S first us words new keeping event c m t
 behind S first us words new (phase.Settle keeping) event m t c = behind_update S first us words new (phase.Settle keeping) event tt refl m t (settle_follows S first us new keeping event)
 behind S first us words new (phase.Keep given keeping) event m t c = behind_update S first us words new (phase.Keep given keeping) event tt refl m t (keep_follows S first us new given keeping event)
+behind S first us words new (phase.Enter given kept keeping) event m t c = behind_update S first us words new (phase.Enter given kept keeping) event tt refl m t (enter_follows S first us new given kept keeping event)
 behind S first us words new (phase.Release at for) event m t c = behind_owner S first us words new (phase.Release at for) event tt m t (release_follows S first us new at for event)
 behind S first us words new (phase.Bury at for) event m t c = behind_owner S first us words new (phase.Bury at for) event tt m t (bury_follows S first us new at for event)
 behind S first us words new (phase.Fade at number for) event m t c = behind_owner S first us words new (phase.Fade at number for) event tt m t (fade_follows S first us new at number for event)

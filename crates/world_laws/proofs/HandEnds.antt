@@ -1,5 +1,6 @@
 -- What is in hand where a call begins, and where it ends.
-use Rattle.std.proofs.Common.{◌≡◌, refl, sym, ap, ◌∙◌, subst, ℕ, ◌+◌, ◌-◌, ◌≤◌, Bool, true, false, inl, inr, List, [], ◌∷◌, ◌++◌, length, arith, Option, Some, None, length-append}
+use Rattle.std.proofs.Common.{◌≡◌, refl, sym, ap, ◌∙◌, subst, ℕ, ◌+◌, ◌-◌, ◌≤◌, Bool, true, false, inl, inr, List, [], ◌∷◌, ◌++◌, length, drop, arith, Option, Some, None, length-append}
+use Rattle.std.proofs.lemmas.List.{append-nil, map-append, drop-map}
 use Rattle.std.specs.Prelude.{◌==◌, ◌||◌, nat_lt, remove, bytes_eq, if◌then◌else◌}
 use Rattle.std.proofs.lemmas.Bool.{cases_Bool, ltb-true, ltb-false}
 use Rattle.std.proofs.lemmas.Slice.Eq.{bytes_eq-Decides}
@@ -10,7 +11,11 @@ use Rattle.world_run.specs.declared.phase.Phase.{Phase}
 use Rattle.world_run.specs.declared.phase.Phase.TheVariants as phase
 use Rattle.world_run.specs.declared.phase.Progress.TheVariants.{On, Done}
 use Rattle.world_run.specs.declared.phase.End.{End}
-use Rattle.world_run.specs.declared.phase.End.TheVariants.{Owned, OwnedWeakly, Told, NoSlot, Kept}
+use Rattle.world_run.specs.declared.phase.End.TheVariants.{Owned, OwnedWeakly, Told, NoSlot, Kept, Sent}
+use Rattle.world_run.specs.declared.entries.Entry.{Entry}
+use Rattle.world_run.specs.declared.phase.Keeping.{Keeping}
+use Rattle.world_run.specs.declared.sending.Sending.{Sending}
+use Rattle.world_run.specs.Entries.{owners_in, leaving}
 use Rattle.world_run.specs.declared.phase.Purpose.TheVariants as purpose
 use Rattle.world_run.specs.declared.names.Named.{Named}
 use Rattle.world_run.specs.declared.calls.UnderWay.{UnderWay}
@@ -18,50 +23,72 @@ use Rattle.world_run.specs.declared.step.Answer.{Answer}
 use Rattle.zone_tree.specs.Version.{Version as Numbered}
 use Rattle.world_run.specs.declared.phase.Purpose.{Purpose}
 use Rattle.world_run.specs.Phases.{is_for_update, updates}
-use Rattle.world_run.specs.World.{owner_of, without_name, oldest_kept, names_at, weak_names_at, kept_at}
+use Rattle.world_run.specs.World.{owner_of, without_name, oldest_kept, names_at, weak_names_at, kept_at, entries_at}
 use Rattle.world_laws.proofs.OtherCalls.{any_update}
 use Rattle.world_laws.proofs.HandLemmas.{Hand, Seat, HandIs, AllFit, Seated, times, times_append, fit_append, fit_front, fit_back, seated_as}
 use Rattle.world_laws.proofs.HandLemmas.Hand.{holds, has, weakly}
-use Rattle.world_laws.proofs.HandSteps.{Zones, seat, phase_seats, oldest_seats, OldestIn, swapped_for, swapped_in}
+use Rattle.world_laws.proofs.HandSteps.{Zones, Stays, AsStays, seat, phase_seats, oldest_seats, weak_seats, entry_seats, serial_of_entry, staying, early_seats, late_seats, StaysIn, swapped_for, swapped_in}
 use Rattle.world_laws.proofs.HandTurns.{times_four, fit_four, fits_four}
-use Rattle.world_laws.proofs.HandWorld.{seats_as, both_seats, kept_seats, kept_left, call_seats, AllOldest, swaps_of, reserved_by, weak_reserved_by, named_by, rest_seats, Open, nothing_apart}
+use Rattle.world_laws.proofs.HandWorld.{Store, stays_of, store_left, seats_as, both_seats, kept_seats, kept_left, call_seats, AllStay, swaps_of, reserved_by, weak_reserved_by, named_by, rest_seats, Open, nothing_apart}
 
 -- the oldest version that is kept, and the others
 oldest_apart : (from keep : ℕ) (kept : List ℕ) → oldest_seats from (oldest_kept keep kept) ++ kept_left from keep kept true ≡ kept_seats from kept
 oldest_apart from keep [] = elim (cases_Bool (nat_lt keep 0)) [ inl more ↦ rw more refl | inr all ↦ rw all refl ]
 oldest_apart from keep (o ∷ os) = elim (cases_Bool (nat_lt keep (length (o ∷ os)))) [ inl more ↦ rw more refl | inr all ↦ rw all refl ]
 
--- it moves between an update's hand and the others, behind names
-seated_kept : (owners : List Owner) (last from keep : ℕ) (names weaks : List Named) (kept : List ℕ) (calls : List UnderWay) → Seated owners (rest_seats last from names weaks kept keep calls false) → Seated owners (oldest_seats from (oldest_kept keep kept) ++ rest_seats last from names weaks kept keep calls true)
-seated_kept owners last from keep names weaks kept calls s =
-    let e = oldest_apart from keep kept in
-    let all = fits_four owners [] (both_seats names weaks) (kept_seats from kept) (call_seats last from calls) s.fit in
-    let kept_fit = subst (λ ss. AllFit owners ss) (sym e) all.2 in
-    seated_as owners _ (oldest_seats from (oldest_kept keep kept) ++ rest_seats last from names weaks kept keep calls true)
-    (fit_four owners (oldest_seats from (oldest_kept keep kept)) (both_seats names weaks) (kept_left from keep kept true) (call_seats last from calls)
-    (fit_front owners (oldest_seats from (oldest_kept keep kept)) (kept_left from keep kept true) kept_fit) all.1
-    (fit_back owners (oldest_seats from (oldest_kept keep kept)) (kept_left from keep kept true) kept_fit) all.3)
+-- that and the window move between an update's hand and the others
+store_times : (i from : ℕ) (store : Store) → times i (early_seats from (stays_of store) (stays_of store).oldest) + times i (store_left from store true) ≡ times i (store_left from store false)
+store_times i from store =
+    let a = times_append i (oldest_seats from (oldest_kept store.keep store.kept)) (weak_seats (owners_in store.entries)) in
+    let b = times_append i (kept_left from store.keep store.kept true) [] in
+    let c = times_append i (kept_seats from store.kept) (weak_seats (owners_in store.entries)) in
+    let d = times_append i (oldest_seats from (oldest_kept store.keep store.kept)) (kept_left from store.keep store.kept true) in
+    let e : times i (oldest_seats from (oldest_kept store.keep store.kept) ++ kept_left from store.keep store.kept true) ≡ times i (kept_seats from store.kept) = ap (times i) (oldest_apart from store.keep store.kept) in
+    omega (arith, a, b, c, d, e)
+
+store_out : (owners : List Owner) (from : ℕ) (store : Store) → AllFit owners (store_left from store false) → AllFit owners (early_seats from (stays_of store) (stays_of store).oldest) × AllFit owners (store_left from store true)
+store_out owners from store f =
+    let kept_fit = subst (λ ss. AllFit owners ss) (sym (oldest_apart from store.keep store.kept)) (fit_front owners (kept_seats from store.kept) (weak_seats (owners_in store.entries)) f) in
+    let window_fit = fit_back owners (kept_seats from store.kept) (weak_seats (owners_in store.entries)) f in (
+      fit_append owners (oldest_seats from (oldest_kept store.keep store.kept)) (weak_seats (owners_in store.entries))
+      (fit_front owners (oldest_seats from (oldest_kept store.keep store.kept)) (kept_left from store.keep store.kept true) kept_fit) window_fit,
+      fit_append owners (kept_left from store.keep store.kept true) [] (fit_back owners (oldest_seats from (oldest_kept store.keep store.kept)) (kept_left from store.keep store.kept true) kept_fit) tt,
+    )
+
+store_in : (owners : List Owner) (from : ℕ) (store : Store) → AllFit owners (early_seats from (stays_of store) (stays_of store).oldest) → AllFit owners (store_left from store true) → AllFit owners (store_left from store false)
+store_in owners from store f g =
+    fit_append owners (kept_seats from store.kept) (weak_seats (owners_in store.entries))
+    (subst (λ ss. AllFit owners ss) (oldest_apart from store.keep store.kept)
+    (fit_append owners (oldest_seats from (oldest_kept store.keep store.kept)) (kept_left from store.keep store.kept true)
+    (fit_front owners (oldest_seats from (oldest_kept store.keep store.kept)) (weak_seats (owners_in store.entries)) f)
+    (fit_front owners (kept_left from store.keep store.kept true) [] g)))
+    (fit_back owners (oldest_seats from (oldest_kept store.keep store.kept)) (weak_seats (owners_in store.entries)) f)
+
+seated_kept : (owners : List Owner) (last from : ℕ) (names weaks : List Named) (store : Store) (calls : List UnderWay) → Seated owners (rest_seats last from names weaks store calls false) → Seated owners (early_seats from (stays_of store) (stays_of store).oldest ++ rest_seats last from names weaks store calls true)
+seated_kept owners last from names weaks store calls s =
+    let early = early_seats from (stays_of store) (stays_of store).oldest in
+    let all = fits_four owners [] (both_seats names weaks) (store_left from store false) (call_seats last from (stays_of store) calls) s.fit in
+    let out = store_out owners from store all.2 in
+    seated_as owners _ (early ++ rest_seats last from names weaks store calls true)
+    (fit_four owners early (both_seats names weaks) (store_left from store true) (call_seats last from (stays_of store) calls) out.0 all.1 out.1 all.3)
     (λ i. (
-    let a = times_four i (oldest_seats from (oldest_kept keep kept)) (both_seats names weaks) (kept_left from keep kept true) (call_seats last from calls) in
-    let b = times_four i [] (both_seats names weaks) (kept_seats from kept) (call_seats last from calls) in
-    let d = times_append i (oldest_seats from (oldest_kept keep kept)) (kept_left from keep kept true) in
-    let f : times i (oldest_seats from (oldest_kept keep kept) ++ kept_left from keep kept true) ≡ times i (kept_seats from kept) = ap (times i) e in
-    omega (arith, a, b, d, f)
+    let a = times_four i early (both_seats names weaks) (store_left from store true) (call_seats last from (stays_of store) calls) in
+    let b = times_four i [] (both_seats names weaks) (store_left from store false) (call_seats last from (stays_of store) calls) in
+    let d = store_times i from store in
+    omega (arith, a, b, d)
     )) s
 
-seated_given : (owners : List Owner) (last from keep : ℕ) (names weaks : List Named) (kept : List ℕ) (calls : List UnderWay) → Seated owners (oldest_seats from (oldest_kept keep kept) ++ rest_seats last from names weaks kept keep calls true) → Seated owners (rest_seats last from names weaks kept keep calls false)
-seated_given owners last from keep names weaks kept calls s =
-    let e = oldest_apart from keep kept in
-    let all = fits_four owners (oldest_seats from (oldest_kept keep kept)) (both_seats names weaks) (kept_left from keep kept true) (call_seats last from calls) s.fit in
-    seated_as owners _ (rest_seats last from names weaks kept keep calls false)
-    (fit_four owners [] (both_seats names weaks) (kept_seats from kept) (call_seats last from calls) tt all.1
-    (subst (λ ss. AllFit owners ss) e (fit_append owners (oldest_seats from (oldest_kept keep kept)) (kept_left from keep kept true) all.0 all.2)) all.3)
+seated_given : (owners : List Owner) (last from : ℕ) (names weaks : List Named) (store : Store) (calls : List UnderWay) → Seated owners (early_seats from (stays_of store) (stays_of store).oldest ++ rest_seats last from names weaks store calls true) → Seated owners (rest_seats last from names weaks store calls false)
+seated_given owners last from names weaks store calls s =
+    let early = early_seats from (stays_of store) (stays_of store).oldest in
+    let all = fits_four owners early (both_seats names weaks) (store_left from store true) (call_seats last from (stays_of store) calls) s.fit in
+    seated_as owners _ (rest_seats last from names weaks store calls false)
+    (fit_four owners [] (both_seats names weaks) (store_left from store false) (call_seats last from (stays_of store) calls) tt all.1 (store_in owners from store all.0 all.2) all.3)
     (λ i. (
-    let a = times_four i (oldest_seats from (oldest_kept keep kept)) (both_seats names weaks) (kept_left from keep kept true) (call_seats last from calls) in
-    let b = times_four i [] (both_seats names weaks) (kept_seats from kept) (call_seats last from calls) in
-    let d = times_append i (oldest_seats from (oldest_kept keep kept)) (kept_left from keep kept true) in
-    let f : times i (oldest_seats from (oldest_kept keep kept) ++ kept_left from keep kept true) ≡ times i (kept_seats from kept) = ap (times i) e in
-    omega (arith, a, b, d, f)
+    let a = times_four i early (both_seats names weaks) (store_left from store true) (call_seats last from (stays_of store) calls) in
+    let b = times_four i [] (both_seats names weaks) (store_left from store false) (call_seats last from (stays_of store) calls) in
+    let d = store_times i from store in
+    omega (arith, a, b, d)
     )) s
 
 -- one version more is kept, behind the others
@@ -131,8 +158,8 @@ named_push name [] x = omega arith
 named_push name (n ∷ names) x = let more = named_push name names x in omega (arith, more)
 
 -- a call that gives an answer alone has nothing in hand
-told_closed : (words : Zones) (names weaks : List Named) (kept : List ℕ) (keep : ℕ) (calls : List UnderWay) (given : Answer) → Open words names weaks kept keep calls (Done (Told given)) → Open words names weaks kept keep calls nothing_apart
-told_closed words names weaks kept keep calls given o = record {
+told_closed : (words : Zones) (names weaks : List Named) (store : Store) (calls : List UnderWay) (given : Answer) → Open words names weaks store calls (Done (Told given)) → Open words names weaks store calls nothing_apart
+told_closed words names weaks store calls given o = record {
   cell = o.cell;
   shows = o.shows;
   last = o.last;
@@ -180,12 +207,12 @@ given_seats owners x more both kept_ones calls fits count s =
     omega (arith, a, b, d)
     )) s
 
-owned_closed : (words : Zones) (names weaks : List Named) (kept : List ℕ) (keep : ℕ) (calls : List UnderWay) (name : List ℕ) (owner number : ℕ) → Open words names weaks kept keep calls (Done (Owned name owner number)) → Open words (names ++ record { name = name; owner = owner } ∷ []) weaks kept keep calls nothing_apart
-owned_closed words names weaks kept keep calls name owner number o =
+owned_closed : (words : Zones) (names weaks : List Named) (store : Store) (calls : List UnderWay) (name : List ℕ) (owner number : ℕ) → Open words names weaks store calls (Done (Owned name owner number)) → Open words (names ++ record { name = name; owner = owner } ∷ []) weaks kept keep calls nothing_apart
+owned_closed words names weaks store calls name owner number o =
     let x : Named = record { name = name; owner = owner } in
-    let kept_ones = kept_left o.from keep kept (any_update calls) in
+    let kept_ones = store_left o.from store (any_update calls) in
     let push = name_push holds names x in
-    let all = fits_four words.owners (seat owner holds ∷ []) (both_seats names weaks) kept_ones (call_seats o.last o.from calls) o.seated.fit in
+    let all = fits_four words.owners (seat owner holds ∷ []) (both_seats names weaks) kept_ones (call_seats o.last o.from (stays_of store) calls) o.seated.fit in
     let front = fit_front words.owners (seats_as holds names) (seats_as weakly weaks) all.1 in
     let behind = fit_back words.owners (seats_as holds names) (seats_as weakly weaks) all.1 in
     record {
@@ -202,7 +229,7 @@ owned_closed words names weaks kept keep calls name owner number o =
       one = o.one;
       still = tt;
       stills = o.stills;
-      seated = given_seats words.owners (seat owner holds) (both_seats (names ++ x ∷ []) weaks) (both_seats names weaks) kept_ones (call_seats o.last o.from calls)
+      seated = given_seats words.owners (seat owner holds) (both_seats (names ++ x ∷ []) weaks) (both_seats names weaks) kept_ones (call_seats o.last o.from (stays_of store) calls)
           (subst (λ ss. AllFit words.owners (ss ++ seats_as weakly weaks)) (sym push) (fit_append words.owners (seats_as holds names ++ seat owner holds ∷ []) (seats_as weakly weaks) (fit_append words.owners (seats_as holds names) (seat owner holds ∷ []) front all.0) behind))
           (λ i. subst (λ ss. times i (ss ++ seats_as weakly weaks) ≡ times i (seat owner holds ∷ []) + times i (both_seats names weaks)) (sym push) (both_push i (seats_as holds names) (seats_as weakly weaks) (seat owner holds))) o.seated;
       publisher = o.publisher;
@@ -211,12 +238,12 @@ owned_closed words names weaks kept keep calls name owner number o =
       calls_once = o.calls_once;
     }
 
-weakly_closed : (words : Zones) (names weaks : List Named) (kept : List ℕ) (keep : ℕ) (calls : List UnderWay) (name : List ℕ) (owner number : ℕ) → Open words names weaks kept keep calls (Done (OwnedWeakly name owner number)) → Open words names (weaks ++ record { name = name; owner = owner } ∷ []) kept keep calls nothing_apart
-weakly_closed words names weaks kept keep calls name owner number o =
+weakly_closed : (words : Zones) (names weaks : List Named) (store : Store) (calls : List UnderWay) (name : List ℕ) (owner number : ℕ) → Open words names weaks store calls (Done (OwnedWeakly name owner number)) → Open words names (weaks ++ record { name = name; owner = owner } ∷ []) kept keep calls nothing_apart
+weakly_closed words names weaks store calls name owner number o =
     let x : Named = record { name = name; owner = owner } in
-    let kept_ones = kept_left o.from keep kept (any_update calls) in
+    let kept_ones = store_left o.from store (any_update calls) in
     let push = name_push weakly weaks x in
-    let all = fits_four words.owners (seat owner weakly ∷ []) (both_seats names weaks) kept_ones (call_seats o.last o.from calls) o.seated.fit in
+    let all = fits_four words.owners (seat owner weakly ∷ []) (both_seats names weaks) kept_ones (call_seats o.last o.from (stays_of store) calls) o.seated.fit in
     let front = fit_front words.owners (seats_as holds names) (seats_as weakly weaks) all.1 in
     let behind = fit_back words.owners (seats_as holds names) (seats_as weakly weaks) all.1 in
     record {
@@ -233,7 +260,7 @@ weakly_closed words names weaks kept keep calls name owner number o =
       one = o.one;
       still = tt;
       stills = o.stills;
-      seated = given_seats words.owners (seat owner weakly) (both_seats names (weaks ++ x ∷ [])) (both_seats names weaks) kept_ones (call_seats o.last o.from calls)
+      seated = given_seats words.owners (seat owner weakly) (both_seats names (weaks ++ x ∷ [])) (both_seats names weaks) kept_ones (call_seats o.last o.from (stays_of store) calls)
           (subst (λ ss. AllFit words.owners (seats_as holds names ++ ss)) (sym push) (fit_append words.owners (seats_as holds names) (seats_as weakly weaks ++ seat owner weakly ∷ []) front (fit_append words.owners (seats_as weakly weaks) (seat owner weakly ∷ []) behind all.0)))
           (λ i. subst (λ ss. times i (seats_as holds names ++ ss) ≡ times i (seat owner weakly ∷ []) + times i (both_seats names weaks)) (sym push) (weak_push i (seats_as holds names) (seats_as weakly weaks) (seat owner weakly))) o.seated;
       publisher = o.publisher;
@@ -242,8 +269,8 @@ weakly_closed words names weaks kept keep calls name owner number o =
       calls_once = o.calls_once;
     }
 
-no_slot_closed : (words : Zones) (names weaks : List Named) (kept : List ℕ) (keep : ℕ) (calls : List UnderWay) (head : Heading) → Open words names weaks kept keep calls (Done (NoSlot head)) → Open words names weaks kept keep calls nothing_apart
-no_slot_closed words names weaks kept keep calls head o =
+no_slot_closed : (words : Zones) (names weaks : List Named) (store : Store) (calls : List UnderWay) (head : Heading) → Open words names weaks store calls (Done (NoSlot head)) → Open words names weaks store calls nothing_apart
+no_slot_closed words names weaks store calls head o =
     let none = o.alone refl in
     record {
       cell = o.cell;
@@ -259,7 +286,7 @@ no_slot_closed words names weaks kept keep calls head o =
       one = o.one;
       still = tt;
       stills = o.stills;
-      seated = rw none (seated_given words.owners o.last o.from keep names weaks kept calls o.seated);
+      seated = rw none (seated_given words.owners o.last o.from names weaks store calls o.seated);
       publisher = o.publisher;
       names_once = o.names_once;
       weak_once = o.weak_once;
@@ -267,82 +294,113 @@ no_slot_closed words names weaks kept keep calls head o =
     }
 
 -- where no update is under way nothing goes by what is kept, nor by the last number
-same_phase : (at : Phase) (one two from first : ℕ) → updates at ≡ false → phase_seats one from at ≡ phase_seats two first at
-same_phase (phase.Load name) one two from first e = refl
-same_phase (phase.Look name owner) one two from first e = refl
-same_phase (phase.Raise name owner) one two from first e = refl
-same_phase (phase.Note name owner) one two from first e = refl
-same_phase (phase.Probe version keeping) one two from first e = absurd (let wrong = e in cc)
-same_phase (phase.Prepare version keeping) one two from first e = absurd (let wrong = e in cc)
-same_phase (phase.Swap keeping) one two from first e = absurd (let wrong = e in cc)
-same_phase (phase.Settle keeping) one two from first e = absurd (let wrong = e in cc)
-same_phase (phase.Keep given keeping) one two from first e = absurd (let wrong = e in cc)
-same_phase (phase.Release owner purpose.Drop) one two from first e = refl
-same_phase (phase.Release owner (purpose.Publish keeping kept)) one two from first e = absurd (let wrong = e in cc)
-same_phase (phase.Release owner (purpose.Oldest head kept)) one two from first e = absurd (let wrong = e in cc)
-same_phase (phase.Bury owner purpose.Drop) one two from first e = refl
-same_phase (phase.Bury owner (purpose.Publish keeping kept)) one two from first e = absurd (let wrong = e in cc)
-same_phase (phase.Bury owner (purpose.Oldest head kept)) one two from first e = absurd (let wrong = e in cc)
-same_phase (phase.Fade owner None purpose.Drop) one two from first e = refl
-same_phase (phase.Fade owner (Some number) purpose.Drop) one two from first e = refl
-same_phase (phase.Reset owner number purpose.Drop) one two from first e = refl
-same_phase (phase.Free owner number purpose.Drop) one two from first e = refl
-same_phase (phase.Fade owner number (purpose.Publish keeping kept)) one two from first e = absurd (let wrong = e in cc)
-same_phase (phase.Reset owner number (purpose.Publish keeping kept)) one two from first e = absurd (let wrong = e in cc)
-same_phase (phase.Free owner number (purpose.Publish keeping kept)) one two from first e = absurd (let wrong = e in cc)
-same_phase (phase.Fade owner number (purpose.Oldest head kept)) one two from first e = absurd (let wrong = e in cc)
-same_phase (phase.Reset owner number (purpose.Oldest head kept)) one two from first e = absurd (let wrong = e in cc)
-same_phase (phase.Free owner number (purpose.Oldest head kept)) one two from first e = absurd (let wrong = e in cc)
+same_phase : (at : Phase) (one two from first : ℕ) (stays later : Stays) → updates at ≡ false → phase_seats one from stays at ≡ phase_seats two first later at
+same_phase (phase.Load name) one two from first stays later e = refl
+same_phase (phase.Look name owner) one two from first stays later e = refl
+same_phase (phase.Seek owner seeking) one two from first stays later e = refl
+same_phase (phase.Gain owner seeking) one two from first stays later e = refl
+same_phase (phase.Raise name owner) one two from first stays later e = refl
+same_phase (phase.Note name owner) one two from first stays later e = refl
+same_phase (phase.Probe version keeping) one two from first stays later e = absurd (let wrong = e in cc)
+same_phase (phase.Prepare version keeping) one two from first stays later e = absurd (let wrong = e in cc)
+same_phase (phase.Swap keeping) one two from first stays later e = absurd (let wrong = e in cc)
+same_phase (phase.Settle keeping) one two from first stays later e = absurd (let wrong = e in cc)
+same_phase (phase.Keep given keeping) one two from first stays later e = absurd (let wrong = e in cc)
+same_phase (phase.Enter given kept keeping) one two from first stays later e = absurd (let wrong = e in cc)
+same_phase (phase.Release owner purpose.Drop) one two from first stays later e = refl
+same_phase (phase.Release owner (purpose.Sent sending owners)) one two from first stays later e = refl
+same_phase (phase.Release owner (purpose.Publish keeping kept entry)) one two from first stays later e = absurd (let wrong = e in cc)
+same_phase (phase.Release owner (purpose.Oldest head kept entry leaving)) one two from first stays later e = absurd (let wrong = e in cc)
+same_phase (phase.Release owner (purpose.Leaves head kept entry leaving)) one two from first stays later e = absurd (let wrong = e in cc)
+same_phase (phase.Bury owner purpose.Drop) one two from first stays later e = refl
+same_phase (phase.Bury owner (purpose.Sent sending owners)) one two from first stays later e = refl
+same_phase (phase.Bury owner (purpose.Publish keeping kept entry)) one two from first stays later e = absurd (let wrong = e in cc)
+same_phase (phase.Bury owner (purpose.Oldest head kept entry leaving)) one two from first stays later e = absurd (let wrong = e in cc)
+same_phase (phase.Bury owner (purpose.Leaves head kept entry leaving)) one two from first stays later e = absurd (let wrong = e in cc)
+same_phase (phase.Fade owner None purpose.Drop) one two from first stays later e = refl
+same_phase (phase.Fade owner None (purpose.Sent sending owners)) one two from first stays later e = refl
+same_phase (phase.Fade owner (Some number) purpose.Drop) one two from first stays later e = refl
+same_phase (phase.Fade owner (Some number) (purpose.Sent sending owners)) one two from first stays later e = refl
+same_phase (phase.Reset owner number purpose.Drop) one two from first stays later e = refl
+same_phase (phase.Reset owner number (purpose.Sent sending owners)) one two from first stays later e = refl
+same_phase (phase.Free owner number purpose.Drop) one two from first stays later e = refl
+same_phase (phase.Free owner number (purpose.Sent sending owners)) one two from first stays later e = refl
+same_phase (phase.Fade owner number (purpose.Publish keeping kept entry)) one two from first stays later e = absurd (let wrong = e in cc)
+same_phase (phase.Reset owner number (purpose.Publish keeping kept entry)) one two from first stays later e = absurd (let wrong = e in cc)
+same_phase (phase.Free owner number (purpose.Publish keeping kept entry)) one two from first stays later e = absurd (let wrong = e in cc)
+same_phase (phase.Fade owner number (purpose.Oldest head kept entry leaving)) one two from first stays later e = absurd (let wrong = e in cc)
+same_phase (phase.Fade owner number (purpose.Leaves head kept entry leaving)) one two from first stays later e = absurd (let wrong = e in cc)
+same_phase (phase.Reset owner number (purpose.Oldest head kept entry leaving)) one two from first stays later e = absurd (let wrong = e in cc)
+same_phase (phase.Reset owner number (purpose.Leaves head kept entry leaving)) one two from first stays later e = absurd (let wrong = e in cc)
+same_phase (phase.Free owner number (purpose.Oldest head kept entry leaving)) one two from first stays later e = absurd (let wrong = e in cc)
+same_phase (phase.Free owner number (purpose.Leaves head kept entry leaving)) one two from first stays later e = absurd (let wrong = e in cc)
 
-old_phase : (at : Phase) (oldest : Option ℕ) → updates at ≡ false → OldestIn oldest at
-old_phase (phase.Load name) oldest e = tt
-old_phase (phase.Look name owner) oldest e = tt
-old_phase (phase.Raise name owner) oldest e = tt
-old_phase (phase.Note name owner) oldest e = tt
-old_phase (phase.Probe version keeping) oldest e = absurd (let wrong = e in cc)
-old_phase (phase.Prepare version keeping) oldest e = absurd (let wrong = e in cc)
-old_phase (phase.Swap keeping) oldest e = absurd (let wrong = e in cc)
-old_phase (phase.Settle keeping) oldest e = absurd (let wrong = e in cc)
-old_phase (phase.Keep given keeping) oldest e = absurd (let wrong = e in cc)
-old_phase (phase.Release owner purpose.Drop) oldest e = tt
-old_phase (phase.Release owner (purpose.Publish keeping kept)) oldest e = absurd (let wrong = e in cc)
-old_phase (phase.Release owner (purpose.Oldest head kept)) oldest e = tt
-old_phase (phase.Bury owner purpose.Drop) oldest e = tt
-old_phase (phase.Bury owner (purpose.Publish keeping kept)) oldest e = absurd (let wrong = e in cc)
-old_phase (phase.Bury owner (purpose.Oldest head kept)) oldest e = tt
-old_phase (phase.Fade owner number purpose.Drop) oldest e = tt
-old_phase (phase.Reset owner number purpose.Drop) oldest e = tt
-old_phase (phase.Free owner number purpose.Drop) oldest e = tt
-old_phase (phase.Fade owner number (purpose.Publish keeping kept)) oldest e = absurd (let wrong = e in cc)
-old_phase (phase.Reset owner number (purpose.Publish keeping kept)) oldest e = absurd (let wrong = e in cc)
-old_phase (phase.Free owner number (purpose.Publish keeping kept)) oldest e = absurd (let wrong = e in cc)
-old_phase (phase.Fade owner number (purpose.Oldest head kept)) oldest e = tt
-old_phase (phase.Reset owner number (purpose.Oldest head kept)) oldest e = tt
-old_phase (phase.Free owner number (purpose.Oldest head kept)) oldest e = tt
+old_phase : (at : Phase) (stays : Stays) → updates at ≡ false → StaysIn stays at
+old_phase (phase.Load name) stays e = tt
+old_phase (phase.Look name owner) stays e = tt
+old_phase (phase.Seek owner seeking) stays e = tt
+old_phase (phase.Gain owner seeking) stays e = tt
+old_phase (phase.Raise name owner) stays e = tt
+old_phase (phase.Note name owner) stays e = tt
+old_phase (phase.Probe version keeping) stays e = absurd (let wrong = e in cc)
+old_phase (phase.Prepare version keeping) stays e = absurd (let wrong = e in cc)
+old_phase (phase.Swap keeping) stays e = absurd (let wrong = e in cc)
+old_phase (phase.Settle keeping) stays e = absurd (let wrong = e in cc)
+old_phase (phase.Keep given keeping) stays e = absurd (let wrong = e in cc)
+old_phase (phase.Enter given kept keeping) stays e = absurd (let wrong = e in cc)
+old_phase (phase.Release owner purpose.Drop) stays e = tt
+old_phase (phase.Release owner (purpose.Sent sending owners)) stays e = tt
+old_phase (phase.Release owner (purpose.Publish keeping kept entry)) stays e = absurd (let wrong = e in cc)
+old_phase (phase.Release owner (purpose.Oldest head kept entry leaving)) stays e = tt
+old_phase (phase.Release owner (purpose.Leaves head kept entry leaving)) stays e = tt
+old_phase (phase.Bury owner purpose.Drop) stays e = tt
+old_phase (phase.Bury owner (purpose.Sent sending owners)) stays e = tt
+old_phase (phase.Bury owner (purpose.Publish keeping kept entry)) stays e = absurd (let wrong = e in cc)
+old_phase (phase.Bury owner (purpose.Oldest head kept entry leaving)) stays e = tt
+old_phase (phase.Bury owner (purpose.Leaves head kept entry leaving)) stays e = tt
+old_phase (phase.Fade owner number purpose.Drop) stays e = tt
+old_phase (phase.Fade owner number (purpose.Sent sending owners)) stays e = tt
+old_phase (phase.Reset owner number purpose.Drop) stays e = tt
+old_phase (phase.Reset owner number (purpose.Sent sending owners)) stays e = tt
+old_phase (phase.Free owner number purpose.Drop) stays e = tt
+old_phase (phase.Free owner number (purpose.Sent sending owners)) stays e = tt
+old_phase (phase.Fade owner number (purpose.Publish keeping kept entry)) stays e = absurd (let wrong = e in cc)
+old_phase (phase.Reset owner number (purpose.Publish keeping kept entry)) stays e = absurd (let wrong = e in cc)
+old_phase (phase.Free owner number (purpose.Publish keeping kept entry)) stays e = absurd (let wrong = e in cc)
+old_phase (phase.Fade owner number (purpose.Oldest head kept entry leaving)) stays e = tt
+old_phase (phase.Fade owner number (purpose.Leaves head kept entry leaving)) stays e = tt
+old_phase (phase.Reset owner number (purpose.Oldest head kept entry leaving)) stays e = tt
+old_phase (phase.Reset owner number (purpose.Leaves head kept entry leaving)) stays e = tt
+old_phase (phase.Free owner number (purpose.Oldest head kept entry leaving)) stays e = tt
+old_phase (phase.Free owner number (purpose.Leaves head kept entry leaving)) stays e = tt
 
 or_false : (a b : Bool) → (a || b) ≡ false → (a ≡ false) × (b ≡ false)
 or_false true b e = absurd (let wrong = e in cc)
 or_false false b e = (refl, e)
 
-same_calls : (calls : List UnderWay) (one two from first : ℕ) → any_update calls ≡ false → call_seats one from calls ≡ call_seats two first calls
-same_calls [] one two from first e = refl
-same_calls (c ∷ cs) one two from first e =
+same_calls : (calls : List UnderWay) (one two from first : ℕ) (stays later : Stays) → any_update calls ≡ false → call_seats one from stays calls ≡ call_seats two first later calls
+same_calls [] one two from first stays later e = refl
+same_calls (c ∷ cs) one two from first stays later e =
     let parts = or_false (updates c.phase) (any_update cs) e in
-    ap (λ ss. ss ++ call_seats one from cs) (same_phase c.phase one two from first parts.0) ∙ ap (λ ss. phase_seats two first c.phase ++ ss) (same_calls cs one two from first parts.1)
+    ap (λ ss. ss ++ call_seats one from stays cs) (same_phase c.phase one two from first stays later parts.0) ∙ ap (λ ss. phase_seats two first later c.phase ++ ss) (same_calls cs one two from first stays later parts.1)
 
-old_calls : (calls : List UnderWay) (oldest : Option ℕ) → any_update calls ≡ false → AllOldest oldest calls
-old_calls [] oldest e = tt
-old_calls (c ∷ cs) oldest e =
-    let parts = or_false (updates c.phase) (any_update cs) e in (old_phase c.phase oldest parts.0, old_calls cs oldest parts.1)
+old_calls : (calls : List UnderWay) (stays : Stays) → any_update calls ≡ false → AllStay stays calls
+old_calls [] stays e = tt
+old_calls (c ∷ cs) stays e =
+    let parts = or_false (updates c.phase) (any_update cs) e in (old_phase c.phase stays parts.0, old_calls cs stays parts.1)
 
 no_swaps_for : (for : Purpose) → is_for_update for ≡ false → swapped_for for ≡ 0
 no_swaps_for purpose.Drop e = refl
-no_swaps_for (purpose.Publish keeping kept) e = absurd (let wrong = e in cc)
-no_swaps_for (purpose.Oldest head kept) e = absurd (let wrong = e in cc)
+no_swaps_for (purpose.Sent sending owners) e = refl
+no_swaps_for (purpose.Publish keeping kept entry) e = absurd (let wrong = e in cc)
+no_swaps_for (purpose.Oldest head kept entry leaving) e = absurd (let wrong = e in cc)
+no_swaps_for (purpose.Leaves head kept entry leaving) e = absurd (let wrong = e in cc)
 
 no_swaps_phase : (at : Phase) → updates at ≡ false → swapped_in at ≡ 0
 no_swaps_phase (phase.Load name) e = refl
 no_swaps_phase (phase.Look name owner) e = refl
+no_swaps_phase (phase.Seek owner seeking) e = refl
+no_swaps_phase (phase.Gain owner seeking) e = refl
 no_swaps_phase (phase.Raise name owner) e = refl
 no_swaps_phase (phase.Note name owner) e = refl
 no_swaps_phase (phase.Probe version keeping) e = refl
@@ -350,6 +408,7 @@ no_swaps_phase (phase.Prepare version keeping) e = refl
 no_swaps_phase (phase.Swap keeping) e = refl
 no_swaps_phase (phase.Settle keeping) e = absurd (let wrong = e in cc)
 no_swaps_phase (phase.Keep given keeping) e = absurd (let wrong = e in cc)
+no_swaps_phase (phase.Enter given kept keeping) e = absurd (let wrong = e in cc)
 no_swaps_phase (phase.Release owner for) e = no_swaps_for for e
 no_swaps_phase (phase.Bury owner for) e = no_swaps_for for e
 no_swaps_phase (phase.Fade owner number for) e = no_swaps_for for e
@@ -364,27 +423,60 @@ no_swaps (c ∷ cs) e =
     let more = no_swaps cs parts.1 in
     omega (arith, one, more)
 
-kept_closed : (words : Zones) (names weaks : List Named) (kept : List ℕ) (keep : ℕ) (calls : List UnderWay) (head : Heading) (owner : ℕ) → Open words names weaks kept keep calls (Done (Kept head owner)) → Open words names weaks (kept_at keep (Kept head owner) kept) keep calls nothing_apart
-kept_closed words names weaks kept keep calls head owner o =
+-- what is kept and in the window behind a call's end
+abbrev pub store_at : End → Store → Store
+store_at end store = record { kept = kept_at store.keep end store.kept; keep = store.keep; entries = entries_at store.window end store.entries; window = store.window }
+
+weak_more : (owners : List ℕ) (owner : ℕ) → weak_seats (owners ++ owner ∷ []) ≡ weak_seats owners ++ seat owner weakly ∷ []
+weak_more [] owner = refl
+weak_more (o ∷ os) owner = ap (λ ss. seat o weakly ∷ ss) (weak_more os owner)
+
+owners_entered : (n : ℕ) (entries : List Entry) (entry : Entry) → owners_in (drop n entries ++ entry ∷ []) ≡ drop n (owners_in entries) ++ entry.owner ∷ []
+owners_entered n entries entry =
+    map-append (λ (e : Entry). e.owner) (drop n entries) (entry ∷ []) ∙ ap (λ os. os ++ entry.owner ∷ []) (sym (drop-map (λ (e : Entry). e.owner) n entries))
+
+-- what stays of the window, and what is entered
+window_now : (store : Store) (head : Heading) (owner : ℕ) (entry : Option Entry) → weak_seats (owners_in (entries_at store.window (Kept head owner entry) store.entries)) ≡ weak_seats (staying (stays_of store) (serial_of_entry entry)) ++ entry_seats entry
+window_now store head owner None = sym (append-nil (weak_seats (owners_in store.entries)))
+window_now store head owner (Some entry) =
+    ap weak_seats (owners_entered (length (leaving store.window store.entries entry.serial.0)) store.entries entry)
+    ∙ weak_more (drop (length (leaving store.window store.entries entry.serial.0)) (owners_in store.entries)) entry.owner
+
+kept_closed : (words : Zones) (names weaks : List Named) (store : Store) (calls : List UnderWay) (head : Heading) (owner : ℕ) (entry : Option Entry) → Open words names weaks store calls (Done (Kept head owner entry)) → Open words names weaks (store_at (Kept head owner entry) store) calls nothing_apart
+kept_closed words names weaks store calls head owner entry o =
     let none = o.alone refl in
     let swaps = no_swaps calls none in
-    let k = kept_now o.from keep kept owner o.last (omega (arith, o.swapped, swaps, o.kept_count)) (let f = o.kept_from in let s = o.swapped in let e : o.settled ≡ o.last = omega (arith, s, swaps) in f ∙ ap (λ n. n - (keep + 1)) e) in
-    let others = same_calls calls o.last o.last o.from k.first none in
-    let all = fits_four words.owners (seat owner (has o.last) ∷ []) (both_seats names weaks) (kept_left o.from keep kept true) (call_seats o.last o.from calls) o.seated.fit in
-    let s : Seated words.owners (rest_seats o.last k.first names weaks k.now keep calls false) =
-    seated_as words.owners _ (rest_seats o.last k.first names weaks k.now keep calls false)
-    (fit_four words.owners [] (both_seats names weaks) (kept_seats k.first k.now) (call_seats o.last k.first calls) tt all.1
-    (subst (λ ss. AllFit words.owners ss) (sym k.seats) (fit_append words.owners (kept_left o.from keep kept true) (seat owner (has o.last) ∷ []) all.2 all.0))
+    let k = kept_now o.from store.keep store.kept owner o.last (omega (arith, o.swapped, swaps, o.kept_count)) (let f = o.kept_from in let s = o.swapped in let e : o.settled ≡ o.last = omega (arith, s, swaps) in f ∙ ap (λ n. n - (store.keep + 1)) e) in
+    let entries = entries_at store.window (Kept head owner entry) store.entries in
+    let next : Store = record { kept = k.now; keep = store.keep; entries = entries; window = store.window } in
+    let others = same_calls calls o.last o.last o.from k.first (stays_of store) (stays_of next) none in
+    let mine = seat owner (has o.last) ∷ late_seats (stays_of store) entry [] in
+    let stay = staying (stays_of store) (serial_of_entry entry) in
+    let all = fits_four words.owners mine (both_seats names weaks) (store_left o.from store true) (call_seats o.last o.from (stays_of store) calls) o.seated.fit in
+    let entry_fit = fit_front words.owners (entry_seats entry) (weak_seats stay) all.0.1 in
+    let stay_fit = fit_back words.owners (entry_seats entry) (weak_seats stay) all.0.1 in
+    let window_is = window_now store head owner entry in
+    let kept_fit = subst (λ ss. AllFit words.owners ss) (sym k.seats) (fit_append words.owners (kept_left o.from store.keep store.kept true) (seat owner (has o.last) ∷ []) (fit_front words.owners (kept_left o.from store.keep store.kept true) [] all.2) (all.0.0, tt)) in
+    let window_fit = subst (λ ss. AllFit words.owners ss) (sym window_is) (fit_append words.owners (weak_seats stay) (entry_seats entry) stay_fit entry_fit) in
+    let s : Seated words.owners (rest_seats o.last k.first names weaks next calls false) =
+    seated_as words.owners _ (rest_seats o.last k.first names weaks next calls false)
+    (fit_four words.owners [] (both_seats names weaks) (store_left k.first next false) (call_seats o.last k.first (stays_of next) calls) tt all.1
+    (fit_append words.owners (kept_seats k.first k.now) (weak_seats (owners_in entries)) kept_fit window_fit)
     (subst (λ ss. AllFit words.owners ss) others all.3))
     (λ i. (
-    let a = times_four i (seat owner (has o.last) ∷ []) (both_seats names weaks) (kept_left o.from keep kept true) (call_seats o.last o.from calls) in
-    let b = times_four i [] (both_seats names weaks) (kept_seats k.first k.now) (call_seats o.last k.first calls) in
-    let d : times i (kept_seats k.first k.now) ≡ times i (kept_left o.from keep kept true ++ seat owner (has o.last) ∷ []) = ap (times i) k.seats in
-    let f = times_append i (kept_left o.from keep kept true) (seat owner (has o.last) ∷ []) in
-    let g : times i (call_seats o.last o.from calls) ≡ times i (call_seats o.last k.first calls) = ap (times i) others in
-    omega (arith, a, b, d, f, g)
+    let a = times_four i mine (both_seats names weaks) (store_left o.from store true) (call_seats o.last o.from (stays_of store) calls) in
+    let b = times_four i [] (both_seats names weaks) (store_left k.first next false) (call_seats o.last k.first (stays_of next) calls) in
+    let c = times_append i (kept_seats k.first k.now) (weak_seats (owners_in entries)) in
+    let d : times i (kept_seats k.first k.now) ≡ times i (kept_left o.from store.keep store.kept true ++ seat owner (has o.last) ∷ []) = ap (times i) k.seats in
+    let f = times_append i (kept_left o.from store.keep store.kept true) (seat owner (has o.last) ∷ []) in
+    let g : times i (call_seats o.last o.from (stays_of store) calls) ≡ times i (call_seats o.last k.first (stays_of next) calls) = ap (times i) others in
+    let h : times i (weak_seats (owners_in entries)) ≡ times i (weak_seats stay ++ entry_seats entry) = ap (times i) window_is in
+    let j = times_append i (weak_seats stay) (entry_seats entry) in
+    let l = times_append i (entry_seats entry) (weak_seats stay) in
+    let m = times_append i (kept_left o.from store.keep store.kept true) [] in
+    omega (arith, a, b, c, d, f, g, h, j, l, m)
     )) o.seated in
-    let later : Open words names weaks k.now keep calls nothing_apart = record {
+    let later : Open words names weaks next calls nothing_apart = record {
       cell = o.cell;
       shows = o.shows;
       last = o.last;
@@ -397,22 +489,45 @@ kept_closed words names weaks kept keep calls head owner o =
       alone = λ e. none;
       one = o.one;
       still = tt;
-      stills = old_calls calls (oldest_kept keep k.now) none;
+      stills = old_calls calls (stays_of next) none;
       seated = rw none s;
       publisher = o.publisher;
       names_once = o.names_once;
       weak_once = o.weak_once;
       calls_once = o.calls_once;
     } in
-    subst (λ ks. Open words names weaks ks keep calls nothing_apart) k.now_is later
+    subst (λ ks. Open words names weaks (record { kept = ks; keep = store.keep; entries = entries; window = store.window }) calls nothing_apart) k.now_is later
 
--- a call at its end gives what it has in hand to a name, or to the versions that are kept
-pub closed : (words : Zones) (names weaks : List Named) (kept : List ℕ) (keep : ℕ) (calls : List UnderWay) (end : End) → Open words names weaks kept keep calls (Done end) → Open words (names_at end names) (weak_names_at end weaks) (kept_at keep end kept) keep calls nothing_apart
-closed words names weaks kept keep calls (Owned name owner number) o = owned_closed words names weaks kept keep calls name owner number o
-closed words names weaks kept keep calls (OwnedWeakly name owner number) o = weakly_closed words names weaks kept keep calls name owner number o
-closed words names weaks kept keep calls (Told given) o = told_closed words names weaks kept keep calls given o
-closed words names weaks kept keep calls (NoSlot head) o = no_slot_closed words names weaks kept keep calls head o
-closed words names weaks kept keep calls (Kept head owner) o = kept_closed words names weaks kept keep calls head owner o
+sent_closed : (words : Zones) (names weaks : List Named) (store : Store) (calls : List UnderWay) (sending : Sending) → Open words names weaks store calls (Done (Sent sending)) → Open words names weaks store calls nothing_apart
+sent_closed words names weaks store calls sending o = record {
+  cell = o.cell;
+  shows = o.shows;
+  last = o.last;
+  from = o.from;
+  settled = o.settled;
+  counted = o.counted;
+  swapped = o.swapped;
+  kept_count = o.kept_count;
+  kept_from = o.kept_from;
+  alone = o.alone;
+  one = o.one;
+  still = tt;
+  stills = o.stills;
+  seated = o.seated;
+  publisher = o.publisher;
+  names_once = o.names_once;
+  weak_once = o.weak_once;
+  calls_once = o.calls_once;
+}
+
+-- a call at its end gives what it has in hand to a name, or to the versions that are kept and to the window
+pub closed : (words : Zones) (names weaks : List Named) (store : Store) (calls : List UnderWay) (end : End) → Open words names weaks store calls (Done end) → Open words (names_at end names) (weak_names_at end weaks) (store_at end store) calls nothing_apart
+closed words names weaks store calls (Owned name owner number) o = owned_closed words names weaks store calls name owner number o
+closed words names weaks store calls (OwnedWeakly name owner number) o = weakly_closed words names weaks store calls name owner number o
+closed words names weaks store calls (Told given) o = told_closed words names weaks store calls given o
+closed words names weaks store calls (NoSlot head) o = no_slot_closed words names weaks store calls head o
+closed words names weaks store calls (Kept head owner entry) o = kept_closed words names weaks store calls head owner entry o
+closed words names weaks store calls (Sent sending) o = sent_closed words names weaks store calls sending o
 
 -- a name that isn't taken may be put into use
 once_more : (name n : List ℕ) (named reserved : List ℕ → ℕ) → named name ≡ 0 → reserved name ≡ 0 → named n + (0 + reserved n) ≤ 1 → named n + (one_if (bytes_eq name n) + reserved n) ≤ 1
@@ -429,8 +544,8 @@ once_more name n named reserved unnamed unreserved once =
     ]
 
 -- a load begins: its name isn't taken
-pub load_open : (words : Zones) (names weaks : List Named) (kept : List ℕ) (keep : ℕ) (calls : List UnderWay) (name : List ℕ) → named_by name names ≡ 0 → reserved_by name calls ≡ 0 → Open words names weaks kept keep calls nothing_apart → Open words names weaks kept keep calls (On (phase.Load name))
-load_open words names weaks kept keep calls name unnamed unreserved o = record {
+pub load_open : (words : Zones) (names weaks : List Named) (store : Store) (calls : List UnderWay) (name : List ℕ) → named_by name names ≡ 0 → reserved_by name calls ≡ 0 → Open words names weaks store calls nothing_apart → Open words names weaks store calls (On (phase.Load name))
+load_open words names weaks store calls name unnamed unreserved o = record {
   cell = o.cell;
   shows = o.shows;
   last = o.last;
@@ -452,8 +567,8 @@ load_open words names weaks kept keep calls name unnamed unreserved o = record {
 }
 
 -- an upgrade begins
-pub look_open : (words : Zones) (names weaks : List Named) (kept : List ℕ) (keep : ℕ) (calls : List UnderWay) (name : List ℕ) (owner : ℕ) → named_by name names ≡ 0 → reserved_by name calls ≡ 0 → Open words names weaks kept keep calls nothing_apart → Open words names weaks kept keep calls (On (phase.Look name owner))
-look_open words names weaks kept keep calls name owner unnamed unreserved o = record {
+pub look_open : (words : Zones) (names weaks : List Named) (store : Store) (calls : List UnderWay) (name : List ℕ) (owner : ℕ) → named_by name names ≡ 0 → reserved_by name calls ≡ 0 → Open words names weaks store calls nothing_apart → Open words names weaks store calls (On (phase.Look name owner))
+look_open words names weaks store calls name owner unnamed unreserved o = record {
   cell = o.cell;
   shows = o.shows;
   last = o.last;
@@ -475,8 +590,8 @@ look_open words names weaks kept keep calls name owner unnamed unreserved o = re
 }
 
 -- a copy begins
-pub raise_open : (words : Zones) (names weaks : List Named) (kept : List ℕ) (keep : ℕ) (calls : List UnderWay) (name : List ℕ) (owner : ℕ) → named_by name names ≡ 0 → reserved_by name calls ≡ 0 → Open words names weaks kept keep calls nothing_apart → Open words names weaks kept keep calls (On (phase.Raise name owner))
-raise_open words names weaks kept keep calls name owner unnamed unreserved o = record {
+pub raise_open : (words : Zones) (names weaks : List Named) (store : Store) (calls : List UnderWay) (name : List ℕ) (owner : ℕ) → named_by name names ≡ 0 → reserved_by name calls ≡ 0 → Open words names weaks store calls nothing_apart → Open words names weaks store calls (On (phase.Raise name owner))
+raise_open words names weaks store calls name owner unnamed unreserved o = record {
   cell = o.cell;
   shows = o.shows;
   last = o.last;
@@ -498,8 +613,8 @@ raise_open words names weaks kept keep calls name owner unnamed unreserved o = r
 }
 
 -- a weak owner is begun
-pub note_open : (words : Zones) (names weaks : List Named) (kept : List ℕ) (keep : ℕ) (calls : List UnderWay) (name : List ℕ) (owner : ℕ) → named_by name weaks ≡ 0 → weak_reserved_by name calls ≡ 0 → Open words names weaks kept keep calls nothing_apart → Open words names weaks kept keep calls (On (phase.Note name owner))
-note_open words names weaks kept keep calls name owner unnamed unreserved o = record {
+pub note_open : (words : Zones) (names weaks : List Named) (store : Store) (calls : List UnderWay) (name : List ℕ) (owner : ℕ) → named_by name weaks ≡ 0 → weak_reserved_by name calls ≡ 0 → Open words names weaks store calls nothing_apart → Open words names weaks store calls (On (phase.Note name owner))
+note_open words names weaks store calls name owner unnamed unreserved o = record {
   cell = o.cell;
   shows = o.shows;
   last = o.last;
@@ -587,10 +702,10 @@ owner_apart owners hand name (x ∷ names) owner few fits e =
     ]
 
 -- the owner of a name goes to a call's hand
-pub drop_open : (words : Zones) (names weaks : List Named) (kept : List ℕ) (keep : ℕ) (calls : List UnderWay) (name : List ℕ) (owner : ℕ) → owner_of name names ≡ Some owner → Open words names weaks kept keep calls nothing_apart → Open words (without_name name names) weaks kept keep calls (On (phase.Release owner purpose.Drop))
-drop_open words names weaks kept keep calls name owner e o =
-    let kept_ones = kept_left o.from keep kept (any_update calls) in
-    let all = fits_four words.owners [] (both_seats names weaks) kept_ones (call_seats o.last o.from calls) o.seated.fit in
+pub drop_open : (words : Zones) (names weaks : List Named) (store : Store) (calls : List UnderWay) (name : List ℕ) (owner : ℕ) → owner_of name names ≡ Some owner → Open words names weaks store calls nothing_apart → Open words (without_name name names) weaks kept keep calls (On (phase.Release owner purpose.Drop))
+drop_open words names weaks store calls name owner e o =
+    let kept_ones = store_left o.from store (any_update calls) in
+    let all = fits_four words.owners [] (both_seats names weaks) kept_ones (call_seats o.last o.from (stays_of store) calls) o.seated.fit in
     let few : named_by name names ≤ 1 = (let n = o.names_once name in omega (arith, n)) in
     let apart = owner_apart words.owners holds name names owner few (fit_front words.owners (seats_as holds names) (seats_as weakly weaks) all.1) e in
     let behind = fit_back words.owners (seats_as holds names) (seats_as weakly weaks) all.1 in
@@ -609,10 +724,10 @@ drop_open words names weaks kept keep calls name owner e o =
       still = tt;
       stills = o.stills;
       seated = seated_as words.owners _ (seat owner holds ∷ ([] ++ rest_seats o.last o.from (without_name name names) weaks kept keep calls (any_update calls)))
-          (fit_four words.owners (seat owner holds ∷ []) (both_seats (without_name name names) weaks) kept_ones (call_seats o.last o.from calls) (apart.fit, tt) (fit_append words.owners (seats_as holds (without_name name names)) (seats_as weakly weaks) apart.others behind) all.2 all.3)
+          (fit_four words.owners (seat owner holds ∷ []) (both_seats (without_name name names) weaks) kept_ones (call_seats o.last o.from (stays_of store) calls) (apart.fit, tt) (fit_append words.owners (seats_as holds (without_name name names)) (seats_as weakly weaks) apart.others behind) all.2 all.3)
           (λ i. (
-          let a = times_four i (seat owner holds ∷ []) (both_seats (without_name name names) weaks) kept_ones (call_seats o.last o.from calls) in
-          let b = times_four i [] (both_seats names weaks) kept_ones (call_seats o.last o.from calls) in
+          let a = times_four i (seat owner holds ∷ []) (both_seats (without_name name names) weaks) kept_ones (call_seats o.last o.from (stays_of store) calls) in
+          let b = times_four i [] (both_seats names weaks) kept_ones (call_seats o.last o.from (stays_of store) calls) in
           let f = times_append i (seats_as holds names) (seats_as weakly weaks) in
           let g = times_append i (seats_as holds (without_name name names)) (seats_as weakly weaks) in
           let d = apart.count i in
@@ -624,10 +739,10 @@ drop_open words names weaks kept keep calls name owner e o =
       calls_once = o.calls_once;
     }
 
-pub fade_open : (words : Zones) (names weaks : List Named) (kept : List ℕ) (keep : ℕ) (calls : List UnderWay) (name : List ℕ) (owner : ℕ) → owner_of name weaks ≡ Some owner → Open words names weaks kept keep calls nothing_apart → Open words names (without_name name weaks) kept keep calls (On (phase.Fade owner None purpose.Drop))
-fade_open words names weaks kept keep calls name owner e o =
-    let kept_ones = kept_left o.from keep kept (any_update calls) in
-    let all = fits_four words.owners [] (both_seats names weaks) kept_ones (call_seats o.last o.from calls) o.seated.fit in
+pub fade_open : (words : Zones) (names weaks : List Named) (store : Store) (calls : List UnderWay) (name : List ℕ) (owner : ℕ) → owner_of name weaks ≡ Some owner → Open words names weaks store calls nothing_apart → Open words names (without_name name weaks) kept keep calls (On (phase.Fade owner None purpose.Drop))
+fade_open words names weaks store calls name owner e o =
+    let kept_ones = store_left o.from store (any_update calls) in
+    let all = fits_four words.owners [] (both_seats names weaks) kept_ones (call_seats o.last o.from (stays_of store) calls) o.seated.fit in
     let few : named_by name weaks ≤ 1 = (let n = o.weak_once name in omega (arith, n)) in
     let apart = owner_apart words.owners weakly name weaks owner few (fit_back words.owners (seats_as holds names) (seats_as weakly weaks) all.1) e in
     let front = fit_front words.owners (seats_as holds names) (seats_as weakly weaks) all.1 in
@@ -646,10 +761,10 @@ fade_open words names weaks kept keep calls name owner e o =
       still = tt;
       stills = o.stills;
       seated = seated_as words.owners _ (seat owner weakly ∷ ([] ++ rest_seats o.last o.from names (without_name name weaks) kept keep calls (any_update calls)))
-          (fit_four words.owners (seat owner weakly ∷ []) (both_seats names (without_name name weaks)) kept_ones (call_seats o.last o.from calls) (apart.fit, tt) (fit_append words.owners (seats_as holds names) (seats_as weakly (without_name name weaks)) front apart.others) all.2 all.3)
+          (fit_four words.owners (seat owner weakly ∷ []) (both_seats names (without_name name weaks)) kept_ones (call_seats o.last o.from (stays_of store) calls) (apart.fit, tt) (fit_append words.owners (seats_as holds names) (seats_as weakly (without_name name weaks)) front apart.others) all.2 all.3)
           (λ i. (
-          let a = times_four i (seat owner weakly ∷ []) (both_seats names (without_name name weaks)) kept_ones (call_seats o.last o.from calls) in
-          let b = times_four i [] (both_seats names weaks) kept_ones (call_seats o.last o.from calls) in
+          let a = times_four i (seat owner weakly ∷ []) (both_seats names (without_name name weaks)) kept_ones (call_seats o.last o.from (stays_of store) calls) in
+          let b = times_four i [] (both_seats names weaks) kept_ones (call_seats o.last o.from (stays_of store) calls) in
           let f = times_append i (seats_as holds names) (seats_as weakly weaks) in
           let g = times_append i (seats_as holds names) (seats_as weakly (without_name name weaks)) in
           let d = apart.count i in
@@ -662,9 +777,9 @@ fade_open words names weaks kept keep calls name owner e o =
     }
 
 -- an update begins, where none is under way
-pub update_open : (words : Zones) (names weaks : List Named) (kept : List ℕ) (keep : ℕ) (calls : List UnderWay) (head : Heading) (version : Numbered) → any_update calls ≡ false → Open words names weaks kept keep calls nothing_apart
-    → Open words names weaks kept keep calls (On (phase.Probe version (record { heading = head; oldest = oldest_kept keep kept })))
-update_open words names weaks kept keep calls head version none o = record {
+pub update_open : (words : Zones) (names weaks : List Named) (store : Store) (calls : List UnderWay) (version : Numbered) (keeping : Keeping) → AsStays (stays_of store) keeping → any_update calls ≡ false → Open words names weaks store calls nothing_apart
+    → Open words names weaks store calls (On (phase.Probe version keeping))
+update_open words names weaks store calls version keeping is none o = record {
   cell = o.cell;
   shows = o.shows;
   last = o.last;
@@ -676,10 +791,33 @@ update_open words names weaks kept keep calls head version none o = record {
   kept_from = o.kept_from;
   alone = λ e. none;
   one = o.one;
-  still = refl;
+  still = is;
   stills = o.stills;
-  seated = seated_kept words.owners o.last o.from keep names weaks kept calls (let s = o.seated in rw none at s);
+  seated = subst (λ oldest. Seated words.owners (early_seats o.from (stays_of store) oldest ++ rest_seats o.last o.from names weaks store calls true)) (sym is.0) (seated_kept words.owners o.last o.from names weaks store calls (let s = o.seated in rw none at s));
   publisher = λ e. absurd (let wrong = e in cc);
+  names_once = o.names_once;
+  weak_once = o.weak_once;
+  calls_once = o.calls_once;
+}
+
+-- a transfer begins
+pub seek_open : (words : Zones) (names weaks : List Named) (store : Store) (calls : List UnderWay) (owner : ℕ) (sending : Sending) (left : List ℕ) → Open words names weaks store calls nothing_apart → Open words names weaks store calls (On (phase.Seek owner (record { sending = sending; left = left; owners = [] })))
+seek_open words names weaks store calls owner sending left o = record {
+  cell = o.cell;
+  shows = o.shows;
+  last = o.last;
+  from = o.from;
+  settled = o.settled;
+  counted = o.counted;
+  swapped = o.swapped;
+  kept_count = o.kept_count;
+  kept_from = o.kept_from;
+  alone = o.alone;
+  one = o.one;
+  still = tt;
+  stills = o.stills;
+  seated = o.seated;
+  publisher = o.publisher;
   names_once = o.names_once;
   weak_once = o.weak_once;
   calls_once = o.calls_once;

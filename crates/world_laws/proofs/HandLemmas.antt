@@ -197,5 +197,24 @@ seated_next old new owner hand later ss how next one two at is then s =
 pub seated_swap : (owners : List Owner) (a b : Seat) (ss : List Seat) → Seated owners (a ∷ b ∷ ss) → Seated owners (b ∷ a ∷ ss)
 seated_swap owners a b ss s = record { fit = (s.fit.1.0, (s.fit.0, s.fit.1.1)); exact = λ i. (let all = s.exact i in omega (arith, all)) }
 
+-- one of those in hand goes in front of others, and back
+moved_times : (i : ℕ) (front : List Seat) (x : Seat) (back rest : List Seat) → times i ((front ++ (x ∷ back)) ++ rest) ≡ times i (((x ∷ front) ++ back) ++ rest)
+moved_times i [] x back rest = refl
+moved_times i (s ∷ front) x back rest = let more = moved_times i front x back rest in omega (arith, more)
+
+moved_fits : (owners : List Owner) (front : List Seat) (x : Seat) (back rest : List Seat) → AllFit owners ((front ++ (x ∷ back)) ++ rest) → AllFit owners (((x ∷ front) ++ back) ++ rest)
+moved_fits owners [] x back rest f = f
+moved_fits owners (s ∷ front) x back rest f = let more = moved_fits owners front x back rest f.1 in (more.0, (f.0, more.1))
+
+put_fits : (owners : List Owner) (front : List Seat) (x : Seat) (back rest : List Seat) → AllFit owners (((x ∷ front) ++ back) ++ rest) → AllFit owners ((front ++ (x ∷ back)) ++ rest)
+put_fits owners [] x back rest f = f
+put_fits owners (s ∷ front) x back rest f = (f.1.0, put_fits owners front x back rest (f.0, f.1.1))
+
+pub seated_moved : (owners : List Owner) (front : List Seat) (x : Seat) (back rest : List Seat) → Seated owners ((front ++ (x ∷ back)) ++ rest) → Seated owners (((x ∷ front) ++ back) ++ rest)
+seated_moved owners front x back rest s = seated_as owners ((front ++ (x ∷ back)) ++ rest) (((x ∷ front) ++ back) ++ rest) (moved_fits owners front x back rest s.fit) (λ i. sym (moved_times i front x back rest)) s
+
+pub seated_put : (owners : List Owner) (front : List Seat) (x : Seat) (back rest : List Seat) → Seated owners (((x ∷ front) ++ back) ++ rest) → Seated owners ((front ++ (x ∷ back)) ++ rest)
+seated_put owners front x back rest s = seated_as owners (((x ∷ front) ++ back) ++ rest) ((front ++ (x ∷ back)) ++ rest) (put_fits owners front x back rest s.fit) (λ i. moved_times i front x back rest) s
+
 pub seated_where : (old new : List Owner) (ss : List Seat) → new ≡ old → Seated old ss → Seated new ss
 seated_where old new ss is s = subst (λ o. Seated o ss) (sym is) s

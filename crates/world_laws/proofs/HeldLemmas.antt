@@ -3,17 +3,15 @@ use Rattle.std.proofs.Common.{◌≡◌, refl, sym, ap, ◌∙◌, subst, ℕ, �
 use Rattle.std.specs.Prelude.{◌==◌, bytes_eq}
 use Rattle.std.specs.List.{slice_get, flat_map}
 use Rattle.std.specs.Option.{option_and_then, option_to_list}
-use Rattle.std.proofs.lemmas.Bool.{cases_Bool}
+use Rattle.std.proofs.lemmas.Bool.{cases_Bool, cases_lt}
 use Rattle.std.proofs.lemmas.Bool.Decides.{eqb_tells}
 use Rattle.std.proofs.lemmas.List.{drop_all}
 use Rattle.cell_core.proofs.CountLemmas.{one_if}
 use Rattle.cell_core.proofs.SeatLemmas.{get_within}
 use Rattle.cell_core.proofs.ShowsLemmas.{last_lies, latest_slot, number_there, latest_number}
-use Rattle.cell_core.proofs.RestLemmas.{rest_buried, rest_free}
 use Rattle.cell_core.proofs.UserLemmas.{owner_finds, owner_is_given}
-use Rattle.std.proofs.Math.Nat.{min_comm, sub-add-min_cancel}
 use Rattle.cell_core.specs.Cell.{Cell}
-use Rattle.cell_core.specs.Shows.{Shows, IsLive, SlotIs, AtRest}
+use Rattle.cell_core.specs.Shows.{Shows, IsLive, SlotIs}
 use Rattle.cell_core.specs.Words.{found_by, slot_of, number_in}
 use Rattle.cell_core.specs.declared.words.Owner.{Owner}
 use Rattle.cell_core.specs.declared.words.Owner.TheVariants.{Holding, Twice, Weakly, Both, Burying, Fading, Resetting, Freeing, Spent}
@@ -29,12 +27,14 @@ use Rattle.world_run.specs.World.{World, started, owner_of, kept_versions, play}
 use Rattle.world_laws.proofs.CallReplays.{script}
 use Rattle.world_laws.proofs.OtherCalls.{any_update}
 use Rattle.world_laws.proofs.HandEnds.{no_swaps}
-use Rattle.world_laws.proofs.HandLemmas.{HandIs, AllFit, times, times_append, fit_front, lives}
+use Rattle.world_laws.proofs.HandLemmas.{HandIs, AllFit, times, times_append, fit_front, fit_back, lives}
 use Rattle.world_laws.proofs.HandLemmas.Hand.{holds, weakly}
 use Rattle.world_laws.proofs.HandPlay.{Kept, played_kept}
-use Rattle.world_laws.proofs.HandSteps.{Zones}
+use Rattle.world_laws.proofs.HandSteps.{Zones, weak_seats}
+use Rattle.world_laws.proofs.WindowRest.{Rests, window_buried}
+use Rattle.world_run.specs.Entries.{owners_in}
 use Rattle.world_laws.proofs.HandTurns.{times_four, fits_four}
-use Rattle.world_laws.proofs.HandWorld.{seats_as, both_seats, kept_seats, kept_left, call_seats, any_publishes, Hands}
+use Rattle.world_laws.proofs.HandWorld.{store_of, stays_of, seats_as, both_seats, kept_seats, kept_left, entries_left, call_seats, any_publishes, Hands}
 use Rattle.world_laws.proofs.ReplayLemmas.{goes_replayed}
 
 -- the number in W is the last
@@ -63,10 +63,12 @@ named_holds owners name (x ∷ names) owner fits e =
     ]
 
 -- what is in hand beside the calls under way
-parts_of : (world : World) (h : Hands world) → AllFit world.words.owners (seats_as holds world.names) × AllFit world.words.owners (kept_left h.from world.keep world.kept (any_update world.calls))
+parts_of : (world : World) (h : Hands world) → AllFit world.words.owners (seats_as holds world.names) × AllFit world.words.owners (kept_left h.from world.keep world.kept (any_update world.calls)) × AllFit world.words.owners (entries_left world.entries (any_update world.calls))
 parts_of world h =
-    let all = fits_four world.words.owners [] (both_seats world.names world.weak_names) (kept_left h.from world.keep world.kept (any_update world.calls)) (call_seats h.last h.from world.calls) h.seated.fit in
-    (fit_front world.words.owners (seats_as holds world.names) (seats_as weakly world.weak_names) all.1, all.2)
+    let kept_ones = kept_left h.from world.keep world.kept (any_update world.calls) in
+    let window = entries_left world.entries (any_update world.calls) in
+    let all = fits_four world.words.owners [] (both_seats world.names world.weak_names) (kept_ones ++ window) (call_seats h.last h.from (stays_of (store_of world)) world.calls) h.seated.fit in
+    (fit_front world.words.owners (seats_as holds world.names) (seats_as weakly world.weak_names) all.1, fit_front world.words.owners kept_ones window all.2, fit_back world.words.owners kept_ones window all.2)
 
 name_has : (world : World) (cell : Cell Numbered) (name : List ℕ) (owner : ℕ) → Hands world → Shows world.words cell → owner_of name world.names ≡ Some owner → HoldsVersion cell.published world name owner
 name_has world cell name owner h s e =
@@ -138,29 +140,51 @@ kept_owns owners from (o ∷ os) number fits within less =
       | inr other ↦ kept_owns owners (from + 1) os number fits.1 (omega (arith, within, other.1)) (omega (arith, less))
     ]
 
--- an owner that isn't spent is among those of the versions that are kept, where nobody else has one in hand
-kept_one : (owners : List Owner) (from : ℕ) (kept : List ℕ) (owner : ℕ) (how : Owner) → AllFit owners (kept_seats from kept) → ((i : ℕ) → times i (kept_seats from kept) ≡ lives (slice_get owners i)) → slice_get owners owner ≡ Some how → lives (Some how) ≡ 1
-    → (number : ℕ) × (place : ℕ) × (from ≤ number) × (how ≡ Holding number place)
-kept_one owners from kept owner how fits exact at one =
+-- an owner of the window is a weak one
+weak_has : (owners : List Owner) (os : List ℕ) (i : ℕ) → AllFit owners (weak_seats os) → 0 < times i (weak_seats os) → (number : ℕ) × (place : ℕ) × (slice_get owners i ≡ Some (Weakly number place))
+weak_has owners [] i fits some = absurd (omega (arith, some))
+weak_has owners (o ∷ os) i fits some =
+    elim (eqb_tells o i) [
+      | inl same ↦ (fits.0.0, fits.0.1, ap (slice_get owners) (sym same.1) ∙ fits.0.2)
+      | inr other ↦ (
+          let none : one_if (o == i) ≡ 0 = rw other.0 refl in
+          weak_has owners os i fits.1 (omega (arith, some, none))
+          )
+    ]
+
+-- an owner that isn't spent is among those of the versions that are kept, or the window's, where nobody else has one in hand
+abbrev AtRestAs : ℕ → Owner → Type 0
+AtRestAs from how = (how ≡ Spent) ⊎ (((number : ℕ) × (place : ℕ) × (from ≤ number) × (how ≡ Holding number place)) ⊎ ((number : ℕ) × (place : ℕ) × (0 ≤ number) × (how ≡ Weakly number place)))
+
+kept_one : (owners : List Owner) (from : ℕ) (kept os : List ℕ) (owner : ℕ) (how : Owner) → AllFit owners (kept_seats from kept) → AllFit owners (weak_seats os) → ((i : ℕ) → times i (kept_seats from kept) + times i (weak_seats os) ≡ lives (slice_get owners i)) → slice_get owners owner ≡ Some how → lives (Some how) ≡ 1
+    → AtRestAs from how
+kept_one owners from kept os owner how fits weak exact at one =
     let count = exact owner in
     let is : lives (slice_get owners owner) ≡ 1 = ap lives at ∙ one in
-    let has = kept_has owners from kept owner fits (omega (arith, count, is)) in
-    (has.0, has.1, has.2, (let e : Some how ≡ Some (Holding has.0 has.1) = sym at ∙ has.3 in cc))
+    elim (cases_lt 0 (times owner (kept_seats from kept))) [
+      | inl strong ↦ (
+          let has = kept_has owners from kept owner fits strong in
+          inr (inl (has.0, has.1, has.2, (let e : Some how ≡ Some (Holding has.0 has.1) = sym at ∙ has.3 in cc)))
+          )
+      | inr none ↦ (
+          let has = weak_has owners os owner weak (omega (arith, count, is, none)) in
+          inr (inr (has.0, has.1, omega arith, (let e : Some how ≡ Some (Weakly has.0 has.1) = sym at ∙ has.2 in cc)))
+          )
+    ]
 
-spent_or_kept : (owners : List Owner) (from : ℕ) (kept : List ℕ) (owner : ℕ) (how : Owner) → AllFit owners (kept_seats from kept) → ((i : ℕ) → times i (kept_seats from kept) ≡ lives (slice_get owners i)) → slice_get owners owner ≡ Some how
-    → (how ≡ Spent) ⊎ ((number : ℕ) × (place : ℕ) × (from ≤ number) × (how ≡ Holding number place))
-spent_or_kept owners from kept owner (Holding number place) fits exact at = inr (kept_one owners from kept owner (Holding number place) fits exact at refl)
-spent_or_kept owners from kept owner (Burying place) fits exact at = inr (kept_one owners from kept owner (Burying place) fits exact at refl)
-spent_or_kept owners from kept owner (Twice number place) fits exact at = inr (kept_one owners from kept owner (Twice number place) fits exact at refl)
-spent_or_kept owners from kept owner (Weakly number place) fits exact at = inr (kept_one owners from kept owner (Weakly number place) fits exact at refl)
-spent_or_kept owners from kept owner (Both number place) fits exact at = inr (kept_one owners from kept owner (Both number place) fits exact at refl)
-spent_or_kept owners from kept owner (Fading place) fits exact at = inr (kept_one owners from kept owner (Fading place) fits exact at refl)
-spent_or_kept owners from kept owner (Resetting place) fits exact at = inr (kept_one owners from kept owner (Resetting place) fits exact at refl)
-spent_or_kept owners from kept owner (Freeing place) fits exact at = inr (kept_one owners from kept owner (Freeing place) fits exact at refl)
-spent_or_kept owners from kept owner Spent fits exact at = inl refl
+spent_or_kept : (owners : List Owner) (from : ℕ) (kept os : List ℕ) (owner : ℕ) (how : Owner) → AllFit owners (kept_seats from kept) → AllFit owners (weak_seats os) → ((i : ℕ) → times i (kept_seats from kept) + times i (weak_seats os) ≡ lives (slice_get owners i)) → slice_get owners owner ≡ Some how → AtRestAs from how
+spent_or_kept owners from kept os owner (Holding number place) fits weak exact at = kept_one owners from kept os owner (Holding number place) fits weak exact at refl
+spent_or_kept owners from kept os owner (Burying place) fits weak exact at = kept_one owners from kept os owner (Burying place) fits weak exact at refl
+spent_or_kept owners from kept os owner (Twice number place) fits weak exact at = kept_one owners from kept os owner (Twice number place) fits weak exact at refl
+spent_or_kept owners from kept os owner (Weakly number place) fits weak exact at = kept_one owners from kept os owner (Weakly number place) fits weak exact at refl
+spent_or_kept owners from kept os owner (Both number place) fits weak exact at = kept_one owners from kept os owner (Both number place) fits weak exact at refl
+spent_or_kept owners from kept os owner (Fading place) fits weak exact at = kept_one owners from kept os owner (Fading place) fits weak exact at refl
+spent_or_kept owners from kept os owner (Resetting place) fits weak exact at = kept_one owners from kept os owner (Resetting place) fits weak exact at refl
+spent_or_kept owners from kept os owner (Freeing place) fits weak exact at = kept_one owners from kept os owner (Freeing place) fits weak exact at refl
+spent_or_kept owners from kept os owner Spent fits weak exact at = inl refl
 
 -- the versions that are kept have the last number and those before it
-rests_so : (world : World) (h : Hands world) → world.names ≡ [] → world.weak_names ≡ [] → world.calls ≡ [] → (last : ℕ) → length h.cell.published ≡ last + 1 → AtRest world.words (last - world.keep) last
+rests_so : (world : World) (h : Hands world) → world.names ≡ [] → world.weak_names ≡ [] → world.calls ≡ [] → (last : ℕ) → length h.cell.published ≡ last + 1 → Rests world.words (last - world.keep) 0 last
 rests_so world h no_names no_weak no_calls last count =
     let no_update : any_update world.calls ≡ false = ap any_update no_calls in
     let no_publisher : any_publishes world.calls ≡ false = ap any_publishes no_calls in
@@ -168,20 +192,25 @@ rests_so world h no_names no_weak no_calls last count =
     let same : h.last ≡ last = omega (arith, count, h.counted) in
     let from_is : h.from ≡ last - world.keep = omega (arith, h.kept_from, h.swapped, swaps, same) in
     let fits = rw no_update at (parts_of world h).1 in
-    subst (λ from. AtRest world.words from last) from_is
+    let window = rw no_update at (parts_of world h).2 in
+    let kept_ones = kept_left h.from world.keep world.kept (any_update world.calls) in
+    let entries = entries_left world.entries (any_update world.calls) in
+    subst (λ from. Rests world.words from 0 last) from_is
     (record {
       publisher = h.publisher refl no_publisher;
       within = omega (arith, from_is);
-      owners = λ owner how at. spent_or_kept world.words.owners h.from world.kept owner how fits
+      owners = λ owner how at. spent_or_kept world.words.owners h.from world.kept (owners_in world.entries) owner how fits window
           (λ i. (
           let all = h.seated.exact i in
-          let four = times_four i [] (both_seats world.names world.weak_names) (kept_left h.from world.keep world.kept (any_update world.calls)) (call_seats h.last h.from world.calls) in
+          let four = times_four i [] (both_seats world.names world.weak_names) (kept_ones ++ entries) (call_seats h.last h.from (stays_of (store_of world)) world.calls) in
+          let two = times_append i kept_ones entries in
           let both = times_append i (seats_as holds world.names) (seats_as weakly world.weak_names) in
           let names : times i (seats_as holds world.names) ≡ 0 = ap (λ ns. times i (seats_as holds ns)) no_names in
           let weaks : times i (seats_as weakly world.weak_names) ≡ 0 = ap (λ ns. times i (seats_as weakly ns)) no_weak in
-          let calls : times i (call_seats h.last h.from world.calls) ≡ 0 = ap (λ cs. times i (call_seats h.last h.from cs)) no_calls in
-          let kept : times i (kept_left h.from world.keep world.kept (any_update world.calls)) ≡ times i (kept_seats h.from world.kept) = ap (λ b. times i (kept_left h.from world.keep world.kept b)) no_update in
-          omega (arith, all, four, both, names, weaks, calls, kept)
+          let calls : times i (call_seats h.last h.from (stays_of (store_of world)) world.calls) ≡ 0 = ap (λ cs. times i (call_seats h.last h.from (stays_of (store_of world)) cs)) no_calls in
+          let kept : times i kept_ones ≡ times i (kept_seats h.from world.kept) = ap (λ b. times i (kept_left h.from world.keep world.kept b)) no_update in
+          let noted : times i entries ≡ times i (weak_seats (owners_in world.entries)) = ap (λ b. times i (entries_left world.entries b)) no_update in
+          omega (arith, all, four, two, both, names, weaks, calls, kept, noted)
           )) at;
       owned = λ number within less. kept_owns world.words.owners h.from world.kept number fits within (omega (arith, less, h.kept_count, h.swapped, swaps, same));
     })
@@ -193,12 +222,9 @@ played_rests first keep window lines replies world e no_names no_weak no_calls =
     let k = all.1 in
     let r = goes_replayed first lines all.0 world k.goes in
     let same = same_length world.words k.hands.cell r.reached.cell k.hands.shows r.reached.shows in
-    let rest = subst (λ n. AtRest world.words (length r.updates - n) (length r.updates)) k.same.0 (rests_so world k.hands no_names no_weak no_calls (length r.updates) (omega (arith, same, r.replays.counted))) in
-    let free = rest_free world.words r.reached.cell (length r.updates - keep) (length r.updates) r.reached.shows r.replays.counted rest in
-    let kept = sub-add-min_cancel (length r.updates) keep in
-    let either = min_comm keep (length r.updates) in
+    let rest = subst (λ n. Rests world.words (length r.updates - n) 0 (length r.updates)) k.same.0 (rests_so world k.hands no_names no_weak no_calls (length r.updates) (omega (arith, same, r.replays.counted))) in
     record {
       replayed = r;
-      buried = rest_buried world.words r.reached.cell (length r.updates - keep) (length r.updates) r.reached.shows r.replays.counted rest;
-      free = omega (arith, free, kept, either);
+      buried = window_buried world.words r.reached.cell (length r.updates - keep) 0 (length r.updates) r.reached.shows r.replays.counted rest;
+      free = ?;
     }

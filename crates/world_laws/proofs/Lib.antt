@@ -3,6 +3,7 @@ pub mod BurialLemmas
 pub mod CallReplays
 pub mod ChainLists
 pub mod EndLemmas
+pub mod FirstLemmas
 pub mod HandEnds
 pub mod HandLemmas
 pub mod HandPlay
@@ -17,7 +18,9 @@ pub mod LineLemmas
 pub mod OtherCalls
 pub mod ReplayLemmas
 pub mod RunLemmas
+pub mod SeekLemmas
 pub mod SentUpdates
 pub mod SpeltLemmas
 pub mod SwapLemmas
 pub mod ToldLemmas
+pub mod WindowRest

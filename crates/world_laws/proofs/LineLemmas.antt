@@ -22,6 +22,8 @@ use Rattle.world_laws.proofs.RunLemmas.{one_step}
 name_is : (at : Phase) → step_name at ≡ name_of (word_step at)
 name_is (phase.Load name) = refl
 name_is (phase.Look name owner) = refl
+name_is (phase.Seek owner seeking) = refl
+name_is (phase.Gain owner seeking) = refl
 name_is (phase.Raise name owner) = refl
 name_is (phase.Note name owner) = refl
 name_is (phase.Probe version keeping) = refl
@@ -29,6 +31,7 @@ name_is (phase.Prepare version keeping) = refl
 name_is (phase.Swap keeping) = refl
 name_is (phase.Settle keeping) = refl
 name_is (phase.Keep given keeping) = refl
+name_is (phase.Enter given kept keeping) = refl
 name_is (phase.Release owner for) = refl
 name_is (phase.Bury owner for) = refl
 name_is (phase.Fade owner number for) = refl

@@ -11,8 +11,8 @@ use Rattle.world_run.specs.declared.phase.Phase.TheVariants as phase
 use Rattle.world_run.specs.declared.phase.Progress.{Progress}
 use Rattle.world_run.specs.declared.calls.UnderWay.{UnderWay}
 use Rattle.zone_tree.specs.Version.{Version as Numbered}
-use Rattle.world_run.specs.Phases.{gone, updates}
-use Rattle.world_run.specs.World.{call_of, without_call}
+use Rattle.world_run.specs.Phases.{gone, updates, seeks}
+use Rattle.world_run.specs.World.{call_of, without_call, is_barred}
 use Rattle.world_laws.proofs.CallReplays.{Script, scripted, Placed, IsFresh, IsNext, AreInTurn, Zones, Tells, Coherent, no_update, Behind}
 
 -- each call under way is about to publish what the next update makes
@@ -23,14 +23,21 @@ AllCoherent S first us words (call ∷ calls) = Coherent S first us words call.p
 abbrev pub any_update : List UnderWay → Bool
 any_update calls = list_any (λ (call : UnderWay). updates call.phase) calls
 
+or_false : (a b : Bool) → (a || b) ≡ false → (a ≡ false) × (b ≡ false)
+or_false true b e = absurd (let wrong = e in cc)
+or_false false b e = (refl, e)
+
+-- where the window stays for none of them, none is an update
+pub unbarred : (calls : List UnderWay) → is_barred calls ≡ false → any_update calls ≡ false
+unbarred [] e = refl
+unbarred (call ∷ calls) e =
+    let parts = or_false (updates call.phase || seeks call.phase) (is_barred calls) e in
+    rw (or_false (updates call.phase) (seeks call.phase) parts.0).0 (unbarred calls parts.1)
+
 -- at most one of them is an update
 abbrev pub AtMostOne : List UnderWay → Type 0
 AtMostOne [] = Unit {0}
 AtMostOne (call ∷ calls) = (updates call.phase ≡ true → any_update calls ≡ false) × AtMostOne calls
-
-or_false : (a b : Bool) → (a || b) ≡ false → (a ≡ false) × (b ≡ false)
-or_false true b e = absurd (let wrong = e in cc)
-or_false false b e = (refl, e)
 
 not_both : (a : Bool) → a ≡ true → a ≡ false → ⊥
 not_both a t f = let wrong : true ≡ false = sym t ∙ f in cc
@@ -131,6 +138,8 @@ next_on S top by first us version more map n =
 pub coherent_on : (S : Script) (top : ℕ) (by : ℕ → Heading → Type 0) (first : List Record) (us : List Placed) (words : Zones) (at : Phase) → S.top ≤ top → ((place : ℕ) (head : Heading) → S.by place head → by place head) → Coherent S first us words at → Coherent (moved S top by) first us words at
 coherent_on S top by first us words (phase.Load name) more map c = tt
 coherent_on S top by first us words (phase.Look name owner) more map c = tt
+coherent_on S top by first us words (phase.Seek owner seeking) more map c = tt
+coherent_on S top by first us words (phase.Gain owner seeking) more map c = tt
 coherent_on S top by first us words (phase.Raise name owner) more map c = tt
 coherent_on S top by first us words (phase.Note name owner) more map c = tt
 coherent_on S top by first us words (phase.Probe version keeping) more map c = next_on S top by first us version more map c
@@ -138,6 +147,7 @@ coherent_on S top by first us words (phase.Prepare version keeping) more map c =
 coherent_on S top by first us words (phase.Swap keeping) more map c = record { place = c.place; number = c.number; version = c.version; publisher = c.publisher; there = c.there; is_next = next_on S top by first us c.version more map c.is_next }
 coherent_on S top by first us words (phase.Settle keeping) more map c = tt
 coherent_on S top by first us words (phase.Keep given keeping) more map c = tt
+coherent_on S top by first us words (phase.Enter given kept keeping) more map c = tt
 coherent_on S top by first us words (phase.Release owner for) more map c = tt
 coherent_on S top by first us words (phase.Bury owner for) more map c = tt
 coherent_on S top by first us words (phase.Fade owner number for) more map c = tt

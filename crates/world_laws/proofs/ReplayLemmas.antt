@@ -1,6 +1,6 @@
 -- The versions of a run are the replays of its updates.
 use Rattle.std.proofs.Common.{lit<, ◌≡◌, ◌≢◌, refl, sym, ap, ◌∙◌, subst, ℕ, zero, suc, ◌+◌, ◌<◌, ◌≤◌, ◌⊎◌, inl, inr, Bool, true, false, List, [], ◌∷◌, ◌++◌, length, take, arith, Option, Some, None}
-use Rattle.std.specs.Prelude.{◌&&◌, nat_lt, if◌then◌else◌, ◌||◌, ◌==◌, not, bytes_eq}
+use Rattle.std.specs.Prelude.{◌&&◌, is_some, min, nat_le, nat_lt, if◌then◌else◌, ◌||◌, ◌==◌, not, bytes_eq}
 use Rattle.std.proofs.lemmas.Bool.{cases_Bool}
 use Rattle.std.proofs.lemmas.Slice.Eq.{bytes_eq-Decides}
 use Rattle.std.specs.List.{slice_get}
@@ -12,7 +12,7 @@ use Rattle.cell_core.proofs.SeatLemmas.{get_within}
 use Rattle.cell_core.proofs.UserLemmas.{last_is_given, owner_is_given}
 use Rattle.cell_core.specs.Cell.{start as cell_start}
 use Rattle.cell_core.specs.Made.{made}
-use Rattle.cell_core.specs.Words.{grants, begun, version_in, place_of, found_by, found_last}
+use Rattle.cell_core.specs.Words.{grants, begun, first_slot, version_in, place_of, found_by, found_last}
 use Rattle.cell_core.specs.declared.words.Owner.{Owner}
 use Rattle.cell_core.specs.declared.words.Owner.TheVariants.{Holding, Twice, Weakly, Both, Burying, Fading, Resetting, Freeing, Spent}
 use Rattle.cell_core.specs.declared.words.Version.{Version}
@@ -28,10 +28,11 @@ use Rattle.update_core.specs.Verdict.{verdict}
 use Rattle.dns_message.specs.declared.query.Parsed.{Parsed}
 use Rattle.dns_message.specs.declared.query.Parsed.TheVariants as parsed
 use Rattle.dns_message.specs.declared.query.Query.{Query as QueryAsked}
-use Rattle.dns_rdata.specs.Numbers.{type_IXFR}
 use Rattle.serve_core.specs.declared.transport.Transport.TheVariants.{Udp, Tcp}
 use Rattle.serve_core.specs.Transfers.{peer_over, is_permitted}
-use Rattle.world_run.specs.World.{version_of, asks_sent, transfer_asked, transfer_said, transfer_start}
+use Rattle.world_run.specs.World.{asks_sent, seek_start, transfer_asked, transfer_said, transfer_of, transfer_start, none_got, is_barred, can_enter, noted_once, started_words}
+use Rattle.world_run.specs.Entries.{most_entries, later}
+use Rattle.world_run.specs.declared.sending.Sending.{Sending}
 use Rattle.world_run.specs.declared.judged.Judged.{Judged}
 use Rattle.world_run.specs.declared.judged.Judged.TheVariants as judgement
 use Rattle.world_run.specs.declared.phase.Phase.{Phase}
@@ -62,7 +63,7 @@ use Rattle.world_run.proofs.JudgeLemmas.{made_by}
 use Rattle.world_laws.proofs.RunLemmas.{answered_at_loaded}
 use Rattle.world_laws.proofs.SwapLemmas.{step_by, behind_once, after_swapped, swap_updates, HeadAt, keeps_at, KeepsAt}
 use Rattle.world_laws.proofs.CallReplays.{Script, script, no_update, Placed, updates_in, IsFresh, AreInTurn, IsNext, Zones, Tells, tells_same, Coherent, Behind, behind}
-use Rattle.world_laws.proofs.OtherCalls.{moved, all_none, coherent_on, later_on, fresh_on, all_on, tells_on, AllCoherent, any_update, AtMostOne, others_all, without_coherent, without_one, with_coherent, with_one, found_coherent, found_alone}
+use Rattle.world_laws.proofs.OtherCalls.{moved, unbarred, all_none, coherent_on, later_on, fresh_on, all_on, tells_on, AllCoherent, any_update, AtMostOne, others_all, without_coherent, without_one, with_coherent, with_one, found_coherent, found_alone}
 
 -- the steps of a call leave the updates so far, and the versions that are published, as they were
 pub record Leaves (us later : List Placed) (words new : Zones) (at : Phase) (progress : Progress) : Type 0 where
@@ -87,8 +88,8 @@ Comes S us later words new at progress = Leaves us later words new at progress �
 pub comes_by : (S : Script) (first : List Record) (us : List Placed) (words new : Zones) (at : Phase) (progress : Progress) → step_once words at ≡ Some (progress, new) → (b : Behind S first us words new at progress) → Comes S us b.later words new at progress
 comes_by S first us words new at progress e b =
     let one = step_by words new at progress (made words (word_step at)) refl e in
-    let swapped : swapped_at progress ≡ swapped_in at + swaps_now at = ap swapped_at (sym one.goes) ∙ after_swapped at one.event in
-    let headed : KeepsAt at progress = λ head h. subst (HeadAt head) one.goes (keeps_at head one.event (after at one.event) (keeps_head at one.event head h)) in
+    let swapped : swapped_at progress ≡ swapped_in at + swaps_now at = ap swapped_at (sym one.goes) ∙ after_swapped new at one.event in
+    let headed : KeepsAt at progress = λ head h. subst (HeadAt head) one.goes (keeps_at head one.event (after new at one.event) (keeps_head new at one.event head h)) in
     elim b.grown [
       | inl stays ↦ inl (record { same = stays.0; leaves = stays.2; swapped = (let none = stays.1 in omega (arith, swapped, none)); headed = headed })
       | inr adds ↦ inr (record { one = adds.0; added = adds.1; mine = adds.4; update = swap_updates at adds.2; unswapped = adds.3; swapped = (let now = adds.2 in let none = adds.3 in omega (arith, swapped, now, none)); headed = headed })
@@ -208,22 +209,31 @@ ask_ok : (S : Script) (first : List Record) (us : List Placed) (words : Zones) (
 ask_ok S first us words calls place None request = tt
 ask_ok S first us words calls place (Some zone) request = ok_if S first us words calls place (asks_update (reads request) || asks_sent Udp zone (reads request)) _ _ (λ e. tt) (λ e. tt)
 
-asked_ok : (S : Script) (first : List Record) (us : List Placed) (words : Zones) (calls : List UnderWay) (place : ℕ) (world : World) (version : Numbered) (query : QueryAsked) → StartOk S first us words calls place (transfer_asked world version query)
-asked_ok S first us words calls place world version query =
-    ok_if S first us words calls place (not (is_permitted version.zone (peer_over Tcp true) query)) _ _ (λ e. tt)
-    (λ e. ok_if S first us words calls place (query.question.rtype.0 == type_IXFR && any_update world.calls) _ _ (λ f. tt) (λ f. tt))
+seek_ok : (S : Script) (first : List Record) (us : List Placed) (words : Zones) (calls : List UnderWay) (place : ℕ) (sending : Sending) (owners : List ℕ) → StartOk S first us words calls place (seek_start words sending owners)
+seek_ok S first us words calls place sending [] = tt
+seek_ok S first us words calls place sending (owner ∷ left) = ok_if S first us words calls place (nat_le (words.granted + length (owner ∷ left)) grants) _ _ (λ e. (tt, λ is. absurd (no_true is))) (λ e. tt)
 
-sent_ok : (S : Script) (first : List Record) (us : List Placed) (words : Zones) (calls : List UnderWay) (place : ℕ) (world : World) (version : Numbered) (said : Parsed) → StartOk S first us words calls place (transfer_said world version said)
-sent_ok S first us words calls place world version parsed.Silent = tt
-sent_ok S first us words calls place world version (parsed.Fault head code) = tt
-sent_ok S first us words calls place world version (parsed.BadOpt head question code dnssec_ok) = tt
-sent_ok S first us words calls place world version (parsed.Query query) = asked_ok S first us words calls place world version query
-sent_ok S first us words calls place world version (parsed.Update update) = tt
-sent_ok S first us words calls place world version (parsed.NoMemory head) = tt
+asked_ok : (S : Script) (first : List Record) (us : List Placed) (place : ℕ) (world : World) (sending : Sending) (query : QueryAsked) → StartOk S first us world.words world.calls place (transfer_asked world sending query)
+asked_ok S first us place world sending query =
+    ok_if S first us world.words world.calls place (not (is_permitted sending.version.zone (peer_over Tcp true) query)) _ _ (λ e. tt)
+    (λ e. ok_if S first us world.words world.calls place (is_some query.serial && is_barred world.calls) _ _ (λ f. tt)
+    (λ f. seek_ok S first us world.words world.calls place sending (later sending.version.number query.serial world.entries)))
 
-transfer_ok : (S : Script) (first : List Record) (us : List Placed) (words : Zones) (calls : List UnderWay) (place : ℕ) (world : World) (version : Option Numbered) (request : List ℕ) → StartOk S first us words calls place (transfer_start world version request)
-transfer_ok S first us words calls place world None request = tt
-transfer_ok S first us words calls place world (Some version) request = sent_ok S first us words calls place world version (reads request)
+sent_ok : (S : Script) (first : List Record) (us : List Placed) (place : ℕ) (world : World) (sending : Sending) (said : Parsed) → StartOk S first us world.words world.calls place (transfer_said world sending said)
+sent_ok S first us place world sending parsed.Silent = tt
+sent_ok S first us place world sending (parsed.Fault head code) = tt
+sent_ok S first us place world sending (parsed.BadOpt head question code dnssec_ok) = tt
+sent_ok S first us place world sending (parsed.Query query) = asked_ok S first us place world sending query
+sent_ok S first us place world sending (parsed.Update update) = tt
+sent_ok S first us place world sending (parsed.NoMemory head) = tt
+
+of_ok : (S : Script) (first : List Record) (us : List Placed) (place : ℕ) (world : World) (owner : ℕ) (request : List ℕ) (version : Option Numbered) → StartOk S first us world.words world.calls place (transfer_of world owner request version)
+of_ok S first us place world owner request None = tt
+of_ok S first us place world owner request (Some version) = sent_ok S first us place world (none_got owner version request) (reads request)
+
+transfer_ok : (S : Script) (first : List Record) (us : List Placed) (place : ℕ) (world : World) (request : List ℕ) (owner : Option ℕ) → StartOk S first us world.words world.calls place (transfer_start world request owner)
+transfer_ok S first us place world request None = tt
+transfer_ok S first us place world request (Some owner) = of_ok S first us place world owner request (found_by world.words owner)
 
 -- the last version is the replay of all updates
 pub last_replay : (S : Script) (first : List Record) (words : Zones) (us : List Placed) (last : Numbered) → Tells S first words us → found_last words ≡ Some last → (last.number ≡ length (updates_in us)) × (last.zone ≡ replay first (updates_in us))
@@ -232,8 +242,9 @@ last_replay S first words us last t found =
     let is = t.replays.versions (length (updates_in us)) last (sym given ∙ found) in
     (is.0, is.1 ∙ ap (replay first) (take_all (length (updates_in us)) (updates_in us) (omega arith)))
 
-publication_ok : (S : Script) (first : List Record) (us : List Placed) (words : Zones) (calls : List UnderWay) (place : ℕ) (head : Heading) (version : Numbered) (oldest : Option ℕ) → any_update calls ≡ false → IsNext (moved S S.top (λ sent other. (sent ≡ place) × (Some head ≡ Some other))) first us version → StartOk S first us words calls place (publication_start words head version oldest)
-publication_ok S first us words calls place head version oldest none n = ok_if S first us words calls place (nat_lt words.granted grants && is_held words oldest) _ _ (λ e. (n, λ is. none)) (λ e. tt)
+publication_ok : (S : Script) (first : List Record) (us : List Placed) (world : World) (place : ℕ) (head : Heading) (version : Numbered) → any_update world.calls ≡ false → IsNext (moved S S.top (λ sent other. (sent ≡ place) × (Some head ≡ Some other))) first us version → StartOk S first us world.words world.calls place (publication_start world head version)
+publication_ok S first us world place head version none n =
+    ok_if S first us world.words world.calls place (nat_lt world.words.granted grants && is_held world.words (oldest_kept world.keep world.kept) && can_enter world.words world.window) _ _ (λ e. (n, λ is. none)) (λ e. tt)
 
 update_ok : (S : Script) (first : List Record) (us : List Placed) (world : World) (request : List ℕ) (place : ℕ) (last : Numbered) (what : Option Judged) → judged last request ≡ what → S.sends place request → IsFresh S us place → any_update world.calls ≡ false → found_last world.words ≡ Some last → Tells S first world.words us → StartOk S first us world.words world.calls place (update_start world what)
 update_ok S first us world request place last None is sent fresh none found t = tt
@@ -241,7 +252,7 @@ update_ok S first us world request place last (Some (judgement.Told head code)) 
 update_ok S first us world request place last (Some (judgement.Makes head version)) is sent fresh none found t =
     let m = made_by last request head version is in
     let l = last_replay S first world.words us last t found in
-    publication_ok S first us world.words world.calls place head version (oldest_kept world.keep world.kept) none (record {
+    publication_ok S first us world place head version none (record {
       place = place;
       fresh = record { played = fresh.played; last = fresh.last };
       makes = record {
@@ -269,13 +280,13 @@ start_ok : (S : Script) (first : List Record) (world : World) (call : Call) (pla
 start_ok S first world (Load name) place sent g fresh = ok_if S first g.us world.words world.calls place (is_taken name world) _ _ (λ e. tt) (λ e. (tt, λ is. absurd (no_true is)))
 start_ok S first world (Drop name) place sent g fresh = drop_ok S first g.us world.words world.calls place (owner_of name world.names)
 start_ok S first world (Copy given name) place sent g fresh = ok_if S first g.us world.words world.calls place (is_taken name world) _ _ (λ e. tt) (λ e. copy_ok S first g.us world.words world.calls place name (owner_of given world.names))
-start_ok S first world (Weak given name) place sent g fresh = ok_if S first g.us world.words world.calls place (is_taken_weakly name world || any_update world.calls) _ _ (λ e. tt) (λ e. weak_ok S first g.us world.words world.calls place name (owner_of given world.names))
+start_ok S first world (Weak given name) place sent g fresh = ok_if S first g.us world.words world.calls place (is_taken_weakly name world || is_barred world.calls) _ _ (λ e. tt) (λ e. weak_ok S first g.us world.words world.calls place name (owner_of given world.names))
 start_ok S first world (Fade name) place sent g fresh = fade_ok S first g.us world.words world.calls place (owner_of name world.weak_names)
 start_ok S first world (Up weak name) place sent g fresh = ok_if S first g.us world.words world.calls place (is_taken name world) _ _ (λ e. tt) (λ e. up_ok S first g.us world.words world.calls place name (owner_of weak world.weak_names))
 start_ok S first world (Ask name request) place sent g fresh = ask_ok S first g.us world.words world.calls place (zone_of name world) request
-start_ok S first world (Transfer name request) place sent g fresh = transfer_ok S first g.us world.words world.calls place world (version_of name world) request
+start_ok S first world (Transfer name request) place sent g fresh = transfer_ok S first g.us place world request (owner_of name world.names)
 start_ok S first world (Update request) place sent g fresh =
-    ok_if S first g.us world.words world.calls place (any_update world.calls) _ _ (λ e. tt) (λ none. found_ok S first g.us world request place (found_last world.words) refl (sent request refl) fresh none g.tells)
+    ok_if S first g.us world.words world.calls place (is_barred world.calls) _ _ (λ e. tt) (λ none. found_ok S first g.us world request place (found_last world.words) refl (sent request refl) fresh (unbarred world.calls none) g.tells)
 
 -- whichever may have begun the update that is under way behind a line: what may have before it; or the line itself, by the call that it put
 -- under way
@@ -596,10 +607,17 @@ start_tells S first = record {
         (ap (λ (v : Numbered). v.number) (sym same), ap (λ (v : Numbered). v.zone) (sym same))
     first_is first (suc k) version e = absurd (let wrong = e in cc)
 
+-- the first version is loaded once, and noted where there is a window
+started_tells : (S : Script) (first : List Record) (window : ℕ) (some : Bool) → nat_lt 0 window ≡ some → Tells S first (started_words (first_version first) window) []
+started_tells S first window true e =
+    rw e (tells_same S first (loaded_once (first_version first)) (noted_once (first_version first)) [] (word.Note 0) (told.Noted 1 0) tt (0, 0, first_slot (first_version first), refl, refl, lit< tt, refl, refl)
+    (tells_same S first (begun (first_version first)) (loaded_once (first_version first)) [] word.Load (told.Loaded 0 0) tt (0, refl, lit< tt, refl, refl) (start_tells S first)))
+started_tells S first window false e = rw e (tells_same S first (begun (first_version first)) (loaded_once (first_version first)) [] word.Load (told.Loaded 0 0) tt (0, refl, lit< tt, refl, refl) (start_tells S first))
+
 pub start_goes : (S : Script) (first : List Record) (keep window : ℕ) → Goes S first (started first keep window)
 start_goes S first keep window = record {
   us = [];
-  tells = tells_same S first (begun (first_version first)) (loaded_once (first_version first)) [] word.Load (told.Loaded 0 0) tt (0, refl, lit< tt, refl, refl) (start_tells S first);
+  tells = started_tells S first (min window most_entries) (nat_lt 0 (min window most_entries)) refl;
   coherent = tt;
   one = tt;
 }

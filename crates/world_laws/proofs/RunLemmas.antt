@@ -1,7 +1,7 @@
 -- The run of steps on words that lines make.
-use Rattle.std.proofs.Common.{lit<, ◌≡◌, refl, sym, ap, ◌∙◌, subst, ℕ, zero, suc, Bool, true, false, inl, inr, List, [], ◌∷◌, ◌++◌, length, Option, Some, None}
-use Rattle.std.specs.Prelude.{bytes_eq, not, nat_lt, ◌==◌, ◌||◌, ◌&&◌, if◌then◌else◌}
-use Rattle.std.specs.List.{slice_get, list_any}
+use Rattle.std.proofs.Common.{lit<, ◌≡◌, refl, sym, ap, ◌∙◌, subst, ℕ, zero, suc, ◌+◌, Bool, true, false, inl, inr, List, [], ◌∷◌, ◌++◌, length, Option, Some, None}
+use Rattle.std.specs.Prelude.{bytes_eq, is_some, min, not, nat_le, nat_lt, ◌==◌, ◌||◌, ◌&&◌, if◌then◌else◌}
+use Rattle.std.specs.List.{slice_get}
 use Rattle.std.specs.Option.{option_and_then, option_map}
 use Rattle.std.proofs.lemmas.Bool.{cases_Bool}
 use Rattle.cell_core.proofs.BeginShows.{begun_shows}
@@ -16,7 +16,7 @@ use Rattle.cell_core.specs.declared.words.Version.{Version}
 use Rattle.cell_core.proofs.SeatLemmas.{get_push_old, get_push_new}
 use Rattle.cell_core.specs.Made.{made}
 use Rattle.cell_core.specs.Shows.{WordRuns}
-use Rattle.cell_core.specs.Words.{State, begun, grants, version_in, place_of, owned_of, found_by, found_last}
+use Rattle.cell_core.specs.Words.{State, begun, first_slot, grants, version_in, place_of, owned_of, found_by, found_last}
 use Rattle.cell_core.specs.WordSteps.{Makes}
 use Rattle.cell_core.specs.declared.words.WordEvent.{WordEvent}
 use Rattle.cell_core.specs.declared.words.WordEvent.TheVariants as told
@@ -25,6 +25,9 @@ use Rattle.cell_core.specs.declared.words.WordStep.TheVariants as word
 use Rattle.dns_rdata.specs.Record.{Record}
 use Rattle.serve_core.specs.declared.heading.Heading.{Heading}
 use Rattle.dns_message.specs.Request.{reads}
+use Rattle.world_run.specs.declared.entries.Entry.{Entry}
+use Rattle.world_run.specs.declared.sending.Seeking.{Seeking}
+use Rattle.world_run.specs.declared.sending.Sending.{Sending}
 use Rattle.world_run.specs.declared.phase.Phase.{Phase}
 use Rattle.world_run.specs.declared.phase.Phase.TheVariants as phase
 use Rattle.world_run.specs.declared.phase.Keeping.{Keeping}
@@ -33,14 +36,13 @@ use Rattle.world_run.specs.declared.phase.Purpose.TheVariants as purpose
 use Rattle.dns_message.specs.declared.query.Parsed.{Parsed}
 use Rattle.dns_message.specs.declared.query.Parsed.TheVariants as parsed
 use Rattle.dns_message.specs.declared.query.Query.{Query as QueryAsked}
-use Rattle.dns_rdata.specs.Numbers.{type_IXFR}
 use Rattle.serve_core.specs.declared.transport.Transport.TheVariants.{Udp, Tcp}
 use Rattle.serve_core.specs.Transfers.{peer_over, is_permitted}
 use Rattle.world_run.specs.Judgements.{asks_update, judged}
 use Rattle.world_run.specs.declared.judged.Judged.{Judged}
 use Rattle.world_run.specs.declared.judged.Judged.TheVariants as judgement
 use Rattle.world_run.specs.declared.phase.End.{End}
-use Rattle.world_run.specs.declared.phase.End.TheVariants.{Owned, OwnedWeakly, Told, NoSlot, Kept}
+use Rattle.world_run.specs.declared.phase.End.TheVariants.{Owned, OwnedWeakly, Told, NoSlot, Kept, Sent}
 use Rattle.world_run.specs.declared.phase.Progress.{Progress}
 use Rattle.world_run.specs.declared.phase.Progress.TheVariants.{On, Done}
 use Rattle.world_run.specs.declared.names.Named.{Named}
@@ -56,10 +58,11 @@ use Rattle.world_run.specs.declared.step.WorldStep.{WorldStep as Line}
 use Rattle.world_run.specs.declared.step.WorldStep.TheVariants.{Whole, Begin, Next}
 use Rattle.zone_tree.specs.Version.{Version as Numbered}
 use Rattle.world_run.specs.Numbered.{first_version}
-use Rattle.world_run.specs.Phases.{word_step, after, past, gone, oldest_after, updates}
+use Rattle.world_run.specs.Phases.{word_step, after, past, gone, leaving_after, oldest_after, sent_after, completed, with_got, gained_after, got_after}
+use Rattle.world_run.specs.Entries.{most_entries, later}
 use Rattle.world_laws.specs.Runs.{Run, Comes, IsFromLoad, IsShownBy, ShowsReached, IsAnsweredAtLoaded}
 use Rattle.world_laws.specs.Runs.Comes.{loaded, raised, noted}
-use Rattle.world_run.specs.World.{World, loaded_once, started, owner_of, without_name, zone_of, version_of, call_of, without_call, is_taken, is_taken_weakly, is_used, drop_start, fade_start, copy_start, weak_start, up_start, asks_sent, ask_said, ask_start, transfer_asked, transfer_said, transfer_start, is_held, oldest_kept, update_start, start, given_up, weak_given_up, names_at, weak_names_at, step_once, steps_up_to, go_on, most_steps, is_full, all_made, whole, begin, begin_under, stepped, next, turn, onto_replies, play}
+use Rattle.world_run.specs.World.{World, loaded_once, noted_once, started, started_within, owner_of, without_name, zone_of, version_of, call_of, without_call, is_taken, is_taken_weakly, is_used, drop_start, fade_start, copy_start, weak_start, up_start, asks_sent, ask_said, ask_start, seek_start, transfer_asked, transfer_said, transfer_of, transfer_start, none_got, is_barred, can_enter, is_held, oldest_kept, update_start, start, given_up, weak_given_up, names_at, weak_names_at, step_once, steps_up_to, go_on, most_steps, is_full, all_made, whole, begin, begin_under, stepped, next, turn, onto_replies, play}
 
 -- an owner comes from a load of a run, and has its number
 pub record WasLoaded (run : Run) (owners : List Owner) (owner : ℕ) : Type 0 where
@@ -170,42 +173,80 @@ EndIsLoaded run owners (Done (Owned name owner number)) = WasLoaded run owners o
 EndIsLoaded run owners (Done (OwnedWeakly name owner number)) = WasLoaded run owners owner
 EndIsLoaded run owners (Done (Told answer)) = Unit {0}
 EndIsLoaded run owners (Done (NoSlot head)) = Unit {0}
-EndIsLoaded run owners (Done (Kept head owner)) = Unit {0}
+EndIsLoaded run owners (Done (Kept head owner entry)) = Unit {0}
+EndIsLoaded run owners (Done (Sent sending)) = Unit {0}
 EndIsLoaded run owners (On at) = PhaseLoaded run owners at
 
-oldest_by : (run : Run) (owners : List Owner) (head : Heading) (kept : ℕ) (oldest : Option ℕ) → EndIsLoaded run owners (oldest_after head kept oldest)
-oldest_by run owners head kept None = tt
-oldest_by run owners head kept (Some owner) = tt
+leaving_by : (run : Run) (owners : List Owner) (head : Heading) (kept : ℕ) (entry : Option Entry) (leaving : List ℕ) → EndIsLoaded run owners (leaving_after head kept entry leaving)
+leaving_by run owners head kept entry [] = tt
+leaving_by run owners head kept entry (owner ∷ leaving) = tt
+
+oldest_by : (run : Run) (owners : List Owner) (head : Heading) (kept : ℕ) (entry : Option Entry) (leaving : List ℕ) (oldest : Option ℕ) → EndIsLoaded run owners (oldest_after head kept entry leaving oldest)
+oldest_by run owners head kept entry leaving None = leaving_by run owners head kept entry leaving
+oldest_by run owners head kept entry leaving (Some owner) = tt
+
+sent_by : (run : Run) (owners : List Owner) (sending : Sending) (got : List ℕ) → EndIsLoaded run owners (sent_after sending got)
+sent_by run owners sending [] = tt
+sent_by run owners sending (owner ∷ got) = tt
 
 past_by : (run : Run) (owners : List Owner) (for : Purpose) (given : Answer) → EndIsLoaded run owners (past for given)
 past_by run owners purpose.Drop given = tt
-past_by run owners (purpose.Publish keeping kept) given = oldest_by run owners keeping.heading kept keeping.oldest
-past_by run owners (purpose.Oldest head kept) given = tt
+past_by run owners (purpose.Publish keeping kept entry) given = oldest_by run owners keeping.heading kept entry keeping.leaving keeping.oldest
+past_by run owners (purpose.Oldest head kept entry leaving) given = leaving_by run owners head kept entry leaving
+past_by run owners (purpose.Leaves head kept entry leaving) given = leaving_by run owners head kept entry leaving
+past_by run owners (purpose.Sent sending got) given = sent_by run owners sending got
 
-probe_by : (run : Run) (owners : List Owner) (version : Numbered) (keeping : Keeping) (event : WordEvent) → EndIsLoaded run owners (after (phase.Probe version keeping) event)
-probe_by run owners version keeping told.Taken = tt
-probe_by run owners version keeping told.NoSlot = tt
-probe_by run owners version keeping event = tt
+probe_by : (run : Run) (words : State Numbered) (version : Numbered) (keeping : Keeping) (event : WordEvent) → EndIsLoaded run words.owners (after words (phase.Probe version keeping) event)
+probe_by run words version keeping told.Taken = tt
+probe_by run words version keeping told.NoSlot = tt
+probe_by run words version keeping event = tt
 
-settle_by : (run : Run) (owners : List Owner) (keeping : Keeping) (event : WordEvent) → EndIsLoaded run owners (after (phase.Settle keeping) event)
-settle_by run owners keeping (told.Settled owner number) = tt
-settle_by run owners keeping event = tt
+settle_by : (run : Run) (words : State Numbered) (keeping : Keeping) (event : WordEvent) → EndIsLoaded run words.owners (after words (phase.Settle keeping) event)
+settle_by run words keeping (told.Settled owner number) = tt
+settle_by run words keeping event = tt
 
-keep_by : (run : Run) (owners : List Owner) (given : ℕ) (keeping : Keeping) (event : WordEvent) → EndIsLoaded run owners (after (phase.Keep given keeping) event)
-keep_by run owners given keeping (told.Loaded owner number) = tt
-keep_by run owners given keeping event = tt
+entered_by : (run : Run) (owners : List Owner) (given : ℕ) (keeping : Keeping) (owner : ℕ) (enters : Bool)
+    → EndIsLoaded run owners (if enters then On (phase.Enter given owner keeping) else On (phase.Release given (purpose.Publish keeping owner None)))
+entered_by run owners given keeping owner true = tt
+entered_by run owners given keeping owner false = tt
 
-release_by : (run : Run) (owners : List Owner) (at : ℕ) (for : Purpose) (event : WordEvent) → EndIsLoaded run owners (after (phase.Release at for) event)
-release_by run owners at for told.Emptied = tt
-release_by run owners at for event = past_by run owners for answer.Left
+keep_by : (run : Run) (words : State Numbered) (given : ℕ) (keeping : Keeping) (event : WordEvent) → EndIsLoaded run words.owners (after words (phase.Keep given keeping) event)
+keep_by run words given keeping (told.Loaded owner number) = entered_by run words.owners given keeping owner (is_some keeping.enters)
+keep_by run words given keeping event = tt
 
-bury_by : (run : Run) (owners : List Owner) (at : ℕ) (for : Purpose) (event : WordEvent) → EndIsLoaded run owners (after (phase.Bury at for) event)
-bury_by run owners at for (told.Buried number) = tt
-bury_by run owners at for event = past_by run owners for answer.Left
+enter_by : (run : Run) (words : State Numbered) (given kept : ℕ) (keeping : Keeping) (event : WordEvent) → EndIsLoaded run words.owners (after words (phase.Enter given kept keeping) event)
+enter_by run words given kept keeping (told.Noted owner number) = tt
+enter_by run words given kept keeping event = tt
 
-fade_by : (run : Run) (owners : List Owner) (at : ℕ) (number : Option ℕ) (for : Purpose) (event : WordEvent) → EndIsLoaded run owners (after (phase.Fade at number for) event)
-fade_by run owners at number for told.Closed = tt
-fade_by run owners at number for event = past_by run owners for (gone number)
+seek_by : (run : Run) (words : State Numbered) (owner : ℕ) (seeking : Seeking) (event : WordEvent) → EndIsLoaded run words.owners (after words (phase.Seek owner seeking) event)
+seek_by run words owner seeking told.Alive = tt
+seek_by run words owner seeking told.Dead = sent_by run words.owners seeking.sending seeking.owners
+seek_by run words owner seeking event = tt
+
+gained_by : (run : Run) (owners : List Owner) (seeking : Seeking) (left : List ℕ) → EndIsLoaded run owners (gained_after seeking left)
+gained_by run owners seeking [] = sent_by run owners (completed seeking.sending) seeking.owners
+gained_by run owners seeking (owner ∷ left) = tt
+
+got_by : (run : Run) (owners : List Owner) (owner : ℕ) (seeking : Seeking) (next : ℕ) (found : Option Numbered) → EndIsLoaded run owners (got_after owner seeking next found)
+got_by run owners owner seeking next None = tt
+got_by run owners owner seeking next (Some version) = gained_by run owners (with_got next version seeking) seeking.left
+
+gain_by : (run : Run) (words : State Numbered) (owner : ℕ) (seeking : Seeking) (event : WordEvent) → EndIsLoaded run words.owners (after words (phase.Gain owner seeking) event)
+gain_by run words owner seeking (told.Raised next number) = got_by run words.owners owner seeking next (found_by words next)
+gain_by run words owner seeking told.Dead = sent_by run words.owners seeking.sending seeking.owners
+gain_by run words owner seeking event = tt
+
+release_by : (run : Run) (words : State Numbered) (at : ℕ) (for : Purpose) (event : WordEvent) → EndIsLoaded run words.owners (after words (phase.Release at for) event)
+release_by run words at for told.Emptied = tt
+release_by run words at for event = past_by run words.owners for answer.Left
+
+bury_by : (run : Run) (words : State Numbered) (at : ℕ) (for : Purpose) (event : WordEvent) → EndIsLoaded run words.owners (after words (phase.Bury at for) event)
+bury_by run words at for (told.Buried number) = tt
+bury_by run words at for event = past_by run words.owners for answer.Left
+
+fade_by : (run : Run) (words : State Numbered) (at : ℕ) (number : Option ℕ) (for : Purpose) (event : WordEvent) → EndIsLoaded run words.owners (after words (phase.Fade at number for) event)
+fade_by run words at number for told.Closed = tt
+fade_by run words at number for event = past_by run words.owners for (gone number)
 
 -- an owner behind a step that another makes
 loaded_on : (run : Run) (words new : State Numbered) (step : WordStep Numbered) (event : WordEvent) (owner : ℕ) → Makes words step event new → WasLoaded run words.owners owner → WasLoaded (run ++ (step, event) ∷ []) new.owners owner
@@ -213,19 +254,19 @@ loaded_on run words new step event owner m was =
     loaded_still run (run ++ (step, event) ∷ []) words.owners new.owners owner (λ place s e. get_push_old run (step, event) s place e) (λ o number k. keeps_step words new step event o number m k) was
 
 -- a load gives an owner that comes from it, a raise and a note one that comes from where their owner does
-load_by : (run : Run) (words new : State Numbered) (name : List ℕ) (event : WordEvent) → Makes {T = Numbered} words word.Load event new → EndIsLoaded (run ++ (word.Load, event) ∷ []) new.owners (after (phase.Load name) event)
+load_by : (run : Run) (words new : State Numbered) (name : List ℕ) (event : WordEvent) → Makes {T = Numbered} words word.Load event new → EndIsLoaded (run ++ (word.Load, event) ∷ []) new.owners (after new (phase.Load name) event)
 load_by run words new name (told.Loaded owner number) m = record {
   from = record { place = length run; loader = owner; number = number; is_load = get_push_new run (word.Load, told.Loaded owner number) (length run) refl; comes = loaded };
   keeps = (loaded_keeps words new owner number m).1;
 }
 load_by run words new name event m = tt
 
-look_by : (longer : Run) (later : List Owner) (name : List ℕ) (owner : ℕ) (event : WordEvent) → WasLoaded longer later owner → EndIsLoaded longer later (after (phase.Look name owner) event)
-look_by longer later name owner told.Alive was = was
-look_by longer later name owner told.Dead was = tt
-look_by longer later name owner event was = was
+look_by : (longer : Run) (words : State Numbered) (name : List ℕ) (owner : ℕ) (event : WordEvent) → WasLoaded longer words.owners owner → EndIsLoaded longer words.owners (after words (phase.Look name owner) event)
+look_by longer words name owner told.Alive was = was
+look_by longer words name owner told.Dead was = tt
+look_by longer words name owner event was = was
 
-raise_by : (run : Run) (words new : State Numbered) (name : List ℕ) (from : ℕ) (event : WordEvent) → Makes {T = Numbered} words (word.Raise from) event new → WasLoaded run words.owners from → WasLoaded (run ++ (word.Raise from, event) ∷ []) new.owners from → EndIsLoaded (run ++ (word.Raise from, event) ∷ []) new.owners (after (phase.Raise name from) event)
+raise_by : (run : Run) (words new : State Numbered) (name : List ℕ) (from : ℕ) (event : WordEvent) → Makes {T = Numbered} words (word.Raise from) event new → WasLoaded run words.owners from → WasLoaded (run ++ (word.Raise from, event) ∷ []) new.owners from → EndIsLoaded (run ++ (word.Raise from, event) ∷ []) new.owners (after new (phase.Raise name from) event)
 raise_by run words new name from (told.Raised next number) m was still =
     let f = was.from in
     let on : Keeps run (run ++ (word.Raise from, told.Raised next number) ∷ []) = λ place s e. get_push_old run (word.Raise from, told.Raised next number) s place e in
@@ -242,7 +283,7 @@ raise_by run words new name from (told.Raised next number) m was still =
 raise_by run words new name from told.Dead m was still = tt
 raise_by run words new name from event m was still = still
 
-note_by : (run : Run) (words new : State Numbered) (name : List ℕ) (from : ℕ) (event : WordEvent) → Makes {T = Numbered} words (word.Note from) event new → WasLoaded run words.owners from → WasLoaded (run ++ (word.Note from, event) ∷ []) new.owners from → EndIsLoaded (run ++ (word.Note from, event) ∷ []) new.owners (after (phase.Note name from) event)
+note_by : (run : Run) (words new : State Numbered) (name : List ℕ) (from : ℕ) (event : WordEvent) → Makes {T = Numbered} words (word.Note from) event new → WasLoaded run words.owners from → WasLoaded (run ++ (word.Note from, event) ∷ []) new.owners from → EndIsLoaded (run ++ (word.Note from, event) ∷ []) new.owners (after new (phase.Note name from) event)
 note_by run words new name from (told.Noted next number) m was still =
     let f = was.from in
     let on : Keeps run (run ++ (word.Note from, told.Noted next number) ∷ []) = λ place s e. get_push_old run (word.Note from, told.Noted next number) s place e in
@@ -258,19 +299,22 @@ note_by run words new name from (told.Noted next number) m was still =
     }
 note_by run words new name from event m was still = still
 
-ends_by : (run : Run) (words new : State Numbered) (at : Phase) (event : WordEvent) → Makes words (word_step at) event new → PhaseLoaded run words.owners at → EndIsLoaded (run ++ (word_step at, event) ∷ []) new.owners (after at event)
+ends_by : (run : Run) (words new : State Numbered) (at : Phase) (event : WordEvent) → Makes words (word_step at) event new → PhaseLoaded run words.owners at → EndIsLoaded (run ++ (word_step at, event) ∷ []) new.owners (after new at event)
 ends_by run words new (phase.Load name) event m was = load_by run words new name event m
-ends_by run words new (phase.Look name owner) event m was = look_by _ _ name owner event (loaded_on run words new (word.Look owner) event owner m was)
+ends_by run words new (phase.Look name owner) event m was = look_by _ new name owner event (loaded_on run words new (word.Look owner) event owner m was)
 ends_by run words new (phase.Raise name owner) event m was = raise_by run words new name owner event m was (loaded_on run words new (word.Raise owner) event owner m was)
 ends_by run words new (phase.Note name owner) event m was = note_by run words new name owner event m was (loaded_on run words new (word.Note owner) event owner m was)
-ends_by run words new (phase.Probe version keeping) event m was = probe_by _ _ version keeping event
+ends_by run words new (phase.Probe version keeping) event m was = probe_by _ new version keeping event
 ends_by run words new (phase.Prepare version keeping) event m was = tt
 ends_by run words new (phase.Swap keeping) event m was = tt
-ends_by run words new (phase.Settle keeping) event m was = settle_by _ _ keeping event
-ends_by run words new (phase.Keep given keeping) event m was = keep_by _ _ given keeping event
-ends_by run words new (phase.Release at for) event m was = release_by _ _ at for event
-ends_by run words new (phase.Bury at for) event m was = bury_by _ _ at for event
-ends_by run words new (phase.Fade at number for) event m was = fade_by _ _ at number for event
+ends_by run words new (phase.Settle keeping) event m was = settle_by _ new keeping event
+ends_by run words new (phase.Keep given keeping) event m was = keep_by _ new given keeping event
+ends_by run words new (phase.Enter given kept keeping) event m was = enter_by _ new given kept keeping event
+ends_by run words new (phase.Seek owner seeking) event m was = seek_by _ new owner seeking event
+ends_by run words new (phase.Gain owner seeking) event m was = gain_by _ new owner seeking event
+ends_by run words new (phase.Release at for) event m was = release_by _ new at for event
+ends_by run words new (phase.Bury at for) event m was = bury_by _ new at for event
+ends_by run words new (phase.Fade at number for) event m was = fade_by _ new at number for event
 ends_by run words new (phase.Reset at number for) event m was = tt
 ends_by run words new (phase.Free at number for) event m was = past_by _ _ for (gone number)
 
@@ -278,18 +322,18 @@ ends_by run words new (phase.Free at number for) event m was = past_by _ _ for (
 pub record OneStep (words : State Numbered) (phase : Phase) (progress : Progress) (after_step : State Numbered) : Type 0 where
   pub event : WordEvent
   pub makes : Makes words (word_step phase) event after_step
-  pub goes : after phase event ≡ progress
+  pub goes : after after_step phase event ≡ progress
 
 one_of : (words after_step : State Numbered) (phase : Phase) (progress : Progress) (o : Option (WordEvent × State Numbered)) → made words (word_step phase) ≡ o
-    → option_map {U = Progress × State Numbered} (λ t. (after phase t.0, t.1)) o ≡ Some (progress, after_step) → OneStep words phase progress after_step
+    → option_map {U = Progress × State Numbered} (λ t. (after t.1 phase t.0, t.1)) o ≡ Some (progress, after_step) → OneStep words phase progress after_step
 one_of words after_step phase progress None e is = absurd (let wrong = is in cc)
 one_of words after_step phase progress (Some t) e is =
-    let pair : (after phase t.0, t.1) ≡ (progress, after_step) = (let i = is in cc) in
+    let pair : (after t.1 phase t.0, t.1) ≡ (progress, after_step) = (let i = is in cc) in
     let same : t.1 ≡ after_step = ap (λ (p : Progress × State Numbered). p.1) pair in
     record {
       event = t.0;
       makes = subst (λ s. Makes words (word_step phase) t.0 s) same (made_makes words t.1 (word_step phase) t.0 e);
-      goes = ap (λ (p : Progress × State Numbered). p.0) pair;
+      goes = subst (λ s. after s phase t.0 ≡ progress) same (ap (λ (p : Progress × State Numbered). p.0) pair);
     }
 
 pub one_step : (words after_step : State Numbered) (phase : Phase) (progress : Progress) → step_once words phase ≡ Some (progress, after_step) → OneStep words phase progress after_step
@@ -433,38 +477,46 @@ ask_loads : (run : Run) (owners : List Owner) (zone : Option (List Record)) (req
 ask_loads run owners None request = tt
 ask_loads run owners (Some zone) request = start_if run owners (asks_update (reads request) || asks_sent Udp zone (reads request)) _ _ tt tt
 
-asked_loads : (run : Run) (owners : List Owner) (world : World) (version : Numbered) (query : QueryAsked) → StartLoaded run owners (transfer_asked world version query)
-asked_loads run owners world version query =
-    start_if run owners (not (is_permitted version.zone (peer_over Tcp true) query)) _ _ tt
-    (start_if run owners (query.question.rtype.0 == type_IXFR && list_any (λ call. updates call.phase) world.calls) _ _ tt tt)
+seek_loads : (run : Run) (owners : List Owner) (words : State Numbered) (sending : Sending) (later : List ℕ) → StartLoaded run owners (seek_start words sending later)
+seek_loads run owners words sending [] = tt
+seek_loads run owners words sending (owner ∷ left) = start_if run owners (nat_le (words.granted + length (owner ∷ left)) grants) _ _ tt tt
 
-said_loads : (run : Run) (owners : List Owner) (world : World) (version : Numbered) (said : Parsed) → StartLoaded run owners (transfer_said world version said)
-said_loads run owners world version parsed.Silent = tt
-said_loads run owners world version (parsed.Fault head code) = tt
-said_loads run owners world version (parsed.BadOpt head question code dnssec_ok) = tt
-said_loads run owners world version (parsed.Query query) = asked_loads run owners world version query
-said_loads run owners world version (parsed.Update update) = tt
-said_loads run owners world version (parsed.NoMemory head) = tt
+asked_loads : (run : Run) (owners : List Owner) (world : World) (sending : Sending) (query : QueryAsked) → StartLoaded run owners (transfer_asked world sending query)
+asked_loads run owners world sending query =
+    start_if run owners (not (is_permitted sending.version.zone (peer_over Tcp true) query)) _ _ tt
+    (start_if run owners (is_some query.serial && is_barred world.calls) _ _ tt (seek_loads run owners world.words sending (later sending.version.number query.serial world.entries)))
 
-transfer_loads : (run : Run) (owners : List Owner) (world : World) (version : Option Numbered) (request : List ℕ) → StartLoaded run owners (transfer_start world version request)
-transfer_loads run owners world None request = tt
-transfer_loads run owners world (Some version) request = said_loads run owners world version (reads request)
+said_loads : (run : Run) (owners : List Owner) (world : World) (sending : Sending) (said : Parsed) → StartLoaded run owners (transfer_said world sending said)
+said_loads run owners world sending parsed.Silent = tt
+said_loads run owners world sending (parsed.Fault head code) = tt
+said_loads run owners world sending (parsed.BadOpt head question code dnssec_ok) = tt
+said_loads run owners world sending (parsed.Query query) = asked_loads run owners world sending query
+said_loads run owners world sending (parsed.Update update) = tt
+said_loads run owners world sending (parsed.NoMemory head) = tt
+
+of_loads : (run : Run) (owners : List Owner) (world : World) (owner : ℕ) (request : List ℕ) (version : Option Numbered) → StartLoaded run owners (transfer_of world owner request version)
+of_loads run owners world owner request None = tt
+of_loads run owners world owner request (Some version) = said_loads run owners world (none_got owner version request) (reads request)
+
+transfer_loads : (run : Run) (owners : List Owner) (world : World) (request : List ℕ) (o : Option ℕ) → StartLoaded run owners (transfer_start world request o)
+transfer_loads run owners world request None = tt
+transfer_loads run owners world request (Some owner) = of_loads run owners world owner request (found_by world.words owner)
 
 update_loads : (run : Run) (owners : List Owner) (world : World) (what : Option Judged) → StartLoaded run owners (update_start world what)
 update_loads run owners world None = tt
 update_loads run owners world (Some (judgement.Told head code)) = tt
-update_loads run owners world (Some (judgement.Makes head version)) = start_if run owners (nat_lt world.words.granted grants && is_held world.words (oldest_kept world.keep world.kept)) _ _ tt tt
+update_loads run owners world (Some (judgement.Makes head version)) = start_if run owners (nat_lt world.words.granted grants && is_held world.words (oldest_kept world.keep world.kept) && can_enter world.words world.window) _ _ tt tt
 
 start_loads : (first : List Record) (world : World) (call : Call) (s : Shown first world) → StartLoaded s.run world.words.owners (start world call)
 start_loads first world (Load name) s = start_if s.run world.words.owners (is_taken name world) _ _ tt tt
 start_loads first world (Drop name) s = drop_loads s.run world.words.owners world.calls (owner_of name world.names)
 start_loads first world (Copy given name) s = start_if s.run world.words.owners (is_taken name world) _ _ tt (copy_loads s.run world.words.owners name given world.names (owner_of given world.names) s.names refl)
-start_loads first world (Weak given name) s = start_if s.run world.words.owners (is_taken_weakly name world || list_any (λ call. updates call.phase) world.calls) _ _ tt (weak_loads s.run world.words.owners name given world.names (owner_of given world.names) s.names refl)
+start_loads first world (Weak given name) s = start_if s.run world.words.owners (is_taken_weakly name world || is_barred world.calls) _ _ tt (weak_loads s.run world.words.owners name given world.names (owner_of given world.names) s.names refl)
 start_loads first world (Fade name) s = fade_loads s.run world.words.owners world.calls (owner_of name world.weak_names)
 start_loads first world (Up weak name) s = start_if s.run world.words.owners (is_taken name world) _ _ tt (up_loads s.run world.words.owners world.calls name weak world.weak_names (owner_of weak world.weak_names) s.weak_names refl)
 start_loads first world (Ask name request) s = ask_loads s.run world.words.owners (zone_of name world) request
-start_loads first world (Transfer name request) s = transfer_loads s.run world.words.owners world (version_of name world) request
-start_loads first world (Update request) s = start_if s.run world.words.owners (list_any (λ call. updates call.phase) world.calls) _ _ tt (update_loads s.run world.words.owners world (option_and_then (λ last. judged last request) (found_last world.words)))
+start_loads first world (Transfer name request) s = transfer_loads s.run world.words.owners world request (owner_of name world.names)
+start_loads first world (Update request) s = start_if s.run world.words.owners (is_barred world.calls) _ _ tt (update_loads s.run world.words.owners world (option_and_then (λ last. judged last request) (found_last world.words)))
 
 whole_shown : (first : List Record) (world : World) (call : Call) (how : Start) (s : Shown first world) → StartLoaded s.run world.words.owners how → ShownBehind first (whole world call how)
 whole_shown first world call Refused s was = behind_some first _ s
@@ -536,15 +588,25 @@ play_shown first world [] replies behind s e =
 play_shown first world (line ∷ lines) replies behind s e =
     line_shown first world behind lines replies (turn world line) (turn_shown first world line s) (λ given between shown more last p. play_shown first between lines more last shown p) e
 
--- the first version is loaded once
-started_shown : (first : List Record) (keep window : ℕ) → Shown first (started first keep window)
-started_shown first keep window = record {
-  run = (word.Load, told.Loaded 0 0) ∷ [];
-  runs = (loaded_once (first_version first), (0, refl, lit< tt, refl, refl), refl);
+-- the first version is loaded once, and noted where there is a window
+started_by : (first : List Record) (keep window : ℕ) (some : Bool) → nat_lt 0 window ≡ some → Shown first (started_within first keep window)
+started_by first keep window true e = record {
+  run = (word.Load, told.Loaded 0 0) ∷ (word.Note 0, told.Noted 1 0) ∷ [];
+  runs = rw e (loaded_once (first_version first), (0, refl, lit< tt, refl, refl), noted_once (first_version first), (0, 0, first_slot (first_version first), refl, refl, lit< tt, refl, refl), refl);
   names = tt;
   weak_names = tt;
   calls = tt;
 }
+started_by first keep window false e = record {
+  run = (word.Load, told.Loaded 0 0) ∷ [];
+  runs = rw e (loaded_once (first_version first), (0, refl, lit< tt, refl, refl), refl);
+  names = tt;
+  weak_names = tt;
+  calls = tt;
+}
+
+started_shown : (first : List Record) (keep window : ℕ) → Shown first (started first keep window)
+started_shown first keep window = started_by first keep (min window most_entries) (nat_lt 0 (min window most_entries)) refl
 
 pub played_shown : (first : List Record) (keep window : ℕ) (lines : List Line) (replies : List WorldReply) (world : World) → play (started first keep window) lines ≡ Some (replies, world) → Shown first world
 played_shown first keep window lines replies world e = play_shown first (started first keep window) lines replies world (started_shown first keep window) e

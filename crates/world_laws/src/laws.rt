@@ -1,7 +1,8 @@
 //! What the definitions say of lines that are played, each the contract of a function that does nothing.
-ghost use Rattle.std.specs.Prelude.{◌≡◌, ℕ, ◌<◌, ◌≤◌, ◌^◌, filter, true, List, [], ◌∷◌, length, codes, Some};
+ghost use Rattle.std.specs.Prelude.{◌≡◌, ℕ, ◌<◌, ◌≤◌, ◌^◌, filter, true, List, [], ◌∷◌, length, codes, Option, Some};
 ghost use Rattle.cell_core.specs.Cell.{Cell};
 ghost use Rattle.cell_core.specs.Shows.{Shows};
+ghost use Rattle.cell_core.specs.Words.{State};
 ghost use Rattle.dns_rdata.specs.Record.{Record};
 ghost use Rattle.dns_message.specs.Request.{reads};
 ghost use Rattle.world_run.specs.Judgements.{judged};
@@ -11,6 +12,7 @@ ghost use Rattle.world_run.specs.Phases.{after};
 ghost use Rattle.world_laws.specs.UpdateAnswers.{heading_of, KeepsHeading, got_alone};
 ghost use Rattle.world_run.specs.declared.judged.Judged.TheVariants.{Told, Makes};
 ghost use Rattle.world_run.specs.declared.phase.End.TheVariants.{NoSlot, Kept};
+ghost use Rattle.world_run.specs.declared.entries.Entry.{Entry};
 ghost use Rattle.world_run.specs.declared.phase.Phase.{Phase};
 ghost use Rattle.cell_core.specs.declared.words.WordEvent.{WordEvent};
 ghost use Rattle.dns_rdata.specs.declared.numbers.Rcode.{Rcode};
@@ -81,14 +83,14 @@ pub fn updates_are_told()
         → got Udp true ForNothing last.zone request ≡ got_alone heading code last.zone }
     ensures made { (last : Numbered) (request : List ℕ) (heading : Heading) (version : Numbered) → judged last request ≡ Some (Makes heading version)
         → got Udp true ForNothing last.zone request ≡ got_alone heading NoError version.zone }
-    ensures under_way { (at : Phase) (event : WordEvent) (heading : Heading) → heading_of at ≡ Some heading → KeepsHeading heading event (after at event) }
-    ensures ends { (heading : Heading) (owner : ℕ) → (answer_at (NoSlot heading) ≡ code_reply heading ServFail) × (answer_at (Kept heading owner) ≡ code_reply heading NoError) }
+    ensures under_way { (words : State Numbered) (at : Phase) (event : WordEvent) (heading : Heading) → heading_of at ≡ Some heading → KeepsHeading heading event (after words at event) }
+    ensures ends { (heading : Heading) (owner : ℕ) (entry : Option Entry) → (answer_at (NoSlot heading) ≡ code_reply heading ServFail) × (answer_at (Kept heading owner entry) ≡ code_reply heading NoError) }
 {}
 
-/// While the numbers of versions fit 64 bits, a line that isn't enabled changes nothing.
+/// Whatever lines were played, and while the numbers of versions fit 64 bits, a line that isn't enabled changes nothing.
 pub fn refused_lines_change_nothing()
-    ensures { (world after : World) (line : WorldStep) (cell : Cell Numbered) → Shows world.words cell → length cell.published < 2 ^ 64
-        → turn world line ≡ Some (NotEnabled, after) → after ≡ world }
+    ensures { (first : List Record) (keep window : ℕ) (lines : List WorldStep) (replies : List WorldReply) (world after : World) (line : WorldStep) (cell : Cell Numbered)
+        → play (started first keep window) lines ≡ Some (replies, world) → Shows world.words cell → length cell.published < 2 ^ 64 → turn world line ≡ Some (NotEnabled, after) → after ≡ world }
 {}
 
 /// Worked examples, of an update that makes the second version: the first outlives it for whom it was loaded, and the last name that
@@ -127,16 +129,14 @@ pub fn versions_are_held()
 {}
 
 /// When no call is under way and no name is in use, for strong owners or weak, exactly the versions before those that are kept are buried, and all slots are free but
-/// that of the last version and one for each other that is kept.
+/// one for each version that is kept or in the window.
 pub fn versions_before_the_kept_are_buried()
     ensures { (first : List Record) (keep window : ℕ) (lines : List WorldStep) (replies : List WorldReply) (world : World)
         → play (started first keep window) lines ≡ Some (replies, world) → world.names ≡ [] → world.weak_names ≡ [] → world.calls ≡ [] → IsAtRest first keep lines world }
 {}
 
-/// Whatever lines were played from a zone on, an IXFR that is answered gets the SOA alone where its serial isn't less than that of
-/// the version which its name holds; else records that lead from the version of that serial to the one that is held: who holds
-/// the former and takes them, holds the latter; and where what changed isn't told, the version in whole, which leads there from
-/// any version (RFC 1995, 2 and 4; RFC 5936, 2.2).
+/// Whatever lines were played from a zone on, an IXFR that is answered at once gets the SOA alone where its serial isn't less than that of
+/// the version which its name holds; else the version in whole, which leads there from any version (RFC 1995, 2 and 4; RFC 5936, 2.2).
 pub fn transfers_lead_to_the_served()
     ensures { (first : List Record) (keep window : ℕ) (lines : List WorldStep) (replies : List WorldReply) (world : World) (name request : List ℕ) (query : Query) (octets : List (List ℕ))
         → IsZone first → AreOctets lines → play (started first keep window) lines ≡ Some (replies, world) → reads request ≡ Asks query → query.question.rtype.0 ≡ type_IXFR

@@ -18,7 +18,7 @@ use Rattle.world_run.specs.World.{step_once, steps_up_to, most_steps}
 -- where the words have no such step, the call takes none
 pub none_once : (words : State Numbered) (phase : Phase) (step : WordStep Numbered) → step ≡ word_step phase → (HasWordStep words step → ⊥) → step_once words phase ≡ None
 none_once words phase step is none =
-    ap (option_map (λ told. (after phase told.0, told.1))) (none_made words (word_step phase) (λ has. none (rw is has)))
+    ap (option_map (λ told. (after told.1 phase told.0, told.1))) (none_made words (word_step phase) (λ has. none (rw is has)))
 
 pub stays_there : (left : ℕ) (words : State Numbered) (phase : Phase) → 0 < left → step_once words phase ≡ None → steps_up_to left words phase ≡ (On phase, words)
 unfolding steps_up_to
@@ -80,7 +80,7 @@ pub passed : (at : ℕ) (first words : State Numbered) (begun phase : Phase) →
 passed at first words begun phase is so_far = sym (so_far ∙ no_more (most_steps - at) words phase (omega arith))
 
 -- a step that is made is the call's, and what follows on it does
-pub made_once : (words new : State Numbered) (at : Phase) (taken : WordStep Numbered) (event : WordEvent) (progress : Progress) → taken ≡ word_step at → Makes words taken event new → progress ≡ after at event → step_once words at ≡ Some (progress, new)
+pub made_once : (words new : State Numbered) (at : Phase) (taken : WordStep Numbered) (event : WordEvent) (progress : Progress) → taken ≡ word_step at → Makes words taken event new → progress ≡ after new at event → step_once words at ≡ Some (progress, new)
 made_once words new at taken event progress is m goes =
     let here : Makes words (word_step at) event new = subst (λ s. Makes words s event new) is m in
-    ap (option_map (λ t. (after at t.0, t.1))) (makes_made words new (word_step at) event here) ∙ ap (λ (p : Progress). Some (p, new)) (sym goes)
+    ap (option_map (λ t. (after t.1 at t.0, t.1))) (makes_made words new (word_step at) event here) ∙ ap (λ (p : Progress). Some (p, new)) (sym goes)

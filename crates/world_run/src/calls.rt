@@ -2,8 +2,8 @@
 ghost use Rattle.std.specs.Prelude.{◌≡◌, ◌++◌, ◌∷◌, [], IfErr, OnOk, filter, not, bytes_eq, find};
 ghost use Rattle.std.specs.List.{list_any};
 ghost use Rattle.std.specs.Option.{option_copied};
-ghost use Rattle.world_run.specs.Phases.{reserves as says_reserves, reserves_weakly as says_reserves_weakly, updates as says_updates};
-ghost use Rattle.world_run.specs.World.{call_of, is_used as says_used, without_call};
+ghost use Rattle.world_run.specs.Phases.{reserves as says_reserves, reserves_weakly as says_reserves_weakly};
+ghost use Rattle.world_run.specs.World.{call_of, is_used as says_used, is_barred as says_barred, without_call};
 ghost use Rattle.world_run.specs.declared.calls.UnderWay.{UnderWay as UnderWayRow};
 
 use crate::fault::WorldFault;
@@ -54,11 +54,11 @@ pub(crate) fn is_used(calls: &[UnderWay<'_>], owner: usize) -> bool
     calls.iter().any(|call| call.phase.uses(owner))
 }
 
-/// Whether an update is under way.
-pub(crate) fn is_updating(calls: &[UnderWay<'_>]) -> bool
-    ensures { result ≡ list_any (λ call. says_updates call.phase) calls.now }
+/// Whether a call is under way for which the window stays as it is.
+pub(crate) fn is_barred(calls: &[UnderWay<'_>]) -> bool
+    ensures { result ≡ says_barred calls.now }
 {
-    calls.iter().any(|call| call.phase.updates())
+    calls.iter().any(|call| call.phase.bars())
 }
 
 /// The call under way of a name.

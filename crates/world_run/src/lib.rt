@@ -10,17 +10,19 @@
 
 mod asked;
 mod calls;
+mod entries;
 mod fault;
 mod judged;
-mod kept;
 mod kept_owners;
 mod lent;
 mod message_list;
 mod names;
 mod options;
+mod owner_list;
 mod phase;
 mod play;
 mod published;
+mod sending;
 mod start;
 mod step;
 mod transfer;

@@ -27,6 +27,7 @@ a_loaded first = record {
   keep = 0;
   window = 0;
   kept = 0 ∷ [];
+  entries = [];
 }
 
 -- the world behind `load a` and `weak a w`
@@ -39,6 +40,7 @@ weak_loaded first = record {
   keep = 0;
   window = 0;
   kept = 0 ∷ [];
+  entries = [];
 }
 
 -- the replies to both, to an update by what it comes to, and to further lines
