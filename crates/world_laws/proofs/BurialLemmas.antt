@@ -62,7 +62,7 @@ use Rattle.world_run.specs.declared.sending.Sending.{Sending}
 use Rattle.world_run.specs.World.{World, started, call_of, without_call, owner_of, is_taken, zone_of, answer_of, asks_sent, ask_start, drop_start, fade_start, copy_start, weak_start, up_start, is_used, is_taken_weakly, seek_start, transfer_asked, transfer_said, transfer_of, transfer_start, none_got, is_barred, can_enter, is_held, oldest_kept, update_start, start, answer_at, step_once, steps_up_to, go_on, most_steps, is_full, all_made, whole, begin, begin_under, stepped, next, turn, onto_replies, play}
 use Rattle.world_laws.proofs.FirstLemmas.{IsOpening, OpeningOf, start_opening}
 use Rattle.world_laws.proofs.HandPlay.{started_hands}
-use Rattle.world_laws.proofs.HandSteps.{Zones}
+use Rattle.world_laws.proofs.HandSeats.{Zones}
 use Rattle.world_laws.proofs.SwapLemmas.{step_by}
 
 -- a number that is to be told

@@ -47,7 +47,7 @@ use Rattle.world_run.specs.Phases.{word_step, after, past, gone, leaving_after, 
 use Rattle.world_laws.specs.Replays.{IsAccepted, AreReplays}
 use Rattle.world_laws.specs.InTurn.{LeavesPublished}
 use Rattle.world_run.specs.World.{next}
-use Rattle.world_laws.proofs.HandSteps.{swaps_now, swapped_in}
+use Rattle.world_laws.proofs.HandSeats.{swaps_now, swapped_in}
 
 -- what stands at a place of a list with one more, and where
 placed : {X : Type 0} (xs : List X) (x y : X) (k : ℕ) → slice_get (xs ++ x ∷ []) k ≡ Some y → (slice_get xs k ≡ Some y) ⊎ ((k ≡ length xs) × (x ≡ y))
@@ -625,45 +625,11 @@ entered_follows S first us words given keeping owner false = (tt, refl)
 
 keep_follows : (S : Script) (first : List Record) (us : List Placed) (words : Zones) (given : ℕ) (keeping : Keeping) (event : WordEvent) → Follows S first us words true (after words (phase.Keep given keeping) event)
 keep_follows S first us words given keeping (told.Loaded owner number) = entered_follows S first us words given keeping owner (is_some keeping.enters)
-keep_follows S first us words given keeping told.Passed = (tt, refl)
-keep_follows S first us words given keeping told.Taken = (tt, refl)
-keep_follows S first us words given keeping told.NoSlot = (tt, refl)
-keep_follows S first us words given keeping told.Prepared = (tt, refl)
-keep_follows S first us words given keeping (told.Swapped number) = (tt, refl)
-keep_follows S first us words given keeping (told.Settled owner number) = (tt, refl)
-keep_follows S first us words given keeping told.Left = (tt, refl)
-keep_follows S first us words given keeping told.Emptied = (tt, refl)
-keep_follows S first us words given keeping (told.Buried number) = (tt, refl)
-keep_follows S first us words given keeping told.Kept = (tt, refl)
-keep_follows S first us words given keeping told.Freed = (tt, refl)
-keep_follows S first us words given keeping told.Alive = (tt, refl)
-keep_follows S first us words given keeping told.Dead = (tt, refl)
-keep_follows S first us words given keeping (told.Raised owner number) = (tt, refl)
-keep_follows S first us words given keeping (told.Noted owner number) = (tt, refl)
-keep_follows S first us words given keeping told.Faded = (tt, refl)
-keep_follows S first us words given keeping told.Closed = (tt, refl)
-keep_follows S first us words given keeping told.Restored = (tt, refl)
+keep_follows S first us words given keeping event = (tt, refl)
 
 enter_follows : (S : Script) (first : List Record) (us : List Placed) (words : Zones) (given kept : ℕ) (keeping : Keeping) (event : WordEvent) → Follows S first us words true (after words (phase.Enter given kept keeping) event)
-enter_follows S first us words given kept keeping (told.Loaded owner number) = (tt, refl)
-enter_follows S first us words given kept keeping told.Passed = (tt, refl)
-enter_follows S first us words given kept keeping told.Taken = (tt, refl)
-enter_follows S first us words given kept keeping told.NoSlot = (tt, refl)
-enter_follows S first us words given kept keeping told.Prepared = (tt, refl)
-enter_follows S first us words given kept keeping (told.Swapped number) = (tt, refl)
-enter_follows S first us words given kept keeping (told.Settled owner number) = (tt, refl)
-enter_follows S first us words given kept keeping told.Left = (tt, refl)
-enter_follows S first us words given kept keeping told.Emptied = (tt, refl)
-enter_follows S first us words given kept keeping (told.Buried number) = (tt, refl)
-enter_follows S first us words given kept keeping told.Kept = (tt, refl)
-enter_follows S first us words given kept keeping told.Freed = (tt, refl)
-enter_follows S first us words given kept keeping told.Alive = (tt, refl)
-enter_follows S first us words given kept keeping told.Dead = (tt, refl)
-enter_follows S first us words given kept keeping (told.Raised owner number) = (tt, refl)
 enter_follows S first us words given kept keeping (told.Noted owner number) = (tt, refl)
-enter_follows S first us words given kept keeping told.Faded = (tt, refl)
-enter_follows S first us words given kept keeping told.Closed = (tt, refl)
-enter_follows S first us words given kept keeping told.Restored = (tt, refl)
+enter_follows S first us words given kept keeping event = (tt, refl)
 
 seek_follows : (S : Script) (first : List Record) (us : List Placed) (words : Zones) (owner : ℕ) (seeking : Seeking) (event : WordEvent) → Follows S first us words false (after words (phase.Seek owner seeking) event)
 seek_follows S first us words owner seeking told.Alive = (tt, refl)

@@ -58,7 +58,7 @@ use Rattle.world_laws.proofs.ReplayLemmas.{Goes, AllSent, turn_goes, all_sent, s
 use Rattle.cell_core.specs.declared.words.Owner.{Owner}
 use Rattle.cell_core.specs.declared.words.Owner.TheVariants.{Holding, Twice, Weakly, Both, Burying, Fading, Resetting, Freeing, Spent}
 use Rattle.world_laws.proofs.HandLemmas.{AllFit, times, times_append, fit_back, lives, other_equal}
-use Rattle.world_laws.proofs.HandSteps.{Zones, seat, weak_seats}
+use Rattle.world_laws.proofs.HandSeats.{Zones, seat, weak_seats}
 use Rattle.world_laws.proofs.HandLemmas.Hand.{has, weakly}
 use Rattle.world_laws.proofs.HandWorld.{Store, store_of, stays_of, both_seats, kept_seats, call_seats, reserved_by, weak_reserved_by, called, named_by, Open, Hands, nothing_apart, step_open, many_open}
 use Rattle.world_laws.proofs.HandTurns.{times_four, fits_four, taken_out, put_back, Among, among}

@@ -33,242 +33,7 @@ use Rattle.zone_tree.specs.Version.{Version as Numbered}
 use Rattle.world_run.specs.Phases.{word_step, after, past, gone, leaving_after, oldest_after, sent_after, entry_of, completed, with_got, gained_after, got_after, reserves, reserves_weakly, is_for_update, updates}
 use Rattle.world_laws.proofs.HandLemmas.{Hand, Seat, HandIs, AllFit, Seated, times, times_append, fit_append, fit_front, fit_back, lives, seated_as, seated_with, seated_push, push_there, seated_spent, seated_next, seated_swap, seated_moved, seated_put, seated_where}
 use Rattle.world_laws.proofs.HandLemmas.Hand.{holds, has, weakly, buries, fades, resets, frees}
-
-abbrev pub Zones : Type 0
-Zones = State Numbered
-
-abbrev pub seat : ℕ → Hand → Seat
-seat owner hand = record { owner = owner; hand = hand }
-
--- what stays for an update under way as it is: which of the versions that are kept is to be given up, and the window
-pub record Stays : Type 0 where
-  pub oldest : Option ℕ
-  pub window : ℕ
-  pub entries : List Entry
-
--- the oldest version that is kept, where it is to be given up, in an update's hand
-abbrev pub oldest_seats : ℕ → Option ℕ → List Seat
-oldest_seats before None = []
-oldest_seats before (Some owner) = seat owner (has before) ∷ []
-
--- weak owners, and strong ones, which are alike
-abbrev pub weak_seats : List ℕ → List Seat
-weak_seats [] = []
-weak_seats (o ∷ os) = seat o weakly ∷ weak_seats os
-
-abbrev pub holding_seats : List ℕ → List Seat
-holding_seats [] = []
-holding_seats (o ∷ os) = seat o holds ∷ holding_seats os
-
--- the weak owner of a new entry
-abbrev pub entry_seats : Option Entry → List Seat
-entry_seats None = []
-entry_seats (Some entry) = seat entry.owner weakly ∷ []
-
-abbrev pub serial_of_entry : Option Entry → Option Serial
-serial_of_entry None = None
-serial_of_entry (Some entry) = Some entry.serial
-
--- the weak owners of the entries that stay where one of a serial is entered
-abbrev pub staying : Stays → Option Serial → List ℕ
-staying stays None = owners_in stays.entries
-staying stays (Some serial) = drop (length (leaving stays.window stays.entries serial.0)) (owners_in stays.entries)
-
--- an update has these in hand up to its end, or those of them that haven't left
-abbrev pub early_seats : ℕ → Stays → Option ℕ → List Seat
-early_seats before stays oldest = oldest_seats before oldest ++ weak_seats (owners_in stays.entries)
-
-abbrev pub late_seats : Stays → Option Entry → List ℕ → List Seat
-late_seats stays entry leaving = entry_seats entry ++ weak_seats (leaving ++ staying stays (serial_of_entry entry))
-
-abbrev pub for_seats : ℕ → ℕ → Stays → Purpose → List Seat
-for_seats last before stays purpose.Drop = []
-for_seats last before stays (purpose.Publish keeping kept entry) = seat kept (has last) ∷ (entry_seats entry ++ early_seats before stays keeping.oldest)
-for_seats last before stays (purpose.Oldest head kept entry leaving) = seat kept (has last) ∷ late_seats stays entry leaving
-for_seats last before stays (purpose.Leaves head kept entry leaving) = seat kept (has last) ∷ late_seats stays entry leaving
-for_seats last before stays (purpose.Sent sending owners) = holding_seats owners
-
-abbrev pub phase_seats : ℕ → ℕ → Stays → Phase → List Seat
-phase_seats last before stays (phase.Load name) = []
-phase_seats last before stays (phase.Look name owner) = []
-phase_seats last before stays (phase.Raise name owner) = []
-phase_seats last before stays (phase.Note name owner) = []
-phase_seats last before stays (phase.Seek owner seeking) = holding_seats seeking.owners
-phase_seats last before stays (phase.Gain owner seeking) = holding_seats seeking.owners
-phase_seats last before stays (phase.Probe version keeping) = early_seats before stays keeping.oldest
-phase_seats last before stays (phase.Prepare version keeping) = early_seats before stays keeping.oldest
-phase_seats last before stays (phase.Swap keeping) = early_seats before stays keeping.oldest
-phase_seats last before stays (phase.Settle keeping) = early_seats before stays keeping.oldest
-phase_seats last before stays (phase.Keep given keeping) = seat given holds ∷ early_seats before stays keeping.oldest
-phase_seats last before stays (phase.Enter given kept keeping) = seat given holds ∷ (seat kept (has last) ∷ early_seats before stays keeping.oldest)
-phase_seats last before stays (phase.Release owner for) = seat owner holds ∷ for_seats last before stays for
-phase_seats last before stays (phase.Bury owner for) = seat owner buries ∷ for_seats last before stays for
-phase_seats last before stays (phase.Fade owner None for) = seat owner weakly ∷ for_seats last before stays for
-phase_seats last before stays (phase.Fade owner (Some number) for) = seat owner fades ∷ for_seats last before stays for
-phase_seats last before stays (phase.Reset owner number for) = seat owner resets ∷ for_seats last before stays for
-phase_seats last before stays (phase.Free owner number for) = seat owner frees ∷ for_seats last before stays for
-
-abbrev pub end_seats : ℕ → ℕ → Stays → End → List Seat
-end_seats last before stays (Owned name owner number) = seat owner holds ∷ []
-end_seats last before stays (OwnedWeakly name owner number) = seat owner weakly ∷ []
-end_seats last before stays (Told answer) = []
-end_seats last before stays (NoSlot head) = early_seats before stays stays.oldest
-end_seats last before stays (Kept head owner entry) = seat owner (has last) ∷ late_seats stays entry []
-end_seats last before stays (Sent sending) = []
-
-abbrev pub hand_seats : ℕ → ℕ → Stays → Progress → List Seat
-hand_seats last before stays (On at) = phase_seats last before stays at
-hand_seats last before stays (Done end) = end_seats last before stays end
-
--- an update is to give up what is to be given up
-abbrev pub AsStays : Stays → Keeping → Type 0
-AsStays stays keeping = (keeping.oldest ≡ stays.oldest) × (keeping.leaving ≡ leaving_for stays.window stays.entries keeping.enters)
-
-abbrev pub StaysFor : Stays → Purpose → Type 0
-StaysFor stays purpose.Drop = Unit {0}
-StaysFor stays (purpose.Publish keeping kept entry) = AsStays stays keeping × (serial_of_entry entry ≡ keeping.enters)
-StaysFor stays (purpose.Oldest head kept entry leaving) = Unit {0}
-StaysFor stays (purpose.Leaves head kept entry leaving) = Unit {0}
-StaysFor stays (purpose.Sent sending owners) = Unit {0}
-
-abbrev pub StaysIn : Stays → Phase → Type 0
-StaysIn stays (phase.Load name) = Unit {0}
-StaysIn stays (phase.Look name owner) = Unit {0}
-StaysIn stays (phase.Raise name owner) = Unit {0}
-StaysIn stays (phase.Note name owner) = Unit {0}
-StaysIn stays (phase.Seek owner seeking) = Unit {0}
-StaysIn stays (phase.Gain owner seeking) = Unit {0}
-StaysIn stays (phase.Probe version keeping) = AsStays stays keeping
-StaysIn stays (phase.Prepare version keeping) = AsStays stays keeping
-StaysIn stays (phase.Swap keeping) = AsStays stays keeping
-StaysIn stays (phase.Settle keeping) = AsStays stays keeping
-StaysIn stays (phase.Keep given keeping) = AsStays stays keeping
-StaysIn stays (phase.Enter given kept keeping) = AsStays stays keeping × (is_some keeping.enters ≡ true)
-StaysIn stays (phase.Release owner for) = StaysFor stays for
-StaysIn stays (phase.Bury owner for) = StaysFor stays for
-StaysIn stays (phase.Fade owner number for) = StaysFor stays for
-StaysIn stays (phase.Reset owner number for) = StaysFor stays for
-StaysIn stays (phase.Free owner number for) = StaysFor stays for
-
-abbrev pub StaysAt : Stays → Progress → Type 0
-StaysAt stays (On at) = StaysIn stays at
-StaysAt stays (Done end) = Unit {0}
-
--- whether an update has made its swap
-abbrev pub swapped_for : Purpose → ℕ
-swapped_for purpose.Drop = 0
-swapped_for (purpose.Sent sending owners) = 0
-swapped_for (purpose.Publish keeping kept entry) = 1
-swapped_for (purpose.Oldest head kept entry leaving) = 1
-swapped_for (purpose.Leaves head kept entry leaving) = 1
-
-abbrev pub swapped_in : Phase → ℕ
-swapped_in (phase.Load name) = 0
-swapped_in (phase.Look name owner) = 0
-swapped_in (phase.Seek owner seeking) = 0
-swapped_in (phase.Gain owner seeking) = 0
-swapped_in (phase.Raise name owner) = 0
-swapped_in (phase.Note name owner) = 0
-swapped_in (phase.Probe version keeping) = 0
-swapped_in (phase.Prepare version keeping) = 0
-swapped_in (phase.Swap keeping) = 0
-swapped_in (phase.Settle keeping) = 1
-swapped_in (phase.Keep given keeping) = 1
-swapped_in (phase.Enter given kept keeping) = 1
-swapped_in (phase.Release owner for) = swapped_for for
-swapped_in (phase.Bury owner for) = swapped_for for
-swapped_in (phase.Fade owner number for) = swapped_for for
-swapped_in (phase.Reset owner number for) = swapped_for for
-swapped_in (phase.Free owner number for) = swapped_for for
-
-abbrev pub swapped_at : Progress → ℕ
-swapped_at (On at) = swapped_in at
-swapped_at (Done (Owned name owner number)) = 0
-swapped_at (Done (OwnedWeakly name owner number)) = 0
-swapped_at (Done (Told answer)) = 0
-swapped_at (Done (Sent sending)) = 0
-swapped_at (Done (NoSlot head)) = 0
-swapped_at (Done (Kept head owner entry)) = 1
-
--- whether it makes it by this step
-abbrev pub swaps_now : Phase → ℕ
-swaps_now (phase.Load name) = 0
-swaps_now (phase.Look name owner) = 0
-swaps_now (phase.Seek owner seeking) = 0
-swaps_now (phase.Gain owner seeking) = 0
-swaps_now (phase.Raise name owner) = 0
-swaps_now (phase.Note name owner) = 0
-swaps_now (phase.Probe version keeping) = 0
-swaps_now (phase.Prepare version keeping) = 0
-swaps_now (phase.Swap keeping) = 1
-swaps_now (phase.Settle keeping) = 0
-swaps_now (phase.Keep given keeping) = 0
-swaps_now (phase.Enter given kept keeping) = 0
-swaps_now (phase.Release owner for) = 0
-swaps_now (phase.Bury owner for) = 0
-swaps_now (phase.Fade owner number for) = 0
-swaps_now (phase.Reset owner number for) = 0
-swaps_now (phase.Free owner number for) = 0
-
--- whether a call takes the publisher's steps
-abbrev pub publishes_in : Phase → Bool
-publishes_in (phase.Load name) = false
-publishes_in (phase.Look name owner) = false
-publishes_in (phase.Seek owner seeking) = false
-publishes_in (phase.Gain owner seeking) = false
-publishes_in (phase.Raise name owner) = false
-publishes_in (phase.Note name owner) = false
-publishes_in (phase.Probe version keeping) = true
-publishes_in (phase.Prepare version keeping) = true
-publishes_in (phase.Swap keeping) = true
-publishes_in (phase.Settle keeping) = true
-publishes_in (phase.Keep given keeping) = false
-publishes_in (phase.Enter given kept keeping) = false
-publishes_in (phase.Release owner for) = false
-publishes_in (phase.Bury owner for) = false
-publishes_in (phase.Fade owner number for) = false
-publishes_in (phase.Reset owner number for) = false
-publishes_in (phase.Free owner number for) = false
-
-abbrev pub publishes_at : Progress → Bool
-publishes_at (On at) = publishes_in at
-publishes_at (Done end) = false
-
--- whether a call is to put a name into use, or has just brought an owner for it
-abbrev pub reserved_at : List ℕ → Progress → ℕ
-reserved_at name (On at) = one_if (reserves name at)
-reserved_at name (Done (Owned other owner number)) = one_if (bytes_eq other name)
-reserved_at name (Done (OwnedWeakly other owner number)) = 0
-reserved_at name (Done (Told answer)) = 0
-reserved_at name (Done (Sent sending)) = 0
-reserved_at name (Done (NoSlot head)) = 0
-reserved_at name (Done (Kept head owner entry)) = 0
-
--- the same for a weak owner
-abbrev pub weak_reserved_at : List ℕ → Progress → ℕ
-weak_reserved_at name (On at) = one_if (reserves_weakly name at)
-weak_reserved_at name (Done (OwnedWeakly other owner number)) = one_if (bytes_eq other name)
-weak_reserved_at name (Done end) = 0
-
--- whether a call is an update, up to its end
-abbrev pub updates_at : Progress → Bool
-updates_at (On at) = updates at
-updates_at (Done (Owned name owner number)) = false
-updates_at (Done (OwnedWeakly name owner number)) = false
-updates_at (Done (Told answer)) = false
-updates_at (Done (Sent sending)) = false
-updates_at (Done (NoSlot head)) = true
-updates_at (Done (Kept head owner entry)) = true
-
--- what a step of a call makes of what it has in hand, beside others
-pub record Went (old new : Zones) (at : Phase) (progress : Progress) (last before : ℕ) (stays : Stays) (rest : List Seat) : Type 0 where
-  pub seated : Seated new.owners (hand_seats last before stays progress ++ rest)
-  pub still : StaysAt stays progress
-  pub swapped : swapped_at progress ≡ swapped_in at + swaps_now at
-  pub publisher : publishes_at progress ≡ false → (publishes_in at ≡ true → new.publisher ≡ Probing 0) × (publishes_in at ≡ false → new.publisher ≡ old.publisher)
-  pub names : (name : List ℕ) → reserved_at name progress ≤ one_if (reserves name at)
-  pub weak_names : (name : List ℕ) → weak_reserved_at name progress ≤ one_if (reserves_weakly name at)
-  pub update : updates_at progress ≡ updates at
+use Rattle.world_laws.proofs.HandSeats.{AsStays, Stays, StaysAt, StaysFor, StaysIn, Went, Zones, early_seats, end_seats, entry_seats, for_seats, hand_seats, holding_seats, late_seats, oldest_seats, phase_seats, publishes_at, publishes_in, reserved_at, seat, serial_of_entry, staying, swapped_at, swapped_for, swapped_in, swaps_now, updates_at, weak_reserved_at, weak_seats}
 
 no_true : true ≡ false → ⊥
 no_true e = let wrong = e in cc
@@ -554,27 +319,31 @@ note_went old new name owner event last before stays rest (number, place, there,
       update = refl;
     })
 
-keep_goes : (old new : Zones) (given owner : ℕ) (keeping : Keeping) (last before : ℕ) (stays : Stays) (rest : List Seat) (enters : Option Serial) → keeping.enters ≡ enters → AsStays stays keeping → new.publisher ≡ old.publisher
+none_enters : (serial : Option Serial) → is_some serial ≡ false → None ≡ serial
+none_enters None e = refl
+none_enters (Some serial) e = absurd (no_true e)
+
+keep_goes : (old new : Zones) (given owner : ℕ) (keeping : Keeping) (last before : ℕ) (stays : Stays) (rest : List Seat) (some : Bool) → is_some keeping.enters ≡ some → AsStays stays keeping → new.publisher ≡ old.publisher
     → Seated new.owners ((seat given holds ∷ (seat owner (has last) ∷ early_seats before stays keeping.oldest)) ++ rest)
-    → Went old new (phase.Keep given keeping) (if is_some keeping.enters then On (phase.Enter given owner keeping) else On (phase.Release given (purpose.Publish keeping owner None))) last before stays rest
-keep_goes old new given owner keeping last before stays rest None e is same s = rw e (record {
+    → Went old new (phase.Keep given keeping) (if some then On (phase.Enter given owner keeping) else On (phase.Release given (purpose.Publish keeping owner None))) last before stays rest
+keep_goes old new given owner keeping last before stays rest true e is same s = record {
   seated = s;
-  still = (is, sym e);
+  still = (is, e);
   swapped = refl;
   publisher = λ e. ((λ t. absurd (no_false t)), (λ t. same));
   names = λ name. omega arith;
   weak_names = λ name. omega arith;
   update = refl;
-})
-keep_goes old new given owner keeping last before stays rest (Some serial) e is same s = rw e (record {
+}
+keep_goes old new given owner keeping last before stays rest false e is same s = record {
   seated = s;
-  still = (is, ap is_some e);
+  still = (is, none_enters keeping.enters e);
   swapped = refl;
   publisher = λ e. ((λ t. absurd (no_false t)), (λ t. same));
   names = λ name. omega arith;
   weak_names = λ name. omega arith;
   update = refl;
-})
+}
 
 keep_went : (old new : Zones) (given : ℕ) (keeping : Keeping) (event : WordEvent) (last before : ℕ) (stays : Stays) (rest : List Seat) → AsStays stays keeping → ((number : ℕ) → number_in old (slot_of old.latest) ≡ Some number → number ≡ last) → Makes {T = Numbered} old word.Load event new
     → Seated old.owners ((seat given holds ∷ early_seats before stays keeping.oldest) ++ rest) → Went old new (phase.Keep given keeping) (after new (phase.Keep given keeping) event) last before stays rest
@@ -583,17 +352,14 @@ keep_went old new given keeping event last before stays rest is is_last (number,
     let there = push_there old.owners new.owners number (slot_of old.latest) owners_are in
     let here = subst (λ n. slice_get new.owners (length old.owners) ≡ Some (Holding n (slot_of old.latest))) (is_last number found) there in
     subst (λ e. Went old new (phase.Keep given keeping) (after new (phase.Keep given keeping) e) last before stays rest) (sym told_is)
-    (keep_goes old new given (length old.owners) keeping last before stays rest keeping.enters refl is (ap (λ (w : Zones). w.publisher) new_is)
+    (keep_goes old new given (length old.owners) keeping last before stays rest (is_some keeping.enters) refl is (ap (λ (w : Zones). w.publisher) new_is)
     (seated_swap new.owners (seat (length old.owners) (has last)) (seat given holds) (early_seats before stays keeping.oldest ++ rest)
     (seated_push old.owners new.owners number (slot_of old.latest) ((seat given holds ∷ early_seats before stays keeping.oldest) ++ rest) (has last) owners_are (slot_of old.latest, here) s)))
 
 -- a note of the version gives it an entry
-entry_is : (given kept owner number : ℕ) (keeping : Keeping) → serial_of_entry (entry_of keeping.enters number owner) ≡ keeping.enters
-entry_is given kept owner number keeping = of_serial keeping.enters
-  where
-    of_serial : (serial : Option Serial) → serial_of_entry (entry_of serial number owner) ≡ serial
-    of_serial None = refl
-    of_serial (Some serial) = refl
+entry_is : (number owner : ℕ) (serial : Option Serial) → serial_of_entry (entry_of serial number owner) ≡ serial
+entry_is number owner None = refl
+entry_is number owner (Some serial) = refl
 
 enter_goes : (new : Zones) (given kept owner number last before : ℕ) (keeping : Keeping) (stays : Stays) (rest : List Seat) (enters : Option Serial) → keeping.enters ≡ enters → is_some keeping.enters ≡ true
     → Seated new.owners ((seat given holds ∷ (seat kept (has last) ∷ (seat owner weakly ∷ early_seats before stays keeping.oldest))) ++ rest)
@@ -610,7 +376,7 @@ enter_went old new given kept keeping event last before stays rest is (number, p
     let put = seated_put new.owners (seat given holds ∷ (seat kept (has last) ∷ [])) (seat (length old.owners) weakly) (early_seats before stays keeping.oldest) rest pushed in
     subst (λ e. Went old new (phase.Enter given kept keeping) (after new (phase.Enter given kept keeping) e) last before stays rest) (sym told_is) (record {
       seated = enter_goes new given kept (length old.owners) number last before keeping stays rest keeping.enters refl is.1 put;
-      still = (is.0, entry_is given kept (length old.owners) number keeping);
+      still = (is.0, entry_is number (length old.owners) keeping.enters);
       swapped = refl;
       publisher = λ e. ((λ t. absurd (no_false t)), (λ t. ap (λ (w : Zones). w.publisher) new_is));
       names = λ name. omega arith;

@@ -12,7 +12,7 @@ use Rattle.world_run.specs.Phases.{reserves, reserves_weakly, updates}
 use Rattle.world_run.specs.World.{call_of, without_call}
 use Rattle.world_laws.proofs.OtherCalls.{any_update, AtMostOne}
 use Rattle.world_laws.proofs.HandLemmas.{Seat, AllFit, Seated, times, times_append, fit_append, fit_front, fit_back, seated_as}
-use Rattle.world_laws.proofs.HandSteps.{Zones, Stays, phase_seats, StaysIn, swapped_in, publishes_in}
+use Rattle.world_laws.proofs.HandSeats.{Zones, Stays, phase_seats, StaysIn, swapped_in, publishes_in}
 use Rattle.world_laws.proofs.HandWorld.{Store, stays_of, both_seats, store_left, call_seats, AllStay, swaps_of, any_publishes, reserved_by, weak_reserved_by, called, rest_seats, Open, nothing_apart}
 
 -- four lists of those in hand, one behind the other

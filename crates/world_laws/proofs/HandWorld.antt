@@ -34,7 +34,8 @@ use Rattle.world_laws.proofs.SwapLemmas.{step_by}
 use Rattle.cell_core.specs.Made.{made}
 use Rattle.world_laws.proofs.HandLemmas.{Hand, Seat, Seated}
 use Rattle.world_laws.proofs.HandLemmas.Hand.{holds, has, weakly, buries, fades, resets, frees}
-use Rattle.world_laws.proofs.HandSteps.{Zones, Stays, seat, weak_seats, for_seats, phase_seats, hand_seats, StaysIn, StaysAt, swapped_in, swapped_at, swaps_now, publishes_in, publishes_at, reserved_at, weak_reserved_at, updates_at, went}
+use Rattle.world_laws.proofs.HandSeats.{Zones, Stays, seat, weak_seats, for_seats, phase_seats, hand_seats, StaysIn, StaysAt, swapped_in, swapped_at, swaps_now, publishes_in, publishes_at, reserved_at, weak_reserved_at, updates_at}
+use Rattle.world_laws.proofs.HandSteps.{went}
 
 -- the owners of names, which are alike
 abbrev pub seats_as : Hand → List Named → List Seat

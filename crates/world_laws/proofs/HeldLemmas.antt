@@ -30,7 +30,7 @@ use Rattle.world_laws.proofs.HandEnds.{no_swaps}
 use Rattle.world_laws.proofs.HandLemmas.{HandIs, AllFit, times, times_append, fit_front, fit_back, lives}
 use Rattle.world_laws.proofs.HandLemmas.Hand.{holds, weakly}
 use Rattle.world_laws.proofs.HandPlay.{Kept, played_kept}
-use Rattle.world_laws.proofs.HandSteps.{Zones, weak_seats}
+use Rattle.world_laws.proofs.HandSeats.{Zones, weak_seats}
 use Rattle.world_laws.proofs.WindowRest.{Rests, window_buried}
 use Rattle.world_run.specs.Entries.{owners_in}
 use Rattle.world_laws.proofs.HandTurns.{times_four, fits_four}

@@ -45,7 +45,7 @@ use Rattle.world_laws.proofs.CallReplays.{Script, scripted, Placed, updates_in, 
 use Rattle.world_laws.proofs.OtherCalls.{any_update, AtMostOne, found_any, found_alone}
 use Rattle.world_laws.proofs.FirstLemmas.{Unchanged, FirstOf, IsFirst, IsProbe, first_by, start_first}
 use Rattle.world_laws.proofs.HandPlay.{BeginsOk, start_begins, entries_ok, turn_hands, turn_same, started_hands, started_less, started_few}
-use Rattle.world_laws.proofs.HandSteps.{swapped_in, swapped_at}
+use Rattle.world_laws.proofs.HandSeats.{swapped_in, swapped_at}
 use Rattle.world_laws.proofs.HandWorld.{Hands}
 use Rattle.world_laws.proofs.HeldLemmas.{same_length}
 use Rattle.world_laws.proofs.ReplayLemmas.{Goes, found_here, found_behind, found_new, by_after, AddedBy, Turned, turn_comes, goes_as, AllSent, all_sent, start_goes, no_updates, place_in, update_at, goes_replayed, replayed_us}

@@ -7,7 +7,9 @@ pub mod FirstLemmas
 pub mod HandEnds
 pub mod HandLemmas
 pub mod HandPlay
+pub mod HandSeats
 pub mod HandSteps
+pub mod HandStore
 pub mod HandTurns
 pub mod HandWorld
 pub mod HeldLemmas
@@ -22,5 +24,4 @@ pub mod SeekLemmas
 pub mod SentUpdates
 pub mod SpeltLemmas
 pub mod SwapLemmas
-pub mod ToldLemmas
 pub mod WindowRest
