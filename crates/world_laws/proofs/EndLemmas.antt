@@ -1,11 +1,10 @@
 -- A call that takes all its steps comes to its end, once it has taken its first.
 use Rattle.std.proofs.Common.{◌≡◌, ◌≢◌, refl, sym, ap, ◌∙◌, subst, ℕ, zero, suc, ◌+◌, ◌-◌, ◌*◌, ◌^◌, ◌<◌, ◌≤◌, Bool, true, false, inl, inr, List, [], ◌∷◌, ◌++◌, length, arith, Option, Some, None}
-use Rattle.std.specs.Prelude.{◌==◌, ◌&&◌, is_some, nat_lt, ◌||◌, not}
+use Rattle.std.specs.Prelude.{◌==◌, is_some}
 use Rattle.std.specs.List.{slice_get, slice_set}
 use Rattle.std.specs.Option.{option_map, option_and_then}
 use Rattle.std.specs.Prelude.{if◌then◌else◌}
-use Rattle.std.specs.List.{list_any}
-use Rattle.std.proofs.lemmas.Bool.{cases_Bool, ltb-true}
+use Rattle.std.proofs.lemmas.Bool.{cases_Bool}
 use Rattle.std.proofs.lemmas.Bool.Decides.{eqb_tells}
 use Rattle.std.proofs.lemmas.Option.{slice_get_within}
 use Rattle.cell_core.proofs.GoesOn.{release_goes_on, bury_goes_on, free_goes_on, fade_goes_on, reset_goes_on, probe_goes_on, prepare_goes_on, swap_goes_on, settle_goes_on}
@@ -14,19 +13,17 @@ use Rattle.cell_core.proofs.SeatLemmas.{get_set_same, get_push_new}
 use Rattle.cell_core.proofs.StepShows.{step_shows}
 use Rattle.cell_core.specs.Cell.{Cell}
 use Rattle.cell_core.specs.Shows.{Shows, PublisherIs}
-use Rattle.cell_core.specs.Words.{State, slots, free_word, dead_word, fetch_sub, slot_of, given_of, fading_of}
+use Rattle.cell_core.specs.Words.{State, slots, free_word, fetch_sub, slot_of, given_of, fading_of}
 use Rattle.cell_core.specs.WordSteps.{Makes}
 use Rattle.cell_core.specs.declared.words.Owner.{Owner}
-use Rattle.cell_core.specs.declared.words.Owner.TheVariants.{Holding, Twice, Weakly, Both, Burying, Fading, Resetting, Freeing, Spent}
+use Rattle.cell_core.specs.declared.words.Owner.TheVariants.{Holding, Weakly, Burying, Fading, Resetting, Freeing, Spent}
 use Rattle.cell_core.specs.declared.words.Publisher.TheVariants.{Probing, Preparing, Swapping, Settling}
 use Rattle.cell_core.specs.declared.words.WordEvent.{WordEvent}
 use Rattle.cell_core.specs.declared.words.WordEvent.TheVariants as told
 use Rattle.cell_core.specs.declared.words.WordStep.TheVariants as word
 use Rattle.cell_core.proofs.GoesOn.{load_goes_on}
 use Rattle.cell_core.proofs.SeatLemmas.{get_set_other, get_push_old}
-use Rattle.cell_core.specs.Words.{grants, place_of, version_in, found_last}
-use Rattle.cell_core.specs.declared.words.Version.{Version}
-use Rattle.dns_rdata.specs.Record.{Record}
+use Rattle.cell_core.specs.Words.{grants}
 use Rattle.serve_core.specs.declared.heading.Heading.{Heading}
 use Rattle.zone_tree.specs.Version.{Version as Numbered}
 use Rattle.world_run.specs.declared.phase.Keeping.{Keeping}
@@ -43,10 +40,7 @@ use Rattle.cell_core.specs.Words.{notes}
 use Rattle.world_run.specs.declared.entries.Entry.{Entry}
 use Rattle.world_run.specs.declared.sending.Sending.{Sending}
 use Rattle.world_run.specs.Phases.{word_step, after, past, gone, leaving_after, oldest_after, sent_after, entry_of}
-use Rattle.world_run.specs.World.{step_once, steps_up_to, most_steps}
-use Rattle.world_laws.proofs.RunLemmas.{one_step}
-use Rattle.world_run.proofs.StepLemmas.{stays_there, goes_further}
-use Rattle.cell_core.proofs.WeakShows.{to_fade}
+use Rattle.world_run.specs.World.{step_once, steps_up_to}
 
 abbrev pub Zones : Type 0
 Zones = State Numbered

@@ -1,29 +1,19 @@
 -- A call that begins comes to its end, once it has taken its first step; a line that isn't enabled changes nothing.
-use Rattle.std.proofs.Common.{◌≡◌, ◌≢◌, refl, sym, ap, ◌∙◌, subst, ℕ, zero, suc, ◌+◌, ◌-◌, ◌^◌, ◌<◌, ◌≤◌, Bool, true, false, inl, inr, List, [], ◌∷◌, ◌++◌, length, arith, Option, Some, None}
+use Rattle.std.proofs.Common.{◌≡◌, refl, sym, ap, ◌∙◌, subst, ℕ, ◌+◌, ◌-◌, ◌^◌, ◌<◌, ◌≤◌, Bool, true, false, inl, inr, List, [], ◌∷◌, ◌++◌, length, arith, Option, Some, None}
 use Rattle.std.specs.Prelude.{◌==◌, ◌&&◌, is_some, nat_lt, ◌||◌, not}
-use Rattle.std.specs.List.{slice_get, slice_set}
+use Rattle.std.specs.List.{slice_get}
 use Rattle.std.specs.Option.{option_map, option_and_then}
 use Rattle.std.specs.Prelude.{if◌then◌else◌}
-use Rattle.std.specs.List.{list_any}
 use Rattle.std.proofs.lemmas.Bool.{cases_Bool, ltb-true}
-use Rattle.std.proofs.lemmas.Bool.Decides.{eqb_tells}
-use Rattle.std.proofs.lemmas.Option.{slice_get_within}
-use Rattle.cell_core.proofs.GoesOn.{release_goes_on, bury_goes_on, free_goes_on, fade_goes_on, reset_goes_on, probe_goes_on, prepare_goes_on, swap_goes_on, settle_goes_on}
-use Rattle.cell_core.proofs.MadeLemmas.{makes_made}
-use Rattle.cell_core.proofs.SeatLemmas.{get_set_same, get_push_new}
-use Rattle.cell_core.proofs.StepShows.{step_shows}
 use Rattle.cell_core.specs.Cell.{Cell}
-use Rattle.cell_core.specs.Shows.{Shows, PublisherIs}
-use Rattle.cell_core.specs.Words.{State, slots, free_word, dead_word, fetch_sub, slot_of, given_of, fading_of}
+use Rattle.cell_core.specs.Shows.{Shows}
+use Rattle.cell_core.specs.Words.{dead_word}
 use Rattle.cell_core.specs.WordSteps.{Makes}
 use Rattle.cell_core.specs.declared.words.Owner.{Owner}
 use Rattle.cell_core.specs.declared.words.Owner.TheVariants.{Holding, Twice, Weakly, Both, Burying, Fading, Resetting, Freeing, Spent}
-use Rattle.cell_core.specs.declared.words.Publisher.TheVariants.{Probing, Preparing, Swapping, Settling}
 use Rattle.cell_core.specs.declared.words.WordEvent.{WordEvent}
 use Rattle.cell_core.specs.declared.words.WordEvent.TheVariants as told
 use Rattle.cell_core.specs.declared.words.WordStep.TheVariants as word
-use Rattle.cell_core.proofs.GoesOn.{load_goes_on}
-use Rattle.cell_core.proofs.SeatLemmas.{get_set_other, get_push_old}
 use Rattle.cell_core.specs.Words.{grants, place_of, version_in, found_last}
 use Rattle.cell_core.specs.declared.words.Version.{Version}
 use Rattle.dns_rdata.specs.Record.{Record}
@@ -39,10 +29,8 @@ use Rattle.serve_core.specs.Transfers.{peer_over, is_permitted}
 use Rattle.world_run.specs.World.{asks_sent, transfer_asked, transfer_said, transfer_start}
 use Rattle.world_run.specs.declared.judged.Judged.{Judged}
 use Rattle.world_run.specs.declared.judged.Judged.TheVariants as judgement
-use Rattle.world_run.specs.declared.phase.Keeping.{Keeping}
 use Rattle.world_run.specs.declared.phase.Phase.{Phase}
 use Rattle.world_run.specs.declared.phase.Phase.TheVariants as phase
-use Rattle.world_run.specs.declared.phase.Purpose.{Purpose}
 use Rattle.world_run.specs.declared.phase.Purpose.TheVariants as purpose
 use Rattle.world_run.specs.declared.phase.Progress.{Progress}
 use Rattle.world_run.specs.declared.phase.Progress.TheVariants.{On, Done}
@@ -57,7 +45,7 @@ use Rattle.world_run.specs.declared.step.WorldReply.{WorldReply}
 use Rattle.world_run.specs.declared.step.WorldReply.TheVariants.{Answered, NotEnabled}
 use Rattle.world_run.specs.declared.step.WorldStep.{WorldStep}
 use Rattle.world_run.specs.declared.step.WorldStep.TheVariants.{Whole, Begin, Next}
-use Rattle.world_run.specs.Phases.{word_step, after}
+use Rattle.world_run.specs.Phases.{word_step}
 use Rattle.world_run.specs.World.{fade_start, copy_start, weak_start, up_start, is_used, is_taken_weakly}
 use Rattle.world_run.specs.World.{World, owner_of, call_of, is_taken, zone_of, drop_start, ask_said, ask_start, is_held, publication_start, update_start, oldest_kept, start, answer_at, step_once, steps_up_to, most_steps, is_full, all_made, whole, begin, begin_under, stepped, next, turn}
 use Rattle.world_laws.proofs.RunLemmas.{one_step}
@@ -74,7 +62,7 @@ use Rattle.world_run.specs.Entries.{serials_in, owners_in, leaving, leaving_for,
 use Rattle.world_run.specs.declared.entries.Entry.{Entry}
 use Rattle.world_run.specs.declared.sending.Seeking.{Seeking}
 use Rattle.world_run.specs.declared.sending.Sending.{Sending}
-use Rattle.world_run.specs.World.{seek_start, transfer_of, none_got, is_barred, can_enter, keeping_for}
+use Rattle.world_run.specs.World.{seek_start, transfer_of, none_got, is_barred, can_enter}
 use Rattle.world_laws.proofs.EndLemmas.{Zones, IsDone, IsApart, AreAll, CanEnd, IsHolding, went, done_by, drop_passes, release_ends, fade_ends, probe_ends}
 use Rattle.world_laws.proofs.SeekLemmas.{AreWeak, seek_ends}
 

@@ -23,11 +23,11 @@ use Rattle.world_run.specs.declared.step.Answer.{Answer}
 use Rattle.zone_tree.specs.Version.{Version as Numbered}
 use Rattle.world_run.specs.declared.phase.Purpose.{Purpose}
 use Rattle.world_run.specs.Phases.{is_for_update, updates}
-use Rattle.world_run.specs.World.{owner_of, without_name, oldest_kept, names_at, weak_names_at, kept_at, entries_at}
+use Rattle.world_run.specs.World.{owner_of, without_name, names_at, weak_names_at, kept_at, entries_at}
 use Rattle.world_laws.proofs.OtherCalls.{any_update}
 use Rattle.world_laws.proofs.HandLemmas.{Hand, Seat, HandIs, AllFit, Seated, times, times_append, fit_append, fit_front, fit_back, seated_as}
 use Rattle.world_laws.proofs.HandLemmas.Hand.{holds, has, weakly}
-use Rattle.world_laws.proofs.HandSeats.{Zones, Stays, AsStays, seat, phase_seats, oldest_seats, weak_seats, entry_seats, serial_of_entry, staying, early_seats, late_seats, StaysIn, swapped_for, swapped_in}
+use Rattle.world_laws.proofs.HandSeats.{Zones, Stays, AsStays, seat, phase_seats, weak_seats, entry_seats, serial_of_entry, staying, early_seats, late_seats, StaysIn, swapped_for, swapped_in}
 use Rattle.world_laws.proofs.HandTurns.{times_four, fit_four, fits_four}
 use Rattle.world_laws.proofs.HandWorld.{Store, stays_of, store_left, seats_as, both_seats, kept_seats, kept_left, call_seats, AllStay, swaps_of, reserved_by, weak_reserved_by, named_by, rest_seats, Open, nothing_apart}
 use Rattle.world_laws.proofs.HandStore.{seated_kept, seated_given}

@@ -1,5 +1,5 @@
 -- What is in hand, line by line.
-use Rattle.std.proofs.Common.{lit<, ◌≡◌, refl, sym, ap, ◌∙◌, subst, ℕ, zero, suc, ◌+◌, ◌^◌, ◌<◌, Bool, true, false, inl, inr, List, [], ◌∷◌, ◌++◌, length, arith, Option, Some, None}
+use Rattle.std.proofs.Common.{lit<, ◌≡◌, refl, sym, ap, ◌∙◌, subst, ℕ, zero, suc, ◌+◌, ◌^◌, ◌<◌, Bool, true, false, inl, inr, List, [], ◌∷◌, ◌++◌, length, arith, Option, Some, None, length-append}
 use Rattle.std.specs.Prelude.{◌==◌, ◌||◌, ◌&&◌, is_some, min, not, nat_le, nat_lt, bytes_eq, if◌then◌else◌}
 use Rattle.std.specs.List.{slice_get, list_any}
 use Rattle.std.specs.Option.{option_and_then}
@@ -49,7 +49,7 @@ use Rattle.world_run.specs.declared.phase.End.TheVariants.{Owned, OwnedWeakly, T
 use Rattle.transfer_core.specs.Window.{span, fits}
 use Rattle.world_run.specs.declared.sending.Sending.{Sending}
 use Rattle.world_laws.specs.Replays.{IsSentAt}
-use Rattle.world_run.specs.World.{World, loaded_once, noted_once, started, started_within, owner_of, call_of, without_call, is_taken, is_taken_weakly, is_used, is_held, drop_start, fade_start, copy_start, weak_start, up_start, asks_sent, ask_start, seek_start, transfer_asked, transfer_said, transfer_of, transfer_start, none_got, is_barred, can_enter, keeping_for, first_entries, entries_at, oldest_kept, publication_start, update_start, start, version_of, zone_of, given_up, weak_given_up, step_once, steps_up_to, most_steps, is_full, all_made, whole, begin, begin_under, stepped, next, turn, onto_replies, play}
+use Rattle.world_run.specs.World.{World, loaded_once, noted_once, started, started_within, owner_of, call_of, without_call, is_taken, is_taken_weakly, is_used, is_held, drop_start, fade_start, copy_start, weak_start, up_start, asks_sent, ask_start, seek_start, transfer_asked, transfer_said, transfer_of, transfer_start, none_got, is_barred, can_enter, keeping_for, first_entries, entries_at, oldest_kept, publication_start, update_start, start, zone_of, given_up, weak_given_up, step_once, steps_up_to, most_steps, is_full, all_made, whole, begin, begin_under, stepped, next, turn, onto_replies, play}
 use Rattle.world_laws.proofs.CallReplays.{Script, script, publishes_nothing}
 use Rattle.world_laws.proofs.OtherCalls.{any_update, unbarred}
 use Rattle.world_laws.proofs.FirstLemmas.{EntriesIf, IsProbe, FirstOf, Unchanged, first_by, start_first, turn_refusal}

@@ -1,16 +1,9 @@
 -- The owners that a call has in hand, by how far it has come.
-use Rattle.std.proofs.Common.{◌≡◌, refl, sym, ap, ◌∙◌, subst, ℕ, ◌+◌, ◌≤◌, Bool, true, false, inl, inr, List, [], ◌∷◌, ◌++◌, length, drop, arith, Option, Some, None}
-use Rattle.std.specs.Prelude.{◌==◌, is_some, nat_lt, bytes_eq, if◌then◌else◌}
-use Rattle.std.specs.List.{slice_get}
-use Rattle.std.proofs.lemmas.Bool.{cases_Bool}
+use Rattle.std.proofs.Common.{◌≡◌, ℕ, ◌+◌, ◌≤◌, Bool, true, false, List, [], ◌∷◌, ◌++◌, length, drop, Option, Some, None}
+use Rattle.std.specs.Prelude.{is_some, bytes_eq}
 use Rattle.cell_core.proofs.CountLemmas.{one_if}
-use Rattle.cell_core.proofs.SeatLemmas.{get_push_new}
-use Rattle.cell_core.specs.Words.{State, slots, free_word, dead_word, fetch_sub, found_by, slot_of, number_in}
-use Rattle.cell_core.specs.WordSteps.{Makes}
-use Rattle.cell_core.specs.declared.words.Owner.{Owner}
-use Rattle.cell_core.specs.declared.words.Owner.TheVariants.{Holding, Weakly, Burying, Fading, Resetting, Freeing}
+use Rattle.cell_core.specs.Words.{State}
 use Rattle.cell_core.specs.declared.words.Publisher.TheVariants.{Probing}
-use Rattle.cell_core.specs.declared.words.WordEvent.{WordEvent}
 use Rattle.cell_core.specs.declared.words.WordStep.TheVariants as word
 use Rattle.world_run.specs.declared.phase.Keeping.{Keeping}
 use Rattle.world_run.specs.declared.phase.Phase.{Phase}
@@ -20,18 +13,14 @@ use Rattle.world_run.specs.declared.phase.Purpose.TheVariants as purpose
 use Rattle.world_run.specs.declared.phase.End.{End}
 use Rattle.world_run.specs.declared.phase.End.TheVariants.{Owned, OwnedWeakly, Told, NoSlot, Kept, Sent}
 use Rattle.world_run.specs.declared.entries.Entry.{Entry}
-use Rattle.world_run.specs.declared.sending.Seeking.{Seeking}
-use Rattle.world_run.specs.declared.sending.Sending.{Sending}
 use Rattle.dns_rdata.specs.declared.numbers.Serial.{Serial}
-use Rattle.transfer_core.specs.Window.{fits}
-use Rattle.world_run.specs.Entries.{serials_in, owners_in, leaving, leaving_for}
+use Rattle.world_run.specs.Entries.{owners_in, leaving, leaving_for}
 use Rattle.world_run.specs.declared.phase.Progress.{Progress}
 use Rattle.world_run.specs.declared.phase.Progress.TheVariants.{On, Done}
-use Rattle.world_run.specs.declared.step.Answer.{Answer}
 use Rattle.world_run.specs.declared.step.Answer.TheVariants as answer
 use Rattle.zone_tree.specs.Version.{Version as Numbered}
-use Rattle.world_run.specs.Phases.{word_step, after, past, gone, leaving_after, oldest_after, sent_after, entry_of, completed, with_got, gained_after, got_after, reserves, reserves_weakly, is_for_update, updates}
-use Rattle.world_laws.proofs.HandLemmas.{Hand, Seat, HandIs, AllFit, Seated, times, times_append, fit_append, fit_front, fit_back, lives, seated_as, seated_with, seated_push, push_there, seated_spent, seated_next, seated_swap, seated_moved, seated_put, seated_where}
+use Rattle.world_run.specs.Phases.{reserves, reserves_weakly, updates}
+use Rattle.world_laws.proofs.HandLemmas.{Hand, Seat, Seated}
 use Rattle.world_laws.proofs.HandLemmas.Hand.{holds, has, weakly, buries, fades, resets, frees}
 
 abbrev pub Zones : Type 0

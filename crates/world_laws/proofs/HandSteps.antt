@@ -1,24 +1,22 @@
 -- The owners that a call has in hand, from step to step.
-use Rattle.std.proofs.Common.{◌≡◌, refl, sym, ap, ◌∙◌, subst, ℕ, ◌+◌, ◌≤◌, Bool, true, false, inl, inr, List, [], ◌∷◌, ◌++◌, length, drop, arith, Option, Some, None}
-use Rattle.std.specs.Prelude.{◌==◌, is_some, nat_lt, bytes_eq, if◌then◌else◌}
+use Rattle.std.proofs.Common.{◌≡◌, refl, sym, ap, ◌∙◌, subst, ℕ, ◌+◌, Bool, true, false, inl, inr, List, [], ◌∷◌, ◌++◌, length, drop, arith, Option, Some, None}
+use Rattle.std.specs.Prelude.{◌==◌, is_some, nat_lt, if◌then◌else◌}
 use Rattle.std.specs.List.{slice_get}
 use Rattle.std.proofs.lemmas.Bool.{cases_Bool}
 use Rattle.cell_core.proofs.CountLemmas.{one_if}
 use Rattle.cell_core.proofs.SeatLemmas.{get_push_new}
-use Rattle.cell_core.specs.Words.{State, slots, free_word, dead_word, fetch_sub, found_by, slot_of, number_in}
+use Rattle.cell_core.specs.Words.{slots, free_word, dead_word, fetch_sub, found_by, slot_of, number_in}
 use Rattle.cell_core.specs.WordSteps.{Makes}
 use Rattle.cell_core.specs.declared.words.Owner.{Owner}
 use Rattle.cell_core.specs.declared.words.Owner.TheVariants.{Holding, Weakly, Burying, Fading, Resetting, Freeing}
-use Rattle.cell_core.specs.declared.words.Publisher.TheVariants.{Probing}
 use Rattle.cell_core.specs.declared.words.WordEvent.{WordEvent}
 use Rattle.cell_core.specs.declared.words.WordStep.TheVariants as word
+use Rattle.serve_core.specs.declared.heading.Heading.{Heading}
 use Rattle.world_run.specs.declared.phase.Keeping.{Keeping}
 use Rattle.world_run.specs.declared.phase.Phase.{Phase}
 use Rattle.world_run.specs.declared.phase.Phase.TheVariants as phase
 use Rattle.world_run.specs.declared.phase.Purpose.{Purpose}
 use Rattle.world_run.specs.declared.phase.Purpose.TheVariants as purpose
-use Rattle.world_run.specs.declared.phase.End.{End}
-use Rattle.world_run.specs.declared.phase.End.TheVariants.{Owned, OwnedWeakly, Told, NoSlot, Kept, Sent}
 use Rattle.world_run.specs.declared.entries.Entry.{Entry}
 use Rattle.world_run.specs.declared.sending.Seeking.{Seeking}
 use Rattle.world_run.specs.declared.sending.Sending.{Sending}
@@ -26,14 +24,14 @@ use Rattle.dns_rdata.specs.declared.numbers.Serial.{Serial}
 use Rattle.transfer_core.specs.Window.{fits}
 use Rattle.world_run.specs.Entries.{serials_in, owners_in, leaving, leaving_for}
 use Rattle.world_run.specs.declared.phase.Progress.{Progress}
-use Rattle.world_run.specs.declared.phase.Progress.TheVariants.{On, Done}
+use Rattle.world_run.specs.declared.phase.Progress.TheVariants.{On}
 use Rattle.world_run.specs.declared.step.Answer.{Answer}
 use Rattle.world_run.specs.declared.step.Answer.TheVariants as answer
 use Rattle.zone_tree.specs.Version.{Version as Numbered}
-use Rattle.world_run.specs.Phases.{word_step, after, past, gone, leaving_after, oldest_after, sent_after, entry_of, completed, with_got, gained_after, got_after, reserves, reserves_weakly, is_for_update, updates}
+use Rattle.world_run.specs.Phases.{word_step, after, past, gone, leaving_after, oldest_after, sent_after, entry_of, completed, with_got, gained_after, got_after, is_for_update, updates}
 use Rattle.world_laws.proofs.HandLemmas.{Hand, Seat, HandIs, AllFit, Seated, times, times_append, fit_append, fit_front, fit_back, lives, seated_as, seated_with, seated_push, push_there, seated_spent, seated_next, seated_swap, seated_moved, seated_put, seated_where}
 use Rattle.world_laws.proofs.HandLemmas.Hand.{holds, has, weakly, buries, fades, resets, frees}
-use Rattle.world_laws.proofs.HandSeats.{AsStays, Stays, StaysAt, StaysFor, StaysIn, Went, Zones, early_seats, end_seats, entry_seats, for_seats, hand_seats, holding_seats, late_seats, oldest_seats, phase_seats, publishes_at, publishes_in, reserved_at, seat, serial_of_entry, staying, swapped_at, swapped_for, swapped_in, swaps_now, updates_at, weak_reserved_at, weak_seats}
+use Rattle.world_laws.proofs.HandSeats.{AsStays, Stays, StaysAt, StaysFor, StaysIn, Went, Zones, early_seats, entry_seats, for_seats, hand_seats, holding_seats, late_seats, phase_seats, publishes_at, publishes_in, reserved_at, seat, serial_of_entry, staying, swapped_at, swapped_for, swapped_in, swaps_now, updates_at, weak_reserved_at, weak_seats}
 
 no_true : true ≡ false → ⊥
 no_true e = let wrong = e in cc

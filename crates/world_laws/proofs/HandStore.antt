@@ -1,35 +1,18 @@
 -- What is kept, and the window, between an update's hand and the others.
-use Rattle.std.proofs.Common.{◌≡◌, refl, sym, ap, ◌∙◌, subst, ℕ, ◌+◌, ◌-◌, ◌≤◌, Bool, true, false, inl, inr, List, [], ◌∷◌, ◌++◌, length, drop, arith, Option, Some, None, length-append}
-use Rattle.std.proofs.lemmas.List.{append-nil, map-append, drop-map}
-use Rattle.std.specs.Prelude.{◌==◌, ◌||◌, nat_lt, remove, bytes_eq, if◌then◌else◌}
-use Rattle.std.proofs.lemmas.Bool.{cases_Bool, ltb-true, ltb-false}
-use Rattle.std.proofs.lemmas.Slice.Eq.{bytes_eq-Decides}
-use Rattle.cell_core.proofs.CountLemmas.{one_if}
+use Rattle.std.proofs.Common.{◌≡◌, refl, sym, ap, subst, ℕ, ◌+◌, true, false, inl, inr, List, [], ◌∷◌, ◌++◌, length, arith}
+use Rattle.std.specs.Prelude.{nat_lt}
+use Rattle.std.proofs.lemmas.Bool.{cases_Bool}
 use Rattle.cell_core.specs.declared.words.Owner.{Owner}
-use Rattle.serve_core.specs.declared.heading.Heading.{Heading}
-use Rattle.world_run.specs.declared.phase.Phase.{Phase}
 use Rattle.world_run.specs.declared.phase.Phase.TheVariants as phase
-use Rattle.world_run.specs.declared.phase.Progress.TheVariants.{On, Done}
-use Rattle.world_run.specs.declared.phase.End.{End}
-use Rattle.world_run.specs.declared.phase.End.TheVariants.{Owned, OwnedWeakly, Told, NoSlot, Kept, Sent}
-use Rattle.world_run.specs.declared.entries.Entry.{Entry}
-use Rattle.world_run.specs.declared.phase.Keeping.{Keeping}
-use Rattle.world_run.specs.declared.sending.Sending.{Sending}
-use Rattle.world_run.specs.Entries.{owners_in, leaving}
+use Rattle.world_run.specs.Entries.{owners_in}
 use Rattle.world_run.specs.declared.phase.Purpose.TheVariants as purpose
 use Rattle.world_run.specs.declared.names.Named.{Named}
 use Rattle.world_run.specs.declared.calls.UnderWay.{UnderWay}
-use Rattle.world_run.specs.declared.step.Answer.{Answer}
-use Rattle.zone_tree.specs.Version.{Version as Numbered}
-use Rattle.world_run.specs.declared.phase.Purpose.{Purpose}
-use Rattle.world_run.specs.Phases.{is_for_update, updates}
-use Rattle.world_run.specs.World.{owner_of, without_name, oldest_kept, names_at, weak_names_at, kept_at, entries_at}
-use Rattle.world_laws.proofs.OtherCalls.{any_update}
-use Rattle.world_laws.proofs.HandLemmas.{Hand, Seat, HandIs, AllFit, Seated, times, times_append, fit_append, fit_front, fit_back, seated_as}
-use Rattle.world_laws.proofs.HandLemmas.Hand.{holds, has, weakly}
-use Rattle.world_laws.proofs.HandSeats.{Zones, Stays, AsStays, seat, phase_seats, oldest_seats, weak_seats, entry_seats, serial_of_entry, staying, early_seats, late_seats, StaysIn, swapped_for, swapped_in}
+use Rattle.world_run.specs.World.{oldest_kept}
+use Rattle.world_laws.proofs.HandLemmas.{AllFit, Seated, times, times_append, fit_append, fit_front, fit_back, seated_as}
+use Rattle.world_laws.proofs.HandSeats.{oldest_seats, weak_seats, early_seats}
 use Rattle.world_laws.proofs.HandTurns.{times_four, fit_four, fits_four}
-use Rattle.world_laws.proofs.HandWorld.{Store, stays_of, store_left, seats_as, both_seats, kept_seats, kept_left, call_seats, AllStay, swaps_of, reserved_by, weak_reserved_by, named_by, rest_seats, Open, nothing_apart}
+use Rattle.world_laws.proofs.HandWorld.{Store, stays_of, store_left, both_seats, kept_seats, kept_left, call_seats, rest_seats}
 
 -- the oldest version that is kept, and the others
 oldest_apart : (from keep : ℕ) (kept : List ℕ) → oldest_seats from (oldest_kept keep kept) ++ kept_left from keep kept true ≡ kept_seats from kept
@@ -51,7 +34,7 @@ store_out owners from store f =
     let kept_fit = subst (λ ss. AllFit owners ss) (sym (oldest_apart from store.keep store.kept)) (fit_front owners (kept_seats from store.kept) (weak_seats (owners_in store.entries)) f) in
     let window_fit = fit_back owners (kept_seats from store.kept) (weak_seats (owners_in store.entries)) f in (
       fit_append owners (oldest_seats from (oldest_kept store.keep store.kept)) (weak_seats (owners_in store.entries))
-      (fit_front owners (oldest_seats from (oldest_kept store.keep store.kept)) (kept_left from store.keep store.kept true) kept_fit) window_fit,
+          (fit_front owners (oldest_seats from (oldest_kept store.keep store.kept)) (kept_left from store.keep store.kept true) kept_fit) window_fit,
       fit_append owners (kept_left from store.keep store.kept true) [] (fit_back owners (oldest_seats from (oldest_kept store.keep store.kept)) (kept_left from store.keep store.kept true) kept_fit) tt,
     )
 

@@ -144,9 +144,6 @@ nothing_apart = Done (Told answer.Left)
 abbrev pub Hands : World → Type 0
 Hands world = Open world.words world.names world.weak_names (store_of world) world.calls nothing_apart
 
-no_true : true ≡ false → ⊥
-no_true e = let wrong = e in cc
-
 -- what is published behind a step
 record Counted (new : Zones) (at : Phase) (cell : Cell Numbered) : Type 0 where
   next : Cell Numbered

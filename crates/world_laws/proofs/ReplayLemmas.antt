@@ -1,6 +1,6 @@
 -- The versions of a run are the replays of its updates.
 use Rattle.std.proofs.Common.{lit<, ◌≡◌, ◌≢◌, refl, sym, ap, ◌∙◌, subst, ℕ, zero, suc, ◌+◌, ◌<◌, ◌≤◌, ◌⊎◌, inl, inr, Bool, true, false, List, [], ◌∷◌, ◌++◌, length, take, arith, Option, Some, None}
-use Rattle.std.specs.Prelude.{◌&&◌, is_some, min, nat_le, nat_lt, if◌then◌else◌, ◌||◌, ◌==◌, not, bytes_eq}
+use Rattle.std.specs.Prelude.{◌&&◌, is_some, min, nat_le, nat_lt, if◌then◌else◌, ◌||◌, not, bytes_eq}
 use Rattle.std.proofs.lemmas.Bool.{cases_Bool}
 use Rattle.std.proofs.lemmas.Slice.Eq.{bytes_eq-Decides}
 use Rattle.std.specs.List.{slice_get}

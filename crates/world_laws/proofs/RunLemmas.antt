@@ -1,6 +1,6 @@
 -- The run of steps on words that lines make.
 use Rattle.std.proofs.Common.{lit<, ◌≡◌, refl, sym, ap, ◌∙◌, subst, ℕ, zero, suc, ◌+◌, Bool, true, false, inl, inr, List, [], ◌∷◌, ◌++◌, length, Option, Some, None}
-use Rattle.std.specs.Prelude.{bytes_eq, is_some, min, not, nat_le, nat_lt, ◌==◌, ◌||◌, ◌&&◌, if◌then◌else◌}
+use Rattle.std.specs.Prelude.{bytes_eq, is_some, min, not, nat_le, nat_lt, ◌||◌, ◌&&◌, if◌then◌else◌}
 use Rattle.std.specs.List.{slice_get}
 use Rattle.std.specs.Option.{option_and_then, option_map}
 use Rattle.std.proofs.lemmas.Bool.{cases_Bool}
@@ -62,7 +62,7 @@ use Rattle.world_run.specs.Phases.{word_step, after, past, gone, leaving_after, 
 use Rattle.world_run.specs.Entries.{most_entries, later}
 use Rattle.world_laws.specs.Runs.{Run, Comes, IsFromLoad, IsShownBy, ShowsReached, IsAnsweredAtLoaded}
 use Rattle.world_laws.specs.Runs.Comes.{loaded, raised, noted}
-use Rattle.world_run.specs.World.{World, loaded_once, noted_once, started, started_within, owner_of, without_name, zone_of, version_of, call_of, without_call, is_taken, is_taken_weakly, is_used, drop_start, fade_start, copy_start, weak_start, up_start, asks_sent, ask_said, ask_start, seek_start, transfer_asked, transfer_said, transfer_of, transfer_start, none_got, is_barred, can_enter, is_held, oldest_kept, update_start, start, given_up, weak_given_up, names_at, weak_names_at, step_once, steps_up_to, go_on, most_steps, is_full, all_made, whole, begin, begin_under, stepped, next, turn, onto_replies, play}
+use Rattle.world_run.specs.World.{World, loaded_once, noted_once, started, started_within, owner_of, without_name, zone_of, call_of, without_call, is_taken, is_taken_weakly, is_used, drop_start, fade_start, copy_start, weak_start, up_start, asks_sent, ask_said, ask_start, seek_start, transfer_asked, transfer_said, transfer_of, transfer_start, none_got, is_barred, can_enter, is_held, oldest_kept, update_start, start, given_up, weak_given_up, names_at, weak_names_at, step_once, steps_up_to, go_on, most_steps, is_full, all_made, whole, begin, begin_under, stepped, next, turn, onto_replies, play}
 
 -- an owner comes from a load of a run, and has its number
 pub record WasLoaded (run : Run) (owners : List Owner) (owner : ℕ) : Type 0 where

@@ -1,5 +1,5 @@
 -- A transfer that upgrades entries comes to its end.
-use Rattle.std.proofs.Common.{◌≡◌, ◌≢◌, refl, sym, ap, ◌∙◌, subst, ℕ, ◌+◌, ◌-◌, ◌*◌, ◌<◌, ◌≤◌, inl, inr, List, [], ◌∷◌, ◌++◌, length, arith, Option, Some, None, length-append}
+use Rattle.std.proofs.Common.{◌≡◌, ◌≢◌, refl, sym, ap, ◌∙◌, subst, ℕ, ◌+◌, ◌-◌, ◌*◌, ◌≤◌, inl, inr, List, [], ◌∷◌, ◌++◌, length, arith, Some, length-append}
 use Rattle.std.specs.Prelude.{nat_lt}
 use Rattle.std.specs.List.{slice_get}
 use Rattle.std.specs.Option.{option_and_then}
@@ -11,8 +11,8 @@ use Rattle.cell_core.proofs.StepShows.{step_shows}
 use Rattle.cell_core.proofs.UserLemmas.{owner_finds, owner_is_given}
 use Rattle.cell_core.specs.Cell.{Cell}
 use Rattle.cell_core.specs.Shows.{Shows}
-use Rattle.cell_core.specs.Words.{State, dead_word, found_by, grants, owned_of}
-use Rattle.cell_core.specs.WordSteps.{Makes, owned_in}
+use Rattle.cell_core.specs.Words.{dead_word, found_by, grants, owned_of}
+use Rattle.cell_core.specs.WordSteps.{Makes}
 use Rattle.cell_core.specs.declared.words.Owner.{Owner}
 use Rattle.cell_core.specs.declared.words.Owner.TheVariants.{Holding, Weakly}
 use Rattle.cell_core.specs.declared.words.WordEvent.TheVariants as told
@@ -23,7 +23,7 @@ use Rattle.world_run.specs.declared.sending.Seeking.{Seeking}
 use Rattle.zone_tree.specs.Version.{Version as Numbered}
 use Rattle.world_run.specs.Phases.{after, sent_after, completed, with_got, gained_after, got_after}
 use Rattle.world_run.specs.World.{steps_up_to}
-use Rattle.world_laws.proofs.EndLemmas.{Zones, IsDone, EndsFrom, IsApart, AreAll, went, on_by, step_ends, sent_end, all_push, apart_new}
+use Rattle.world_laws.proofs.EndLemmas.{Zones, IsDone, EndsFrom, IsApart, AreAll, went, on_by, step_ends, sent_end}
 
 -- several owners are weak
 abbrev pub AreWeak : List Owner → List ℕ → Type 0

@@ -9,8 +9,8 @@ use Rattle.cell_core.proofs.ProbeKeeps.{few_shares}
 use Rattle.cell_core.proofs.RestLemmas.{AllBut, count_but, is_free_word, isnt_free_word}
 use Rattle.cell_core.proofs.SeatLemmas.{held_none, weaks_none, none_at_others, get_within}
 use Rattle.cell_core.specs.Cell.{Cell, IsLast}
-use Rattle.cell_core.specs.Words.{State, free_slot, free_word, dead_word}
-use Rattle.cell_core.specs.Shows.{Rest, Phase, Plan, IsLive, IsDead, IsOf, LiesIn, OwnerIs, SlotIs, WeakWord, Shows, held, holds, has_weakly, weaks, kept_by, kept_by_cell, number_of}
+use Rattle.cell_core.specs.Words.{State, free_slot, free_word}
+use Rattle.cell_core.specs.Shows.{Rest, Phase, Plan, IsLive, IsDead, SlotIs, WeakWord, Shows, held, holds, has_weakly, weaks, kept_by, kept_by_cell, number_of}
 use Rattle.cell_core.specs.Shows.Rest.{fading, outlived, closing, closed}
 use Rattle.cell_core.specs.Shows.Phase.{free, taken, live, dead}
 use Rattle.cell_core.specs.declared.words.Slot.{Slot}

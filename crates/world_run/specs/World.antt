@@ -1,6 +1,6 @@
 -- Zone versions in the words of a cell, the names of their strong owners, the versions that are kept, and the calls under way:
 -- what each line of a script makes of them, and its reply (own).
-use Rattle.std.specs.Prelude.{ℕ, zero, suc, ◌+◌, min, Bool, true, false, not, ◌||◌, ◌&&◌, ◌==◌, is_some, nat_le, nat_lt, List, [], ◌∷◌, ◌++◌, length, bytes_eq, filter, find, remove, Option, Some, None, if◌then◌else◌}
+use Rattle.std.specs.Prelude.{ℕ, zero, suc, ◌+◌, min, Bool, true, false, not, ◌||◌, ◌&&◌, is_some, nat_le, nat_lt, List, [], ◌∷◌, ◌++◌, length, bytes_eq, filter, find, remove, Option, Some, None, if◌then◌else◌}
 use Rattle.std.specs.List.{list_any, slice_get, slice_set, flat_map}
 use Rattle.std.specs.Option.{option_and_then, option_map, option_to_list}
 use Rattle.cell_core.specs.Words.{State, grants, notes, word_of, begun, first_slot, found_by, found_last}

@@ -75,10 +75,7 @@ pub(crate) fn started_words(
 }
 
 /// The words in which a version is published, and loaded once.
-fn loaded_once(
-    alloc: Global,
-    first: Published,
-) -> Result<WordMachine<Published>, WorldFault>
+fn loaded_once(alloc: Global, first: Published) -> Result<WordMachine<Published>, WorldFault>
     ensures made { IfOk result (λ machine. machine ≡ says_loaded_once first) }
     ensures refused { IfErr result (λ fault. fault ≡ WorldFault.NoMemory) }
 {
