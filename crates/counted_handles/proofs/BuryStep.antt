@@ -2,14 +2,13 @@
 use Rattle.std.proofs.Common.{◌≡◌, ◌≢◌, refl, sym, ap, ◌∙◌, subst, ℕ, suc, ◌+◌, ◌<◌, inl, inr, ⊎_elim, true, List, [], get_or, set, arith, Option, Some, None}
 use Rattle.std.specs.Prelude.{◌==◌}
 use Rattle.std.specs.List.{slice_get}
-use Rattle.std.proofs.lemmas.Bool.Decides.{eqb_tells}
 use Rattle.std.proofs.lemmas.Option.{slice_get_within}
 use mathlib.Core.Option.{none, some, some-injective}
 use lib.ListN.{get_elem?}
 use prog.Atomic.{either}
 use Rattle.atomic_table.specs.Table.{Allows, Act, keeps, takes, Valid, stepped, carried_after}
 use Rattle.atomic_table.proofs.Lists.{at_set, exchanged}
-use Rattle.cell_core.proofs.SeatLemmas.{held_some, get_set_same}
+use Rattle.cell_core.proofs.SeatLemmas.{held_some, get_set_same, one_at_itself}
 use Rattle.cell_core.proofs.BuryKeeps.{CanBury, can_bury, bury_keeps, kept_keeps}
 use Rattle.cell_core.proofs.FrameLemmas.{seat_stays}
 use Rattle.cell_core.specs.Cell.{with_buried}
@@ -20,10 +19,10 @@ use Rattle.cell_core.specs.Shows.Phase.{live, taken}
 use Rattle.cell_core.specs.declared.words.Slot.{Slot}
 use Rattle.cell_core.specs.declared.words.Version.{Version}
 use Rattle.cell_core.specs.declared.words.Publisher.TheVariants.{Swapping}
-use Rattle.cell_core.specs.declared.words.Owner.TheVariants.{Holding, Burying, Freeing, Spent}
+use Rattle.cell_core.specs.declared.words.Owner.TheVariants.{Holding, Burying, Fading, Spent}
 use Rattle.counted_handles.specs.declared.view.Mark.{Mark}
 use Rattle.counted_handles.specs.declared.view.View.{View}
-use Rattle.counted_handles.specs.declared.view.View.TheVariants.{Begin, Began, Publishes, Reads, Has, Buries, Frees, Ends, Gone}
+use Rattle.counted_handles.specs.declared.view.View.TheVariants.{Begin, Began, Publishes, Reads, Has, HasWeakly, Buries, Fades, Resets, Frees, Ends, Gone}
 use Rattle.counted_handles.specs.Shown.{Room, Board, holder, owner_of, shown}
 use Rattle.counted_handles.specs.Ruled.{RoomSpot, HomeIs, MarkIs, Holds}
 use Rattle.counted_handles.specs.Tells.{Tried}
@@ -42,7 +41,10 @@ owner_by_mark {T} (Has its) mark e = ap (λ (x : Option (Mark T)). holder x) e
 owner_by_mark (Begin value) mark e = absurd (let wrong = e in cc)
 owner_by_mark (Began spot) mark e = absurd (let wrong = e in cc)
 owner_by_mark (Buries slot name) mark e = absurd (let wrong = e in cc)
-owner_by_mark (Frees slot spot) mark e = absurd (let wrong = e in cc)
+owner_by_mark (HasWeakly tie) mark e = absurd (let wrong = e in cc)
+owner_by_mark (Fades slot spot) mark e = absurd (let wrong = e in cc)
+owner_by_mark (Resets slot) mark e = absurd (let wrong = e in cc)
+owner_by_mark (Frees slot) mark e = absurd (let wrong = e in cc)
 owner_by_mark (Ends slot spot) mark e = absurd (let wrong = e in cc)
 owner_by_mark Gone mark e = absurd (let wrong = e in cc)
 
@@ -50,9 +52,6 @@ owner_by_mark Gone mark e = absurd (let wrong = e in cc)
 abbrev number_or : {T : Type 0} → Option (Version T) → ℕ
 number_or None = 0
 number_or (Some version) = version.number
-
-holds_it : (number place : ℕ) → holds number (Holding number place) ≡ true
-holds_it number place = elim (eqb_tells number number) [ inl same ↦ same.0 | inr other ↦ absurd (other.1 refl) ]
 
 -- a version that nobody owns has no share
 pub unheld_mark : {T : Type 0} (begins : T → Type 0) (follows : T → T → Type 0) (spots : List (RoomSpot T)) (s : Board T) (h : Holds begins follows spots s) (place m : ℕ) (room : Room T) (value : T) → held (shown s).owners m ≡ 0 → get_elem? s.homes place ≡ some (some room) → room.value ≡ Some (record { number = m; value = value }) → (j : ℕ) (view : View T) → get_elem? s.views j ≡ some view → (mark : Mark T) → mark_in view ≡ Some mark → MarkIs s.homes h.name mark → mark.slot ≢ place
@@ -63,8 +62,9 @@ unheld_mark {T} begins follows spots s h place m room value unheld home full j v
     let versions : Some (record { number = m; value = value }) ≡ Some (record { number = mark.number; value = mark.value }) = sym full ∙ ap (λ (x : Room T). x.value) rooms ∙ is.version in
     let numbers : m ≡ mark.number = ap number_or versions in
     let owner : slice_get (shown s).owners j ≡ Some (Holding mark.number mark.slot) = got_map owner_of s.views j view at ∙ ap Some (owner_by_mark view mark e) in
-    let some_held = held_some (shown s).owners j m (Holding mark.number mark.slot) owner (subst (λ k. holds m (Holding k mark.slot) ≡ true) numbers (holds_it m mark.slot)) in
-    absurd (omega (arith, some_held, unheld))
+    let some_held = held_some (shown s).owners j m (Holding mark.number mark.slot) owner in
+    let one_held : holds m (Holding mark.number mark.slot) ≡ 1 = subst (λ k. holds m (Holding k mark.slot) ≡ 1) numbers (one_at_itself m) in
+    absurd (omega (arith, some_held, one_held, unheld))
 
 -- the version in a slot whose S is 0 has no share, and isn't to be published
 pub unowned_room : {T : Type 0} (begins : T → Type 0) (follows : T → T → Type 0) (spots : List (RoomSpot T)) (s : Board T) (h : Holds begins follows spots s) (place m : ℕ) (there : Slot T) (room : Room T) (value : T) → CanBury (shown s) h.cell h.shows.plan place m there → get_elem? s.homes place ≡ some (some room) → room.value ≡ Some (record { number = m; value = value }) → (j : ℕ) (view : View T) → get_elem? s.views j ≡ some view → Undisturbed s.homes (set s.homes place none) h.name view
@@ -97,13 +97,13 @@ module _ {T : Type 0} (begins : T → Type 0) (follows : T → T → Type 0) (sp
       let m : ℕ = can.0 in
       let room = live_room spots s h m slot l can.1.phase in
       let spot : RoomSpot T = room.lies.0 in
-      let new : View T = Frees slot spot in
+      let new : View T = Fades slot spot in
       let known = h.knows id (Buries slot name) at in
       let first = not_first s h id (Buries slot name) at (λ p e. cc) in
       let seat : slice_get st.owners id ≡ Some (Burying slot) = got_map owner_of s.views id (Buries slot name) at in
       let shows = bury_keeps st h.cell id slot m there.there h.shows seat there.at can.1 in
       let after : State T = shown (record { words = words; homes = set s.homes slot none; views = set s.views id new }) in
-      let same : after ≡ with_owner id (Freeing slot) (with_slot slot (with_shares dead_word (with_version None there.there)) st) = shown_place s slot dead_word none there id (Buries slot name) new at first refl in (
+      let same : after ≡ with_owner id (Fading slot) (with_slot slot (with_shares dead_word (with_version None there.there)) st) = shown_place s slot dead_word none there id (Buries slot name) new at first refl in (
         new,
         takes slot room.room,
         room.home,
@@ -117,14 +117,14 @@ module _ {T : Type 0} (begins : T → Type 0) (follows : T → T → Type 0) (sp
           left = omega arith;
           read = refl;
           fixed = λ p here counts w e. first_kept s.words (slot + slot) dead_word ∙ (counts.fixed w e).1;
-          free = λ last swept are. frees_kept s.words s.homes slot dead_word none last swept (λ is. omega (arith, is.shares, none_left)) are;
+          free = λ last swept is are. frees_kept s.words s.homes slot dead_word none last swept (λ free. omega (arith, free.shares, none_left)) are;
           homes_are = λ place home e. ⊎_elim
               (λ (t : (place ≡ slot) × (none ≡ home)).
-              let freeing : slice_get after.owners id ≡ Some (Freeing slot) = ap (λ (x : State T). slice_get x.owners id) same ∙ get_set_same st.owners id (Freeing slot) (slice_get_within st.owners id (Burying slot) seat) in
-              subst (λ x. HomeIs spots h.name after place x) t.1 (inr (id, freeing ∙ ap (λ k. Some (Freeing k)) (sym t.0))))
+              let fading : slice_get after.owners id ≡ Some (Fading slot) = ap (λ (x : State T). slice_get x.owners id) same ∙ get_set_same st.owners id (Fading slot) (slice_get_within st.owners id (Burying slot) seat) in
+              subst (λ x. HomeIs spots h.name after place x) t.1 (inr (id, fading ∙ ap (λ k. Some (Fading k)) (sym t.0))))
               (λ (t : (place ≢ slot) × (get_elem? s.homes place ≡ some home)). home_stays spots h.name st after place home
               (λ p. ap (λ (x : State T). x.publisher) same ∙ p)
-              (λ i q. ap (λ (x : State T). slice_get x.owners i) same ∙ seat_stays st.owners id (Burying slot) (Freeing slot) (Freeing place) seat (λ e. cc) i q)
+              (λ i q. ap (λ (x : State T). slice_get x.owners i) same ∙ seat_stays st.owners id (Burying slot) (Fading slot) (Fading place) seat (λ e. cc) i q)
               (h.homes place home t.1))
               (at_set s.homes slot place none home e);
           mine = room.lies.1;
@@ -168,10 +168,10 @@ module _ {T : Type 0} (begins : T → Type 0) (follows : T → T → Type 0) (sp
           left = omega arith;
           read = refl;
           fixed = λ p here counts w e. first_kept s.words (slot + slot) found ∙ (counts.fixed w e).1;
-          free = frees_again s.words s.homes (suc (slot + slot));
+          free = λ last swept is are. frees_again s.words s.homes (suc (slot + slot)) last swept are;
           homes_are = λ place home e. home_stays spots h.name st after place home
               (λ p. ap (λ (x : State T). x.publisher) same ∙ p)
-              (λ i q. ap (λ (x : State T). slice_get x.owners i) same ∙ seat_stays st.owners id (Burying slot) Spent (Freeing place) seat (λ e. cc) i q)
+              (λ i q. ap (λ (x : State T). slice_get x.owners i) same ∙ seat_stays st.owners id (Burying slot) Spent (Fading place) seat (λ e. cc) i q)
               (h.homes place home e);
           mine = tt;
           others = λ j view other e. unmoved s.homes h.name view;

@@ -11,14 +11,14 @@ use Rattle.cell_core.specs.Shows.{Shows}
 use Rattle.cell_core.specs.declared.words.Version.{Version}
 use Rattle.cell_core.specs.declared.words.Publisher.{Publisher}
 use Rattle.cell_core.specs.declared.words.Publisher.TheVariants.{Probing, Preparing, Swapping, Settling}
-use Rattle.cell_core.specs.declared.words.Owner.TheVariants.{Freeing}
+use Rattle.cell_core.specs.declared.words.Owner.TheVariants.{Fading}
 use Rattle.counted_handles.specs.declared.view.Mark.{Mark}
 use Rattle.counted_handles.specs.declared.view.Publishing.{Publishing}
 use Rattle.counted_handles.specs.declared.view.Reading.{Reading}
 use Rattle.counted_handles.specs.declared.view.View.{View}
-use Rattle.counted_handles.specs.declared.view.View.TheVariants.{Begin, Began, Publishes, Reads, Has, Buries, Frees, Ends, Gone}
+use Rattle.counted_handles.specs.declared.view.View.TheVariants.{Begin, Began, Publishes, Reads, Has, HasWeakly, Buries, Fades, Resets, Frees, Ends, Gone}
 use Rattle.counted_handles.specs.History.{IsHistory}
-use Rattle.counted_handles.specs.Shown.{Room, Board, version_at, how_of, publisher_in, read_of, left_of, shown}
+use Rattle.counted_handles.specs.Shown.{Room, Board, version_at, how_of, publisher_in, noted_of, noted_in, read_of, left_of, shown}
 use Rattle.counted_handles.specs.Ruled.{RoomSpot, HomeIs, MarkIs, ShareIs, NextIs, Comes, Begins, Knows, Counts, AreGuests, AreFree, Holds}
 use Rattle.counted_handles.proofs.Lists.{sum_set, one_there, got_within}
 
@@ -30,7 +30,10 @@ mark_in (Publishes p) = p.share
 mark_in (Reads r) = r.share
 mark_in (Has mark) = Some mark
 mark_in (Buries slot name) = None
-mark_in (Frees slot spot) = None
+mark_in (HasWeakly tie) = None
+mark_in (Fades slot spot) = None
+mark_in (Resets slot) = None
+mark_in (Frees slot) = None
 mark_in (Ends slot spot) = None
 mark_in Gone = None
 
@@ -58,6 +61,12 @@ pub guests_longer : {T : Type 0} (name : ℕ) (published : List T) (value : T) (
 guests_longer name published value [] is = tt
 guests_longer name published value (r ∷ rs) is = ((is.0.0, is.0.1, begins_longer r.seen published (published ++ value ∷ []) (value ∷ [], refl) is.0.2), guests_longer name published value rs is.1)
 
+-- what stands in a list stands in a longer one
+get_begun : {A : Type 0} (xs more : List A) (k : ℕ) (x : A) → slice_get xs k ≡ Some x → slice_get (xs ++ more) k ≡ Some x
+get_begun [] more k x e = absurd (let wrong = e in cc)
+get_begun (y ∷ xs) more zero x e = e
+get_begun (y ∷ xs) more (suc k) x e = get_begun xs more k x e
+
 -- so what a seat knows is so after a step of another
 pub knows_kept : {T : Type 0} (spots : List (RoomSpot T)) (name : ℕ) (published longer : List T) (homes later : List (maybe.Option (Room T))) (view : View T) → ((p : Publishing T) → view ≡ Publishes p → published ≡ longer) → Begins published longer → Undisturbed homes later name view → Knows spots name published homes view → Knows spots name longer later view
 knows_kept spots name published longer homes later (Begin value) same begins still is = is
@@ -68,7 +77,11 @@ knows_kept spots name published longer homes later (Reads r) same begins still i
     (is.0, begins_longer r.seen published longer begins is.1, share_kept homes later name r.share still.mark is.2)
 knows_kept spots name published longer homes later (Has mark) same begins still is = still.mark mark refl is
 knows_kept spots name published longer homes later (Buries slot its) same begins still is = is
-knows_kept spots name published longer homes later (Frees slot spot) same begins still is = is
+knows_kept {T} spots name published longer homes later (HasWeakly tie) same begins still is =
+    (is.0, ap (λ (l : List T). slice_get l tie.number) (sym begins.1) ∙ get_begun published begins.0 tie.number tie.value is.1)
+knows_kept spots name published longer homes later (Fades slot spot) same begins still is = is
+knows_kept spots name published longer homes later (Resets slot) same begins still is = tt
+knows_kept spots name published longer homes later (Frees slot) same begins still is = tt
 knows_kept spots name published longer homes later (Ends slot spot) same begins still is = is
 knows_kept spots name published longer homes later Gone same begins still is = tt
 
@@ -94,9 +107,9 @@ no_share {T} homes name k home later view at empty =
     undisturbed homes name k later view (λ mark e is. lies is.room _ mark.slot is.home is.version) (λ p slot e how is. lies is.room _ slot is.home is.version)
 
 -- a place that isn't moved is as it was
-pub home_stays : {T : Type 0} (spots : List (RoomSpot T)) (name : ℕ) (state new : State T) (slot : ℕ) (home : maybe.Option (Room T)) → (state.publisher ≡ Preparing slot → new.publisher ≡ Preparing slot) → ((i : ℕ) → slice_get state.owners i ≡ Some (Freeing slot) → slice_get new.owners i ≡ Some (Freeing slot)) → HomeIs spots name state slot home → HomeIs spots name new slot home
-home_stays spots name state new slot none preparing freeing is = ⊎_elim (λ e. inl (preparing e)) (λ e. inr (e.0, freeing e.0 e.1)) is
-home_stays spots name state new slot (some room) preparing freeing is = is
+pub home_stays : {T : Type 0} (spots : List (RoomSpot T)) (name : ℕ) (state new : State T) (slot : ℕ) (home : maybe.Option (Room T)) → (state.publisher ≡ Preparing slot → new.publisher ≡ Preparing slot) → ((i : ℕ) → slice_get state.owners i ≡ Some (Fading slot) → slice_get new.owners i ≡ Some (Fading slot)) → HomeIs spots name state slot home → HomeIs spots name new slot home
+home_stays spots name state new slot none preparing fading is = ⊎_elim (λ e. inl (preparing e)) (λ e. inr (e.0, fading e.0 e.1)) is
+home_stays spots name state new slot (some room) preparing fading is = is
 
 -- the first seat, and the others
 pub publisher_else : {T : Type 0} (views : List (View T)) (id : ℕ) (view : View T) → id ≢ 0 → publisher_in (set views id view) ≡ publisher_in views
@@ -112,13 +125,27 @@ pub publisher_is : {T : Type 0} (views : List (View T)) (view : View T) → get_
 publisher_is [] view at = absurd (some-ne-none view (sym at))
 publisher_is {T} (v ∷ views) view at = ap (λ (x : View T). how_of x) (some-injective v view at)
 
+-- the same of how many weak owners it has made
+pub noted_else : {T : Type 0} (views : List (View T)) (id : ℕ) (view : View T) → id ≢ 0 → noted_in (set views id view) ≡ noted_in views
+noted_else [] id view other = refl
+noted_else (v ∷ views) zero view other = absurd (other refl)
+noted_else (v ∷ views) (suc id) view other = refl
+
+pub noted_here : {T : Type 0} (views : List (View T)) (old view : View T) → get_elem? views 0 ≡ some old → noted_in (set views 0 view) ≡ noted_of view
+noted_here [] old view at = absurd (some-ne-none old (sym at))
+noted_here (v ∷ views) old view at = refl
+
+pub noted_is : {T : Type 0} (views : List (View T)) (view : View T) → get_elem? views 0 ≡ some view → noted_in views ≡ noted_of view
+noted_is [] view at = absurd (some-ne-none view (sym at))
+noted_is {T} (v ∷ views) view at = ap (λ (x : View T). noted_of x) (some-injective v view at)
+
 -- a seat that doesn't publish isn't the first
 pub not_first : {T : Type 0} {begins : T → Type 0} {follows : T → T → Type 0} {spots : List (RoomSpot T)} (s : Board T) (h : Holds begins follows spots s) (id : ℕ) (view : View T) → get_elem? s.views id ≡ some view → ((p : Publishing T) → view ≡ Publishes p → ⊥) → id ≢ 0
 not_first s h id view at apart e = apart h.first.0 (one_there s.views id view (Publishes h.first.0) at (ap (get_elem? s.views) e ∙ h.first.1))
 
 -- a state of the same parts
-pub state_is : {T : Type 0} (a b : State T) → a.latest ≡ b.latest → a.table ≡ b.table → a.publisher ≡ b.publisher → a.owners ≡ b.owners → a.granted ≡ b.granted → a ≡ b
-state_is a b latest table publisher owners granted = λ i. record { latest = latest i; table = table i; publisher = publisher i; owners = owners i; granted = granted i }
+pub state_is : {T : Type 0} (a b : State T) → a.latest ≡ b.latest → a.table ≡ b.table → a.publisher ≡ b.publisher → a.owners ≡ b.owners → a.granted ≡ b.granted → a.noted ≡ b.noted → a ≡ b
+state_is a b latest table publisher owners granted noted = λ i. record { latest = latest i; table = table i; publisher = publisher i; owners = owners i; granted = granted i; noted = noted i }
 
 module _ {T : Type 0} (begins : T → Type 0) (follows : T → T → Type 0) (spots : List (RoomSpot T)) where
   -- what a step of a seat that isn't the publisher owes
@@ -132,7 +159,7 @@ module _ {T : Type 0} (begins : T → Type 0) (follows : T → T → Type 0) (sp
     pub left : left_of new ≤ left_of old
     pub read : read_of new ≡ read_of old
     pub fixed : (p : Publishing T) → get_elem? s.views 0 ≡ some (Publishes p) → Counts s p → (word : ℕ) → p.fixed ≡ Some word → get_or words 0 0 ≡ word
-    pub free : (last swept : ℕ) → AreFree s.words s.homes last swept → AreFree words homes last swept
+    pub free : (last swept : ℕ) → slot_of (get_or s.words 0 0) ≡ last → AreFree s.words s.homes last swept → AreFree words homes last swept
     pub homes_are : (slot : ℕ) (home : maybe.Option (Room T)) → get_elem? homes slot ≡ some home → HomeIs spots h.name (shown (record { words = words; homes = homes; views = set s.views id new })) slot home
     pub mine : Knows spots h.name h.cell.published homes new
     pub others : (j : ℕ) (view : View T) → j ≢ id → get_elem? s.views j ≡ some view → Undisturbed s.homes homes h.name view
@@ -161,7 +188,7 @@ module _ {T : Type 0} (begins : T → Type 0) (follows : T → T → Type 0) (sp
             readers = omega (arith, counts.readers, counted, o.read);
             guests = counts.guests;
             fixed = λ word e. ((counts.fixed word e).0, o.fixed h.first.0 h.first.1 counts word e);
-            free = λ word slot e how. o.free (slot_of word) h.first.0.swept (counts.free word slot e how);
+            free = λ word slot e how. o.free (slot_of word) h.first.0.swept (ap slot_of (counts.fixed word e).1) (counts.free word slot e how);
           },
         );
         only = λ j p e. ⊎_elim

@@ -14,11 +14,11 @@ use Rattle.counted_handles.specs.declared.view.Reading.{Reading}
 use Rattle.counted_handles.specs.declared.view.Publishing.{Publishing}
 use Rattle.counted_handles.specs.declared.view.View.{View}
 use Rattle.counted_handles.specs.declared.view.View.TheVariants.{Publishes, Reads, Gone}
-use Rattle.counted_handles.specs.Shown.{Board, holder, owner_of, publisher_in, left_of, read_of, lefts, shown}
+use Rattle.counted_handles.specs.Shown.{Board, holder, owner_of, publisher_in, noted_in, left_of, read_of, lefts, shown}
 use Rattle.counted_handles.specs.Ruled.{RoomSpot, HomeIs, Begins, Knows, AreGuests, Holds}
 use Rattle.counted_handles.specs.Cuts.{lodged}
 use Rattle.counted_handles.proofs.Lists.{got_map, got_within, map_set, sum_set, sum_has}
-use Rattle.counted_handles.proofs.Frames.{publisher_here, publisher_else, publisher_is, knows_publisher, state_is}
+use Rattle.counted_handles.proofs.Frames.{publisher_here, publisher_else, publisher_is, noted_here, noted_else, noted_is, knows_publisher, state_is}
 
 module _ {T : Type 0} (begins : T → Type 0) (follows : T → T → Type 0) (spots : List (RoomSpot T)) where
   -- the publisher with a reader taken in, and those that it is to give back
@@ -45,7 +45,8 @@ module _ {T : Type 0} (begins : T → Type 0) (follows : T → T → Type 0) (sp
       let spent : slice_get (map owner_of middle) other ≡ Some Spent = got_map owner_of middle other (Reads r) in_middle ∙ ap (λ (x : Option (Mark T)). Some (holder x)) whole in
       let owners : map owner_of views ≡ st.owners = map_set owner_of middle other Gone ∙ sym (set_there (map owner_of middle) other Spent spent) ∙ middle_owners in
       let publisher : publisher_in views ≡ st.publisher = publisher_else middle other Gone apart ∙ publisher_here s.views (Publishes p) both at ∙ sym (publisher_is s.views (Publishes p) at) in
-      let same : shown (record { words = s.words; homes = s.homes; views = views }) ≡ st = state_is _ _ refl refl publisher owners (ap (λ k. grants - k) same_lefts) in
+      let noted : noted_in views ≡ st.noted = noted_else middle other Gone apart ∙ noted_here s.views (Publishes p) both at ∙ sym (noted_is s.views (Publishes p) at) in
+      let same : shown (record { words = s.words; homes = s.homes; views = views }) ≡ st = state_is _ _ refl refl publisher owners (ap (λ k. grants - k) same_lefts) noted in
       record {
         cell = h.cell;
         shows = subst (λ x. Shows x h.cell) (sym same) h.shows;

@@ -8,6 +8,7 @@ pub mod LoadStep
 pub mod WordSteps
 pub mod ReleaseStep
 pub mod BuryStep
+pub mod FadeStep
 pub mod FreeStep
 pub mod PublisherWords
 pub mod ProbeStep

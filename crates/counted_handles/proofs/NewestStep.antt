@@ -9,7 +9,7 @@ use Rattle.cell_core.specs.Cell.{with_strong}
 use Rattle.cell_core.specs.Shows.{Shows}
 use Rattle.cell_core.specs.Words.{State, slots, fetch_add}
 use Rattle.cell_core.specs.WordSteps.{with_owner}
-use Rattle.cell_core.specs.declared.words.Owner.TheVariants.{Holding, Freeing, Spent}
+use Rattle.cell_core.specs.declared.words.Owner.TheVariants.{Holding, Fading, Spent}
 use Rattle.counted_handles.specs.declared.view.Mark.{Mark}
 use Rattle.counted_handles.specs.declared.view.Publishing.{Publishing}
 use Rattle.counted_handles.specs.declared.view.View.TheVariants.{Publishes}
@@ -20,7 +20,7 @@ use Rattle.counted_handles.specs.History.{IsHistory}
 use Rattle.counted_handles.proofs.Lists.{map_set, sum_set, sum_has}
 use Rattle.counted_handles.proofs.Slots.{behind_first, first_set}
 use Rattle.counted_handles.proofs.Owners.{seated}
-use Rattle.counted_handles.proofs.Frames.{unmoved, home_stays, publisher_step, knows_publisher, publisher_here, state_is}
+use Rattle.counted_handles.proofs.Frames.{unmoved, home_stays, publisher_step, knows_publisher, publisher_here, noted_here, noted_is, state_is}
 use Rattle.counted_handles.proofs.Live.{slotted, last_room, live_mark, live_mark_is}
 use Rattle.counted_handles.proofs.PublisherWords.{how_is, first_owner, shown_publisher}
 
@@ -50,7 +50,8 @@ module _ {T : Type 0} (begins : T → Type 0) (follows : T → T → Type 0) (sp
       (ap (λ w. slots_in w s.homes) (behind_first s.words word))
       (publisher_here s.views (Publishes p) (Publishes new) at ∙ sym (how_is s p at))
       (map_set owner_of s.views 0 (Publishes new))
-      (omega (arith, sums, mine.1, h.few, some_left)) in (
+      (omega (arith, sums, mine.1, h.few, some_left))
+      (noted_here s.views (Publishes p) (Publishes new) at ∙ sym (noted_is s.views (Publishes p) at)) in (
         Publishes new,
         keeps,
         tt,
@@ -67,7 +68,7 @@ module _ {T : Type 0} (begins : T → Type 0) (follows : T → T → Type 0) (sp
           free = λ w k e q. absurd (let wrong = e in cc);
           homes_are = λ place home e. home_stays spots h.name st after place home
               (λ q. ap (λ (x : State T). x.publisher) same ∙ q)
-              (λ i q. ap (λ (x : State T). slice_get x.owners i) same ∙ seat_stays st.owners 0 Spent (Holding last slot) (Freeing place) spent (λ e. cc) i q)
+              (λ i q. ap (λ (x : State T). slice_get x.owners i) same ∙ seat_stays st.owners 0 Spent (Holding last slot) (Fading place) spent (λ e. cc) i q)
               (h.homes place home e);
           mine = (known.0, known.1, live_mark_is room, known.3);
           others = λ j view other e. unmoved s.homes h.name view;
@@ -98,7 +99,7 @@ module _ {T : Type 0} (begins : T → Type 0) (follows : T → T → Type 0) (sp
       let there = slotted s h (h.shows.plan.slot h.shows.plan.last) lies.0 in
       let first = first_set s.words s.homes (h.shows.plan.slot h.shows.plan.last) found there.there there.at in
       let after : State T = shown (record { words = words; homes = s.homes; views = set s.views 0 (Publishes new) }) in
-      let same : after ≡ st = shown_publisher s words s.homes p new st.latest st.table at refl refl first (ap (λ w. slots_in w s.homes) (behind_first s.words found))
+      let same : after ≡ st = shown_publisher s words s.homes p new st.latest st.table at refl refl refl first (ap (λ w. slots_in w s.homes) (behind_first s.words found))
       ∙ ap (λ x. record st { publisher = x }) (sym (how_is s p at)) in (
         Publishes new,
         keeps,
@@ -113,7 +114,7 @@ module _ {T : Type 0} (begins : T → Type 0) (follows : T → T → Type 0) (sp
           readers = refl;
           guests = (knows_publisher begins follows spots s h p at).guests;
           fixed = λ w e. (alone, first ∙ (let f : found ≡ w = cc in f));
-          free = λ w k e q slot l. absurd (omega (arith, l));
+          free = λ w k e q. (λ slot l apart. absurd (omega (arith, l)), λ l. absurd (omega (arith, l)));
           homes_are = λ place home e. home_stays spots h.name st after place home
               (λ q. ap (λ (x : State T). x.publisher) same ∙ q)
               (λ i q. ap (λ (x : State T). slice_get x.owners i) same ∙ q)

@@ -46,7 +46,7 @@ module _ {T : Type 0} (begins : T → Type 0) (follows : T → T → Type 0) (sp
       let after : State T = shown (record { words = words; homes = homes; views = set s.views 0 (Publishes new) }) in
       let version : room.value ≡ Some (record { number = last + 1; value = value }) = full ∙ ap (λ n. Some (record { number = n; value = value })) is_next in
       let same : after ≡ with_publisher (Swapping slot) (with_slot slot (with_shares bulk (with_version (Some (record { number = last + 1; value = value })) there.there)) st) =
-      shown_publisher s words homes p new st.latest (slice_set st.table slot (with_shares bulk (with_version (Some (record { number = last + 1; value = value })) there.there))) at refl refl (first_kept s.words (slot + slot) bulk)
+      shown_publisher s words homes p new st.latest (slice_set st.table slot (with_shares bulk (with_version (Some (record { number = last + 1; value = value })) there.there))) at refl refl refl (first_kept s.words (slot + slot) bulk)
       (place_set s slot bulk (some room) there ∙ ap (λ v. slice_set st.table slot (with_shares bulk (with_version v there.there))) version) in
       let here : get_elem? homes slot ≡ some (some room) = set_here s.homes slot (some room) (got_within s.homes slot there.home there.home_at) in (
         Publishes new,

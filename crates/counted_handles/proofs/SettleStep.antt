@@ -8,7 +8,7 @@ use Rattle.cell_core.specs.Words.{State, slots, grants, bulk, fetch_sub}
 use Rattle.cell_core.specs.WordSteps.{with_publisher, with_owner, with_slot, with_shares}
 use Rattle.cell_core.specs.Shows.{Shows, PublisherIs}
 use Rattle.cell_core.specs.declared.words.Publisher.TheVariants.{Probing, Preparing, Settling}
-use Rattle.cell_core.specs.declared.words.Owner.TheVariants.{Holding, Freeing, Spent}
+use Rattle.cell_core.specs.declared.words.Owner.TheVariants.{Holding, Fading, Spent}
 use Rattle.counted_handles.specs.declared.view.Mark.{Mark}
 use Rattle.counted_handles.specs.declared.view.Publishing.{Publishing}
 use Rattle.counted_handles.specs.declared.view.View.TheVariants.{Publishes}
@@ -18,7 +18,7 @@ use Rattle.counted_handles.specs.Tells.{IsSettled}
 use Rattle.counted_handles.proofs.Lists.{map_set, sum_set}
 use Rattle.counted_handles.proofs.Slots.{first_kept}
 use Rattle.counted_handles.proofs.Owners.{seated}
-use Rattle.counted_handles.proofs.Frames.{unmoved, home_stays, publisher_step, publisher_here, knows_publisher, state_is}
+use Rattle.counted_handles.proofs.Frames.{unmoved, home_stays, publisher_step, publisher_here, noted_here, noted_is, knows_publisher, state_is}
 use Rattle.counted_handles.proofs.Live.{slotted, live_room, live_mark, live_mark_is}
 use Rattle.counted_handles.proofs.WordSteps.{found_shares, shares_set}
 use Rattle.counted_handles.proofs.PublisherWords.{how_is, first_owner}
@@ -53,7 +53,8 @@ module _ {T : Type 0} (begins : T → Type 0) (follows : T → T → Type 0) (sp
       (shares_set s slot word there ∙ ap (λ n. slice_set st.table slot (with_shares (fetch_sub n (bulk - given - 1)) there.there)) (sym shares))
       (publisher_here s.views (Publishes p) (Publishes new) at)
       (map_set owner_of s.views 0 (Publishes new))
-      (ap (λ k. grants - k) (let e : lefts (set s.views 0 (Publishes new)) ≡ lefts s.views = omega (arith, sums) in e)) in (
+      (ap (λ k. grants - k) (let e : lefts (set s.views 0 (Publishes new)) ≡ lefts s.views = omega (arith, sums) in e))
+      (noted_here s.views (Publishes p) (Publishes new) at ∙ sym (noted_is s.views (Publishes p) at)) in (
         Publishes new,
         keeps,
         tt,
@@ -70,7 +71,7 @@ module _ {T : Type 0} (begins : T → Type 0) (follows : T → T → Type 0) (sp
           free = λ w k e q. absurd (let wrong = sym unfixed ∙ e in cc);
           homes_are = λ place home e. home_stays spots h.name st after place home
               (λ q. absurd (let wrong : Settling number slot given ≡ Preparing place = sym settling ∙ q in cc))
-              (λ i q. ap (λ (x : State T). slice_get x.owners i) same ∙ seat_stays st.owners 0 Spent (Holding number slot) (Freeing place) spent (λ e. cc) i q)
+              (λ i q. ap (λ (x : State T). slice_get x.owners i) same ∙ seat_stays st.owners 0 Spent (Holding number slot) (Fading place) spent (λ e. cc) i q)
               (h.homes place home e);
           mine = (known.0, known.1, live_mark_is room, tt);
           others = λ j view other e. unmoved s.homes h.name view;

@@ -7,20 +7,21 @@ use lib.ListN.{get_elem?}
 use Rattle.atomic_table.specs.Table.{Splits}
 use Rattle.atomic_table.proofs.Lists.{at_set, at_snoc, at_longer, set_here, set_else}
 use Rattle.cell_core.proofs.SeatLemmas.{get_push_old}
-use Rattle.cell_core.proofs.FrameLemmas.{seat_stays}
+use Rattle.cell_core.proofs.FrameLemmas.{charged, seat_stays}
 use Rattle.cell_core.specs.Shows.{Shows}
 use Rattle.cell_core.specs.Words.{State, grants}
-use Rattle.cell_core.specs.declared.words.Owner.TheVariants.{Holding, Burying, Freeing, Spent}
+use Rattle.cell_core.specs.declared.words.Owner.{Owner}
+use Rattle.cell_core.specs.declared.words.Owner.TheVariants.{Holding, Burying, Fading, Spent}
 use Rattle.counted_handles.specs.declared.view.Mark.{Mark}
 use Rattle.counted_handles.specs.declared.view.Reading.{Reading}
 use Rattle.counted_handles.specs.declared.view.Publishing.{Publishing}
 use Rattle.counted_handles.specs.declared.view.View.{View}
 use Rattle.counted_handles.specs.declared.view.View.TheVariants.{Publishes, Reads, Has}
-use Rattle.counted_handles.specs.Shown.{Board, holder, owner_of, how_of, publisher_in, left_of, read_of, lefts, reads, shown}
+use Rattle.counted_handles.specs.Shown.{Board, holder, owner_of, how_of, publisher_in, noted_of, noted_in, left_of, read_of, lefts, reads, shown}
 use Rattle.counted_handles.specs.Ruled.{RoomSpot, Begins, ShareIs, Knows, AreGuests, Counts, Holds}
 use Rattle.counted_handles.specs.Cuts.{reader_of, with_reader, met_guest, without_guest}
 use Rattle.counted_handles.proofs.Lists.{got_map, got_within, map_set, map_push, sum_set}
-use Rattle.counted_handles.proofs.Owners.{passed}
+use Rattle.counted_handles.proofs.Owners.{Plain, passed}
 use Rattle.counted_handles.proofs.Frames.{home_stays, not_first, knows_publisher, state_is}
 
 publisher_split : {T : Type 0} (views : List (View T)) (id : ℕ) (old left right : View T) → get_elem? views id ≡ some old → how_of left ≡ how_of old → publisher_in (set views id left ++ right ∷ []) ≡ publisher_in views
@@ -28,16 +29,28 @@ publisher_split [] id old left right at how = absurd (some-ne-none old (sym at))
 publisher_split {T} (v ∷ views) zero old left right at how = how ∙ ap (λ (x : View T). how_of x) (sym (some-injective v old at))
 publisher_split (v ∷ views) (suc id) old left right at how = refl
 
+noted_split : {T : Type 0} (views : List (View T)) (id : ℕ) (old left right : View T) → get_elem? views id ≡ some old → noted_of left ≡ noted_of old → noted_in (set views id left ++ right ∷ []) ≡ noted_in views
+noted_split [] id old left right at noted = absurd (some-ne-none old (sym at))
+noted_split {T} (v ∷ views) zero old left right at noted = noted ∙ ap (λ (x : View T). noted_of x) (sym (some-injective v old at))
+noted_split (v ∷ views) (suc id) old left right at noted = refl
+
+-- who holds a version, or has nothing, is to do nothing in a slot
+plain_holding : (how : Owner) (number place : ℕ) → how ≡ Holding number place → Plain how
+plain_holding how number place is = record { unburying = λ slot e. (let wrong : Holding number place ≡ Burying slot = sym is ∙ e in cc); uncharged = ap charged is }
+
+plain_spent : (how : Owner) → how ≡ Spent → Plain how
+plain_spent how is = record { unburying = λ slot e. (let wrong : Spent ≡ Burying slot = sym is ∙ e in cc); uncharged = ap charged is }
+
 module _ {T : Type 0} (begins : T → Type 0) (follows : T → T → Type 0) (spots : List (RoomSpot T)) where
   -- what a cut owes
   pub record Cut (s : Board T) (h : Holds begins follows spots s) (id : ℕ) (old left right : View T) : Type 0 where
     pub at : get_elem? s.views id ≡ some old
     pub how : how_of left ≡ how_of old
+    pub noted : noted_of left ≡ noted_of old
     pub grants_are : left_of left + left_of right ≡ left_of old
     pub left_owner : owner_of left ≡ Spent
     pub right_owner : owner_of right ≡ owner_of old
-    pub not_burying : (slot : ℕ) → owner_of old ≡ Burying slot → ⊥
-    pub not_freeing : (slot : ℕ) → owner_of old ≡ Freeing slot → ⊥
+    pub plain : Plain (owner_of old)
     pub left_knows : Knows spots h.name h.cell.published s.homes left
     pub right_knows : Knows spots h.name h.cell.published s.homes right
     pub first : (p : Publishing T) × (get_elem? (set s.views id left ++ right ∷ []) 0 ≡ some (Publishes p)) × Counts (record { words = s.words; homes = s.homes; views = set s.views id left ++ right ∷ [] }) p
@@ -55,16 +68,16 @@ module _ {T : Type 0} (begins : T → Type 0) (follows : T → T → Type 0) (sp
       ∙ ap (λ x. slice_set st.owners id x ++ owner_of right ∷ []) o.left_owner ∙ ap (λ x. slice_set st.owners id Spent ++ x ∷ []) o.right_owner in
       let after : State T = shown (record { words = s.words; homes = s.homes; views = set s.views id left ++ right ∷ [] }) in
       let same_lefts : lefts (set s.views id left ++ right ∷ []) ≡ lefts s.views = omega (arith, sums, pushed, o.grants_are) in
-      let same : after ≡ record st { owners = slice_set st.owners id Spent ++ owner_of old ∷ [] } = state_is _ _ refl refl (publisher_split s.views id old left right o.at o.how) owners (ap (λ k. grants - k) same_lefts) in
+      let same : after ≡ record st { owners = slice_set st.owners id Spent ++ owner_of old ∷ [] } = state_is _ _ refl refl (publisher_split s.views id old left right o.at o.how) owners (ap (λ k. grants - k) same_lefts) (noted_split s.views id old left right o.at o.noted) in
       record {
         cell = h.cell;
-        shows = subst (λ x. Shows x h.cell) (sym same) (passed st h.cell id (owner_of old) seat o.not_burying o.not_freeing h.shows);
+        shows = subst (λ x. Shows x h.cell) (sym same) (passed st h.cell id (owner_of old) seat o.plain h.shows);
         history = h.history;
         name = h.name;
         few = omega (arith, same_lefts, h.few);
         homes = λ place home e. home_stays spots h.name st after place home
             (λ q. ap (λ (x : State T). x.publisher) same ∙ q)
-            (λ i q. ap (λ (x : State T). slice_get x.owners i) same ∙ get_push_old (slice_set st.owners id Spent) (owner_of old) (Freeing place) i (seat_stays st.owners id (owner_of old) Spent (Freeing place) seat (o.not_freeing place) i q))
+            (λ i q. ap (λ (x : State T). slice_get x.owners i) same ∙ get_push_old (slice_set st.owners id Spent) (owner_of old) (Fading place) i (seat_stays st.owners id (owner_of old) Spent (Fading place) seat (λ w. (let wrong : None ≡ Some place = sym o.plain.uncharged ∙ ap charged w in cc)) i q))
             (h.homes place home e);
         knows = λ j view e. ⊎_elim
             (λ (t : get_elem? (set s.views id left) j ≡ some view). ⊎_elim
@@ -101,11 +114,11 @@ module _ {T : Type 0} (begins : T → Type 0) (follows : T → T → Type 0) (sp
       cut s h id (Reads r) (Reads (record r { share = None })) (Has mark) (record {
         at = at;
         how = refl;
+        noted = refl;
         grants_are = omega arith;
         left_owner = refl;
         right_owner = sym owner;
-        not_burying = λ slot e. let wrong : Holding mark.number mark.slot ≡ Burying slot = sym owner ∙ e in cc;
-        not_freeing = λ slot e. let wrong : Holding mark.number mark.slot ≡ Freeing slot = sym owner ∙ e in cc;
+        plain = plain_holding _ mark.number mark.slot owner;
         left_knows = (known.0, known.1, tt);
         right_knows = subst (ShareIs s.homes h.name) is known.2;
         first = (
@@ -130,11 +143,11 @@ module _ {T : Type 0} (begins : T → Type 0) (follows : T → T → Type 0) (sp
       cut s h id (Publishes p) left (Has mark) (record {
         at = at;
         how = refl;
+        noted = refl;
         grants_are = omega arith;
         left_owner = refl;
         right_owner = sym owner;
-        not_burying = λ slot e. let wrong : Holding mark.number mark.slot ≡ Burying slot = sym owner ∙ e in cc;
-        not_freeing = λ slot e. let wrong : Holding mark.number mark.slot ≡ Freeing slot = sym owner ∙ e in cc;
+        plain = plain_holding _ mark.number mark.slot owner;
         left_knows = (known.0, known.1, tt, known.3);
         right_knows = subst (ShareIs s.homes h.name) is known.2;
         first = (
@@ -161,11 +174,11 @@ module _ {T : Type 0} (begins : T → Type 0) (follows : T → T → Type 0) (sp
       cut s h id (Publishes p) left (Reads r) (record {
         at = at;
         how = refl;
+        noted = refl;
         grants_are = omega (arith, few);
         left_owner = owner;
         right_owner = ap (λ (x : Option (Mark T)). holder x) its_whole ∙ sym owner;
-        not_burying = λ slot e. let wrong : Spent ≡ Burying slot = sym owner ∙ e in cc;
-        not_freeing = λ slot e. let wrong : Spent ≡ Freeing slot = sym owner ∙ e in cc;
+        plain = plain_spent _ owner;
         left_knows = (known.0, known.1, known.2, known.3);
         right_knows = (its.0 ∙ known.0, subst (Begins r.seen) known.1 its.1, subst (ShareIs s.homes h.name) (sym its_whole) tt);
         first = (

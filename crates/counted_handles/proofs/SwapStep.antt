@@ -52,7 +52,7 @@ module _ {T : Type 0} (begins : T → Type 0) (follows : T → T → Type 0) (sp
       let after : State T = shown (record { words = words; homes = s.homes; views = set s.views 0 (Publishes new) }) in
       let settling : Settling last (slot_of found) (given_of found) ≡ Settling last (plan.slot last) plan.given = λ i. Settling last (latest_slot st h.cell h.shows i) (latest_given st h.cell h.shows i) in
       let same : after ≡ with_publisher (Settling last (plan.slot last) plan.given) (record st { latest = word_of slot 0 }) =
-      shown_publisher s words s.homes p new (word_of slot 0) st.table at refl refl (first_set s.words s.homes slot (word_of slot 0) there.there there.at) (ap (λ w. slots_in w s.homes) (behind_first s.words (word_of slot 0)))
+      shown_publisher s words s.homes p new (word_of slot 0) st.table at refl refl refl (first_set s.words s.homes slot (word_of slot 0) there.there there.at) (ap (λ w. slots_in w s.homes) (behind_first s.words (word_of slot 0)))
       ∙ ap (λ q. with_publisher q (record st { latest = word_of slot 0 })) settling in (
         Publishes new,
         keeps,

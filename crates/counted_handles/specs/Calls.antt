@@ -9,7 +9,7 @@ use Rattle.counted_handles.specs.declared.view.Mark.{Mark}
 use Rattle.counted_handles.specs.declared.view.Publishing.{Publishing}
 use Rattle.counted_handles.specs.declared.view.Reading.{Reading}
 use Rattle.counted_handles.specs.declared.view.View.{View}
-use Rattle.counted_handles.specs.declared.view.View.TheVariants.{Began, Publishes, Reads, Has, Frees, Ends}
+use Rattle.counted_handles.specs.declared.view.View.TheVariants.{Began, Publishes, Reads, Has, Fades, Ends}
 use Rattle.raw_slots.specs.Places.{Stake}
 use Rattle.cell_core.specs.declared.words.Version.{Version}
 use Rattle.counted_handles.specs.History.{IsHistory}
@@ -123,7 +123,7 @@ pub record IsOut {T : Type 0} (begins : T → Type 0) (follows : T → T → Typ
   pub spot : RoomSpot T
   pub room : Room T
   pub mark : Mark T
-  pub me_is : me ≡ (Frees slot spot, (slot, room) ∷ [])
+  pub me_is : me ≡ (Fades slot spot, (slot, room) ∷ [])
   pub lies : room.at ≡ spot.at
   pub version : room.value ≡ Some (version_of mark)
   pub whole : room.stake ≡ []
@@ -149,7 +149,7 @@ pub record IsLoaded {T : Type 0} (begins : T → Type 0) (follows : T → T → 
 pub record IsEmptied {T : Type 0} (slot : ℕ) (me : Sat T) : Type 0 where
   pub spot : RoomSpot T
   pub room : Room T
-  pub me_is : me ≡ (Frees slot spot, (slot, room) ∷ [])
+  pub me_is : me ≡ (Fades slot spot, (slot, room) ∷ [])
   pub lies : room.at ≡ spot.at
   pub empty : room.value ≡ None
   pub whole : room.stake ≡ []

@@ -4,9 +4,9 @@ use Rattle.cell_core.specs.declared.words.Publisher.{Publisher}
 use Rattle.cell_core.specs.declared.words.Publisher.TheVariants.{Probing, Preparing, Swapping, Settling}
 use Rattle.counted_handles.specs.declared.view.Publishing.{Publishing}
 use Rattle.counted_handles.specs.declared.view.View.{View}
-use Rattle.counted_handles.specs.declared.view.View.TheVariants.{Begin, Began, Publishes, Reads, Has, Buries, Frees, Ends}
+use Rattle.counted_handles.specs.declared.view.View.TheVariants.{Begin, Began, Publishes, Reads, Has, Buries, Fades, Resets, Frees, Ends}
 use Rattle.counted_handles.specs.Ruled.{stake_of, mark_of, first_version}
-use Rattle.counted_handles.specs.Tells.{Sat, Loaded, Newest, Released, Tried, Freed, Probed, Prepared, Swapped, IsSettled, Looked, Swept, Skipped, EndsAt, Shut, IsOpened, Offered}
+use Rattle.counted_handles.specs.Tells.{Sat, Loaded, Newest, Released, Tried, Faded, Restored, Freed, Probed, Prepared, Swapped, IsSettled, Looked, Swept, Skipped, EndsAt, Shut, IsOpened, Offered}
 
 -- load (own)
 abbrev pub LoadTells : {T : Type 0} → (T → Type 0) → (T → T → Type 0) → View T → ℕ → Sat T → Type 0
@@ -28,9 +28,19 @@ abbrev pub BuryTells : {T : Type 0} → (T → Type 0) → (T → T → Type 0) 
 BuryTells begins follows (Buries slot name) found me = Tried begins follows slot name found me
 BuryTells begins follows view found me = ⊥
 
+-- fade (own)
+abbrev pub FadeTells : {T : Type 0} → View T → ℕ → Sat T → Type 0
+FadeTells (Fades slot spot) found me = Faded slot found me
+FadeTells view found me = ⊥
+
+-- reset (own)
+abbrev pub ResetTells : {T : Type 0} → View T → Sat T → Type 0
+ResetTells (Resets slot) me = Restored slot me
+ResetTells view me = ⊥
+
 -- free (own)
 abbrev pub FreeTells : {T : Type 0} → View T → Sat T → Type 0
-FreeTells (Frees slot spot) me = Freed me
+FreeTells (Frees slot) me = Freed me
 FreeTells view me = ⊥
 
 -- probe, of the slot that is due (own)
@@ -70,14 +80,14 @@ abbrev pub LookTells : {T : Type 0} → View T → ℕ → Sat T → Type 0
 LookTells (Publishes p) found me = Looked p found me
 LookTells view found me = ⊥
 
--- looks at S while no reader is about (own)
+-- looks at S, and at K of the slot in W, while no reader is about (own)
 abbrev pub SweepTells : {T : Type 0} → View T → ℕ → Sat T → Type 0
 SweepTells (Publishes p) found me = Swept p found me
 SweepTells view found me = ⊥
 
-abbrev pub SkipTells : {T : Type 0} → View T → Sat T → Type 0
-SkipTells (Publishes p) me = Skipped p me
-SkipTells view me = ⊥
+abbrev pub SkipTells : {T : Type 0} → View T → ℕ → Sat T → Type 0
+SkipTells (Publishes p) found me = Skipped p found me
+SkipTells view found me = ⊥
 
 -- the look at S by which a cell ends, of the slot in W as the publisher saw it (own)
 abbrev pub EndOf : {T : Type 0} → Publishing T → Option ℕ → ℕ → Sat T → Type 0

@@ -12,12 +12,12 @@ use Rattle.cell_core.specs.Words.{State, slots, grants, free_word, bulk, word_of
 use Rattle.cell_core.specs.declared.words.Version.{Version}
 use Rattle.cell_core.specs.declared.words.Publisher.{Publisher}
 use Rattle.cell_core.specs.declared.words.Publisher.TheVariants.{Probing, Preparing, Swapping, Settling}
-use Rattle.cell_core.specs.declared.words.Owner.TheVariants.{Freeing}
+use Rattle.cell_core.specs.declared.words.Owner.TheVariants.{Fading}
 use Rattle.counted_handles.specs.declared.view.Mark.{Mark}
 use Rattle.counted_handles.specs.declared.view.Publishing.{Publishing}
 use Rattle.counted_handles.specs.declared.view.Reading.{Reading}
 use Rattle.counted_handles.specs.declared.view.View.{View}
-use Rattle.counted_handles.specs.declared.view.View.TheVariants.{Begin, Began, Publishes, Reads, Has, Buries, Frees, Ends, Gone}
+use Rattle.counted_handles.specs.declared.view.View.TheVariants.{Begin, Began, Publishes, Reads, Has, HasWeakly, Buries, Fades, Resets, Frees, Ends, Gone}
 use Rattle.counted_handles.specs.History.{IsHistory}
 use Rattle.counted_handles.specs.Shown.{Room, Board, reads, lefts, shown}
 
@@ -46,9 +46,10 @@ IsShared name slot (Some version) stakes = (life : ℕ) × (tally : ℕ) × (sta
 abbrev pub LiesAt : {T : Type 0} → List (RoomSpot T) → ℕ → Room T → Type 0
 LiesAt {T} spots slot room = (spot : RoomSpot T) × (slice_get spots slot ≡ Some spot) × (room.at ≡ spot.at)
 
--- a slot's place is at home, where it always lies, or is away with the publisher that prepares it or with the owner that is to free it (own)
+-- a slot's place is at home, where it always lies, or is away with the publisher that prepares it or with the owner that has buried
+-- what lay there and is to fade (own)
 abbrev pub HomeIs : {T : Type 0} → List (RoomSpot T) → ℕ → State T → ℕ → maybe.Option (Room T) → Type 0
-HomeIs spots name state slot none = (state.publisher ≡ Preparing slot) ⊎ ((i : ℕ) × (slice_get state.owners i ≡ Some (Freeing slot)))
+HomeIs spots name state slot none = (state.publisher ≡ Preparing slot) ⊎ ((i : ℕ) × (slice_get state.owners i ≡ Some (Fading slot)))
 HomeIs {T} spots name state slot (some room) = LiesAt spots slot room × IsShared name slot room.value room.stake
 
 -- a share is of the version that lies at home in its slot (own)
@@ -91,8 +92,11 @@ Knows spots name published homes (Began spot) = ⊥
 Knows spots name published homes (Publishes p) = (p.name ≡ name) × (p.published ≡ published) × ShareIs homes name p.share × Comes spots homes p p.how
 Knows spots name published homes (Reads r) = (r.name ≡ name) × Begins r.seen published × ShareIs homes name r.share
 Knows spots name published homes (Has mark) = MarkIs homes name mark
+Knows spots name published homes (HasWeakly tie) = (tie.name ≡ name) × (slice_get published tie.number ≡ Some tie.value)
 Knows spots name published homes (Buries slot its) = its ≡ name
-Knows spots name published homes (Frees slot spot) = slice_get spots slot ≡ Some spot
+Knows spots name published homes (Fades slot spot) = slice_get spots slot ≡ Some spot
+Knows spots name published homes (Resets slot) = Unit {0}
+Knows spots name published homes (Frees slot) = Unit {0}
 Knows spots name published homes (Ends slot spot) = ⊥
 Knows spots name published homes Gone = Unit {0}
 
@@ -108,12 +112,14 @@ pub record IsFree {T : Type 0} (words : List ℕ) (homes : List (maybe.Option (R
   pub home : get_elem? homes slot ≡ some (some room)
   pub empty : room.value ≡ None
 
--- so many slots, from the first one on, are free, but for the one in W (own)
+-- so many slots, from the first one on, are free, but for the one in W, whose K is 1 if it is one of them: it has no weak owner (own)
 abbrev pub AreFree : {T : Type 0} → List ℕ → List (maybe.Option (Room T)) → ℕ → ℕ → Type 0
-AreFree words homes last swept = (slot : ℕ) → slot < swept → slot ≢ last → IsFree words homes slot
+AreFree words homes last swept =
+    ((slot : ℕ) → slot < swept → slot ≢ last → IsFree words homes slot)
+    × (last < swept → slice_index words (suc (suc (last + last))) ≡ 1)
 
 -- the publisher counts the readers, and where none is about W stays as it saw it, and no slot that it saw free since is taken but by
--- itself (own)
+-- itself, nor has the slot in W a weak owner more (own)
 pub record Counts {T : Type 0} (board : Board T) (p : Publishing T) : Type 0 where
   pub readers : p.readers ≡ reads board.views
   pub guests : AreGuests p.name p.published p.guests
@@ -174,7 +180,7 @@ pub record Away {T : Type 0} (spots : List (RoomSpot T)) (board : Board T) : Typ
   pub lies : slice_get spots 0 ≡ Some spot
   pub others : RestIsFree spots board.homes
 
--- a seat at a cell's end: nobody has a share or grants, and who is still to try a bury won't win it (own)
+-- a seat at a cell's end: nobody has a share, weakly or not, or grants, and who is still to try a bury won't win it (own)
 abbrev pub IsQuiet : {T : Type 0} → List (RoomSpot T) → View T → Type 0
 IsQuiet spots (Ends slot spot) = slice_get spots slot ≡ Some spot
 IsQuiet spots (Buries slot name) = slot < slots
@@ -184,7 +190,10 @@ IsQuiet spots (Began spot) = ⊥
 IsQuiet spots (Publishes p) = ⊥
 IsQuiet spots (Reads r) = ⊥
 IsQuiet spots (Has mark) = ⊥
-IsQuiet spots (Frees slot spot) = ⊥
+IsQuiet spots (HasWeakly tie) = ⊥
+IsQuiet spots (Fades slot spot) = ⊥
+IsQuiet spots (Resets slot) = ⊥
+IsQuiet spots (Frees slot) = ⊥
 
 -- a place at a cell's end: whole, where it always lies, or away with the first seat (own)
 abbrev pub EndedHome : {T : Type 0} → List (RoomSpot T) → List (View T) → ℕ → maybe.Option (Room T) → Type 0

@@ -9,7 +9,7 @@ use Rattle.counted_handles.specs.declared.view.Mark.{Mark}
 use Rattle.counted_handles.specs.declared.view.Reading.{Reading}
 use Rattle.counted_handles.specs.declared.view.Publishing.{Publishing}
 use Rattle.counted_handles.specs.declared.view.View.{View}
-use Rattle.counted_handles.specs.declared.view.View.TheVariants.{Begin, Began, Publishes, Reads, Has, Buries, Frees, Ends, Gone}
+use Rattle.counted_handles.specs.declared.view.View.TheVariants.{Begin, Began, Publishes, Reads, Has, HasWeakly, Buries, Fades, Resets, Frees, Ends, Gone}
 use Rattle.raw_slots.specs.Places.{Stake}
 use Rattle.counted_handles.specs.History.{IsHistory}
 use Rattle.counted_handles.specs.Shown.{Room}
@@ -46,13 +46,12 @@ pub record IsOlder {T : Type 0} (begins : T → Type 0) (follows : T → T → T
   pub value_is : slice_get published version.number ≡ Some version.value
   pub older : version.number + 1 < length published
 
--- a bury that won: the owner has the slot's place, with the version that lay there, which isn't the last, and is to free the
--- slot (own)
+-- a bury that won: the owner has the slot's place, with the version that lay there, which isn't the last, and is to fade (own)
 pub record IsWon {T : Type 0} (begins : T → Type 0) (follows : T → T → Type 0) (slot name : ℕ) (me : Sat T) : Type 0 where
   pub spot : RoomSpot T
   pub room : Room T
   pub mark : Mark T
-  pub me_is : me ≡ (Frees slot spot, (slot, room) ∷ [])
+  pub me_is : me ≡ (Fades slot spot, (slot, room) ∷ [])
   pub lies : room.at ≡ spot.at
   pub version : room.value ≡ Some (version_of mark)
   pub stake : room.stake ≡ stake_of mark ∷ []
@@ -63,6 +62,14 @@ pub record IsWon {T : Type 0} (begins : T → Type 0) (follows : T → T → Typ
 -- bury: it wins where S was 0 (own)
 abbrev pub Tried : {T : Type 0} → (T → Type 0) → (T → T → Type 0) → ℕ → ℕ → ℕ → Sat T → Type 0
 Tried begins follows slot name found me = MatchBool (found == 0) (IsWon begins follows slot name me) (me ≡ (Gone, []))
+
+-- fade, of who buried a version: K counted it; where K was 1 a reset is due, else the owner has made all its steps (own)
+abbrev pub Faded : {T : Type 0} → ℕ → ℕ → Sat T → Type 0
+Faded slot found me = (0 < found) × MatchBool (found == 1) (me ≡ (Resets slot, [])) (me ≡ (Gone, []))
+
+-- reset: a free is due (own)
+abbrev pub Restored : {T : Type 0} → ℕ → Sat T → Type 0
+Restored slot me = me ≡ (Frees slot, [])
 
 -- free: the owner has made all its steps (own)
 abbrev pub Freed : {T : Type 0} → Sat T → Type 0
@@ -121,9 +128,9 @@ Looked p found me = (slot_of found < slots) × (me ≡ (Publishes (record p { fi
 abbrev pub Swept : {T : Type 0} → Publishing T → ℕ → Sat T → Type 0
 Swept p found me = MatchBool (found == free_word) (me ≡ (Publishes (record p { swept = p.swept + 1 }), [])) (me ≡ (Publishes p, []))
 
--- the slot in W counts (own)
-abbrev pub Skipped : {T : Type 0} → Publishing T → Sat T → Type 0
-Skipped p me = me ≡ (Publishes (record p { swept = p.swept + 1 }), [])
+-- a look at K of the slot in W: it counts where it has no weak owner (own)
+abbrev pub Skipped : {T : Type 0} → Publishing T → ℕ → Sat T → Type 0
+Skipped p found me = MatchBool (found == 1) (me ≡ (Publishes (record p { swept = p.swept + 1 }), [])) (me ≡ (Publishes p, []))
 
 -- the cell's end: the first seat has the place of the last version, of which nobody has a share (own)
 pub record IsEnding {T : Type 0} (p : Publishing T) (slot : ℕ) (me : Sat T) : Type 0 where
@@ -159,7 +166,7 @@ pub record IsOpened {T : Type 0} (value : T) (me : Sat T) : Type 0 where
 -- the publisher of a new cell, with all grants (own)
 abbrev pub opener : {T : Type 0} → T → ℕ → RoomSpot T → Publishing T
 opener value name spot =
-    record { published = value ∷ []; how = Probing 0; next = None; share = None; left = grants; readers = 0; fixed = None; swept = 0; guests = []; name = name; spot = spot }
+    record { published = value ∷ []; how = Probing 0; next = None; share = None; left = grants; noted = 0; readers = 0; fixed = None; swept = 0; guests = []; name = name; spot = spot }
 
 -- the second look at W: the first value is published (own)
 abbrev pub Offered : {T : Type 0} → T → ℕ → RoomSpot T → Sat T → Type 0
@@ -173,6 +180,9 @@ IsClaimed (Began spot) stake value = ⊥
 IsClaimed (Publishes p) stake value = ⊥
 IsClaimed (Reads r) stake value = ⊥
 IsClaimed (Buries slot name) stake value = ⊥
-IsClaimed (Frees slot spot) stake value = ⊥
+IsClaimed (HasWeakly tie) stake value = ⊥
+IsClaimed (Fades slot spot) stake value = ⊥
+IsClaimed (Resets slot) stake value = ⊥
+IsClaimed (Frees slot) stake value = ⊥
 IsClaimed (Ends slot spot) stake value = ⊥
 IsClaimed Gone stake value = ⊥

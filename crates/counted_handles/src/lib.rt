@@ -2,9 +2,9 @@
 //!
 //! The words W, S and K and the places of 64 slots lie in an `atomic_table`. Its [`Rule`] says that they show a cell as those of
 //! `cell_core` do, whose values are a history, and that each place is where the words say: at home and shared by its version, or
-//! away with who prepares or frees it. What a seat knows is its [`View`]: a reader has grants, an owner a [`Mark`] of its share,
-//! and the publisher, which has the first seat, all that is published and the count of the readers. Each step has a name in
-//! `plays` and a call in `calls`, whose contract says what it tells.
+//! away with who prepares it or has buried what lay there. What a seat knows is its [`View`]: a reader has grants, an owner a
+//! [`Mark`] of its share, and the publisher, which has the first seat, all that is published and the count of the readers. Each
+//! step has a name in `plays` and a call in `calls`, whose contract says what it tells.
 #![tactic(auto)]
 
 mod calls;
@@ -32,4 +32,4 @@ pub use publications::{NoSlot, newest, publish};
 pub use released::{Released, Steps};
 pub use rule::{Room, Rule, Spots};
 pub use unmade::unmake;
-pub use view::{Mark, Publishing, Reading, View};
+pub use view::{Mark, Publishing, Reading, Tie, View};

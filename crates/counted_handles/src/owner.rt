@@ -58,6 +58,10 @@ fn let_go<T: Drop, C: Names<T>>(
         return released;
     }
     released.empty(words, &mut seat, slot);
+    if !released.fade(words, &mut seat, slot) {
+        return released;
+    }
+    released.reset(words, &mut seat, slot);
     released.free(words, &mut seat, slot);
     released
 }
@@ -139,7 +143,7 @@ impl<'a, T: Drop, C: Names<T>> Strong<'a, T, C> {
     }
 
     /// Gives the owner up, and tells what its steps saw: it subtracts its share from S, tries to bury what lies in its slot exactly
-    /// where it was the last to do so, and makes the slot free where it has buried. It waits for nobody.
+    /// where it was the last to do so, and makes the slot free where it has buried and no weak owner is left. It waits for nobody.
     pub fn release(self) -> Released
         ensures { IsReleased C.begins C.follows result }
     {

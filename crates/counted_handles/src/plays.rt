@@ -1,5 +1,5 @@
 //! The steps by name: what each tells, and how seats are cut and made one.
-ghost use Rattle.counted_handles.specs.Plays.{LoadTells, NewestTells, ReleaseTells, BuryTells, FreeTells, ProbeTells, PrepareTells, SwapTells, SettleTells, LookTells, SweepTells, SkipTells, EndTells, ShutTells, OpenTells, OfferTells};
+ghost use Rattle.counted_handles.specs.Plays.{LoadTells, NewestTells, ReleaseTells, BuryTells, FadeTells, ResetTells, FreeTells, ProbeTells, PrepareTells, SwapTells, SettleTells, LookTells, SweepTells, SkipTells, EndTells, ShutTells, OpenTells, OfferTells};
 ghost use Rattle.counted_handles.specs.Tells.{IsClaimed};
 ghost use Rattle.counted_handles.specs.Cuts.{kept_share, given_share, kept_back, handed_back, kept_dealt, dealt, lodging, kept_met, kept_home, sent_home};
 ghost use Rattle.counted_handles.specs.declared.view.View.TheVariants.{Has, Gone};
@@ -46,6 +46,20 @@ pub struct Buries<C> {
 
 impl<T, C: Names<T>> Play<Room<T>, View<T>> for Buries<C> {
     ghost then = { λ _ me found new. BuryTells C.begins C.follows me.0 found new };
+}
+
+/// A fade of who buried a version.
+pub struct Fades;
+
+impl<T> Play<Room<T>, View<T>> for Fades {
+    ghost then = { λ _ me found new. FadeTells me.0 found new };
+}
+
+/// A reset.
+pub struct Resets;
+
+impl<T> Play<Room<T>, View<T>> for Resets {
+    ghost then = { λ _ me _ new. ResetTells me.0 new };
 }
 
 /// A free.
@@ -97,11 +111,11 @@ impl<T> Play<Room<T>, View<T>> for Sweeps {
     ghost then = { λ _ me found new. SweepTells me.0 found new };
 }
 
-/// The same, of the slot in W.
+/// A look at K of the slot in W, likewise.
 pub struct Skips;
 
 impl<T> Play<Room<T>, View<T>> for Skips {
-    ghost then = { λ _ me _ new. SkipTells me.0 new };
+    ghost then = { λ _ me found new. SkipTells me.0 found new };
 }
 
 /// The look at S of the slot in W that ends the cell.

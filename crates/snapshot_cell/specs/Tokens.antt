@@ -9,7 +9,7 @@ use Rattle.cell_core.specs.declared.words.Publisher.TheVariants.{Probing}
 use Rattle.counted_handles.specs.declared.view.Reading.{Reading}
 use Rattle.counted_handles.specs.declared.view.Publishing.{Publishing}
 use Rattle.counted_handles.specs.declared.view.View.{View}
-use Rattle.counted_handles.specs.declared.view.View.TheVariants.{Begin, Began, Publishes, Reads, Has, Buries, Frees, Ends, Gone}
+use Rattle.counted_handles.specs.declared.view.View.TheVariants.{Begin, Began, Publishes, Reads, Has, HasWeakly, Buries, Fades, Resets, Frees, Ends, Gone}
 use Rattle.counted_handles.specs.Cuts.{dealt_grants}
 use Rattle.counted_handles.specs.History.{IsHistory}
 use Rattle.counted_handles.specs.Ruled.{Begins}
@@ -43,7 +43,10 @@ values_of (Begin value) = []
 values_of (Began spot) = []
 values_of (Has mark) = []
 values_of (Buries slot name) = []
-values_of (Frees slot spot) = []
+values_of (HasWeakly tie) = []
+values_of (Fades slot spot) = []
+values_of (Resets slot) = []
+values_of (Frees slot) = []
 values_of (Ends slot spot) = []
 values_of Gone = []
 

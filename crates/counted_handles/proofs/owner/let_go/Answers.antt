@@ -27,13 +27,32 @@ bury-requires-clause-due g c =
 pub returns-then-not-bury : goal.returns-then-not-bury
 returns-then-not-bury g c = ends_lost g.C.Names.begins g.C.Follows.follows c.bury.new.self c.bury.new.seat.me c.if-not-bury.ensures.tried
 
-pub free-requires-clause-buried : goal.free-requires-clause-buried
-free-requires-clause-buried g c =
+pub fade-requires-clause-buried : goal.fade-requires-clause-buried
+fade-requires-clause-buried g c =
     let out = c.if-not-bury.ensures.tried.1 in
     (out.mark.number, c.empty.ensures.number (version_of out.mark) (out.spot, out.room, out.me_is, out.version), c.empty.ensures.emptied)
+
+pub returns-then-not-fade : goal.returns-then-not-fade
+returns-then-not-fade g c =
+    let out = c.if-not-bury.ensures.tried.1 in
+    let outlived = c.if-not-fade.ensures.faded out.mark.number (c.empty.ensures.number (version_of out.mark) (out.spot, out.room, out.me_is, out.version)) in
+    subst (IsReleased g.C.Names.begins g.C.Follows.follows) (sym outlived.1) (outlived.2, (version_of out.mark, refl, out.older))
+
+pub reset-requires-clause-faded : goal.reset-requires-clause-faded
+reset-requires-clause-faded g c =
+    let out = c.if-not-bury.ensures.tried.1 in
+    let faded = c.if-not-fade.ensures.faded out.mark.number (c.empty.ensures.number (version_of out.mark) (out.spot, out.room, out.me_is, out.version)) in
+    (out.mark.number, faded.0, faded.1)
+
+pub free-requires-clause-restored : goal.free-requires-clause-restored
+free-requires-clause-restored g c =
+    let out = c.if-not-bury.ensures.tried.1 in
+    let faded = c.if-not-fade.ensures.faded out.mark.number (c.empty.ensures.number (version_of out.mark) (out.spot, out.room, out.me_is, out.version)) in
+    (out.mark.number, c.reset.ensures.restored out.mark.number faded.0, c.reset.ensures.seat.2)
 
 pub returns : goal.returns
 returns g c =
     let out = c.if-not-bury.ensures.tried.1 in
-    let freed = c.free.ensures.freed out.mark.number (c.empty.ensures.number (version_of out.mark) (out.spot, out.room, out.me_is, out.version)) in
+    let faded = c.if-not-fade.ensures.faded out.mark.number (c.empty.ensures.number (version_of out.mark) (out.spot, out.room, out.me_is, out.version)) in
+    let freed = c.free.ensures.freed out.mark.number (c.reset.ensures.restored out.mark.number faded.0) in
     subst (IsReleased g.C.Names.begins g.C.Follows.follows) (sym freed) (version_of out.mark, refl, out.older)
