@@ -2,6 +2,7 @@
 use Rattle.std.proofs.Common.{◌≡◌, ◌≢◌, refl, sym, ap, ◌∙◌, subst, ℕ, suc, ◌+◌, ◌<◌, inl, inr, ⊎_elim, true, List, [], get_or, set, arith, Option, Some, None}
 use Rattle.std.specs.Prelude.{◌==◌}
 use Rattle.std.specs.List.{slice_get}
+use Rattle.std.proofs.lemmas.Bool.Decides.{eqb_tells}
 use Rattle.std.proofs.lemmas.Option.{slice_get_within}
 use mathlib.Core.Option.{none, some, some-injective}
 use lib.ListN.{get_elem?}
@@ -11,7 +12,7 @@ use Rattle.atomic_table.proofs.Lists.{at_set, exchanged}
 use Rattle.cell_core.proofs.SeatLemmas.{held_some, get_set_same, one_at_itself}
 use Rattle.cell_core.proofs.BuryKeeps.{CanBury, can_bury, bury_keeps, kept_keeps}
 use Rattle.cell_core.proofs.FrameLemmas.{seat_stays}
-use Rattle.cell_core.specs.Cell.{with_buried}
+use Rattle.cell_core.specs.Cell.{Cell, with_buried}
 use Rattle.cell_core.specs.Words.{State, slots, dead_word}
 use Rattle.cell_core.specs.WordSteps.{with_owner, with_slot, with_shares, with_version}
 use Rattle.cell_core.specs.Shows.{Shows, PublisherIs, holds, held}
@@ -19,25 +20,50 @@ use Rattle.cell_core.specs.Shows.Phase.{live, taken}
 use Rattle.cell_core.specs.declared.words.Slot.{Slot}
 use Rattle.cell_core.specs.declared.words.Version.{Version}
 use Rattle.cell_core.specs.declared.words.Publisher.TheVariants.{Swapping}
-use Rattle.cell_core.specs.declared.words.Owner.TheVariants.{Holding, Burying, Fading, Spent}
+use Rattle.cell_core.specs.declared.words.Owner.{Owner}
+use Rattle.cell_core.specs.declared.words.Owner.TheVariants.{Holding, Twice, Weakly, Both, Burying, Fading, Spent}
 use Rattle.counted_handles.specs.declared.view.Mark.{Mark}
+use Rattle.counted_handles.specs.declared.view.Hold.{Hold}
+use Rattle.counted_handles.specs.declared.view.Hold.TheVariants.{Once, Double, Loose, Mixed}
 use Rattle.counted_handles.specs.declared.view.View.{View}
-use Rattle.counted_handles.specs.declared.view.View.TheVariants.{Begin, Began, Publishes, Reads, Has, HasWeakly, Buries, Fades, Resets, Frees, Ends, Gone}
-use Rattle.counted_handles.specs.Shown.{Room, Board, holder, owner_of, shown}
+use Rattle.counted_handles.specs.declared.view.View.TheVariants.{Begin, Began, Publishes, Reads, Hosts, Has, HasWeakly, Buries, Fades, Resets, Frees, Ends, Gone}
+use Rattle.counted_handles.specs.Shown.{Room, Board, holder, hold_owner, held_by, owner_of, shown}
 use Rattle.counted_handles.specs.Ruled.{RoomSpot, HomeIs, MarkIs, Holds}
 use Rattle.counted_handles.specs.Tells.{Tried}
 use Rattle.counted_handles.proofs.Lists.{got_map, one_there, when_equal, when_apart}
 use Rattle.counted_handles.proofs.Slots.{first_kept}
 use Rattle.counted_handles.proofs.FreeSlots.{frees_kept, frees_again}
-use Rattle.counted_handles.proofs.Frames.{mark_in, Undisturbed, undisturbed, unmoved, home_stays, not_first, publisher_is, seat_step}
+use Rattle.counted_handles.proofs.Frames.{hold_mark, held_mark, mark_in, Undisturbed, undisturbed, unmoved, home_stays, not_first, publisher_is, seat_step}
 use Rattle.counted_handles.proofs.Live.{slotted, live_room, live_mark}
 use Rattle.counted_handles.proofs.WordSteps.{found_shares, shown_shares, shown_place, slots_kept}
 
--- who has a share is its owner
-pub owner_by_mark : {T : Type 0} (view : View T) (mark : Mark T) → mark_in view ≡ Some mark → owner_of view ≡ Holding mark.number mark.slot
-owner_by_mark {T} (Publishes p) mark e = ap (λ (x : Option (Mark T)). holder x) e
-owner_by_mark {T} (Reads r) mark e = ap (λ (x : Option (Mark T)). holder x) e
-owner_by_mark {T} (Has its) mark e = ap (λ (x : Option (Mark T)). holder x) e
+-- a number that is buried stays so
+buried_still : {T : Type 0} (cell : Cell T) (m j : ℕ) → cell.buried j ≡ true → (with_buried m cell).buried j ≡ true
+buried_still cell m j gone = elim (eqb_tells j m) [ inl same ↦ rw same.0 refl | inr other ↦ rw other.0 gone ]
+
+-- who has a share is counted
+counted_once : (number slot : ℕ) (how : Owner) → how ≡ Holding number slot → 0 < holds number how
+counted_once number slot how is = let one = one_at_itself number in let f = ap (holds number) is in omega (arith, one, f)
+
+hold_counted : {T : Type 0} (hold : Hold T) (mark : Mark T) → hold_mark hold ≡ Some mark → 0 < holds mark.number (hold_owner hold)
+hold_counted {T} (Once its) mark e = counted_once mark.number mark.slot (Holding its.number its.slot) (ap (λ (x : Option (Mark T)). holder x) e)
+hold_counted {T} (Double its) mark e =
+    let same : its.number ≡ mark.number = ap (λ (x : Mark T). x.number) (let f : its ≡ mark = cc in f) in
+    subst (λ n. 0 < holds n (Twice its.number its.slot)) same (elim (eqb_tells its.number its.number) [ inl is ↦ rw is.0 (omega arith) | inr other ↦ absurd (other.1 refl) ])
+hold_counted (Loose tie) mark e = absurd (let wrong = e in cc)
+hold_counted {T} (Mixed its tie) mark e =
+    let same : its.number ≡ mark.number = ap (λ (x : Mark T). x.number) (let f : its ≡ mark = cc in f) in
+    subst (λ n. 0 < holds n (Both its.number its.slot)) same (let one = one_at_itself its.number in omega (arith, one))
+
+held_counted : {T : Type 0} (held : Option (Hold T)) (mark : Mark T) → held_mark held ≡ Some mark → 0 < holds mark.number (held_by held)
+held_counted None mark e = absurd (let wrong = e in cc)
+held_counted (Some hold) mark e = hold_counted hold mark e
+
+pub owner_by_mark : {T : Type 0} (view : View T) (mark : Mark T) → mark_in view ≡ Some mark → 0 < holds mark.number (owner_of view)
+owner_by_mark (Publishes p) mark e = held_counted p.share mark e
+owner_by_mark (Hosts r hold) mark e = hold_counted hold mark e
+owner_by_mark {T} (Reads r) mark e = counted_once mark.number mark.slot (holder r.share) (ap (λ (x : Option (Mark T)). holder x) e)
+owner_by_mark {T} (Has its) mark e = counted_once mark.number mark.slot (Holding its.number its.slot) (ap (λ (x : Option (Mark T)). holder x) e)
 owner_by_mark (Begin value) mark e = absurd (let wrong = e in cc)
 owner_by_mark (Began spot) mark e = absurd (let wrong = e in cc)
 owner_by_mark (Buries slot name) mark e = absurd (let wrong = e in cc)
@@ -61,10 +87,9 @@ unheld_mark {T} begins follows spots s h place m room value unheld home full j v
     let rooms : room ≡ is.room = some-injective room is.room one in
     let versions : Some (record { number = m; value = value }) ≡ Some (record { number = mark.number; value = mark.value }) = sym full ∙ ap (λ (x : Room T). x.value) rooms ∙ is.version in
     let numbers : m ≡ mark.number = ap number_or versions in
-    let owner : slice_get (shown s).owners j ≡ Some (Holding mark.number mark.slot) = got_map owner_of s.views j view at ∙ ap Some (owner_by_mark view mark e) in
-    let some_held = held_some (shown s).owners j m (Holding mark.number mark.slot) owner in
-    let one_held : holds m (Holding mark.number mark.slot) ≡ 1 = subst (λ k. holds m (Holding k mark.slot) ≡ 1) numbers (one_at_itself m) in
-    absurd (omega (arith, some_held, one_held, unheld))
+    let some_held = held_some (shown s).owners j mark.number (owner_of view) (got_map owner_of s.views j view at) in
+    let none_held : held (shown s).owners mark.number ≡ 0 = ap (held (shown s).owners) (sym numbers) ∙ unheld in
+    absurd (omega (arith, some_held, owner_by_mark view mark e, none_held))
 
 -- the version in a slot whose S is 0 has no share, and isn't to be published
 pub unowned_room : {T : Type 0} (begins : T → Type 0) (follows : T → T → Type 0) (spots : List (RoomSpot T)) (s : Board T) (h : Holds begins follows spots s) (place m : ℕ) (there : Slot T) (room : Room T) (value : T) → CanBury (shown s) h.cell h.shows.plan place m there → get_elem? s.homes place ≡ some (some room) → room.value ≡ Some (record { number = m; value = value }) → (j : ℕ) (view : View T) → get_elem? s.views j ≡ some view → Undisturbed s.homes (set s.homes place none) h.name view
@@ -113,6 +138,7 @@ module _ {T : Type 0} (begins : T → Type 0) (follows : T → T → Type 0) (sp
           is_none = λ p e. cc;
           cell = with_buried m h.cell;
           published = refl;
+          gone = λ j u. buried_still h.cell m j u;
           shows = subst (λ x. Shows x (with_buried m h.cell)) (sym same) shows;
           left = omega arith;
           read = refl;
@@ -164,6 +190,7 @@ module _ {T : Type 0} (begins : T → Type 0) (follows : T → T → Type 0) (sp
           is_none = λ p e. cc;
           cell = h.cell;
           published = refl;
+          gone = λ j u. u;
           shows = subst (λ x. Shows x h.cell) (sym same) shows;
           left = omega arith;
           read = refl;

@@ -11,11 +11,12 @@ use Rattle.cell_core.specs.declared.words.Version.{Version}
 use Rattle.counted_handles.specs.declared.view.Mark.{Mark}
 use Rattle.counted_handles.specs.declared.view.Reading.{Reading}
 use Rattle.counted_handles.specs.declared.view.Publishing.{Publishing}
+use Rattle.counted_handles.specs.declared.view.Hold.TheVariants.{Once}
 use Rattle.counted_handles.specs.declared.view.View.{View}
 use Rattle.counted_handles.specs.declared.view.View.TheVariants.{Publishes, Reads, Has, Buries, Fades, Resets, Frees}
 use Rattle.counted_handles.specs.Shown.{Room}
 use Rattle.counted_handles.specs.Ruled.{RoomSpot, Holds, Ruled}
-use Rattle.counted_handles.specs.Cuts.{owner_view, kept_share, given_share}
+use Rattle.counted_handles.specs.Cuts.{owner_view, once_view, kept_share, given_share}
 use Rattle.counted_handles.specs.Tells.{Sat, IsTaken, Swapped, IsSettled, Loaded, Released, Faded, Restored, Freed}
 use Rattle.counted_handles.specs.Plays.{LoadTells, ReleaseTells, BuryTells, FadeTells, ResetTells, FreeTells, PrepareTells, SwapTells, SettleTells, SettleAt, ProbeTells, ProbeAt}
 use Rattle.counted_handles.specs.Calls.{Drawn, IsReady, IsSwapping, IsSettling, IsProbing, IsSwappedIn}
@@ -168,10 +169,10 @@ get_before (y ∷ xs) x zero l = refl
 get_before (y ∷ xs) x (suc k) l = get_before xs x k (omega arith)
 
 module _ {T : Type 0} (begins : T → Type 0) (follows : T → T → Type 0) (spots : List (RoomSpot T)) where
-  pub share_splits_publisher : (id : ℕ) (view : View T) (p : Publishing T) (mark : Mark T) → view ≡ Publishes p → p.share ≡ Some mark → Splits (Ruled begins follows spots) id view (kept_share view) (given_share view)
+  pub share_splits_publisher : (id : ℕ) (view : View T) (p : Publishing T) (mark : Mark T) → view ≡ Publishes p → p.share ≡ Some (Once mark) → Splits (Ruled begins follows spots) id view (kept_share view) (given_share view)
   share_splits_publisher id view p mark is share =
       subst (λ v. Splits (Ruled begins follows spots) id v (kept_share v) (given_share v)) (sym is)
-      (subst (λ x. Splits (Ruled begins follows spots) id (Publishes p) (Publishes (record p { share = None })) (owner_view x)) (sym share)
+      (subst (λ x. Splits (Ruled begins follows spots) id (Publishes p) (Publishes (record p { share = None })) (once_view x)) (sym share)
       (splits_later begins follows spots id (Publishes p) (Publishes (record p { share = None })) (Has mark) tt (splits_publisher begins follows spots id p mark share)))
 
   -- the publisher behind its swap

@@ -11,14 +11,13 @@ use prog.Atomic.{either}
 use Rattle.atomic_table.specs.Table.{Allows, Act, keeps, takes, gives, Valid, stepped, carried_after}
 use Rattle.atomic_table.proofs.Lists.{at_set, set_here, set_else, set_again, exchanged}
 use Rattle.raw_slots.specs.Places.{Alone}
-use Rattle.cell_core.proofs.ShowsLemmas.{last_lies}
+use Rattle.cell_core.proofs.ShowsLemmas.{last_lies, latest_slot}
 use Rattle.cell_core.proofs.ProbeKeeps.{take_keeps, pass_keeps}
 use Rattle.cell_core.proofs.FrameLemmas.{charged}
-use Rattle.cell_core.proofs.SeatLemmas.{weaks_some, one_at_itself}
 use Rattle.cell_core.proofs.WeakLemmas.{keeps_slot}
 use Rattle.cell_core.specs.Words.{State, slots, bulk, free_word, dead_word, slot_of, given_of}
 use Rattle.cell_core.specs.WordSteps.{with_publisher}
-use Rattle.cell_core.specs.Shows.{Shows, SlotIs, WeakWord, number_of, weaks}
+use Rattle.cell_core.specs.Shows.{Shows, SlotIs}
 use Rattle.cell_core.specs.Shows.Phase.{live, dead}
 use Rattle.cell_core.specs.declared.words.Publisher.TheVariants.{Probing, Preparing}
 use Rattle.cell_core.specs.declared.words.Owner.{Owner}
@@ -26,7 +25,7 @@ use Rattle.cell_core.specs.declared.words.Owner.TheVariants.{Weakly, Burying, Fa
 use Rattle.counted_handles.specs.declared.view.Mark.{Mark}
 use Rattle.counted_handles.specs.declared.view.Publishing.{Publishing}
 use Rattle.counted_handles.specs.declared.view.View.{View}
-use Rattle.counted_handles.specs.declared.view.View.TheVariants.{Begin, Began, Publishes, Reads, Has, HasWeakly, Buries, Fades, Resets, Frees, Ends, Gone}
+use Rattle.counted_handles.specs.declared.view.View.TheVariants.{Begin, Began, Publishes, Reads, Hosts, Has, HasWeakly, Buries, Fades, Resets, Frees, Ends, Gone}
 use Rattle.counted_handles.specs.Shown.{Room, Board, version_at, owner_of, read_of, reads, shown}
 use Rattle.counted_handles.specs.Ruled.{RoomSpot, LiesAt, IsShared, MarkIs, IsFree, AreFree, Holds, IsQuiet, EndedHome, Ended, Ruled}
 use Rattle.counted_handles.specs.Tells.{Tried, Swept, Skipped, EndsAt, Shut}
@@ -35,9 +34,10 @@ use Rattle.counted_handles.proofs.Frames.{mark_in, unmoved, home_stays, publishe
 use Rattle.counted_handles.proofs.FreeSlots.{not_free}
 use Rattle.counted_handles.proofs.Live.{slotted, last_room, live_mark}
 use Rattle.counted_handles.proofs.LastLemmas.{last_unheld, last_unshared}
-use Rattle.counted_handles.proofs.WordSteps.{found_shares, found_weak, home_version}
+use Rattle.counted_handles.proofs.WordSteps.{found_shares, home_version}
 use Rattle.counted_handles.proofs.PublisherWords.{how_is, shown_publisher}
 use Rattle.counted_handles.proofs.Owners.{charged_rest}
+use Rattle.counted_handles.proofs.Ties.{last_untied}
 use Rattle.counted_handles.proofs.BuryStep.{buries}
 use Rattle.counted_handles.proofs.ProbeStep.{free_room}
 use Rattle.counted_handles.proofs.Later.{later, opened}
@@ -149,6 +149,8 @@ module _ {T : Type 0} (begins : T → Type 0) (follows : T → T → Type 0) (sp
         left = omega arith;
         readers = refl;
         guests = counts.guests;
+        sunk = counts.sunk;
+        gone = λ j u. u;
         fixed = counts.fixed;
         free = λ w j e q. more_free s h p slot (slot_of w) (counts.free w j e q) (free w e) (untied w e) same;
         homes_are = λ place home e. home_stays spots h.name st after place home
@@ -199,6 +201,7 @@ module _ {T : Type 0} (begins : T → Type 0) (follows : T → T → Type 0) (sp
   quiet_else s h none_reads unshared unfreed untied j (Began spot) apart at = h.knows j (Began spot) at
   quiet_else s h none_reads unshared unfreed untied j (Publishes p) apart at = absurd (apart (h.only j p at))
   quiet_else s h none_reads unshared unfreed untied j (Reads r) apart at = let some_reader = sum_has read_of s.views j (Reads r) at in absurd (omega (arith, some_reader.1, none_reads))
+  quiet_else s h none_reads unshared unfreed untied j (Hosts r hold) apart at = let some_reader = sum_has read_of s.views j (Hosts r hold) at in absurd (omega (arith, some_reader.1, none_reads))
   quiet_else s h none_reads unshared unfreed untied j (Has mark) apart at = absurd (unshared j (Has mark) at mark refl (h.knows j (Has mark) at))
   quiet_else s h none_reads unshared unfreed untied j (Buries slot name) apart at = h.shows.owner_is j (Burying slot) (got_map owner_of s.views j (Buries slot name) at)
   quiet_else s h none_reads unshared unfreed untied j (HasWeakly tie) apart at = absurd (untied j tie.number tie.slot (got_map owner_of s.views j (HasWeakly tie) at))
@@ -212,21 +215,10 @@ module _ {T : Type 0} (begins : T → Type 0) (follows : T → T → Type 0) (sp
   no_weak : (s : Board T) (h : Holds begins follows spots s) (slot i number place : ℕ) → slot ≡ h.shows.plan.slot h.shows.plan.last → get_or s.words (suc (suc (slot + slot))) 0 ≡ 1 → ((place : ℕ) → place < slots → place ≢ slot → IsFree s.words s.homes place) → slice_get (shown s).owners i ≡ Some (Weakly number place) → ⊥
   no_weak s h slot i number place last one free seat =
       let st : State T = shown s in
-      let plan = h.shows.plan in
       let of = h.shows.owner_is i (Weakly number place) seat in
       let there = slotted s h place of.0 in
       elim (eqb_tells place slot) [
-        | inl same ↦ (
-            let phase : plan.phase place ≡ live plan.last = ap plan.phase (same.1 ∙ last) ∙ (last_lies st h.cell h.shows).1 in
-            let numbers : Some plan.last ≡ Some number = sym (ap number_of phase) ∙ of.1 in
-            let is : plan.last ≡ number = cc in
-            let k = subst (λ x. WeakWord st.owners place x there.there.weak) phase (h.shows.table.weak_word place there.there there.at) in
-            let found : there.there.weak ≡ 1 = found_weak s place there ∙ ap (λ n. get_or s.words (suc (suc (n + n))) 0) same.1 ∙ one in
-            let weak : weaks st.owners plan.last ≡ weaks st.owners number = ap (weaks st.owners) is in
-            let some_weak = weaks_some st.owners i number (Weakly number place) seat in
-            let once = one_at_itself number in
-            omega (arith, k, found, weak, some_weak, once)
-            )
+        | inl same ↦ last_untied begins follows spots s h slot i number place (latest_slot st h.cell h.shows ∙ sym last) one seat same.1
         | inr other ↦ (keeps_slot st h.cell i number place there.there h.shows seat there.at).0 (found_shares s place there ∙ (free place of.0 other.1).shares)
       ]
 

@@ -41,7 +41,7 @@ module _ {T : Type 0} (begins : T → Type 0) (follows : T → T → Type 0) (sp
 
   -- who buried a version has given its place back, and goes on as K asks
   gone_on : (s : Board T) (h : Holds begins follows spots s) (id slot : ℕ) (spot : RoomSpot T) (room : Room T) (new : View T) → get_elem? s.views id ≡ some (Fades slot spot) → room.at ≡ spot.at → room.value ≡ None → room.stake ≡ []
-      → ((p : Publishing T) → new ≡ Publishes p → ⊥) → left_of new ≡ 0 → read_of new ≡ 0 → Knows spots h.name h.cell.published (set s.homes slot (some room)) new
+      → ((p : Publishing T) → new ≡ Publishes p → ⊥) → left_of new ≡ 0 → read_of new ≡ 0 → Knows spots h.name h.cell (set s.homes slot (some room)) new
       → Outcome slot (fetch_sub (get_or s.words (suc (suc (slot + slot))) 0) 1) (owner_of new)
       → Holds begins follows spots (record { words = set s.words (suc (suc (slot + slot))) (fetch_sub (get_or s.words (suc (suc (slot + slot))) 0) 1); homes = set s.homes slot (some room); views = set s.views id new })
   gone_on s h id slot spot room new at lies empty whole not_publishes no_left no_read knows out =
@@ -67,6 +67,7 @@ module _ {T : Type 0} (begins : T → Type 0) (follows : T → T → Type 0) (sp
         is_none = not_publishes;
         cell = h.cell;
         published = refl;
+        gone = λ j u. u;
         shows = subst (λ x. Shows x h.cell) (sym same) shows;
         left = omega (arith, no_left);
         read = no_read;
@@ -136,11 +137,12 @@ module _ {T : Type 0} (begins : T → Type 0) (follows : T → T → Type 0) (sp
           is_none = λ p e. cc;
           cell = h.cell;
           published = refl;
+          gone = λ j u. u;
           shows = subst (λ x. Shows x h.cell) (sym same) shows;
           left = omega arith;
           read = refl;
           fixed = λ p here counts w e. first_kept s.words (suc (slot + slot)) 1 ∙ (counts.fixed w e).1;
-          free = λ last swept is are. frees_beside s.words s.homes slot 1 last swept (rest_not_last s h slot last (closing id) charge is) are;
+          free = λ last swept is are. frees_beside s.words s.homes slot 1 last swept (λ one. rest_not_last s h slot last (closing id) charge is) are;
           homes_are = λ place home e. home_stays spots h.name st after place home
               (λ p. ap (λ (x : State T). x.publisher) same ∙ p)
               (λ i q. ap (λ (x : State T). slice_get x.owners i) same ∙ seat_stays st.owners id (Resetting slot) (Freeing slot) (Fading place) seat (λ e. cc) i q)

@@ -50,12 +50,12 @@ frees_tied words homes k m home last swept busy elsewhere are = (
 )
 
 -- a step on such a K alone
-pub frees_beside : {T : Type 0} (words : List ℕ) (homes : List (maybe.Option (Room T))) (k m last swept : ℕ) → k ≢ last → AreFree words homes last swept → AreFree (set words (suc (suc (k + k))) m) homes last swept
+pub frees_beside : {T : Type 0} (words : List ℕ) (homes : List (maybe.Option (Room T))) (k m last swept : ℕ) → (get_or words (suc (suc (last + last))) 0 ≡ 1 → k ≢ last) → AreFree words homes last swept → AreFree (set words (suc (suc (k + k))) m) homes last swept
 frees_beside words homes k m last swept elsewhere are = (
   λ slot l apart.
       let is = are.0 slot l apart in
       record { shares = get_or-set_other words (suc (suc (k + k))) (suc (slot + slot)) m 0 (λ e. omega (arith, e)) ∙ is.shares; room = is.room; home = is.home; empty = is.empty },
-  λ l. get_or-set_other words (suc (suc (k + k))) (suc (suc (last + last))) m 0 (λ e. elsewhere (omega (arith, e))) ∙ are.1 l,
+  λ l. get_or-set_other words (suc (suc (k + k))) (suc (suc (last + last))) m 0 (λ e. elsewhere (are.1 l) (omega (arith, e))) ∙ are.1 l,
 )
 
 -- a step on W

@@ -41,6 +41,7 @@ module _ {T : Type 0} (begins : T → Type 0) (follows : T → T → Type 0) (sp
           is_none = λ p e. cc;
           cell = h.cell;
           published = refl;
+          gone = λ j u. u;
           shows = subst (λ x. Shows x h.cell) (sym same) shows;
           left = omega arith;
           read = refl;

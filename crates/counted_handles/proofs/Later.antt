@@ -4,7 +4,7 @@ use mathlib.Core.Option.{some, some-injective, some-ne-none}
 use lib.ListN.{get_elem?}
 use Rattle.atomic_table.specs.Table.{Me, Allows, Splits, Joins}
 use Rattle.counted_handles.specs.declared.view.View.{View}
-use Rattle.counted_handles.specs.declared.view.View.TheVariants.{Begin, Began, Publishes, Reads, Has, HasWeakly, Buries, Fades, Resets, Frees, Ends, Gone}
+use Rattle.counted_handles.specs.declared.view.View.TheVariants.{Begin, Began, Publishes, Reads, Hosts, Has, HasWeakly, Buries, Fades, Resets, Frees, Ends, Gone}
 use Rattle.counted_handles.specs.Shown.{Room, Board}
 use Rattle.counted_handles.specs.Ruled.{RoomSpot, Holds, Ended, Ruled, IsQuiet}
 
@@ -14,6 +14,7 @@ IsLater (Begin value) = ⊥
 IsLater (Began spot) = ⊥
 IsLater (Publishes p) = Unit {0}
 IsLater (Reads r) = Unit {0}
+IsLater (Hosts r hold) = Unit {0}
 IsLater (Has mark) = Unit {0}
 IsLater (Buries slot name) = ⊥
 IsLater (HasWeakly tie) = Unit {0}
@@ -29,6 +30,7 @@ not_quiet spots (Begin value) is quiet = is
 not_quiet spots (Began spot) is quiet = is
 not_quiet spots (Publishes p) is quiet = quiet
 not_quiet spots (Reads r) is quiet = quiet
+not_quiet spots (Hosts r hold) is quiet = quiet
 not_quiet spots (Has mark) is quiet = quiet
 not_quiet spots (Buries slot name) is quiet = is
 not_quiet spots (HasWeakly tie) is quiet = quiet

@@ -6,6 +6,7 @@ pub mod Frames
 pub mod Live
 pub mod LoadStep
 pub mod WordSteps
+pub mod Ties
 pub mod ReleaseStep
 pub mod BuryStep
 pub mod FadeStep
@@ -18,6 +19,9 @@ pub mod SettleStep
 pub mod NewestStep
 pub mod SplitStep
 pub mod JoinStep
+pub mod MergeStep
+pub mod HostStep
+pub mod NoteStep
 pub mod OpenStep
 pub mod Later
 pub mod LastLemmas

@@ -62,6 +62,7 @@ module _ {T : Type 0} (begins : T → Type 0) (follows : T → T → Type 0) (sp
           is_none = λ p e. cc;
           cell = with_strong last h.cell;
           published = refl;
+          gone = λ j u. u;
           shows = subst (λ x. Shows x (with_strong last h.cell)) (sym same) shows;
           left = omega arith;
           read = refl;
@@ -71,7 +72,7 @@ module _ {T : Type 0} (begins : T → Type 0) (follows : T → T → Type 0) (sp
               (λ p. ap (λ (x : State T). x.publisher) same ∙ p)
               (λ i q. ap (λ (x : State T). slice_get x.owners i) same ∙ seat_stays st.owners id Spent (Holding last slot) (Fading place) spent (λ e. cc) i q)
               (h.homes place home e);
-          mine = (known.0, ([], append-nil h.cell.published), live_mark_is room);
+          mine = (known.0, ([], append-nil h.cell.published), live_mark_is room, known.3);
           others = λ j view other e. unmoved s.homes h.name view;
         }),
         (

@@ -12,8 +12,9 @@ use Rattle.cell_core.specs.WordSteps.{with_owner}
 use Rattle.cell_core.specs.declared.words.Owner.TheVariants.{Holding, Fading, Spent}
 use Rattle.counted_handles.specs.declared.view.Mark.{Mark}
 use Rattle.counted_handles.specs.declared.view.Publishing.{Publishing}
+use Rattle.counted_handles.specs.declared.view.Hold.TheVariants.{Once}
 use Rattle.counted_handles.specs.declared.view.View.TheVariants.{Publishes}
-use Rattle.counted_handles.specs.Shown.{holder, owner_of, left_of, slots_in, shown}
+use Rattle.counted_handles.specs.Shown.{held_by, owner_of, left_of, slots_in, shown}
 use Rattle.counted_handles.specs.Ruled.{RoomSpot, Holds}
 use Rattle.counted_handles.specs.Tells.{Newest, Looked}
 use Rattle.counted_handles.specs.History.{IsHistory}
@@ -34,12 +35,12 @@ module _ {T : Type 0} (begins : T → Type 0) (follows : T → T → Type 0) (sp
       let slot : ℕ = plan.slot plan.last in
       let room = last_room spots s h in
       let mark : Mark T = live_mark room in
-      let new : Publishing T = record p { share = Some mark; left = p.left - 1; fixed = None } in
+      let new : Publishing T = record p { share = Some (Once mark); left = p.left - 1; fixed = None } in
       let word : ℕ = (get_or s.words 0 0 + 1) % 2 ^ 64 in
       let known = h.knows 0 (Publishes p) at in
       let mine = sum_has left_of s.views 0 (Publishes p) at in
       let sums = sum_set left_of s.views 0 (Publishes p) (Publishes new) at in
-      let spent : slice_get st.owners 0 ≡ Some Spent = first_owner s p at ∙ ap (λ x. Some (holder x)) whole in
+      let spent : slice_get st.owners 0 ≡ Some Spent = first_owner s p at ∙ ap (λ x. Some (held_by x)) whole in
       let more : State T = record st { latest = fetch_add st.latest 1; granted = st.granted + 1 } in
       let kept = load_keeps st h.cell h.shows (omega (arith, mine.1, h.few, some_left)) in
       let shows = seated more (with_strong last h.cell) 0 last slot spent kept in
@@ -64,6 +65,8 @@ module _ {T : Type 0} (begins : T → Type 0) (follows : T → T → Type 0) (sp
           left = omega arith;
           readers = refl;
           guests = (knows_publisher begins follows spots s h p at).guests;
+          sunk = (knows_publisher begins follows spots s h p at).sunk;
+          gone = λ j u. u;
           fixed = λ w e. absurd (let wrong = e in cc);
           free = λ w k e q. absurd (let wrong = e in cc);
           homes_are = λ place home e. home_stays spots h.name st after place home
@@ -113,6 +116,8 @@ module _ {T : Type 0} (begins : T → Type 0) (follows : T → T → Type 0) (sp
           left = omega arith;
           readers = refl;
           guests = (knows_publisher begins follows spots s h p at).guests;
+          sunk = (knows_publisher begins follows spots s h p at).sunk;
+          gone = λ j u. u;
           fixed = λ w e. (alone, first ∙ (let f : found ≡ w = cc in f));
           free = λ w k e q. (λ slot l apart. absurd (omega (arith, l)), λ l. absurd (omega (arith, l)));
           homes_are = λ place home e. home_stays spots h.name st after place home

@@ -50,8 +50,8 @@ none_charged slot (closing k) c = absurd (let wrong = c in cc)
 none_charged slot (closed k) c = absurd (let wrong = c in cc)
 
 module _ {T : Type 0} (spots : List (RoomSpot T)) (value : T) (name : ℕ) (spot : RoomSpot T) where
-  only_knows : (homes : List (maybe.Option (Room T))) (j : ℕ) (view : View T) → get_elem? (Publishes (opener value name spot) ∷ []) j ≡ some view → Knows spots name (value ∷ []) homes view
-  only_knows homes zero view e = subst (Knows spots name (value ∷ []) homes) (some-injective (Publishes (opener value name spot)) view e) (refl, refl, tt, tt)
+  only_knows : (homes : List (maybe.Option (Room T))) (j : ℕ) (view : View T) → get_elem? (Publishes (opener value name spot) ∷ []) j ≡ some view → Knows spots name (start value) homes view
+  only_knows homes zero view e = subst (Knows spots name (start value) homes) (some-injective (Publishes (opener value name spot)) view e) (refl, refl, tt, tt)
   only_knows homes (suc j) view e = absurd (some-ne-none view (sym e))
 
   only_first : (j : ℕ) (p : Publishing T) → get_elem? (Publishes (opener value name spot) ∷ []) j ≡ some (Publishes p) → j ≡ 0
@@ -118,7 +118,7 @@ module _ {T : Type 0} (begins : T → Type 0) (follows : T → T → Type 0) (sp
             subst (λ x. HomeIs spots name after place x) (sym free.1) (free.2, subst (λ v. IsShared name place v free.0.stake) (sym free.3) free.4))
             (at_set homes 0 place (some room) home e);
         knows = λ j view e. only_knows spots value name spot (set homes 0 (some room)) j view e;
-        first = (opener value name spot, refl, record { readers = refl; guests = tt; fixed = λ w e. absurd (let wrong = e in cc); free = λ w k e. absurd (let wrong = e in cc) });
+        first = (opener value name spot, refl, record { readers = refl; guests = tt; sunk = tt; fixed = λ w e. absurd (let wrong = e in cc); free = λ w k e. absurd (let wrong = e in cc) });
         only = λ j p e. only_first spots value name spot j p e;
       }
 

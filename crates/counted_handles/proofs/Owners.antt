@@ -1,8 +1,10 @@
 -- Owners that change places, or what they are, without a number gaining or losing one keep what the words show.
-use Rattle.std.proofs.Common.{◌≡◌, refl, sym, ap, ◌∙◌, subst, ℕ, ◌+◌, ◌<◌, inl, inr, List, [], ◌∷◌, ◌++◌, length, arith, Some, None}
+use Rattle.std.proofs.Common.{◌≡◌, ◌≢◌, refl, sym, ap, ◌∙◌, subst, ℕ, ◌+◌, ◌<◌, inl, inr, List, [], ◌∷◌, ◌++◌, length, arith, Some, None}
+use Rattle.std.specs.Prelude.{◌==◌, if◌then◌else◌}
 use Rattle.std.specs.List.{slice_get, slice_set}
+use Rattle.std.proofs.lemmas.Bool.Decides.{eqb_tells}
 use Rattle.std.proofs.lemmas.Option.{slice_get_within}
-use Rattle.cell_core.proofs.SeatLemmas.{set_cases, get_push_old, get_push_new, push_cases, held_push, held_set, weaks_push, weaks_set}
+use Rattle.cell_core.proofs.SeatLemmas.{set_cases, get_set_other, get_push_old, get_push_new, push_cases, held_push, held_set, weaks_push, weaks_set}
 use Rattle.cell_core.proofs.FrameLemmas.{charged, table_as, seat_stays, charge_stays, charge_pushed}
 use Rattle.cell_core.specs.Cell.{Cell}
 use Rattle.cell_core.specs.Words.{State, slots}
@@ -149,3 +151,82 @@ charged_rest cell plan i slot (Weakly number place) e is = absurd (let wrong = e
 charged_rest cell plan i slot (Both number place) e is = absurd (let wrong = e in cc)
 charged_rest cell plan i slot (Burying place) e is = absurd (let wrong = e in cc)
 charged_rest cell plan i slot Spent e is = absurd (let wrong = e in cc)
+
+-- what two owners have that one is parted in
+pub record Parting (T : Type 0) (both one two : Owner) : Type 0 where
+  pub plain : Plain both
+  pub joint : Joint one two both
+  pub one_is : (cell : Cell T) (plan : Plan) (i : ℕ) → OwnerIs cell plan i both → OwnerIs cell plan i one
+  pub two_is : (cell : Cell T) (plan : Plan) (i k : ℕ) → OwnerIs cell plan i both → OwnerIs cell plan k two
+
+-- an owner that goes on whole
+pub passing : {T : Type 0} (both one two : Owner) → one ≡ Spent → two ≡ both → Plain both → Parting T both one two
+passing {T} both one two spent same plain =
+    subst (λ x. Parting T both x two) (sym spent) (subst (λ x. Parting T both Spent x) (sym same) (record {
+      plain = plain;
+      joint = record { held_both = λ j. omega arith; weak_both = λ j. omega arith };
+      one_is = λ cell plan i is. tt;
+      two_is = λ cell plan i k is. any_place cell plan i k both plain.uncharged is;
+    }))
+
+-- two shares are one and one
+twice_held : (j number : ℕ) → (if j == number then 2 else 0) ≡ (if j == number then 1 else 0) + (if j == number then 1 else 0)
+twice_held j number = elim (eqb_tells j number) [ inl same ↦ rw same.0 refl | inr other ↦ rw other.0 refl ]
+
+pub joint_twice : (number place : ℕ) → Joint (Holding number place) (Holding number place) (Twice number place)
+joint_twice number place = record { held_both = λ j. twice_held j number; weak_both = λ j. refl }
+
+pub joint_both : (number place : ℕ) → Joint (Weakly number place) (Holding number place) (Both number place)
+joint_both number place = record { held_both = λ j. omega arith; weak_both = λ j. omega arith }
+
+pub joint_noted : (number place : ℕ) → Joint (Holding number place) (Weakly number place) (Both number place)
+joint_noted number place = record { held_both = λ j. omega arith; weak_both = λ j. omega arith }
+
+pub parting_twice : {T : Type 0} (number place : ℕ) → Parting T (Twice number place) (Holding number place) (Holding number place)
+parting_twice number place =
+    record {
+      plain = record { unburying = λ slot e. cc; uncharged = refl };
+      joint = joint_twice number place;
+      one_is = λ cell plan i is. is;
+      two_is = λ cell plan i k is. is;
+    }
+
+-- a weak owner and an owner of its version, parted
+pub parting_both : {T : Type 0} (number place its where_at : ℕ) → its ≡ number → where_at ≡ place → Parting T (Both number place) (Weakly its where_at) (Holding number place)
+parting_both {T} number place its where_at same here =
+    subst (λ n. Parting T (Both number place) (Weakly n where_at) (Holding number place)) (sym same)
+    (subst (λ p. Parting T (Both number place) (Weakly number p) (Holding number place)) (sym here) (record {
+      plain = record { unburying = λ slot e. cc; uncharged = refl };
+      joint = joint_both number place;
+      one_is = λ cell plan i is. is.1;
+      two_is = λ cell plan i k is. is.0;
+    }))
+
+pub parting_noted : {T : Type 0} (number place its where_at : ℕ) → its ≡ number → where_at ≡ place → Parting T (Both number place) (Holding number place) (Weakly its where_at)
+parting_noted {T} number place its where_at same here =
+    subst (λ n. Parting T (Both number place) (Holding number place) (Weakly n where_at)) (sym same)
+    (subst (λ p. Parting T (Both number place) (Holding number place) (Weakly number p)) (sym here) (record {
+      plain = record { unburying = λ slot e. cc; uncharged = refl };
+      joint = joint_noted number place;
+      one_is = λ cell plan i is. is.0;
+      two_is = λ cell plan i k is. is.1;
+    }))
+
+-- an owner goes to a spent one's place, and is spent where it was
+pub moved : {T : Type 0} (state : State T) (cell : Cell T) (a b : ℕ) (how : Owner) → slice_get state.owners a ≡ Some Spent → slice_get state.owners b ≡ Some how → b ≢ a → Plain how → Shows state cell → Shows (record state { owners = slice_set (slice_set state.owners a how) b Spent }) cell
+moved {T} state cell a b how spent at apart plain s =
+    let middle : List Owner = slice_set state.owners a how in
+    let there : slice_get middle b ≡ Some how = get_set_other state.owners a b how apart ∙ at in
+    owners_as state cell (slice_set middle b Spent) s (record {
+      held_as = λ j. let one = held_set state.owners a Spent how j spent in let two = held_set middle b how Spent j there in omega (arith, one, two);
+      weak_as = λ j. let one = weaks_set state.owners a Spent how j spent in let two = weaks_set middle b how Spent j there in omega (arith, one, two);
+      burying = λ k slot q. seat_stays middle b how Spent (Burying slot) there (plain.unburying slot) k (seat_stays state.owners a Spent how (Burying slot) spent (λ e. cc) k q);
+      charge = λ slot rest c. charge_stays middle b how Spent slot there (not_charged how slot plain.uncharged) rest (charge_stays state.owners a Spent how slot spent (λ e. cc) rest c);
+      owner_is = λ k other q. elim (set_cases middle b k Spent other (slice_get_within middle b how there) q) [
+        | inl same ↦ subst (λ x. OwnerIs cell s.plan k x) same.1 tt
+        | inr else_where ↦ elim (set_cases state.owners a k how other (slice_get_within state.owners a Spent spent) else_where.1) [
+          | inl here ↦ subst (λ x. OwnerIs cell s.plan k x) here.1 (any_place cell s.plan b k how plain.uncharged (s.owner_is b how at))
+          | inr old ↦ s.owner_is k other old.1
+        ]
+      ];
+    })

@@ -21,7 +21,7 @@ use Rattle.counted_handles.specs.Tells.{Probed, beyond}
 use Rattle.counted_handles.proofs.Lists.{when_equal, when_apart}
 use Rattle.counted_handles.proofs.Slots.{first_kept}
 use Rattle.counted_handles.proofs.FreeSlots.{frees_again}
-use Rattle.counted_handles.proofs.Frames.{no_share, share_kept, unmoved, home_stays, publisher_step, knows_publisher}
+use Rattle.counted_handles.proofs.Frames.{no_share, held_kept, unmoved, home_stays, publisher_step, knows_publisher}
 use Rattle.counted_handles.proofs.Live.{slotted}
 use Rattle.counted_handles.proofs.WordSteps.{found_shares, home_version, place_set, shares_set, slots_kept}
 use Rattle.counted_handles.proofs.PublisherWords.{how_is, shown_publisher}
@@ -76,6 +76,8 @@ module _ {T : Type 0} (begins : T → Type 0) (follows : T → T → Type 0) (sp
                 left = omega arith;
                 readers = refl;
                 guests = counts.guests;
+                sunk = counts.sunk;
+                gone = λ j u. u;
                 fixed = λ w e. ((counts.fixed w e).0, first_kept s.words (slot + slot) found ∙ (counts.fixed w e).1);
                 free = λ w k e q. absurd (let wrong : Preparing slot ≡ Probing k = q in cc);
                 homes_are = λ place home e. ⊎_elim
@@ -85,7 +87,7 @@ module _ {T : Type 0} (begins : T → Type 0) (follows : T → T → Type 0) (sp
                     (λ i q. ap (λ (x : State T). slice_get x.owners i) same ∙ q)
                     (h.homes place home t.1))
                     (at_set s.homes slot place none home e);
-                mine = (known.0, known.1, share_kept s.homes homes h.name p.share (no_share s.homes h.name slot there.home none (Publishes p) there.home_at empty).mark known.2, room.2.1);
+                mine = (known.0, known.1, held_kept s.homes homes h.name h.cell.published h.cell.published p.share (no_share s.homes h.name slot there.home none (Publishes p) there.home_at empty).mark ([], append-nil h.cell.published) known.2, room.2.1);
                 others = λ j view other e. no_share s.homes h.name slot there.home none view there.home_at empty;
               }),
               when_equal found free_word _ _ free.1 (record { spot = spot; room = room.0; me_is = refl; lies = room.2.2; empty = room.3; whole = room.4 }),
@@ -108,6 +110,8 @@ module _ {T : Type 0} (begins : T → Type 0) (follows : T → T → Type 0) (sp
                 left = omega arith;
                 readers = refl;
                 guests = counts.guests;
+                sunk = counts.sunk;
+                gone = λ j u. u;
                 fixed = λ w e. ((counts.fixed w e).0, first_kept s.words (slot + slot) found ∙ (counts.fixed w e).1);
                 free = λ w k e q. frees_again s.words s.homes (suc (slot + slot)) (slot_of w) p.swept (counts.free w slot e how);
                 homes_are = λ place home e. home_stays spots h.name st after place home

@@ -31,7 +31,7 @@ module _ {T : Type 0} (begins : T → Type 0) (follows : T → T → Type 0) (sp
   gone_on : (s : Board T) (h : Holds begins follows spots s) (id : ℕ) (mark : Mark T) (new : View T) → get_elem? s.views id ≡ some (Has mark) → mark.slot < slots
       → ((p : Publishing T) → new ≡ Publishes p → ⊥) → left_of new ≡ 0 → read_of new ≡ 0 → ((j : ℕ) → (holds j (owner_of new) ≡ 0) × (has_weakly j (owner_of new) ≡ 0))
       → (fetch_sub (get_or s.words (suc (mark.slot + mark.slot)) 0) 1 ≡ 0 → owner_of new ≡ Burying mark.slot)
-      → OwnerIs (without_strong mark.number h.cell) h.shows.plan id (owner_of new) → Knows spots h.name h.cell.published s.homes new
+      → OwnerIs (without_strong mark.number h.cell) h.shows.plan id (owner_of new) → Knows spots h.name (without_strong mark.number h.cell) s.homes new
       → Holds begins follows spots (record { words = set s.words (suc (mark.slot + mark.slot)) (fetch_sub (get_or s.words (suc (mark.slot + mark.slot)) 0) 1); homes = s.homes; views = set s.views id new })
   gone_on s h id mark new at l not_publishes no_left no_read gives_up due mine knows =
       let st : State T = shown s in
@@ -53,6 +53,7 @@ module _ {T : Type 0} (begins : T → Type 0) (follows : T → T → Type 0) (sp
         is_none = not_publishes;
         cell = without_strong mark.number h.cell;
         published = refl;
+        gone = λ j u. u;
         shows = subst (λ x. Shows x (without_strong mark.number h.cell)) (sym same) shows;
         left = omega (arith, no_left);
         read = no_read;

@@ -55,7 +55,7 @@ shown_shares s place n at id old new seat first left =
 weak_place_set : {T : Type 0} (s : Board T) (place n : ℕ) (home : maybe.Option (Room T)) (at : Slotted s place) → slots_in (behind (set s.words (suc (suc (place + place))) n)) (set s.homes place home) ≡ slice_set (shown s).table place (with_weak_word n (with_version (version_at home) at.there))
 weak_place_set s place n home at = ap (λ w. slots_in w (set s.homes place home)) (behind_set s.words (suc (place + place)) n) ∙ weak_set (behind s.words) s.homes place n home at.there at.at
 
-weak_shares_set : {T : Type 0} (s : Board T) (place n : ℕ) (at : Slotted s place) → slots_in (behind (set s.words (suc (suc (place + place))) n)) s.homes ≡ slice_set (shown s).table place (with_weak_word n at.there)
+pub weak_shares_set : {T : Type 0} (s : Board T) (place n : ℕ) (at : Slotted s place) → slots_in (behind (set s.words (suc (suc (place + place))) n)) s.homes ≡ slice_set (shown s).table place (with_weak_word n at.there)
 weak_shares_set {T} s place n at =
     ap (slots_in (behind (set s.words (suc (suc (place + place))) n))) (sym (set_again s.homes place at.home at.home_at))
     ∙ weak_place_set s place n at.home at

@@ -15,7 +15,7 @@ use Rattle.cell_core.specs.declared.words.Version.{Version}
 use Rattle.counted_handles.specs.History.{IsHistory}
 use Rattle.counted_handles.specs.Shown.{Room}
 use Rattle.counted_handles.specs.Ruled.{RoomSpot, Begins, stake_of, mark_of, version_of, first_version}
-use Rattle.counted_handles.specs.Cuts.{reader_of}
+use Rattle.counted_handles.specs.Cuts.{met_by}
 use Rattle.counted_handles.specs.Tells.{Sat, IsLastMark, IsOlder}
 
 -- a table of the cell's size: W, with two words a slot (own)
@@ -104,7 +104,7 @@ pub record IsNewest {T : Type 0} (begins : T → Type 0) (follows : T → T → 
   pub last : IsLastMark begins follows p.published p.name found mark
   pub me_is : me ≡ (Publishes (gave_back p), [])
   pub share_is : share ≡ (Has mark, [])
-  pub reader_is : reader ≡ (reader_of p (r.left - 1), [])
+  pub reader_is : reader ≡ (met_by p r.gone (r.left - 1), [])
   pub begun : Begins r.seen p.published
 
 -- the first seat has slot 0's place, with the first version in it, shared: it is to be given back (own)
@@ -198,7 +198,7 @@ IsAtRest p views = (views ≡ Publishes p ∷ []) × (p.share ≡ None) × (p.le
 pub record IsOwnLast {T : Type 0} (p : Publishing T) (r : Reading T) (views reader : List (View T)) (version : Version T) : Type 0 where
   pub last : IsOld p version
   pub views_are : views ≡ Publishes (gave_back p) ∷ []
-  pub reader_is : reader ≡ reader_of p (r.left - 1) ∷ []
+  pub reader_is : reader ≡ met_by p r.gone (r.left - 1) ∷ []
   pub begun : Begins r.seen p.published
 
 -- the publisher with a reader that it took in last, and others before it (own)

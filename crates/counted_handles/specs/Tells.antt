@@ -1,15 +1,17 @@
 -- What each step tells the seat that makes it (own).
-use Rattle.std.specs.Prelude.{◌≡◌, ℕ, ◌+◌, ◌-◌, ◌<◌, List, [], ◌∷◌, length, ◌==◌, Some, None, MatchBool, if◌then◌else◌, ◌++◌, Option}
+use Rattle.std.specs.Prelude.{◌≡◌, ℕ, ◌+◌, ◌-◌, ◌<◌, ◌≤◌, Contains, List, [], ◌∷◌, length, ◌==◌, Some, None, MatchBool, if◌then◌else◌, ◌++◌, Option}
 use Rattle.std.specs.List.{slice_get}
 use Rattle.atomic_table.specs.Table.{Me}
-use Rattle.cell_core.specs.Words.{slots, grants, bulk, slot_of, given_of, free_word}
+use Rattle.cell_core.specs.Words.{slots, grants, bulk, slot_of, given_of, free_word, dead_word}
 use Rattle.cell_core.specs.declared.words.Version.{Version}
 use Rattle.cell_core.specs.declared.words.Publisher.TheVariants.{Probing, Preparing, Swapping, Settling}
 use Rattle.counted_handles.specs.declared.view.Mark.{Mark}
 use Rattle.counted_handles.specs.declared.view.Reading.{Reading}
 use Rattle.counted_handles.specs.declared.view.Publishing.{Publishing}
+use Rattle.counted_handles.specs.declared.view.Tie.{Tie}
+use Rattle.counted_handles.specs.declared.view.Hold.TheVariants.{Once, Double, Loose, Mixed}
 use Rattle.counted_handles.specs.declared.view.View.{View}
-use Rattle.counted_handles.specs.declared.view.View.TheVariants.{Begin, Began, Publishes, Reads, Has, HasWeakly, Buries, Fades, Resets, Frees, Ends, Gone}
+use Rattle.counted_handles.specs.declared.view.View.TheVariants.{Begin, Began, Publishes, Reads, Hosts, Has, HasWeakly, Buries, Fades, Resets, Frees, Ends, Gone}
 use Rattle.raw_slots.specs.Places.{Stake}
 use Rattle.counted_handles.specs.History.{IsHistory}
 use Rattle.counted_handles.specs.Shown.{Room}
@@ -105,7 +107,7 @@ Swapped p value found me =
 -- settle: the publisher has a share of the version before (own)
 pub record IsSettled {T : Type 0} (p : Publishing T) (number slot : ℕ) (me : Sat T) : Type 0 where
   pub mark : Mark T
-  pub me_is : me ≡ (Publishes (record p { how = Probing 0; share = Some mark }), [])
+  pub me_is : me ≡ (Publishes (record p { how = Probing 0; share = Some (Once mark) }), [])
   pub number_is : mark.number ≡ number
   pub slot_is : mark.slot ≡ slot
   pub within : slot < slots
@@ -116,9 +118,50 @@ pub record IsSettled {T : Type 0} (p : Publishing T) (number slot : ℕ) (me : S
 abbrev pub Newest : {T : Type 0} → (T → Type 0) → (T → T → Type 0) → Publishing T → ℕ → Sat T → Type 0
 Newest {T} begins follows p found me =
     (mark : Mark T)
-    × (me ≡ (Publishes (record p { share = Some mark; left = p.left - 1; fixed = None }), []))
+    × (me ≡ (Publishes (record p { share = Some (Once mark); left = p.left - 1; fixed = None }), []))
     × IsLastMark begins follows p.published p.name found mark
     × AreGuests p.name p.published p.guests
+
+-- the weak owner of a share's version (own)
+abbrev pub tie_of : {T : Type 0} → Mark T → Tie T
+tie_of mark = record { number = mark.number; slot = mark.slot; value = mark.value; name = mark.name }
+
+-- note: the publisher has the version weakly, too, of which it has a share, and has made one weak owner more (own)
+abbrev pub Noted : {T : Type 0} → Publishing T → Mark T → Sat T → Type 0
+Noted p mark me = me ≡ (Publishes (record p { share = Some (Mixed mark (tie_of mark)); noted = p.noted + 1; fixed = None }), [])
+
+-- a reader that has seen one number more buried (own)
+abbrev pub with_gone : {T : Type 0} → ℕ → Reading T → Reading T
+with_gone number r = record r { gone = number ∷ r.gone }
+
+-- raise, of an owner that a reader has taken in: it has another share of its version, for a grant (own)
+abbrev pub Cloned : {T : Type 0} → Reading T → Mark T → Sat T → Type 0
+Cloned r mark me = me ≡ (Hosts (record r { left = r.left - 1 }) (Double mark), [])
+
+-- a share is of a weak owner's version (own)
+pub record IsOfTie {T : Type 0} (tie : Tie T) (mark : Mark T) : Type 0 where
+  pub number_is : mark.number ≡ tie.number
+  pub slot_is : mark.slot ≡ tie.slot
+  pub value_is : mark.value ≡ tie.value
+  pub name_is : mark.name ≡ tie.name
+  pub within : mark.slot < slots
+
+-- raise, of a weak owner that a reader has taken in, for a grant: it has a share of its version where S was less than DEAD; else the
+-- version is buried (own)
+abbrev pub Lifted : {T : Type 0} → Reading T → Tie T → ℕ → Sat T → Type 0
+Lifted {T} r tie found me =
+    (found < dead_word → (mark : Mark T) × IsOfTie tie mark × (me ≡ (Hosts (record r { left = r.left - 1 }) (Mixed mark tie), [])))
+    × (dead_word ≤ found → me ≡ (Hosts (with_gone tie.number (record r { left = r.left - 1 })) (Loose tie), []))
+
+-- look, of a weak owner that a reader has taken in: where S is DEAD or more its version is buried (own)
+abbrev pub SeenBy : {T : Type 0} → Reading T → Tie T → ℕ → Sat T → Type 0
+SeenBy r tie found me =
+    (found < dead_word → me ≡ (Hosts r (Loose tie), []))
+    × (dead_word ≤ found → me ≡ (Hosts (with_gone tie.number r) (Loose tie), []))
+
+-- look, of an owner that a reader has taken in: its version isn't buried (own)
+abbrev pub SeenAlive : {T : Type 0} → Reading T → Mark T → Sat T → Type 0
+SeenAlive r mark me = (me ≡ (Hosts r (Once mark), [])) × (Contains r.gone mark.number → ⊥)
 
 -- a look at W while no reader is about (own)
 abbrev pub Looked : {T : Type 0} → Publishing T → ℕ → Sat T → Type 0
@@ -179,6 +222,7 @@ IsClaimed (Begin first) stake value = ⊥
 IsClaimed (Began spot) stake value = ⊥
 IsClaimed (Publishes p) stake value = ⊥
 IsClaimed (Reads r) stake value = ⊥
+IsClaimed (Hosts r hold) stake value = ⊥
 IsClaimed (Buries slot name) stake value = ⊥
 IsClaimed (HasWeakly tie) stake value = ⊥
 IsClaimed (Fades slot spot) stake value = ⊥

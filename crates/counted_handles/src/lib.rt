@@ -32,4 +32,4 @@ pub use publications::{NoSlot, newest, publish};
 pub use released::{Released, Steps};
 pub use rule::{Room, Rule, Spots};
 pub use unmade::unmake;
-pub use view::{Mark, Publishing, Reading, Tie, View};
+pub use view::{Hold, Mark, Publishing, Reading, Tie, View};

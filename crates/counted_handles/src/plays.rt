@@ -1,7 +1,7 @@
 //! The steps by name: what each tells, and how seats are cut and made one.
 ghost use Rattle.counted_handles.specs.Plays.{LoadTells, NewestTells, ReleaseTells, BuryTells, FadeTells, ResetTells, FreeTells, ProbeTells, PrepareTells, SwapTells, SettleTells, LookTells, SweepTells, SkipTells, EndTells, ShutTells, OpenTells, OfferTells};
 ghost use Rattle.counted_handles.specs.Tells.{IsClaimed};
-ghost use Rattle.counted_handles.specs.Cuts.{kept_share, given_share, kept_back, handed_back, kept_dealt, dealt, lodging, kept_met, kept_home, sent_home};
+ghost use Rattle.counted_handles.specs.Cuts.{kept_share, given_share, kept_back, handed_back, kept_dealt, dealt, lodging, kept_met, handed_met, kept_home, sent_home};
 ghost use Rattle.counted_handles.specs.declared.view.View.TheVariants.{Has, Gone};
 ghost use Rattle.counted_handles.specs.Ruled.{mark_of};
 
@@ -197,7 +197,7 @@ pub struct Meets;
 impl<T> Split<View<T>> for Meets {
     ghost left = { kept_met };
 
-    ghost right = { handed_back };
+    ghost right = { handed_met };
 }
 
 /// A claim.

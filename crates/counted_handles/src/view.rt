@@ -31,6 +31,18 @@ pub struct Tie<T> {
     pub name: u64,
 }
 
+/// What a seat has of a version, for itself or of an owner that it has taken in.
+pub enum Hold<T> {
+    /// A share.
+    Once(Mark<T>),
+    /// Two shares.
+    Double(Mark<T>),
+    /// The version, weakly.
+    Loose(Tie<T>),
+    /// A share, and the version weakly.
+    Mixed(Mark<T>, Tie<T>),
+}
+
 /// What a reader knows.
 pub struct Reading<T> {
     /// The values that it has seen published, the first one first.
@@ -39,6 +51,8 @@ pub struct Reading<T> {
     pub share: Option<Mark<T>>,
     /// So many grants are left.
     pub left: u64,
+    /// Numbers that it has seen buried.
+    pub gone: LinkedList<u64>,
     /// The name of the views.
     pub name: u64,
 }
@@ -51,8 +65,8 @@ pub struct Publishing<T> {
     pub how: Publisher,
     /// The value that its publication is of, from prepare to swap.
     pub next: Option<T>,
-    /// A share that isn't split off yet.
-    pub share: Option<Mark<T>>,
+    /// What it has of a version, and isn't split off yet.
+    pub share: Option<Hold<T>>,
     /// So many grants are left.
     pub left: u64,
     /// So many weak owners were made.
@@ -81,6 +95,8 @@ pub enum View<T> {
     Publishes(Publishing<T>),
     /// A reader.
     Reads(Reading<T>),
+    /// A reader that has taken an owner in, weak or strong, and what this has.
+    Hosts(Reading<T>, Hold<T>),
     /// An owner.
     Has(Mark<T>),
     /// A weak owner.
