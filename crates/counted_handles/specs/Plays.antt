@@ -3,6 +3,7 @@ use Rattle.std.specs.Prelude.{◌≡◌, ℕ, [], ◌∷◌, length, Option, Som
 use Rattle.cell_core.specs.declared.words.Publisher.{Publisher}
 use Rattle.cell_core.specs.declared.words.Publisher.TheVariants.{Probing, Preparing, Swapping, Settling}
 use Rattle.counted_handles.specs.declared.view.Publishing.{Publishing}
+use Rattle.counted_handles.specs.declared.view.Reading.{Reading}
 use Rattle.counted_handles.specs.declared.view.Hold.{Hold}
 use Rattle.counted_handles.specs.declared.view.Hold.TheVariants.{Once, Double, Loose, Mixed}
 use Rattle.counted_handles.specs.declared.view.View.{View}

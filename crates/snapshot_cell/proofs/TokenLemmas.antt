@@ -113,7 +113,7 @@ module _ {T : Type 0} where
 
   pub dealt_reader : (value : T) (count : ℕ) (table cell : TableId) (views dealt : List (View T)) (n : ℕ) → (d : IsDealing value table.views_name count views) → cell ≡ table → dealt ≡ reader_of d.publishing n ∷ [] → IsReader cell dealt n
   dealt_reader value count table cell views dealt n d same is = record {
-    reading = record { seen = d.publishing.published; share = None; left = n; name = d.publishing.name };
+    reading = record { seen = d.publishing.published; share = None; left = n; gone = []; name = d.publishing.name };
     views_are = is;
     whole = refl;
     left_is = refl;
@@ -141,7 +141,7 @@ module _ {T : Type 0} where
     value_is = ap (λ (l : List T). slice_get l 0) d.published ∙ ap Some (sym seen);
     spare_fits = spare_same;
     readers_are = ap (λ n. n + 1) d.readers_are;
-    rest = record { seen = d.publishing.published; share = None; left = d.publishing.left; name = d.publishing.name };
+    rest = record { seen = d.publishing.published; share = None; left = d.publishing.left; gone = []; name = d.publishing.name };
     spare_is = spare_is;
     spare_whole = refl;
   }

@@ -9,7 +9,7 @@ use Rattle.cell_core.specs.declared.words.Publisher.TheVariants.{Probing}
 use Rattle.counted_handles.specs.declared.view.Reading.{Reading}
 use Rattle.counted_handles.specs.declared.view.Publishing.{Publishing}
 use Rattle.counted_handles.specs.declared.view.View.{View}
-use Rattle.counted_handles.specs.declared.view.View.TheVariants.{Begin, Began, Publishes, Reads, Has, HasWeakly, Buries, Fades, Resets, Frees, Ends, Gone}
+use Rattle.counted_handles.specs.declared.view.View.TheVariants.{Begin, Began, Publishes, Reads, Hosts, Has, HasWeakly, Buries, Fades, Resets, Frees, Ends, Gone}
 use Rattle.counted_handles.specs.Cuts.{dealt_grants}
 use Rattle.counted_handles.specs.History.{IsHistory}
 use Rattle.counted_handles.specs.Ruled.{Begins}
@@ -39,6 +39,7 @@ publisher_coded {T} v = coded_via (coded× table_id_coded (coded× (coded_list v
 abbrev pub values_of : {T : Type 0} → View T → List T
 values_of (Publishes p) = p.published
 values_of (Reads r) = r.seen
+values_of (Hosts r hold) = r.seen
 values_of (Begin value) = []
 values_of (Began spot) = []
 values_of (Has mark) = []
