@@ -29,6 +29,7 @@ pub mod EndStep
 pub mod Rights
 pub mod Opening
 pub mod CallLemmas
+pub mod HostLemmas
 pub mod GuestLemmas
 pub mod EndLemmas
 pub mod OpenLemmas

@@ -1,22 +1,23 @@
 -- What the calls ask and give (own).
-use Rattle.std.specs.Prelude.{◌≡◌, ℕ, ◌+◌, ◌-◌, ◌^◌, ◌<◌, ◌≤◌, List, [], ◌∷◌, ◌++◌, length, Option, None, Some, vec_len}
+use Rattle.std.specs.Prelude.{◌≡◌, Bool, true, false, Contains, ℕ, ◌+◌, ◌-◌, ◌^◌, ◌<◌, ◌≤◌, List, [], ◌∷◌, ◌++◌, length, Option, None, Some, vec_len}
 use Rattle.std.specs.List.{slice_get}
 use Rattle.atomic_table.specs.Seated.{TableId}
 use Rattle.cell_core.specs.Words.{slots, slot_of}
 use Rattle.cell_core.specs.declared.words.Publisher.TheVariants.{Probing, Preparing, Swapping, Settling}
 use Rattle.counted_handles.specs.declared.rule.Spots.{Spots}
 use Rattle.counted_handles.specs.declared.view.Mark.{Mark}
+use Rattle.counted_handles.specs.declared.view.Tie.{Tie}
 use Rattle.counted_handles.specs.declared.view.Publishing.{Publishing}
 use Rattle.counted_handles.specs.declared.view.Reading.{Reading}
 use Rattle.counted_handles.specs.declared.view.View.{View}
-use Rattle.counted_handles.specs.declared.view.View.TheVariants.{Began, Publishes, Reads, Has, Fades, Ends}
+use Rattle.counted_handles.specs.declared.view.View.TheVariants.{Began, Publishes, Reads, Has, HasWeakly, Fades, Ends}
 use Rattle.raw_slots.specs.Places.{Stake}
 use Rattle.cell_core.specs.declared.words.Version.{Version}
 use Rattle.counted_handles.specs.History.{IsHistory}
 use Rattle.counted_handles.specs.Shown.{Room}
 use Rattle.counted_handles.specs.Ruled.{RoomSpot, Begins, stake_of, mark_of, version_of, first_version}
 use Rattle.counted_handles.specs.Cuts.{met_by}
-use Rattle.counted_handles.specs.Tells.{Sat, IsLastMark, IsOlder}
+use Rattle.counted_handles.specs.Tells.{Sat, IsLastMark, IsOlder, IsOfTie, tie_of, with_gone}
 
 -- a table of the cell's size: W, with two words a slot (own)
 abbrev pub Fits : TableId → Type 0
@@ -256,3 +257,36 @@ pub record IsVacant {T : Type 0} (slot : ℕ) (me : Sat T) : Type 0 where
   pub me_is : me ≡ (Ends slot spot, (slot, room) ∷ [])
   pub lies : room.at ≡ spot.at
   pub whole : room.stake ≡ []
+
+-- a reader's seat with no share that isn't split off (own)
+abbrev pub IsWhole : {T : Type 0} → Reading T → Sat T → Type 0
+IsWhole r me = (me ≡ (Reads r, [])) × (r.share ≡ None)
+
+-- a reader with a grant less (own)
+abbrev pub with_grant_less : {T : Type 0} → Reading T → Reading T
+with_grant_less r = record r { left = r.left - 1 }
+
+-- a clone: the reader with a grant less, and two seats of owners of the version, each with a share (own)
+abbrev pub IsCloned : {T : Type 0} → Reading T → Mark T → Sat T → Sat T → Sat T → Type 0
+IsCloned r mark me share owner = (me ≡ (Reads (with_grant_less r), [])) × (share ≡ (Has mark, [])) × (owner ≡ (Has mark, []))
+
+-- an owner's version is there still: it isn't one of those that the reader has seen buried (own)
+abbrev pub IsFound : {T : Type 0} → Reading T → Mark T → Sat T → Sat T → Type 0
+IsFound r mark me owner = (me ≡ (Reads r, [])) × (owner ≡ (Has mark, [])) × (Contains r.gone mark.number → ⊥)
+
+-- an upgrade that gives a share of the weak owner's version, for a grant (own)
+pub record IsLifted {T : Type 0} (r : Reading T) (tie : Tie T) (me share : Sat T) : Type 0 where
+  pub mark : Mark T
+  pub of : IsOfTie tie mark
+  pub share_is : share ≡ (Has mark, [])
+  pub me_is : me ≡ (Reads (with_grant_less r), [])
+
+-- the reader as an upgrade leaves it that gives none: it has seen the number buried, and has a grant less where the upgrade raised (own)
+abbrev pub sunk_by : {T : Type 0} → Reading T → ℕ → Bool → Reading T
+sunk_by r number true = with_gone number (with_grant_less r)
+sunk_by r number false = with_gone number r
+
+-- a note: the publisher has made one weak owner more, and two seats, of the owner and of a weak owner of its version (own)
+abbrev pub IsNoted : {T : Type 0} → Publishing T → Mark T → Sat T → Sat T → Sat T → Type 0
+IsNoted p mark me owner weak =
+    (me ≡ (Publishes (record p { noted = p.noted + 1; fixed = None }), [])) × (owner ≡ (Has mark, [])) × (weak ≡ (HasWeakly (tie_of mark), []))

@@ -10,6 +10,7 @@
 mod calls;
 mod ending;
 mod grants;
+mod guests;
 mod made;
 mod names;
 mod owner;
