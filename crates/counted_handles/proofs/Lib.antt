@@ -37,3 +37,5 @@ pub mod PutLemmas
 pub mod MadeLemmas
 pub mod UnmadeLemmas
 pub mod Burials
+pub mod Lapsings
+pub mod WeakLemmas

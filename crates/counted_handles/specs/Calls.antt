@@ -290,3 +290,10 @@ sunk_by r number false = with_gone number r
 abbrev pub IsNoted : {T : Type 0} → Publishing T → Mark T → Sat T → Sat T → Sat T → Type 0
 IsNoted p mark me owner weak =
     (me ≡ (Publishes (record p { noted = p.noted + 1; fixed = None }), [])) × (owner ≡ (Has mark, [])) × (weak ≡ (HasWeakly (tie_of mark), []))
+
+-- a load by the publisher with a note: what it gives its caller, beside the owners (own)
+pub record IsNewestNoted {T : Type 0} (p : Publishing T) (r : Reading T) (views reader : List (View T)) (version : Version T) : Type 0 where
+  pub last : IsOld p version
+  pub views_are : views ≡ Publishes (record (gave_back p) { noted = p.noted + 1 }) ∷ []
+  pub reader_is : reader ≡ met_by p r.gone (r.left - 1) ∷ []
+  pub begun : Begins r.seen p.published

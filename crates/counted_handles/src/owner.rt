@@ -132,6 +132,16 @@ impl<'a, T: Drop, C: Names<T>> Strong<'a, T, C> {
         }
     }
 
+    // The version.
+    pub(crate) fn version(&self) -> &Version<T>
+        ensures { result.now ≡ self.now }
+    {
+        match self.held.get() {
+            Some(version) => version,
+            None => unreachable!(),
+        }
+    }
+
     /// The version's value.
     pub fn get(&self) -> &T
         ensures { result.now ≡ self.now.value }

@@ -1,0 +1,21 @@
+-- The seats of a weak owner and of a reader, and the version of what an upgrade gives.
+use Rattle.std.proofs.Common.{◌≡◌, sym, ◌∙◌, List, [], ◌∷◌}
+use Rattle.counted_handles.specs.declared.view.Mark.{Mark}
+use Rattle.counted_handles.specs.declared.view.Tie.{Tie}
+use Rattle.counted_handles.specs.declared.view.Reading.{Reading}
+use Rattle.counted_handles.specs.declared.view.View.{View}
+use Rattle.counted_handles.specs.declared.view.View.TheVariants.{Reads, HasWeakly}
+use Rattle.counted_handles.specs.Ruled.{version_of}
+use Rattle.counted_handles.specs.Tells.{Sat, IsOfTie}
+use Rattle.counted_handles.specs.Calls.{CanRead, IsGuest}
+use Rattle.counted_handles.specs.Owned.{tied_version}
+use Rattle.counted_handles.proofs.CallLemmas.{only_one}
+
+pub guest_seat : {T : Type 0} (r : Reading T) (views : List (View T)) (me : Sat T) → views ≡ me.0 ∷ [] → me.1 ≡ [] → CanRead r views → IsGuest r me
+guest_seat {T} r views me is none can = let view = only_one me.0 (Reads r) (sym is ∙ can.0) in ((λ i. (view i, none i)), can.1, can.2)
+
+pub weak_seat : {T : Type 0} (tie : Tie T) (views : List (View T)) (me : Sat T) → views ≡ me.0 ∷ [] → me.1 ≡ [] → views ≡ HasWeakly tie ∷ [] → me ≡ (HasWeakly tie, [])
+weak_seat {T} tie views me is none of = let view = only_one me.0 (HasWeakly tie) (sym is ∙ of) in λ i. (view i, none i)
+
+pub lifted_version : {T : Type 0} (tie : Tie T) (mark : Mark T) → IsOfTie tie mark → version_of mark ≡ tied_version tie
+lifted_version tie mark of = λ i. record { number = of.number_is i; value = of.value_is i }
