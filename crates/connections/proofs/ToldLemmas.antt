@@ -96,23 +96,23 @@ ends_stay end None b c stays ends = nothing_told end c
 ends_stay end (Some o) b c stays ends = subst (λ m. EndsTold end m c) stays ends
 
 waits_due : (k : Kept) → IsWaiting k → due k ≡ []
-waits_due k waits = ap (λ l. l ++ frames_of k.later) waits.ready ∙ ap frames_of waits.later
+waits_due k waits = ap (λ l. l ++ frames_of k.later) waits.ready ∙ ap (λ l. frames_of l) waits.later
 
 -- a stream ends in front of a frame
 pub ends_clean : (k : Kept) (n : ℕ) (buf : List ℕ) (a b : Option (List ℕ × List ℕ)) → n ≡ 0 → IsWaiting k → k.held ≡ [] → Gives a b (take n buf) → IsAtEnd b → EndsTold Clean (told_by k a) b
-ends_clean k n buf None b zero waits empty gives at_end = tt
-ends_clean k n buf (Some o) b zero waits empty gives at_end =
+ends_clean k n buf None b nothing_read waits empty gives at_end = tt
+ends_clean k n buf (Some o) b nothing_read waits empty gives at_end =
     let nothing : gives.0 ≡ [] = subst IsAtEnd gives.2 at_end in
-    let left : o.0 ≡ [] = gives.1 ∙ ap (λ (m : ℕ). take m buf ++ gives.0) zero ∙ nothing in
+    let left : o.0 ≡ [] = gives.1 ∙ ap (λ (m : ℕ). take m buf ++ gives.0) nothing_read ∙ nothing in
     let all : o.1 ++ due k ≡ o.1 = ap (λ l. o.1 ++ l) (waits_due k waits) ∙ append-nil o.1 in
     (ap (λ l. l ++ o.0) empty ∙ left, gives.2 ∙ ap (λ l. Some (l, o.1)) nothing ∙ ap (λ l. Some ([], l)) (sym all))
 
 -- a stream ends inside a frame
 pub ends_torn : (k : Kept) (n : ℕ) (buf : List ℕ) (a b : Option (List ℕ × List ℕ)) → n ≡ 0 → IsWaiting k → k.held ≢ [] → Gives a b (take n buf) → IsAtEnd b → EndsTold Torn (told_by k a) b
-ends_torn k n buf None b zero waits some gives at_end = tt
-ends_torn k n buf (Some o) b zero waits some gives at_end =
+ends_torn k n buf None b nothing_read waits some gives at_end = tt
+ends_torn k n buf (Some o) b nothing_read waits some gives at_end =
     let nothing : gives.0 ≡ [] = subst IsAtEnd gives.2 at_end in
-    let left : o.0 ≡ [] = gives.1 ∙ ap (λ (m : ℕ). take m buf ++ gives.0) zero ∙ nothing in
+    let left : o.0 ≡ [] = gives.1 ∙ ap (λ (m : ℕ). take m buf ++ gives.0) nothing_read ∙ nothing in
     let all : o.1 ++ due k ≡ o.1 = ap (λ l. o.1 ++ l) (waits_due k waits) ∙ append-nil o.1 in
     let held : k.held ++ o.0 ≡ k.held = ap (λ l. k.held ++ l) left ∙ append-nil k.held in
     let is_torn : IsTorn k.held = (some, waits.part) in

@@ -1,6 +1,7 @@
 //! A connection's requests and replies, with no device.
-ghost use Rattle.std.specs.Prelude.{◌≡◌, ◌≢◌, ℕ, ◌≤◌, [], ◌∷◌, ◌++◌, length, take, drop, true, false, IsTrue, OnOk, OnErr, MatchOption};
+ghost use Rattle.std.specs.Prelude.{◌≡◌, ◌≢◌, ℕ, ◌+◌, ◌≤◌, [], ◌∷◌, ◌++◌, length, take, drop, true, false, IsTrue, IfSome, IfOk, OnOk, OnErr, MatchOption};
 ghost use Rattle.std.specs.Option.{option_map_or};
+ghost use Rattle.dns_message.specs.Frame.{frame_of};
 ghost use Rattle.dns_message.specs.Message.{message_limit};
 ghost use Rattle.conversation.specs.Octets.{frames_of};
 ghost use Rattle.conversation.specs.Served.{BeginsWith};
@@ -112,7 +113,10 @@ impl<M: Messages> Conversation<M> {
     {
         match reply {
             Reply::Silent => Ok(()),
-            Reply::One(len) => self.ready.push_frame(&out[..len]),
+            Reply::One(len) => match self.ready.push_frame(&out[..len]) {
+                Ok(()) => Ok(()),
+                Err(fault) => Err(fault),
+            },
             Reply::Many(messages) => {
                 self.rest = Some(messages);
                 Ok(())
@@ -131,14 +135,14 @@ impl<M: Messages> Conversation<M> {
         requires { message_limit ≤ length out.old }
         ensures peer { A.peer answering.new ≡ A.peer answering.old }
         ensures grows { BeginsWith (A.seen answering.new) (A.seen answering.old) }
-        ensures turn { result ≡ Ok true → Turn (A.is_reply (A.peer answering.old)) (A.seen answering.old) (self.old.held, due self.old) (A.seen answering.new) (self.new.held, due self.new) }
-        ensures none { result ≡ Ok false → self.new ≡ self.old }
+        ensures turn { IfOk result (λ is_made. is_made ≡ true → Turn (A.is_reply (A.peer answering.old)) (A.seen answering.old) (self.old.held, due self.old) (A.seen answering.new) (self.new.held, due self.new)) }
+        ensures none { IfOk result (λ is_made. is_made ≡ false → self.new ≡ self.old) }
         ensures broken { OnErr result (self.new ≡ self.old) }
     {
         if self.is_full() {
             return Ok(false);
         }
-        let Some((request, _)) = take_frame(self.held.as_slice()) else {
+        let Some(request) = first_request(self.held.as_slice()) else {
             return Ok(false);
         };
         let count = LENGTH + request.len();
@@ -165,9 +169,23 @@ impl<M: Messages> Conversation<M> {
             return Ok(());
         }
         match next_of(&mut self.rest, out) {
-            Some(len) => self.ready.push_frame(&out[..len]),
+            Some(len) => match self.ready.push_frame(&out[..len]) {
+                Ok(()) => Ok(()),
+                Err(fault) => Err(fault),
+            },
             None => Ok(()),
         }
+    }
+}
+
+/// The request whose frame octets begin with; None where they end before it does (RFC 1035, 4.2.2).
+fn first_request(octets: &[u8]) -> Option<&[u8]>
+    ensures frame { IfSome result (λ request. octets.now ≡ frame_of request.now ++ drop (2 + length request.now) octets.now) }
+    ensures bound { IfSome result (λ request. 2 + length request.now ≤ length octets.now) }
+{
+    match take_frame(octets) {
+        Some((request, _rest)) => Some(request),
+        None => None,
     }
 }
 

@@ -52,6 +52,7 @@ impl Queue {
     }
 
     /// Lets the first octets go.
+    #[tactic(auto, using(crate::proofs::QueueLemmas::advanced))]
     pub(crate) fn advance(&mut self, count: usize)
         requires { count ≤ length self.old }
         ensures { self.new ≡ drop count self.old }
@@ -60,6 +61,7 @@ impl Queue {
     }
 
     /// Gives the room of octets that are gone to others, where they are as many as those that are left.
+    #[tactic(auto, using(crate::proofs::QueueLemmas::compacted))]
     fn compact(&mut self)
         ensures { self.new ≡ self.old }
     {
@@ -72,6 +74,7 @@ impl Queue {
     }
 
     /// Adds octets behind the others. Where there is no memory the octets are as they were.
+    #[tactic(auto, using(crate::proofs::QueueLemmas::pushed))]
     pub(crate) fn push(&mut self, octets: &[u8]) -> Result<(), AllocError>
         ensures pushed { OnOk result (self.new ≡ self.old ++ octets.now) }
         ensures same { OnErr result (self.new ≡ self.old) }
@@ -81,6 +84,7 @@ impl Queue {
     }
 
     /// Adds a message's frame behind the other octets (RFC 1035, 4.2.2). Where there is no memory the octets are as they were.
+    #[tactic(auto, using(crate::proofs::QueueLemmas::pushed_both))]
     pub(crate) fn push_frame(&mut self, message: &[u8]) -> Result<(), AllocError>
         requires { length message.now ≤ message_limit }
         ensures pushed { OnOk result (self.new ≡ self.old ++ frame_of message.now) }

@@ -1,5 +1,5 @@
 //! Octets between a stream and its conversation, by shares.
-ghost use Rattle.std.specs.Prelude.{◌≡◌, ◌<◌, ◌≤◌, [], length, IfErr, OnOk};
+ghost use Rattle.std.specs.Prelude.{◌≡◌, ◌↔◌, ◌<◌, ◌≤◌, [], length, IsTrue, IfErr, OnOk};
 ghost use Rattle.dns_message.specs.Message.{message_limit};
 ghost use Rattle.conversation.specs.Served.{BeginsWith};
 ghost use Rattle.connections.specs.Kept.{IsWaiting, told_by};
@@ -22,7 +22,7 @@ const WRITES: usize = 8;
 const TURNS: usize = 4;
 
 /// How a share of the work on a connection has gone.
-#[derive(Clone, Copy, PartialEq, Eq)]
+#[derive(Clone, Copy)]
 pub enum Flow {
     /// It could go on.
     More,
@@ -30,6 +30,19 @@ pub enum Flow {
     Blocked,
     /// Nothing is to be written.
     Done,
+}
+
+impl Flow {
+    /// Whether the stream would block.
+    pub fn is_blocked(self) -> bool
+        ensures { IsTrue result ↔ (self ≡ Flow.Blocked) }
+    {
+        match self {
+            Flow::Blocked => true,
+            Flow::More => false,
+            Flow::Done => false,
+        }
+    }
 }
 
 /// Answers requests that are held in whole, in their order, so many at most.
@@ -46,8 +59,11 @@ fn answer_some<R: Wait, M: Messages, A: Answering<M>>(
 {
     for _answered in 0..REQUESTS {
         match conversation.answer(rt, answering, out) {
-            Ok(true) => {}
-            Ok(false) => return Ok(()),
+            Ok(is_made) => {
+                if !is_made {
+                    return Ok(());
+                }
+            }
             Err(broken) => return Err(broken),
         }
     }
@@ -149,11 +165,10 @@ fn read_some<M: Messages, S: Blocking>(
         Err(Fault::Failed) => return Err(StreamEnd::Device),
     };
     if count == 0 {
-        return Err(if conversation.holds() {
-            StreamEnd::Torn
-        } else {
-            StreamEnd::Clean
-        });
+        if conversation.holds() {
+            return Err(StreamEnd::Torn);
+        }
+        return Err(StreamEnd::Clean);
     }
     match conversation.take(&room[..count]) {
         Ok(()) => Ok(Flow::More),
@@ -223,9 +238,11 @@ pub fn serve_some<R: Wait, M: Messages, A: Answering<M>, S: Blocking>(
 {
     for _turned in 0..TURNS {
         match turn(rt, answering, conversation, stream, room, out) {
-            Ok(Flow::Blocked) => return Ok(Flow::Blocked),
-            Ok(Flow::More) => {}
-            Ok(Flow::Done) => {}
+            Ok(flow) => {
+                if flow.is_blocked() {
+                    return Ok(flow);
+                }
+            }
             Err(end) => return Err(end),
         }
     }
