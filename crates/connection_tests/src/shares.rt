@@ -37,7 +37,11 @@ fn streams_end_in_each_way(rt: HostRuntime) -> Result<(), Fail> {
         for most in 1..13usize {
             let (end, gone) = served(&rt, &sent[..len], most, behind, requests)?;
             assert!(rt; end == wanted, "{len} octets by {most}");
-            assert_eq!(rt; gone.as_slice(), &replies[..written], "{len} octets by {most}");
+            assert_eq!(rt;
+                gone.as_slice(),
+                &replies[..written],
+                "{len} octets by {most}"
+            );
         }
     }
     Ok(())

@@ -42,9 +42,20 @@ fn two_frames_in_any_pieces_are_answered(rt: HostRuntime) -> Result<(), Fail> {
             let mut conversation = Conversation::new(rt.alloc());
             let mut written = Vec::new(rt.alloc());
             for piece in [&FRAMES[..first], &FRAMES[first..second], &FRAMES[second..]] {
-                feed(&rt, &mut echo, &mut conversation, piece, &mut out, &mut written)?;
+                feed(
+                    &rt,
+                    &mut echo,
+                    &mut conversation,
+                    piece,
+                    &mut out,
+                    &mut written,
+                )?;
             }
-            assert_eq!(rt; written.as_slice(), FRAMES.as_slice(), "at {first} and {second}");
+            assert_eq!(rt;
+                written.as_slice(),
+                FRAMES.as_slice(),
+                "at {first} and {second}"
+            );
         }
     }
     Ok(())

@@ -37,10 +37,11 @@ frame_cases octets message rest true long small found =
     let len : length message ≡ size = ap (λ l. length l) (sym first) ∙ length-take-le size (drop 2 octets) room in
     let two : length (take 2 octets) ≡ 2 = length-take-le 2 octets (omega (arith, fits)) in
     let prefix : to_be_bytes w16 (length message) ≡ take 2 octets = be_bytes_2 (take 2 octets) (length message) two (front_small octets small) len in
-    let body : drop 2 octets ≡ message ++ rest = sym (take-append-drop size (drop 2 octets)) ∙ ap (λ l. l ++ drop size (drop 2 octets)) first ∙ ap (λ l. message ++ l) (drop-drop size 2 octets ∙ second) in
-    (sym (take-append-drop 2 octets) ∙ ap (λ l. take 2 octets ++ l) body ∙ ap (λ l. l ++ (message ++ rest)) (sym prefix) ∙ sym (append_assoc (to_be_bytes w16 (length message)) message rest),
-     omega (arith, fits, len),
-     sym second ∙ ap (λ (n : ℕ). drop (2 + n) octets) (sym len))
+    let body : drop 2 octets ≡ message ++ rest = sym (take-append-drop size (drop 2 octets)) ∙ ap (λ l. l ++ drop size (drop 2 octets)) first ∙ ap (λ l. message ++ l) (drop-drop size 2 octets ∙ second) in (
+      sym (take-append-drop 2 octets) ∙ ap (λ l. take 2 octets ++ l) body ∙ ap (λ l. l ++ (message ++ rest)) (sym prefix) ∙ sym (append_assoc (to_be_bytes w16 (length message)) message rest),
+      omega (arith, fits, len),
+      sym second ∙ ap (λ (n : ℕ). drop (2 + n) octets) (sym len),
+    )
 
 -- the frame that octets begin with is the first of them, and all others are behind it
 pub frame_taken : (octets message rest : List ℕ) → ((i : ℕ) → get_or octets i 0 < 256) → frame_in octets ≡ Some (message, rest)

@@ -46,7 +46,7 @@ stays_written k m n (Some o) b takes same =
     let d = drop n k.ready in
     let f = frames_of k.later in
     let moved : (o.1 ++ t) ++ (d ++ f) ≡ o.1 ++ (k.ready ++ f) =
-      append_assoc o.1 t (d ++ f) ∙ ap (λ l. o.1 ++ l) (sym (append_assoc t d f) ∙ ap (λ l. l ++ f) (take-append-drop n k.ready)) in
+    append_assoc o.1 t (d ++ f) ∙ ap (λ l. o.1 ++ l) (sym (append_assoc t d f) ∙ ap (λ l. l ++ f) (take-append-drop n k.ready)) in
     ap (λ (p : Kept). told_by p b) same
     ∙ ap (λ p. told_by (record k { ready = d }) p) takes
     ∙ ap (λ l. Some (k.held ++ o.0, l)) moved

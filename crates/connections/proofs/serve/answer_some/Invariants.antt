@@ -8,5 +8,5 @@ abbrev pub invariant-loop-answered : goal.invariant-loop-answered
 invariant-loop-answered g l = record {
   grows : BeginsWith (g.A.Answering.seen l.answering) (g.A.Answering.seen l.initial.answering);
   peer : g.A.Answering.peer l.answering ≡ g.A.Answering.peer l.initial.answering;
-  keeps : Keeps (g.A.Answering.is_reply (g.A.Answering.peer l.initial.answering)) (g.A.Answering.seen l.initial.answering) l.initial.conversation (g.A.Answering.seen l.answering) l.conversation
+  keeps : Keeps (g.A.Answering.is_reply (g.A.Answering.peer l.initial.answering)) (g.A.Answering.seen l.initial.answering) l.initial.conversation (g.A.Answering.seen l.answering) l.conversation;
 }

@@ -12,5 +12,5 @@ invariant-loop-turned g l = record {
   peer : g.A.Answering.peer l.answering ≡ g.A.Answering.peer l.initial.answering;
   goes : Goes (g.A.Answering.is_reply (g.A.Answering.peer l.initial.answering)) (g.A.Answering.seen l.initial.answering) (told_by l.initial.conversation (g.S.Blocking.octets l.initial.stream)) (g.A.Answering.seen l.answering) (told_by l.conversation (g.S.Blocking.octets l.stream));
   written : Writes (g.S.Blocking.octets l.initial.stream) (g.S.Blocking.octets l.stream);
-  same : g.S.Blocking.faults l.stream ≡ g.S.Blocking.faults l.initial.stream
+  same : g.S.Blocking.faults l.stream ≡ g.S.Blocking.faults l.initial.stream;
 }

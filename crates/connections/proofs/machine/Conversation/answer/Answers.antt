@@ -9,6 +9,6 @@ returns-clause-turn g c = λ made.
     let held = c.args.self.now.held in
     let request = c.in-Some.request.now in
     let whole : held ≡ frame_of request ++ drop (2 + length request) held =
-      subst (λ l. l ≡ frame_of request ++ drop (2 + length request) l) c.as_slice.ensures c.in-Some.ensures.frame in
+    subst (λ l. l ≡ frame_of request ++ drop (2 + length request) l) c.as_slice.ensures c.in-Some.ensures.frame in
     let left = c.advance.ensures ∙ ap (λ l. drop (2 + length request) l) c.in-Ok-queue.ensures.held in
     turn_made (g.A.Answering.is_reply (g.A.Answering.peer c.args.answering.now)) _ _ _ _ _ _ request _ c.reply-reply.ensures.grows c.in-Ok.ensures.reply (whole ∙ ap (λ l. frame_of request ++ l) (sym left)) c.in-Ok-queue.ensures.queued
