@@ -11,7 +11,7 @@ use Rattle.dns_engine.specs.Versions.{IsFirst, IsNext}
 use Rattle.dns_engine.specs.Held.{Held, IsLatest}
 use Rattle.dns_engine.specs.Replayed.{IsReplay}
 use Rattle.dns_engine.proofs.ReplayLemmas.{last_number_of, last_latest, last_replay_of}
-use Rattle.zone_service.specs.Known.{HasLoaded, LoadsAtMostOnce}
+use Rattle.zone_service.specs.Known.{HasLoaded, LoadsInVain}
 use Rattle.zone_service.specs.Replied.{IsFound}
 
 -- a version that is loaded has the number that it is published with
@@ -50,6 +50,6 @@ pub found : {E : Type 0} (first : List Record) (before after : ReaderState Versi
 found first before after held (Ok newest) load seen same = subst (λ (h : Held). IsFound first before after h.published h.last) (sym same) (load, seen)
 found first before after held (Err spent) load seen same = tt
 
-pub loaded_at_most : {T E : Type 0} (first : List Record) (before after : ReaderState Version) (version : Version) (result : Result T E) → HasLoaded first before after version → OnErr result (LoadsAtMostOnce first before after)
-loaded_at_most first before after version (Ok it) load = tt
-loaded_at_most first before after version (Err spent) load = inr (version, load)
+pub loaded_in_vain : {T E : Type 0} (first : List Record) (before after : ReaderState Version) (version : Version) (result : Result T E) → HasLoaded first before after version → OnErr result (LoadsInVain first before after)
+loaded_in_vain first before after version (Ok it) load = tt
+loaded_in_vain first before after version (Err spent) load = inr (version, load)

@@ -12,7 +12,7 @@ use Rattle.serve_core.specs.declared.heading.Heading.{Heading}
 use Rattle.serve_core.specs.declared.peer.Peer.{Peer}
 use Rattle.conversation.specs.Served.{BeginsWith}
 use Rattle.conversation.proofs.TurnLemmas.{begins_itself}
-use Rattle.zone_service.specs.Known.{HasLoaded, LoadsAtMostOnce}
+use Rattle.zone_service.specs.Known.{HasGone, HasLoaded, LoadsInVain}
 use Rattle.zone_service.specs.Updated.{IsJudged, by_engine as judged_by_engine, in_version, IsToldOf, read, unread, bad_opt, starved}
 use Rattle.zone_service.specs.Replied.{IsQuery, IsUpdate, IsTransfer, LoadsFor, IsNow}
 use Rattle.zone_service.specs.declared.answer.Told.{Told}
@@ -53,9 +53,9 @@ told_grows first may request before after heading told (unread head reading alon
 told_grows first may request before after heading told (bad_opt head question dnssec_ok reading repeats none same) = same_grows before after same
 told_grows first may request before after heading told (starved head want alone code none same) = same_grows before after same
 
-pub at_most_grows : (first : List Record) (before after : ReaderState Version) → LoadsAtMostOnce first before after → BeginsWith after.seen before.seen
-at_most_grows first before after is =
-    ⊎_elim (λ (same : after ≡ before). same_grows before after same) (λ (l : (version : Version) × HasLoaded first before after version). load_grows first before after l.0 l.1) is
+pub vain_grows : (first : List Record) (before after : ReaderState Version) → LoadsInVain first before after → BeginsWith after.seen before.seen
+vain_grows first before after is =
+    ⊎_elim (λ (gone : HasGone before after). same_grows before after gone.1) (λ (l : (version : Version) × HasLoaded first before after version). load_grows first before after l.0 l.1) is
 
 -- who has loaded had a load left
 had_one : (first : List Record) (before after : ReaderState Version) (version : Version) → HasLoaded first before after version → before.left ≡ 0 → ⊥

@@ -44,7 +44,7 @@ use Rattle.serve_core.proofs.WantLemmas.{reads-want}
 use Rattle.zone_service.specs.declared.answer.Told.{Told}
 use Rattle.zone_service.specs.Known.{HasLoaded}
 use Rattle.zone_service.specs.Updated.{IsJudged, by_engine, in_version, IsToldOf, read, unread, bad_opt, starved as starved_reading}
-use Rattle.zone_service.specs.Replied.{TellsFor, IsReplied, IsUpdate, IsQuery, IsTransfer, IsAtOnce, LoadsFor}
+use Rattle.zone_service.specs.Replied.{TellsFor, IsReplied, IsUpdate, IsQuery, IsTransfer, IsAtOnce, LoadsFor, HasNoAnswer}
 
 no_want : (head : Head) (heard : Parsed) → heard ≡ NoMemory head → heard ≡ IsSilent → ⊥
 no_want head heard wants is = cc
@@ -471,10 +471,8 @@ later_transfer first peer request other later = ⊎_elim (λ (asks : is_update r
     no_both : is_update request ≡ true → ⊥
     no_both asks = cc
 
--- what asks for a transfer that is permitted is a query
-pub transfer_query : (first : List Record) (peer : Peer) (request : List ℕ) → IsTransfer first peer request → IsQuery request
-transfer_query first peer request t = (t.query, t.asked)
-
-pub spent_query : {T E : Type 0} (result : Result T E) (first : List Record) (peer : Peer) (request : List ℕ) → OnErr result (IsTransfer first peer request) → OnErr result (IsQuery request)
-spent_query (Ok x) first peer request t = tt
-spent_query (Err e) first peer request t = transfer_query first peer request t
+-- a transfer of which no version can be had is answered by nothing
+pub spent_transfer : {T E : Type 0} (result : Result T E) (first : List Record) (peer : Peer) (request : List ℕ) (before : ReaderState Version)
+    → OnErr result (IsTransfer first peer request) → OnErr result (HasNoAnswer first peer request before)
+spent_transfer (Ok x) first peer request before t = tt
+spent_transfer (Err e) first peer request before t = inr t

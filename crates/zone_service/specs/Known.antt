@@ -14,6 +14,6 @@ HasLoaded first before after version = IsLoad (IsFirst first) IsNext before afte
 abbrev pub HasGone : ReaderState Version → ReaderState Version → Type 0
 HasGone before after = (before.left ≡ 0) × (after ≡ before)
 
--- a reader stays as it was, or has loaded once (own)
-abbrev pub LoadsAtMostOnce : List Record → ReaderState Version → ReaderState Version → Type 0
-LoadsAtMostOnce first before after = (after ≡ before) ⊎ ((version : Version) × HasLoaded first before after version)
+-- no version can be had: a reader has no grant left, and stays as it was; or it has loaded one, which can't be shared (own)
+abbrev pub LoadsInVain : List Record → ReaderState Version → ReaderState Version → Type 0
+LoadsInVain first before after = HasGone before after ⊎ ((version : Version) × HasLoaded first before after version)

@@ -13,7 +13,7 @@ use Rattle.serve_core.specs.declared.peer.Peer.{Peer}
 use Rattle.serve_core.specs.Served.{Want, limit_for}
 use Rattle.serve_core.specs.Replies.{replies_to, IsNoTransfer}
 use Rattle.serve_core.specs.Transfers.{is_permitted, messages_to}
-use Rattle.zone_service.specs.Known.{HasLoaded, HasGone, LoadsAtMostOnce}
+use Rattle.zone_service.specs.Known.{HasLoaded, HasGone, LoadsInVain}
 use Rattle.zone_service.specs.Updated.{IsUpdateTold}
 use Rattle.zone_service.specs.declared.answer.Now.{Now}
 use Rattle.zone_service.specs.declared.answer.Now.TheVariants.{Bytes, Silent, Later, Spent}
@@ -85,6 +85,10 @@ IsNow first peer request before after out Later =
     (IsUpdate request × (after ≡ before)) ⊎ ((transfer : IsTransfer first peer request) × HasLoaded first before after transfer.version)
 IsNow first peer request before after out Spent = IsQuery request × HasGone before after
 
+-- nothing is answered: to a query where its reader has no grant left, or to a transfer that is permitted, of which no version can be had (own)
+abbrev pub HasNoAnswer : List Record → Peer → List ℕ → ReaderState Version → Type 0
+HasNoAnswer first peer request before = (IsQuery request × (before.left ≡ 0)) ⊎ IsTransfer first peer request
+
 -- the versions that a query is answered from after the first look, up to the last of them: the reader has loaded that one, and they are those
 -- that it has then seen (own)
 abbrev pub IsFound : List Record → ReaderState Version → ReaderState Version → List Version → Version → Type 0
@@ -103,4 +107,4 @@ IsServed first peer request before after out (Transfer newest query) =
     (is_permitted newest.last.zone peer query ≡ true)
     × IsReplied first peer after.seen request (messages_to newest.last.zone (changes_in newest query.serial) peer query) × (reads request ≡ Query query)
     × IsFound first before after newest.published newest.last
-IsServed first peer request before after out IsSpent = IsTransfer first peer request × LoadsAtMostOnce first before after
+IsServed first peer request before after out IsSpent = IsTransfer first peer request × LoadsInVain first before after

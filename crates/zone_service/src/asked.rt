@@ -5,7 +5,7 @@ ghost use Rattle.dns_message.specs.Message.{message_limit};
 ghost use Rattle.zone_tree.specs.Version.{Version};
 ghost use Rattle.conversation.specs.Octets.{messages_in};
 ghost use Rattle.conversation.specs.Datagrams.{by_datagram};
-ghost use Rattle.zone_service.specs.Replied.{IsReplied, IsUpdate, IsQuery, IsTransfer};
+ghost use Rattle.zone_service.specs.Replied.{IsReplied, IsUpdate, IsTransfer, HasNoAnswer};
 ghost use Rattle.zone_service.specs.declared.service_log.Event.TheVariants.{Update as ToldOfUpdate};
 ghost use Rattle.conversation.specs.Served.{BeginsWith};
 ghost use Rattle.conversation.specs.Turns.{Replies, IsBrokenAs};
@@ -194,7 +194,7 @@ impl<'a, 's, Z: FirstZone, N: Naming, L: ServiceLog> Answering for Asked<'a, 's,
         ensures bound { IfOk result (λ len. IfSome len (λ n. (n ≤ message_limit) × (n ≤ length out.new))) }
         ensures reply { IfOk result (λ len. IsReplied Z.zone (by_datagram self.old.peer) self.new.reader.seen request.now (messages_in len out.new)) }
         // What can't be read as a query is answered, or told as silence, whether a version can be loaded or not.
-        ensures spent { OnErr result (IsQuery request.now) }
+        ensures spent { OnErr result (HasNoAnswer Z.zone (by_datagram self.old.peer) request.now self.old.reader) }
     {
         let peer = Peer {
             transport: Transport::Udp,
@@ -228,7 +228,7 @@ impl<'a, 's, Z: FirstZone, N: Naming, L: ServiceLog> Answering for Asked<'a, 's,
         ensures same { OnOk result (stream.new.faults ≡ stream.old.faults) }
         ensures counted { IsErrOf result BrokenBy.Failed → stream.old.faults < stream.new.faults }
         // What can't be read as a query ends no stream by want of a version.
-        ensures spent { IsErrOf result BrokenBy.Spent → IsQuery request.now }
+        ensures spent { IsErrOf result BrokenBy.Spent → HasNoAnswer Z.zone self.old.peer request.now self.old.reader }
     {
         let cell = self.server.cell();
         match answer_now(cell, &mut self.reader, self.peer, request, out) {

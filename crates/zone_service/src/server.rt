@@ -1,6 +1,6 @@
 //! The server: a cell of versions, and its engine behind a lock.
 ghost use Rattle.std.specs.Prelude.{◌≡◌, ◌↔◌, ◌<◌, ◌≤◌, IfOk, IfErr, OnErr};
-ghost use Rattle.zone_service.specs.Known.{LoadsAtMostOnce};
+ghost use Rattle.zone_service.specs.Known.{LoadsInVain};
 ghost use Rattle.zone_service.specs.Replied.{IsFound};
 ghost use Rattle.zone_service.specs.Updated.{IsUpdated};
 ghost use Rattle.dns_engine.specs.Held.{IsLatest};
@@ -88,7 +88,7 @@ impl<'a, Z: FirstZone, N: Naming> Server<'a, Z, N> {
         query: &Query,
     ) -> Result<Newest<Z, N>, Spent>
         ensures found { IfOk result (λ newest. IsFound Z.zone reader.old reader.new newest.published newest.last) }
-        ensures spent { OnErr result (LoadsAtMostOnce Z.zone reader.old reader.new) }
+        ensures spent { OnErr result (LoadsInVain Z.zone reader.old reader.new) }
     {
         if query.question.rtype == RType::IXFR {
             let mut engine = self.engine.lock(rt);

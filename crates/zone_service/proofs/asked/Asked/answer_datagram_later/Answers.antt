@@ -1,5 +1,5 @@
 -- What the reader has seen grows.
-use Rattle.zone_service.proofs.NowLemmas.{told_grows, at_most_grows}
+use Rattle.zone_service.proofs.NowLemmas.{told_grows, vain_grows}
 use Rattle.zone_service.proofs.asked.Asked.answer_datagram_later.Goals as goal
 
 pub returns-in-Updated-clause-grows : goal.returns-in-Updated-clause-grows
@@ -7,4 +7,4 @@ returns-in-Updated-clause-grows g c =
     told_grows g.Z.FirstZone.zone c.args.peer.may_update c.args.request.now c.args.self.now.reader c.serve_one.new.reader c.in-Updated.ensures.2.heading c.in-Updated.told c.in-Updated.ensures.2.tells
 
 pub returns-in-Spent-clause-grows : goal.returns-in-Spent-clause-grows
-returns-in-Spent-clause-grows g c = at_most_grows g.Z.FirstZone.zone c.args.self.now.reader c.serve_one.new.reader c.in-Spent.ensures.1
+returns-in-Spent-clause-grows g c = vain_grows g.Z.FirstZone.zone c.args.self.now.reader c.serve_one.new.reader c.in-Spent.ensures.1

@@ -2,7 +2,7 @@
 use Rattle.std.proofs.Common.{sym, arith}
 use Rattle.std.proofs.lemmas.List.{length-take-le}
 use Rattle.dns_message.specs.Request.{reads}
-use Rattle.zone_service.proofs.NowLemmas.{told_grows, at_most_grows}
+use Rattle.zone_service.proofs.NowLemmas.{told_grows, vain_grows}
 use Rattle.zone_service.proofs.ReplyLemmas.{short_reply}
 use Rattle.zone_service.proofs.TransferLemmas.{part_of_one, never_spent, reply_written, reply_broken}
 use Rattle.zone_service.proofs.asked.Asked.answer_later.Goals as goal
@@ -44,4 +44,4 @@ returns-in-Updated-clause-grows g c =
     told_grows g.Z.FirstZone.zone c.args.self.now.peer.may_update c.args.request.now c.args.self.now.reader c.serve_one.new.reader c.in-Updated.ensures.2.heading c.in-Updated.told c.in-Updated.ensures.2.tells
 
 pub returns-in-Spent-clause-grows : goal.returns-in-Spent-clause-grows
-returns-in-Spent-clause-grows g c = at_most_grows g.Z.FirstZone.zone c.args.self.now.reader c.serve_one.new.reader c.in-Spent.ensures.1
+returns-in-Spent-clause-grows g c = vain_grows g.Z.FirstZone.zone c.args.self.now.reader c.serve_one.new.reader c.in-Spent.ensures.1

@@ -1,12 +1,12 @@
--- What asks for a transfer is a query.
+-- A transfer of which no version can be had is answered by nothing.
 use Rattle.conversation.proofs.TurnLemmas.{begins_more}
 use Rattle.zone_service.specs.declared.answer.Now.TheVariants.{Bytes, Later}
 use Rattle.zone_service.proofs.NowLemmas.{now_grows}
-use Rattle.zone_service.proofs.ReplyLemmas.{spent_query}
+use Rattle.zone_service.proofs.ReplyLemmas.{spent_transfer}
 use Rattle.zone_service.proofs.asked.AskedAnswering.answer.Goals as goal
 
 pub returns-in-Later-clause-spent : goal.returns-in-Later-clause-spent
-returns-in-Later-clause-spent g c = spent_query c.answer_datagram_later.result g.Z.FirstZone.zone _ c.args.request.now c.answer_datagram_later.ensures.spent
+returns-in-Later-clause-spent g c = spent_transfer c.answer_datagram_later.result g.Z.FirstZone.zone _ c.args.request.now c.args.self.now.reader c.answer_datagram_later.ensures.spent
 
 pub returns-in-Bytes-clause-grows : goal.returns-in-Bytes-clause-grows
 returns-in-Bytes-clause-grows g c = now_grows g.Z.FirstZone.zone _ c.args.request.now c.args.self.now.reader c.answer_now.new.reader c.answer_now.new.out (Bytes c.in-Bytes.len) c.in-Bytes.ensures.now

@@ -1,11 +1,11 @@
 -- Nothing is written for octets that get no reply.
-use Rattle.std.proofs.Common.{[], arith}
+use Rattle.std.proofs.Common.{[], inr, arith}
 use Rattle.std.proofs.lemmas.List.{length-take-le}
 use Rattle.dns_message.specs.Request.{reads}
 use Rattle.conversation.proofs.TurnLemmas.{begins_more}
 use Rattle.zone_service.specs.declared.answer.Now.TheVariants.{Bytes, Later}
 use Rattle.zone_service.proofs.NowLemmas.{now_grows}
-use Rattle.zone_service.proofs.ReplyLemmas.{short_reply, silent_replied, transfer_query}
+use Rattle.zone_service.proofs.ReplyLemmas.{short_reply, silent_replied}
 use Rattle.zone_service.proofs.TransferLemmas.{takes_none, never_spent}
 use Rattle.zone_service.proofs.asked.AskedAnswering.answer_on.Goals as goal
 
@@ -22,7 +22,7 @@ pub returns-in-Bytes-clause-spent : goal.returns-in-Bytes-clause-spent
 returns-in-Bytes-clause-spent g c = never_spent _ c.write_frame.result c.write_frame.ensures.failed
 
 pub returns-in-Later-clause-spent : goal.returns-in-Later-clause-spent
-returns-in-Later-clause-spent g c = λ spent. transfer_query g.Z.FirstZone.zone _ c.args.request.now (c.answer_later.ensures.spent spent)
+returns-in-Later-clause-spent g c = λ spent. inr (c.answer_later.ensures.spent spent)
 
 pub returns-in-Bytes-clause-grows : goal.returns-in-Bytes-clause-grows
 returns-in-Bytes-clause-grows g c = now_grows g.Z.FirstZone.zone _ c.args.request.now c.args.self.now.reader c.answer_now.new.reader c.answer_now.new.out (Bytes c.in-Bytes.len) c.in-Bytes.ensures.now
