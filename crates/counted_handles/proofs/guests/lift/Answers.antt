@@ -68,4 +68,4 @@ returns-clause-lifted g c r tie guest weak =
     let me = c.join_seat.ensures.2 ∙ (λ i. (hosting (guest.0 i).0 (weak i).0, (guest.0 i).1)) in
     let told = (subst (λ v. SeeTells v c.load.result c.load.new.seat.me) (λ i. (me i).0) c.load.ensures.2).0 (omega arith) in
     let raised = (subst (λ v. RaiseTells v c.fetch_add.result c.fetch_add.new.seat.me) (λ i. (told i).0) c.fetch_add.ensures.2).0 (omega arith) in
-    lifted_of r tie c.fetch_add.new.seat.me c.split_seat-share.new.seat.me c.split_seat-share.result.me c.split_seat-weak.new.seat.me raised c.split_seat-share.ensures.2 c.split_seat-share.ensures.4 c.split_seat-weak.ensures.2
+    lifted_of r tie c.fetch_add.new.seat.me c.split_seat-share.new.seat.me c.split_seat-share.result.me c.split_seat-weak-2.new.seat.me raised c.split_seat-share.ensures.2 c.split_seat-share.ensures.4 c.split_seat-weak-2.ensures.2

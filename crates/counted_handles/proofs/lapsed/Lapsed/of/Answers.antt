@@ -21,4 +21,4 @@ make_free-requires-clause-last g c =
     (one, last_faded c.args.slot c.fade-lapsed.result c.fade-lapsed.new.seat.me one c.fade-lapsed.ensures.faded)
 
 pub returns : goal.returns
-returns g c = subst IsLapsed (sym c.make_free.ensures) tt
+returns g c = subst IsLapsed (sym c.make_free.ensures.freed) tt
