@@ -1,5 +1,5 @@
 -- The seats of a weak owner and of a reader, and the version of what an upgrade gives.
-use Rattle.std.proofs.Common.{◌≡◌, sym, ◌∙◌, List, [], ◌∷◌}
+use Rattle.std.proofs.Common.{◌≡◌, sym, ◌∙◌, subst, List, [], ◌∷◌, Result, Ok, Err, IfOk}
 use Rattle.counted_handles.specs.declared.view.Mark.{Mark}
 use Rattle.counted_handles.specs.declared.view.Tie.{Tie}
 use Rattle.counted_handles.specs.declared.view.Reading.{Reading}
@@ -19,3 +19,7 @@ weak_seat {T} tie views me is none of = let view = only_one me.0 (HasWeakly tie)
 
 pub lifted_version : {T : Type 0} (tie : Tie T) (mark : Mark T) → IsOfTie tie mark → version_of mark ≡ tied_version tie
 lifted_version tie mark of = λ i. record { number = of.number_is i; value = of.value_is i }
+
+-- what holds of each Ok holds of this one
+pub if_ok_at : {A E : Type 0} (P : A → Type 0) (x : Result A E) (a : A) → x ≡ Ok a → IfOk x P → P a
+if_ok_at P x a is holds = subst (λ y. IfOk y P) is holds
