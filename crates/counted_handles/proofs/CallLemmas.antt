@@ -17,7 +17,7 @@ use Rattle.counted_handles.specs.declared.view.View.TheVariants.{Publishes, Read
 use Rattle.counted_handles.specs.Shown.{Room}
 use Rattle.counted_handles.specs.Ruled.{RoomSpot, Holds, Ruled}
 use Rattle.counted_handles.specs.Cuts.{owner_view, once_view, kept_share, given_share}
-use Rattle.counted_handles.specs.Tells.{Sat, IsTaken, Swapped, IsSettled, Loaded, Released, Faded, Restored, Freed}
+use Rattle.counted_handles.specs.Tells.{Sat, IsTaken, Swapped, IsSettled, Loaded, Released}
 use Rattle.counted_handles.specs.Plays.{LoadTells, ReleaseTells, BuryTells, FadeTells, ResetTells, FreeTells, PrepareTells, SwapTells, SettleTells, SettleAt, ProbeTells, ProbeAt}
 use Rattle.counted_handles.specs.Calls.{Drawn, IsReady, IsSwapping, IsSettling, IsProbing, IsSwappedIn}
 use Rattle.counted_handles.proofs.LoadStep.{loads}

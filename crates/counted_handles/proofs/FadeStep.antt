@@ -16,7 +16,7 @@ use Rattle.cell_core.specs.WordSteps.{with_owner, with_slot, with_weak_word, wit
 use Rattle.cell_core.specs.Shows.{Rest, Shows, SlotIs, HasRest}
 use Rattle.cell_core.specs.Shows.Rest.{fading, closing}
 use Rattle.cell_core.specs.Shows.Phase.{live, dead}
-use Rattle.cell_core.specs.declared.words.Owner.TheVariants.{Fading, Resetting, Freeing, Spent}
+use Rattle.cell_core.specs.declared.words.Owner.TheVariants.{Fading, Resetting, Freeing}
 use Rattle.counted_handles.specs.declared.view.Publishing.{Publishing}
 use Rattle.counted_handles.specs.declared.view.View.{View}
 use Rattle.counted_handles.specs.declared.view.View.TheVariants.{Publishes, Fades, Resets, Frees, Gone}

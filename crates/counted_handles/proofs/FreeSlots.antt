@@ -1,5 +1,5 @@
 -- What a step leaves of the slots that the publisher has seen free, and of K of the slot in W.
-use Rattle.std.proofs.Common.{◌≡◌, ◌≢◌, sym, ap, ◌∙◌, subst, ℕ, suc, ◌+◌, ◌<◌, List, get_or, set, arith, Some, None}
+use Rattle.std.proofs.Common.{◌≡◌, ◌≢◌, sym, ap, ◌∙◌, subst, ℕ, suc, ◌+◌, List, get_or, set, arith, Some, None}
 use Rattle.std.proofs.lemmas.List.{set-get_or, get_or-set_other}
 use mathlib.Core.Option as maybe
 use mathlib.Core.Option.{none, some}

@@ -1,21 +1,20 @@
 -- What a reader that has taken an owner in sees and gains keeps the rule.
-use Rattle.std.proofs.Common.{◌≡◌, ◌≢◌, refl, sym, ap, ◌∙◌, subst, ℕ, zero, suc, ◌+◌, ◌-◌, ◌%◌, ◌^◌, ◌<◌, ◌≤◌, inl, inr, Bool, true, false, true≢false, List, [], ◌∷◌, get_or, set, length, arith, Some, None}
+use Rattle.std.proofs.Common.{◌≡◌, ◌≢◌, refl, sym, ap, ◌∙◌, subst, ℕ, zero, suc, ◌+◌, ◌-◌, ◌%◌, ◌^◌, ◌<◌, inl, inr, Bool, true, true≢false, List, [], ◌∷◌, get_or, set, arith, Some}
 use Rattle.std.specs.Prelude.{Contains}
 use Rattle.std.specs.List.{slice_get, slice_set}
 use Rattle.std.proofs.lemmas.List.{set-get_or}
 use mathlib.Core.Option.{some}
 use lib.ListN.{get_elem?}
 use Rattle.atomic_table.specs.Table.{Allows, keeps}
-use Rattle.atomic_table.proofs.Lists.{set_again}
 use Rattle.cell_core.proofs.SeatLemmas.{set_there}
 use Rattle.cell_core.proofs.FrameLemmas.{seat_stays}
 use Rattle.cell_core.proofs.RaiseKeeps.{raise_keeps, late_keeps}
 use Rattle.cell_core.proofs.WeakShows.{weak_sees, holding_sees}
 use Rattle.cell_core.proofs.WeakLemmas.{keeps_slot}
 use Rattle.cell_core.specs.Cell.{with_strong}
-use Rattle.cell_core.specs.Words.{State, slots, grants, dead_word, fetch_add}
+use Rattle.cell_core.specs.Words.{State, slots, grants, fetch_add}
 use Rattle.cell_core.specs.WordSteps.{with_owner, with_grant, with_slot, with_shares}
-use Rattle.cell_core.specs.Shows.{Shows, Plan, OwnerIs}
+use Rattle.cell_core.specs.Shows.{Shows}
 use Rattle.cell_core.specs.declared.words.Owner.TheVariants.{Holding, Twice, Weakly, Both, Fading}
 use Rattle.counted_handles.specs.declared.view.Mark.{Mark}
 use Rattle.counted_handles.specs.declared.view.Tie.{Tie}
@@ -23,11 +22,11 @@ use Rattle.counted_handles.specs.declared.view.Hold.{Hold}
 use Rattle.counted_handles.specs.declared.view.Hold.TheVariants.{Once, Double, Loose, Mixed}
 use Rattle.counted_handles.specs.declared.view.Reading.{Reading}
 use Rattle.counted_handles.specs.declared.view.View.{View}
-use Rattle.counted_handles.specs.declared.view.View.TheVariants.{Publishes, Hosts}
-use Rattle.counted_handles.specs.Shown.{Board, hold_owner, owner_of, left_of, read_of, lefts, shown}
-use Rattle.counted_handles.specs.Ruled.{RoomSpot, MarkIs, HoldIs, AreGone, Knows, IsFree, Holds}
-use Rattle.counted_handles.specs.Tells.{IsOfTie, Cloned, Lifted, SeenBy, SeenAlive, with_gone}
-use Rattle.counted_handles.proofs.Lists.{got_map, got_within, map_set, sum_set, sum_has, one_there}
+use Rattle.counted_handles.specs.declared.view.View.TheVariants.{Hosts}
+use Rattle.counted_handles.specs.Shown.{Board, hold_owner, owner_of, left_of, lefts, shown}
+use Rattle.counted_handles.specs.Ruled.{RoomSpot, MarkIs, AreGone, Knows, IsFree, Holds}
+use Rattle.counted_handles.specs.Tells.{Cloned, Lifted, SeenBy, SeenAlive, with_gone}
+use Rattle.counted_handles.proofs.Lists.{got_map, got_within, map_set, sum_set, sum_has}
 use Rattle.counted_handles.proofs.Slots.{first_kept}
 use Rattle.counted_handles.proofs.Owners.{Plain, joint_twice, joint_both, taken_up}
 use Rattle.counted_handles.proofs.FreeSlots.{frees_stay, not_free}

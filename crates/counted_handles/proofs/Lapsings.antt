@@ -1,5 +1,5 @@
 -- What a weak owner's release tells by what its fade found.
-use Rattle.std.proofs.Common.{◌≡◌, ℕ, ◌<◌, inl, inr, ap, subst, [], arith}
+use Rattle.std.proofs.Common.{◌≡◌, ℕ, inl, inr, ap, subst, [], arith}
 use Rattle.std.proofs.lemmas.Bool.Decides.{eqb_tells}
 use Rattle.counted_handles.specs.declared.lapsed.Lapse.{Lapse}
 use Rattle.counted_handles.specs.declared.lapsed.Lapse.TheVariants.{Faded, Restored, Freed}

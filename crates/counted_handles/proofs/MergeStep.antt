@@ -1,5 +1,5 @@
 -- A seat that takes an owner in keeps the rule.
-use Rattle.std.proofs.Common.{◌≡◌, ◌≢◌, refl, sym, ap, ◌∙◌, subst, ℕ, zero, suc, ◌+◌, ◌-◌, ⊎_elim, Bool, List, [], ◌∷◌, map, get_or, set, arith, Option, Some, None}
+use Rattle.std.proofs.Common.{◌≡◌, ◌≢◌, refl, sym, ap, ◌∙◌, subst, ℕ, zero, suc, ◌-◌, ⊎_elim, Bool, List, [], ◌∷◌, map, get_or, set, arith, Option, Some, None}
 use Rattle.std.specs.List.{slice_get, slice_set}
 use mathlib.Core.Option.{some, some-injective, some-ne-none}
 use lib.ListN.{get_elem?}

@@ -1,5 +1,5 @@
 -- A note, and a weak owner's fade, keep the rule.
-use Rattle.std.proofs.Common.{◌≡◌, ◌≢◌, refl, sym, ap, ◌∙◌, subst, ℕ, suc, ◌+◌, ◌-◌, ◌%◌, ◌^◌, ◌<◌, inl, inr, List, [], ◌∷◌, get_or, set, arith, Option, Some, None, append-nil}
+use Rattle.std.proofs.Common.{◌≡◌, refl, sym, ap, ◌∙◌, subst, ℕ, suc, ◌+◌, ◌-◌, ◌%◌, ◌^◌, ◌<◌, inl, inr, List, [], get_or, set, arith, Option, Some, None, append-nil}
 use Rattle.std.specs.List.{slice_get, slice_set}
 use Rattle.std.proofs.lemmas.Bool.Decides.{eqb_tells}
 use mathlib.Core.Option.{some, some-injective}
@@ -10,12 +10,12 @@ use Rattle.cell_core.proofs.FadeKeeps.{Outcome, weak_fade_keeps}
 use Rattle.cell_core.proofs.RaiseKeeps.{note_keeps}
 use Rattle.cell_core.proofs.WeakShows.{holding_sees, fade_counts, fade_less}
 use Rattle.cell_core.specs.Cell.{with_weak, without_weak}
-use Rattle.cell_core.specs.Words.{State, slots, grants, notes, slot_of, fetch_add, fetch_sub}
+use Rattle.cell_core.specs.Words.{State, slots, grants, notes, fetch_add, fetch_sub}
 use Rattle.cell_core.specs.WordSteps.{with_owner, with_note, with_slot, with_weak_word}
 use Rattle.cell_core.specs.Shows.{Shows}
 use Rattle.cell_core.specs.Shows.Phase.{live}
 use Rattle.cell_core.specs.declared.words.Version.{Version}
-use Rattle.cell_core.specs.declared.words.Owner.TheVariants.{Holding, Weakly, Both, Fading, Spent}
+use Rattle.cell_core.specs.declared.words.Owner.TheVariants.{Holding, Weakly, Both, Fading}
 use Rattle.counted_handles.specs.declared.view.Mark.{Mark}
 use Rattle.counted_handles.specs.declared.view.Tie.{Tie}
 use Rattle.counted_handles.specs.declared.view.Hold.{Hold}
@@ -28,7 +28,7 @@ use Rattle.counted_handles.specs.Ruled.{RoomSpot, MarkIs, HeldIs, Knows, Holds, 
 use Rattle.counted_handles.specs.Tells.{tie_of, Noted, Faded}
 use Rattle.counted_handles.proofs.Lists.{got_map, got_within, map_set, sum_set, one_there}
 use Rattle.counted_handles.proofs.Slots.{first_kept}
-use Rattle.counted_handles.proofs.Owners.{Plain, joint_noted, taken_up}
+use Rattle.counted_handles.proofs.Owners.{joint_noted, taken_up}
 use Rattle.counted_handles.proofs.FreeSlots.{frees_beside}
 use Rattle.counted_handles.proofs.Frames.{unmoved, home_stays, publisher_here, noted_here, noted_is, not_first, state_is, seat_step, publisher_step, knows_publisher}
 use Rattle.counted_handles.proofs.Live.{slotted, live_room}

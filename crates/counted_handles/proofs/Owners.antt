@@ -1,5 +1,5 @@
 -- Owners that change places, or what they are, without a number gaining or losing one keep what the words show.
-use Rattle.std.proofs.Common.{◌≡◌, ◌≢◌, refl, sym, ap, ◌∙◌, subst, ℕ, ◌+◌, ◌<◌, inl, inr, List, [], ◌∷◌, ◌++◌, length, arith, Some, None}
+use Rattle.std.proofs.Common.{◌≡◌, ◌≢◌, refl, sym, ap, ◌∙◌, subst, ℕ, ◌+◌, inl, inr, List, [], ◌∷◌, ◌++◌, length, arith, Some, None}
 use Rattle.std.specs.Prelude.{◌==◌, if◌then◌else◌}
 use Rattle.std.specs.List.{slice_get, slice_set}
 use Rattle.std.proofs.lemmas.Bool.Decides.{eqb_tells}
@@ -7,7 +7,7 @@ use Rattle.std.proofs.lemmas.Option.{slice_get_within}
 use Rattle.cell_core.proofs.SeatLemmas.{set_cases, get_set_other, get_push_old, get_push_new, push_cases, held_push, held_set, weaks_push, weaks_set}
 use Rattle.cell_core.proofs.FrameLemmas.{charged, table_as, seat_stays, charge_stays, charge_pushed}
 use Rattle.cell_core.specs.Cell.{Cell}
-use Rattle.cell_core.specs.Words.{State, slots}
+use Rattle.cell_core.specs.Words.{State}
 use Rattle.cell_core.specs.WordSteps.{with_owner, with_new_owner}
 use Rattle.cell_core.specs.Shows.{Rest, Plan, InCharge, HasRest, OwnerIs, Shows, held, holds, weaks, has_weakly, kept_by, kept_by_cell, owned_by}
 use Rattle.cell_core.specs.Shows.Rest.{fading, outlived, closing, closed}

@@ -1,5 +1,5 @@
 -- The seats of a weak owner and of a reader, and the version of what an upgrade gives.
-use Rattle.std.proofs.Common.{◌≡◌, sym, ◌∙◌, subst, List, [], ◌∷◌, Result, Ok, Err, IfOk}
+use Rattle.std.proofs.Common.{◌≡◌, sym, ◌∙◌, subst, List, [], ◌∷◌, Result, Ok, IfOk}
 use Rattle.counted_handles.specs.declared.view.Mark.{Mark}
 use Rattle.counted_handles.specs.declared.view.Tie.{Tie}
 use Rattle.counted_handles.specs.declared.view.Reading.{Reading}

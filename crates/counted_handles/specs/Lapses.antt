@@ -1,5 +1,5 @@
 -- The steps of a weak owner's release, by what each saw (own).
-use Rattle.std.specs.Prelude.{◌≡◌, ℕ, ◌<◌, []}
+use Rattle.std.specs.Prelude.{ℕ, ◌<◌}
 use Rattle.counted_handles.specs.declared.lapsed.Lapse.{Lapse}
 use Rattle.counted_handles.specs.declared.lapsed.Lapse.TheVariants.{Faded, Restored, Freed}
 use Rattle.counted_handles.specs.Tells as tells

@@ -1,4 +1,4 @@
-use Rattle.std.proofs.Common.{◌≡◌, refl, sym, ap, ◌∙◌, subst, [], arith}
+use Rattle.std.proofs.Common.{◌∙◌, subst, arith}
 use Rattle.counted_handles.specs.Cuts.{hosting}
 use Rattle.counted_handles.specs.Plays.{SeeTells}
 use Rattle.counted_handles.proofs.HostLemmas.{receive_allowed, find_allowed, depart_splits, found_of}

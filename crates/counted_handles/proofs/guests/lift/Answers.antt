@@ -1,4 +1,4 @@
-use Rattle.std.proofs.Common.{◌≡◌, refl, sym, ap, ◌∙◌, subst, [], arith}
+use Rattle.std.proofs.Common.{ap, ◌∙◌, subst, arith}
 use Rattle.counted_handles.specs.Cuts.{hosting, kept_gain}
 use Rattle.counted_handles.specs.Calls.{with_grant_less}
 use Rattle.counted_handles.specs.Tells.{with_gone}

@@ -1,5 +1,4 @@
-use Rattle.std.proofs.Common.{◌≡◌, refl, sym, ap, ◌∙◌, ◌+◌, subst, [], None, Some, arith}
-use Rattle.counted_handles.specs.declared.view.Hold.TheVariants.{Once, Mixed}
+use Rattle.std.proofs.Common.{refl, ap, ◌∙◌, subst, arith}
 use Rattle.counted_handles.specs.Cuts.{sharing, kept_untied}
 use Rattle.counted_handles.specs.Tells.{tie_of}
 use Rattle.counted_handles.specs.Plays.{NoteTells}

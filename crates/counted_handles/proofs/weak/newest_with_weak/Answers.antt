@@ -1,4 +1,4 @@
-use Rattle.std.proofs.Common.{◌≡◌, refl, sym, ap, ◌∙◌, subst, ◌<◌, [], ◌∷◌}
+use Rattle.std.proofs.Common.{sym, ap, ◌∙◌, subst, ◌<◌, [], ◌∷◌}
 use Rattle.cell_core.specs.Words.{slots}
 use Rattle.counted_handles.specs.declared.view.View.TheVariants.{Publishes, Reads}
 use Rattle.counted_handles.specs.Calls.{IsOld, gave_back}

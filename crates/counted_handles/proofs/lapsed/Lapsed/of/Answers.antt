@@ -1,4 +1,4 @@
-use Rattle.std.proofs.Common.{◌≡◌, refl, sym, ◌∙◌, subst}
+use Rattle.std.proofs.Common.{refl, sym, ◌∙◌, subst}
 use Rattle.counted_handles.specs.declared.view.View.TheVariants.{HasWeakly}
 use Rattle.counted_handles.specs.Lapses.{IsLapsed}
 use Rattle.counted_handles.proofs.CallLemmas.{only_one}
