@@ -176,7 +176,7 @@ impl<T: Drop, C: Names<T>> Cell<T, C> {
         reader: &mut Reader<T>,
     ) -> Result<Strong<'_, T, C>, Spent>
         requires { (publisher.old.cell ≡ self.now) × (reader.old.cell ≡ self.now) }
-        ensures newest { IfOk result (λ strong. (strong ≡ record { number = publisher.old.number; value = publisher.old.value }) × (reader.new ≡ record { cell = self.now; seen = publisher.old.published; left = reader.old.left - 1 }) × (0 < reader.old.left)) }
+        ensures newest { IfOk result (λ strong. (strong ≡ record { number = publisher.old.number; value = publisher.old.value }) × (reader.new ≡ record { cell = self.now; seen = publisher.old.published; left = reader.old.left - 1; gone = reader.old.gone }) × (0 < reader.old.left)) }
         ensures begun { IfOk result (λ _. Begins reader.old.seen publisher.old.published) }
         ensures same { publisher.new ≡ publisher.old }
         ensures spent { IfErr result (λ _. (reader.old.left ≡ 0) × (reader.new ≡ reader.old)) }
