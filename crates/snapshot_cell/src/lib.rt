@@ -13,9 +13,11 @@ mod fault;
 mod named;
 mod named_ending;
 mod tokens;
+mod weak;
 
 pub use cell::{Cell, Parts, StillOut};
-pub use counted_handles::{Names, NoSlot, Released, Steps, Strong};
+pub use counted_handles::{Lapse, Lapsed, Names, NoSlot, Released, Steps, Strong, Weak};
 pub use fault::{NewFault, Spent};
 pub use named::{NamedCell, NamedPublisher, NamedReader, NamedStillOut, Naming};
 pub use tokens::{Publisher, READERS, Reader};
+pub use weak::NamedWeak;
