@@ -10,10 +10,10 @@ use Rattle.counted_handles.specs.declared.view.View.{View}
 use Rattle.counted_handles.specs.declared.view.View.TheVariants.{Publishes}
 use Rattle.counted_handles.specs.Ruled.{RoomSpot, Ruled}
 use Rattle.counted_handles.specs.Cuts.{kept_share, given_share, kept_back, handed_back, kept_dealt, dealt, dealt_grants, kept_met, handed_met, met_guest, lodged, with_reader, reader_of, met_by, gone_of}
-use Rattle.counted_handles.specs.Tells.{Sat, Newest}
-use Rattle.counted_handles.specs.Plays.{NewestTells}
-use Rattle.counted_handles.specs.Calls.{IsNewest}
-use Rattle.counted_handles.proofs.NewestStep.{newests}
+use Rattle.counted_handles.specs.Tells.{Sat, Newest, Greeted}
+use Rattle.counted_handles.specs.Plays.{NewestTells, GreetTells}
+use Rattle.counted_handles.specs.Calls.{IsNewest, IsGreeted}
+use Rattle.counted_handles.proofs.NewestStep.{newests, greets}
 use Rattle.counted_handles.proofs.SplitStep.{splits_reading, splits_met}
 use Rattle.counted_handles.proofs.Later.{splits_later}
 use Rattle.counted_handles.proofs.CallLemmas.{at_seat}
@@ -22,6 +22,10 @@ module _ {T : Type 0} (begins : T → Type 0) (follows : T → T → Type 0) (sp
   pub newest_allowed : (n id : ℕ) (me : Sat T) (p : Publishing T) → n ≡ slots → id ≡ 0 → me ≡ (Publishes p, []) → p.share ≡ None → 0 < p.left → Allows (Ruled begins follows spots) n id me 0 (λ k. (k + 1) % 2 ^ 64) (λ found new. NewestTells begins follows me.0 found new)
   newest_allowed n id me p count seat is whole some_left =
       at_seat begins follows spots n id 0 0 me (Publishes p, []) (λ k. (k + 1) % 2 ^ 64) (λ m found new. NewestTells begins follows m.0 found new) count seat is tt (newests begins follows spots p whole some_left)
+
+  pub greet_allowed : (n id : ℕ) (me : Sat T) (p : Publishing T) → n ≡ slots → id ≡ 0 → me ≡ (Publishes p, []) → Allows (Ruled begins follows spots) n id me 0 (λ k. k) (λ _ new. GreetTells me.0 new)
+  greet_allowed n id me p count seat is =
+      at_seat begins follows spots n id 0 0 me (Publishes p, []) (λ k. k) (λ m _ new. GreetTells m.0 new) count seat is tt (greets begins follows spots p)
 
   pub rest_splits : (id : ℕ) (view : View T) (p : Publishing T) → view ≡ Publishes p → p.share ≡ None → Splits (Ruled begins follows spots) id view (kept_back view) (handed_back view)
   rest_splits id view p is whole =
@@ -58,4 +62,17 @@ module _ {T : Type 0} (begins : T → Type 0) (follows : T → T → Type 0) (sp
         share_is = is_share ∙ ap (λ (m : Sat T). (given_share m.0, [])) told.1;
         reader_is = is_reader ∙ ap (λ (m : Sat T). (handed_met m.0, [])) kept_is ∙ ap (λ n. (met_by p r.gone n, [])) rest;
         begun = told.3.0.2;
+      }
+
+  abbrev pub greeted_as : Publishing T → Reading T → Publishing T
+  greeted_as p r = record (lodged p r) { fixed = None }
+
+  pub greeted_of : (p : Publishing T) (r : Reading T) (greeted last reader : Sat T) → p.left ≡ 0 → Greeted (lodged p r) greeted → last ≡ (kept_met greeted.0, greeted.1) → reader ≡ (handed_met greeted.0, []) → IsGreeted p r last reader
+  greeted_of p r greeted last reader none_left told is_last is_reader =
+      let rest : p.left + r.left ≡ r.left = omega (arith, none_left) in
+      let nothing : p.left + r.left - (p.left + r.left) ≡ 0 = omega arith in
+      record {
+        me_is = is_last ∙ ap (λ (m : Sat T). (kept_met m.0, m.1)) told.0 ∙ (λ i. (Publishes (record p { left = nothing i; readers = p.readers - 1 + 1; fixed = None }), []));
+        reader_is = is_reader ∙ ap (λ (m : Sat T). (handed_met m.0, [])) told.0 ∙ ap (λ n. (met_by p r.gone n, [])) rest;
+        begun = told.1.0.2;
       }

@@ -1,4 +1,4 @@
--- A load by the publisher keeps the rule, and so does its look at W.
+-- A load by the publisher keeps the rule, and so do its looks at W.
 use Rattle.std.proofs.Common.{◌≡◌, refl, sym, ap, ◌∙◌, subst, ℕ, ◌+◌, ◌-◌, ◌%◌, ◌^◌, ◌<◌, List, [], length, get_or, set, arith, Some, None, append-nil}
 use Rattle.std.specs.List.{slice_get}
 use Rattle.atomic_table.specs.Table.{Allows, keeps}
@@ -16,7 +16,7 @@ use Rattle.counted_handles.specs.declared.view.Hold.TheVariants.{Once}
 use Rattle.counted_handles.specs.declared.view.View.TheVariants.{Publishes}
 use Rattle.counted_handles.specs.Shown.{held_by, owner_of, left_of, slots_in, shown}
 use Rattle.counted_handles.specs.Ruled.{RoomSpot, Holds}
-use Rattle.counted_handles.specs.Tells.{Newest, Looked}
+use Rattle.counted_handles.specs.Tells.{Newest, Looked, Greeted}
 use Rattle.counted_handles.specs.History.{IsHistory}
 use Rattle.counted_handles.proofs.Lists.{map_set, sum_set, sum_has}
 use Rattle.counted_handles.proofs.Slots.{behind_first, first_set}
@@ -128,4 +128,44 @@ module _ {T : Type 0} (begins : T → Type 0) (follows : T → T → Type 0) (sp
           others = λ j view other e. unmoved s.homes h.name view;
         }),
         (subst (λ k. k < slots) (sym (latest_slot st h.cell h.shows)) lies.0, refl),
+      )
+
+  pub greets : (p : Publishing T) → Allows (Holds begins follows spots) slots 0 (Publishes p, []) 0 (λ n. n) (λ found me. Greeted p me)
+  greets p s h size at bound =
+      let st : State T = shown s in
+      let found : ℕ = get_or s.words 0 0 in
+      let words : List ℕ = set s.words 0 found in
+      let new : Publishing T = record p { fixed = None } in
+      let known = h.knows 0 (Publishes p) at in
+      let counts = knows_publisher begins follows spots s h p at in
+      let lies = last_lies st h.cell h.shows in
+      let there = slotted s h (h.shows.plan.slot h.shows.plan.last) lies.0 in
+      let first = first_set s.words s.homes (h.shows.plan.slot h.shows.plan.last) found there.there there.at in
+      let after : State T = shown (record { words = words; homes = s.homes; views = set s.views 0 (Publishes new) }) in
+      let same : after ≡ st = shown_publisher s words s.homes p new st.latest st.table at refl refl refl first (ap (λ w. slots_in w s.homes) (behind_first s.words found))
+      ∙ ap (λ x. record st { publisher = x }) (sym (how_is s p at)) in (
+        Publishes new,
+        keeps,
+        tt,
+        publisher_step begins follows spots s h words s.homes p new (record {
+          at = at;
+          cell = h.cell;
+          begun = ([], append-nil h.cell.published);
+          history = h.history;
+          shows = subst (λ x. Shows x h.cell) (sym same) h.shows;
+          left = omega arith;
+          readers = refl;
+          guests = counts.guests;
+          sunk = counts.sunk;
+          gone = λ j u. u;
+          fixed = λ w e. absurd (let wrong = e in cc);
+          free = λ w k e q. absurd (let wrong = e in cc);
+          homes_are = λ place home e. home_stays spots h.name st after place home
+              (λ q. ap (λ (x : State T). x.publisher) same ∙ q)
+              (λ i q. ap (λ (x : State T). slice_get x.owners i) same ∙ q)
+              (h.homes place home e);
+          mine = (known.0, known.1, known.2, known.3);
+          others = λ j view other e. unmoved s.homes h.name view;
+        }),
+        (refl, counts.guests),
       )

@@ -108,6 +108,13 @@ pub record IsNewest {T : Type 0} (begins : T → Type 0) (follows : T → T → 
   pub reader_is : reader ≡ (met_by p r.gone (r.left - 1), [])
   pub begun : Begins r.seen p.published
 
+-- what the publisher's look for a reader leaves that it took in: its own seat, and the reader's, which has seen all that is published, of
+-- which it had seen a beginning (own)
+pub record IsGreeted {T : Type 0} (p : Publishing T) (r : Reading T) (me reader : Sat T) : Type 0 where
+  pub me_is : me ≡ (Publishes (gave_back p), [])
+  pub reader_is : reader ≡ (met_by p r.gone r.left, [])
+  pub begun : Begins r.seen p.published
+
 -- the first seat has slot 0's place, with the first version in it, shared: it is to be given back (own)
 pub record IsOffering {T : Type 0} (begins : T → Type 0) (value : T) (name : ℕ) (spot : RoomSpot T) (me : Sat T) : Type 0 where
   pub room : Room T
@@ -201,6 +208,16 @@ pub record IsOwnLast {T : Type 0} (p : Publishing T) (r : Reading T) (views read
   pub views_are : views ≡ Publishes (gave_back p) ∷ []
   pub reader_is : reader ≡ met_by p r.gone (r.left - 1) ∷ []
   pub begun : Begins r.seen p.published
+
+-- what such a look gives its caller: the reader has seen all that is published, of which it had seen a beginning (own)
+pub record HasMet {T : Type 0} (p : Publishing T) (r : Reading T) (views reader : List (View T)) : Type 0 where
+  pub views_are : views ≡ Publishes (gave_back p) ∷ []
+  pub reader_is : reader ≡ met_by p r.gone r.left ∷ []
+  pub begun : Begins r.seen p.published
+
+-- a reader's token with no share that isn't split off (own)
+abbrev pub CanMeet : {T : Type 0} → Reading T → List (View T) → Type 0
+CanMeet r views = (views ≡ Reads r ∷ []) × (r.share ≡ None)
 
 -- the publisher with a reader that it took in last, and others before it (own)
 pub record IsHost {T : Type 0} (p : Publishing T) (r : Reading T) (rest : List (Reading T)) (views : List (View T)) : Type 0 where

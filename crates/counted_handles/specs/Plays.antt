@@ -9,7 +9,7 @@ use Rattle.counted_handles.specs.declared.view.Hold.TheVariants.{Once, Double, L
 use Rattle.counted_handles.specs.declared.view.View.{View}
 use Rattle.counted_handles.specs.declared.view.View.TheVariants.{Begin, Began, Publishes, Reads, Hosts, Has, HasWeakly, Buries, Fades, Resets, Frees, Ends}
 use Rattle.counted_handles.specs.Ruled.{stake_of, mark_of, first_version}
-use Rattle.counted_handles.specs.Tells.{Sat, Loaded, Newest, Released, Tried, Faded, Restored, Freed, Noted, Cloned, Lifted, SeenBy, SeenAlive, Probed, Prepared, Swapped, IsSettled, Looked, Swept, Skipped, EndsAt, Shut, IsOpened, Offered}
+use Rattle.counted_handles.specs.Tells.{Sat, Loaded, Newest, Greeted, Released, Tried, Faded, Restored, Freed, Noted, Cloned, Lifted, SeenBy, SeenAlive, Probed, Prepared, Swapped, IsSettled, Looked, Swept, Skipped, EndsAt, Shut, IsOpened, Offered}
 
 -- load (own)
 abbrev pub LoadTells : {T : Type 0} → (T → Type 0) → (T → T → Type 0) → View T → ℕ → Sat T → Type 0
@@ -20,6 +20,11 @@ LoadTells begins follows view found me = ⊥
 abbrev pub NewestTells : {T : Type 0} → (T → Type 0) → (T → T → Type 0) → View T → ℕ → Sat T → Type 0
 NewestTells begins follows (Publishes p) found me = Newest begins follows p found me
 NewestTells begins follows view found me = ⊥
+
+-- greet (own)
+abbrev pub GreetTells : {T : Type 0} → View T → Sat T → Type 0
+GreetTells (Publishes p) me = Greeted p me
+GreetTells view me = ⊥
 
 -- release (own)
 abbrev pub ReleaseTells : {T : Type 0} → View T → ℕ → Sat T → Type 0

@@ -122,6 +122,10 @@ Newest {T} begins follows p found me =
     × IsLastMark begins follows p.published p.name found mark
     × AreGuests p.name p.published p.guests
 
+-- greet: a look by the publisher, which costs no grant: the readers that it has taken in had seen beginnings of what is published (own)
+abbrev pub Greeted : {T : Type 0} → Publishing T → Sat T → Type 0
+Greeted p me = (me ≡ (Publishes (record p { fixed = None }), [])) × AreGuests p.name p.published p.guests
+
 -- the weak owner of a share's version (own)
 abbrev pub tie_of : {T : Type 0} → Mark T → Tie T
 tie_of mark = record { number = mark.number; slot = mark.slot; value = mark.value; name = mark.name }

@@ -9,7 +9,7 @@ ghost use Rattle.counted_handles.specs.Ruled.{RoomSpot, stake_of, mark_of, versi
 ghost use Rattle.counted_handles.specs.Shown.{Room};
 ghost use Rattle.counted_handles.specs.Tells.{IsTaken, Released, Tried, Faded, IsSettled, Swapped, Prepared, Looked, IsOpened, Offered};
 ghost use Rattle.counted_handles.specs.declared.view.Reading.{Reading};
-ghost use Rattle.counted_handles.specs.Calls.{CanRead, Fits, AreSpots, Drawn, IsProbing, IsReady, IsSwapping, IsSettling, IsSwappedIn, IsIdle, IsGuest, IsNewest, IsOffering, IsLoaded};
+ghost use Rattle.counted_handles.specs.Calls.{CanRead, Fits, AreSpots, Drawn, IsProbing, IsReady, IsSwapping, IsSettling, IsSwappedIn, IsIdle, IsGuest, IsWhole, IsNewest, IsGreeted, IsOffering, IsLoaded};
 
 use crate::names::Names;
 use crate::plays;
@@ -216,6 +216,22 @@ pub(crate) fn draw_newest<T, C: Names<T>>(
     let share = words.split_seat::<Shares>(seat);
     let reader = words.split_seat::<plays::Meets>(seat);
     (found, share, reader)
+}
+
+// The publisher's look at W for a reader that it takes in: the reader's seat, which has then seen all that is published.
+pub(crate) fn greet<T, C: Names<T>>(
+    words: &Words<T, C>,
+    seat: &mut Seat<Room<T>, View<T>>,
+    guest: Seat<Room<T>, View<T>>,
+) -> Seat<Room<T>, View<T>>
+    requires fits { Fits words.now.table_id × (seat.old.table_id ≡ words.now.table_id) × (seat.old.id ≡ 0) × (guest.table_id ≡ words.now.table_id) }
+    requires idle { (p : Publishing T) × (r : Reading T) × IsIdle p seat.old.me × IsWhole r guest.me }
+    ensures seats { (seat.new.table_id ≡ seat.old.table_id) × (seat.new.id ≡ seat.old.id) × (result.table_id ≡ seat.old.table_id) }
+    ensures greeted { (p : Publishing T) (r : Reading T) → IsIdle p seat.old.me → IsWhole r guest.me → IsGreeted p r seat.new.me result.me }
+{
+    words.join_seat::<plays::Lodges>(seat, guest);
+    words.load::<plays::Greets>(seat, 0);
+    words.split_seat::<plays::Meets>(seat)
 }
 
 // The publisher's look at W while no reader is about: nobody else changes W then.

@@ -5,9 +5,9 @@ ghost use Rattle.counted_handles.specs.declared.view.Publishing.{Publishing};
 ghost use Rattle.counted_handles.specs.declared.view.Reading.{Reading};
 ghost use Rattle.counted_handles.specs.History.{IsHistory};
 ghost use Rattle.counted_handles.specs.Tells.{IsTaken};
-ghost use Rattle.counted_handles.specs.Calls.{Fits, AreSpots, CanRead, IsPut, CanPublish, IsOld, IsNewer, IsAtRest, IsOwnLast};
+ghost use Rattle.counted_handles.specs.Calls.{Fits, AreSpots, CanRead, IsPut, CanPublish, IsOld, IsNewer, IsAtRest, IsOwnLast, CanMeet, HasMet};
 
-use crate::calls::{SPAN, Words, draw_newest, shelve, swap_in, take};
+use crate::calls::{SPAN, Words, draw_newest, greet, shelve, swap_in, take};
 use crate::names::Names;
 use crate::owner::{Strong, own};
 use crate::plays::{About, Puts};
@@ -101,4 +101,23 @@ pub fn newest<'a, T: Drop, C: Names<T>>(
     *badge = seat.into_badge();
     *reader = rest.into_badge();
     own(words, spots, share, (found / SPAN) as usize)
+}
+
+/// The reader sees all that this publisher has published, of which it had seen a beginning, for no grant: one look at W. It waits
+/// for nobody.
+pub fn meet<T, C: Names<T>>(
+    words: &Words<T, C>,
+    badge: &mut Badge<View<T>>,
+    reader: &mut Badge<View<T>>,
+)
+    requires fits { Fits words.now.table_id × (badge.old.table_id ≡ words.now.table_id) × (badge.old.id ≡ 0) × (reader.old.table_id ≡ words.now.table_id) }
+    requires can { (p : Publishing T) × (r : Reading T) × IsAtRest p badge.old.views × CanMeet r reader.old.views }
+    ensures badges { (badge.new.table_id ≡ badge.old.table_id) × (badge.new.id ≡ badge.old.id) × (reader.new.table_id ≡ words.now.table_id) }
+    ensures met { (p : Publishing T) (r : Reading T) → IsAtRest p badge.old.views → CanMeet r reader.old.views → HasMet p r badge.new.views reader.new.views }
+{
+    let mut seat = mem::replace(badge, Badge::blank()).into_seat();
+    let guest = mem::replace(reader, Badge::blank()).into_seat();
+    let rest = greet(words, &mut seat, guest);
+    *badge = seat.into_badge();
+    *reader = rest.into_badge();
 }
