@@ -1,7 +1,6 @@
 -- What is in hand where a call begins, and where it ends.
 use Rattle.std.proofs.Common.{◌≡◌, refl, sym, ap, ◌∙◌, subst, ℕ, ◌+◌, ◌-◌, ◌≤◌, Bool, true, false, inl, inr, List, [], ◌∷◌, ◌++◌, length, drop, arith, Option, Some, None, length-append}
-use Rattle.std.proofs.lemmas.List.{append-nil, map-append, drop-map}
-use Rattle.std.specs.Prelude.{◌==◌, ◌||◌, nat_lt, remove, bytes_eq, if◌then◌else◌}
+use Rattle.std.specs.Prelude.{◌==◌, ◌||◌, is_some, nat_lt, remove, bytes_eq, if◌then◌else◌}
 use Rattle.std.proofs.lemmas.Bool.{cases_Bool, ltb-true, ltb-false}
 use Rattle.std.proofs.lemmas.Slice.Eq.{bytes_eq-Decides}
 use Rattle.cell_core.proofs.CountLemmas.{one_if}
@@ -15,7 +14,7 @@ use Rattle.world_run.specs.declared.phase.End.TheVariants.{Owned, OwnedWeakly, T
 use Rattle.world_run.specs.declared.entries.Entry.{Entry}
 use Rattle.world_run.specs.declared.phase.Keeping.{Keeping}
 use Rattle.world_run.specs.declared.sending.Sending.{Sending}
-use Rattle.world_run.specs.Entries.{owners_in, leaving}
+use Rattle.world_run.specs.Entries.{leaving}
 use Rattle.world_run.specs.declared.phase.Purpose.TheVariants as purpose
 use Rattle.world_run.specs.declared.names.Named.{Named}
 use Rattle.world_run.specs.declared.calls.UnderWay.{UnderWay}
@@ -27,7 +26,7 @@ use Rattle.world_run.specs.World.{owner_of, without_name, names_at, weak_names_a
 use Rattle.world_laws.proofs.OtherCalls.{any_update}
 use Rattle.world_laws.proofs.HandLemmas.{Hand, Seat, HandIs, AllFit, Seated, times, times_append, fit_append, fit_front, fit_back, seated_as}
 use Rattle.world_laws.proofs.HandLemmas.Hand.{holds, has, weakly}
-use Rattle.world_laws.proofs.HandSeats.{Zones, Stays, AsStays, seat, phase_seats, weak_seats, entry_seats, serial_of_entry, staying, early_seats, late_seats, StaysIn, swapped_for, swapped_in}
+use Rattle.world_laws.proofs.HandSeats.{Zones, Stays, AsStays, EntersIf, seat, phase_seats, window_seats, entry_seats, serial_of_entry, staying, early_seats, late_seats, StaysIn, swapped_for, swapped_in}
 use Rattle.world_laws.proofs.HandTurns.{times_four, fit_four, fits_four}
 use Rattle.world_laws.proofs.HandWorld.{Store, stays_of, store_left, seats_as, both_seats, kept_seats, kept_left, call_seats, AllStay, swaps_of, reserved_by, weak_reserved_by, named_by, rest_seats, Open, nothing_apart}
 use Rattle.world_laws.proofs.HandStore.{seated_kept, seated_given}
@@ -110,6 +109,7 @@ told_closed words names weaks store calls given o = record {
   swapped = o.swapped;
   kept_count = o.kept_count;
   kept_from = o.kept_from;
+  shut = o.shut;
   alone = o.alone;
   one = o.one;
   still = tt;
@@ -148,7 +148,7 @@ given_seats owners x more both kept_ones calls fits count s =
     omega (arith, a, b, d)
     )) s
 
-owned_closed : (words : Zones) (names weaks : List Named) (store : Store) (calls : List UnderWay) (name : List ℕ) (owner number : ℕ) → Open words names weaks store calls (Done (Owned name owner number)) → Open words (names ++ record { name = name; owner = owner } ∷ []) weaks kept keep calls nothing_apart
+owned_closed : (words : Zones) (names weaks : List Named) (store : Store) (calls : List UnderWay) (name : List ℕ) (owner number : ℕ) → Open words names weaks store calls (Done (Owned name owner number)) → Open words (names ++ record { name = name; owner = owner } ∷ []) weaks store calls nothing_apart
 owned_closed words names weaks store calls name owner number o =
     let x : Named = record { name = name; owner = owner } in
     let kept_ones = store_left o.from store (any_update calls) in
@@ -166,6 +166,7 @@ owned_closed words names weaks store calls name owner number o =
       swapped = o.swapped;
       kept_count = o.kept_count;
       kept_from = o.kept_from;
+      shut = o.shut;
       alone = o.alone;
       one = o.one;
       still = tt;
@@ -179,7 +180,7 @@ owned_closed words names weaks store calls name owner number o =
       calls_once = o.calls_once;
     }
 
-weakly_closed : (words : Zones) (names weaks : List Named) (store : Store) (calls : List UnderWay) (name : List ℕ) (owner number : ℕ) → Open words names weaks store calls (Done (OwnedWeakly name owner number)) → Open words names (weaks ++ record { name = name; owner = owner } ∷ []) kept keep calls nothing_apart
+weakly_closed : (words : Zones) (names weaks : List Named) (store : Store) (calls : List UnderWay) (name : List ℕ) (owner number : ℕ) → Open words names weaks store calls (Done (OwnedWeakly name owner number)) → Open words names (weaks ++ record { name = name; owner = owner } ∷ []) store calls nothing_apart
 weakly_closed words names weaks store calls name owner number o =
     let x : Named = record { name = name; owner = owner } in
     let kept_ones = store_left o.from store (any_update calls) in
@@ -197,6 +198,7 @@ weakly_closed words names weaks store calls name owner number o =
       swapped = o.swapped;
       kept_count = o.kept_count;
       kept_from = o.kept_from;
+      shut = o.shut;
       alone = o.alone;
       one = o.one;
       still = tt;
@@ -223,6 +225,7 @@ no_slot_closed words names weaks store calls head o =
       swapped = o.swapped;
       kept_count = o.kept_count;
       kept_from = o.kept_from;
+      shut = o.shut;
       alone = λ e. none;
       one = o.one;
       still = tt;
@@ -292,13 +295,13 @@ old_phase (phase.Enter given kept keeping) stays e = absurd (let wrong = e in cc
 old_phase (phase.Release owner purpose.Drop) stays e = tt
 old_phase (phase.Release owner (purpose.Sent sending owners)) stays e = tt
 old_phase (phase.Release owner (purpose.Publish keeping kept entry)) stays e = absurd (let wrong = e in cc)
-old_phase (phase.Release owner (purpose.Oldest head kept entry leaving)) stays e = tt
-old_phase (phase.Release owner (purpose.Leaves head kept entry leaving)) stays e = tt
+old_phase (phase.Release owner (purpose.Oldest head kept entry leaving)) stays e = absurd (let wrong = e in cc)
+old_phase (phase.Release owner (purpose.Leaves head kept entry leaving)) stays e = absurd (let wrong = e in cc)
 old_phase (phase.Bury owner purpose.Drop) stays e = tt
 old_phase (phase.Bury owner (purpose.Sent sending owners)) stays e = tt
 old_phase (phase.Bury owner (purpose.Publish keeping kept entry)) stays e = absurd (let wrong = e in cc)
-old_phase (phase.Bury owner (purpose.Oldest head kept entry leaving)) stays e = tt
-old_phase (phase.Bury owner (purpose.Leaves head kept entry leaving)) stays e = tt
+old_phase (phase.Bury owner (purpose.Oldest head kept entry leaving)) stays e = absurd (let wrong = e in cc)
+old_phase (phase.Bury owner (purpose.Leaves head kept entry leaving)) stays e = absurd (let wrong = e in cc)
 old_phase (phase.Fade owner number purpose.Drop) stays e = tt
 old_phase (phase.Fade owner number (purpose.Sent sending owners)) stays e = tt
 old_phase (phase.Reset owner number purpose.Drop) stays e = tt
@@ -308,12 +311,12 @@ old_phase (phase.Free owner number (purpose.Sent sending owners)) stays e = tt
 old_phase (phase.Fade owner number (purpose.Publish keeping kept entry)) stays e = absurd (let wrong = e in cc)
 old_phase (phase.Reset owner number (purpose.Publish keeping kept entry)) stays e = absurd (let wrong = e in cc)
 old_phase (phase.Free owner number (purpose.Publish keeping kept entry)) stays e = absurd (let wrong = e in cc)
-old_phase (phase.Fade owner number (purpose.Oldest head kept entry leaving)) stays e = tt
-old_phase (phase.Fade owner number (purpose.Leaves head kept entry leaving)) stays e = tt
-old_phase (phase.Reset owner number (purpose.Oldest head kept entry leaving)) stays e = tt
-old_phase (phase.Reset owner number (purpose.Leaves head kept entry leaving)) stays e = tt
-old_phase (phase.Free owner number (purpose.Oldest head kept entry leaving)) stays e = tt
-old_phase (phase.Free owner number (purpose.Leaves head kept entry leaving)) stays e = tt
+old_phase (phase.Fade owner number (purpose.Oldest head kept entry leaving)) stays e = absurd (let wrong = e in cc)
+old_phase (phase.Fade owner number (purpose.Leaves head kept entry leaving)) stays e = absurd (let wrong = e in cc)
+old_phase (phase.Reset owner number (purpose.Oldest head kept entry leaving)) stays e = absurd (let wrong = e in cc)
+old_phase (phase.Reset owner number (purpose.Leaves head kept entry leaving)) stays e = absurd (let wrong = e in cc)
+old_phase (phase.Free owner number (purpose.Oldest head kept entry leaving)) stays e = absurd (let wrong = e in cc)
+old_phase (phase.Free owner number (purpose.Leaves head kept entry leaving)) stays e = absurd (let wrong = e in cc)
 
 or_false : (a b : Bool) → (a || b) ≡ false → (a ≡ false) × (b ≡ false)
 or_false true b e = absurd (let wrong = e in cc)
@@ -368,20 +371,36 @@ no_swaps (c ∷ cs) e =
 abbrev pub store_at : End → Store → Store
 store_at end store = record { kept = kept_at store.keep end store.kept; keep = store.keep; entries = entries_at store.window end store.entries; window = store.window }
 
-weak_more : (owners : List ℕ) (owner : ℕ) → weak_seats (owners ++ owner ∷ []) ≡ weak_seats owners ++ seat owner weakly ∷ []
-weak_more [] owner = refl
-weak_more (o ∷ os) owner = ap (λ ss. seat o weakly ∷ ss) (weak_more os owner)
+-- what stays of the window, with what is entered, is the window of one version more
+window_more : (owners : List Owner) (total last : ℕ) (entries : List Entry) (entry : Entry) → total ≡ last → AllFit owners (window_seats total entries) → AllFit owners (entry_seats last (Some entry)) → AllFit owners (window_seats (last + 1) (entries ++ entry ∷ []))
+window_more owners total last [] entry same f g = g
+window_more owners total last (e ∷ entries) entry same f g =
+    let count = length-append entries (entry ∷ []) in
+    let numbered = f.0.0 in
+    ((omega (arith, count, numbered, same), f.0.1, f.0.2), window_more owners total last entries entry same f.1 g)
 
-owners_entered : (n : ℕ) (entries : List Entry) (entry : Entry) → owners_in (drop n entries ++ entry ∷ []) ≡ drop n (owners_in entries) ++ entry.owner ∷ []
-owners_entered n entries entry =
-    map-append (λ (e : Entry). e.owner) (drop n entries) (entry ∷ []) ∙ ap (λ os. os ++ entry.owner ∷ []) (sym (drop-map (λ (e : Entry). e.owner) n entries))
+window_now : (owners : List Owner) (store : Store) (head : Heading) (owner total last : ℕ) (entry : Option Entry) → EntersIf (stays_of store) (is_some entry) → (nat_lt 0 store.window ≡ false → store.entries ≡ []) → total ≡ last → AllFit owners (window_seats total (staying (stays_of store) (serial_of_entry entry))) → AllFit owners (entry_seats last entry)
+    → AllFit owners (window_seats (last + 1) (entries_at store.window (Kept head owner entry) store.entries))
+window_now owners store head owner total last None is shut same f g = subst (λ es. AllFit owners (window_seats (last + 1) es)) (sym (shut (sym is))) tt
+window_now owners store head owner total last (Some entry) is shut same f g = window_more owners total last (drop (length (leaving store.window store.entries entry.serial.0)) store.entries) entry same f g
 
--- what stays of the window, and what is entered
-window_now : (store : Store) (head : Heading) (owner : ℕ) (entry : Option Entry) → weak_seats (owners_in (entries_at store.window (Kept head owner entry) store.entries)) ≡ weak_seats (staying (stays_of store) (serial_of_entry entry)) ++ entry_seats entry
-window_now store head owner None = sym (append-nil (weak_seats (owners_in store.entries)))
-window_now store head owner (Some entry) =
-    ap weak_seats (owners_entered (length (leaving store.window store.entries entry.serial.0)) store.entries entry)
-    ∙ weak_more (drop (length (leaving store.window store.entries entry.serial.0)) (owners_in store.entries)) entry.owner
+-- whatever the total is
+window_times : (i one two : ℕ) (entries : List Entry) → times i (window_seats one entries) ≡ times i (window_seats two entries)
+window_times i one two [] = refl
+window_times i one two (e ∷ entries) = let more = window_times i one two entries in omega (arith, more)
+
+window_push : (i one two : ℕ) (entries : List Entry) (entry : Entry) → times i (window_seats one (entries ++ entry ∷ [])) ≡ times i (window_seats two entries) + one_if (entry.owner == i)
+window_push i one two [] entry = omega arith
+window_push i one two (e ∷ entries) entry = let more = window_push i one two entries entry in omega (arith, more)
+
+window_count : (i one two last : ℕ) (store : Store) (head : Heading) (owner : ℕ) (entry : Option Entry) → times i (window_seats one (entries_at store.window (Kept head owner entry) store.entries)) ≡ times i (window_seats two (staying (stays_of store) (serial_of_entry entry))) + times i (entry_seats last entry)
+window_count i one two last store head owner None = let same = window_times i one two store.entries in omega (arith, same)
+window_count i one two last store head owner (Some entry) = let push = window_push i one two (drop (length (leaving store.window store.entries entry.serial.0)) store.entries) entry in omega (arith, push)
+
+-- where there is no window, none is entered
+shut_now : (store : Store) (head : Heading) (owner : ℕ) (entry : Option Entry) → EntersIf (stays_of store) (is_some entry) → (nat_lt 0 store.window ≡ false → store.entries ≡ []) → nat_lt 0 store.window ≡ false → entries_at store.window (Kept head owner entry) store.entries ≡ []
+shut_now store head owner None is shut e = shut e
+shut_now store head owner (Some entry) is shut e = absurd (let wrong : true ≡ false = is ∙ e in cc)
 
 kept_closed : (words : Zones) (names weaks : List Named) (store : Store) (calls : List UnderWay) (head : Heading) (owner : ℕ) (entry : Option Entry) → Open words names weaks store calls (Done (Kept head owner entry)) → Open words names weaks (store_at (Kept head owner entry) store) calls nothing_apart
 kept_closed words names weaks store calls head owner entry o =
@@ -391,31 +410,31 @@ kept_closed words names weaks store calls head owner entry o =
     let entries = entries_at store.window (Kept head owner entry) store.entries in
     let next : Store = record { kept = k.now; keep = store.keep; entries = entries; window = store.window } in
     let others = same_calls calls o.last o.last o.from k.first (stays_of store) (stays_of next) none in
-    let mine = seat owner (has o.last) ∷ late_seats (stays_of store) entry [] in
-    let stay = staying (stays_of store) (serial_of_entry entry) in
+    let total : ℕ = o.from + length store.kept in
+    let settled : total ≡ o.last = omega (arith, o.swapped, swaps, o.kept_count) in
+    let mine = seat owner (has o.last) ∷ late_seats o.last o.from (stays_of store) entry [] in
+    let stay = window_seats total (staying (stays_of store) (serial_of_entry entry)) in
     let all = fits_four words.owners mine (both_seats names weaks) (store_left o.from store true) (call_seats o.last o.from (stays_of store) calls) o.seated.fit in
-    let entry_fit = fit_front words.owners (entry_seats entry) (weak_seats stay) all.0.1 in
-    let stay_fit = fit_back words.owners (entry_seats entry) (weak_seats stay) all.0.1 in
-    let window_is = window_now store head owner entry in
+    let entry_fit = fit_front words.owners (entry_seats o.last entry) stay all.0.1 in
+    let stay_fit = fit_back words.owners (entry_seats o.last entry) stay all.0.1 in
     let kept_fit = subst (λ ss. AllFit words.owners ss) (sym k.seats) (fit_append words.owners (kept_left o.from store.keep store.kept true) (seat owner (has o.last) ∷ []) (fit_front words.owners (kept_left o.from store.keep store.kept true) [] all.2) (all.0.0, tt)) in
-    let window_fit = subst (λ ss. AllFit words.owners ss) (sym window_is) (fit_append words.owners (weak_seats stay) (entry_seats entry) stay_fit entry_fit) in
+    let window_fit = subst (λ n. AllFit words.owners (window_seats n entries)) (sym k.count) (window_now words.owners store head owner total o.last entry o.still o.shut settled stay_fit entry_fit) in
     let s : Seated words.owners (rest_seats o.last k.first names weaks next calls false) =
     seated_as words.owners _ (rest_seats o.last k.first names weaks next calls false)
     (fit_four words.owners [] (both_seats names weaks) (store_left k.first next false) (call_seats o.last k.first (stays_of next) calls) tt all.1
-    (fit_append words.owners (kept_seats k.first k.now) (weak_seats (owners_in entries)) kept_fit window_fit)
+    (fit_append words.owners (kept_seats k.first k.now) (window_seats (k.first + length k.now) entries) kept_fit window_fit)
     (subst (λ ss. AllFit words.owners ss) others all.3))
     (λ i. (
     let a = times_four i mine (both_seats names weaks) (store_left o.from store true) (call_seats o.last o.from (stays_of store) calls) in
     let b = times_four i [] (both_seats names weaks) (store_left k.first next false) (call_seats o.last k.first (stays_of next) calls) in
-    let c = times_append i (kept_seats k.first k.now) (weak_seats (owners_in entries)) in
+    let c = times_append i (kept_seats k.first k.now) (window_seats (k.first + length k.now) entries) in
     let d : times i (kept_seats k.first k.now) ≡ times i (kept_left o.from store.keep store.kept true ++ seat owner (has o.last) ∷ []) = ap (times i) k.seats in
     let f = times_append i (kept_left o.from store.keep store.kept true) (seat owner (has o.last) ∷ []) in
     let g : times i (call_seats o.last o.from (stays_of store) calls) ≡ times i (call_seats o.last k.first (stays_of next) calls) = ap (times i) others in
-    let h : times i (weak_seats (owners_in entries)) ≡ times i (weak_seats stay ++ entry_seats entry) = ap (times i) window_is in
-    let j = times_append i (weak_seats stay) (entry_seats entry) in
-    let l = times_append i (entry_seats entry) (weak_seats stay) in
+    let h = window_count i (k.first + length k.now) total o.last store head owner entry in
+    let l = times_append i (entry_seats o.last entry) stay in
     let m = times_append i (kept_left o.from store.keep store.kept true) [] in
-    omega (arith, a, b, c, d, f, g, h, j, l, m)
+    omega (arith, a, b, c, d, f, g, h, l, m)
     )) o.seated in
     let later : Open words names weaks next calls nothing_apart = record {
       cell = o.cell;
@@ -427,6 +446,7 @@ kept_closed words names weaks store calls head owner entry o =
       swapped = omega (arith, swaps);
       kept_count = k.count;
       kept_from = k.first_is;
+      shut = shut_now store head owner entry o.still o.shut;
       alone = λ e. none;
       one = o.one;
       still = tt;
@@ -450,6 +470,7 @@ sent_closed words names weaks store calls sending o = record {
   swapped = o.swapped;
   kept_count = o.kept_count;
   kept_from = o.kept_from;
+  shut = o.shut;
   alone = o.alone;
   one = o.one;
   still = tt;
@@ -496,6 +517,7 @@ load_open words names weaks store calls name unnamed unreserved o = record {
   swapped = o.swapped;
   kept_count = o.kept_count;
   kept_from = o.kept_from;
+  shut = o.shut;
   alone = o.alone;
   one = o.one;
   still = tt;
@@ -519,6 +541,7 @@ look_open words names weaks store calls name owner unnamed unreserved o = record
   swapped = o.swapped;
   kept_count = o.kept_count;
   kept_from = o.kept_from;
+  shut = o.shut;
   alone = o.alone;
   one = o.one;
   still = tt;
@@ -542,6 +565,7 @@ raise_open words names weaks store calls name owner unnamed unreserved o = recor
   swapped = o.swapped;
   kept_count = o.kept_count;
   kept_from = o.kept_from;
+  shut = o.shut;
   alone = o.alone;
   one = o.one;
   still = tt;
@@ -565,6 +589,7 @@ note_open words names weaks store calls name owner unnamed unreserved o = record
   swapped = o.swapped;
   kept_count = o.kept_count;
   kept_from = o.kept_from;
+  shut = o.shut;
   alone = o.alone;
   one = o.one;
   still = tt;
@@ -643,7 +668,7 @@ owner_apart owners hand name (x ∷ names) owner few fits e =
     ]
 
 -- the owner of a name goes to a call's hand
-pub drop_open : (words : Zones) (names weaks : List Named) (store : Store) (calls : List UnderWay) (name : List ℕ) (owner : ℕ) → owner_of name names ≡ Some owner → Open words names weaks store calls nothing_apart → Open words (without_name name names) weaks kept keep calls (On (phase.Release owner purpose.Drop))
+pub drop_open : (words : Zones) (names weaks : List Named) (store : Store) (calls : List UnderWay) (name : List ℕ) (owner : ℕ) → owner_of name names ≡ Some owner → Open words names weaks store calls nothing_apart → Open words (without_name name names) weaks store calls (On (phase.Release owner purpose.Drop))
 drop_open words names weaks store calls name owner e o =
     let kept_ones = store_left o.from store (any_update calls) in
     let all = fits_four words.owners [] (both_seats names weaks) kept_ones (call_seats o.last o.from (stays_of store) calls) o.seated.fit in
@@ -660,11 +685,12 @@ drop_open words names weaks store calls name owner e o =
       swapped = o.swapped;
       kept_count = o.kept_count;
       kept_from = o.kept_from;
+      shut = o.shut;
       alone = o.alone;
       one = o.one;
       still = tt;
       stills = o.stills;
-      seated = seated_as words.owners _ (seat owner holds ∷ ([] ++ rest_seats o.last o.from (without_name name names) weaks kept keep calls (any_update calls)))
+      seated = seated_as words.owners _ (seat owner holds ∷ ([] ++ rest_seats o.last o.from (without_name name names) weaks store calls (any_update calls)))
           (fit_four words.owners (seat owner holds ∷ []) (both_seats (without_name name names) weaks) kept_ones (call_seats o.last o.from (stays_of store) calls) (apart.fit, tt) (fit_append words.owners (seats_as holds (without_name name names)) (seats_as weakly weaks) apart.others behind) all.2 all.3)
           (λ i. (
           let a = times_four i (seat owner holds ∷ []) (both_seats (without_name name names) weaks) kept_ones (call_seats o.last o.from (stays_of store) calls) in
@@ -680,7 +706,7 @@ drop_open words names weaks store calls name owner e o =
       calls_once = o.calls_once;
     }
 
-pub fade_open : (words : Zones) (names weaks : List Named) (store : Store) (calls : List UnderWay) (name : List ℕ) (owner : ℕ) → owner_of name weaks ≡ Some owner → Open words names weaks store calls nothing_apart → Open words names (without_name name weaks) kept keep calls (On (phase.Fade owner None purpose.Drop))
+pub fade_open : (words : Zones) (names weaks : List Named) (store : Store) (calls : List UnderWay) (name : List ℕ) (owner : ℕ) → owner_of name weaks ≡ Some owner → Open words names weaks store calls nothing_apart → Open words names (without_name name weaks) store calls (On (phase.Fade owner None purpose.Drop))
 fade_open words names weaks store calls name owner e o =
     let kept_ones = store_left o.from store (any_update calls) in
     let all = fits_four words.owners [] (both_seats names weaks) kept_ones (call_seats o.last o.from (stays_of store) calls) o.seated.fit in
@@ -697,11 +723,12 @@ fade_open words names weaks store calls name owner e o =
       swapped = o.swapped;
       kept_count = o.kept_count;
       kept_from = o.kept_from;
+      shut = o.shut;
       alone = o.alone;
       one = o.one;
       still = tt;
       stills = o.stills;
-      seated = seated_as words.owners _ (seat owner weakly ∷ ([] ++ rest_seats o.last o.from names (without_name name weaks) kept keep calls (any_update calls)))
+      seated = seated_as words.owners _ (seat owner weakly ∷ ([] ++ rest_seats o.last o.from names (without_name name weaks) store calls (any_update calls)))
           (fit_four words.owners (seat owner weakly ∷ []) (both_seats names (without_name name weaks)) kept_ones (call_seats o.last o.from (stays_of store) calls) (apart.fit, tt) (fit_append words.owners (seats_as holds names) (seats_as weakly (without_name name weaks)) front apart.others) all.2 all.3)
           (λ i. (
           let a = times_four i (seat owner weakly ∷ []) (both_seats names (without_name name weaks)) kept_ones (call_seats o.last o.from (stays_of store) calls) in
@@ -730,6 +757,7 @@ update_open words names weaks store calls version keeping is none o = record {
   swapped = o.swapped;
   kept_count = o.kept_count;
   kept_from = o.kept_from;
+  shut = o.shut;
   alone = λ e. none;
   one = o.one;
   still = is;
@@ -753,6 +781,7 @@ seek_open words names weaks store calls owner sending left o = record {
   swapped = o.swapped;
   kept_count = o.kept_count;
   kept_from = o.kept_from;
+  shut = o.shut;
   alone = o.alone;
   one = o.one;
   still = tt;

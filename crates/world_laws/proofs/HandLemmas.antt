@@ -9,11 +9,13 @@ use Rattle.cell_core.proofs.SeatLemmas.{get_set_same, get_set_other, get_push_ol
 use Rattle.cell_core.specs.declared.words.Owner.{Owner}
 use Rattle.cell_core.specs.declared.words.Owner.TheVariants.{Holding, Twice, Weakly, Both, Burying, Fading, Resetting, Freeing, Spent}
 
--- what an owner in hand is: it holds a version, or that of a number; it has one weakly; it is to bury, to fade, to reset, or to free
+-- what an owner in hand is: it holds a version, or that of a number; it has one weakly, or, so many in front of a total, that of the number which is
+-- said; it is to bury, to fade, to reset, or to free
 pub data Hand : Type 0 where
   holds : Hand
   has : ℕ → Hand
   weakly : Hand
+  notes : ℕ → ℕ → ℕ → Hand
   buries : Hand
   fades : Hand
   resets : Hand
@@ -28,6 +30,7 @@ HandIs owners owner holds = (number : ℕ) × (place : ℕ) × (slice_get owners
 HandIs owners owner (has number) = (place : ℕ) × (slice_get owners owner ≡ Some (Holding number place))
 HandIs owners owner buries = (place : ℕ) × (slice_get owners owner ≡ Some (Burying place))
 HandIs owners owner weakly = (number : ℕ) × (place : ℕ) × (slice_get owners owner ≡ Some (Weakly number place))
+HandIs owners owner (notes said behind total) = (said + behind ≡ total) × (place : ℕ) × (slice_get owners owner ≡ Some (Weakly said place))
 HandIs owners owner fades = (place : ℕ) × (slice_get owners owner ≡ Some (Fading place))
 HandIs owners owner resets = (place : ℕ) × (slice_get owners owner ≡ Some (Resetting place))
 HandIs owners owner frees = (place : ℕ) × (slice_get owners owner ≡ Some (Freeing place))
@@ -85,6 +88,7 @@ hand_still old new owner holds same h = (h.0, h.1, same (Holding h.0 h.1) h.2)
 hand_still old new owner (has number) same h = (h.0, same (Holding number h.0) h.1)
 hand_still old new owner buries same h = (h.0, same (Burying h.0) h.1)
 hand_still old new owner weakly same h = (h.0, h.1, same (Weakly h.0 h.1) h.2)
+hand_still old new owner (notes said behind total) same h = (h.0, h.1, same (Weakly said h.1) h.2)
 hand_still old new owner fades same h = (h.0, same (Fading h.0) h.1)
 hand_still old new owner resets same h = (h.0, same (Resetting h.0) h.1)
 hand_still old new owner frees same h = (h.0, same (Freeing h.0) h.1)

@@ -22,7 +22,7 @@ use Rattle.dns_message.specs.declared.query.Query.{Query as QueryAsked}
 use Rattle.dns_message.specs.Request.{reads}
 use Rattle.serve_core.specs.declared.transport.Transport.TheVariants.{Udp, Tcp}
 use Rattle.serve_core.specs.Transfers.{peer_over, is_permitted}
-use Rattle.zone_tree.specs.Version.{Version as Numbered}
+use Rattle.zone_tree.specs.Version.{Version as Numbered, zone_serial}
 use Rattle.world_run.specs.declared.judged.Judged.{Judged}
 use Rattle.world_run.specs.declared.judged.Judged.TheVariants as judgement
 use Rattle.world_run.specs.declared.phase.Phase.{Phase}
@@ -42,7 +42,7 @@ use Rattle.world_run.specs.declared.step.WorldStep.TheVariants.{Whole, Begin, Ne
 use Rattle.world_run.specs.Judgements.{asks_update, judged}
 use Rattle.world_run.specs.Numbered.{first_version}
 use Rattle.world_run.specs.Phases.{reserves, reserves_weakly}
-use Rattle.world_run.specs.Entries.{most_entries, serials_in, owners_in, entered, later}
+use Rattle.world_run.specs.Entries.{most_entries, serials_in, owners_in, entered, enters, later}
 use Rattle.world_run.specs.declared.entries.Entry.{Entry}
 use Rattle.world_run.specs.declared.phase.End.{End}
 use Rattle.world_run.specs.declared.phase.End.TheVariants.{Owned, OwnedWeakly, Told, NoSlot, Kept, Sent}
@@ -58,8 +58,8 @@ use Rattle.world_laws.proofs.ReplayLemmas.{Goes, AllSent, turn_goes, all_sent, s
 use Rattle.cell_core.specs.declared.words.Owner.{Owner}
 use Rattle.cell_core.specs.declared.words.Owner.TheVariants.{Holding, Twice, Weakly, Both, Burying, Fading, Resetting, Freeing, Spent}
 use Rattle.world_laws.proofs.HandLemmas.{AllFit, times, times_append, fit_back, lives, other_equal}
-use Rattle.world_laws.proofs.HandSeats.{Zones, seat, weak_seats}
-use Rattle.world_laws.proofs.HandLemmas.Hand.{has, weakly}
+use Rattle.world_laws.proofs.HandSeats.{Zones, seat, window_seats}
+use Rattle.world_laws.proofs.HandLemmas.Hand.{has, notes}
 use Rattle.world_laws.proofs.HandWorld.{Store, store_of, stays_of, both_seats, kept_seats, call_seats, reserved_by, weak_reserved_by, called, named_by, Open, Hands, nothing_apart, step_open, many_open}
 use Rattle.world_laws.proofs.HandTurns.{times_four, fits_four, taken_out, put_back, Among, among}
 use Rattle.world_laws.proofs.HandEnds.{closed, load_open, look_open, raise_open, note_open, drop_open, fade_open, update_open, seek_open}
@@ -206,10 +206,14 @@ has_room last request what e =
     none_some : (o : Option Judged) (what : Judged) → o ≡ None → o ≡ Some what → ⊥
     none_some o what n s = let wrong : None ≡ Some what = sym n ∙ s in cc
 
+-- a version is entered where there is a window
+enters_if : (size serial : ℕ) → is_some (enters size serial) ≡ nat_lt 0 size
+enters_if size serial = elim (cases_Bool (nat_lt 0 size)) [ inl some ↦ rw some refl | inr none ↦ rw none refl ]
+
 publication_begins : (world : World) (cell : Cell Numbered) (request : List ℕ) (head : Heading) (version : Numbered) → any_update world.calls ≡ false → length cell.published < 2 ^ 64 → Hands world → BeginsOk world cell (Update request) (publication_start world head version)
 publication_begins world cell request head version none few h =
     begins_if world cell (Update request) (nat_lt world.words.granted grants && is_held world.words (oldest_kept world.keep world.kept) && can_enter world.words world.window) _ _
-    (λ e. (update_open world.words world.names world.weak_names (store_of world) world.calls version (keeping_for world head version) (refl, refl) none h, λ p. few)) (λ e. tt)
+    (λ e. (update_open world.words world.names world.weak_names (store_of world) world.calls version (keeping_for world head version) (refl, refl, enters_if world.window (zone_serial version.zone)) none h, λ p. few)) (λ e. tt)
 
 judged_begins : (S : Script) (first : List Record) (world : World) (request : List ℕ) (last : Numbered) (what : Option Judged) (g : Goes S first world) → judged last request ≡ what → found_last world.words ≡ Some last → any_update world.calls ≡ false → Hands world
     → BeginsOk world g.tells.cell (Update request) (update_start world what)
@@ -250,29 +254,29 @@ lives_few (Some (Resetting place)) = omega arith
 lives_few (Some (Freeing place)) = omega arith
 lives_few (Some Spent) = omega arith
 
-none_apart : (owner : ℕ) (os : List ℕ) → times owner (weak_seats os) ≡ 0 → IsApart owner os
-none_apart owner [] none = tt
-none_apart owner (o ∷ os) none = (
-  λ e. (let one : one_if (o == owner) ≡ 1 = elim (eqb_tells o owner) [ inl same ↦ rw same.0 refl | inr other ↦ absurd (other.1 e) ] in absurd (omega (arith, none, one))),
-  none_apart owner os (omega (arith, none)),
+none_apart : (owner total : ℕ) (entries : List Entry) → times owner (window_seats total entries) ≡ 0 → IsApart owner (owners_in entries)
+none_apart owner total [] none = tt
+none_apart owner total (x ∷ entries) none = (
+  λ e. (let one : one_if (x.owner == owner) ≡ 1 = elim (eqb_tells x.owner owner) [ inl same ↦ rw same.0 refl | inr other ↦ absurd (other.1 e) ] in absurd (omega (arith, none, one))),
+  none_apart owner total entries (omega (arith, none)),
 )
 
-weak_all : (owners : List Owner) (os : List ℕ) → AllFit owners (weak_seats os) → ((i : ℕ) → times i (weak_seats os) ≤ 1) → AreAll Weakly owners os
-weak_all owners [] fits few = tt
-weak_all owners (o ∷ os) fits few =
-    let once = few o in
-    let one : one_if (o == o) ≡ 1 = elim (eqb_tells o o) [ inl same ↦ rw same.0 refl | inr other ↦ absurd (other.1 refl) ] in
-    (fits.0, none_apart o os (omega (arith, once, one)), weak_all owners os fits.1 (λ i. (let less = few i in omega (arith, less))))
+weak_all : (owners : List Owner) (total : ℕ) (entries : List Entry) → AllFit owners (window_seats total entries) → ((i : ℕ) → times i (window_seats total entries) ≤ 1) → AreAll Weakly owners (owners_in entries)
+weak_all owners total [] fits few = tt
+weak_all owners total (x ∷ entries) fits few =
+    let once = few x.owner in
+    let one : one_if (x.owner == x.owner) ≡ 1 = elim (eqb_tells x.owner x.owner) [ inl same ↦ rw same.0 refl | inr other ↦ absurd (other.1 refl) ] in
+    ((x.number, fits.0.1, fits.0.2), none_apart x.owner total entries (omega (arith, once, one)), weak_all owners total entries fits.1 (λ i. (let less = few i in omega (arith, less))))
 
 pub entries_ok : (world : World) → Hands world → length world.entries ≤ 16 → EntriesIf world
 entries_ok world h few e =
     let none = unbarred world.calls e in
     let s = rw none at h.seated in
     let kept_ones = kept_seats h.from world.kept in
-    let window = weak_seats (owners_in world.entries) in
+    let window = window_seats (h.from + length world.kept) world.entries in
     let all = fits_four world.words.owners [] (both_seats world.names world.weak_names) (kept_ones ++ window) (call_seats h.last h.from (stays_of (store_of world)) world.calls) s.fit in
     record {
-      weak = weak_all world.words.owners (owners_in world.entries) (fit_back world.words.owners kept_ones window all.2)
+      weak = weak_all world.words.owners (h.from + length world.kept) world.entries (fit_back world.words.owners kept_ones window all.2)
           (λ i. (
           let four = times_four i [] (both_seats world.names world.weak_names) (kept_ones ++ window) (call_seats h.last h.from (stays_of (store_of world)) world.calls) in
           let two = times_append i kept_ones window in
@@ -495,6 +499,7 @@ loaded_hands first keep window e =
       swapped = refl;
       kept_count = refl;
       kept_from = omega arith;
+      shut = λ f. refl;
       alone = λ e. refl;
       one = tt;
       still = tt;
@@ -525,18 +530,19 @@ noted_hands first keep window e =
       swapped = refl;
       kept_count = refl;
       kept_from = omega arith;
+      shut = λ f. absurd (let wrong = f in cc);
       alone = λ e. refl;
       one = tt;
       still = tt;
       stills = tt;
-      seated = record { fit = ((0, refl), ((0, 0, refl), tt)); exact = λ i. first_exact i };
+      seated = record { fit = ((0, refl), ((omega arith, 0, refl), tt)); exact = λ i. first_exact i };
       publisher = λ e f. refl;
       names_once = λ name. omega arith;
       weak_once = λ name. omega arith;
       calls_once = λ name. omega arith;
     })
   where
-    first_exact : (i : ℕ) → times i (seat 0 (has 0) ∷ (seat 1 weakly ∷ [])) ≡ lives (slice_get (Holding 0 0 ∷ (Weakly 0 0 ∷ [])) i)
+    first_exact : (i : ℕ) → times i (seat 0 (has 0) ∷ (seat 1 (notes 0 1 1) ∷ [])) ≡ lives (slice_get (Holding 0 0 ∷ (Weakly 0 0 ∷ [])) i)
     first_exact zero = refl
     first_exact (suc zero) = refl
     first_exact (suc (suc i)) =

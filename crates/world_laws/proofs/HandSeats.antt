@@ -1,6 +1,6 @@
 -- The owners that a call has in hand, by how far it has come.
 use Rattle.std.proofs.Common.{◌≡◌, ℕ, ◌+◌, ◌≤◌, Bool, true, false, List, [], ◌∷◌, ◌++◌, length, drop, Option, Some, None}
-use Rattle.std.specs.Prelude.{is_some, bytes_eq}
+use Rattle.std.specs.Prelude.{is_some, nat_lt, bytes_eq}
 use Rattle.cell_core.proofs.CountLemmas.{one_if}
 use Rattle.cell_core.specs.Words.{State}
 use Rattle.cell_core.specs.declared.words.Publisher.TheVariants.{Probing}
@@ -14,14 +14,14 @@ use Rattle.world_run.specs.declared.phase.End.{End}
 use Rattle.world_run.specs.declared.phase.End.TheVariants.{Owned, OwnedWeakly, Told, NoSlot, Kept, Sent}
 use Rattle.world_run.specs.declared.entries.Entry.{Entry}
 use Rattle.dns_rdata.specs.declared.numbers.Serial.{Serial}
-use Rattle.world_run.specs.Entries.{owners_in, leaving, leaving_for}
+use Rattle.world_run.specs.Entries.{leaving, leaving_for}
 use Rattle.world_run.specs.declared.phase.Progress.{Progress}
 use Rattle.world_run.specs.declared.phase.Progress.TheVariants.{On, Done}
 use Rattle.world_run.specs.declared.step.Answer.TheVariants as answer
 use Rattle.zone_tree.specs.Version.{Version as Numbered}
 use Rattle.world_run.specs.Phases.{reserves, reserves_weakly, updates}
 use Rattle.world_laws.proofs.HandLemmas.{Hand, Seat, Seated}
-use Rattle.world_laws.proofs.HandLemmas.Hand.{holds, has, weakly, buries, fades, resets, frees}
+use Rattle.world_laws.proofs.HandLemmas.Hand.{holds, has, weakly, notes, buries, fades, resets, frees}
 
 abbrev pub Zones : Type 0
 Zones = State Numbered
@@ -29,9 +29,10 @@ Zones = State Numbered
 abbrev pub seat : ℕ → Hand → Seat
 seat owner hand = record { owner = owner; hand = hand }
 
--- what stays for an update under way as it is: which of the versions that are kept is to be given up, and the window
+-- what stays for an update under way as it is: which of the versions that are kept is to be given up, how many they are, and the window
 pub record Stays : Type 0 where
   pub oldest : Option ℕ
+  pub count : ℕ
   pub window : ℕ
   pub entries : List Entry
 
@@ -49,32 +50,37 @@ abbrev pub holding_seats : List ℕ → List Seat
 holding_seats [] = []
 holding_seats (o ∷ os) = seat o holds ∷ holding_seats os
 
--- the weak owner of a new entry
-abbrev pub entry_seats : Option Entry → List Seat
-entry_seats None = []
-entry_seats (Some entry) = seat entry.owner weakly ∷ []
+-- the window's weak owners: its entries are of the last of so many versions, in turn
+abbrev pub window_seats : ℕ → List Entry → List Seat
+window_seats total [] = []
+window_seats total (entry ∷ entries) = seat entry.owner (notes entry.number (length (entry ∷ entries)) total) ∷ window_seats total entries
+
+-- the weak owner of a new entry, which is of the last version
+abbrev pub entry_seats : ℕ → Option Entry → List Seat
+entry_seats last None = []
+entry_seats last (Some entry) = seat entry.owner (notes entry.number 1 (last + 1)) ∷ []
 
 abbrev pub serial_of_entry : Option Entry → Option Serial
 serial_of_entry None = None
 serial_of_entry (Some entry) = Some entry.serial
 
--- the weak owners of the entries that stay where one of a serial is entered
-abbrev pub staying : Stays → Option Serial → List ℕ
-staying stays None = owners_in stays.entries
-staying stays (Some serial) = drop (length (leaving stays.window stays.entries serial.0)) (owners_in stays.entries)
+-- the entries that stay where one of a serial is entered
+abbrev pub staying : Stays → Option Serial → List Entry
+staying stays None = stays.entries
+staying stays (Some serial) = drop (length (leaving stays.window stays.entries serial.0)) stays.entries
 
 -- an update has these in hand up to its end, or those of them that haven't left
 abbrev pub early_seats : ℕ → Stays → Option ℕ → List Seat
-early_seats before stays oldest = oldest_seats before oldest ++ weak_seats (owners_in stays.entries)
+early_seats before stays oldest = oldest_seats before oldest ++ window_seats (before + stays.count) stays.entries
 
-abbrev pub late_seats : Stays → Option Entry → List ℕ → List Seat
-late_seats stays entry leaving = entry_seats entry ++ weak_seats (leaving ++ staying stays (serial_of_entry entry))
+abbrev pub late_seats : ℕ → ℕ → Stays → Option Entry → List ℕ → List Seat
+late_seats last before stays entry leaving = entry_seats last entry ++ (weak_seats leaving ++ window_seats (before + stays.count) (staying stays (serial_of_entry entry)))
 
 abbrev pub for_seats : ℕ → ℕ → Stays → Purpose → List Seat
 for_seats last before stays purpose.Drop = []
-for_seats last before stays (purpose.Publish keeping kept entry) = seat kept (has last) ∷ (entry_seats entry ++ early_seats before stays keeping.oldest)
-for_seats last before stays (purpose.Oldest head kept entry leaving) = seat kept (has last) ∷ late_seats stays entry leaving
-for_seats last before stays (purpose.Leaves head kept entry leaving) = seat kept (has last) ∷ late_seats stays entry leaving
+for_seats last before stays (purpose.Publish keeping kept entry) = seat kept (has last) ∷ (entry_seats last entry ++ early_seats before stays keeping.oldest)
+for_seats last before stays (purpose.Oldest head kept entry leaving) = seat kept (has last) ∷ late_seats last before stays entry leaving
+for_seats last before stays (purpose.Leaves head kept entry leaving) = seat kept (has last) ∷ late_seats last before stays entry leaving
 for_seats last before stays (purpose.Sent sending owners) = holding_seats owners
 
 abbrev pub phase_seats : ℕ → ℕ → Stays → Phase → List Seat
@@ -102,22 +108,26 @@ end_seats last before stays (Owned name owner number) = seat owner holds ∷ []
 end_seats last before stays (OwnedWeakly name owner number) = seat owner weakly ∷ []
 end_seats last before stays (Told answer) = []
 end_seats last before stays (NoSlot head) = early_seats before stays stays.oldest
-end_seats last before stays (Kept head owner entry) = seat owner (has last) ∷ late_seats stays entry []
+end_seats last before stays (Kept head owner entry) = seat owner (has last) ∷ late_seats last before stays entry []
 end_seats last before stays (Sent sending) = []
 
 abbrev pub hand_seats : ℕ → ℕ → Stays → Progress → List Seat
 hand_seats last before stays (On at) = phase_seats last before stays at
 hand_seats last before stays (Done end) = end_seats last before stays end
 
+-- a version is entered where there is a window
+abbrev pub EntersIf : Stays → Bool → Type 0
+EntersIf stays enters = enters ≡ nat_lt 0 stays.window
+
 -- an update is to give up what is to be given up
 abbrev pub AsStays : Stays → Keeping → Type 0
-AsStays stays keeping = (keeping.oldest ≡ stays.oldest) × (keeping.leaving ≡ leaving_for stays.window stays.entries keeping.enters)
+AsStays stays keeping = (keeping.oldest ≡ stays.oldest) × (keeping.leaving ≡ leaving_for stays.window stays.entries keeping.enters) × EntersIf stays (is_some keeping.enters)
 
 abbrev pub StaysFor : Stays → Purpose → Type 0
 StaysFor stays purpose.Drop = Unit {0}
 StaysFor stays (purpose.Publish keeping kept entry) = AsStays stays keeping × (serial_of_entry entry ≡ keeping.enters)
-StaysFor stays (purpose.Oldest head kept entry leaving) = Unit {0}
-StaysFor stays (purpose.Leaves head kept entry leaving) = Unit {0}
+StaysFor stays (purpose.Oldest head kept entry leaving) = EntersIf stays (is_some entry)
+StaysFor stays (purpose.Leaves head kept entry leaving) = EntersIf stays (is_some entry)
 StaysFor stays (purpose.Sent sending owners) = Unit {0}
 
 abbrev pub StaysIn : Stays → Phase → Type 0
@@ -141,7 +151,12 @@ StaysIn stays (phase.Free owner number for) = StaysFor stays for
 
 abbrev pub StaysAt : Stays → Progress → Type 0
 StaysAt stays (On at) = StaysIn stays at
-StaysAt stays (Done end) = Unit {0}
+StaysAt stays (Done (Owned name owner number)) = Unit {0}
+StaysAt stays (Done (OwnedWeakly name owner number)) = Unit {0}
+StaysAt stays (Done (Told answer)) = Unit {0}
+StaysAt stays (Done (NoSlot head)) = Unit {0}
+StaysAt stays (Done (Kept head owner entry)) = EntersIf stays (is_some entry)
+StaysAt stays (Done (Sent sending)) = Unit {0}
 
 -- whether an update has made its swap
 abbrev pub swapped_for : Purpose → ℕ

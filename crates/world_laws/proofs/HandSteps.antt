@@ -22,7 +22,7 @@ use Rattle.world_run.specs.declared.sending.Seeking.{Seeking}
 use Rattle.world_run.specs.declared.sending.Sending.{Sending}
 use Rattle.dns_rdata.specs.declared.numbers.Serial.{Serial}
 use Rattle.transfer_core.specs.Window.{fits}
-use Rattle.world_run.specs.Entries.{serials_in, owners_in, leaving, leaving_for}
+use Rattle.world_run.specs.Entries.{serials_in, leaving, leaving_for}
 use Rattle.world_run.specs.declared.phase.Progress.{Progress}
 use Rattle.world_run.specs.declared.phase.Progress.TheVariants.{On}
 use Rattle.world_run.specs.declared.step.Answer.{Answer}
@@ -30,8 +30,8 @@ use Rattle.world_run.specs.declared.step.Answer.TheVariants as answer
 use Rattle.zone_tree.specs.Version.{Version as Numbered}
 use Rattle.world_run.specs.Phases.{word_step, after, past, gone, leaving_after, oldest_after, sent_after, entry_of, completed, with_got, gained_after, got_after, is_for_update, updates}
 use Rattle.world_laws.proofs.HandLemmas.{Hand, Seat, HandIs, AllFit, Seated, times, times_append, fit_append, fit_front, fit_back, lives, seated_as, seated_with, seated_push, push_there, seated_spent, seated_next, seated_swap, seated_moved, seated_put, seated_where}
-use Rattle.world_laws.proofs.HandLemmas.Hand.{holds, has, weakly, buries, fades, resets, frees}
-use Rattle.world_laws.proofs.HandSeats.{AsStays, Stays, StaysAt, StaysFor, StaysIn, Went, Zones, early_seats, entry_seats, for_seats, hand_seats, holding_seats, late_seats, phase_seats, publishes_at, publishes_in, reserved_at, seat, serial_of_entry, staying, swapped_at, swapped_for, swapped_in, swaps_now, updates_at, weak_reserved_at, weak_seats}
+use Rattle.world_laws.proofs.HandLemmas.Hand.{holds, has, weakly, notes, buries, fades, resets, frees}
+use Rattle.world_laws.proofs.HandSeats.{AsStays, Stays, StaysAt, StaysFor, StaysIn, Went, Zones, early_seats, entry_seats, for_seats, hand_seats, holding_seats, late_seats, phase_seats, publishes_at, publishes_in, reserved_at, seat, serial_of_entry, staying, swapped_at, swapped_for, swapped_in, swaps_now, updates_at, weak_reserved_at, weak_seats, window_seats, EntersIf}
 
 no_true : true ≡ false → ⊥
 no_true e = let wrong = e in cc
@@ -49,12 +49,12 @@ record Passed (new : Zones) (for : Purpose) (progress : Progress) (last before :
   weak_names : (name : List ℕ) → weak_reserved_at name progress ≡ 0
   update : updates_at progress ≡ is_for_update for
 
-leaving_passed : (new : Zones) (head : Heading) (kept last before : ℕ) (entry : Option Entry) (leaving : List ℕ) (stays : Stays) (rest : List Seat) → Seated new.owners ((seat kept (has last) ∷ late_seats stays entry leaving) ++ rest)
+leaving_passed : (new : Zones) (head : Heading) (kept last before : ℕ) (entry : Option Entry) (leaving : List ℕ) (stays : Stays) (rest : List Seat) → EntersIf stays (is_some entry) → Seated new.owners ((seat kept (has last) ∷ late_seats last before stays entry leaving) ++ rest)
     → Passed new (purpose.Leaves head kept entry leaving) (leaving_after head kept entry leaving) last before stays rest
-leaving_passed new head kept last before entry [] stays rest s = record { seated = s; still = tt; swapped = refl; publishes = refl; names = λ name. refl; weak_names = λ name. refl; update = refl }
-leaving_passed new head kept last before entry (owner ∷ leaving) stays rest s = record {
-  seated = seated_moved new.owners (seat kept (has last) ∷ entry_seats entry) (seat owner weakly) (weak_seats (leaving ++ staying stays (serial_of_entry entry))) rest s;
-  still = tt;
+leaving_passed new head kept last before entry [] stays rest shut s = record { seated = s; still = shut; swapped = refl; publishes = refl; names = λ name. refl; weak_names = λ name. refl; update = refl }
+leaving_passed new head kept last before entry (owner ∷ leaving) stays rest shut s = record {
+  seated = seated_moved new.owners (seat kept (has last) ∷ entry_seats last entry) (seat owner weakly) (weak_seats leaving ++ window_seats (before + stays.count) (staying stays (serial_of_entry entry))) rest s;
+  still = shut;
   swapped = refl;
   publishes = refl;
   names = λ name. refl;
@@ -63,32 +63,67 @@ leaving_passed new head kept last before entry (owner ∷ leaving) stays rest s 
 }
 
 -- what is in hand of the window behind a publication is what leaves it and what stays
-split_owners : (window : ℕ) (entries : List Entry) (serial : ℕ) → leaving window entries serial ++ drop (length (leaving window entries serial)) (owners_in entries) ≡ owners_in entries
-split_owners window [] serial = refl
-split_owners window (entry ∷ entries) serial =
+abbrev parts_seats : ℕ → List ℕ → List Entry → List Seat
+parts_seats total leaving entries = weak_seats leaving ++ window_seats total (drop (length leaving) entries)
+
+split_times : (i total window : ℕ) (entries : List Entry) (serial : ℕ) → times i (parts_seats total (leaving window entries serial) entries) ≡ times i (window_seats total entries)
+split_times i total window [] serial = refl
+split_times i total window (entry ∷ entries) serial =
     elim (cases_Bool (fits window (serials_in (entry ∷ entries) ++ serial ∷ []))) [
       | inl all ↦ rw all refl
-      | inr some ↦ rw some (ap (λ os. entry.owner ∷ os) (split_owners window entries serial))
+      | inr some ↦ rw some (let more = split_times i total window entries serial in omega (arith, more))
     ]
 
-pub all_owners : (stays : Stays) (serial : Option Serial) → leaving_for stays.window stays.entries serial ++ staying stays serial ≡ owners_in stays.entries
-all_owners stays None = refl
-all_owners stays (Some serial) = split_owners stays.window stays.entries serial.0
+split_fits : (owners : List Owner) (total window : ℕ) (entries : List Entry) (serial : ℕ) → AllFit owners (window_seats total entries) → AllFit owners (parts_seats total (leaving window entries serial) entries)
+split_fits owners total window [] serial f = tt
+split_fits owners total window (entry ∷ entries) serial f =
+    elim (cases_Bool (fits window (serials_in (entry ∷ entries) ++ serial ∷ []))) [
+      | inl all ↦ rw all f
+      | inr some ↦ rw some ((entry.number, f.0.1, f.0.2), split_fits owners total window entries serial f.1)
+    ]
 
-publish_passed : (new : Zones) (keeping : Keeping) (kept last before : ℕ) (entry : Option Entry) (own : Option ℕ) (stays : Stays) (rest : List Seat) → keeping.leaving ≡ leaving_for stays.window stays.entries (serial_of_entry entry)
-    → Seated new.owners ((seat kept (has last) ∷ (entry_seats entry ++ early_seats before stays own)) ++ rest) → Passed new (purpose.Publish keeping kept entry) (oldest_after keeping.heading kept entry keeping.leaving own) last before stays rest
-publish_passed new keeping kept last before entry None stays rest is s =
-    let all : keeping.leaving ++ staying stays (serial_of_entry entry) ≡ owners_in stays.entries = ap (λ os. os ++ staying stays (serial_of_entry entry)) is ∙ all_owners stays (serial_of_entry entry) in
-    let p = leaving_passed new keeping.heading kept last before entry keeping.leaving stays rest
-    (subst (λ os. Seated new.owners ((seat kept (has last) ∷ (entry_seats entry ++ weak_seats os)) ++ rest)) (sym all) s) in
+abbrev apart_seats : ℕ → Stays → Option Serial → List Seat
+apart_seats total stays serial = weak_seats (leaving_for stays.window stays.entries serial) ++ window_seats total (staying stays serial)
+
+apart_times : (i total : ℕ) (stays : Stays) (serial : Option Serial) → times i (apart_seats total stays serial) ≡ times i (window_seats total stays.entries)
+apart_times i total stays None = refl
+apart_times i total stays (Some serial) = split_times i total stays.window stays.entries serial.0
+
+apart_fits : (owners : List Owner) (total : ℕ) (stays : Stays) (serial : Option Serial) → AllFit owners (window_seats total stays.entries) → AllFit owners (apart_seats total stays serial)
+apart_fits owners total stays None f = f
+apart_fits owners total stays (Some serial) f = split_fits owners total stays.window stays.entries serial.0 f
+
+-- so that those in front of what leaves keep their places
+window_apart : (owners : List Owner) (front : List Seat) (total : ℕ) (stays : Stays) (serial : Option Serial) (leaving : List ℕ) (rest : List Seat) → leaving ≡ leaving_for stays.window stays.entries serial
+    → Seated owners ((front ++ window_seats total stays.entries) ++ rest) → Seated owners ((front ++ (weak_seats leaving ++ window_seats total (staying stays serial))) ++ rest)
+window_apart owners front total stays serial leaving rest is s =
+    let mine = window_seats total stays.entries in
+    let apart = apart_seats total stays serial in
+    let whole = fit_front owners (front ++ mine) rest s.fit in
+    subst (λ ls. Seated owners ((front ++ (weak_seats ls ++ window_seats total (staying stays serial))) ++ rest)) (sym is)
+    (seated_as owners ((front ++ mine) ++ rest) ((front ++ apart) ++ rest)
+    (fit_append owners (front ++ apart) rest (fit_append owners front apart (fit_front owners front mine whole) (apart_fits owners total stays serial (fit_back owners front mine whole))) (fit_back owners (front ++ mine) rest s.fit))
+    (λ i. (
+    let a = times_append i (front ++ apart) rest in
+    let b = times_append i (front ++ mine) rest in
+    let c = times_append i front apart in
+    let d = times_append i front mine in
+    let e = apart_times i total stays serial in
+    omega (arith, a, b, c, d, e)
+    )) s)
+
+publish_passed : (new : Zones) (keeping : Keeping) (kept last before : ℕ) (entry : Option Entry) (own : Option ℕ) (stays : Stays) (rest : List Seat) → keeping.leaving ≡ leaving_for stays.window stays.entries (serial_of_entry entry) → EntersIf stays (is_some entry)
+    → Seated new.owners ((seat kept (has last) ∷ (entry_seats last entry ++ early_seats before stays own)) ++ rest) → Passed new (purpose.Publish keeping kept entry) (oldest_after keeping.heading kept entry keeping.leaving own) last before stays rest
+publish_passed new keeping kept last before entry None stays rest is shut s =
+    let p = leaving_passed new keeping.heading kept last before entry keeping.leaving stays rest shut
+    (window_apart new.owners (seat kept (has last) ∷ entry_seats last entry) (before + stays.count) stays (serial_of_entry entry) keeping.leaving rest is s) in
     record { seated = p.seated; still = p.still; swapped = p.swapped; publishes = p.publishes; names = p.names; weak_names = p.weak_names; update = p.update }
-publish_passed new keeping kept last before entry (Some owner) stays rest is s =
-    let all : keeping.leaving ++ staying stays (serial_of_entry entry) ≡ owners_in stays.entries = ap (λ os. os ++ staying stays (serial_of_entry entry)) is ∙ all_owners stays (serial_of_entry entry) in
-    let t = seated_moved new.owners (seat kept (has last) ∷ entry_seats entry) (seat owner (has before)) (weak_seats (owners_in stays.entries)) rest s in
+publish_passed new keeping kept last before entry (Some owner) stays rest is shut s =
+    let moved = seated_moved new.owners (seat kept (has last) ∷ entry_seats last entry) (seat owner (has before)) (window_seats (before + stays.count) stays.entries) rest s in
+    let t = window_apart new.owners (seat owner (has before) ∷ (seat kept (has last) ∷ entry_seats last entry)) (before + stays.count) stays (serial_of_entry entry) keeping.leaving rest is moved in
     record {
-      seated = subst (λ os. Seated new.owners ((seat owner holds ∷ (seat kept (has last) ∷ (entry_seats entry ++ weak_seats os))) ++ rest)) (sym all)
-          (record { fit = ((before, t.fit.0.0, t.fit.0.1), t.fit.1); exact = t.exact });
-      still = tt;
+      seated = record { fit = ((before, t.fit.0.0, t.fit.0.1), t.fit.1); exact = t.exact };
+      still = shut;
       swapped = refl;
       publishes = refl;
       names = λ name. refl;
@@ -96,17 +131,22 @@ publish_passed new keeping kept last before entry (Some owner) stays rest is s =
       update = refl;
     }
 
+-- an entry is made where one is due
+shut_as : (stays : Stays) (entry : Option Entry) (enters : Option Serial) → serial_of_entry entry ≡ enters → EntersIf stays (is_some enters) → EntersIf stays (is_some entry)
+shut_as stays None enters is shut = ap (λ (o : Option Serial). is_some o) is ∙ shut
+shut_as stays (Some entry) enters is shut = ap (λ (o : Option Serial). is_some o) is ∙ shut
+
 sent_passed : (new : Zones) (sending : Sending) (owners : List ℕ) (last before : ℕ) (stays : Stays) (rest : List Seat) → Seated new.owners (holding_seats owners ++ rest) → Passed new (purpose.Sent sending owners) (sent_after sending owners) last before stays rest
 sent_passed new sending [] last before stays rest s = record { seated = s; still = tt; swapped = refl; publishes = refl; names = λ name. refl; weak_names = λ name. refl; update = refl }
 sent_passed new sending (owner ∷ owners) last before stays rest s = record { seated = s; still = tt; swapped = refl; publishes = refl; names = λ name. refl; weak_names = λ name. refl; update = refl }
 
 passed : (new : Zones) (for : Purpose) (given : Answer) (last before : ℕ) (stays : Stays) (rest : List Seat) → StaysFor stays for → Seated new.owners (for_seats last before stays for ++ rest) → Passed new for (past for given) last before stays rest
 passed new purpose.Drop given last before stays rest is s = record { seated = s; still = tt; swapped = refl; publishes = refl; names = λ name. refl; weak_names = λ name. refl; update = refl }
-passed new (purpose.Publish keeping kept entry) given last before stays rest is s = publish_passed new keeping kept last before entry keeping.oldest stays rest (is.0.1 ∙ ap (leaving_for stays.window stays.entries) (sym is.1)) s
+passed new (purpose.Publish keeping kept entry) given last before stays rest is s = publish_passed new keeping kept last before entry keeping.oldest stays rest (is.0.1 ∙ ap (leaving_for stays.window stays.entries) (sym is.1)) (shut_as stays entry keeping.enters is.1 is.0.2) s
 passed new (purpose.Oldest head kept entry leaving) given last before stays rest is s =
-    let p = leaving_passed new head kept last before entry leaving stays rest s in
+    let p = leaving_passed new head kept last before entry leaving stays rest is s in
     record { seated = p.seated; still = p.still; swapped = p.swapped; publishes = p.publishes; names = p.names; weak_names = p.weak_names; update = p.update }
-passed new (purpose.Leaves head kept entry leaving) given last before stays rest is s = leaving_passed new head kept last before entry leaving stays rest s
+passed new (purpose.Leaves head kept entry leaving) given last before stays rest is s = leaving_passed new head kept last before entry leaving stays rest is s
 passed new (purpose.Sent sending owners) given last before stays rest is s = sent_passed new sending owners last before stays rest s
 
 release_past : (old new : Zones) (owner : ℕ) (for : Purpose) (given : Answer) (last before : ℕ) (stays : Stays) (rest : List Seat) → StaysFor stays for → new.publisher ≡ old.publisher → Seated new.owners (for_seats last before stays for ++ rest) → Went old new (phase.Release owner for) (past for given) last before stays rest
@@ -360,18 +400,20 @@ entry_is number owner None = refl
 entry_is number owner (Some serial) = refl
 
 enter_goes : (new : Zones) (given kept owner number last before : ℕ) (keeping : Keeping) (stays : Stays) (rest : List Seat) (enters : Option Serial) → keeping.enters ≡ enters → is_some keeping.enters ≡ true
-    → Seated new.owners ((seat given holds ∷ (seat kept (has last) ∷ (seat owner weakly ∷ early_seats before stays keeping.oldest))) ++ rest)
-    → Seated new.owners ((seat given holds ∷ (seat kept (has last) ∷ (entry_seats (entry_of keeping.enters number owner) ++ early_seats before stays keeping.oldest))) ++ rest)
+    → Seated new.owners ((seat given holds ∷ (seat kept (has last) ∷ (seat owner (notes number 1 (last + 1)) ∷ early_seats before stays keeping.oldest))) ++ rest)
+    → Seated new.owners ((seat given holds ∷ (seat kept (has last) ∷ (entry_seats last (entry_of keeping.enters number owner) ++ early_seats before stays keeping.oldest))) ++ rest)
 enter_goes new given kept owner number last before keeping stays rest None e some s = absurd (no_true (sym some ∙ ap is_some e))
 enter_goes new given kept owner number last before keeping stays rest (Some serial) e some s = rw e s
 
 enter_went : (old new : Zones) (given kept : ℕ) (keeping : Keeping) (event : WordEvent) (last before : ℕ) (stays : Stays) (rest : List Seat) → AsStays stays keeping × (is_some keeping.enters ≡ true) → Makes {T = Numbered} old (word.Note kept) event new
     → Seated old.owners ((seat given holds ∷ (seat kept (has last) ∷ early_seats before stays keeping.oldest)) ++ rest) → Went old new (phase.Enter given kept keeping) (after new (phase.Enter given kept keeping) event) last before stays rest
 enter_went old new given kept keeping event last before stays rest is (number, place, there, at, found, few, told_is, new_is) s =
+    let same : Some (Holding number place) ≡ Some (Holding last s.fit.1.0.0) = sym at ∙ s.fit.1.0.1 in
+    let numbered : number ≡ last = cc in
     let owners_are = ap (λ (w : Zones). w.owners) new_is in
     let here = ap (λ (o : List Owner). slice_get o (length old.owners)) owners_are ∙ get_push_new old.owners (Weakly number place) (length old.owners) refl in
-    let pushed = seated_with old.owners new.owners (Weakly number place) ((seat given holds ∷ (seat kept (has last) ∷ early_seats before stays keeping.oldest)) ++ rest) weakly refl owners_are (number, place, here) s in
-    let put = seated_put new.owners (seat given holds ∷ (seat kept (has last) ∷ [])) (seat (length old.owners) weakly) (early_seats before stays keeping.oldest) rest pushed in
+    let pushed = seated_with old.owners new.owners (Weakly number place) ((seat given holds ∷ (seat kept (has last) ∷ early_seats before stays keeping.oldest)) ++ rest) (notes number 1 (last + 1)) refl owners_are (omega (arith, numbered), place, here) s in
+    let put = seated_put new.owners (seat given holds ∷ (seat kept (has last) ∷ [])) (seat (length old.owners) (notes number 1 (last + 1))) (early_seats before stays keeping.oldest) rest pushed in
     subst (λ e. Went old new (phase.Enter given kept keeping) (after new (phase.Enter given kept keeping) e) last before stays rest) (sym told_is) (record {
       seated = enter_goes new given kept (length old.owners) number last before keeping stays rest keeping.enters refl is.1 put;
       still = (is.0, entry_is number (length old.owners) keeping.enters);

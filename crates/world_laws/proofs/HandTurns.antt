@@ -146,6 +146,7 @@ taken_out words names weaks store front back c o =
       swapped = omega (arith, swaps, o.swapped);
       kept_count = o.kept_count;
       kept_from = o.kept_from;
+      shut = o.shut;
       alone = one.1;
       one = one.0;
       still = olds.0;
@@ -183,6 +184,7 @@ put_back words names weaks store front back c none o =
       swapped = omega (arith, swaps, o.swapped);
       kept_count = o.kept_count;
       kept_from = o.kept_from;
+      shut = o.shut;
       alone = λ e. absurd (let wrong = e in cc);
       one = one_join front back c o.one o.alone;
       still = tt;

@@ -26,7 +26,6 @@ use Rattle.world_run.specs.declared.phase.Purpose.{Purpose}
 use Rattle.world_run.specs.declared.phase.Purpose.TheVariants as purpose
 use Rattle.world_run.specs.Phases.{word_step, after, reserves, reserves_weakly, is_for_update, updates}
 use Rattle.world_run.specs.declared.entries.Entry.{Entry}
-use Rattle.world_run.specs.Entries.{owners_in}
 use Rattle.world_run.specs.World.{World, oldest_kept, step_once, steps_up_to, go_on}
 use Rattle.world_laws.proofs.CallReplays.{publishes_nothing}
 use Rattle.world_laws.proofs.OtherCalls.{any_update, AtMostOne}
@@ -34,7 +33,7 @@ use Rattle.world_laws.proofs.SwapLemmas.{step_by}
 use Rattle.cell_core.specs.Made.{made}
 use Rattle.world_laws.proofs.HandLemmas.{Hand, Seat, Seated}
 use Rattle.world_laws.proofs.HandLemmas.Hand.{holds, has, weakly, buries, fades, resets, frees}
-use Rattle.world_laws.proofs.HandSeats.{Zones, Stays, seat, weak_seats, for_seats, phase_seats, hand_seats, StaysIn, StaysAt, swapped_in, swapped_at, swaps_now, publishes_in, publishes_at, reserved_at, weak_reserved_at, updates_at}
+use Rattle.world_laws.proofs.HandSeats.{Zones, Stays, seat, window_seats, for_seats, phase_seats, hand_seats, StaysIn, StaysAt, swapped_in, swapped_at, swaps_now, publishes_in, publishes_at, reserved_at, weak_reserved_at, updates_at}
 use Rattle.world_laws.proofs.HandSteps.{went}
 
 -- the owners of names, which are alike
@@ -60,9 +59,9 @@ abbrev pub kept_left : ℕ → ℕ → List ℕ → Bool → List Seat
 kept_left from keep kept update = left_if (update && nat_lt keep (length kept)) (kept_seats from kept)
 
 -- and the window
-abbrev pub entries_left : List Entry → Bool → List Seat
-entries_left entries true = []
-entries_left entries false = weak_seats (owners_in entries)
+abbrev pub entries_left : ℕ → List Entry → Bool → List Seat
+entries_left total entries true = []
+entries_left total entries false = window_seats total entries
 
 -- the versions that are kept, and the window
 pub record Store : Type 0 where
@@ -75,10 +74,10 @@ abbrev pub store_of : World → Store
 store_of world = record { kept = world.kept; keep = world.keep; entries = world.entries; window = world.window }
 
 abbrev pub stays_of : Store → Stays
-stays_of store = record { oldest = oldest_kept store.keep store.kept; window = store.window; entries = store.entries }
+stays_of store = record { oldest = oldest_kept store.keep store.kept; count = length store.kept; window = store.window; entries = store.entries }
 
 abbrev pub store_left : ℕ → Store → Bool → List Seat
-store_left from store update = kept_left from store.keep store.kept update ++ entries_left store.entries update
+store_left from store update = kept_left from store.keep store.kept update ++ entries_left (from + length store.kept) store.entries update
 
 abbrev pub call_seats : ℕ → ℕ → Stays → List UnderWay → List Seat
 call_seats last from stays [] = []
@@ -127,6 +126,7 @@ pub record Open (words : Zones) (names weaks : List Named) (store : Store) (call
   pub swapped : settled + (swapped_at progress + swaps_of calls) ≡ last + 1
   pub kept_count : from + length store.kept ≡ settled
   pub kept_from : from ≡ settled - (store.keep + 1)
+  pub shut : nat_lt 0 store.window ≡ false → store.entries ≡ []
   pub alone : updates_at progress ≡ true → any_update calls ≡ false
   pub one : AtMostOne calls
   pub still : StaysAt (stays_of store) progress
@@ -270,6 +270,7 @@ step_open_by words new names weaks store calls at event m o =
       swapped = omega (arith, w.swapped, o.swapped);
       kept_count = o.kept_count;
       kept_from = o.kept_from;
+      shut = o.shut;
       alone = λ e. o.alone (sym w.update ∙ e);
       one = o.one;
       still = w.still;

@@ -1,6 +1,6 @@
 -- The versions that names have, and that are kept, by what is in hand.
 use Rattle.std.proofs.Common.{◌≡◌, refl, sym, ap, ◌∙◌, subst, ℕ, ◌+◌, ◌-◌, ◌<◌, ◌≤◌, ◌⊎◌, false, inl, inr, List, [], ◌∷◌, ◌++◌, length, drop, arith, Some}
-use Rattle.std.specs.Prelude.{◌==◌, bytes_eq}
+use Rattle.std.specs.Prelude.{◌==◌, max, min, bytes_eq}
 use Rattle.std.specs.List.{slice_get, flat_map}
 use Rattle.std.specs.Option.{option_and_then, option_to_list}
 use Rattle.std.proofs.lemmas.Bool.{cases_Bool, cases_lt}
@@ -30,9 +30,9 @@ use Rattle.world_laws.proofs.HandEnds.{no_swaps}
 use Rattle.world_laws.proofs.HandLemmas.{HandIs, AllFit, times, times_append, fit_front, fit_back, lives}
 use Rattle.world_laws.proofs.HandLemmas.Hand.{holds, weakly}
 use Rattle.world_laws.proofs.HandPlay.{Kept, played_kept}
-use Rattle.world_laws.proofs.HandSeats.{Zones, weak_seats}
-use Rattle.world_laws.proofs.WindowRest.{Rests, window_buried}
-use Rattle.world_run.specs.Entries.{owners_in}
+use Rattle.world_laws.proofs.HandSeats.{Zones, window_seats}
+use Rattle.world_laws.proofs.WindowRest.{Rests, Noted, window_buried, window_free}
+use Rattle.world_run.specs.declared.entries.Entry.{Entry}
 use Rattle.world_laws.proofs.HandTurns.{times_four, fits_four}
 use Rattle.world_laws.proofs.HandWorld.{store_of, stays_of, seats_as, both_seats, kept_seats, kept_left, entries_left, call_seats, any_publishes, Hands}
 use Rattle.world_laws.proofs.ReplayLemmas.{goes_replayed}
@@ -63,10 +63,10 @@ named_holds owners name (x ∷ names) owner fits e =
     ]
 
 -- what is in hand beside the calls under way
-parts_of : (world : World) (h : Hands world) → AllFit world.words.owners (seats_as holds world.names) × AllFit world.words.owners (kept_left h.from world.keep world.kept (any_update world.calls)) × AllFit world.words.owners (entries_left world.entries (any_update world.calls))
+parts_of : (world : World) (h : Hands world) → AllFit world.words.owners (seats_as holds world.names) × AllFit world.words.owners (kept_left h.from world.keep world.kept (any_update world.calls)) × AllFit world.words.owners (entries_left (h.from + length world.kept) world.entries (any_update world.calls))
 parts_of world h =
     let kept_ones = kept_left h.from world.keep world.kept (any_update world.calls) in
-    let window = entries_left world.entries (any_update world.calls) in
+    let window = entries_left (h.from + length world.kept) world.entries (any_update world.calls) in
     let all = fits_four world.words.owners [] (both_seats world.names world.weak_names) (kept_ones ++ window) (call_seats h.last h.from (stays_of (store_of world)) world.calls) h.seated.fit in
     (fit_front world.words.owners (seats_as holds world.names) (seats_as weakly world.weak_names) all.1, fit_front world.words.owners kept_ones window all.2, fit_back world.words.owners kept_ones window all.2)
 
@@ -140,67 +140,94 @@ kept_owns owners from (o ∷ os) number fits within less =
       | inr other ↦ kept_owns owners (from + 1) os number fits.1 (omega (arith, within, other.1)) (omega (arith, less))
     ]
 
--- an owner of the window is a weak one
-weak_has : (owners : List Owner) (os : List ℕ) (i : ℕ) → AllFit owners (weak_seats os) → 0 < times i (weak_seats os) → (number : ℕ) × (place : ℕ) × (slice_get owners i ≡ Some (Weakly number place))
-weak_has owners [] i fits some = absurd (omega (arith, some))
-weak_has owners (o ∷ os) i fits some =
-    elim (eqb_tells o i) [
-      | inl same ↦ (fits.0.0, fits.0.1, ap (slice_get owners) (sym same.1) ∙ fits.0.2)
+-- an owner of the window is a weak one, of one of the last numbers
+window_has : (owners : List Owner) (total : ℕ) (entries : List Entry) (i : ℕ) → AllFit owners (window_seats total entries) → 0 < times i (window_seats total entries) → (number : ℕ) × (place : ℕ) × (total ≤ number + length entries) × (slice_get owners i ≡ Some (Weakly number place))
+window_has owners total [] i fits some = absurd (omega (arith, some))
+window_has owners total (x ∷ entries) i fits some =
+    elim (eqb_tells x.owner i) [
+      | inl same ↦ (x.number, fits.0.1, (let n = fits.0.0 in omega (arith, n)), ap (slice_get owners) (sym same.1) ∙ fits.0.2)
       | inr other ↦ (
-          let none : one_if (o == i) ≡ 0 = rw other.0 refl in
-          weak_has owners os i fits.1 (omega (arith, some, none))
+          let none : one_if (x.owner == i) ≡ 0 = rw other.0 refl in
+          let more = window_has owners total entries i fits.1 (omega (arith, some, none)) in
+          (more.0, more.1, (let n = more.2 in omega (arith, n)), more.3)
           )
     ]
 
--- an owner that isn't spent is among those of the versions that are kept, or the window's, where nobody else has one in hand
-abbrev AtRestAs : ℕ → Owner → Type 0
-AtRestAs from how = (how ≡ Spent) ⊎ (((number : ℕ) × (place : ℕ) × (from ≤ number) × (how ≡ Holding number place)) ⊎ ((number : ℕ) × (place : ℕ) × (0 ≤ number) × (how ≡ Weakly number place)))
+-- and each of these numbers has one
+window_owns : (owners : List Owner) (total : ℕ) (entries : List Entry) (number : ℕ) → AllFit owners (window_seats total entries) → total ≤ number + length entries → number < total → (owner : ℕ) × (place : ℕ) × (slice_get owners owner ≡ Some (Weakly number place))
+window_owns owners total [] number fits within less = absurd (omega (arith, within, less))
+window_owns owners total (x ∷ entries) number fits within less =
+    elim (eqb_tells x.number number) [
+      | inl same ↦ (x.owner, fits.0.1, fits.0.2 ∙ ap (λ n. Some (Weakly n fits.0.1)) same.1)
+      | inr other ↦ (let n = fits.0.0 in let apart = other.1 in window_owns owners total entries number fits.1 (omega (arith, within, n, apart)) less)
+    ]
 
-kept_one : (owners : List Owner) (from : ℕ) (kept os : List ℕ) (owner : ℕ) (how : Owner) → AllFit owners (kept_seats from kept) → AllFit owners (weak_seats os) → ((i : ℕ) → times i (kept_seats from kept) + times i (weak_seats os) ≡ lives (slice_get owners i)) → slice_get owners owner ≡ Some how → lives (Some how) ≡ 1
-    → AtRestAs from how
-kept_one owners from kept os owner how fits weak exact at one =
-    let count = exact owner in
+window_few : (owners : List Owner) (total : ℕ) (entries : List Entry) → AllFit owners (window_seats total entries) → length entries ≤ total
+window_few owners total [] fits = omega arith
+window_few owners total (x ∷ entries) fits = let n = fits.0.0 in omega (arith, n)
+
+-- an owner that isn't spent is among those of the versions that are kept, or the window's, where nobody else has one in hand
+abbrev AtRestAs : ℕ → ℕ → Owner → Type 0
+AtRestAs from back how = (how ≡ Spent) ⊎ (((number : ℕ) × (place : ℕ) × (from ≤ number) × (how ≡ Holding number place)) ⊎ ((number : ℕ) × (place : ℕ) × (back ≤ number) × (how ≡ Weakly number place)))
+
+-- all that is in hand then
+record InStore (owners : List Owner) (from back total : ℕ) (kept : List ℕ) (entries : List Entry) : Type 0 where
+  whole : back + length entries ≡ total
+  strong : AllFit owners (kept_seats from kept)
+  weak : AllFit owners (window_seats total entries)
+  exact : (i : ℕ) → times i (kept_seats from kept) + times i (window_seats total entries) ≡ lives (slice_get owners i)
+
+kept_one : (owners : List Owner) (from back total : ℕ) (kept : List ℕ) (entries : List Entry) (owner : ℕ) (how : Owner) → InStore owners from back total kept entries → slice_get owners owner ≡ Some how → lives (Some how) ≡ 1 → AtRestAs from back how
+kept_one owners from back total kept entries owner how s at one =
+    let count = s.exact owner in
     let is : lives (slice_get owners owner) ≡ 1 = ap lives at ∙ one in
     elim (cases_lt 0 (times owner (kept_seats from kept))) [
       | inl strong ↦ (
-          let has = kept_has owners from kept owner fits strong in
+          let has = kept_has owners from kept owner s.strong strong in
           inr (inl (has.0, has.1, has.2, (let e : Some how ≡ Some (Holding has.0 has.1) = sym at ∙ has.3 in cc)))
           )
       | inr none ↦ (
-          let has = weak_has owners os owner weak (omega (arith, count, is, none)) in
-          inr (inr (has.0, has.1, omega arith, (let e : Some how ≡ Some (Weakly has.0 has.1) = sym at ∙ has.2 in cc)))
+          let has = window_has owners total entries owner s.weak (omega (arith, count, is, none)) in
+          let within = has.2 in
+          let whole = s.whole in
+          inr (inr (has.0, has.1, omega (arith, within, whole), (let e : Some how ≡ Some (Weakly has.0 has.1) = sym at ∙ has.3 in cc)))
           )
     ]
 
-spent_or_kept : (owners : List Owner) (from : ℕ) (kept os : List ℕ) (owner : ℕ) (how : Owner) → AllFit owners (kept_seats from kept) → AllFit owners (weak_seats os) → ((i : ℕ) → times i (kept_seats from kept) + times i (weak_seats os) ≡ lives (slice_get owners i)) → slice_get owners owner ≡ Some how → AtRestAs from how
-spent_or_kept owners from kept os owner (Holding number place) fits weak exact at = kept_one owners from kept os owner (Holding number place) fits weak exact at refl
-spent_or_kept owners from kept os owner (Burying place) fits weak exact at = kept_one owners from kept os owner (Burying place) fits weak exact at refl
-spent_or_kept owners from kept os owner (Twice number place) fits weak exact at = kept_one owners from kept os owner (Twice number place) fits weak exact at refl
-spent_or_kept owners from kept os owner (Weakly number place) fits weak exact at = kept_one owners from kept os owner (Weakly number place) fits weak exact at refl
-spent_or_kept owners from kept os owner (Both number place) fits weak exact at = kept_one owners from kept os owner (Both number place) fits weak exact at refl
-spent_or_kept owners from kept os owner (Fading place) fits weak exact at = kept_one owners from kept os owner (Fading place) fits weak exact at refl
-spent_or_kept owners from kept os owner (Resetting place) fits weak exact at = kept_one owners from kept os owner (Resetting place) fits weak exact at refl
-spent_or_kept owners from kept os owner (Freeing place) fits weak exact at = kept_one owners from kept os owner (Freeing place) fits weak exact at refl
-spent_or_kept owners from kept os owner Spent fits weak exact at = inl refl
+spent_or_kept : (owners : List Owner) (from back total : ℕ) (kept : List ℕ) (entries : List Entry) (owner : ℕ) (how : Owner) → InStore owners from back total kept entries → slice_get owners owner ≡ Some how → AtRestAs from back how
+spent_or_kept owners from back total kept entries owner (Holding number place) s at = kept_one owners from back total kept entries owner (Holding number place) s at refl
+spent_or_kept owners from back total kept entries owner (Burying place) s at = kept_one owners from back total kept entries owner (Burying place) s at refl
+spent_or_kept owners from back total kept entries owner (Twice number place) s at = kept_one owners from back total kept entries owner (Twice number place) s at refl
+spent_or_kept owners from back total kept entries owner (Weakly number place) s at = kept_one owners from back total kept entries owner (Weakly number place) s at refl
+spent_or_kept owners from back total kept entries owner (Both number place) s at = kept_one owners from back total kept entries owner (Both number place) s at refl
+spent_or_kept owners from back total kept entries owner (Fading place) s at = kept_one owners from back total kept entries owner (Fading place) s at refl
+spent_or_kept owners from back total kept entries owner (Resetting place) s at = kept_one owners from back total kept entries owner (Resetting place) s at refl
+spent_or_kept owners from back total kept entries owner (Freeing place) s at = kept_one owners from back total kept entries owner (Freeing place) s at refl
+spent_or_kept owners from back total kept entries owner Spent s at = inl refl
 
--- the versions that are kept have the last number and those before it
-rests_so : (world : World) (h : Hands world) → world.names ≡ [] → world.weak_names ≡ [] → world.calls ≡ [] → (last : ℕ) → length h.cell.published ≡ last + 1 → Rests world.words (last - world.keep) 0 last
+-- the versions that are kept have the last number and those before it, and so do those of the window
+rests_so : (world : World) (h : Hands world) → world.names ≡ [] → world.weak_names ≡ [] → world.calls ≡ [] → (last : ℕ) → length h.cell.published ≡ last + 1
+    → Rests world.words (last - world.keep) (last + 1 - length world.entries) last × Noted world.words (last + 1 - length world.entries) last × (length world.entries ≤ last + 1)
 rests_so world h no_names no_weak no_calls last count =
     let no_update : any_update world.calls ≡ false = ap any_update no_calls in
     let no_publisher : any_publishes world.calls ≡ false = ap any_publishes no_calls in
     let swaps = no_swaps world.calls no_update in
     let same : h.last ≡ last = omega (arith, count, h.counted) in
     let from_is : h.from ≡ last - world.keep = omega (arith, h.kept_from, h.swapped, swaps, same) in
+    let total_is : h.from + length world.kept ≡ last + 1 = omega (arith, h.kept_count, h.swapped, swaps, same) in
     let fits = rw no_update at (parts_of world h).1 in
     let window = rw no_update at (parts_of world h).2 in
     let kept_ones = kept_left h.from world.keep world.kept (any_update world.calls) in
-    let entries = entries_left world.entries (any_update world.calls) in
-    subst (λ from. Rests world.words from 0 last) from_is
-    (record {
-      publisher = h.publisher refl no_publisher;
-      within = omega (arith, from_is);
-      owners = λ owner how at. spent_or_kept world.words.owners h.from world.kept (owners_in world.entries) owner how fits window
-          (λ i. (
+    let entries = entries_left (h.from + length world.kept) world.entries (any_update world.calls) in
+    let few = window_few world.words.owners (h.from + length world.kept) world.entries window in
+    let back : ℕ = last + 1 - length world.entries in
+    let whole : back + length world.entries ≡ h.from + length world.kept = omega (arith, few, total_is) in
+    let stored : InStore world.words.owners h.from back (h.from + length world.kept) world.kept world.entries =
+    record {
+      whole = whole;
+      strong = fits;
+      weak = window;
+      exact = λ i. (
           let all = h.seated.exact i in
           let four = times_four i [] (both_seats world.names world.weak_names) (kept_ones ++ entries) (call_seats h.last h.from (stays_of (store_of world)) world.calls) in
           let two = times_append i kept_ones entries in
@@ -209,11 +236,20 @@ rests_so world h no_names no_weak no_calls last count =
           let weaks : times i (seats_as weakly world.weak_names) ≡ 0 = ap (λ ns. times i (seats_as weakly ns)) no_weak in
           let calls : times i (call_seats h.last h.from (stays_of (store_of world)) world.calls) ≡ 0 = ap (λ cs. times i (call_seats h.last h.from (stays_of (store_of world)) cs)) no_calls in
           let kept : times i kept_ones ≡ times i (kept_seats h.from world.kept) = ap (λ b. times i (kept_left h.from world.keep world.kept b)) no_update in
-          let noted : times i entries ≡ times i (weak_seats (owners_in world.entries)) = ap (λ b. times i (entries_left world.entries b)) no_update in
+          let noted : times i entries ≡ times i (window_seats (h.from + length world.kept) world.entries) = ap (λ b. times i (entries_left (h.from + length world.kept) world.entries b)) no_update in
           omega (arith, all, four, two, both, names, weaks, calls, kept, noted)
-          )) at;
-      owned = λ number within less. kept_owns world.words.owners h.from world.kept number fits within (omega (arith, less, h.kept_count, h.swapped, swaps, same));
-    })
+          );
+    } in (
+      subst (λ from. Rests world.words from back last) from_is
+          (record {
+            publisher = h.publisher refl no_publisher;
+            within = omega (arith, from_is);
+            owners = λ owner how at. spent_or_kept world.words.owners h.from back (h.from + length world.kept) world.kept world.entries owner how stored at;
+            owned = λ number within less. kept_owns world.words.owners h.from world.kept number fits within (omega (arith, less, h.kept_count, h.swapped, swaps, same));
+          }),
+      (λ number within less. window_owns world.words.owners (h.from + length world.kept) world.entries number window (omega (arith, within, whole)) (omega (arith, less, total_is))),
+      omega (arith, few, total_is),
+    )
 
 -- when no call is under way and no name is in use, exactly the versions before those that are kept are buried
 pub played_rests : (first : List Record) (keep window : ℕ) (lines : List Line) (replies : List WorldReply) (world : World) → play (started first keep window) lines ≡ Some (replies, world) → world.names ≡ [] → world.weak_names ≡ [] → world.calls ≡ [] → IsAtRest first keep lines world
@@ -222,9 +258,14 @@ played_rests first keep window lines replies world e no_names no_weak no_calls =
     let k = all.1 in
     let r = goes_replayed first lines all.0 world k.goes in
     let same = same_length world.words k.hands.cell r.reached.cell k.hands.shows r.reached.shows in
-    let rest = subst (λ n. Rests world.words (length r.updates - n) 0 (length r.updates)) k.same.0 (rests_so world k.hands no_names no_weak no_calls (length r.updates) (omega (arith, same, r.replays.counted))) in
+    let last = length r.updates in
+    let noted = length world.entries in
+    let so = rests_so world k.hands no_names no_weak no_calls last (omega (arith, same, r.replays.counted)) in
+    let rest = subst (λ n. Rests world.words (last - n) (last + 1 - noted) last) k.same.0 so.0 in
+    let few = so.2 in
     record {
       replayed = r;
-      buried = window_buried world.words r.reached.cell (length r.updates - keep) 0 (length r.updates) r.reached.shows r.replays.counted rest;
-      free = ?;
+      buried = window_buried world.words r.reached.cell (last - keep) (last + 1 - noted) last r.reached.shows r.replays.counted rest;
+      free = window_free world.words r.reached.cell (last - keep) (last + 1 - noted) last (min keep last + 1) noted (max (min keep last + 1) noted) r.reached.shows r.replays.counted rest so.1 (omega arith) (omega (arith, few))
+          (elim (cases_lt noted (min keep last + 1)) [ inl less ↦ inl (omega (arith, less), omega (arith, less)) | inr more ↦ inr (omega (arith, more), more) ]);
     }

@@ -1,8 +1,9 @@
 -- Entries of the window, one after the other.
-use Rattle.std.proofs.Common.{◌≡◌, refl, sym, ap, ◌∙◌, ℕ, ◌+◌, ◌<◌, ◌≤◌, Bool, true, false, List, [], ◌∷◌, ◌++◌, length, filter, drop, get_or, nat_le}
+use Rattle.std.proofs.Common.{◌≡◌, refl, sym, ap, ◌∙◌, ℕ, ◌+◌, ◌<◌, ◌≤◌, Bool, true, false, List, [], ◌∷◌, ◌++◌, length, filter, drop, get_or, nat_le, arith}
 use Rattle.std.specs.Prelude.{◌==◌}
 use Rattle.std.proofs.lemmas.List.{drop_more, drop_all, append_assoc, append-nil}
-use Rattle.transfer_core.specs.Window.{fits}
+use Rattle.dns_rdata.specs.SerialOrder.{serial_distance}
+use Rattle.transfer_core.specs.Window.{span, fits}
 use Rattle.world_run.specs.Entries.{serials_in, owners_in, leaving, behind}
 use Rattle.world_run.specs.declared.entries.Entry.{Entry}
 
@@ -86,3 +87,16 @@ none_left number entries at end = ap (filter (λ (e : Entry). nat_le e.number nu
 pub all_found : (serial number : ℕ) (found : Bool) (entries : List Entry) (at : ℕ) (owners all : List ℕ) → length entries ≤ at → (found ≡ false → owners ≡ []) → found_of serial found owners (left_up_to number entries at) ≡ all → owners ≡ all
 all_found serial number true entries at owners all end none so_far = sym (append-nil owners) ∙ (ap (λ es. owners ++ owners_in es) (sym (none_left number entries at end)) ∙ so_far)
 all_found serial number false entries at owners all end none so_far = none refl ∙ (ap (behind serial) (sym (none_left number entries at end)) ∙ so_far)
+
+-- the way from one entry to the next, with the way from there on, is the whole way
+pub way_on : (entries : List Entry) (at serial last sum now all : ℕ) (entry : Entry) → at < length entries → entry ≡ get_or entries at entry → now ≡ sum + serial_distance last entry.serial.0
+    → sum + span last (serials_in (drop at entries) ++ serial ∷ []) ≡ all → now + span entry.serial.0 (serials_in (drop (at + 1) entries) ++ serial ∷ []) ≡ all
+way_on entries at serial last sum now all entry within is now_is so_far =
+    let here : span last (serials_in (drop at entries) ++ serial ∷ []) ≡ serial_distance last entry.serial.0 + span entry.serial.0 (serials_in (drop (at + 1) entries) ++ serial ∷ []) =
+    ap (λ es. span last (serials_in es ++ serial ∷ [])) (entries_from entries at entry within is) in
+    omega (arith, now_is, here, so_far)
+
+pub way_end : (entries : List Entry) (at serial last sum all : ℕ) → length entries ≤ at → sum + span last (serials_in (drop at entries) ++ serial ∷ []) ≡ all → sum + serial_distance last serial ≡ all
+way_end entries at serial last sum all end so_far =
+    let here : span last (serials_in (drop at entries) ++ serial ∷ []) ≡ serial_distance last serial + 0 = ap (λ es. span last (serials_in es ++ serial ∷ [])) (drop_all at entries end) in
+    omega (arith, here, so_far)

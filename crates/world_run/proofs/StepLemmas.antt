@@ -1,6 +1,6 @@
 -- The steps of a call, one after the other.
-use Rattle.std.proofs.Common.{◌≡◌, refl, sym, ap, ◌∙◌, subst, ℕ, zero, suc, ◌+◌, ◌-◌, ◌<◌, arith, Option, Some, None}
-use Rattle.std.specs.Prelude.{MatchOption}
+use Rattle.std.proofs.Common.{◌≡◌, refl, sym, ap, ◌∙◌, subst, ℕ, zero, suc, ◌+◌, ◌-◌, ◌<◌, Bool, true, false, arith, Option, Some, None}
+use Rattle.std.specs.Prelude.{MatchBool}
 use Rattle.std.specs.Option.{option_map}
 use Rattle.cell_core.specs.Words.{State}
 use Rattle.cell_core.specs.WordSteps.{Makes, HasWordStep}
@@ -35,39 +35,34 @@ unfolding steps_up_to
 ends_there zero words between phase end some ends = absurd (omega (arith, some))
 ends_there (suc left) words between phase end some ends = rw ends refl
 
--- what a call under way was told of its step
-abbrev pub IsTold : State Numbered → Phase → State Numbered → Option Progress → Type 0
-IsTold words phase after told =
-    MatchOption told ((step_once words phase ≡ None) × (after ≡ words)) (λ progress. step_once words phase ≡ Some (progress, after))
-
-told_some : (words after : State Numbered) (phase : Phase) (told : Option Progress) (progress : Progress) → told ≡ Some progress → IsTold words phase after told → step_once words phase ≡ Some (progress, after)
-told_some words after phase None progress is t = absurd (let wrong = is in cc)
-told_some words after phase (Some other) progress is t = let same : other ≡ progress = (let e = is in cc) in t ∙ ap (λ (p : Progress). Some (p, after)) same
-
-told_none : (words after : State Numbered) (phase : Phase) (told : Option Progress) → told ≡ None → IsTold words phase after told → (step_once words phase ≡ None) × (after ≡ words)
-told_none words after phase None is t = t
-told_none words after phase (Some other) is t = absurd (let wrong = is in cc)
+-- what a call came to by its step, and whether that was made
+abbrev pub IsMade : State Numbered → Phase → State Numbered → Progress → Bool → Type 0
+IsMade words phase after progress made =
+    MatchBool made (step_once words phase ≡ Some (progress, after)) ((step_once words phase ≡ None) × (after ≡ words) × (progress ≡ On phase))
 
 -- the call takes one step more
-pub further : (at : ℕ) (first words after : State Numbered) (begun phase next : Phase) (told : Option Progress) (progress : Progress) → at < most_steps → told ≡ Some progress → progress ≡ On next → IsTold words phase after told
+pub further : (at : ℕ) (first words after : State Numbered) (begun phase next : Phase) (progress : Progress) (made : Bool) → at < most_steps → made ≡ true → progress ≡ On next → IsMade words phase after progress made
     → steps_up_to most_steps first begun ≡ steps_up_to (most_steps - at) words phase → steps_up_to most_steps first begun ≡ steps_up_to (most_steps - (at + 1)) after next
-further at first words after begun phase next told progress lt is on t so_far =
+further at first words after begun phase next progress false lt is on m so_far = absurd (let wrong = is in cc)
+further at first words after begun phase next progress true lt is on m so_far =
     let left : most_steps - at - 1 ≡ most_steps - (at + 1) = omega arith in
-    so_far ∙ goes_further (most_steps - at) words after phase next (omega arith) (told_some words after phase told (On next) (is ∙ ap Some on) t)
+    so_far ∙ goes_further (most_steps - at) words after phase next (omega arith) (m ∙ ap (λ (p : Progress). Some (p, after)) on)
     ∙ ap (λ n. steps_up_to n after next) left
 
 -- the call can't take its next step
-pub stayed : (at : ℕ) (first words after : State Numbered) (begun phase : Phase) (told : Option Progress) → at < most_steps → told ≡ None → IsTold words phase after told
-    → steps_up_to most_steps first begun ≡ steps_up_to (most_steps - at) words phase → (On phase, after) ≡ steps_up_to most_steps first begun
-stayed at first words after begun phase told lt is t so_far =
-    let none = told_none words after phase told is t in
-    ap (λ (s : State Numbered). (On phase, s)) none.1 ∙ sym (so_far ∙ stays_there (most_steps - at) words phase (omega arith) none.0)
+pub stayed : (at : ℕ) (first words after : State Numbered) (begun phase there : Phase) (progress : Progress) (made : Bool) → at < most_steps → made ≡ false → progress ≡ On there → IsMade words phase after progress made
+    → steps_up_to most_steps first begun ≡ steps_up_to (most_steps - at) words phase → (On there, after) ≡ steps_up_to most_steps first begun
+stayed at first words after begun phase there progress true lt is on m so_far = absurd (let wrong = is in cc)
+stayed at first words after begun phase there progress false lt is on m so_far =
+    ap (λ (p : Progress). (p, after)) (sym on ∙ m.2)
+    ∙ (ap (λ (s : State Numbered). (On phase, s)) m.1 ∙ sym (so_far ∙ stays_there (most_steps - at) words phase (omega arith) m.0))
 
 -- the call is at its end
-pub ended : (at : ℕ) (first words after : State Numbered) (begun phase : Phase) (end : End) (told : Option Progress) (progress : Progress) → at < most_steps → told ≡ Some progress → progress ≡ Done end → IsTold words phase after told
+pub ended : (at : ℕ) (first words after : State Numbered) (begun phase : Phase) (end : End) (progress : Progress) (made : Bool) → at < most_steps → progress ≡ Done end → IsMade words phase after progress made
     → steps_up_to most_steps first begun ≡ steps_up_to (most_steps - at) words phase → (Done end, after) ≡ steps_up_to most_steps first begun
-ended at first words after begun phase end told progress lt is done t so_far =
-    sym (so_far ∙ ends_there (most_steps - at) words after phase end (omega arith) (told_some words after phase told (Done end) (is ∙ ap Some done) t))
+ended at first words after begun phase end progress false lt done m so_far = absurd (let wrong : Done end ≡ On phase = sym done ∙ m.2 in cc)
+ended at first words after begun phase end progress true lt done m so_far =
+    sym (so_far ∙ ends_there (most_steps - at) words after phase end (omega arith) (m ∙ ap (λ (p : Progress). Some (p, after)) done))
 
 no_more : (left : ℕ) (words : State Numbered) (phase : Phase) → left ≡ 0 → steps_up_to left words phase ≡ (On phase, words)
 unfolding steps_up_to

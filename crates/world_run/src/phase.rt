@@ -325,7 +325,7 @@ impl<'a> Purpose<'a> {
 
     /// What follows where the owner is gone; a drop gives this.
     fn past(self, answer: Answer) -> Progress<'a>
-        ensures { result ≡ says_past self answer }
+        ensures { result ≡ says_past self.entry answer }
     {
         match self {
             Purpose::Drop => Progress::Done(End::Told(answer)),
@@ -405,7 +405,7 @@ fn leaving_after<'a>(
 
 /// What follows where a transfer is to give up the owners that it has got.
 fn sent_after<'a>(sending: Sending<'a>, owners: OwnerList) -> Progress<'a>
-    ensures { result ≡ sent_after sending owners }
+    ensures { result ≡ sent_after sending.entry owners }
 {
     let mut left = owners;
     match left.take_first() {
@@ -531,7 +531,7 @@ fn after_enter<'a>(given: usize, kept: usize, keeping: Keeping, event: WordEvent
 
 /// What follows on a look at the version of an entry.
 fn after_seek<'a>(owner: usize, seeking: Seeking<'a>, event: WordEvent) -> Progress<'a>
-    ensures { result ≡ seek_after owner seeking event }
+    ensures { result ≡ seek_after owner seeking.entry event }
 {
     match event {
         WordEvent::Alive => Progress::On(Phase::Gain(owner, seeking)),
@@ -547,7 +547,7 @@ fn after_gain<'a>(
     seeking: Seeking<'a>,
     event: WordEvent,
 ) -> Result<Progress<'a>, WorldFault>
-    ensures ok { IfOk result (λ progress. progress ≡ gain_after machine.now owner seeking event) }
+    ensures ok { IfOk result (λ progress. progress ≡ gain_after machine.now owner seeking.entry event) }
     ensures refused { IfErr result (λ fault. fault ≡ WorldFault.NoMemory) }
 {
     match event {
@@ -569,7 +569,7 @@ fn after_gain<'a>(
 
 /// What follows where a transfer has got one more owner.
 fn gained_after<'a>(seeking: Seeking<'a>) -> Progress<'a>
-    ensures { result ≡ gained_after seeking seeking.left }
+    ensures { result ≡ gained_after seeking.entry seeking.entry.left }
 {
     let mut further = seeking;
     match further.left.take_first() {
@@ -580,7 +580,7 @@ fn gained_after<'a>(seeking: Seeking<'a>) -> Progress<'a>
 
 /// What follows on a release.
 fn after_release<'a>(owner: usize, purpose: Purpose<'a>, event: WordEvent) -> Progress<'a>
-    ensures { result ≡ release_after owner purpose event }
+    ensures { result ≡ release_after owner purpose.entry event }
 {
     match event {
         WordEvent::Emptied => Progress::On(Phase::Bury(owner, purpose)),
@@ -590,7 +590,7 @@ fn after_release<'a>(owner: usize, purpose: Purpose<'a>, event: WordEvent) -> Pr
 
 /// What follows on a bury.
 fn after_bury<'a>(owner: usize, purpose: Purpose<'a>, event: WordEvent) -> Progress<'a>
-    ensures { result ≡ bury_after owner purpose event }
+    ensures { result ≡ bury_after owner purpose.entry event }
 {
     match event {
         WordEvent::Buried(number) => Progress::On(Phase::Fade(owner, Some(number), purpose)),
@@ -615,7 +615,7 @@ fn after_fade<'a>(
     purpose: Purpose<'a>,
     event: WordEvent,
 ) -> Progress<'a>
-    ensures { result ≡ fade_after owner number purpose event }
+    ensures { result ≡ fade_after owner number purpose.entry event }
 {
     match event {
         WordEvent::Closed => Progress::On(Phase::Reset(owner, number, purpose)),

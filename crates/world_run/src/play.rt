@@ -215,7 +215,21 @@ impl<'a> Play<'a> {
         ensures ok { IfOk result (λ reply. (reply, self.new) ≡ says_all_made self.old call.now (steps_up_to most_steps self.old.words phase.entry)) }
         ensures refused { IfErr result (λ fault. fault ≡ WorldFault.NoMemory) }
     {
-        match take_steps(alloc, &mut self.machine, phase)? {
+        let came = take_steps(alloc, &mut self.machine, phase)?;
+        self.come_to(alloc, call, came)
+    }
+
+    /// What a call gives that has made its steps; where one couldn't be made, it isn't enabled.
+    fn come_to(
+        &mut self,
+        alloc: Global,
+        call: &Call<'a>,
+        came: Progress<'a>,
+    ) -> Result<WorldReply, WorldFault>
+        ensures ok { IfOk result (λ reply. (reply, self.new) ≡ says_all_made self.old call.now (came.entry, self.old.words)) }
+        ensures refused { IfErr result (λ fault. fault ≡ WorldFault.NoMemory) }
+    {
+        match came {
             Progress::On(_) => Ok(WorldReply::NotEnabled),
             Progress::Done(end) => {
                 give_up(&mut self.names, call);

@@ -142,7 +142,7 @@ impl<'a> Sending<'a> {
 
     /// The same, with each version got that it asks for.
     pub fn completed(self) -> Sending<'a>
-        ensures { result ≡ completed self }
+        ensures { result ≡ completed self.entry }
     {
         Sending {
             served: self.served,

@@ -70,7 +70,7 @@ impl<'a> Play<'a> {
         sending: Sending<'a>,
         query: &Query,
     ) -> Result<Start<'a>, WorldFault>
-        ensures ok { IfOk result (λ how. how ≡ transfer_asked self.now sending query.now) }
+        ensures ok { IfOk result (λ how. how ≡ transfer_asked self.now sending.entry query.now) }
         ensures refused { IfErr result (λ fault. fault ≡ WorldFault.NoMemory) }
     {
         if !sending.is_permitted(query) {
@@ -91,7 +91,7 @@ impl<'a> Play<'a> {
         sending: Sending<'a>,
         owners: OwnerList,
     ) -> Result<Start<'a>, WorldFault>
-        ensures ok { IfOk result (λ how. how ≡ seek_start self.now.words sending owners) }
+        ensures ok { IfOk result (λ how. how ≡ seek_start self.now.words sending.entry owners) }
         ensures refused { IfErr result (λ fault. fault ≡ WorldFault.NoMemory) }
     {
         let has_shares = self.machine.has_shares_for(owners.len());

@@ -1,5 +1,6 @@
 //! The steps of calls on the words of the cell.
-ghost use Rattle.std.specs.Prelude.{◌≡◌, Some, None, IfOk, IfErr, MatchOption};
+ghost use Rattle.std.specs.Prelude.{◌≡◌, Some, None, IfOk, IfErr, MatchBool, MatchOption};
+ghost use Rattle.world_run.specs.declared.phase.Progress.TheVariants.{On};
 ghost use Rattle.world_run.specs.World.{loaded_once as says_loaded_once, started_words as says_started_words, most_steps, step_once as says_step_once, steps_up_to};
 
 use crate::fault::WorldFault;
@@ -33,6 +34,23 @@ pub(crate) fn step_once<'a>(
     }
 }
 
+/// Takes the next step of a call, and tells that it was made; where it can't be made, the call stays there.
+fn go_further<'a>(
+    alloc: Global,
+    machine: &mut WordMachine<Published>,
+    phase: Phase<'a>,
+) -> Result<(Progress<'a>, bool), WorldFault>
+    ensures ok { IfOk result (λ told. MatchBool told.1
+        (says_step_once machine.old phase.entry ≡ Some (told.0, machine.new))
+        ((says_step_once machine.old phase.entry ≡ None) × (machine.new ≡ machine.old) × (told.0 ≡ On phase.entry))) }
+    ensures refused { IfErr result (λ fault. fault ≡ WorldFault.NoMemory) }
+{
+    match step_once(alloc, machine, &phase)? {
+        None => Ok((Progress::On(phase), false)),
+        Some(progress) => Ok((progress, true)),
+    }
+}
+
 /// Takes the steps of a call up to its end; where one can't be made, it stays there.
 pub(crate) fn take_steps<'a>(
     alloc: Global,
@@ -44,11 +62,15 @@ pub(crate) fn take_steps<'a>(
 {
     let mut phase = first;
     for _ in 0..MOST_STEPS {
-        let Some(progress) = step_once(alloc, machine, &phase)? else {
-            return Ok(Progress::On(phase));
-        };
+        let (progress, made) = go_further(alloc, machine, phase)?;
         match progress {
-            Progress::On(further) => phase = further,
+            Progress::On(further) => {
+                if made {
+                    phase = further;
+                } else {
+                    return Ok(Progress::On(further));
+                }
+            }
             Progress::Done(end) => return Ok(Progress::Done(end)),
         }
     }
