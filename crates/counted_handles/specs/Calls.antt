@@ -162,16 +162,6 @@ pub record IsEmptied {T : Type 0} (slot : ℕ) (me : Sat T) : Type 0 where
   pub empty : room.value ≡ None
   pub whole : room.stake ≡ []
 
--- an owner: the version is held, for a share of its slot at this table (own)
-pub record IsOwner {T : Type 0} (id : TableId) (stake : Stake (View T)) (value : Option (Version T)) (slot : ℕ) (version : Version T) : Type 0 where
-  pub mark : Mark T
-  pub stake_is : stake ≡ stake_of mark
-  pub held_is : value ≡ Some version
-  pub slot_is : mark.slot ≡ slot
-  pub name_is : mark.name ≡ id.views_name
-  pub within : slot < slots
-  pub fits : Fits id
-
 -- what a load gives its caller: an owner of the version published last, and the reader has seen all that is published (own)
 pub record IsOwned {T : Type 0} (begins : T → Type 0) (follows : T → T → Type 0) (reading : Reading T) (views : List (View T)) (version : Version T) : Type 0 where
   pub published : List T
