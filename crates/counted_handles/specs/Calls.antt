@@ -2,7 +2,7 @@
 use Rattle.std.specs.Prelude.{◌≡◌, Bool, true, false, Contains, ℕ, ◌+◌, ◌-◌, ◌^◌, ◌<◌, ◌≤◌, List, [], ◌∷◌, ◌++◌, length, Option, None, Some, vec_len}
 use Rattle.std.specs.List.{slice_get}
 use Rattle.atomic_table.specs.Seated.{TableId}
-use Rattle.cell_core.specs.Words.{slots, slot_of}
+use Rattle.cell_core.specs.Words.{slots, notes, slot_of}
 use Rattle.cell_core.specs.declared.words.Publisher.TheVariants.{Probing, Preparing, Swapping, Settling}
 use Rattle.counted_handles.specs.declared.rule.Spots.{Spots}
 use Rattle.counted_handles.specs.declared.view.Mark.{Mark}
@@ -297,6 +297,14 @@ sunk_by r number false = with_gone number r
 abbrev pub IsNoted : {T : Type 0} → Publishing T → Mark T → Sat T → Sat T → Sat T → Type 0
 IsNoted p mark me owner weak =
     (me ≡ (Publishes (record p { noted = p.noted + 1; fixed = None }), [])) × (owner ≡ (Has mark, [])) × (weak ≡ (HasWeakly (tie_of mark), []))
+
+-- the publisher's token with no share that isn't split off, which may note once more (own)
+abbrev pub CanNote : {T : Type 0} → Publishing T → List (View T) → Type 0
+CanNote p views = (views ≡ Publishes p ∷ []) × (p.share ≡ None) × (p.noted < notes)
+
+-- the publisher that has made one weak owner more (own)
+abbrev pub with_note : {T : Type 0} → Publishing T → Publishing T
+with_note p = record p { noted = p.noted + 1; fixed = None }
 
 -- a load by the publisher with a note: what it gives its caller, beside the owners (own)
 pub record IsNewestNoted {T : Type 0} (p : Publishing T) (r : Reading T) (views reader : List (View T)) (version : Version T) : Type 0 where

@@ -62,8 +62,7 @@ returns-clause-old g c =
     let swapping = swapping_of g.C.Names.begins g.C.Follows.follows c.in-Some.slot due.0 c.args.value lies.0 c.put.new.seat.me taken.0 lies.1 due.4 in
     let swapped = c.swap_in-share.ensures.published (put_as due.0 c.in-Some.slot c.args.value lies.0) c.args.value swapping due.1.2 in
     let owned = c.own.ensures swapped.mark swapped.share_is in
-    let own = sym (ap (λ o. o.version) owned) in
-    (
+    let own = sym (ap (λ o. o.version) owned) in (
       ap (λ o. o.table) owned,
       λ p can. subst (λ q. IsOld q c.own.result.version) (same_publisher due.0 p c.args.badge.now.views due.1.0 can.0) (subst (λ v. IsOld due.0 v) own (swapped.last, swapped.value_is)),
     )
