@@ -1,6 +1,5 @@
 -- The version that an owner claims.
 use Rattle.std.proofs.Common.{◌≡◌, sym, ap, ◌∙◌, Option, None, Some}
-use Rattle.cell_core.specs.declared.words.Version.{Version}
 use Rattle.counted_handles.specs.declared.view.Mark.{Mark}
 use Rattle.counted_handles.specs.Ruled.{stake_of, version_of}
 use Rattle.counted_handles.specs.Owned.{Claim, IsHeld}

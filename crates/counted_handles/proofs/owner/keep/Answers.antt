@@ -1,4 +1,4 @@
-use Rattle.std.proofs.Common.{◌≡◌, refl, sym, ap, ◌∙◌}
+use Rattle.std.proofs.Common.{refl, sym, ◌∙◌}
 use Rattle.counted_handles.specs.Ruled.{version_of}
 use Rattle.counted_handles.proofs.HeldLemmas.{one_some}
 use Rattle.counted_handles.proofs.owner.keep.Goals as goal

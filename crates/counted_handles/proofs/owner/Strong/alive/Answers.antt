@@ -1,4 +1,4 @@
-use Rattle.std.proofs.Common.{◌≡◌, sym, ap, ◌∙◌, subst, ℕ, [], ◌∷◌}
+use Rattle.std.proofs.Common.{sym, ap, ◌∙◌, subst, ℕ, [], ◌∷◌}
 use Rattle.std.specs.Prelude.{Contains}
 use Rattle.counted_handles.specs.Owned.{IsHeld}
 use Rattle.counted_handles.proofs.WeakLemmas.{whole_seat}

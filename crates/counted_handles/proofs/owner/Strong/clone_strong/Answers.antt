@@ -1,4 +1,4 @@
-use Rattle.std.proofs.Common.{◌≡◌, sym, ap, ◌∙◌, subst, [], ◌∷◌}
+use Rattle.std.proofs.Common.{sym, ap, ◌∙◌, subst, [], ◌∷◌}
 use Rattle.counted_handles.specs.Owned.{IsHeld}
 use Rattle.counted_handles.proofs.WeakLemmas.{guest_seat}
 use Rattle.counted_handles.proofs.owner.Strong.clone_strong.Goals as goal

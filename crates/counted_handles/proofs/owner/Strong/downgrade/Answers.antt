@@ -1,4 +1,4 @@
-use Rattle.std.proofs.Common.{◌≡◌, sym, ap, ◌∙◌, subst, [], ◌∷◌}
+use Rattle.std.proofs.Common.{sym, ap, ◌∙◌, subst, [], ◌∷◌}
 use Rattle.counted_handles.specs.Owned.{IsHeld}
 use Rattle.counted_handles.specs.Tells.{tie_of}
 use Rattle.counted_handles.proofs.WeakLemmas.{publisher_seat}

@@ -1,6 +1,5 @@
-use Rattle.std.proofs.Common.{◌≡◌, sym, ap, ◌∙◌}
 use Rattle.counted_handles.specs.Ruled.{version_of}
-use Rattle.counted_handles.proofs.HeldLemmas.{one_some, its_value}
+use Rattle.counted_handles.proofs.HeldLemmas.{its_value}
 use Rattle.counted_handles.proofs.owner.Strong.version.Goals as goal
 
 pub claimed-requires : goal.claimed-requires
