@@ -12,10 +12,12 @@ mod ending;
 mod fault;
 mod named;
 mod named_ending;
+mod named_owner;
 mod tokens;
 
 pub use cell::{Cell, Parts, StillOut};
 pub use counted_handles::{Names, NoSlot, Released, Steps, Strong};
 pub use fault::{NewFault, Spent};
 pub use named::{NamedCell, NamedPublisher, NamedReader, NamedStillOut, Naming};
+pub use named_owner::NamedStrong;
 pub use tokens::{Publisher, READERS, Reader};
