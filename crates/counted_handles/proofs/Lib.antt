@@ -39,3 +39,4 @@ pub mod UnmadeLemmas
 pub mod Burials
 pub mod Lapsings
 pub mod WeakLemmas
+mod HeldLemmas

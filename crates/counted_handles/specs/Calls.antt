@@ -2,7 +2,7 @@
 use Rattle.std.specs.Prelude.{◌≡◌, Bool, true, false, Contains, ℕ, ◌+◌, ◌-◌, ◌^◌, ◌<◌, ◌≤◌, List, [], ◌∷◌, ◌++◌, length, Option, None, Some, vec_len}
 use Rattle.std.specs.List.{slice_get}
 use Rattle.atomic_table.specs.Seated.{TableId}
-use Rattle.cell_core.specs.Words.{slots, slot_of}
+use Rattle.cell_core.specs.Words.{slots, notes, slot_of}
 use Rattle.cell_core.specs.declared.words.Publisher.TheVariants.{Probing, Preparing, Swapping, Settling}
 use Rattle.counted_handles.specs.declared.rule.Spots.{Spots}
 use Rattle.counted_handles.specs.declared.view.Mark.{Mark}
@@ -162,16 +162,6 @@ pub record IsEmptied {T : Type 0} (slot : ℕ) (me : Sat T) : Type 0 where
   pub empty : room.value ≡ None
   pub whole : room.stake ≡ []
 
--- an owner: the version is held, for a share of its slot at this table (own)
-pub record IsOwner {T : Type 0} (id : TableId) (stake : Stake (View T)) (value : Option (Version T)) (slot : ℕ) (version : Version T) : Type 0 where
-  pub mark : Mark T
-  pub stake_is : stake ≡ stake_of mark
-  pub held_is : value ≡ Some version
-  pub slot_is : mark.slot ≡ slot
-  pub name_is : mark.name ≡ id.views_name
-  pub within : slot < slots
-  pub fits : Fits id
-
 -- what a load gives its caller: an owner of the version published last, and the reader has seen all that is published (own)
 pub record IsOwned {T : Type 0} (begins : T → Type 0) (follows : T → T → Type 0) (reading : Reading T) (views : List (View T)) (version : Version T) : Type 0 where
   pub published : List T
@@ -307,6 +297,14 @@ sunk_by r number false = with_gone number r
 abbrev pub IsNoted : {T : Type 0} → Publishing T → Mark T → Sat T → Sat T → Sat T → Type 0
 IsNoted p mark me owner weak =
     (me ≡ (Publishes (record p { noted = p.noted + 1; fixed = None }), [])) × (owner ≡ (Has mark, [])) × (weak ≡ (HasWeakly (tie_of mark), []))
+
+-- the publisher's token with no share that isn't split off, which may note once more (own)
+abbrev pub CanNote : {T : Type 0} → Publishing T → List (View T) → Type 0
+CanNote p views = (views ≡ Publishes p ∷ []) × (p.share ≡ None) × (p.noted < notes)
+
+-- the publisher that has made one weak owner more (own)
+abbrev pub with_note : {T : Type 0} → Publishing T → Publishing T
+with_note p = record p { noted = p.noted + 1; fixed = None }
 
 -- a load by the publisher with a note: what it gives its caller, beside the owners (own)
 pub record IsNewestNoted {T : Type 0} (p : Publishing T) (r : Reading T) (views reader : List (View T)) (version : Version T) : Type 0 where

@@ -9,6 +9,7 @@
 
 mod calls;
 mod ending;
+mod further;
 mod grants;
 mod guests;
 mod lapsed;

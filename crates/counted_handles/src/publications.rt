@@ -54,7 +54,7 @@ fn put<T: Drop, C: Names<T>>(
 /// the value where this call saw none of the 64 slots free: nothing is then published. It waits for nobody.
 pub fn publish<'a, T: Drop, C: Names<T>>(
     words: &'a Words<T, C>,
-    spots: &Spots<T>,
+    spots: &'a Spots<T>,
     badge: &mut Badge<View<T>>,
     number: u64,
     value: T,
@@ -64,7 +64,7 @@ pub fn publish<'a, T: Drop, C: Names<T>>(
     requires room { number < 2 ^ 64 - 1 }
     requires due { (p : Publishing T) × CanPublish p badge.old.views × (length p.published ≡ number + 1) × (p.name ≡ words.now.table_id.views_name) × IsHistory C.begins C.follows (p.published ++ value ∷ []) }
     ensures badge { (badge.new.table_id ≡ badge.old.table_id) × (badge.new.id ≡ badge.old.id) }
-    ensures old { IfOk result (λ strong. (p : Publishing T) → CanPublish p badge.old.views → IsOld p strong) }
+    ensures old { IfOk result (λ strong. (strong.table ≡ words.now.table_id) × ((p : Publishing T) → CanPublish p badge.old.views → IsOld p strong.version)) }
     ensures published { IfOk result (λ _. (p : Publishing T) → CanPublish p badge.old.views → IsNewer p value badge.new.views) }
     ensures refused { IfErr result (λ refused. (refused.value ≡ value) × (refused.probed ≡ slots) × (badge.new.views ≡ badge.old.views)) }
 {
@@ -85,7 +85,7 @@ pub fn publish<'a, T: Drop, C: Names<T>>(
 /// published. It waits for nobody.
 pub fn newest<'a, T: Drop, C: Names<T>>(
     words: &'a Words<T, C>,
-    spots: &Spots<T>,
+    spots: &'a Spots<T>,
     badge: &mut Badge<View<T>>,
     reader: &mut Badge<View<T>>,
 ) -> Strong<'a, T, C>
@@ -93,7 +93,8 @@ pub fn newest<'a, T: Drop, C: Names<T>>(
     requires fits { (badge.old.table_id ≡ words.now.table_id) × (badge.old.id ≡ 0) × (reader.old.table_id ≡ words.now.table_id) }
     requires can { (p : Publishing T) × (r : Reading T) × IsAtRest p badge.old.views × CanRead r reader.old.views × (p.name ≡ words.now.table_id.views_name) }
     ensures badges { (badge.new.table_id ≡ badge.old.table_id) × (badge.new.id ≡ badge.old.id) × (reader.new.table_id ≡ words.now.table_id) }
-    ensures newest { (p : Publishing T) (r : Reading T) → IsAtRest p badge.old.views → CanRead r reader.old.views → IsOwnLast p r badge.new.views reader.new.views result }
+    ensures newest { (p : Publishing T) (r : Reading T) → IsAtRest p badge.old.views → CanRead r reader.old.views → IsOwnLast p r badge.new.views reader.new.views result.version }
+    ensures table { result.table ≡ words.now.table_id }
 {
     let mut seat = mem::replace(badge, Badge::blank()).into_seat();
     let guest = mem::replace(reader, Badge::blank()).into_seat();

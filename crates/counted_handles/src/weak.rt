@@ -54,7 +54,7 @@ pub struct Sunk {
 }
 
 // The weak owner that a seat is of.
-fn keep_weak<'a, T: Drop, C: Names<T>>(
+pub(crate) fn keep_weak<'a, T: Drop, C: Names<T>>(
     words: &'a Words<T, C>,
     spots: &'a Spots<T>,
     seat: Seat<Room<T>, View<T>>,
@@ -90,8 +90,9 @@ pub fn newest_with_weak<'a, T: Drop, C: Names<T>>(
     requires fits { (badge.old.table_id ≡ words.now.table_id) × (badge.old.id ≡ 0) × (reader.old.table_id ≡ words.now.table_id) }
     requires can { (p : Publishing T) × (r : Reading T) × IsAtRest p badge.old.views × CanRead r reader.old.views × (p.name ≡ words.now.table_id.views_name) × (p.noted < notes) }
     ensures badges { (badge.new.table_id ≡ badge.old.table_id) × (badge.new.id ≡ badge.old.id) × (reader.new.table_id ≡ words.now.table_id) }
-    ensures newest { (p : Publishing T) (r : Reading T) → IsAtRest p badge.old.views → CanRead r reader.old.views → IsNewestNoted p r badge.new.views reader.new.views result.0 }
-    ensures weak { result.1 ≡ record { version = result.0; table = words.now.table_id } }
+    ensures newest { (p : Publishing T) (r : Reading T) → IsAtRest p badge.old.views → CanRead r reader.old.views → IsNewestNoted p r badge.new.views reader.new.views result.0.version }
+    ensures table { result.0.table ≡ words.now.table_id }
+    ensures weak { result.1 ≡ result.0 }
 {
     let mut seat = mem::replace(badge, Badge::blank()).into_seat();
     let guest = mem::replace(reader, Badge::blank()).into_seat();
@@ -120,7 +121,7 @@ impl<'a, T: Drop, C: Names<T>> Weak<'a, T, C> {
         requires can { (r : Reading T) × CanRead r reader.old.views }
         ensures same { self.new ≡ self.old }
         ensures reader { (reader.new.table_id ≡ reader.old.table_id) × (reader.new.id ≡ reader.old.id) }
-        ensures owner { IfOk result (λ strong. (strong ≡ self.old.version) × ((r : Reading T) → CanRead r reader.old.views → reader.new.views ≡ Reads (with_grant_less r) ∷ [])) }
+        ensures owner { IfOk result (λ strong. (strong ≡ self.old) × ((r : Reading T) → CanRead r reader.old.views → reader.new.views ≡ Reads (with_grant_less r) ∷ [])) }
         ensures buried { IfErr result (λ sunk. (r : Reading T) → CanRead r reader.old.views → reader.new.views ≡ Reads (sunk_by r self.old.version.number sunk.raised) ∷ []) }
     {
         let weak = mem::replace(&mut self.badge, Badge::blank()).into_seat();

@@ -99,13 +99,13 @@ module _ (T C : RattleType) (g : names.Ghosts C.Denot T.Denot) (g' : follows.Gho
     strong_send a =
         let older = older_sync T y in
         let room = room_send T s y in
-        search (shared.the_sync, held.the_send, crossing.crosses, sendable) depth 60 fits 20000
+        search (shared.the_sync, spots_sync, held.the_send, option.the_send, crossing.crosses, sendable) depth 60 fits 20000
 
     pub strong_sync : (a : NamedLft) → IsSync (Strong.the_row a T C g g')
     strong_sync a =
         let older = older_sync T y in
         let room = room_send T s y in
-        search (shared.the_sync, held.the_sync, crossing.crosses, sendable) depth 60 fits 20000
+        search (shared.the_sync, spots_sync, held.the_sync, option.the_sync, crossing.crosses, sendable) depth 60 fits 20000
 
     module _ (N : RattleType) (n : naming.Ghosts N.Denot) where
       pub named_cell_send : IsSend (NamedCell.the_row T C N n g g')

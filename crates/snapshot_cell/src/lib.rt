@@ -12,6 +12,7 @@ mod ending;
 mod fault;
 mod named;
 mod named_ending;
+mod named_owner;
 mod tokens;
 mod weak;
 
@@ -19,5 +20,6 @@ pub use cell::{Cell, Parts, StillOut};
 pub use counted_handles::{Lapse, Lapsed, Names, NoSlot, Released, Steps, Strong, Weak};
 pub use fault::{NewFault, Spent};
 pub use named::{NamedCell, NamedPublisher, NamedReader, NamedStillOut, Naming};
+pub use named_owner::NamedStrong;
 pub use tokens::{Publisher, READERS, Reader};
 pub use weak::NamedWeak;

@@ -1,9 +1,11 @@
 //! Weak owners of a cell's versions, and their upgrades.
-ghost use Rattle.std.specs.Prelude.{◌≡◌, ◌<◌, IfOk, IfErr};
+ghost use Rattle.std.specs.Prelude.{◌≡◌, ◌<◌, IfOk, IfErr, IfSome};
+ghost use Rattle.std.specs.Option.{option_map};
 ghost use Rattle.snapshot_cell.specs.Tokens.{IsUpgraded};
 
 use crate::fault::Spent;
 use crate::named::{NamedReader, Naming};
+use crate::named_owner::NamedStrong;
 use crate::tokens::Reader;
 use counted_handles::{Names, Strong, Sunk, Weak};
 use std::marker::{Model, PhantomData};
@@ -35,7 +37,8 @@ impl<T: Drop> Reader<T> {
     ) -> Result<Option<Strong<'a, T, C>>, Spent>
         requires { weak.old.table ≡ self.old.cell }
         ensures same { weak.new ≡ weak.old }
-        ensures upgraded { IfOk result (λ found. IsUpgraded self.old self.new weak.old.version found × (0 < self.old.left)) }
+        ensures upgraded { IfOk result (λ found. IsUpgraded self.old self.new weak.old.version (option_map (λ s. s.version) found) × (0 < self.old.left)) }
+        ensures table { IfOk result (λ found. IfSome found (λ s. s.table ≡ self.old.cell)) }
         ensures spent { IfErr result (λ _. (self.old.left ≡ 0) × (self.new ≡ self.old)) }
     {
         if self.left == 0 {
@@ -78,11 +81,14 @@ impl<'a, T: Drop, C: Names<T>, N: Naming> NamedWeak<'a, T, C, N> {
     pub fn upgrade(
         &mut self,
         reader: &mut NamedReader<T, N>,
-    ) -> Result<Option<Strong<'a, T, C>>, Spent>
+    ) -> Result<Option<NamedStrong<'a, T, C, N>>, Spent>
         ensures same { self.new ≡ self.old }
         ensures upgraded { IfOk result (λ found. IsUpgraded reader.old reader.new self.old found × (0 < reader.old.left)) }
         ensures spent { IfErr result (λ _. (reader.old.left ≡ 0) × (reader.new ≡ reader.old)) }
     {
-        reader.reader.upgrade(&mut self.weak)
+        match reader.reader.upgrade(&mut self.weak)? {
+            Some(strong) => Ok(Some(NamedStrong::of(strong))),
+            None => Ok(None),
+        }
     }
 }

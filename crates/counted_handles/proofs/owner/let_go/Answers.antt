@@ -8,18 +8,18 @@ use Rattle.counted_handles.proofs.owner.let_go.Goals as goal
 pub lower-released-requires-clause-has : goal.lower-released-requires-clause-has
 lower-released-requires-clause-has g c =
     let has = c.requires.has in
-    (has.0, c.give_up-seat.ensures.has has.0 has.1, has.2, c.requires.fits.1)
+    (has.0, c.stand-seat.ensures.has has.0 has.1, has.2, c.requires.fits.1)
 
 pub returns-then-not-is_due : goal.returns-then-not-is_due
 returns-then-not-is_due g c =
     let has = c.requires.has in
-    let told = c.lower-released.ensures.lowered has.0 (c.give_up-seat.ensures.has has.0 has.1) in
+    let told = c.lower-released.ensures.lowered has.0 (c.stand-seat.ensures.has has.0 has.1) in
     ends_there g.C.Names.begins g.C.Follows.follows has.0 c.lower-released.result c.lower-released.new.seat.me (λ e. let no = c.if-not-is_due.ensures.1 e in cc) told
 
 pub bury-requires-clause-due : goal.bury-requires-clause-due
 bury-requires-clause-due g c =
     let has = c.requires.has in
-    let told = c.lower-released.ensures.lowered has.0 (c.give_up-seat.ensures.has has.0 has.1) in
+    let told = c.lower-released.ensures.lowered has.0 (c.stand-seat.ensures.has has.0 has.1) in
     let one = c.if-not-is_due.ensures.0 refl in
     let due = is_due has.0 c.lower-released.result c.lower-released.new.seat.me one told in
     (one, due ∙ (λ i. (Buries (has.2 i) (has.3 i), [])), c.requires.fits.1)

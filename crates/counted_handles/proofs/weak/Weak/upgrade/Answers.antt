@@ -61,9 +61,9 @@ returns-clause-owner g c =
       | in-Ok w ↦
           let told = if_ok_at (λ share. (r : Reading g.row.T.Denot) (tie : Tie g.row.T.Denot) → IsGuest r c.into_seat-seat.result.me → c.into_seat-weak.result.me ≡ (HasWeakly tie, []) → IsLifted r tie c.lift-share.new.seat.me share.me) c.lift-share.result.0 w.in-Ok.share w.in-Ok.is c.lift-share.ensures.lifted in
           let is = told can.0 inv.tie (guest can.0 can.1) weak in
-          subst (λ x. IfOk x (λ strong. (strong ≡ c.args.self.now.version) × ((r : Reading g.row.T.Denot) → CanRead r c.args.reader.now.views → c.into_badge.result.views ≡ Reads (with_grant_less r) ∷ []))) (sym w.result-is) (
-            w.own.ensures is.mark is.share_is ∙ lifted_version inv.tie is.mark is.of ∙ inv.version_is ∙ ap (λ s. s.version) c.self.view_is,
+          subst (λ x. IfOk x (λ strong. (strong ≡ c.args.self.now) × ((r : Reading g.row.T.Denot) → CanRead r c.args.reader.now.views → c.into_badge.result.views ≡ Reads (with_grant_less r) ∷ []))) (sym w.result-is) (
+            w.own.ensures is.mark is.share_is ∙ (λ i. record { version = (lifted_version inv.tie is.mark is.of ∙ inv.version_is) i; table = c.self.inside.words.now.table_id }) ∙ c.self.view_is,
             λ r may. c.into_badge.ensures.2 ∙ ap (λ m. m.0 ∷ []) (told r inv.tie (guest r may) weak).me_is,
           )
-      | in-Err w ↦ subst (λ x. IfOk x (λ strong. (strong ≡ c.args.self.now.version) × ((r : Reading g.row.T.Denot) → CanRead r c.args.reader.now.views → c.into_badge.result.views ≡ Reads (with_grant_less r) ∷ []))) (sym w.result-is) tt
+      | in-Err w ↦ subst (λ x. IfOk x (λ strong. (strong ≡ c.args.self.now) × ((r : Reading g.row.T.Denot) → CanRead r c.args.reader.now.views → c.into_badge.result.views ≡ Reads (with_grant_less r) ∷ []))) (sym w.result-is) tt
     ]
