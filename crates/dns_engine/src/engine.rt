@@ -30,9 +30,9 @@ use zone_tree::Version;
 pub struct Engine<'a, Z: FirstZone, N: Naming> {
     publisher: VersionPublisher<Z, N>,
     reader: VersionReader<N>,
-    last: VersionOwner<'a, Z>,
+    last: VersionOwner<'a, Z, N>,
     keep: usize,
-    older: Owners<'a, Z>,
+    older: Owners<'a, Z, N>,
 }
 
 impl<'a, Z: FirstZone, N: Naming> Model for Engine<'a, Z, N> {
