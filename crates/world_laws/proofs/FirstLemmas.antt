@@ -307,7 +307,7 @@ weak_behind owners serial [] weak = (tt, omega arith)
 weak_behind owners serial (e ∷ entries) weak =
     let more = weak_behind owners serial entries weak.1 in
     let less = more.1 in
-    let same : length (owners_in entries) ≡ length entries = length-map (λ (entry : Entry). entry.owner) entries in
+    let same : length (owners_in entries) ≡ length entries = length-map entries (λ (entry : Entry). entry.owner) in
     elim (cases_Bool (e.serial.0 == serial)) [
       | inl here ↦ rw here (weak.1, omega (arith, same))
       | inr other ↦ rw other (more.0, omega (arith, less))

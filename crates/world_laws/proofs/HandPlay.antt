@@ -1,5 +1,5 @@
 -- What is in hand, line by line.
-use Rattle.std.proofs.Common.{lit<, ◌≡◌, refl, sym, ap, ◌∙◌, subst, ℕ, zero, suc, ◌+◌, ◌^◌, ◌<◌, Bool, true, false, inl, inr, List, [], ◌∷◌, ◌++◌, length, arith, Option, Some, None, length-append}
+use Rattle.std.proofs.Common.{lit<, ◌≡◌, refl, sym, ap, ◌∙◌, subst, ℕ, zero, suc, ◌+◌, ◌^◌, ◌<◌, ◌≤◌, Bool, true, false, inl, inr, List, [], ◌∷◌, ◌++◌, length, arith, Option, Some, None, length-append}
 use Rattle.std.specs.Prelude.{◌==◌, ◌||◌, ◌&&◌, is_some, min, not, nat_le, nat_lt, bytes_eq, if◌then◌else◌}
 use Rattle.std.specs.List.{slice_get, list_any}
 use Rattle.std.specs.Option.{option_and_then}
@@ -45,7 +45,7 @@ use Rattle.world_run.specs.Phases.{reserves, reserves_weakly}
 use Rattle.world_run.specs.Entries.{most_entries, serials_in, owners_in, entered, enters, later}
 use Rattle.world_run.specs.declared.entries.Entry.{Entry}
 use Rattle.world_run.specs.declared.phase.End.{End}
-use Rattle.world_run.specs.declared.phase.End.TheVariants.{Owned, OwnedWeakly, Told, NoSlot, Kept, Sent}
+use Rattle.world_run.specs.declared.phase.End.TheVariants.{Owned, OwnedWeakly, Told, NoSlot, Kept as Published, Sent}
 use Rattle.transfer_core.specs.Window.{span, fits}
 use Rattle.world_run.specs.declared.sending.Sending.{Sending}
 use Rattle.world_laws.specs.Replays.{IsSentAt}
@@ -378,7 +378,7 @@ entered_few size (e ∷ entries) entry less =
       | inl fit ↦ rw fit (
           let count = ltb-true (length (serials_in entries ++ entry.serial.0 ∷ [])) size (first_holds (nat_lt (length (serials_in entries ++ entry.serial.0 ∷ [])) size) (nat_lt (span e.serial.0 (serials_in entries ++ entry.serial.0 ∷ [])) (2 ^ 31)) fit) in
           let one = length-append (serials_in entries) (entry.serial.0 ∷ []) in
-          let same : length (serials_in entries) ≡ length entries = length-map (λ (x : Entry). x.serial.0) entries in
+          let same : length (serials_in entries) ≡ length entries = length-map entries (λ (x : Entry). x.serial.0) in
           let two = length-append (e ∷ entries) (entry ∷ []) in
           omega (arith, less, count, one, same, two)
           )
@@ -394,8 +394,8 @@ few_at size (Owned name owner number) entries less few = few
 few_at size (OwnedWeakly name owner number) entries less few = few
 few_at size (Told given) entries less few = few
 few_at size (NoSlot head) entries less few = few
-few_at size (Kept head owner None) entries less few = few
-few_at size (Kept head owner (Some entry)) entries less few = entered_few size entries entry less
+few_at size (Published head owner None) entries less few = few
+few_at size (Published head owner (Some entry)) entries less few = entered_few size entries entry less
 few_at size (Sent sending) entries less few = few
 
 -- how many versions are kept, and how many entries the window has at most, stays

@@ -4,7 +4,6 @@ use Rattle.std.specs.Prelude.{is_some, nat_lt, bytes_eq}
 use Rattle.cell_core.proofs.CountLemmas.{one_if}
 use Rattle.cell_core.specs.Words.{State}
 use Rattle.cell_core.specs.declared.words.Publisher.TheVariants.{Probing}
-use Rattle.cell_core.specs.declared.words.WordStep.TheVariants as word
 use Rattle.world_run.specs.declared.phase.Keeping.{Keeping}
 use Rattle.world_run.specs.declared.phase.Phase.{Phase}
 use Rattle.world_run.specs.declared.phase.Phase.TheVariants as phase

@@ -3,8 +3,6 @@ use Rattle.std.proofs.Common.{◌≡◌, refl, sym, ap, subst, ℕ, ◌+◌, tru
 use Rattle.std.specs.Prelude.{nat_lt}
 use Rattle.std.proofs.lemmas.Bool.{cases_Bool}
 use Rattle.cell_core.specs.declared.words.Owner.{Owner}
-use Rattle.world_run.specs.declared.phase.Phase.TheVariants as phase
-use Rattle.world_run.specs.declared.phase.Purpose.TheVariants as purpose
 use Rattle.world_run.specs.declared.names.Named.{Named}
 use Rattle.world_run.specs.declared.calls.UnderWay.{UnderWay}
 use Rattle.world_run.specs.World.{oldest_kept}

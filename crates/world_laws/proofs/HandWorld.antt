@@ -203,7 +203,7 @@ same_phase (phase.Prepare version keeping) one two from stays e = refl
 same_phase (phase.Swap keeping) one two from stays e = refl
 same_phase (phase.Settle keeping) one two from stays e = refl
 same_phase (phase.Keep given keeping) one two from stays e = refl
-same_phase (phase.Enter given kept keeping) one two from stays e = refl
+same_phase (phase.Enter given kept keeping) one two from stays e = absurd (let wrong = e in cc)
 same_phase (phase.Release owner for) one two from stays e = ap (λ ss. seat owner holds ∷ ss) (same_for for one two from stays e)
 same_phase (phase.Bury owner for) one two from stays e = ap (λ ss. seat owner buries ∷ ss) (same_for for one two from stays e)
 same_phase (phase.Fade owner None for) one two from stays e = ap (λ ss. seat owner weakly ∷ ss) (same_for for one two from stays e)

@@ -267,5 +267,5 @@ played_rests first keep window lines replies world e no_names no_weak no_calls =
       replayed = r;
       buried = window_buried world.words r.reached.cell (last - keep) (last + 1 - noted) last r.reached.shows r.replays.counted rest;
       free = window_free world.words r.reached.cell (last - keep) (last + 1 - noted) last (min keep last + 1) noted (max (min keep last + 1) noted) r.reached.shows r.replays.counted rest so.1 (omega arith) (omega (arith, few))
-          (elim (cases_lt noted (min keep last + 1)) [ inl less ↦ inl (omega (arith, less), omega (arith, less)) | inr more ↦ inr (omega (arith, more), more) ]);
+          (elim (cases_lt noted (min keep last + 1)) [ inl less ↦ inl (omega (arith, less), omega (arith, less)) | inr more ↦ inr (omega (arith, more), omega (arith, more)) ]);
     }

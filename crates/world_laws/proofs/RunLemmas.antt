@@ -592,7 +592,7 @@ play_shown first world (line ∷ lines) replies behind s e =
 started_by : (first : List Record) (keep window : ℕ) (some : Bool) → nat_lt 0 window ≡ some → Shown first (started_within first keep window)
 started_by first keep window true e = record {
   run = (word.Load, told.Loaded 0 0) ∷ (word.Note 0, told.Noted 1 0) ∷ [];
-  runs = rw e (loaded_once (first_version first), (0, refl, lit< tt, refl, refl), noted_once (first_version first), (0, 0, first_slot (first_version first), refl, refl, lit< tt, refl, refl), refl);
+  runs = rw e (loaded_once (first_version first), (0, refl, lit< tt, refl, refl), (noted_once (first_version first), (0, 0, first_slot (first_version first), refl, refl, lit< tt, refl, refl), refl));
   names = tt;
   weak_names = tt;
   calls = tt;

@@ -103,8 +103,8 @@ before_buried state cell from back s r j l =
       | inr open_still ↦ (
           let lies = s.numbers.lies j (omega (arith, r.within, l)) open_still in
           let found = get_within state.table (s.plan.slot j) (omega (arith, lies.0, s.table.size)) in
-          let as = rests_as state cell s.plan from back (s.plan.slot j) found.0 (s.plan.phase (s.plan.slot j)) r (s.table.slot_is (s.plan.slot j) found.0 found.1) (s.table.weak_word (s.plan.slot j) found.0 found.1) in
-          let within = as_live from back j (s.plan.phase (s.plan.slot j)) lies.1 as in
+          let kind = rests_as state cell s.plan from back (s.plan.slot j) found.0 (s.plan.phase (s.plan.slot j)) r (s.table.slot_is (s.plan.slot j) found.0 found.1) (s.table.weak_word (s.plan.slot j) found.0 found.1) in
+          let within = as_live from back j (s.plan.phase (s.plan.slot j)) lies.1 kind in
           absurd (omega (arith, within, l))
           )
     ]
