@@ -1,11 +1,10 @@
 //! The tokens of a cell: its publisher, and its readers.
-ghost use Rattle.std.specs.Prelude.{◌≡◌, ◌<◌, ◌-◌, IfOk, IfErr};
+ghost use Rattle.std.specs.Prelude.{◌≡◌};
 ghost use Rattle.counted_handles.specs.History.{IsHistory};
 ghost use Rattle.snapshot_cell.specs.Tokens.{IsLastOf};
 
-use crate::fault::Spent;
 use atomic_table::Badge;
-use counted_handles::{Names, Strong, View};
+use counted_handles::{Names, View};
 use std::marker::{Model, PhantomData};
 use std::snapshot::Snapshot;
 
@@ -64,25 +63,6 @@ impl<T> Reader<T> {
         ensures { result ≡ self.now.left }
     {
         self.left
-    }
-}
-
-impl<T: Drop> Reader<T> {
-    /// Another owner of an owner's version, for a grant. [`Spent`] where the reader has none left. It waits for nobody.
-    pub fn clone_of<'a, C: Names<T>>(
-        &mut self,
-        strong: &mut Strong<'a, T, C>,
-    ) -> Result<Strong<'a, T, C>, Spent>
-        requires { self.old.cell ≡ strong.old.table }
-        ensures same { strong.new ≡ strong.old }
-        ensures cloned { IfOk result (λ another. (another ≡ strong.old) × (self.new ≡ record self.old { left = self.old.left - 1 }) × (0 < self.old.left)) }
-        ensures spent { IfErr result (λ _. (self.old.left ≡ 0) × (self.new ≡ self.old)) }
-    {
-        if self.left == 0 {
-            return Err(Spent);
-        }
-        self.left -= 1;
-        Ok(strong.clone_strong(&mut self.badge))
     }
 }
 

@@ -1,5 +1,5 @@
-//! Weak owners of a cell's versions, and their upgrades.
-ghost use Rattle.std.specs.Prelude.{◌≡◌, ◌<◌, IfOk, IfErr, IfSome};
+//! Further owners of a cell's versions: clones of owners, weak owners, and their upgrades.
+ghost use Rattle.std.specs.Prelude.{◌≡◌, ◌<◌, ◌-◌, IfOk, IfErr, IfSome};
 ghost use Rattle.std.specs.Option.{option_map};
 ghost use Rattle.snapshot_cell.specs.Tokens.{IsUpgraded};
 
@@ -29,6 +29,23 @@ impl<'a, T: Drop, C: Names<T>, N: Naming> Model for NamedWeak<'a, T, C, N> {
 }
 
 impl<T: Drop> Reader<T> {
+    /// Another owner of an owner's version, for a grant. [`Spent`] where the reader has none left. It waits for nobody.
+    pub fn clone_of<'a, C: Names<T>>(
+        &mut self,
+        strong: &mut Strong<'a, T, C>,
+    ) -> Result<Strong<'a, T, C>, Spent>
+        requires { self.old.cell ≡ strong.old.table }
+        ensures same { strong.new ≡ strong.old }
+        ensures cloned { IfOk result (λ another. (another ≡ strong.old) × (self.new ≡ record self.old { left = self.old.left - 1 }) × (0 < self.old.left)) }
+        ensures spent { IfErr result (λ _. (self.old.left ≡ 0) × (self.new ≡ self.old)) }
+    {
+        if self.left == 0 {
+            return Err(Spent);
+        }
+        self.left -= 1;
+        Ok(strong.clone_strong(&mut self.badge))
+    }
+
     /// An owner of a weak owner's very version, for a grant; or None, and then the version is buried, which the reader has then seen.
     /// [`Spent`] where it has no grant left. It waits for nobody.
     pub fn upgrade<'a, C: Names<T>>(
