@@ -30,7 +30,10 @@ fn ends<N: Naming>(owner: NamedStrong<'_, Counted, Rising, N>, number: u64) -> b
 }
 
 /// One more value is published, and the old owner held. None where that was refused.
-fn publish_one<'a, N: Naming>(teller: &mut Teller<'a, N>, owners: &mut Owners<'a, N>) -> Option<()> {
+fn publish_one<'a, N: Naming>(
+    teller: &mut Teller<'a, N>,
+    owners: &mut Owners<'a, N>,
+) -> Option<()> {
     if teller.publisher.last() >= VALUES {
         return None;
     }

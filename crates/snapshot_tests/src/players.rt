@@ -109,7 +109,10 @@ impl<'a, N: Naming> Teller<'a, N> {
     }
 
     /// One publication: the old version's owner, or the value where there was no slot.
-    pub(crate) fn publish(&mut self, value: Counted) -> Result<NamedStrong<'a, Counted, Rising, N>, Counted>
+    pub(crate) fn publish(
+        &mut self,
+        value: Counted,
+    ) -> Result<NamedStrong<'a, Counted, Rising, N>, Counted>
         requires { (self.old.publisher.number < 2 ^ 64 - 1) × (value.number ≡ self.old.publisher.number + 1) }
         ensures { IfErr result (λ value. (value.number ≡ self.old.publisher.number + 1) × (self.new.publisher.number ≡ self.old.publisher.number)) }
     {
