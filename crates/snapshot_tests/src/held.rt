@@ -80,6 +80,19 @@ fn fill<'a, N: Naming>(teller: &mut Teller<'a, N>, owners: &mut Owners<'a, N>) -
     None
 }
 
+/// Each old owner is held across 63 publications, and then the last ones are let go, too.
+fn hold_on<'a, R: Abort, N: Naming>(
+    rt: &R,
+    alloc: Global,
+    teller: &mut Teller<'a, N>,
+    tally: &Arc<Tally>,
+) {
+    let mut owners: Owners<'a, N> = VecDeque::new(alloc);
+    assert!(rt; play(teller, &mut owners));
+    assert_eq!(rt; owners.len(), ACROSS - 1);
+    assert!(rt; tally.were_dropped_once(VALUES as usize + 1 - ACROSS));
+}
+
 /// The values are published with each old owner held, and then the cell is ended.
 fn hold_across<R: Abort, N: Naming>(
     rt: &R,
@@ -101,11 +114,7 @@ fn hold_across<R: Abort, N: Naming>(
         publisher,
         tally: Arc::try_clone(tally).expect(rt, "memory"),
     };
-    let mut owners: Owners<N> = VecDeque::new(alloc);
-    assert!(rt; play(&mut teller, &mut owners));
-    assert_eq!(rt; owners.len(), ACROSS - 1);
-    assert!(rt; tally.were_dropped_once(VALUES as usize + 1 - ACROSS));
-    drop(owners);
+    hold_on(rt, alloc, &mut teller, tally);
     let publisher = teller.into_publisher();
     let named = Named {
         cell,
