@@ -67,6 +67,7 @@ next u => prepare
 next u => swap
 next u => settle
 next u => load
+next u => note
 next u => release
 next u => release $(told_with 0 $ours)
 update $(with ${add}4d $opt) => $(told_with 0 $ours)
@@ -102,13 +103,15 @@ ask a 123401000001000000000000$big => 123487000001000000000000$big
 end
 
 # an owner that is dropped, and an update, a step at a time: behind its swap its version is loaded, and another update isn't enabled before it
-# ends
-plays <<end
+# ends. There is no window, so that it notes nothing.
+plays --window 0 <<end
 load a => a 0
 update ${add}4d => $taken
 begin x drop a => ok
 next x => release
 next x => bury
+next x => fade
+next x => reset
 next x => free buried 0
 begin u update ${add}4e => ok
 next u => probe
@@ -121,7 +124,116 @@ next u => load
 next u => release
 next u => release
 next u => bury
+next u => fade
+next u => reset
 next u => free $taken
+end
+
+# a window of one: the update notes the version that it made, whose entry comes in for that of the version before. Its own owner of that one is
+# given up first, and the one who buries it leaves the entry's; giving that up frees the slot. With an owner the version stays.
+plays --window 1 <<end
+begin u update ${add}4d => ok
+next u => probe
+next u => probe
+next u => prepare
+next u => swap
+next u => settle
+next u => load
+next u => note
+next u => release
+next u => release
+next u => bury
+next u => fade
+next u => fade
+next u => reset
+next u => free $taken
+load a => a 1
+begin u update ${add}4e => ok
+next u => probe
+next u => prepare
+next u => swap
+next u => settle
+next u => load
+next u => note
+next u => release
+next u => release
+next u => fade $taken
+drop a => buried 1
+end
+
+# a window of two: the entry of a buried version keeps its slot from being free
+plays --window 2 <<end
+load a => a 0
+update ${add}4d => $taken
+begin x drop a => ok
+next x => release
+next x => bury
+next x => fade buried 0
+begin u update ${add}4e => ok
+next u => probe
+next u => probe
+next u => probe
+next u => prepare
+end
+
+# what changed since serial 1 through two updates, from SOA to SOA (RFC 1995, 4): the SOAs behind the first point at its names, and the second
+# address at the first one's
+soa() { printf '%s' "c00c0006000100000e100018c02ac030000000${1}00001c2000000384001275000000012c"; }
+two_changes=123484000001000800000000${since_1:24:36}c00c0006000100000e100022036e7331c00c0561646d696ec00c0000000300001c2000000384001275000000012c
+two_changes+=$(soa 01)$(soa 02)${add:60:12}0001000100000e100004c000024d$(soa 02)$(soa 03)c0940001000100000e100004c000024e$(soa 03)
+
+# a question for what changed makes owners of the entries behind the asker's, one behind the other, and gives them up behind its reply. Before
+# the last of them is made, no update and no other question for what changed begins.
+plays --keep 2 --window 3 <<end
+update ${add}4d => $taken
+update ${add}4e => $taken
+load b => b 2
+begin x ixfr b $since_1 => ok
+drop b => not enabled
+next x => look
+update ${add}4f => not enabled
+ixfr b $since_1 => not enabled
+load c => c 2
+next x => raise
+next x => look
+begin u update ${add}4f => not enabled
+next x => raise
+begin u update ${add}4f => ok
+next x => release
+next x => release $two_changes
+drop b => left
+end
+
+# a version behind the asker's is buried: none is made an owner, and the zone goes out in whole, 16 answers with its closing SOA
+input=$zone_text$'%\nupdate '${add}4d$'\nupdate '${add}4e$'\nload b\nbegin x ixfr b '$since_1$'\nnext x\nupdate '${add}4f$'\n'
+spans '*' $taken$'\n'$taken$'\nb 2\nok\nlook 123484000001001000000000*\n'$taken steps --keep 0 --window 3 -
+
+# an owner copied, and a weak owner: an upgrade gives an owner until the version is buried, and none from then on
+plays --window 0 <<end
+load a => a 0
+copy a b => b 0
+copy c d => not enabled
+copy a b => not enabled
+weak a w => w 0
+weak b w => not enabled
+update ${add}4d => $taken
+drop b => left
+begin x drop a => ok
+next x => release
+begin z up w c => ok
+fade w => not enabled
+up w d => not enabled
+next z => look
+next z => raise c 0
+next x => bury left
+drop c => buried 0
+up w c => none
+up c d => not enabled
+begin y fade w => ok
+next y => fade
+next y => reset
+next y => free ok
+fade w => not enabled
 end
 
 # a version that is owned stays as it is through 200 others
@@ -132,13 +244,15 @@ ask a $www => $www_reply
 drop a => buried 0
 end
 
-# 64 versions are owned: an update finds no slot, until one of them is buried
+# 64 versions are owned: an update finds no slot, until one of them is buried whose entry has left the window
 plays <<end
 load h0 => h0 0
 $(for number in {1..63}; do printf 'update %s%02x => %s\nload h%d => h%d %d\n' $add "$number" $taken "$number" "$number" "$number"; done)
 update ${add}40 => 4321a8020000000000000000
 update $(with ${add}40 $opt) => $(told_with 2 $ours)
 drop h60 => buried 60
+update ${add}40 => 4321a8020000000000000000
+drop h47 => buried 47
 update ${add}40 => $taken
 load a => a 64
 end
@@ -201,6 +315,15 @@ LOAD a
 loada
 drop
 drop a b
+copy a
+copy a B
+copy a b c
+weak a
+weak a  b
+fade
+fade a b
+up a
+up A b
 ask a
 ask a␠
 ask a 0
@@ -214,7 +337,6 @@ update
 update␠
 update 0g
 update 00 00
-copy a b
 begin
 begin x
 begin x load

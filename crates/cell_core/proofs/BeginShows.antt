@@ -4,7 +4,7 @@ use Rattle.std.specs.Prelude.{Some, ◌==◌, if◌then◌else◌}
 use Rattle.std.specs.List.{slice_get}
 use Rattle.std.proofs.lemmas.Bool.Decides.{eqb_tells}
 use Rattle.cell_core.specs.Words.{slots}
-use Rattle.cell_core.specs.Shows.{Plan, IsLive, SlotIs, Shows}
+use Rattle.cell_core.specs.Shows.{Plan, IsLive, SlotIs, WeakWord, Shows}
 use Rattle.cell_core.specs.Shows.Phase.{free, live}
 use Rattle.cell_core.specs.declared.words.Slot.{Slot}
 use Rattle.cell_core.specs.declared.words.Owner.{Owner}
@@ -52,6 +52,16 @@ slot_at_first {T} value place there cases =
       ]
     ]
 
+weak_at_first : {T : Type 0} (value : T) (place : ℕ) (there : Slot T) → ((place ≡ 0) × (first_slot value ≡ there)) ⊎ ((0 < place) × (free_slot ≡ there)) → WeakWord [] place (first_plan.phase place) there.weak
+weak_at_first {T} value place there cases =
+    elim cases [
+      | inl same ↦ subst (λ (x : Slot T). WeakWord [] place (first_plan.phase place) x.weak) same.1 (subst (λ p. WeakWord [] p (first_plan.phase p) 1) (sym same.0) refl)
+      | inr other ↦ elim (eqb_tells place 0) [
+        | inl wrong ↦ absurd (omega (arith, other.0, wrong.1))
+        | inr apart ↦ subst (λ (x : Slot T). WeakWord [] place (first_plan.phase place) x.weak) other.1 (rw apart.0 refl)
+      ]
+    ]
+
 pub begun_shows : {T : Type 0} (value : T) → Shows (begun value) (start value)
 begun_shows {T} value =
     record {
@@ -61,17 +71,17 @@ begun_shows {T} value =
         buried = λ j u. absurd (let wrong = u in cc);
         lies = λ j l u. let none : 0 ≡ j = omega (arith, l) in subst (λ k. (first_plan.slot k < slots) × (first_plan.phase (first_plan.slot k) ≡ live k)) none (omega arith, refl);
       };
-      given = record { latest = refl; given = omega arith; granted = omega arith };
-      counts = record { strong = λ j. refl; few = λ j. omega arith; few_of_last = omega arith; weak = λ j. refl };
+      given = record { latest = refl; given = omega arith; granted = omega arith; noted = omega arith };
+      counts = record { strong = λ j. refl; few = λ j. omega arith; few_of_last = omega arith; weak = λ j. refl; few_weak = λ j. omega arith };
       table = record {
         size = ap suc (length-replicate 63 (free_slot {T = T}));
         slot_is = λ place there h. slot_at_first value place there (first_there value place there h);
-        weak_word = λ place there h. elim (first_there value place there h) [ inl same ↦ subst (λ (x : Slot T). x.weak ≡ 1) same.1 refl | inr other ↦ subst (λ (x : Slot T). x.weak ≡ 1) other.1 refl ];
+        weak_word = λ place there h. weak_at_first value place there (first_there value place there h);
       };
       owner_is = λ owner how h. absurd (let wrong = h in cc);
       publisher_is = omega arith;
     }
 
 -- a state of these parts is that at the beginning
-pub begun_is : {T : Type 0} (value : T) (table : List (Slot T)) (owners : List Owner) → table ≡ first_slot value ∷ replicate 63 free_slot → owners ≡ [] → record { latest = 0; table = table; publisher = Probing 0; owners = owners; granted = 0 } ≡ begun value
-begun_is value table owners e f = λ i. record { latest = 0; table = e i; publisher = Probing 0; owners = f i; granted = 0 }
+pub begun_is : {T : Type 0} (value : T) (table : List (Slot T)) (owners : List Owner) → table ≡ first_slot value ∷ replicate 63 free_slot → owners ≡ [] → record { latest = 0; table = table; publisher = Probing 0; owners = owners; granted = 0; noted = 0 } ≡ begun value
+begun_is value table owners e f = λ i. record { latest = 0; table = e i; publisher = Probing 0; owners = f i; granted = 0; noted = 0 }

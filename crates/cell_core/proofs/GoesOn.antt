@@ -2,22 +2,24 @@
 use Rattle.std.proofs.Common.{◌≡◌, refl, ap, ◌∙◌, subst, ℕ, ◌+◌, ◌<◌, inl, inr, length, arith}
 use Rattle.std.specs.Prelude.{None, Some, ◌==◌, ◌^◌}
 use Rattle.std.specs.List.{slice_get}
-use Rattle.std.proofs.lemmas.Bool.{cases_Bool}
+use Rattle.std.specs.Option.{option_and_then}
+use Rattle.std.proofs.lemmas.Bool.{cases_Bool, cases_lt, lt-ltb, le-ltb}
 use Rattle.std.proofs.lemmas.Bool.Decides.{eqb_tells}
 use Rattle.cell_core.proofs.SeatLemmas.{get_within}
 use Rattle.cell_core.specs.Cell.{Cell}
-use Rattle.cell_core.specs.Words.{State, slots, grants, free_word, dead_word, slot_of, fetch_sub, number_in}
-use Rattle.cell_core.specs.WordSteps.{with_slot, with_owner, with_publisher, with_shares, with_version}
+use Rattle.cell_core.specs.Words.{State, slots, grants, notes, free_word, dead_word, slot_of, fetch_add, fetch_sub, number_in, owned_of, fading_of}
+use Rattle.cell_core.specs.WordSteps.{with_slot, with_owner, with_new_owner, with_publisher, with_shares, with_weak_word, with_version, with_grant, owned_in}
 use Rattle.cell_core.specs.Shows.{IsLive, SlotIs, PublisherIs, Shows}
 use Rattle.cell_core.specs.declared.words.Slot.{Slot}
-use Rattle.cell_core.specs.declared.words.Owner.TheVariants.{Holding, Burying, Freeing, Spent}
+use Rattle.cell_core.specs.declared.words.Owner.TheVariants.{Holding, Weakly, Burying, Fading, Resetting, Freeing, Spent}
 use Rattle.cell_core.specs.declared.words.Publisher.TheVariants.{Probing, Preparing, Swapping, Settling}
 use Rattle.cell_core.proofs.ShowsLemmas.{last_lies, latest_slot, number_there}
 use Rattle.cell_core.proofs.BuryKeeps.{can_bury}
 use Rattle.cell_core.proofs.WordMachineLemmas.{has_load}
+use Rattle.cell_core.proofs.WeakShows.{has_cases, to_fade}
 use Rattle.cell_core.specs.WordSteps.{HasWordStep}
-use Rattle.cell_core.specs.declared.words.WordStep.TheVariants.{Load, Probe, Prepare, Swap, Settle, Release, Bury, Free}
-use Rattle.cell_core.specs.declared.words.WordEvent.TheVariants.{Taken, NoSlot, Passed, Emptied, Left, Buried, Kept}
+use Rattle.cell_core.specs.declared.words.WordStep.TheVariants.{Load, Probe, Prepare, Swap, Settle, Release, Bury, Free, Look, Raise, Note, Fade, Reset}
+use Rattle.cell_core.specs.declared.words.WordEvent.TheVariants.{Taken, NoSlot, Passed, Emptied, Left, Buried, Kept, Alive, Dead, Raised, Faded, Closed}
 
 -- a slot that is there
 there_is : {T : Type 0} (state : State T) (cell : Cell T) (s : Shows state cell) (place : ℕ) → place < slots → (there : Slot T) × (slice_get state.table place ≡ Some there)
@@ -50,7 +52,7 @@ bury_goes_on {T} state cell owner place s seat =
       | inl none ↦ (
           let can = can_bury state cell s place found.0 found.1 none.1 in
           let number = number_there state place can.0 can.1.is.value found.0 found.1 can.1.is.version in
-          (Buried can.0, with_owner owner (Freeing place) (with_slot place (with_shares dead_word (with_version None found.0)) state), (place, found.0, seat, found.1, rw none.0 (can.0, number, refl, refl)))
+          (Buried can.0, with_owner owner (Fading place) (with_slot place (with_shares dead_word (with_version None found.0)) state), (place, found.0, seat, found.1, rw none.0 (can.0, number, refl, refl)))
           )
       | inr some ↦ (Kept, with_owner owner Spent state, (place, found.0, seat, found.1, rw some.0 (refl, refl)))
     ]
@@ -58,7 +60,7 @@ bury_goes_on {T} state cell owner place s seat =
 pub free_goes_on : {T : Type 0} (state : State T) (cell : Cell T) (owner place : ℕ) → Shows state cell → slice_get state.owners owner ≡ Some (Freeing place) → HasWordStep {T = T} state (Free owner)
 free_goes_on {T} state cell owner place s seat =
     let charge = s.owner_is owner (Freeing place) seat in
-    let found = there_is state cell s place charge.1 in
+    let found = there_is state cell s place charge.2 in
     (_, _, (place, found.0, seat, found.1, refl, refl))
 
 pub probe_goes_on : {T : Type 0} (state : State T) (cell : Cell T) (place : ℕ) → Shows state cell → state.publisher ≡ Probing place → HasWordStep {T = T} state Probe
@@ -90,3 +92,55 @@ settle_goes_on {T} state cell number place given s is =
     let at = s.numbers.lies number (omega (arith, mine.1)) mine.0.unburied in
     let found = there_is state cell s place (omega (arith, at.0, mine.0.here)) in
     (_, _, (number, place, given, found.0, is, found.1, refl, refl))
+
+-- the slot of a version that an owner has, weakly or not
+owned_there : {T : Type 0} (state : State T) (cell : Cell T) (s : Shows state cell) (owner number place : ℕ) → owned_in state owner ≡ Some (number, place) → (there : Slot T) × (slice_get state.table place ≡ Some there)
+owned_there state cell s owner number place own =
+    elim (has_cases state owner number place own) [
+      | inl seat ↦ (
+          let lies = s.owner_is owner (Holding number place) seat in
+          let at = s.numbers.lies number (omega (arith, lies.published, s.numbers.last)) lies.unburied in
+          there_is state cell s place (omega (arith, at.0, lies.here))
+          )
+      | inr seat ↦ there_is state cell s place (s.owner_is owner (Weakly number place) seat).0
+    ]
+
+pub look_goes_on : {T : Type 0} (state : State T) (cell : Cell T) (owner number place : ℕ) → Shows state cell → owned_in state owner ≡ Some (number, place) → HasWordStep {T = T} state (Look owner)
+look_goes_on {T} state cell owner number place s own =
+    let found = owned_there state cell s owner number place own in
+    elim (cases_lt found.0.shares dead_word) [
+      | inl little ↦ (Alive, state, (number, place, found.0, own, found.1, rw (lt-ltb found.0.shares dead_word little) (refl, refl)))
+      | inr great ↦ (Dead, state, (number, place, found.0, own, found.1, rw (le-ltb found.0.shares dead_word great) (refl, refl)))
+    ]
+
+pub raise_goes_on : {T : Type 0} (state : State T) (cell : Cell T) (owner number place : ℕ) → Shows state cell → owned_in state owner ≡ Some (number, place) → state.granted < grants → HasWordStep {T = T} state (Raise owner)
+raise_goes_on {T} state cell owner number place s own room =
+    let found = owned_there state cell s owner number place own in
+    let same : State T = with_grant (with_slot place (with_shares (fetch_add found.0.shares 1) found.0) state) in
+    elim (cases_lt found.0.shares dead_word) [
+      | inl little ↦ (Raised (length state.owners) number, with_new_owner (Holding number place) same, (number, place, found.0, own, found.1, room, rw (lt-ltb found.0.shares dead_word little) (refl, refl)))
+      | inr great ↦ (Dead, same, (number, place, found.0, own, found.1, room, rw (le-ltb found.0.shares dead_word great) (refl, refl)))
+    ]
+
+pub note_goes_on : {T : Type 0} (state : State T) (cell : Cell T) (owner number place : ℕ) → Shows state cell → slice_get state.owners owner ≡ Some (Holding number place) → state.noted < notes → HasWordStep {T = T} state (Note owner)
+note_goes_on {T} state cell owner number place s seat room =
+    let found = owned_there state cell s owner number place (ap (option_and_then owned_of) seat) in
+    (_, _, (number, place, found.0, seat, found.1, room, refl, refl))
+
+pub fade_goes_on : {T : Type 0} (state : State T) (cell : Cell T) (owner place : ℕ) → Shows state cell → option_and_then fading_of (slice_get state.owners owner) ≡ Some place → HasWordStep {T = T} state (Fade owner)
+fade_goes_on {T} state cell owner place s fades =
+    let within : place < slots = elim (to_fade state owner place fades) [
+      | inl seat ↦ (s.owner_is owner (Weakly seat.0 place) seat.1).0
+      | inr seat ↦ (s.owner_is owner (Fading place) seat).2
+    ] in
+    let found = there_is state cell s place within in
+    elim (cases_Bool (fetch_sub found.0.weak 1 == 0)) [
+      | inl none ↦ (Closed, with_owner owner (Resetting place) (with_slot place (with_weak_word 0 found.0) state), (place, found.0, fades, found.1, rw none (refl, refl)))
+      | inr some ↦ (Faded, with_owner owner Spent (with_slot place (with_weak_word (fetch_sub found.0.weak 1) found.0) state), (place, found.0, fades, found.1, rw some (refl, refl)))
+    ]
+
+pub reset_goes_on : {T : Type 0} (state : State T) (cell : Cell T) (owner place : ℕ) → Shows state cell → slice_get state.owners owner ≡ Some (Resetting place) → HasWordStep {T = T} state (Reset owner)
+reset_goes_on {T} state cell owner place s seat =
+    let charge = s.owner_is owner (Resetting place) seat in
+    let found = there_is state cell s place charge.2 in
+    (_, _, (place, found.0, seat, found.1, refl, refl))

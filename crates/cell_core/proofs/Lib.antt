@@ -22,3 +22,9 @@ pub mod OwnerLemmas
 pub mod PublishedLemmas
 pub mod RunLawLemmas
 pub mod ProbeLemmas
+pub mod SlotFrame
+pub mod LittleLemmas
+pub mod RaiseKeeps
+pub mod FadeKeeps
+pub mod WeakShows
+pub mod WeakLemmas

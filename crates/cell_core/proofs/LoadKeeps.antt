@@ -1,19 +1,18 @@
 -- A load and a settle keep what the words show.
 use Rattle.std.proofs.Common.{◌≡◌, ◌≢◌, refl, sym, ap, ◌∙◌, subst, ℕ, ◌+◌, ◌-◌, ◌<◌, ◌≤◌, inl, inr, List, [], ◌∷◌, ◌++◌, arith}
-use Rattle.std.specs.Prelude.{Some, ◌==◌}
+use Rattle.std.specs.Prelude.{Some}
 use Rattle.std.specs.List.{slice_get}
 use Rattle.std.proofs.lemmas.Bool.Decides.{eqb_tells}
-use Rattle.cell_core.proofs.CountLemmas.{one_if}
-use Rattle.cell_core.proofs.SeatLemmas.{get_push_old, push_cases, held_push}
-use Rattle.cell_core.proofs.FrameLemmas.{table_with, table_as, owner_stays, publisher_stays}
+use Rattle.cell_core.proofs.SeatLemmas.{get_push_old, push_cases, held_push, weaks_push}
+use Rattle.cell_core.proofs.FrameLemmas.{table_with, table_as, charge_pushed, owner_stays, knows_still, publisher_stays}
 use Rattle.cell_core.specs.Cell.{Cell, one_more, with_strong}
 use Rattle.cell_core.specs.Words.{State, slots, grants, bulk, word_of, fetch_sub, fetch_add}
 use Rattle.cell_core.specs.WordSteps.{with_slot, with_new_owner, with_publisher, with_shares}
-use Rattle.cell_core.specs.Shows.{Plan, IsLive, SlotIs, OwnerIs, PublisherIs, Shows, held, kept_by, kept_by_cell, owned_by}
+use Rattle.cell_core.specs.Shows.{Plan, IsLive, SlotIs, WeakWord, OwnerIs, PublisherIs, Shows, held, weaks, kept_by, kept_by_cell, owned_by}
 use Rattle.cell_core.specs.Shows.Phase.{live}
 use Rattle.cell_core.specs.declared.words.Slot.{Slot}
 use Rattle.cell_core.specs.declared.words.Owner.{Owner}
-use Rattle.cell_core.specs.declared.words.Owner.TheVariants.{Holding, Burying, Freeing}
+use Rattle.cell_core.specs.declared.words.Owner.TheVariants.{Holding, Burying}
 use Rattle.cell_core.specs.declared.words.Publisher.{Publisher}
 use Rattle.cell_core.specs.declared.words.Publisher.TheVariants.{Probing, Preparing, Swapping, Settling}
 use Rattle.cell_core.proofs.ShowsLemmas.{last_lies}
@@ -23,9 +22,13 @@ pub held_more : (owners : List Owner) (number place j : ℕ) → held (owners ++
 held_more owners number place j =
     let more = held_push owners (Holding number place) j in
     elim (eqb_tells j number) [
-      | inl same ↦ rw same.0 (let one : one_if (j == number) ≡ 1 = rw same.0 refl in omega (arith, more, one))
-      | inr other ↦ rw other.0 (let none : one_if (j == number) ≡ 0 = rw other.0 refl in omega (arith, more, none))
+      | inl same ↦ rw same.0 (rw same.0 at more)
+      | inr other ↦ rw other.0 (let none : held (owners ++ Holding number place ∷ []) j ≡ held owners j + 0 = rw other.0 at more in omega (arith, none))
     ]
+
+-- no weak one
+pub weaks_more : (owners : List Owner) (number place j : ℕ) → weaks (owners ++ Holding number place ∷ []) j ≡ weaks owners j
+weaks_more owners number place j = let more = weaks_push owners (Holding number place) j in omega (arith, more)
 
 pub more_of_this : (counts : ℕ → ℕ) (number j : ℕ) → j ≡ number → one_more number counts j ≡ counts j + 1
 more_of_this counts number j e = elim (eqb_tells j number) [ inl same ↦ rw same.0 refl | inr other ↦ absurd (other.1 e) ]
@@ -56,6 +59,7 @@ settle_keeps {T} state cell number place given there s is at =
     let before : number ≤ s.plan.last = omega (arith, mine.1) in
     let phase : s.plan.phase place ≡ live number = ap s.plan.phase (sym mine.0.here) ∙ (s.numbers.lies number before mine.0.unburied).1 in
     let live_there : IsLive state cell s.plan place number there = subst (λ p. SlotIs state cell s.plan place p there) phase (s.table.slot_is place there at) in
+    let weak_there : there.weak ≡ weaks state.owners number + 1 = subst (λ p. WeakWord state.owners place p there.weak) phase (s.table.weak_word place there at) in
     let by_cell : kept_by_cell s.plan.last s.plan.given number ≡ 0 = elim (eqb_tells number s.plan.last) [ inl same ↦ absurd (omega (arith, same.1, mine.1)) | inr other ↦ rw other.0 refl ] in
     let by_it : kept_by state.publisher number ≡ bulk - given = ap (λ p. kept_by p number) is ∙ elim (eqb_tells number number) [ inl same ↦ rw same.0 refl | inr other ↦ absurd (other.1 refl) ] in
     let few = s.counts.few number in
@@ -66,14 +70,15 @@ settle_keeps {T} state cell number place given there s is at =
     record {
       plan = s.plan;
       numbers = s.numbers;
-      given = record { latest = s.given.latest; given = s.given.given; granted = s.given.granted };
+      given = record { latest = s.given.latest; given = s.given.given; granted = s.given.granted; noted = s.given.noted };
       counts = record {
         strong = λ j. settled_strong cell.strong state.owners state.publisher number place given j is (s.counts.strong j);
         few = s.counts.few;
         few_of_last = s.counts.few_of_last;
-        weak = s.counts.weak;
+        weak = λ j. s.counts.weak j ∙ sym (weaks_more state.owners number place j);
+        few_weak = s.counts.few_weak;
       };
-      table = table_with state new cell cell s.plan s.plan place there slot s.numbers s.table at refl refl (λ p other. refl)
+      table = table_with state new cell cell s.plan s.plan place there slot s.numbers s.table at refl (λ p other. refl)
           (subst (λ p. SlotIs new cell s.plan place p slot) (sym phase) (record {
             here = live_there.here;
             unburied = live_there.unburied;
@@ -83,11 +88,15 @@ settle_keeps {T} state cell number place given there s is at =
             shares = omega (arith, shares, more_here, by_cell);
             due = λ empty. absurd (omega (arith, empty, shares));
           }))
+          (subst (λ p. WeakWord new.owners place p slot.weak) (sym phase) (weak_there ∙ ap (λ n. n + 1) (sym (weaks_more state.owners number place number))))
           (λ p there_too here other. record {
             preparing = λ e. let apart : Settling number place given ≡ Preparing p = sym is ∙ e in absurd (cc);
             swapping = λ e. let apart : Settling number place given ≡ Swapping p = sym is ∙ e in absurd (cc);
             burying = λ zero k q. get_push_old state.owners (Holding number place) (Burying p) k q;
-            freeing = λ k q. get_push_old state.owners (Holding number place) (Freeing p) k q;
+            charge = λ rest c. charge_pushed state.owners (Holding number place) p rest c;
+            granted = omega arith;
+            gone = λ j u. u;
+            weak = λ j e l. weaks_more state.owners number place j;
             slot = λ j e l. e;
             buried = λ j e l u. u;
             published = λ j v q. q;
@@ -133,6 +142,7 @@ load_keeps {T} state cell s room =
         latest = ap (λ w. fetch_add w 1) s.given.latest ∙ loaded_word slot s.plan.given lies.0 (omega (arith, s.given.given, s.given.granted));
         given = omega (arith, s.given.given);
         granted = omega (arith, room);
+        noted = s.given.noted;
       };
       counts = record {
         strong = λ j.
@@ -144,21 +154,25 @@ load_keeps {T} state cell s room =
             ];
         few = λ j. let few = s.counts.few j in elim (eqb_tells j last) [ inl same ↦ rw same.0 (omega (arith, few)) | inr other ↦ rw other.0 (omega (arith, few)) ];
         few_of_last = elim (eqb_tells last last) [ inl same ↦ rw same.0 (omega (arith, s.counts.few_of_last)) | inr other ↦ absurd (other.1 refl) ];
-        weak = s.counts.weak;
+        weak = λ j. s.counts.weak j ∙ sym (weaks_more state.owners last slot j);
+        few_weak = s.counts.few_weak;
       };
       table = table_as state new cell next s.plan later s.numbers s.table refl (λ p. refl)
           (λ p there here. record {
             preparing = λ e. e;
             swapping = λ e. (e, refl);
             burying = λ zero k q. get_push_old state.owners (Holding last slot) (Burying p) k q;
-            freeing = λ k q. get_push_old state.owners (Holding last slot) (Freeing p) k q;
+            charge = λ rest c. charge_pushed state.owners (Holding last slot) p rest c;
+            granted = omega arith;
+            gone = λ j u. u;
+            weak = λ j e l. weaks_more state.owners last slot j;
             slot = λ j e l. e;
             buried = λ j e l u. u;
             published = λ j v q. q;
             shares = λ j e l. ap (λ n. n + kept_by state.publisher j) (loaded_shares state.owners last slot s.plan.given j (omega (arith, s.given.given, room)));
           });
       owner_is = λ k how h. elim (push_cases state.owners (Holding last slot) how k h) [
-        | inl old ↦ owner_stays cell next s.plan later k how (record { longer = omega arith; slot = λ j l. refl }) (λ number where_to e u. u) (λ p number e. e) (s.owner_is k how old)
+        | inl old ↦ owner_stays cell next s.plan later k how (record { longer = omega arith; slot = λ j l. refl }) (knows_still cell next s.plan later k how (λ j u. u) (λ p. refl)) (s.owner_is k how old)
         | inr last_one ↦ subst (λ x. OwnerIs next later k x) last_one (record { published = omega (arith, s.numbers.last); unburied = lies.2; here = refl })
       ];
       publisher_is = publisher_stays cell next s.plan later state.granted (state.granted + 1) state.publisher (record { longer = omega arith; slot = λ j l. refl }) (omega arith) refl (λ number where_to given e u. u) (λ p prepared e. e) s.publisher_is;

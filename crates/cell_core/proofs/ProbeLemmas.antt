@@ -1,18 +1,18 @@
 -- A publication that finds no slot has probed them all.
 use Rattle.std.proofs.Common.{◌≡◌, ◌≢◌, refl, sym, ap, ◌∙◌, subst, ℕ, zero, suc, ◌+◌, ◌<◌, false, ◌⊎◌, inl, inr, List, [], ◌∷◌, take, arith}
-use Rattle.std.specs.Prelude.{Some, ◌==◌}
+use Rattle.std.specs.Prelude.{Some, ◌==◌, nat_lt}
 use Rattle.std.specs.List.{slice_get}
 use Rattle.std.proofs.lemmas.Bool.{cases_Bool}
 use Rattle.std.proofs.lemmas.Bool.Decides.{eqb_tells}
 use Rattle.cell_core.proofs.RunLawLemmas.{step_at}
-use Rattle.cell_core.specs.Words.{State, slots, free_word, fetch_sub}
+use Rattle.cell_core.specs.Words.{State, slots, free_word, dead_word, fetch_sub}
 use Rattle.cell_core.specs.WordSteps.{Makes}
 use Rattle.cell_core.specs.Shows.{WordRuns}
 use Rattle.cell_core.specs.Published.{is_publishing, SeesTaken, SeesAllTaken}
 use Rattle.cell_core.specs.declared.words.Slot.{Slot}
 use Rattle.cell_core.specs.declared.words.Publisher.TheVariants.{Probing, Preparing, Swapping, Settling}
 use Rattle.cell_core.specs.declared.words.WordStep.{WordStep}
-use Rattle.cell_core.specs.declared.words.WordStep.TheVariants.{Load, Probe, Prepare, Swap, Settle, Release, Bury, Free}
+use Rattle.cell_core.specs.declared.words.WordStep.TheVariants.{Load, Probe, Prepare, Swap, Settle, Release, Bury, Free, Look, Raise, Note, Fade, Reset}
 use Rattle.cell_core.specs.declared.words.WordEvent.{WordEvent}
 use Rattle.cell_core.specs.declared.words.WordEvent.TheVariants.{NoSlot}
 
@@ -81,6 +81,27 @@ bury_came {T} old new owner event (place, there, seat, found, m) =
       | inr some ↦ (let h = rw some at m in ap (λ (s : State T). s.publisher) h.1)
     ]
 
+look_came : {T : Type 0} (old new : State T) (owner : ℕ) (event : WordEvent) → Makes {T = T} old (Look owner) event new → new.publisher ≡ old.publisher
+look_came {T} old new owner event (number, place, there, own, found, m) =
+    elim (cases_Bool (nat_lt there.shares dead_word)) [
+      | inl little ↦ (let h = rw little at m in ap (λ (s : State T). s.publisher) h.1)
+      | inr great ↦ (let h = rw great at m in ap (λ (s : State T). s.publisher) h.1)
+    ]
+
+raise_came : {T : Type 0} (old new : State T) (owner : ℕ) (event : WordEvent) → Makes {T = T} old (Raise owner) event new → new.publisher ≡ old.publisher
+raise_came {T} old new owner event (number, place, there, own, found, room, m) =
+    elim (cases_Bool (nat_lt there.shares dead_word)) [
+      | inl little ↦ (let h = rw little at m in ap (λ (s : State T). s.publisher) h.1)
+      | inr great ↦ (let h = rw great at m in ap (λ (s : State T). s.publisher) h.1)
+    ]
+
+fade_came : {T : Type 0} (old new : State T) (owner : ℕ) (event : WordEvent) → Makes {T = T} old (Fade owner) event new → new.publisher ≡ old.publisher
+fade_came {T} old new owner event (place, there, fades, found, m) =
+    elim (cases_Bool (fetch_sub there.weak 1 == 0)) [
+      | inl none ↦ (let h = rw none at m in ap (λ (s : State T). s.publisher) h.1)
+      | inr some ↦ (let h = rw some at m in ap (λ (s : State T). s.publisher) h.1)
+    ]
+
 came : {T : Type 0} (old new : State T) (step : WordStep T) (event : WordEvent) (slot : ℕ) → Makes old step event new → new.publisher ≡ Probing (suc slot) → Came old step slot
 came {T} old new Load event slot (given, found, few, told, is) due = inl (refl, sym (ap (λ (s : State T). s.publisher) is) ∙ due)
 came old new Probe event slot m due = probe_came old new event slot m due
@@ -90,6 +111,11 @@ came {T} old new Settle event slot (number, place, given, there, at, found, told
 came old new (Release owner) event slot m due = inl (refl, sym (release_came old new owner event m) ∙ due)
 came old new (Bury owner) event slot m due = inl (refl, sym (bury_came old new owner event m) ∙ due)
 came {T} old new (Free owner) event slot (place, there, seat, found, told, is) due = inl (refl, sym (ap (λ (s : State T). s.publisher) is) ∙ due)
+came old new (Look owner) event slot m due = inl (refl, sym (look_came old new owner event m) ∙ due)
+came old new (Raise owner) event slot m due = inl (refl, sym (raise_came old new owner event m) ∙ due)
+came {T} old new (Note owner) event slot (number, place, there, seat, found, room, told, is) due = inl (refl, sym (ap (λ (s : State T). s.publisher) is) ∙ due)
+came old new (Fade owner) event slot m due = inl (refl, sym (fade_came old new owner event m) ∙ due)
+came {T} old new (Reset owner) event slot (place, there, seat, found, told, is) due = inl (refl, sym (ap (λ (s : State T). s.publisher) is) ∙ due)
 
 -- no publication makes a step in a run, or behind a place of it
 abbrev pub AllQuiet : {T : Type 0} → List (WordStep T × WordEvent) → Type 0

@@ -1,6 +1,6 @@
 -- What a run publishes and buries is what its words show behind it.
 use Rattle.std.proofs.Common.{◌≡◌, refl, sym, ap, ◌∙◌, subst, ℕ, zero, suc, ◌+◌, ◌<◌, true, ◌⊎◌, inl, inr, List, [], ◌∷◌, ◌++◌, length, append_assoc}
-use Rattle.std.specs.Prelude.{Option, None, Some, ◌==◌}
+use Rattle.std.specs.Prelude.{Option, None, Some, ◌==◌, nat_lt}
 use Rattle.std.specs.List.{slice_get, slice_set}
 use Rattle.std.specs.Option.{option_to_list, option_and_then, option_map}
 use Rattle.std.proofs.lemmas.List.{append-nil}
@@ -12,18 +12,18 @@ use Rattle.cell_core.proofs.LawLemmas.{run_grows}
 use Rattle.cell_core.proofs.StepShows.{step_shows}
 use Rattle.cell_core.proofs.RunShows.{step_runs}
 use Rattle.cell_core.specs.Cell.{Cell, CellStep, Steps, with_buried}
-use Rattle.cell_core.specs.Words.{State, slots, free_word, dead_word, bulk, fetch_sub, version_in}
-use Rattle.cell_core.specs.WordSteps.{Makes, with_shares, with_version}
-use Rattle.cell_core.specs.Shows.{Shows, ShowsStep, WordRuns}
+use Rattle.cell_core.specs.Words.{State, slots, free_word, dead_word, bulk, fetch_add, fetch_sub, version_in}
+use Rattle.cell_core.specs.WordSteps.{Makes, with_shares, with_weak_word, with_version}
+use Rattle.cell_core.specs.Shows.{Shows, ShowsRaise, ShowsFade, ShowsStep, WordRuns}
 use Rattle.cell_core.specs.Published.{swapped, IsBuriedBy}
 use Rattle.cell_core.specs.declared.words.Slot.{Slot}
 use Rattle.cell_core.specs.declared.words.Version.{Version}
 use Rattle.cell_core.specs.declared.words.Publisher.{Publisher}
 use Rattle.cell_core.specs.declared.words.Publisher.TheVariants.{Probing, Preparing, Swapping, Settling}
 use Rattle.cell_core.specs.declared.words.WordStep.{WordStep}
-use Rattle.cell_core.specs.declared.words.WordStep.TheVariants.{Load, Probe, Prepare, Swap, Settle, Release, Bury, Free}
+use Rattle.cell_core.specs.declared.words.WordStep.TheVariants.{Load, Probe, Prepare, Swap, Settle, Release, Bury, Free, Look, Raise, Note, Fade, Reset}
 use Rattle.cell_core.specs.declared.words.WordEvent.{WordEvent}
-use Rattle.cell_core.specs.declared.words.WordEvent.TheVariants.{Loaded, Swapped, Buried}
+use Rattle.cell_core.specs.declared.words.WordEvent.TheVariants.{Loaded, Swapped, Buried, Dead, Raised, Noted}
 
 -- the value that waits is the one in the slot that is to be swapped in
 abbrev pub Waits : {T : Type 0} → State T → Option T → Type 0
@@ -146,6 +146,96 @@ free_waits : {T : Type 0} (old new : State T) (owner : ℕ) (event : WordEvent) 
 free_waits {T} old new owner event waiting (place, there, seat, found, told, is) w =
     waits_still old new waiting (ap (λ (s : State T). s.publisher) is) (version_was old new place there (with_shares free_word there) found (ap (λ (s : State T). s.table) is) (λ v e. e)) w
 
+look_waits : {T : Type 0} (old new : State T) (owner : ℕ) (event : WordEvent) (waiting : Option T) → Makes {T = T} old (Look owner) event new → Waits old waiting → Waits new waiting
+look_waits {T} old new owner event waiting (number, place, there, own, found, m) w =
+    elim (cases_Bool (nat_lt there.shares dead_word)) [
+      | inl little ↦ (let h = rw little at m in waits_still old new waiting (ap (λ (s : State T). s.publisher) h.1) (same_table old new (ap (λ (s : State T). s.table) h.1)) w)
+      | inr great ↦ (let h = rw great at m in waits_still old new waiting (ap (λ (s : State T). s.publisher) h.1) (same_table old new (ap (λ (s : State T). s.table) h.1)) w)
+    ]
+
+raise_waits : {T : Type 0} (old new : State T) (owner : ℕ) (event : WordEvent) (waiting : Option T) → Makes {T = T} old (Raise owner) event new → Waits old waiting → Waits new waiting
+raise_waits {T} old new owner event waiting (number, place, there, own, found, room, m) w =
+    elim (cases_Bool (nat_lt there.shares dead_word)) [
+      | inl little ↦ (let h = rw little at m in waits_still old new waiting (ap (λ (s : State T). s.publisher) h.1) (version_was old new place there (with_shares (fetch_add there.shares 1) there) found (ap (λ (s : State T). s.table) h.1) (λ v e. e)) w)
+      | inr great ↦ (let h = rw great at m in waits_still old new waiting (ap (λ (s : State T). s.publisher) h.1) (version_was old new place there (with_shares (fetch_add there.shares 1) there) found (ap (λ (s : State T). s.table) h.1) (λ v e. e)) w)
+    ]
+
+note_waits : {T : Type 0} (old new : State T) (owner : ℕ) (event : WordEvent) (waiting : Option T) → Makes {T = T} old (Note owner) event new → Waits old waiting → Waits new waiting
+note_waits {T} old new owner event waiting (number, place, there, seat, found, room, told, is) w =
+    waits_still old new waiting (ap (λ (s : State T). s.publisher) is) (version_was old new place there (with_weak_word (fetch_add there.weak 1) there) found (ap (λ (s : State T). s.table) is) (λ v e. e)) w
+
+fade_waits : {T : Type 0} (old new : State T) (owner : ℕ) (event : WordEvent) (waiting : Option T) → Makes {T = T} old (Fade owner) event new → Waits old waiting → Waits new waiting
+fade_waits {T} old new owner event waiting (place, there, fades, found, m) w =
+    elim (cases_Bool (fetch_sub there.weak 1 == 0)) [
+      | inl none ↦ (let h = rw none at m in waits_still old new waiting (ap (λ (s : State T). s.publisher) h.1) (version_was old new place there (with_weak_word 0 there) found (ap (λ (s : State T). s.table) h.1) (λ v e. e)) w)
+      | inr some ↦ (let h = rw some at m in waits_still old new waiting (ap (λ (s : State T). s.publisher) h.1) (version_was old new place there (with_weak_word (fetch_sub there.weak 1) there) found (ap (λ (s : State T). s.table) h.1) (λ v e. e)) w)
+    ]
+
+reset_waits : {T : Type 0} (old new : State T) (owner : ℕ) (event : WordEvent) (waiting : Option T) → Makes {T = T} old (Reset owner) event new → Waits old waiting → Waits new waiting
+reset_waits {T} old new owner event waiting (place, there, seat, found, told, is) w =
+    waits_still old new waiting (ap (λ (s : State T). s.publisher) is) (version_was old new place there (with_weak_word 1 there) found (ap (λ (s : State T). s.table) is) (λ v e. e)) w
+
+-- a weak owner's step up publishes and buries nothing
+up_quiet : {T : Type 0} (before after : Cell T) (k : ℕ) (given : Option ℕ) → Steps before (CellStep.Up k) given after → (after.published ≡ before.published) × ((j : ℕ) → after.buried j ≡ before.buried j)
+up_quiet {T} before after k given s =
+    elim (cases_Bool (before.buried k)) [
+      | inl gone ↦ (let up = rw gone at s.1 in (ap (λ (c : Cell T). c.published) up.1, λ j. ap (λ (c : Cell T). c.buried j) up.1))
+      | inr there ↦ (let up = rw there at s.1 in (ap (λ (c : Cell T). c.published) up.1, λ j. ap (λ (c : Cell T). c.buried j) up.1))
+    ]
+
+raise_quiet : {T : Type 0} (state : State T) (owner number : ℕ) (before after : Cell T) → ShowsRaise state owner number before after → (after.published ≡ before.published) × ((j : ℕ) → after.buried j ≡ before.buried j)
+raise_quiet {T} state owner number before after s =
+    elim s.1 [
+      | inl strong ↦ (ap (λ (c : Cell T). c.published) strong.1.2, λ j. ap (λ (c : Cell T). c.buried j) strong.1.2)
+      | inr weak ↦ up_quiet before after number (Some number) weak.1
+    ]
+
+fade_quiet : {T : Type 0} (state : State T) (owner : ℕ) (before after : Cell T) → ShowsFade state owner before after → (after.published ≡ before.published) × ((j : ℕ) → after.buried j ≡ before.buried j)
+fade_quiet {T} state owner before after s =
+    elim s [
+      | inl weak ↦ (ap (λ (c : Cell T). c.published) weak.3.2, λ j. ap (λ (c : Cell T). c.buried j) weak.3.2)
+      | inr burier ↦ (ap (λ (c : Cell T). c.published) burier.2, λ j. ap (λ (c : Cell T). c.buried j) burier.2)
+    ]
+
+-- a step of weak owners, or by which an owner is given another
+abbrev pub OfWeak : {T : Type 0} → WordStep T → Type 0
+OfWeak (Look owner) = Unit {0}
+OfWeak (Raise owner) = Unit {0}
+OfWeak (Note owner) = Unit {0}
+OfWeak (Fade owner) = Unit {0}
+OfWeak (Reset owner) = Unit {0}
+OfWeak Load = ⊥
+OfWeak Probe = ⊥
+OfWeak (Prepare value) = ⊥
+OfWeak Swap = ⊥
+OfWeak Settle = ⊥
+OfWeak (Release owner) = ⊥
+OfWeak (Bury owner) = ⊥
+OfWeak (Free owner) = ⊥
+
+-- it publishes and buries nothing
+same_quiet : {T : Type 0} (before after : Cell T) → after ≡ before → (after.published ≡ before.published) × ((j : ℕ) → after.buried j ≡ before.buried j)
+same_quiet {T} before after e = (ap (λ (c : Cell T). c.published) e, λ j. ap (λ (c : Cell T). c.buried j) e)
+
+pub weak_quiet : {T : Type 0} (state : State T) (step : WordStep T) (event : WordEvent) (before after : Cell T) → OfWeak step → ShowsStep state step event before after → (after.published ≡ before.published) × ((j : ℕ) → after.buried j ≡ before.buried j)
+weak_quiet state (Look owner) Dead before after of s = up_quiet before after s.0 None s.3
+weak_quiet state (Look owner) event before after of s = same_quiet before after s
+weak_quiet state (Raise owner) Dead before after of s = up_quiet before after s.0 None s.3
+weak_quiet state (Raise owner) (Raised given number) before after of s = raise_quiet state owner number before after s
+weak_quiet state (Raise owner) event before after of s = same_quiet before after s
+weak_quiet {T} state (Note owner) (Noted given number) before after of s = (ap (λ (c : Cell T). c.published) s.2, λ j. ap (λ (c : Cell T). c.buried j) s.2)
+weak_quiet state (Note owner) event before after of s = same_quiet before after s
+weak_quiet state (Fade owner) event before after of s = fade_quiet state owner before after s
+weak_quiet state (Reset owner) event before after of s = same_quiet before after s
+weak_quiet state Load event before after of s = absurd of
+weak_quiet state Probe event before after of s = absurd of
+weak_quiet state (Prepare value) event before after of s = absurd of
+weak_quiet state Swap event before after of s = absurd of
+weak_quiet state Settle event before after of s = absurd of
+weak_quiet state (Release owner) event before after of s = absurd of
+weak_quiet state (Bury owner) event before after of s = absurd of
+weak_quiet state (Free owner) event before after of s = absurd of
+
 -- a swap publishes the value that waits
 swap_tells : {T : Type 0} (state new : State T) (number : ℕ) (waiting : Option T) (cell next : Cell T) → Waits state waiting → Makes {T = T} state Swap (Swapped number) new → ShowsStep {T = T} state Swap (Swapped number) cell next → Tells {T = T} new Swap (Swapped number) waiting cell next
 swap_tells {T} state new number waiting cell next w m s =
@@ -190,6 +280,21 @@ step_tells {T} state new (Release owner) event waiting cell next w m s =
 step_tells state new (Bury owner) (Buried number) waiting cell next w m s = bury_tells state new owner number waiting cell next w m s
 step_tells state new (Bury owner) event waiting cell next w m s = same_cell new (Bury owner) event waiting waiting cell next s (λ more. refl) (bury_waits state new owner event waiting m w)
 step_tells state new (Free owner) event waiting cell next w m s = same_cell new (Free owner) event waiting waiting cell next s (λ more. refl) (free_waits state new owner event waiting m w)
+step_tells state new (Look owner) event waiting cell next w m s =
+    let q = weak_quiet state (Look owner) event cell next tt s in
+    quiet new (Look owner) event waiting waiting cell next q.0 q.1 (λ more. refl) (look_waits state new owner event waiting m w)
+step_tells state new (Raise owner) event waiting cell next w m s =
+    let q = weak_quiet state (Raise owner) event cell next tt s in
+    quiet new (Raise owner) event waiting waiting cell next q.0 q.1 (λ more. refl) (raise_waits state new owner event waiting m w)
+step_tells state new (Note owner) event waiting cell next w m s =
+    let q = weak_quiet state (Note owner) event cell next tt s in
+    quiet new (Note owner) event waiting waiting cell next q.0 q.1 (λ more. refl) (note_waits state new owner event waiting m w)
+step_tells state new (Fade owner) event waiting cell next w m s =
+    let q = weak_quiet state (Fade owner) event cell next tt s in
+    quiet new (Fade owner) event waiting waiting cell next q.0 q.1 (λ more. refl) (fade_waits state new owner event waiting m w)
+step_tells state new (Reset owner) event waiting cell next w m s =
+    let q = weak_quiet state (Reset owner) event cell next tt s in
+    quiet new (Reset owner) event waiting waiting cell next q.0 q.1 (λ more. refl) (reset_waits state new owner event waiting m w)
 
 -- what a run publishes, and what it buries
 pub record RunTells {T : Type 0} (after : State T) (run : List (WordStep T × WordEvent)) (waiting : Option T) (cell : Cell T) : Type 0 where

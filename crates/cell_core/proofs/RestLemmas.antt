@@ -9,30 +9,46 @@ use Rattle.std.proofs.lemmas.List.Sums.{sum_by-cons, sum_by-set}
 use Rattle.std.proofs.lemmas.Option.{slice_get_within, get_or_from_slice_get}
 use Rattle.cell_core.proofs.CountLemmas.{one_if}
 use Rattle.cell_core.proofs.ProbeKeeps.{few_shares}
-use Rattle.cell_core.proofs.SeatLemmas.{get_set_same, get_set_other, held_none, get_within}
+use Rattle.cell_core.proofs.SeatLemmas.{get_set_same, get_set_other, held_none, weaks_none, none_at_others, get_within}
 use Rattle.cell_core.specs.Cell.{Cell, IsLast}
 use Rattle.cell_core.specs.Words.{State, free_word, free_slot}
-use Rattle.cell_core.specs.Shows.{Phase, Plan, IsLive, SlotIs, Shows, AtRest, held, holds, kept_by, kept_by_cell}
+use Rattle.cell_core.specs.Shows.{Rest, Phase, Plan, IsLive, SlotIs, WeakWord, Shows, AtRest, held, holds, has_weakly, weaks, kept_by, kept_by_cell}
+use Rattle.cell_core.specs.Shows.Rest.{fading, outlived, closing, closed}
 use Rattle.cell_core.specs.Shows.Phase.{free, taken, live, dead}
 use Rattle.cell_core.specs.declared.words.Slot.{Slot}
-use Rattle.cell_core.specs.declared.words.Owner.TheVariants.{Holding, Burying, Freeing}
+use Rattle.cell_core.specs.declared.words.Owner.TheVariants.{Holding, Burying, Fading, Resetting, Freeing}
 use Rattle.cell_core.specs.declared.words.Publisher.TheVariants.{Probing, Preparing, Swapping}
 
 -- a number is no greater one
 isnt_greater : (j k : ℕ) → j < k → (j == k) ≡ false
 isnt_greater j k l = elim (eqb_tells j k) [ inl same ↦ absurd (omega (arith, same.1, l)) | inr other ↦ other.0 ]
 
+-- nobody has a number weakly at rest
+pub rest_unnoted : {T : Type 0} (state : State T) (from last : ℕ) → AtRest state from last → (j : ℕ) → weaks state.owners j ≡ 0
+rest_unnoted state from last rest j =
+    weaks_none state.owners j (λ i how h. elim (rest.owners i how h) [
+      | inl spent ↦ ap (has_weakly j) spent
+      | inr holding ↦ ap (has_weakly j) holding.3
+    ])
+
+-- and nobody has anything left to do
+none_charged : {T : Type 0} (state : State T) (from last j place k : ℕ) (its : Rest) → AtRest state from last → WeakWord state.owners place (dead j 0 its) k → ⊥
+none_charged state from last j place k (fading i) rest w = elim (rest.owners i (Fading place) w.1) [ inl spent ↦ (cc) | inr holding ↦ (let apart = holding.3 in cc) ]
+none_charged state from last j place k outlived rest w = let none = rest_unnoted state from last rest j in omega (arith, w.0.1, none)
+none_charged state from last j place k (closing i) rest w = elim (rest.owners i (Resetting place) w.1) [ inl spent ↦ (cc) | inr holding ↦ (let apart = holding.3 in cc) ]
+none_charged state from last j place k (closed i) rest w = elim (rest.owners i (Freeing place) w.1) [ inl spent ↦ (cc) | inr holding ↦ (let apart = holding.3 in cc) ]
+
 -- a slot at rest is free, or has a number from that one on
-rests : {T : Type 0} (state : State T) (cell : Cell T) (plan : Plan) (from place : ℕ) (there : Slot T) (phase : Phase) → AtRest state from plan.last → SlotIs state cell plan place phase there → ((number : ℕ) × (from ≤ number) × (phase ≡ live number)) ⊎ (phase ≡ free)
-rests state cell plan from place there free rest s = inr refl
-rests state cell plan from place there (taken false) rest s = absurd (let apart : Probing 0 ≡ Preparing place = sym rest.publisher ∙ s.0 in cc)
-rests state cell plan from place there (taken true) rest s = absurd (let apart : Probing 0 ≡ Swapping place = sym rest.publisher ∙ s.0 in cc)
-rests {T} state cell plan from place there (live j) rest s =
+rests : {T : Type 0} (state : State T) (cell : Cell T) (plan : Plan) (from place : ℕ) (there : Slot T) (phase : Phase) → AtRest state from plan.last → SlotIs state cell plan place phase there → WeakWord state.owners place phase there.weak → ((number : ℕ) × (from ≤ number) × (phase ≡ live number)) ⊎ (phase ≡ free)
+rests state cell plan from place there free rest s w = inr refl
+rests state cell plan from place there (taken false) rest s w = absurd (let apart : Probing 0 ≡ Preparing place = sym rest.publisher ∙ s.0 in cc)
+rests state cell plan from place there (taken true) rest s w = absurd (let apart : Probing 0 ≡ Swapping place = sym rest.publisher ∙ s.0 in cc)
+rests {T} state cell plan from place there (live j) rest s w =
     elim (cases_lt j from) [
       | inl before ↦ (
           let unheld : held state.owners j ≡ 0 = held_none state.owners j (λ i how h. elim (rest.owners i how h) [
             | inl spent ↦ ap (holds j) spent
-            | inr holding ↦ ap (holds j) holding.3 ∙ isnt_greater j holding.0 (omega (arith, before, holding.2))
+            | inr holding ↦ ap (holds j) holding.3 ∙ none_at_others j holding.0 (omega (arith, before, holding.2))
           ]) in
           let by_cell : kept_by_cell plan.last plan.given j ≡ 0 = rw (isnt_greater j plan.last (omega (arith, before, rest.within))) refl in
           let by_it : kept_by state.publisher j ≡ 0 = ap (λ x. kept_by x j) rest.publisher in
@@ -41,7 +57,7 @@ rests {T} state cell plan from place there (live j) rest s =
           )
       | inr within ↦ inl (j, within, refl)
     ]
-rests state cell plan from place there (dead j i) rest s = absurd (elim (rest.owners i (Freeing place) s.2) [ inl spent ↦ (cc) | inr holding ↦ (let apart = holding.3 in cc) ])
+rests state cell plan from place there (dead j late its) rest s w = absurd (none_charged state from plan.last j place there.weak its rest w)
 
 -- the number that is last is the plan's
 same_last : {T : Type 0} (state : State T) (cell : Cell T) (from last : ℕ) (s : Shows state cell) → IsLast cell last → AtRest state from last → (last ≡ s.plan.last) × AtRest state from s.plan.last
@@ -55,7 +71,7 @@ before_buried state cell from s rest j l =
       | inr open_still ↦ (
           let lies = s.numbers.lies j (omega (arith, rest.within, l)) open_still in
           let found = get_within state.table (s.plan.slot j) (omega (arith, lies.0, s.table.size)) in
-          absurd (elim (rests state cell s.plan from (s.plan.slot j) found.0 (s.plan.phase (s.plan.slot j)) rest (s.table.slot_is (s.plan.slot j) found.0 found.1)) [
+          absurd (elim (rests state cell s.plan from (s.plan.slot j) found.0 (s.plan.phase (s.plan.slot j)) rest (s.table.slot_is (s.plan.slot j) found.0 found.1) (s.table.weak_word (s.plan.slot j) found.0 found.1)) [
             | inl has ↦ (let apart : live j ≡ live has.0 = sym lies.1 ∙ has.2 in let e : j ≡ has.0 = cc in omega (arith, e, l, has.1))
             | inr is_free ↦ (let apart : live j ≡ free = sym lies.1 ∙ is_free in cc)
           ])
@@ -118,7 +134,7 @@ all_but_fewer p ok xs places count passes within a = record {
   ];
 }
 
-count_but : {X : Type 0} (p : X → Bool) (ok : X) (xs : List X) (places : ℕ → ℕ) (count : ℕ) → p ok ≡ true → AllBut p xs places count → count_by p xs + count ≡ length xs
+pub count_but : {X : Type 0} (p : X → Bool) (ok : X) (xs : List X) (places : ℕ → ℕ) (count : ℕ) → p ok ≡ true → AllBut p xs places count → count_by p xs + count ≡ length xs
 count_but p ok xs places zero passes a =
     let all = count_all p xs (λ j x e. elim (cases_Bool (p x)) [ inl passed ↦ passed | inr fails ↦ (let it = a.others j x e fails in absurd (omega (arith, it.1))) ]) in
     omega (arith, all)
@@ -133,10 +149,10 @@ count_but p ok xs places (suc count) passes a =
     omega (arith, fewer, sums, there, none, one, length-set xs (places count) ok)
 
 -- S is FREE
-is_free_word : (shares : ℕ) → shares ≡ free_word → (shares == free_word) ≡ true
+pub is_free_word : (shares : ℕ) → shares ≡ free_word → (shares == free_word) ≡ true
 is_free_word shares e = elim (eqb_tells shares free_word) [ inl same ↦ same.0 | inr other ↦ absurd (other.1 e) ]
 
-isnt_free_word : (shares : ℕ) → (shares ≡ free_word → ⊥) → (shares == free_word) ≡ false
+pub isnt_free_word : (shares : ℕ) → (shares ≡ free_word → ⊥) → (shares == free_word) ≡ false
 isnt_free_word shares h = elim (eqb_tells shares free_word) [ inl same ↦ absurd (h same.1) | inr other ↦ other.0 ]
 
 abbrev is_free : {T : Type 0} → Slot T → Bool
@@ -181,7 +197,7 @@ taken_slots {T} state cell from s rest = record {
       );
   fail = λ i l. (let one = lies_at state cell from s rest (from + i) (omega arith) (omega (arith, l, rest.within)) in (one.there, one.at, one.taken));
   others = λ place there at fails.
-      elim (rests state cell s.plan from place there (s.plan.phase place) rest (s.table.slot_is place there at)) [
+      elim (rests state cell s.plan from place there (s.plan.phase place) rest (s.table.slot_is place there at) (s.table.weak_word place there at)) [
         | inl has ↦ (
             let is_live : IsLive state cell s.plan place has.0 there = subst (λ p. SlotIs state cell s.plan place p there) has.2 (s.table.slot_is place there at) in
             let before = slice_get_within cell.published has.0 is_live.value is_live.published in
@@ -197,3 +213,21 @@ rest_free {T} state cell from last s is at_last =
     let rest = same_last state cell from last s is at_last in
     let counted = count_but (is_free {T = T}) (free_slot {T = T}) state.table (λ i. s.plan.slot (from + i)) (s.plan.last + 1 - from) refl (taken_slots state cell from s rest.1) in
     omega (arith, counted, s.table.size, rest.0, rest.1.within)
+
+-- K of each slot is 1 then
+pub rest_weak : {T : Type 0} (state : State T) (cell : Cell T) (from last : ℕ) → Shows state cell → IsLast cell last → AtRest state from last → (place : ℕ) (there : Slot T) → slice_get state.table place ≡ Some there → there.weak ≡ 1
+rest_weak state cell from last s is at_last place there at =
+    let rest = same_last state cell from last s is at_last in
+    let word = s.table.weak_word place there at in
+    elim (rests state cell s.plan from place there (s.plan.phase place) rest.1 (s.table.slot_is place there at) word) [
+      | inl has ↦ (
+          let k = subst (λ p. WeakWord state.owners place p there.weak) has.2 word in
+          let none = rest_unnoted state from s.plan.last rest.1 has.0 in
+          omega (arith, k, none)
+          )
+      | inr is_none ↦ subst (λ p. WeakWord state.owners place p there.weak) is_none word
+    ]
+
+-- and no number has a weak owner
+pub rest_no_weak : {T : Type 0} (state : State T) (cell : Cell T) (from last : ℕ) → Shows state cell → AtRest state from last → (j : ℕ) → cell.weak j ≡ 0
+rest_no_weak state cell from last s rest j = s.counts.weak j ∙ rest_unnoted state from last rest j

@@ -5,23 +5,25 @@ use Rattle.std.specs.List.{slice_get}
 use Rattle.std.specs.Option.{option_to_list}
 use Rattle.std.proofs.lemmas.Bool.Decides.{eqb_tells}
 use Rattle.std.proofs.lemmas.Option.{slice_get_within}
-use Rattle.cell_core.proofs.SeatLemmas.{held_none, held_some, get_within}
+use Rattle.cell_core.proofs.SeatLemmas.{held_none, held_some, one_at_itself, get_within}
 use Rattle.cell_core.proofs.ShowsLemmas.{last_lies, latest_number, latest_slot}
 use Rattle.cell_core.proofs.LawLemmas.{get_before_more}
+use Rattle.cell_core.proofs.LittleLemmas.{live_little, few_weak}
 use Rattle.cell_core.proofs.StepShows.{step_shows}
 use Rattle.cell_core.proofs.BeginShows.{begun_shows}
 use Rattle.cell_core.proofs.UserLemmas.{owner_finds, owner_is_given, last_is_given, bury_finds_unowned}
 use Rattle.cell_core.proofs.OwnerLemmas.{was_in_w}
 use Rattle.cell_core.proofs.PublishedLemmas.{waits_not, no_probing, RunTells, run_tells}
 use Rattle.cell_core.specs.Cell.{Cell, start}
-use Rattle.cell_core.specs.Words.{State, begun, grants, bulk, free_word, dead_word, slot_of, fetch_add, found_by, found_last}
+use Rattle.cell_core.specs.Words.{State, begun, grants, notes, bulk, free_word, dead_word, slot_of, fetch_add, found_by, found_last}
 use Rattle.cell_core.specs.WordSteps.{Makes}
-use Rattle.cell_core.specs.Shows.{Phase, IsLive, SlotIs, OwnerIs, PublisherIs, Plan, Shows, WordRuns, held, holds, owned_by, kept_by, kept_by_cell}
+use Rattle.cell_core.specs.Shows.{Rest, Phase, IsLive, SlotIs, RestWord, WeakWord, OwnerIs, PublisherIs, Plan, Shows, WordRuns, held, holds, weaks, owned_by, kept_by}
+use Rattle.cell_core.specs.Shows.Rest.{fading, outlived, closing, closed}
 use Rattle.cell_core.specs.Shows.Phase.{free, taken, live, dead}
 use Rattle.cell_core.specs.Published.{swapped, published_by, IsBuriedBy}
 use Rattle.cell_core.specs.declared.words.Slot.{Slot}
 use Rattle.cell_core.specs.declared.words.Owner.{Owner}
-use Rattle.cell_core.specs.declared.words.Owner.TheVariants.{Holding, Burying, Freeing, Spent}
+use Rattle.cell_core.specs.declared.words.Owner.TheVariants.{Holding, Twice, Weakly, Both, Burying, Fading, Resetting, Freeing, Spent}
 use Rattle.cell_core.specs.declared.words.Publisher.{Publisher}
 use Rattle.cell_core.specs.declared.words.Publisher.TheVariants.{Probing, Preparing, Swapping, Settling}
 use Rattle.cell_core.specs.declared.words.WordStep.{WordStep}
@@ -86,13 +88,26 @@ buried_unowned {T} first after run place owner number r h =
     (at.between, at.made, found.0, found.1, subst (λ (l : List T). number + 1 < length l) t.published before_last)
 
 -- an owner of what is buried
-holds_not : {T : Type 0} (cell : Cell T) (plan : Plan) (number i : ℕ) (how : Owner) → cell.buried number ≡ true → OwnerIs cell plan i how → holds number how ≡ false
+pub holds_not : {T : Type 0} (cell : Cell T) (plan : Plan) (number i : ℕ) (how : Owner) → cell.buried number ≡ true → OwnerIs cell plan i how → holds number how ≡ 0
 holds_not cell plan number i (Holding j place) gone is =
     elim (eqb_tells number j) [
       | inl same ↦ absurd (true≢false (sym gone ∙ ap cell.buried same.1 ∙ is.unburied))
-      | inr other ↦ other.0
+      | inr other ↦ rw other.0 refl
     ]
+holds_not cell plan number i (Twice j place) gone is =
+    elim (eqb_tells number j) [
+      | inl same ↦ absurd (true≢false (sym gone ∙ ap cell.buried same.1 ∙ is.unburied))
+      | inr other ↦ rw other.0 refl
+    ]
+holds_not cell plan number i (Both j place) gone is =
+    elim (eqb_tells number j) [
+      | inl same ↦ absurd (true≢false (sym gone ∙ ap cell.buried same.1 ∙ is.0.unburied))
+      | inr other ↦ rw other.0 refl
+    ]
+holds_not cell plan number i (Weakly j place) gone is = refl
 holds_not cell plan number i (Burying place) gone is = refl
+holds_not cell plan number i (Fading place) gone is = refl
+holds_not cell plan number i (Resetting place) gone is = refl
 holds_not cell plan number i (Freeing place) gone is = refl
 holds_not cell plan number i Spent gone is = refl
 
@@ -138,54 +153,38 @@ latest_little state cell s =
     let lies = last_lies state cell s in
     (s.given.granted, omega (arith, s.given.latest, s.given.given, s.given.granted, lies.0))
 
--- S of a slot whose version isn't buried
-settling_few : {T : Type 0} (cell : Cell T) (plan : Plan) (granted held_of strong j : ℕ) (publisher : Publisher) → PublisherIs cell plan granted publisher → strong ≡ held_of + owned_by publisher j → strong ≤ granted + 1 → granted ≤ grants → j < plan.last → held_of + kept_by publisher j ≤ bulk + grants
-settling_few cell plan granted held_of strong j (Settling number place given) is e few l before =
-    elim (eqb_tells j number) [
-      | inl same ↦ rw same.0 (let f : strong ≡ held_of + 1 = rw same.0 at e in omega (arith, f, few, l))
-      | inr other ↦ rw other.0 (let f : strong ≡ held_of + 0 = rw other.0 at e in omega (arith, f, few, l))
-    ]
-settling_few cell plan granted held_of strong j (Probing place) is e few l before = omega (arith, e, few, l)
-settling_few cell plan granted held_of strong j (Preparing place) is e few l before = omega (arith, e, few, l)
-settling_few cell plan granted held_of strong j (Swapping place) is e few l before = omega (arith, e, few, l)
+-- S of a slot, by its phase
+abbrev pub IsLittle : ℕ → Type 0
+IsLittle shares = (shares ≡ free_word) ⊎ ((dead_word ≤ shares) × (shares ≤ dead_word + grants)) ⊎ (shares ≤ bulk + grants)
 
--- the publisher isn't to settle the last number
-not_the_last : {T : Type 0} (cell : Cell T) (plan : Plan) (granted : ℕ) (publisher : Publisher) → PublisherIs cell plan granted publisher → kept_by publisher plan.last ≡ 0
-not_the_last cell plan granted (Settling number place given) is =
-    elim (eqb_tells plan.last number) [ inl same ↦ absurd (omega (arith, same.1, is.1)) | inr other ↦ rw other.0 refl ]
-not_the_last cell plan granted (Probing place) is = refl
-not_the_last cell plan granted (Preparing place) is = refl
-not_the_last cell plan granted (Swapping place) is = refl
-
-pub live_little : {T : Type 0} (state : State T) (cell : Cell T) (s : Shows state cell) (place j : ℕ) (there : Slot T) → IsLive state cell s.plan place j there → there.shares ≤ bulk + grants
-live_little state cell s place j there is =
-    let strong = s.counts.strong j in
-    let few = s.counts.few j in
-    let published : j < length cell.published = slice_get_within cell.published j is.value is.published in
-    elim (eqb_tells j s.plan.last) [
-      | inl same ↦ (
-          let by_cell : kept_by_cell s.plan.last s.plan.given j ≡ bulk - s.plan.given = rw same.0 refl in
-          let by_it : kept_by state.publisher j ≡ 0 = ap (kept_by state.publisher) same.1 ∙ not_the_last cell s.plan state.granted state.publisher s.publisher_is in
-          let few_of : cell.strong j ≤ state.granted = subst (λ n. cell.strong n ≤ state.granted) (sym same.1) s.counts.few_of_last in
-          omega (arith, is.shares, by_cell, by_it, strong, few_of, s.given.granted)
-          )
-      | inr other ↦ (
-          let by_cell : kept_by_cell s.plan.last s.plan.given j ≡ 0 = rw other.0 refl in
-          let before : j < s.plan.last = omega (arith, published, s.numbers.last, other.1) in
-          let by_it = settling_few cell s.plan state.granted (held state.owners j) (cell.strong j) j state.publisher s.publisher_is strong few s.given.granted before in
-          omega (arith, is.shares, by_cell, by_it)
-          )
-    ]
-
-little_by_phase : {T : Type 0} (state : State T) (cell : Cell T) (s : Shows state cell) (place : ℕ) (there : Slot T) (phase : Phase) → SlotIs state cell s.plan place phase there → (there.shares ≡ free_word) ⊎ (there.shares ≡ dead_word) ⊎ (there.shares ≤ bulk + grants)
+little_by_phase : {T : Type 0} (state : State T) (cell : Cell T) (s : Shows state cell) (place : ℕ) (there : Slot T) (phase : Phase) → SlotIs state cell s.plan place phase there → IsLittle there.shares
 little_by_phase state cell s place there free is = inl is.0
 little_by_phase state cell s place there (taken false) is = inl is.1
 little_by_phase state cell s place there (taken true) is = inr (inr (omega (arith, is.1)))
 little_by_phase state cell s place there (live j) is = inr (inr (live_little state cell s place j there is))
-little_by_phase state cell s place there (dead j i) is = inr (inl is.0)
+little_by_phase state cell s place there (dead j late rest) is = inr (inl (omega (arith, is.shares), omega (arith, is.shares, is.few, s.given.granted)))
 
-pub shares_little : {T : Type 0} (state : State T) (cell : Cell T) (s : Shows state cell) (place : ℕ) (there : Slot T) → slice_get state.table place ≡ Some there → (there.shares ≡ free_word) ⊎ (there.shares ≡ dead_word) ⊎ (there.shares ≤ bulk + grants)
+pub shares_little : {T : Type 0} (state : State T) (cell : Cell T) (s : Shows state cell) (place : ℕ) (there : Slot T) → slice_get state.table place ≡ Some there → IsLittle there.shares
 shares_little state cell s place there at = little_by_phase state cell s place there (s.plan.phase place) (s.table.slot_is place there at)
+
+-- K of a slot, by its phase
+rest_little : (weak k : ℕ) (rest : Rest) → RestWord weak rest k → k ≤ weak + 1
+rest_little weak k (fading o) w = omega (arith, w)
+rest_little weak k outlived w = omega (arith, w.0)
+rest_little weak k (closing o) w = omega (arith, w.0)
+rest_little weak k (closed o) w = omega (arith, w.0)
+
+weak_by_phase : {T : Type 0} (state : State T) (cell : Cell T) (s : Shows state cell) (place k : ℕ) (phase : Phase) → WeakWord state.owners place phase k → k ≤ notes + 1
+weak_by_phase state cell s place k free w = omega (arith, w)
+weak_by_phase state cell s place k (taken prepared) w = omega (arith, w)
+weak_by_phase state cell s place k (live j) w = let few = few_weak state cell s j in omega (arith, w, few)
+weak_by_phase state cell s place k (dead j late rest) w =
+    let few = few_weak state cell s j in
+    let little = rest_little (weaks state.owners j) k rest w.0 in
+    omega (arith, little, few)
+
+pub weak_little : {T : Type 0} (state : State T) (cell : Cell T) (s : Shows state cell) (place : ℕ) (there : Slot T) → slice_get state.table place ≡ Some there → there.weak ≤ notes + 1
+weak_little state cell s place there at = weak_by_phase state cell s place there.weak (s.plan.phase place) (s.table.weak_word place there at)
 
 -- a load adds one to the shares given out, and leaves the slot as it was
 pub load_adds : {T : Type 0} (state new : State T) (cell : Cell T) (event : WordEvent) → Shows state cell → Makes {T = T} state Load event new → (new.latest ≡ state.latest + 1) × (slot_of new.latest ≡ slot_of state.latest)
@@ -211,6 +210,8 @@ release_has state cell owner number place there s seat at =
     let lies = s.owner_is owner (Holding number place) seat in
     let phase : s.plan.phase place ≡ live number = ap s.plan.phase (sym lies.here) ∙ (s.numbers.lies number (omega (arith, lies.published, s.numbers.last)) lies.unburied).1 in
     let there_is : IsLive state cell s.plan place number there = subst (λ p. SlotIs state cell s.plan place p there) phase (s.table.slot_is place there at) in
-    let some = held_some state.owners owner number (Holding number place) seat (elim (eqb_tells number number) [ inl same ↦ same.0 | inr other ↦ absurd (other.1 refl) ]) in
+    let counted = held_some state.owners owner number (Holding number place) seat in
+    let one = one_at_itself number in
+    let some : 0 < held state.owners number = omega (arith, counted, one) in
     let little = live_little state cell s place number there there_is in
     (omega (arith, there_is.shares, some), omega (arith, little))

@@ -1,14 +1,14 @@
 -- A run of steps on words shows a run of a cell.
-use Rattle.std.proofs.Common.{◌≡◌, refl, sym, subst, ℕ, ◌≤◌, List, [], ◌∷◌, ◌++◌, length, length-append, arith}
+use Rattle.std.proofs.Common.{◌≡◌, refl, sym, subst, ℕ, ◌≤◌, inl, inr, List, [], ◌∷◌, ◌++◌, length, length-append, arith}
 use Rattle.std.specs.Prelude.{Option, None, Some}
 use Rattle.cell_core.proofs.StepShows.{step_shows}
 use Rattle.cell_core.specs.Cell.{Cell, CellStep, Steps, Runs}
 use Rattle.cell_core.specs.Words.{State}
 use Rattle.cell_core.specs.Shows.{Shows, ShowsStep, WordRuns}
 use Rattle.cell_core.specs.declared.words.WordStep.{WordStep}
-use Rattle.cell_core.specs.declared.words.WordStep.TheVariants.{Load, Swap, Release, Bury}
+use Rattle.cell_core.specs.declared.words.WordStep.TheVariants.{Load, Swap, Release, Bury, Look, Raise, Note, Fade}
 use Rattle.cell_core.specs.declared.words.WordEvent.{WordEvent}
-use Rattle.cell_core.specs.declared.words.WordEvent.TheVariants.{Loaded, Swapped, Buried}
+use Rattle.cell_core.specs.declared.words.WordEvent.TheVariants.{Loaded, Swapped, Buried, Dead, Raised, Noted}
 
 -- a run of one step at most
 pub record ShortRun {T : Type 0} (before after : Cell T) : Type 0 where
@@ -28,6 +28,19 @@ step_runs state Load (Loaded owner number) before after s = one_step CellStep.Lo
 step_runs state Swap (Swapped number) before after s = one_step (CellStep.Publish s.0) (Some number) before after s.2
 step_runs state (Release owner) event before after s = one_step (CellStep.Drop s.0) None before after s.3
 step_runs state (Bury owner) (Buried number) before after s = one_step (CellStep.Bury number) None before after s
+step_runs state (Look owner) Dead before after s = one_step (CellStep.Up s.0) None before after s.3
+step_runs state (Raise owner) Dead before after s = one_step (CellStep.Up s.0) None before after s.3
+step_runs state (Raise owner) (Raised next number) before after s =
+    elim s.1 [
+      | inl strong ↦ one_step (CellStep.Clone number) (Some number) before after strong.1
+      | inr weak ↦ one_step (CellStep.Up number) (Some number) before after weak.1
+    ]
+step_runs state (Note owner) (Noted next number) before after s = one_step (CellStep.Down number) (Some number) before after s
+step_runs state (Fade owner) event before after s =
+    elim s [
+      | inl weak ↦ one_step (CellStep.Fade weak.0) None before after weak.3
+      | inr burier ↦ no_step before after burier.2
+    ]
 step_runs state step event before after s = no_step before after s
 
 -- one run behind another

@@ -9,10 +9,10 @@ use Rattle.cell_core.specs.Words.{State, slots, free_word, dead_word, bulk, word
 use Rattle.cell_core.specs.WordSteps.{Makes, Loads, Probes, Prepares, Swaps, Settles, Releases, Buries, Frees, with_slot, with_owner, with_new_owner, with_publisher, with_shares, with_version}
 use Rattle.cell_core.specs.Shows.{SlotIs, PublisherIs, Shows, ShowsStep}
 use Rattle.cell_core.specs.Shows.Phase.{taken}
-use Rattle.cell_core.specs.declared.words.Owner.TheVariants.{Holding, Burying, Freeing, Spent}
+use Rattle.cell_core.specs.declared.words.Owner.TheVariants.{Holding, Burying, Fading, Spent}
 use Rattle.cell_core.specs.declared.words.Publisher.TheVariants.{Probing, Preparing, Swapping, Settling}
 use Rattle.cell_core.specs.declared.words.WordStep.{WordStep}
-use Rattle.cell_core.specs.declared.words.WordStep.TheVariants.{Load, Probe, Prepare, Swap, Settle, Release, Bury, Free}
+use Rattle.cell_core.specs.declared.words.WordStep.TheVariants.{Load, Probe, Prepare, Swap, Settle, Release, Bury, Free, Look, Raise, Note, Fade, Reset}
 use Rattle.cell_core.specs.declared.words.WordEvent.{WordEvent}
 use Rattle.cell_core.specs.declared.words.WordEvent.TheVariants.{Loaded, Passed, Taken, NoSlot, Prepared, Swapped, Settled, Left, Emptied, Buried, Kept, Freed}
 use Rattle.cell_core.proofs.ShowsLemmas.{latest_slot, latest_given, number_there, latest_number}
@@ -22,10 +22,7 @@ use Rattle.cell_core.proofs.BuryKeeps.{can_bury, bury_keeps, kept_keeps}
 use Rattle.cell_core.proofs.ReleaseKeeps.{can_release, release_keeps}
 use Rattle.cell_core.proofs.ProbeKeeps.{take_keeps, pass_keeps, prepare_keeps}
 use Rattle.cell_core.proofs.LoadKeeps.{load_keeps, settle_keeps}
-
--- a step that tells this, makes this and shows this
-shown : {T : Type 0} (state new made : State T) (step : WordStep T) (event told : WordEvent) (cell next : Cell T) → event ≡ told → new ≡ made → ShowsStep state step told cell next → Shows made next → (n : Cell T) × ShowsStep state step event cell n × Shows new n
-shown state new made step event told cell next e n a b = (next, subst (λ x. ShowsStep state step x cell next) (sym e) a, subst (λ x. Shows x next) (sym n) b)
+use Rattle.cell_core.proofs.WeakShows.{shown, look_shows, raise_shows, note_shows, fade_shows, reset_shows}
 
 load_shows : {T : Type 0} (state new : State T) (event : WordEvent) (cell : Cell T) → Shows state cell → Loads state event new → (next : Cell T) × ShowsStep {T = T} state Load event cell next × Shows new next
 load_shows {T} state new event cell s m =
@@ -89,13 +86,13 @@ release_shows {T} state new owner event cell s m =
           let r = rw none.0 at m.5 in
           shown state new (with_owner owner (Burying m.1) (with_slot m.1 (with_shares 0 m.2) state)) (Release owner) event Emptied cell (without_strong m.0 cell) r.0 r.1
           (m.0, m.1, m.3, (can.owned, refl, refl))
-          (release_keeps state cell owner m.0 m.1 0 m.2 (Burying m.1) s m.3 m.4 (omega (arith, can.less, none.1)) (λ j. refl) (λ e. refl) (omega (arith, within, s.table.size)))
+          (release_keeps state cell owner m.0 m.1 0 m.2 (Burying m.1) s m.3 m.4 (omega (arith, can.less, none.1)) (λ j. (refl, refl)) (λ e. refl) (omega (arith, within, s.table.size)))
           )
       | inr some ↦ (
           let r = rw some.0 at m.5 in
           shown state new (with_owner owner Spent (with_slot m.1 (with_shares (fetch_sub m.2.shares 1) m.2) state)) (Release owner) event Left cell (without_strong m.0 cell) r.0 r.1
           (m.0, m.1, m.3, (can.owned, refl, refl))
-          (release_keeps state cell owner m.0 m.1 (fetch_sub m.2.shares 1) m.2 Spent s m.3 m.4 can.less (λ j. refl) (λ e. absurd (some.1 e)) tt)
+          (release_keeps state cell owner m.0 m.1 (fetch_sub m.2.shares 1) m.2 Spent s m.3 m.4 can.less (λ j. (refl, refl)) (λ e. absurd (some.1 e)) tt)
           )
     ]
 
@@ -108,7 +105,7 @@ bury_shows {T} state new owner event cell s m =
           let can = found.1 in
           let there = number_there state m.0 found.0 can.is.value m.1 m.3 can.is.version in
           let e : r.0 ≡ found.0 = (let f : Some r.0 ≡ Some found.0 = sym r.1 ∙ there in cc) in
-          shown state new (with_owner owner (Freeing m.0) (with_slot m.0 (with_shares dead_word (with_version None m.1)) state)) (Bury owner) event (Buried found.0) cell (with_buried found.0 cell) (r.2 ∙ ap Buried e) r.3
+          shown state new (with_owner owner (Fading m.0) (with_slot m.0 (with_shares dead_word (with_version None m.1)) state)) (Bury owner) event (Buried found.0) cell (with_buried found.0 cell) (r.2 ∙ ap Buried e) r.3
           (omega (arith, can.before, s.numbers.last), omega (arith, s.counts.strong found.0, can.unheld, can.unowned), can.is.unburied, refl, refl)
           (bury_keeps state cell owner m.0 found.0 m.1 s m.2 m.3 can)
           )
@@ -131,6 +128,11 @@ step_shows state new Settle event cell s m = settle_shows state new event cell s
 step_shows state new (Release owner) event cell s m = release_shows state new owner event cell s m
 step_shows state new (Bury owner) event cell s m = bury_shows state new owner event cell s m
 step_shows state new (Free owner) event cell s m = free_shows state new owner event cell s m
+step_shows state new (Look owner) event cell s m = look_shows state new owner event cell s m
+step_shows state new (Raise owner) event cell s m = raise_shows state new owner event cell s m
+step_shows state new (Note owner) event cell s m = note_shows state new owner event cell s m
+step_shows state new (Fade owner) event cell s m = fade_shows state new owner event cell s m
+step_shows state new (Reset owner) event cell s m = reset_shows state new owner event cell s m
 
 -- what a step gives shows it
 pub shows_as : {T E : Type 0} (old new : State T) (step : WordStep T) (r : Result WordEvent E) → IfOk r (λ event. Makes old step event new) → IfOk r (λ event. (cell : Cell T) → Shows old cell → (next : Cell T) × ShowsStep old step event cell next × Shows new next)

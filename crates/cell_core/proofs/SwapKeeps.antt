@@ -1,6 +1,6 @@
 -- A swap keeps what the words show: one number more.
 use Rattle.std.proofs.Common.{◌≡◌, ◌≢◌, refl, sym, ap, ◌∙◌, subst, ℕ, ◌+◌, ◌<◌, ◌≤◌, true, false, inl, inr, [], ◌∷◌, ◌++◌, length, length-append, arith}
-use Rattle.std.specs.Prelude.{Some, ◌==◌, if◌then◌else◌}
+use Rattle.std.specs.Prelude.{None, Some, ◌==◌, if◌then◌else◌}
 use Rattle.std.specs.List.{slice_get}
 use Rattle.std.proofs.lemmas.Bool.{cases_Bool}
 use Rattle.std.proofs.lemmas.Bool.Decides.{eqb_tells}
@@ -9,11 +9,11 @@ use Rattle.cell_core.proofs.FrameLemmas.{table_with, owner_stays}
 use Rattle.cell_core.specs.Cell.{Cell, one_more, with_strong, with_value}
 use Rattle.cell_core.specs.Words.{State, slots, bulk, word_of}
 use Rattle.cell_core.specs.WordSteps.{with_publisher}
-use Rattle.cell_core.specs.Shows.{Phase, Plan, SlotIs, PublisherIs, Shows, held, kept_by, kept_by_cell, owned_by}
+use Rattle.cell_core.specs.Shows.{Phase, Plan, SlotIs, WeakWord, number_of, PublisherIs, Shows, held, weaks, kept_by, kept_by_cell, owned_by}
 use Rattle.cell_core.specs.Shows.Phase.{taken, live, dead}
 use Rattle.cell_core.specs.declared.words.Slot.{Slot}
 use Rattle.cell_core.specs.declared.words.Publisher.TheVariants.{Preparing, Swapping, Settling}
-use Rattle.cell_core.proofs.ShowsLemmas.{last_lies, unpublished, unsettled}
+use Rattle.cell_core.proofs.ShowsLemmas.{last_lies, unpublished, unpublished_weak, unsettled}
 
 -- how slots and numbers lie when one more is published, from a slot that was taken
 abbrev after_swap : ℕ → Plan → Plan
@@ -40,6 +40,11 @@ swap_phase_new place plan = elim (eqb_tells place place) [ inl same ↦ rw same.
 
 swap_phase_there : (place : ℕ) (plan : Plan) (p : ℕ) → p ≢ place → (after_swap place plan).phase p ≡ plan.phase p
 swap_phase_there place plan p h = elim (eqb_tells p place) [ inl same ↦ absurd (h same.1) | inr other ↦ rw other.0 refl ]
+
+-- the number that another slot has stays there
+swap_number : (place : ℕ) (plan : Plan) (j : ℕ) → (number_of (plan.phase place) ≡ Some j → ⊥) → (p : ℕ) → number_of (plan.phase p) ≡ Some j → number_of ((after_swap place plan).phase p) ≡ Some j
+swap_number place plan j apart p h =
+    elim (eqb_tells p place) [ inl same ↦ absurd (apart (ap (λ x. number_of (plan.phase x)) (sym same.1) ∙ h)) | inr other ↦ rw other.0 h ]
 
 -- the shares of the number that was last are the publisher's
 swap_shares : (held_of last given j : ℕ) → j ≤ last → held_of + kept_by_cell (last + 1) 0 j + kept_by (Settling last 0 given) j ≡ held_of + kept_by_cell last given j + 0
@@ -79,6 +84,8 @@ swap_keeps {T} state cell place there value s is at shares version =
     let plain : (j : ℕ) → cell.strong j ≡ held state.owners j = λ j. omega (arith, s.counts.strong j, (nothing j).0) in
     let not_live : (j : ℕ) → plan.phase place ≡ live j → ⊥ = λ j e. let apart : taken true ≡ live j = sym mine.1 ∙ e in cc in
     let fresh : held state.owners (plan.last + 1) ≡ 0 = unpublished state cell s (plan.last + 1) (omega arith) in
+    let fresh_weak : weaks state.owners (plan.last + 1) ≡ 0 = unpublished_weak state cell s (plan.last + 1) (omega arith) in
+    let weak_there : there.weak ≡ 1 = subst (λ p. WeakWord state.owners place p there.weak) mine.1 (s.table.weak_word place there at) in
     let unburied : cell.buried (plan.last + 1) ≡ false = elim (cases_Bool (cell.buried (plan.last + 1))) [ inl gone ↦ (let l = s.numbers.buried (plan.last + 1) gone in absurd (omega arith)) | inr open_still ↦ open_still ] in
     record {
       plan = later;
@@ -95,7 +102,7 @@ swap_keeps {T} state cell place there value s is at shares version =
               )
         ];
       };
-      given = record { latest = ap (λ x. word_of x 0) (sym (swap_slot_new place plan)); given = omega arith; granted = s.given.granted };
+      given = record { latest = ap (λ x. word_of x 0) (sym (swap_slot_new place plan)); given = omega arith; granted = s.given.granted; noted = s.given.noted };
       counts = record {
         strong = λ j. swap_strong cell.strong plan.last (plan.slot plan.last) plan.given (held state.owners j) j (plain j);
         few = λ j. elim (eqb_tells j plan.last) [
@@ -107,8 +114,9 @@ swap_keeps {T} state cell place there value s is at shares version =
           | inr other ↦ rw other.0 (omega (arith, plain (plan.last + 1), fresh))
         ];
         weak = s.counts.weak;
+        few_weak = s.counts.few_weak;
       };
-      table = table_with state new cell next plan later place there there s.numbers s.table at (set_there state.table place there at) refl
+      table = table_with state new cell next plan later place there there s.numbers s.table at (set_there state.table place there at)
           (λ p other. swap_phase_there place plan p other)
           (subst (λ p. SlotIs new next later place p there) (sym (swap_phase_new place plan)) (record {
             here = swap_slot_new place plan;
@@ -119,11 +127,15 @@ swap_keeps {T} state cell place there value s is at shares version =
             shares = shares ∙ swap_new_shares (held state.owners (plan.last + 1)) plan.last plan.given fresh;
             due = λ empty. absurd (omega (arith, empty, shares));
           }))
+          (subst (λ p. WeakWord state.owners place p there.weak) (sym (swap_phase_new place plan)) (omega (arith, weak_there, fresh_weak)))
           (λ p slot h other. record {
             preparing = λ e. let apart : Swapping place ≡ Preparing p = sym is ∙ e in absurd (cc);
             swapping = λ e. let apart : Swapping p ≡ Swapping place = sym e ∙ is in absurd (other (let f : p ≡ place = cc in f));
             burying = λ zero k q. q;
-            freeing = λ k q. q;
+            charge = λ rest c. c;
+            granted = omega arith;
+            gone = λ j u. u;
+            weak = λ j e l. refl;
             slot = λ j e l. swap_slot place plan j l ∙ e;
             buried = λ j e l u. u;
             published = λ j v q. get_push_old cell.published value v j q;
@@ -131,8 +143,11 @@ swap_keeps {T} state cell place there value s is at shares version =
           });
       owner_is = λ k how h. owner_stays cell next plan later k how
           (record { longer = omega (arith, longer); slot = λ j l. swap_slot place plan j (omega (arith, l, s.numbers.last)) })
-          (λ number where_to e u. u)
-          (λ p number e. swap_phase place plan (dead number k) (λ f. let apart : taken true ≡ dead number k = sym mine.1 ∙ f in cc) p e)
+          (record {
+            held = λ j some u. u;
+            weak = λ j p some e. swap_number place plan j (λ f. let apart : None ≡ Some j = sym (ap number_of mine.1) ∙ f in cc) p e;
+            rest = λ p rest e c. (c.0, c.1, c.2, swap_phase place plan (dead c.0 c.1 rest) (λ f. let apart : taken true ≡ dead c.0 c.1 rest = sym mine.1 ∙ f in cc) p c.3);
+          })
           (s.owner_is k how h);
       publisher_is = (
         record { published = omega (arith, longer, s.numbers.last); unburied = lies.2; here = swap_slot place plan plan.last (omega arith) },

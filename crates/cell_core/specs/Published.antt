@@ -7,7 +7,7 @@ use Rattle.cell_core.specs.Shows.{WordRuns}
 use Rattle.cell_core.specs.declared.words.Slot.{Slot}
 use Rattle.cell_core.specs.declared.words.Publisher.TheVariants.{Probing}
 use Rattle.cell_core.specs.declared.words.WordStep.{WordStep}
-use Rattle.cell_core.specs.declared.words.WordStep.TheVariants.{Load, Probe, Prepare, Swap, Settle, Release, Bury, Free}
+use Rattle.cell_core.specs.declared.words.WordStep.TheVariants.{Load, Probe, Prepare, Swap, Settle, Release, Bury, Free, Look, Raise, Note, Fade, Reset}
 use Rattle.cell_core.specs.declared.words.WordEvent.{WordEvent}
 use Rattle.cell_core.specs.declared.words.WordEvent.TheVariants.{Swapped, Buried}
 
@@ -26,7 +26,7 @@ published_by first run = first ∷ swapped None run
 abbrev pub IsBuriedBy : {T : Type 0} → List (WordStep T × WordEvent) → ℕ → Type 0
 IsBuriedBy run number = (place : ℕ) × (owner : ℕ) × (slice_get run place ≡ Some (Bury owner, Buried number))
 
--- a step is one that a publication makes (own)
+-- a step is one that a publication makes; a note is the publisher's, but of no publication (own)
 abbrev pub is_publishing : {T : Type 0} → WordStep T → Bool
 is_publishing Probe = true
 is_publishing (Prepare value) = true
@@ -36,6 +36,11 @@ is_publishing Load = false
 is_publishing (Release owner) = false
 is_publishing (Bury owner) = false
 is_publishing (Free owner) = false
+is_publishing (Look owner) = false
+is_publishing (Raise owner) = false
+is_publishing (Note owner) = false
+is_publishing (Fade owner) = false
+is_publishing (Reset owner) = false
 
 -- between two places of a run no publication makes a step (own)
 abbrev pub IsQuiet : {T : Type 0} → List (WordStep T × WordEvent) → ℕ → ℕ → Type 0

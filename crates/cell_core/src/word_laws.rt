@@ -1,16 +1,18 @@
 //! Laws of the steps on words, each the contract of a function that does nothing.
-ghost use Rattle.std.specs.Prelude.{◌≡◌, ◌≢◌, ◌↔◌, ℕ, ◌+◌, ◌-◌, ◌<◌, ◌≤◌, ◌==◌, ◌^◌, true, List, ◌++◌, length, take, count_by, Option, Some, None};
+ghost use Rattle.std.specs.Prelude.{◌≡◌, ◌≢◌, ◌↔◌, ℕ, ◌+◌, ◌-◌, ◌<◌, ◌≤◌, ◌==◌, ◌^◌, true, false, List, ◌++◌, length, take, count_by, Option, Some, None};
 ghost use Rattle.std.specs.List.{slice_get};
+ghost use Rattle.std.specs.Option.{option_and_then};
 ghost use Rattle.cell_core.specs.Cell.{Cell, CellStep, IsLast, Runs};
-ghost use Rattle.cell_core.specs.Words.{State, found_by, found_last, grants, free_word, slot_of, number_in, version_in, word_of, given_of, fetch_add, fetch_sub, bulk, dead_word, begun, first_slot};
-ghost use Rattle.cell_core.specs.WordSteps.{Makes, HasWordStep, with_publisher, with_owner, with_slot, with_shares};
+ghost use Rattle.cell_core.specs.Words.{State, found_by, found_last, grants, notes, free_word, slot_of, number_in, version_in, word_of, given_of, fading_of, fetch_add, fetch_sub, bulk, dead_word, begun, first_slot};
+ghost use Rattle.cell_core.specs.WordSteps.{Makes, HasWordStep, with_publisher, with_owner, with_new_owner, with_slot, with_shares, with_weak_word, with_grant, owned_in};
 ghost use Rattle.cell_core.specs.Made.{made};
-ghost use Rattle.cell_core.specs.WordExample.{once_loaded};
-ghost use Rattle.cell_core.specs.Shows.{Shows, ShowsStep, WordRuns, AtRest, held, owned_by};
-ghost use Rattle.cell_core.specs.declared.words.Owner.TheVariants.{Holding, Burying, Freeing, Spent};
+ghost use Rattle.cell_core.specs.WordExample.{once_loaded, once_noted, dead_slot, dead_once, faded_once, closed_once, restored_once};
+ghost use Rattle.cell_core.specs.Shows.{Shows, ShowsStep, WordRuns, AtRest, held, weaks, owned_by};
+ghost use Rattle.cell_core.specs.declared.words.Slot.{Slot};
+ghost use Rattle.cell_core.specs.declared.words.Owner.TheVariants.{Holding, Weakly, Burying, Fading, Resetting, Freeing, Spent};
 ghost use Rattle.cell_core.specs.declared.words.Publisher.TheVariants.{Probing, Preparing, Swapping, Settling};
-ghost use Rattle.cell_core.specs.declared.words.WordStep.TheVariants.{Load, Probe, Prepare, Swap, Settle, Release, Bury, Free};
-ghost use Rattle.cell_core.specs.declared.words.WordEvent.TheVariants.{Buried, Loaded, Passed, Left};
+ghost use Rattle.cell_core.specs.declared.words.WordStep.TheVariants.{Load, Probe, Prepare, Swap, Settle, Release, Bury, Free, Look, Raise, Note, Fade, Reset};
+ghost use Rattle.cell_core.specs.declared.words.WordEvent.TheVariants.{Buried, Loaded, Passed, Left, Freed, Alive, Dead, Raised, Noted, Faded, Closed, Restored};
 ghost use Rattle.cell_core.specs.declared.words.WordStep.{WordStep};
 ghost use Rattle.cell_core.specs.declared.words.WordEvent.{WordEvent};
 
@@ -56,17 +58,44 @@ pub fn buried_once<T>()
         → one ≡ two }
 {}
 
-/// When no call is under way and, of the numbers before the last, those from one on are owned, exactly those before it are buried, and
-/// all slots are free but one for each of the others.
+/// S of a weak owner's slot tells whether its version is buried: below DEAD the version lies there. The slot isn't used again while the
+/// weak owner is there: it isn't free, and the publisher hasn't taken it.
+pub fn weak_owner_sees_its_version<T>()
+    ensures alive { (state : State T) (cell : Cell T) (owner number place : ℕ) (there : Slot T) → Shows state cell
+        → slice_get state.owners owner ≡ Some (Weakly number place) → slice_get state.table place ≡ Some there → there.shares < dead_word
+        → (value : T) × (there.version ≡ Some (record { number = number; value = value })) × (slice_get cell.published number ≡ Some value) × (cell.buried number ≡ false) }
+    ensures dead { (state : State T) (cell : Cell T) (owner number place : ℕ) (there : Slot T) → Shows state cell
+        → slice_get state.owners owner ≡ Some (Weakly number place) → slice_get state.table place ≡ Some there → dead_word ≤ there.shares
+        → cell.buried number ≡ true }
+    ensures kept { (state : State T) (cell : Cell T) (owner number place : ℕ) (there : Slot T) → Shows state cell
+        → slice_get state.owners owner ≡ Some (Weakly number place) → slice_get state.table place ≡ Some there
+        → (there.shares ≢ free_word) × (state.publisher ≢ Preparing place) × (state.publisher ≢ Swapping place) }
+{}
+
+/// A slot is given free only when nobody has its number, weakly or not, and K is 1 then.
+pub fn freed_is_unowned<T>()
+    ensures { (state new : State T) (cell : Cell T) (owner place : ℕ) → Shows state cell → slice_get state.owners owner ≡ Some (Freeing place)
+        → Makes state (Free owner) Freed new
+        → (number : ℕ) × (there : Slot T) × (slice_get state.table place ≡ Some there) × (there.weak ≡ 1) × (cell.buried number ≡ true)
+        × (held state.owners number ≡ 0) × (weaks state.owners number ≡ 0) }
+{}
+
+/// When no call is under way, there is no weak owner and, of the numbers before the last, those from one on are owned, exactly those
+/// before it are buried, all slots are free but one for each of the others, and K of each slot is 1.
 pub fn rest_is_buried_and_free<T>()
     ensures buried { (state : State T) (cell : Cell T) (from last : ℕ) → Shows state cell → IsLast cell last → AtRest state from last
         → (j : ℕ) → (cell.buried j ≡ true) ↔ (j < from) }
     ensures free { (state : State T) (cell : Cell T) (from last : ℕ) → Shows state cell → IsLast cell last → AtRest state from last
         → count_by (λ there. there.shares == free_word) state.table + (last - from) ≡ 63 }
+    ensures weak_word { (state : State T) (cell : Cell T) (from last : ℕ) → Shows state cell → IsLast cell last → AtRest state from last
+        → (place : ℕ) (there : Slot T) → slice_get state.table place ≡ Some there → there.weak ≡ 1 }
+    ensures weak { (state : State T) (cell : Cell T) (from last : ℕ) → Shows state cell → AtRest state from last
+        → (j : ℕ) → cell.weak j ≡ 0 }
 {}
 
 /// No call under way is stuck: whatever cell the words show, the next step of each owner and of the publisher can be made; a
-/// prepare while numbers fit 64 bits, and a load while there are shares to give out.
+/// prepare while numbers fit 64 bits, a load and a raise while there are shares to give out, and a note while there are weak owners to
+/// make.
 pub fn calls_go_on<T>()
     ensures load { (state : State T) (cell : Cell T) → Shows state cell → state.granted < grants → HasWordStep {T = T} state Load }
     ensures release { (state : State T) (cell : Cell T) (owner number place : ℕ) → Shows state cell
@@ -83,6 +112,16 @@ pub fn calls_go_on<T>()
         → HasWordStep {T = T} state Swap }
     ensures settle { (state : State T) (cell : Cell T) (number place given : ℕ) → Shows state cell
         → state.publisher ≡ Settling number place given → HasWordStep {T = T} state Settle }
+    ensures look { (state : State T) (cell : Cell T) (owner number place : ℕ) → Shows state cell → owned_in state owner ≡ Some (number, place)
+        → HasWordStep {T = T} state (Look owner) }
+    ensures raise { (state : State T) (cell : Cell T) (owner number place : ℕ) → Shows state cell → owned_in state owner ≡ Some (number, place)
+        → state.granted < grants → HasWordStep {T = T} state (Raise owner) }
+    ensures note { (state : State T) (cell : Cell T) (owner number place : ℕ) → Shows state cell
+        → slice_get state.owners owner ≡ Some (Holding number place) → state.noted < notes → HasWordStep {T = T} state (Note owner) }
+    ensures fade { (state : State T) (cell : Cell T) (owner place : ℕ) → Shows state cell
+        → option_and_then fading_of (slice_get state.owners owner) ≡ Some place → HasWordStep {T = T} state (Fade owner) }
+    ensures reset { (state : State T) (cell : Cell T) (owner place : ℕ) → Shows state cell
+        → slice_get state.owners owner ≡ Some (Resetting place) → HasWordStep {T = T} state (Reset owner) }
 {}
 
 /// A load of a run gives the number that was in W then, and its owner has no other number, whatever is done after it.
@@ -112,4 +151,22 @@ pub fn word_examples()
     ensures value { (found_by once_loaded 0 ≡ Some 10) × (found_last once_loaded ≡ Some 10) }
     ensures no_swap { HasWordStep {T = ℕ} (begun 10) Swap → ⊥ }
     ensures no_release { HasWordStep {T = ℕ} (begun 10) (Release 0) → ⊥ }
+{}
+
+/// Worked examples of weak owners: 10 is published and loaded, and gets a weak owner; and 10 is buried, while its weak owner is still
+/// there: who buried it fades, the weak owner fades and resets K, and gives the slot free.
+pub fn weak_examples()
+    ensures note { Makes once_loaded (Note 0) (Noted 1 0) once_noted }
+    ensures alive { Makes once_noted (Look 1) Alive once_noted }
+    ensures up { Makes once_noted (Raise 1) (Raised 2 0) (with_new_owner (Holding 0 0) (with_grant (with_slot 0 (with_shares (bulk + 1) (with_weak_word 2 (first_slot 10))) once_noted))) }
+    ensures copy { Makes once_noted (Raise 0) (Raised 2 0) (with_new_owner (Holding 0 0) (with_grant (with_slot 0 (with_shares (bulk + 1) (with_weak_word 2 (first_slot 10))) once_noted))) }
+    ensures gone { Makes dead_once (Look 1) Dead dead_once }
+    ensures late { Makes dead_once (Raise 1) Dead (with_grant (with_slot 0 (with_shares (dead_word + 1) (dead_slot 2)) dead_once)) }
+    ensures burier { Makes dead_once (Fade 0) Faded faded_once }
+    ensures last { Makes faded_once (Fade 1) Closed closed_once }
+    ensures reset { Makes closed_once (Reset 1) Restored restored_once }
+    ensures free { Makes restored_once (Free 1) Freed (with_owner 1 Spent (with_slot 0 (with_shares free_word (dead_slot 1)) restored_once)) }
+    ensures no_free { HasWordStep {T = ℕ} closed_once (Free 1) → ⊥ }
+    ensures no_reset { HasWordStep {T = ℕ} faded_once (Reset 0) → ⊥ }
+    ensures no_note { HasWordStep {T = ℕ} once_noted (Note 1) → ⊥ }
 {}

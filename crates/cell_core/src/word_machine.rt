@@ -1,22 +1,22 @@
 //! A cell of words on plain data, one atomic act at a time.
-ghost use Rattle.std.specs.Prelude.{◌≡◌, ◌<◌, ◌↔◌, nat_lt, Option, Some, None, IfOk, IfErr, OnErr, length, ◌∷◌, replicate};
+ghost use Rattle.std.specs.Prelude.{◌≡◌, ◌<◌, ◌+◌, ◌↔◌, nat_lt, nat_le, Option, Some, None, IfOk, IfErr, OnErr, length, ◌∷◌, replicate};
 ghost use Rattle.std.specs.List.{slice_get};
-ghost use Rattle.std.specs.Option.{option_copied, option_map};
+ghost use Rattle.std.specs.Option.{option_copied, option_and_then, option_map};
 ghost use Rattle.std.specs.Result.{IsErrOf};
-ghost use Rattle.cell_core.specs.Words.{State, grants, found_by, found_last, slot_of, given_of, version_in, number_in, dead_word, begun, first_slot, free_slot};
+ghost use Rattle.cell_core.specs.Words.{State, grants, notes, found_by, found_last, slot_of, given_of, version_in, number_in, owned_of, fading_of, dead_word, begun, first_slot, free_slot};
 ghost use Rattle.cell_core.specs.Cell.{Cell, start};
 ghost use Rattle.cell_core.specs.Shows.{Shows, ShowsStep};
-ghost use Rattle.cell_core.specs.WordSteps.{Makes, HasWordStep, GrowsOwners, with_new_owner, with_owner, with_slot, with_shares, with_version};
+ghost use Rattle.cell_core.specs.WordSteps.{Makes, HasWordStep, GrowsOwners, with_new_owner, with_owner, with_slot, with_shares, with_weak_word, with_version, owned_in};
 
 use crate::fault::StepFault;
 use crate::words::{
-    BULK, DEAD, FREE, GRANTS, Owner, Publisher, SLOTS, SPAN, Slot, Version, WordEvent, WordStep,
+    BULK, DEAD, FREE, GRANTS, NOTES, Owner, Publisher, SLOTS, SPAN, Slot, Version, WordEvent,
+    WordStep,
 };
 use std::alloc::Global;
 use std::marker::Model;
 
-/// A cell without weak owners, as words: W, a table of 64 slots with their words, and how far its publisher and each of
-/// its owners have come.
+/// A cell as words: W, a table of 64 slots with their words, and how far its publisher and each of its owners have come.
 #[derive(Drop)]
 pub struct WordMachine<T> {
     latest: u64,
@@ -24,6 +24,7 @@ pub struct WordMachine<T> {
     publisher: Publisher,
     owners: Vec<Owner>,
     granted: u64,
+    noted: u64,
 }
 
 impl<T> Model for WordMachine<T> {
@@ -37,6 +38,7 @@ impl<T> Model for WordMachine<T> {
       publisher = a.publisher;
       owners = a.owners.items;
       granted = a.granted;
+      noted = a.noted;
     } };
 }
 
@@ -56,6 +58,7 @@ impl<T: Drop> WordMachine<T> {
             publisher: Publisher::Probing(0),
             owners: Vec::new(alloc),
             granted: 0,
+            noted: 0,
         })
     }
 
@@ -80,17 +83,39 @@ impl<T: Drop> WordMachine<T> {
             WordStep::Release(owner) => self.release(owner),
             WordStep::Bury(owner) => self.bury(owner),
             WordStep::Free(owner) => self.free(owner),
+            WordStep::Look(owner) => self.look(owner),
+            WordStep::Raise(owner) => self.raise(owner),
+            WordStep::Note(owner) => self.note(owner),
+            WordStep::Fade(owner) => self.fade(owner),
+            WordStep::Reset(owner) => self.reset(owner),
         }
     }
 
-    /// Whether a share is left to give out of W: a load can be made.
+    /// Whether a share is left to give out: a load can be made.
     pub fn has_shares(&self) -> bool
         ensures { result ≡ nat_lt self.now.granted grants }
     {
         self.granted < GRANTS
     }
 
-    /// The value that an owner finds in its slot; none where it owns nothing.
+    /// Whether so many shares are left to give out: so many loads and raises can be made.
+    pub fn has_shares_for(&self, count: usize) -> bool
+        ensures { result ≡ nat_le (self.now.granted + count) grants }
+    {
+        match GRANTS.checked_sub(self.granted) {
+            Some(left) => count as u64 <= left,
+            None => false,
+        }
+    }
+
+    /// Whether one more weak owner can be made: a note can be made.
+    pub fn has_notes(&self) -> bool
+        ensures { result ≡ nat_lt self.now.noted notes }
+    {
+        self.noted < NOTES
+    }
+
+    /// The value that an owner finds in its slot; none where it owns nothing, or owns it weakly.
     pub fn value(&self, owner: usize) -> Option<&T>
         ensures { option_copied result ≡ found_by self.now owner }
     {
@@ -150,6 +175,30 @@ impl<T: Drop> WordMachine<T> {
         if let Some(there) = self.table.get_mut(slot) {
             there.shares = shares;
         }
+    }
+
+    /// The word K of a slot.
+    fn weak(&self, slot: usize) -> Option<u64>
+        ensures { result ≡ option_map (λ (there : Slot T). there.weak) (slice_get self.now.table slot) }
+    {
+        Some(self.table.get(slot)?.weak)
+    }
+
+    /// Writes the word K of a slot.
+    fn set_weak(&mut self, slot: usize, weak: u64)
+        ensures { (there : Slot T) → slice_get self.old.table slot ≡ Some there
+            → self.new ≡ with_slot slot (with_weak_word weak there) self.old }
+    {
+        if let Some(there) = self.table.get_mut(slot) {
+            there.weak = weak;
+        }
+    }
+
+    /// The number and the slot of the version that an owner has, weakly or not.
+    fn owned(&self, owner: usize) -> Option<(u64, usize)>
+        ensures { result ≡ owned_in self.now owner }
+    {
+        owned_version(self.owner(owner)?)
     }
 
     /// One owner more, behind the others: its place.
@@ -352,11 +401,11 @@ impl<T: Drop> WordMachine<T> {
             return Err(StepFault::NotEnabled);
         };
         self.destroy(slot);
-        self.set_owner(owner, Owner::Freeing(slot));
+        self.set_owner(owner, Owner::Fading(slot));
         Ok(WordEvent::Buried(number))
     }
 
-    /// The owner whose bury won gives the slot free.
+    /// The owner that has reset K gives the slot free.
     fn free(&mut self, owner: usize) -> Result<WordEvent, StepFault>
         ensures word { IfOk result (λ event. Makes {T = T} self.old (WordStep.Free owner) event self.new) }
         ensures not_enabled { IsErrOf result StepFault.NotEnabled → HasWordStep {T = T} self.old (WordStep.Free owner) → ⊥ }
@@ -372,6 +421,154 @@ impl<T: Drop> WordMachine<T> {
         self.set_shares(slot, FREE);
         self.set_owner(owner, Owner::Spent);
         Ok(WordEvent::Freed)
+    }
+
+    /// It is seen whether the version that an owner has is buried.
+    fn look(&mut self, owner: usize) -> Result<WordEvent, StepFault>
+        ensures word { IfOk result (λ event. Makes {T = T} self.old (WordStep.Look owner) event self.new) }
+        ensures not_enabled { IsErrOf result StepFault.NotEnabled → HasWordStep {T = T} self.old (WordStep.Look owner) → ⊥ }
+        ensures no_memory { IsErrOf result StepFault.NoMemory → ⊥ }
+        ensures unchanged { OnErr result (self.new ≡ self.old) }
+    {
+        let Some((_, slot)) = self.owned(owner) else {
+            return Err(StepFault::NotEnabled);
+        };
+        let Some(shares) = self.shares(slot) else {
+            return Err(StepFault::NotEnabled);
+        };
+        if shares < DEAD {
+            Ok(WordEvent::Alive)
+        } else {
+            Ok(WordEvent::Dead)
+        }
+    }
+
+    /// One share more of what an owner has is given out, unless it is buried.
+    fn raise(&mut self, owner: usize) -> Result<WordEvent, StepFault>
+        ensures word { IfOk result (λ event. Makes {T = T} self.old (WordStep.Raise owner) event self.new) }
+        ensures not_enabled { IsErrOf result StepFault.NotEnabled → HasWordStep {T = T} self.old (WordStep.Raise owner) → ⊥ }
+        ensures no_memory { IsErrOf result StepFault.NoMemory → HasWordStep {T = T} self.old (WordStep.Raise owner) }
+        ensures unchanged { OnErr result (self.new ≡ self.old) }
+    {
+        let Some((number, slot)) = self.owned(owner) else {
+            return Err(StepFault::NotEnabled);
+        };
+        let Some(shares) = self.shares(slot) else {
+            return Err(StepFault::NotEnabled);
+        };
+        if self.granted >= GRANTS {
+            return Err(StepFault::NotEnabled);
+        }
+        let granted = self.granted + 1;
+        if shares >= DEAD {
+            self.set_shares(slot, shares.wrapping_add(1));
+            self.granted = granted;
+            return Ok(WordEvent::Dead);
+        }
+        let next = self.new_owner(Owner::Holding { number, slot })?;
+        self.set_shares(slot, shares.wrapping_add(1));
+        self.granted = granted;
+        Ok(WordEvent::Raised {
+            owner: next,
+            number,
+        })
+    }
+
+    /// The publisher makes a weak owner of the version that an owner has.
+    fn note(&mut self, owner: usize) -> Result<WordEvent, StepFault>
+        ensures word { IfOk result (λ event. Makes {T = T} self.old (WordStep.Note owner) event self.new) }
+        ensures not_enabled { IsErrOf result StepFault.NotEnabled → HasWordStep {T = T} self.old (WordStep.Note owner) → ⊥ }
+        ensures no_memory { IsErrOf result StepFault.NoMemory → HasWordStep {T = T} self.old (WordStep.Note owner) }
+        ensures unchanged { OnErr result (self.new ≡ self.old) }
+    {
+        let Some(Owner::Holding { number, slot }) = self.owner(owner) else {
+            return Err(StepFault::NotEnabled);
+        };
+        let Some(weak) = self.weak(slot) else {
+            return Err(StepFault::NotEnabled);
+        };
+        if self.noted >= NOTES {
+            return Err(StepFault::NotEnabled);
+        }
+        let noted = self.noted + 1;
+        let next = self.new_owner(Owner::Weakly { number, slot })?;
+        self.set_weak(slot, weak.wrapping_add(1));
+        self.noted = noted;
+        Ok(WordEvent::Noted {
+            owner: next,
+            number,
+        })
+    }
+
+    /// A weak owner, or the owner whose bury won, is counted in K no more.
+    fn fade(&mut self, owner: usize) -> Result<WordEvent, StepFault>
+        ensures word { IfOk result (λ event. Makes {T = T} self.old (WordStep.Fade owner) event self.new) }
+        ensures not_enabled { IsErrOf result StepFault.NotEnabled → HasWordStep {T = T} self.old (WordStep.Fade owner) → ⊥ }
+        ensures no_memory { IsErrOf result StepFault.NoMemory → ⊥ }
+        ensures unchanged { OnErr result (self.new ≡ self.old) }
+    {
+        let Some(slot) = self.fading(owner) else {
+            return Err(StepFault::NotEnabled);
+        };
+        let Some(weak) = self.weak(slot) else {
+            return Err(StepFault::NotEnabled);
+        };
+        let others = weak.wrapping_sub(1);
+        self.set_weak(slot, others);
+        if others == 0 {
+            self.set_owner(owner, Owner::Resetting(slot));
+            Ok(WordEvent::Closed)
+        } else {
+            self.set_owner(owner, Owner::Spent);
+            Ok(WordEvent::Faded)
+        }
+    }
+
+    /// The slot whose K counts an owner that is to fade.
+    fn fading(&self, owner: usize) -> Option<usize>
+        ensures { result ≡ option_and_then fading_of (slice_get self.now.owners owner) }
+    {
+        fading_slot(self.owner(owner)?)
+    }
+
+    /// The owner that has brought K to 0 sets it to 1.
+    fn reset(&mut self, owner: usize) -> Result<WordEvent, StepFault>
+        ensures word { IfOk result (λ event. Makes {T = T} self.old (WordStep.Reset owner) event self.new) }
+        ensures not_enabled { IsErrOf result StepFault.NotEnabled → HasWordStep {T = T} self.old (WordStep.Reset owner) → ⊥ }
+        ensures no_memory { IsErrOf result StepFault.NoMemory → ⊥ }
+        ensures unchanged { OnErr result (self.new ≡ self.old) }
+    {
+        let Some(Owner::Resetting(slot)) = self.owner(owner) else {
+            return Err(StepFault::NotEnabled);
+        };
+        if self.weak(slot).is_none() {
+            return Err(StepFault::NotEnabled);
+        }
+        self.set_weak(slot, 1);
+        self.set_owner(owner, Owner::Freeing(slot));
+        Ok(WordEvent::Restored)
+    }
+}
+
+/// The number and the slot of the version that an owner has, weakly or not, and nothing besides.
+fn owned_version(how: Owner) -> Option<(u64, usize)>
+    ensures { result ≡ owned_of how }
+{
+    match how {
+        Owner::Holding { number, slot } => Some((number, slot)),
+        Owner::Weakly { number, slot } => Some((number, slot)),
+        _ => None,
+    }
+}
+
+/// The slot whose K counts an owner that is to fade.
+fn fading_slot(how: Owner) -> Option<usize>
+    ensures { result ≡ fading_of how }
+{
+    match how {
+        Owner::Weakly { number: _, slot } => Some(slot),
+        Owner::Fading(slot) => Some(slot),
+        _ => None,
     }
 }
 

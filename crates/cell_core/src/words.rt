@@ -6,13 +6,16 @@ pub const SLOTS: usize = 64;
 /// At most so many shares are given out of the word W in all.
 pub const GRANTS: u64 = 1 << 46;
 
+/// At most so many weak owners are made in all.
+pub const NOTES: u64 = 1 << 32;
+
 /// What a slot's number counts for in W: `slot * SPAN + given`.
 pub(crate) const SPAN: u64 = 1 << 48;
 
 /// S of a slot that is free.
 pub(crate) const FREE: u64 = (1 << 63) - 1;
 
-/// S of a slot whose version is buried.
+/// S of a slot whose version is buried; raises that come too late add to it.
 pub(crate) const DEAD: u64 = 1 << 63;
 
 /// The shares that the cell has of the version in W, before it gives any of them out.
@@ -32,7 +35,7 @@ pub struct Version<T> {
 pub struct Slot<T> {
     /// The word S: the shares that are out, `FREE`, or `DEAD` and more.
     pub shares: u64,
-    /// The word K: weak owners, plus 1 until who buried the version has faded, and in a free slot.
+    /// The word K: weak owners, plus 1 until who buried the version has faded, and from the reset on.
     pub weak: u64,
     /// The version, from prepare to bury.
     pub version: Option<Version<T>>,
@@ -69,9 +72,36 @@ pub enum Owner {
         /// Its slot.
         slot: usize,
     },
+    /// It owns a version twice: one of its shares is to be another owner's. No step of the machine makes it, since a raise
+    /// gives its share to an owner of its own; a call on words that threads share has it between two acts.
+    Twice {
+        /// The version's number.
+        number: u64,
+        /// Its slot.
+        slot: usize,
+    },
+    /// It owns a version weakly: the slot isn't used again while it is there, but the version may be buried.
+    Weakly {
+        /// The version's number.
+        number: u64,
+        /// Its slot.
+        slot: usize,
+    },
+    /// It owns a version weakly, and has a share of it that is to be another owner's. No step of the machine makes it, as with
+    /// `Twice`.
+    Both {
+        /// The version's number.
+        number: u64,
+        /// Its slot.
+        slot: usize,
+    },
     /// It has given its share back, and S was then 0: this slot is to be buried.
     Burying(usize),
-    /// Its bury has won: this slot is to be freed.
+    /// Its bury has won: it is to fade, as a weak owner of this slot's version does.
+    Fading(usize),
+    /// It has brought K to 0: this slot's K is to be set to 1.
+    Resetting(usize),
+    /// It has set K to 1: this slot is to be freed.
     Freeing(usize),
     /// It has made all its steps.
     Spent,
@@ -94,8 +124,18 @@ pub enum WordStep<T> {
     Release(usize),
     /// An owner tries to bury what lies in the slot that it left without an owner.
     Bury(usize),
-    /// The owner whose bury won gives the slot free.
+    /// The owner that has reset K gives the slot free.
     Free(usize),
+    /// It is seen whether the version that an owner has, weakly or not, is buried.
+    Look(usize),
+    /// One share more of the version that an owner has, weakly or not, is given out, unless the version is buried.
+    Raise(usize),
+    /// The publisher makes a weak owner of the version that an owner has.
+    Note(usize),
+    /// A weak owner is one no more; or the owner whose bury won fades.
+    Fade(usize),
+    /// The owner that has brought K to 0 sets it to 1.
+    Reset(usize),
 }
 
 /// What a step on a word gave.
@@ -129,10 +169,34 @@ pub enum WordEvent {
     Left,
     /// No share is out: a bury is due.
     Emptied,
-    /// The version with this number is buried, and a free is due.
+    /// The version with this number is buried, and a fade is due.
     Buried(u64),
     /// The slot had been used again, or another bury won: the release ends.
     Kept,
     /// The slot is free: the release ends.
     Freed,
+    /// The version isn't buried.
+    Alive,
+    /// The version is buried, and no share of it is given out.
+    Dead,
+    /// A share more is out, and is a new owner's.
+    Raised {
+        /// The new owner.
+        owner: usize,
+        /// Its number.
+        number: u64,
+    },
+    /// A weak owner more.
+    Noted {
+        /// The new weak owner.
+        owner: usize,
+        /// Its number.
+        number: u64,
+    },
+    /// Others are still to fade: the release ends.
+    Faded,
+    /// Nobody else is to fade: a reset is due.
+    Closed,
+    /// K is 1: a free is due.
+    Restored,
 }

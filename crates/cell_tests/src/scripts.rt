@@ -45,10 +45,23 @@ fn request_of(name: &str) -> Request<'static> {
 }
 
 /// The call that words say.
-fn call_of<'a>(kind: &str, first: &'a str, second: &str) -> Option<Call<'a>> {
+fn call_of<'a>(kind: &str, first: &'a str, second: &'a str) -> Option<Call<'a>> {
     match kind {
         "load" => Some(Call::Load(Handle::new(first.as_bytes()))),
         "drop" => Some(Call::Drop(Handle::new(first.as_bytes()))),
+        "copy" => Some(Call::Copy(
+            Handle::new(first.as_bytes()),
+            Handle::new(second.as_bytes()),
+        )),
+        "weak" => Some(Call::Weak(
+            Handle::new(first.as_bytes()),
+            Handle::new(second.as_bytes()),
+        )),
+        "fade" => Some(Call::Fade(Handle::new(first.as_bytes()))),
+        "up" => Some(Call::Up(
+            Handle::new(first.as_bytes()),
+            Handle::new(second.as_bytes()),
+        )),
         "ask" => Some(Call::Ask(Handle::new(first.as_bytes()), request_of(second))),
         "update" => Some(Call::Update(request_of(first))),
         _ => None,
@@ -133,6 +146,8 @@ fn is_answer(answer: &Answer, told: &str) -> bool {
         }
         Answer::Left => kind == "left",
         Answer::Buried(number) => kind == "buried" && first.parse::<u64>() == Ok(*number),
+        Answer::Faded => kind == "ok",
+        Answer::Nothing => kind == "none",
         Answer::Reply(octets) => {
             kind == "reply"
                 && begin_with(octets.as_slice(), first)
@@ -152,6 +167,11 @@ fn name_of(step: StepName) -> &'static str {
         StepName::Settle => "settle",
         StepName::Release => "release",
         StepName::Bury => "bury",
+        StepName::Look => "look",
+        StepName::Raise => "raise",
+        StepName::Note => "note",
+        StepName::Fade => "fade",
+        StepName::Reset => "reset",
         StepName::Free => "free",
     }
 }
@@ -248,6 +268,8 @@ update add-3: reply 4321a800\n\
 load d: owner d 3\n\
 drop c: buried 2\n\
 drop d: left\n\
+next x: fade,\n\
+next x: reset,\n\
 next x: free, buried 0\n\
 next x: not enabled\n";
 
@@ -256,6 +278,58 @@ next x: not enabled\n";
 #[test]
 fn a_stopped_owner(rt: HostRuntime) {
     assert!(rt; play(rt.alloc(), 0, STOPPED) == Some(Outcome::AsTold));
+}
+
+/// An upgrade raises what its last owner has released: the owner's bury comes late, and meets the slot's next version.
+const RAISED: &str = "\
+load a: owner a 0\n\
+weak a w: owner w 0\n\
+update add: reply 4321a800\n\
+begin x drop a: begun\n\
+next x: release,\n\
+up w b: owner b 0\n\
+fade w: ok\n\
+drop b: buried 0\n\
+update add-2: reply 4321a800\n\
+load c: owner c 2\n\
+update add-3: reply 4321a800\n\
+begin y drop c: begun\n\
+next y: release,\n\
+next x: bury,\n\
+next x: fade,\n\
+next x: reset,\n\
+next x: free, buried 2\n\
+next y: bury, left\n\
+load d: owner d 3\n";
+
+/// A weak owner of a version that is buried: its slot is free when it has faded.
+const FADED: &str = "\
+load a: owner a 0\n\
+copy a b: owner b 0\n\
+weak b w: owner w 0\n\
+update add: reply 4321a800\n\
+drop b: left\n\
+begin x drop a: begun\n\
+next x: release,\n\
+begin z up w c: begun\n\
+fade w: not enabled\n\
+up w d: not enabled\n\
+next z: look,\n\
+next x: bury,\n\
+next z: raise, none\n\
+next x: fade, buried 0\n\
+up w c: none\n\
+begin y fade w: begun\n\
+next y: fade,\n\
+next y: reset,\n\
+next y: free, ok\n\
+fade w: not enabled\n";
+
+// An upgrade gives an owner while the version isn't buried, and none from then on; the slot is used again when nobody knows its version.
+#[test]
+fn weak_owners(rt: HostRuntime) {
+    assert!(rt; play(rt.alloc(), 0, RAISED) == Some(Outcome::AsTold));
+    assert!(rt; play(rt.alloc(), 0, FADED) == Some(Outcome::AsTold));
 }
 
 /// A second update, a step at a time, where one version beside the last is kept: slots 0 and 1 are in use.
@@ -272,6 +346,8 @@ next u: load,\n\
 next u: release,\n\
 next u: release,\n\
 next u: bury,\n\
+next u: fade,\n\
+next u: reset,\n\
 next u: free, reply 4321a800\n\
 next u: not enabled\n";
 

@@ -1,13 +1,14 @@
 //! Worked examples on words, and refused growth.
 use cell_core::{
     Follows, StepFault, WordEvent, WordMachine, WordStep, burials_are_final, buried_is_unowned,
-    buried_once, buried_was_published, calls_go_on, examples, follows_goes_on, last_is_not_buried,
-    load_gives_the_last, load_gives_what_was_in_w, loads_give_the_last_published,
-    no_slot_after_64_probes, no_word_overflows, only_grows, owned_is_not_buried,
-    owned_was_published, owner_finds_its_value, owners_find_what_was_published,
-    owners_keep_their_value, rest_is_buried_and_free, rest_was_buried, run_examples, runs_only_add,
-    runs_tell_what_is_shown, steps_are_a_function, up_gives_that_number, word_examples,
-    word_runs_show_runs, word_steps_show_the_cell, words_only_grow,
+    buried_once, buried_was_published, calls_go_on, clones_give_that_number, examples,
+    follows_goes_on, freed_is_unowned, last_is_not_buried, load_gives_the_last,
+    load_gives_what_was_in_w, loads_give_the_last_published, no_slot_after_64_probes,
+    no_word_overflows, only_grows, owned_is_not_buried, owned_was_published, owner_finds_its_value,
+    owners_find_what_was_published, owners_keep_their_value, rest_is_buried_and_free,
+    rest_was_buried, run_examples, runs_only_add, runs_tell_what_is_shown, steps_are_a_function,
+    up_gives_that_number, upgrades_give_that_number, weak_examples, weak_owner_sees_its_version,
+    word_examples, word_runs_show_runs, word_steps_show_the_cell, words_only_grow,
 };
 use std::alloc::Global;
 use std::process::Abort;
@@ -57,6 +58,11 @@ fn laws() {
     buried_once::<u64>();
     calls_go_on::<u64>();
     word_examples();
+    weak_examples();
+    weak_owner_sees_its_version::<u64>();
+    freed_is_unowned::<u64>();
+    upgrades_give_that_number::<u64>();
+    clones_give_that_number::<u64>();
     rest_is_buried_and_free::<u64>();
     load_gives_what_was_in_w::<u64>();
     steps_are_a_function::<u64>();
@@ -112,6 +118,11 @@ fn step_of(words: &str) -> Option<WordStep<u64>> {
         "release" => Some(WordStep::Release(place)),
         "bury" => Some(WordStep::Bury(place)),
         "free" => Some(WordStep::Free(place)),
+        "look" => Some(WordStep::Look(place)),
+        "raise" => Some(WordStep::Raise(place)),
+        "note" => Some(WordStep::Note(place)),
+        "fade" => Some(WordStep::Fade(place)),
+        "reset" => Some(WordStep::Reset(place)),
         _ => None,
     }
 }
@@ -134,7 +145,15 @@ fn event_of(words: &str) -> Option<Result<WordEvent, StepFault>> {
         "left" => Some(Ok(WordEvent::Left)),
         "emptied" => Some(Ok(WordEvent::Emptied)),
         "buried" => Some(Ok(WordEvent::Buried(first))),
+        "kept" => Some(Ok(WordEvent::Kept)),
         "freed" => Some(Ok(WordEvent::Freed)),
+        "alive" => Some(Ok(WordEvent::Alive)),
+        "dead" => Some(Ok(WordEvent::Dead)),
+        "raised" => Some(Ok(WordEvent::Raised { owner, number })),
+        "noted" => Some(Ok(WordEvent::Noted { owner, number })),
+        "faded" => Some(Ok(WordEvent::Faded)),
+        "closed" => Some(Ok(WordEvent::Closed)),
+        "restored" => Some(Ok(WordEvent::Restored)),
         "not-enabled" => Some(Err(StepFault::NotEnabled)),
         _ => None,
     }
@@ -179,6 +198,8 @@ const BURIED: &str = "\
 release 0: left\n\
 release 1: emptied\n\
 bury 1: buried 0\n\
+fade 1: closed\n\
+reset 1: restored\n\
 free 1: freed\n\
 probe: taken\n";
 
@@ -193,6 +214,43 @@ fn words_worked_example(rt: HostRuntime) {
     assert!(rt; machine.value(2).copied() == Some(20));
     assert!(rt; machine.value(3).copied() == None);
     assert_eq!(rt; first_wrong(&mut machine, BURIED), None);
+}
+
+/// A weak owner of the first value, which is raised once, and sees it buried. It is the last that knows it.
+const WEAK: &str = "\
+load: loaded 0 0\n\
+note 0: noted 1 0\n\
+look 1: alive\n\
+probe: passed\n\
+probe: taken\n\
+prepare 20: prepared\n\
+swap: swapped 0\n\
+settle: settled 2 0\n\
+release 0: left\n\
+release 2: emptied\n\
+raise 1: raised 3 0\n\
+bury 2: kept\n\
+release 3: emptied\n\
+look 1: alive\n\
+bury 3: buried 0\n\
+look 1: dead\n\
+raise 1: dead\n\
+free 3: not-enabled\n\
+fade 3: faded\n\
+probe: passed\n\
+probe: passed\n\
+probe: taken\n\
+fade 1: closed\n\
+fade 1: not-enabled\n\
+reset 1: restored\n\
+free 1: freed\n";
+
+// A version that nobody owns is raised before its bury; once it is buried it isn't raised, and its slot is free when the weak owner
+// has faded.
+#[test]
+fn weak_owners(rt: HostRuntime) {
+    let mut machine = WordMachine::new(rt.alloc(), 10u64).expect(&rt, "a machine");
+    assert_eq!(rt; first_wrong(&mut machine, WEAK), None);
 }
 
 /// The release of the first version's only other owner leaves it before its publisher has settled, and the publisher's empties it.
@@ -219,7 +277,12 @@ swap: not-enabled\n\
 settle: not-enabled\n\
 release 0: not-enabled\n\
 bury 0: not-enabled\n\
-free 0: not-enabled\n";
+fade 0: not-enabled\n\
+reset 0: not-enabled\n\
+free 0: not-enabled\n\
+look 0: not-enabled\n\
+raise 0: not-enabled\n\
+note 0: not-enabled\n";
 
 // A step that isn't due is refused.
 #[test]

@@ -6,9 +6,9 @@ use Rattle.hex.specs.declared.error.FromHexError.{FromHexError}
 use Rattle.hex.specs.Hex.{decode_of, encode_lower}
 use Rattle.dns_rdata.specs.Record.{Record}
 use Rattle.world_run.specs.declared.step.Answer.{Answer}
-use Rattle.world_run.specs.declared.step.Answer.TheVariants.{Owner, Left, Buried, Reply, Silent, Messages}
+use Rattle.world_run.specs.declared.step.Answer.TheVariants.{Owner, Left, Buried, Faded, Nothing, Reply, Silent, Messages}
 use Rattle.world_run.specs.declared.step.Call.{Call}
-use Rattle.world_run.specs.declared.step.Call.TheVariants.{Load, Drop, Ask, Transfer, Update}
+use Rattle.world_run.specs.declared.step.Call.TheVariants.{Load, Drop, Copy, Weak, Fade, Up, Ask, Transfer, Update}
 use Rattle.world_run.specs.declared.step.WorldReply.{WorldReply}
 use Rattle.world_run.specs.declared.step.WorldReply.TheVariants.{Answered, Begun, Step, Last, NotEnabled}
 use Rattle.world_run.specs.declared.step.WorldStep.{WorldStep}
@@ -31,7 +31,7 @@ words_of line = slice_split (λ octet. octet == 32) line
 abbrev pub is_name_octet : ℕ → Bool
 is_name_octet octet = nat_le 97 octet && nat_le octet 122 || nat_le 48 octet && nat_le octet 57
 
--- whether a word is the name of a strong owner or of a call under way: 1 to 8 lower-case letters and digits
+-- whether a word is the name of an owner or of a call under way: 1 to 8 lower-case letters and digits
 unfoldable pub is_name : List ℕ → Bool
 is_name word = nat_le 1 (length word) && nat_le (length word) 8 && list_all is_name_octet word
 
@@ -55,19 +55,29 @@ abbrev pub updating : Option (List ℕ) → Option Call
 updating None = None
 updating (Some request) = Some (Update request)
 
--- the call that two words say, `load NAME`, `drop NAME` or `update HEX`; none where they are others
+-- the call that two words say, `load NAME`, `drop NAME`, `fade NAME` or `update HEX`; none where they are others
 abbrev pub call_of_two : List ℕ → List ℕ → Option Call
 call_of_two word rest =
     if bytes_eq word (codes "load") && is_name rest then Some (Load rest)
     else if bytes_eq word (codes "drop") && is_name rest then Some (Drop rest)
+    else if bytes_eq word (codes "fade") && is_name rest then Some (Fade rest)
     else if bytes_eq word (codes "update") then updating (request_in (decode_of rest))
     else None
 
--- the call that three words say, `ask NAME HEX` or `ixfr NAME HEX`; none where they are others
+-- the call that a word says of two names, `copy`, `weak` or `up`; none where it is another
+abbrev pub call_of_names : List ℕ → List ℕ → List ℕ → Option Call
+call_of_names word one other =
+    if bytes_eq word (codes "copy") then Some (Copy one other)
+    else if bytes_eq word (codes "weak") then Some (Weak one other)
+    else if bytes_eq word (codes "up") then Some (Up one other)
+    else None
+
+-- the call that three words say, `ask NAME HEX`, `ixfr NAME HEX`, or one of two names; none where they are others
 abbrev pub call_of_three : List ℕ → List ℕ → List ℕ → Option Call
 call_of_three word name digits =
     if bytes_eq word (codes "ask") && is_name name then asking name (request_in (decode_of digits))
     else if bytes_eq word (codes "ixfr") && is_name name then transferring name (request_in (decode_of digits))
+    else if is_name name && is_name digits then call_of_names word name digits
     else None
 
 -- the call that words say, one of two words or of three; none where they are others
@@ -109,6 +119,10 @@ script_of input = steps_from 1 (input_lines input)
 abbrev pub called_by : ScriptCall → Call
 called_by (call.Load name) = Load name.items
 called_by (call.Drop name) = Drop name.items
+called_by (call.Copy given name) = Copy given.items name.items
+called_by (call.Weak given name) = Weak given.items name.items
+called_by (call.Fade name) = Fade name.items
+called_by (call.Up weak name) = Up weak.items name.items
 called_by (call.Ask name request) = Ask name.items request.items
 called_by (call.Transfer name request) = Transfer name.items request.items
 called_by (call.Update request) = Update request.items
@@ -129,6 +143,8 @@ abbrev pub printed_answer : Answer → List ℕ
 printed_answer (Owner name number) = name ++ 32 ∷ decimal number
 printed_answer Left = codes "left"
 printed_answer (Buried number) = codes "buried " ++ decimal number
+printed_answer Faded = codes "ok"
+printed_answer Nothing = codes "none"
 printed_answer (Reply octets) = encode_lower octets
 printed_answer Silent = codes "-"
 printed_answer (Messages messages) = spaced messages

@@ -1,14 +1,14 @@
 //! Scripts: steps as lines of text.
 //!
-//! A line is a call, `load NAME`, `drop NAME`, `ask NAME HEX`, `ixfr NAME HEX` or `update HEX`, or `begin NAME` and a call, or
-//! `next NAME`, its words with one space between; a name is 1 to 8 lower-case letters and digits, and HEX a request of 1 to 65,535 octets in
-//! hexadecimal. The last line may want its LF.
+//! A line is a call, `load NAME`, `drop NAME`, `copy NAME NAME`, `weak NAME NAME`, `fade NAME`, `up NAME NAME`, `ask NAME HEX`,
+//! `ixfr NAME HEX` or `update HEX`, or `begin NAME` and a call, or `next NAME`, its words with one space between; a name is 1 to 8
+//! lower-case letters and digits, and HEX a request of 1 to 65,535 octets in hexadecimal. The last line may want its LF.
 ghost use Rattle.std.specs.Prelude.{◌≡◌, ◌==◌, ◌&&◌, bytes_eq, ◌++◌, ◌∷◌, [], Ok, Err, OnOk, IfOk, IfErr, IfSome, map};
 ghost use Rattle.std.specs.List.{list_all};
 ghost use Rattle.std.specs.Option.{option_map};
 ghost use Rattle.command_steps.specs.declared.script.ScriptFault.TheVariants.{Device};
 ghost use Rattle.command_steps.specs.Script.{AtBad};
-ghost use Rattle.command_steps.specs.Script.{words_of as words_on, is_name as says_name, is_name_octet as says_name_octet, request_in, asking, transferring, updating, call_of_two as says_call_of_two, call_of_three as says_call_of_three, call_in as says_call, step_in as says_step, step_of as step_on, script_of, called_by, said_by};
+ghost use Rattle.command_steps.specs.Script.{words_of as words_on, is_name as says_name, is_name_octet as says_name_octet, request_in, asking, transferring, updating, call_of_two as says_call_of_two, call_of_three as says_call_of_three, call_of_names as says_call_of_names, call_in as says_call, step_in as says_step, step_of as step_on, script_of, called_by, said_by};
 ghost use Rattle.hex.specs.Hex.{decode_of};
 ghost use Rattle.world_run.specs.declared.step.WorldStep.TheVariants.{Whole, Begin};
 
@@ -28,6 +28,14 @@ pub enum ScriptCall {
     Load(Vec<u8>),
     /// The strong owner of this name is given up.
     Drop(Vec<u8>),
+    /// One more strong owner of the version of the first name, under the second.
+    Copy(Vec<u8>, Vec<u8>),
+    /// A weak owner of the version of the first name, under the second.
+    Weak(Vec<u8>, Vec<u8>),
+    /// The weak owner of this name is given up.
+    Fade(Vec<u8>),
+    /// A strong owner of the version of the weak owner of the first name, under the second, where the version isn't buried.
+    Up(Vec<u8>, Vec<u8>),
     /// A request over UDP, answered in the version of the strong owner of this name.
     Ask(Vec<u8>, Vec<u8>),
     /// A question over TCP for a transfer, with the version of the strong owner of this name as the one that is served
@@ -73,6 +81,16 @@ impl ScriptCall {
         match self {
             ScriptCall::Load(name) => Call::Load(Handle::new(name.as_slice())),
             ScriptCall::Drop(name) => Call::Drop(Handle::new(name.as_slice())),
+            ScriptCall::Copy(given, name) => {
+                Call::Copy(Handle::new(given.as_slice()), Handle::new(name.as_slice()))
+            }
+            ScriptCall::Weak(given, name) => {
+                Call::Weak(Handle::new(given.as_slice()), Handle::new(name.as_slice()))
+            }
+            ScriptCall::Fade(name) => Call::Fade(Handle::new(name.as_slice())),
+            ScriptCall::Up(weak, name) => {
+                Call::Up(Handle::new(weak.as_slice()), Handle::new(name.as_slice()))
+            }
             ScriptCall::Ask(name, request) => Call::Ask(
                 Handle::new(name.as_slice()),
                 Request::new(request.as_slice()),
@@ -225,6 +243,9 @@ fn call_of_two(alloc: Global, word: &[u8], rest: &[u8]) -> io::Result<Option<Scr
     if is_word_for(word, b"drop", rest) {
         return Ok(Some(ScriptCall::Drop(Vec::from_slice(alloc, rest)?)));
     }
+    if is_word_for(word, b"fade", rest) {
+        return Ok(Some(ScriptCall::Fade(Vec::from_slice(alloc, rest)?)));
+    }
     if word == b"update".as_slice() {
         return update_of(alloc, rest);
     }
@@ -245,6 +266,39 @@ fn call_of_three(
     }
     if is_word_for(word, b"ixfr", name) {
         return transfer_of(alloc, name, digits);
+    }
+    if is_name(name) && is_name(digits) {
+        return call_of_names(alloc, word, name, digits);
+    }
+    Ok(None)
+}
+
+/// The call that a word says of two names; None where it says none.
+fn call_of_names(
+    alloc: Global,
+    word: &[u8],
+    one: &[u8],
+    other: &[u8],
+) -> io::Result<Option<ScriptCall>>
+    ensures { IfOk result (λ call. option_map called_by call ≡ says_call_of_names word.now one.now other.now) }
+{
+    if word == b"copy".as_slice() {
+        return Ok(Some(ScriptCall::Copy(
+            Vec::from_slice(alloc, one)?,
+            Vec::from_slice(alloc, other)?,
+        )));
+    }
+    if word == b"weak".as_slice() {
+        return Ok(Some(ScriptCall::Weak(
+            Vec::from_slice(alloc, one)?,
+            Vec::from_slice(alloc, other)?,
+        )));
+    }
+    if word == b"up".as_slice() {
+        return Ok(Some(ScriptCall::Up(
+            Vec::from_slice(alloc, one)?,
+            Vec::from_slice(alloc, other)?,
+        )));
     }
     Ok(None)
 }
@@ -290,7 +344,7 @@ fn request_of(alloc: Global, digits: &[u8]) -> io::Result<Option<Vec<u8>>>
     }
 }
 
-/// Whether a word is the name of a strong owner or of a call under way: 1 to 8 lower-case letters and digits.
+/// Whether a word is the name of an owner or of a call under way: 1 to 8 lower-case letters and digits.
 #[tactic(auto, unfolding(crate::specs::Script::is_name))]
 fn is_name(word: &[u8]) -> bool
     ensures { result ≡ says_name word.now }

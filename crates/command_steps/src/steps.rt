@@ -133,6 +133,8 @@ fn put_answer(alloc: Global, line: &mut Vec<u8>, answer: &Answer) -> io::Result<
             put(line, b"buried ")?;
             put_number(line, *number)
         }
+        Answer::Faded => put(line, b"ok"),
+        Answer::Nothing => put(line, b"none"),
         Answer::Reply(octets) => put_digits(alloc, line, octets),
         Answer::Silent => put(line, b"-"),
         Answer::Messages(messages) => put_messages(alloc, line, messages.as_slice()),

@@ -3,7 +3,7 @@ use Rattle.std.proofs.Common.{◌≡◌, ℕ, ◌<◌, inl, inr, ap, subst, [], 
 use Rattle.std.specs.Prelude.{MatchBool}
 use Rattle.std.proofs.lemmas.Bool.Decides.{eqb_tells}
 use Rattle.counted_handles.specs.declared.released.Steps.{Steps}
-use Rattle.counted_handles.specs.declared.released.Steps.TheVariants.{Lowered, Lost, Won, Buried, Freed}
+use Rattle.counted_handles.specs.declared.released.Steps.TheVariants.{Lowered, Lost, Won, Buried, Faded, Restored, Freed}
 use Rattle.counted_handles.specs.declared.view.Mark.{Mark}
 use Rattle.counted_handles.specs.declared.view.View.TheVariants.{Buries, Gone}
 use Rattle.counted_handles.specs.Releases.{IsReleased, IsLowered, HasLost}
@@ -24,6 +24,8 @@ module _ {T : Type 0} (begins : T → Type 0) (follows : T → T → Type 0) whe
   ends_there mark (Lost found) me other told = absurd told
   ends_there mark Won me other told = absurd told
   ends_there mark (Buried number) me other told = absurd told
+  ends_there mark (Faded number found) me other told = absurd told
+  ends_there mark (Restored number) me other told = absurd told
   ends_there mark (Freed number) me other told = absurd told
 
   -- and so does a bury that has lost
@@ -32,6 +34,8 @@ module _ {T : Type 0} (begins : T → Type 0) (follows : T → T → Type 0) whe
   ends_lost (Lost found) me told = told.0
   ends_lost Won me told = absurd told
   ends_lost (Buried number) me told = absurd told
+  ends_lost (Faded number found) me told = absurd told
+  ends_lost (Restored number) me told = absurd told
   ends_lost (Freed number) me told = absurd told
 
 module _ {T : Type 0} (begins : T → Type 0) (follows : T → T → Type 0) (slot name found : ℕ) (me : Sat T) where

@@ -11,17 +11,19 @@ use Rattle.cell_core.specs.declared.words.Version.{Version}
 use Rattle.counted_handles.specs.declared.view.Mark.{Mark}
 use Rattle.counted_handles.specs.declared.view.Reading.{Reading}
 use Rattle.counted_handles.specs.declared.view.Publishing.{Publishing}
+use Rattle.counted_handles.specs.declared.view.Hold.TheVariants.{Once}
 use Rattle.counted_handles.specs.declared.view.View.{View}
-use Rattle.counted_handles.specs.declared.view.View.TheVariants.{Publishes, Reads, Has, Buries, Frees}
+use Rattle.counted_handles.specs.declared.view.View.TheVariants.{Publishes, Reads, Has, Buries, Fades, Resets, Frees}
 use Rattle.counted_handles.specs.Shown.{Room}
 use Rattle.counted_handles.specs.Ruled.{RoomSpot, Holds, Ruled}
-use Rattle.counted_handles.specs.Cuts.{owner_view, kept_share, given_share}
-use Rattle.counted_handles.specs.Tells.{Sat, IsTaken, Swapped, IsSettled, Loaded, Released, Freed}
-use Rattle.counted_handles.specs.Plays.{LoadTells, ReleaseTells, BuryTells, FreeTells, PrepareTells, SwapTells, SettleTells, SettleAt, ProbeTells, ProbeAt}
+use Rattle.counted_handles.specs.Cuts.{owner_view, once_view, kept_share, given_share}
+use Rattle.counted_handles.specs.Tells.{Sat, IsTaken, Swapped, IsSettled, Loaded, Released}
+use Rattle.counted_handles.specs.Plays.{LoadTells, ReleaseTells, BuryTells, FadeTells, ResetTells, FreeTells, PrepareTells, SwapTells, SettleTells, SettleAt, ProbeTells, ProbeAt}
 use Rattle.counted_handles.specs.Calls.{Drawn, IsReady, IsSwapping, IsSettling, IsProbing, IsSwappedIn}
 use Rattle.counted_handles.proofs.LoadStep.{loads}
 use Rattle.counted_handles.proofs.ReleaseStep.{releases}
 use Rattle.counted_handles.proofs.EndStep.{buries_ruled}
+use Rattle.counted_handles.proofs.FadeStep.{fades, resets}
 use Rattle.counted_handles.proofs.FreeStep.{frees}
 use Rattle.counted_handles.proofs.PrepareStep.{prepares}
 use Rattle.counted_handles.proofs.SwapStep.{swaps}
@@ -89,14 +91,6 @@ module _ {T : Type 0} (begins : T → Type 0) (follows : T → T → Type 0) (sp
       (subst (λ (m : Sat T). Allows (Ruled begins follows spots) slots id m (suc (slot + slot)) (λ k. either (k == 0) dead_word k) (λ found new. BuryTells begins follows m.0 found new)) (sym is)
       (buries_ruled begins follows spots id slot name)))
 
-  pub free_allowed : (n id i slot : ℕ) (spot : RoomSpot T) (room : Room T) (me : Sat T) → n ≡ slots → i ≡ suc (slot + slot) → me ≡ (Frees slot spot, (slot, room) ∷ []) → room.at ≡ spot.at → room.value ≡ None → room.stake ≡ []
-      → Allows (Ruled begins follows spots) n id me i (λ _. free_word) (λ _ new. FreeTells me.0 new)
-  free_allowed n id i slot spot room me count index is lies empty whole =
-      subst (λ k. Allows (Ruled begins follows spots) k id me i (λ _. free_word) (λ _ new. FreeTells me.0 new)) (sym count)
-      (subst (λ j. Allows (Ruled begins follows spots) slots id me j (λ _. free_word) (λ _ new. FreeTells me.0 new)) (sym index)
-      (subst (λ (m : Sat T). Allows (Ruled begins follows spots) slots id m (suc (slot + slot)) (λ _. free_word) (λ _ new. FreeTells m.0 new)) (sym is)
-      (allowed_later begins follows spots slots id (Frees slot spot, (slot, room) ∷ []) (suc (slot + slot)) (λ _. free_word) (λ _ new. Freed new) tt (frees begins follows spots id slot spot room lies empty whole))))
-
   -- an act of the seat on a word that is known by an equation
   pub at_seat : (n id j i : ℕ) (me mine : Sat T) (f : ℕ → ℕ) (tells : Sat T → ℕ → Sat T → Type 0) → n ≡ slots → id ≡ j → me ≡ mine → IsLater mine.0 → Allows (Holds begins follows spots) slots j mine i f (tells mine) → Allows (Ruled begins follows spots) n id me i f (tells me)
   at_seat n id j i me mine f tells count seat is later_view allowed =
@@ -104,6 +98,22 @@ module _ {T : Type 0} (begins : T → Type 0) (follows : T → T → Type 0) (sp
       (subst (λ k. Allows (Ruled begins follows spots) slots k me i f (tells me)) (sym seat)
       (subst (λ (m : Sat T). Allows (Ruled begins follows spots) slots j m i f (tells m)) (sym is)
       (allowed_later begins follows spots slots j mine i f (tells mine) later_view allowed)))
+
+  pub fade_allowed : (n id i slot : ℕ) (spot : RoomSpot T) (room : Room T) (me : Sat T) → n ≡ slots → i ≡ suc (suc (slot + slot)) → me ≡ (Fades slot spot, (slot, room) ∷ []) → room.at ≡ spot.at → room.value ≡ None → room.stake ≡ []
+      → Allows (Ruled begins follows spots) n id me i (λ k. (k + (2 ^ 64 - 1)) % 2 ^ 64) (λ found new. FadeTells me.0 found new)
+  fade_allowed n id i slot spot room me count index is lies empty whole =
+      subst (λ j. Allows (Ruled begins follows spots) n id me j (λ k. (k + (2 ^ 64 - 1)) % 2 ^ 64) (λ found new. FadeTells me.0 found new)) (sym index)
+      (at_seat n id id (suc (suc (slot + slot))) me (Fades slot spot, (slot, room) ∷ []) (λ k. (k + (2 ^ 64 - 1)) % 2 ^ 64) (λ m found new. FadeTells m.0 found new) count refl is tt (fades begins follows spots id slot spot room lies empty whole))
+
+  pub reset_allowed : (n id i slot : ℕ) (me : Sat T) → n ≡ slots → i ≡ suc (suc (slot + slot)) → me ≡ (Resets slot, []) → Allows (Ruled begins follows spots) n id me i (λ _. 1) (λ _ new. ResetTells me.0 new)
+  reset_allowed n id i slot me count index is =
+      subst (λ j. Allows (Ruled begins follows spots) n id me j (λ _. 1) (λ _ new. ResetTells me.0 new)) (sym index)
+      (at_seat n id id (suc (suc (slot + slot))) me (Resets slot, []) (λ _. 1) (λ m _ new. ResetTells m.0 new) count refl is tt (resets begins follows spots id slot))
+
+  pub free_allowed : (n id i slot : ℕ) (me : Sat T) → n ≡ slots → i ≡ suc (slot + slot) → me ≡ (Frees slot, []) → Allows (Ruled begins follows spots) n id me i (λ _. free_word) (λ _ new. FreeTells me.0 new)
+  free_allowed n id i slot me count index is =
+      subst (λ j. Allows (Ruled begins follows spots) n id me j (λ _. free_word) (λ _ new. FreeTells me.0 new)) (sym index)
+      (at_seat n id id (suc (slot + slot)) me (Frees slot, []) (λ _. free_word) (λ m _ new. FreeTells m.0 new) count refl is tt (frees begins follows spots id slot))
 
   pub prepare_allowed : (n id i slot : ℕ) (p : Publishing T) (value : T) (room : Room T) (me : Sat T) → n ≡ slots → id ≡ 0 → i ≡ suc (slot + slot) → IsReady slot p value room me → Allows (Ruled begins follows spots) n id me i (λ _. bulk) (λ _ new. PrepareTells me new)
   prepare_allowed n id i slot p value room me count seat index ready =
@@ -159,10 +169,10 @@ get_before (y ∷ xs) x zero l = refl
 get_before (y ∷ xs) x (suc k) l = get_before xs x k (omega arith)
 
 module _ {T : Type 0} (begins : T → Type 0) (follows : T → T → Type 0) (spots : List (RoomSpot T)) where
-  pub share_splits_publisher : (id : ℕ) (view : View T) (p : Publishing T) (mark : Mark T) → view ≡ Publishes p → p.share ≡ Some mark → Splits (Ruled begins follows spots) id view (kept_share view) (given_share view)
+  pub share_splits_publisher : (id : ℕ) (view : View T) (p : Publishing T) (mark : Mark T) → view ≡ Publishes p → p.share ≡ Some (Once mark) → Splits (Ruled begins follows spots) id view (kept_share view) (given_share view)
   share_splits_publisher id view p mark is share =
       subst (λ v. Splits (Ruled begins follows spots) id v (kept_share v) (given_share v)) (sym is)
-      (subst (λ x. Splits (Ruled begins follows spots) id (Publishes p) (Publishes (record p { share = None })) (owner_view x)) (sym share)
+      (subst (λ x. Splits (Ruled begins follows spots) id (Publishes p) (Publishes (record p { share = None })) (once_view x)) (sym share)
       (splits_later begins follows spots id (Publishes p) (Publishes (record p { share = None })) (Has mark) tt (splits_publisher begins follows spots id p mark share)))
 
   -- the publisher behind its swap

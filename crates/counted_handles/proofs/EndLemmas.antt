@@ -29,11 +29,11 @@ module _ {T : Type 0} (begins : T → Type 0) (follows : T → T → Type 0) (sp
       (subst (λ k. Allows (Ruled begins follows spots) slots 0 me k (λ k. k) (tells me)) (sym index)
       (subst (λ (m : Sat T). Allows (Ruled begins follows spots) slots 0 m j (λ k. k) (tells m)) (sym is) allowed)))
 
-  pub sweep_allowed : (n id i slot word last : ℕ) (p : Publishing T) (me : Sat T) → n ≡ slots → id ≡ 0 → i ≡ suc (slot + slot) → slot < slots → IsSweeping p word last slot me → Allows (Ruled begins follows spots) n id me i (λ k. k) (λ found new. SweepTells me.0 found new)
-  sweep_allowed n id i slot word last p me count seat index l due = at_first n id i (suc (slot + slot)) me (Publishes p, []) (λ m found new. SweepTells m.0 found new) count seat index due.me_is (sweeps begins follows spots p 0 slot due.how due.swept l)
+  pub sweep_allowed : (n id i slot word last : ℕ) (p : Publishing T) (me : Sat T) → n ≡ slots → id ≡ 0 → i ≡ suc (slot + slot) → slot < slots → (slot ≡ last → ⊥) → IsSweeping p word last slot me → Allows (Ruled begins follows spots) n id me i (λ k. k) (λ found new. SweepTells me.0 found new)
+  sweep_allowed n id i slot word last p me count seat index l elsewhere due = at_first n id i (suc (slot + slot)) me (Publishes p, []) (λ m found new. SweepTells m.0 found new) count seat index due.me_is (sweeps begins follows spots p 0 slot word due.how due.swept due.fixed (λ e. elsewhere (sym e ∙ due.last_is)) l)
 
-  pub skip_allowed : (n id slot word last : ℕ) (p : Publishing T) (me : Sat T) → n ≡ slots → id ≡ 0 → slot ≡ last → IsSweeping p word last slot me → Allows (Ruled begins follows spots) n id me 0 (λ k. k) (λ _ new. SkipTells me.0 new)
-  skip_allowed n id slot word last p me count seat is due = at_first n id 0 0 me (Publishes p, []) (λ m _ new. SkipTells m.0 new) count seat refl due.me_is (skips begins follows spots p 0 slot word due.how due.swept due.fixed (due.last_is ∙ sym is))
+  pub skip_allowed : (n id i slot word last : ℕ) (p : Publishing T) (me : Sat T) → n ≡ slots → id ≡ 0 → i ≡ suc (suc (slot + slot)) → slot ≡ last → IsSweeping p word last slot me → Allows (Ruled begins follows spots) n id me i (λ k. k) (λ found new. SkipTells me.0 found new)
+  skip_allowed n id i slot word last p me count seat index is due = at_first n id i (suc (suc (slot + slot))) me (Publishes p, []) (λ m found new. SkipTells m.0 found new) count seat index due.me_is (skips begins follows spots p 0 slot word due.how due.swept due.fixed (due.last_is ∙ sym is))
 
   pub end_allowed : (n id i word last : ℕ) (p : Publishing T) (me : Sat T) → n ≡ slots → id ≡ 0 → i ≡ suc (last + last) → IsSweeping p word last slots me → Allows (Ruled begins follows spots) n id me i (λ k. k) (λ found new. EndTells me.0 found new)
   end_allowed n id i word last p me count seat index due =

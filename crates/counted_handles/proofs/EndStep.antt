@@ -11,18 +11,21 @@ use prog.Atomic.{either}
 use Rattle.atomic_table.specs.Table.{Allows, Act, keeps, takes, gives, Valid, stepped, carried_after}
 use Rattle.atomic_table.proofs.Lists.{at_set, set_here, set_else, set_again, exchanged}
 use Rattle.raw_slots.specs.Places.{Alone}
-use Rattle.cell_core.proofs.ShowsLemmas.{last_lies}
+use Rattle.cell_core.proofs.ShowsLemmas.{last_lies, latest_slot}
 use Rattle.cell_core.proofs.ProbeKeeps.{take_keeps, pass_keeps}
+use Rattle.cell_core.proofs.FrameLemmas.{charged}
+use Rattle.cell_core.proofs.WeakLemmas.{keeps_slot}
 use Rattle.cell_core.specs.Words.{State, slots, bulk, free_word, dead_word, slot_of, given_of}
 use Rattle.cell_core.specs.WordSteps.{with_publisher}
 use Rattle.cell_core.specs.Shows.{Shows, SlotIs}
 use Rattle.cell_core.specs.Shows.Phase.{live, dead}
 use Rattle.cell_core.specs.declared.words.Publisher.TheVariants.{Probing, Preparing}
-use Rattle.cell_core.specs.declared.words.Owner.TheVariants.{Burying, Freeing}
+use Rattle.cell_core.specs.declared.words.Owner.{Owner}
+use Rattle.cell_core.specs.declared.words.Owner.TheVariants.{Weakly, Burying, Fading, Resetting, Freeing}
 use Rattle.counted_handles.specs.declared.view.Mark.{Mark}
 use Rattle.counted_handles.specs.declared.view.Publishing.{Publishing}
 use Rattle.counted_handles.specs.declared.view.View.{View}
-use Rattle.counted_handles.specs.declared.view.View.TheVariants.{Begin, Began, Publishes, Reads, Has, Buries, Frees, Ends, Gone}
+use Rattle.counted_handles.specs.declared.view.View.TheVariants.{Begin, Began, Publishes, Reads, Hosts, Has, HasWeakly, Buries, Fades, Resets, Frees, Ends, Gone}
 use Rattle.counted_handles.specs.Shown.{Room, Board, version_at, owner_of, read_of, reads, shown}
 use Rattle.counted_handles.specs.Ruled.{RoomSpot, LiesAt, IsShared, MarkIs, IsFree, AreFree, Holds, IsQuiet, EndedHome, Ended, Ruled}
 use Rattle.counted_handles.specs.Tells.{Tried, Swept, Skipped, EndsAt, Shut}
@@ -33,6 +36,8 @@ use Rattle.counted_handles.proofs.Live.{slotted, last_room, live_mark}
 use Rattle.counted_handles.proofs.LastLemmas.{last_unheld, last_unshared}
 use Rattle.counted_handles.proofs.WordSteps.{found_shares, home_version}
 use Rattle.counted_handles.proofs.PublisherWords.{how_is, shown_publisher}
+use Rattle.counted_handles.proofs.Owners.{charged_rest}
+use Rattle.counted_handles.proofs.Ties.{last_untied}
 use Rattle.counted_handles.proofs.BuryStep.{buries}
 use Rattle.counted_handles.proofs.ProbeStep.{free_room}
 use Rattle.counted_handles.proofs.Later.{later, opened}
@@ -92,12 +97,17 @@ module _ {T : Type 0} (begins : T → Type 0) (follows : T → T → Type 0) (sp
       subst (λ (b : Board T). Ruled begins follows spots b) (λ k. record { words = sym (set-get_or s.words i 0) k; homes = s.homes; views = sym (set_again s.views id view at) k }) r
 
   -- one slot more is seen free
-  more_free : (s : Board T) (h : Holds begins follows spots s) (p : Publishing T) (k slot word last : ℕ) → AreFree s.words s.homes last p.swept → (slot ≢ last → IsFree s.words s.homes slot) → p.swept ≡ slot → AreFree s.words s.homes last (p.swept + 1)
-  more_free s h p k slot word last are is same j l apart =
-      elim (eqb_tells j slot) [
-        | inl here ↦ subst (IsFree s.words s.homes) (sym here.1) (is (λ e. apart (here.1 ∙ e)))
-        | inr other ↦ are j (omega (arith, l, same, other.1)) apart
-      ]
+  more_free : (s : Board T) (h : Holds begins follows spots s) (p : Publishing T) (slot last : ℕ) → AreFree s.words s.homes last p.swept → (slot ≢ last → IsFree s.words s.homes slot) → (slot ≡ last → get_or s.words (suc (suc (last + last))) 0 ≡ 1) → p.swept ≡ slot → AreFree s.words s.homes last (p.swept + 1)
+  more_free s h p slot last are is untied same = (
+    λ j l apart. elim (eqb_tells j slot) [
+      | inl here ↦ subst (IsFree s.words s.homes) (sym here.1) (is (λ e. apart (here.1 ∙ e)))
+      | inr other ↦ are.0 j (omega (arith, l, same, other.1)) apart
+    ],
+    λ l. elim (eqb_tells last slot) [
+      | inl here ↦ untied (sym here.1)
+      | inr other ↦ are.1 (omega (arith, l, same, other.1))
+    ],
+  )
 
   -- a slot whose S is FREE is free while the publisher probes
   seen_free : (s : Board T) (h : Holds begins follows spots s) (p : Publishing T) (k slot : ℕ) → get_elem? s.views 0 ≡ some (Publishes p) → p.how ≡ Probing k → slot < slots → get_or s.words (suc (slot + slot)) 0 ≡ free_word → IsFree s.words s.homes slot
@@ -110,24 +120,25 @@ module _ {T : Type 0} (begins : T → Type 0) (follows : T → T → Type 0) (sp
       let taken = take_keeps (with_publisher (Probing slot) st) h.cell slot there.there passed refl there.at (shares ∙ free) in
       let was = subst (λ x. SlotIs (with_publisher (Preparing slot) st) h.cell taken.plan slot x there.there) taken.publisher_is.1 (taken.table.slot_is slot there.there there.at) in
       let empty : version_at there.home ≡ None = home_version s slot there ∙ was.2 in
-      let unfreed : (i : ℕ) → slice_get st.owners i ≡ Some (Freeing slot) → ⊥ = λ i q.
-      let charge = h.shows.owner_is i (Freeing slot) q in
-      let dead_slot = subst (λ x. SlotIs st h.cell h.shows.plan slot x there.there) charge.2 (h.shows.table.slot_is slot there.there there.at) in
-      omega (arith, dead_slot.0, shares, free) in
+      let unfreed : (i : ℕ) → slice_get st.owners i ≡ Some (Fading slot) → ⊥ = λ i q.
+      let charge = h.shows.owner_is i (Fading slot) q in
+      let dead_slot = subst (λ x. SlotIs st h.cell h.shows.plan slot x there.there) charge.3 (h.shows.table.slot_is slot there.there there.at) in
+      omega (arith, dead_slot.shares, shares, free) in
       let room = free_room spots h.name st slot k there.home probing unfreed empty (h.homes slot there.home there.home_at) in
       record { shares = free; room = room.0; home = there.home_at ∙ ap some room.1; empty = room.3 }
 
   -- a look that counts one slot more
   counted : (s : Board T) (h : Holds begins follows spots s) (p : Publishing T) (k slot i : ℕ) → get_elem? s.views 0 ≡ some (Publishes p) → p.how ≡ Probing k → p.swept ≡ slot → ((w : ℕ) → p.fixed ≡ Some w → slot ≢ slot_of w → IsFree s.words s.homes slot)
+      → ((w : ℕ) → p.fixed ≡ Some w → slot ≡ slot_of w → get_or s.words (suc (suc (slot_of w + slot_of w))) 0 ≡ 1)
       → Holds begins follows spots (record { words = set s.words i (get_or s.words i 0); homes = s.homes; views = set s.views 0 (Publishes (record p { swept = p.swept + 1 })) })
-  counted s h p k slot i at how same free =
+  counted s h p k slot i at how same free untied =
       let st : State T = shown s in
       let new : Publishing T = record p { swept = p.swept + 1 } in
       let known = h.knows 0 (Publishes p) at in
       let counts = knows_publisher begins follows spots s h p at in
       let words : set s.words i (get_or s.words i 0) ≡ s.words = set-get_or s.words i 0 in
       let after : State T = shown (record { words = s.words; homes = s.homes; views = set s.views 0 (Publishes new) }) in
-      let is : after ≡ st = shown_publisher s s.words s.homes p new st.latest st.table at refl refl refl refl ∙ ap (λ x. record st { publisher = x }) (sym (how_is s p at)) in
+      let is : after ≡ st = shown_publisher s s.words s.homes p new st.latest st.table at refl refl refl refl refl ∙ ap (λ x. record st { publisher = x }) (sym (how_is s p at)) in
       subst (λ w. Holds begins follows spots (record { words = w; homes = s.homes; views = set s.views 0 (Publishes new) })) (sym words)
       (publisher_step begins follows spots s h s.words s.homes p new (record {
         at = at;
@@ -138,8 +149,10 @@ module _ {T : Type 0} (begins : T → Type 0) (follows : T → T → Type 0) (sp
         left = omega arith;
         readers = refl;
         guests = counts.guests;
+        sunk = counts.sunk;
+        gone = λ j u. u;
         fixed = counts.fixed;
-        free = λ w j e q. more_free s h p k slot w (slot_of w) (counts.free w j e q) (free w e) same;
+        free = λ w j e q. more_free s h p slot (slot_of w) (counts.free w j e q) (free w e) (untied w e) same;
         homes_are = λ place home e. home_stays spots h.name st after place home
             (λ q. ap (λ (x : State T). x.publisher) is ∙ q)
             (λ j q. ap (λ (x : State T). slice_get x.owners j) is ∙ q)
@@ -148,44 +161,66 @@ module _ {T : Type 0} (begins : T → Type 0) (follows : T → T → Type 0) (sp
         others = λ j view other e. unmoved s.homes h.name view;
       }))
 
-  pub sweeps : (p : Publishing T) (k slot : ℕ) → p.how ≡ Probing k → p.swept ≡ slot → slot < slots → Allows (Ruled begins follows spots) slots 0 (Publishes p, []) (suc (slot + slot)) (λ n. n) (λ found me. Swept p found me)
-  sweeps p k slot how same l s r size at bound =
+  pub sweeps : (p : Publishing T) (k slot word : ℕ) → p.how ≡ Probing k → p.swept ≡ slot → p.fixed ≡ Some word → slot_of word ≢ slot → slot < slots → Allows (Ruled begins follows spots) slots 0 (Publishes p, []) (suc (slot + slot)) (λ n. n) (λ found me. Swept p found me)
+  sweeps p k slot word how same fixed elsewhere l s r size at bound =
       let h = later begins follows spots s 0 (Publishes p) tt at r in
+      let words : (w : ℕ) → p.fixed ≡ Some w → word ≡ w = λ w e. let f : Some word ≡ Some w = sym fixed ∙ e in cc in
       let found : ℕ = get_or s.words (suc (slot + slot)) 0 in
       elim (eqb_tells found free_word) [
         | inl free ↦ (
           Publishes (record p { swept = p.swept + 1 }),
           keeps,
           tt,
-          inr (inr (inl (counted s h p k slot (suc (slot + slot)) at how same (λ w e apart. seen_free s h p k slot at how l free.1)))),
+          inr (inr (inl (counted s h p k slot (suc (slot + slot)) at how same (λ w e apart. seen_free s h p k slot at how l free.1) (λ w e here. absurd (elsewhere (ap slot_of (words w e) ∙ sym here)))))),
           when_equal found free_word _ _ free.1 refl,
         )
         | inr other ↦ (Publishes p, keeps, tt, untouched s 0 (suc (slot + slot)) (Publishes p) at r, when_apart found free_word _ _ other.1 refl)
       ]
 
-  pub skips : (p : Publishing T) (k slot word : ℕ) → p.how ≡ Probing k → p.swept ≡ slot → p.fixed ≡ Some word → slot_of word ≡ slot → Allows (Ruled begins follows spots) slots 0 (Publishes p, []) 0 (λ n. n) (λ found me. Skipped p me)
+  pub skips : (p : Publishing T) (k slot word : ℕ) → p.how ≡ Probing k → p.swept ≡ slot → p.fixed ≡ Some word → slot_of word ≡ slot → Allows (Ruled begins follows spots) slots 0 (Publishes p, []) (suc (suc (slot + slot))) (λ n. n) (λ found me. Skipped p found me)
   skips p k slot word how same fixed last s r size at bound =
       let h = later begins follows spots s 0 (Publishes p) tt at r in
-      let words : (w : ℕ) → p.fixed ≡ Some w → word ≡ w = λ w e. let f : Some word ≡ Some w = sym fixed ∙ e in cc in (
-        Publishes (record p { swept = p.swept + 1 }),
-        keeps,
-        tt,
-        inr (inr (inl (counted s h p k slot 0 at how same (λ w e apart. absurd (apart (sym last ∙ ap slot_of (words w e))))))),
-        refl,
-      )
+      let found : ℕ = get_or s.words (suc (suc (slot + slot))) 0 in
+      let words : (w : ℕ) → p.fixed ≡ Some w → word ≡ w = λ w e. let f : Some word ≡ Some w = sym fixed ∙ e in cc in
+      elim (eqb_tells found 1) [
+        | inl one ↦ (
+          Publishes (record p { swept = p.swept + 1 }),
+          keeps,
+          tt,
+          inr (inr (inl (counted s h p k slot (suc (suc (slot + slot))) at how same (λ w e apart. absurd (apart (sym last ∙ ap slot_of (words w e)))) (λ w e here. ap (λ n. get_or s.words (suc (suc (n + n))) 0) (sym here) ∙ one.1)))),
+          when_equal found 1 _ _ one.1 refl,
+        )
+        | inr other ↦ (Publishes p, keeps, tt, untouched s 0 (suc (suc (slot + slot))) (Publishes p) at r, when_apart found 1 _ _ other.1 refl)
+      ]
 
-  -- the seats beside the first one, where nobody reads, has a share or frees a slot
+  -- the seats beside the first one, where nobody reads, has a share, weakly or not, or is to do something in a slot that is buried
   quiet_else : (s : Board T) (h : Holds begins follows spots s) → reads s.views ≡ 0 → ((j : ℕ) (view : View T) → get_elem? s.views j ≡ some view → (mark : Mark T) → mark_in view ≡ Some mark → MarkIs s.homes h.name mark → ⊥)
-      → ((i place : ℕ) → slice_get (shown s).owners i ≡ Some (Freeing place) → ⊥) → (j : ℕ) (view : View T) → j ≢ 0 → get_elem? s.views j ≡ some view → IsQuiet spots view
-  quiet_else s h none_reads unshared unfreed j (Begin value) apart at = h.knows j (Begin value) at
-  quiet_else s h none_reads unshared unfreed j (Began spot) apart at = h.knows j (Began spot) at
-  quiet_else s h none_reads unshared unfreed j (Publishes p) apart at = absurd (apart (h.only j p at))
-  quiet_else s h none_reads unshared unfreed j (Reads r) apart at = let some_reader = sum_has read_of s.views j (Reads r) at in absurd (omega (arith, some_reader.1, none_reads))
-  quiet_else s h none_reads unshared unfreed j (Has mark) apart at = absurd (unshared j (Has mark) at mark refl (h.knows j (Has mark) at))
-  quiet_else s h none_reads unshared unfreed j (Buries slot name) apart at = h.shows.owner_is j (Burying slot) (got_map owner_of s.views j (Buries slot name) at)
-  quiet_else s h none_reads unshared unfreed j (Frees slot spot) apart at = absurd (unfreed j slot (got_map owner_of s.views j (Frees slot spot) at))
-  quiet_else s h none_reads unshared unfreed j (Ends slot spot) apart at = absurd (h.knows j (Ends slot spot) at)
-  quiet_else s h none_reads unshared unfreed j Gone apart at = tt
+      → ((i place : ℕ) (how : Owner) → slice_get (shown s).owners i ≡ Some how → charged how ≡ Some place → ⊥) → ((i number place : ℕ) → slice_get (shown s).owners i ≡ Some (Weakly number place) → ⊥)
+      → (j : ℕ) (view : View T) → j ≢ 0 → get_elem? s.views j ≡ some view → IsQuiet spots view
+  quiet_else s h none_reads unshared unfreed untied j (Begin value) apart at = h.knows j (Begin value) at
+  quiet_else s h none_reads unshared unfreed untied j (Began spot) apart at = h.knows j (Began spot) at
+  quiet_else s h none_reads unshared unfreed untied j (Publishes p) apart at = absurd (apart (h.only j p at))
+  quiet_else s h none_reads unshared unfreed untied j (Reads r) apart at = let some_reader = sum_has read_of s.views j (Reads r) at in absurd (omega (arith, some_reader.1, none_reads))
+  quiet_else s h none_reads unshared unfreed untied j (Hosts r hold) apart at = let some_reader = sum_has read_of s.views j (Hosts r hold) at in absurd (omega (arith, some_reader.1, none_reads))
+  quiet_else s h none_reads unshared unfreed untied j (Has mark) apart at = absurd (unshared j (Has mark) at mark refl (h.knows j (Has mark) at))
+  quiet_else s h none_reads unshared unfreed untied j (Buries slot name) apart at = h.shows.owner_is j (Burying slot) (got_map owner_of s.views j (Buries slot name) at)
+  quiet_else s h none_reads unshared unfreed untied j (HasWeakly tie) apart at = absurd (untied j tie.number tie.slot (got_map owner_of s.views j (HasWeakly tie) at))
+  quiet_else s h none_reads unshared unfreed untied j (Fades slot spot) apart at = absurd (unfreed j slot (Fading slot) (got_map owner_of s.views j (Fades slot spot) at) refl)
+  quiet_else s h none_reads unshared unfreed untied j (Resets slot) apart at = absurd (unfreed j slot (Resetting slot) (got_map owner_of s.views j (Resets slot) at) refl)
+  quiet_else s h none_reads unshared unfreed untied j (Frees slot) apart at = absurd (unfreed j slot (Freeing slot) (got_map owner_of s.views j (Frees slot) at) refl)
+  quiet_else s h none_reads unshared unfreed untied j (Ends slot spot) apart at = absurd (h.knows j (Ends slot spot) at)
+  quiet_else s h none_reads unshared unfreed untied j Gone apart at = tt
+
+  -- nobody has a version weakly where the other slots are free, and K of the one in W is 1
+  no_weak : (s : Board T) (h : Holds begins follows spots s) (slot i number place : ℕ) → slot ≡ h.shows.plan.slot h.shows.plan.last → get_or s.words (suc (suc (slot + slot))) 0 ≡ 1 → ((place : ℕ) → place < slots → place ≢ slot → IsFree s.words s.homes place) → slice_get (shown s).owners i ≡ Some (Weakly number place) → ⊥
+  no_weak s h slot i number place last one free seat =
+      let st : State T = shown s in
+      let of = h.shows.owner_is i (Weakly number place) seat in
+      let there = slotted s h place of.0 in
+      elim (eqb_tells place slot) [
+        | inl same ↦ last_untied begins follows spots s h slot i number place (latest_slot st h.cell h.shows ∙ sym last) one seat same.1
+        | inr other ↦ (keeps_slot st h.cell i number place there.there h.shows seat there.at).0 (found_shares s place there ∙ (free place of.0 other.1).shares)
+      ]
 
   -- what is known when the cell can end
   record CanEnd (s : Board T) (h : Holds begins follows spots s) (p : Publishing T) (slot : ℕ) : Type 0 where
@@ -199,7 +234,8 @@ module _ {T : Type 0} (begins : T → Type 0) (follows : T → T → Type 0) (sp
     none_reads : reads s.views ≡ 0
     free : (place : ℕ) → place < slots → place ≢ slot → IsFree s.words s.homes place
     unshared : (j : ℕ) (view : View T) → get_elem? s.views j ≡ some view → (mark : Mark T) → mark_in view ≡ Some mark → MarkIs s.homes h.name mark → ⊥
-    unfreed : (i place : ℕ) → slice_get (shown s).owners i ≡ Some (Freeing place) → ⊥
+    unfreed : (i place : ℕ) (how : Owner) → slice_get (shown s).owners i ≡ Some how → charged how ≡ Some place → ⊥
+    untied : (i number place : ℕ) → slice_get (shown s).owners i ≡ Some (Weakly number place) → ⊥
     some_shares : get_or s.words (suc (slot + slot)) 0 ≢ 0
 
   -- the cell has ended, when the first seat has taken the last version's place
@@ -209,7 +245,7 @@ module _ {T : Type 0} (begins : T → Type 0) (follows : T → T → Type 0) (sp
       record {
         quiet = λ j view e. ⊎_elim
             (λ (t : (j ≡ 0) × (Ends slot c.spot ≡ view)). subst (IsQuiet spots) t.1 c.lies)
-            (λ (t : (j ≢ 0) × (get_elem? s.views j ≡ some view)). quiet_else s h c.none_reads c.unshared c.unfreed j view t.0 t.1)
+            (λ (t : (j ≢ 0) × (get_elem? s.views j ≡ some view)). quiet_else s h c.none_reads c.unshared c.unfreed c.untied j view t.0 t.1)
             (at_set s.views 0 j (Ends slot c.spot) view e);
         only = λ j place spot e. ⊎_elim
             (λ (t : (j ≡ 0) × (Ends slot c.spot ≡ Ends place spot)). t.0)
@@ -244,10 +280,11 @@ module _ {T : Type 0} (begins : T → Type 0) (follows : T → T → Type 0) (sp
             let unheld = last_unheld begins follows spots s h p k word at how fixed same.1 in
             let lies = last_lies (shown s) h.cell h.shows in
             let room = last_room spots s h in
-            let free : (place : ℕ) → place < slots → place ≢ slot → IsFree s.words s.homes place = λ place l apart. counts.free word k fixed how place (omega (arith, l, all)) apart in
+            let free : (place : ℕ) → place < slots → place ≢ slot → IsFree s.words s.homes place = λ place l apart. (counts.free word k fixed how).0 place (omega (arith, l, all)) apart in
+            let within : slot < slots = subst (λ x. x < slots) (sym unheld.0) lies.0 in
             let can : CanEnd s h p slot = record {
               at = at;
-              within = subst (λ x. x < slots) (sym unheld.0) lies.0;
+              within = within;
               size = λ place home e. let w = got_within s.homes place home e in omega (arith, w, size);
               spot = room.lies.0;
               lies = ap (slice_get spots) unheld.0 ∙ room.lies.1;
@@ -258,13 +295,15 @@ module _ {T : Type 0} (begins : T → Type 0) (follows : T → T → Type 0) (sp
               unshared = λ j view there mark e is.
                   let w = got_within s.homes mark.slot (some is.room) is.home in
                   not_free s.words s.homes h.name mark is (free mark.slot (omega (arith, w, size)) (last_unshared begins follows spots s h p k word at how fixed same.1 j view there mark e is));
-              unfreed = λ i place e.
-                  let charge = h.shows.owner_is i (Freeing place) e in
-                  let apart : place ≢ slot = λ q. let wrong : dead charge.0 i ≡ live plan.last = sym charge.2 ∙ ap plan.phase (q ∙ unheld.0) ∙ lies.1 in cc in
-                  let there = slotted s h place charge.1 in
-                  let dead_slot = subst (λ x. SlotIs (shown s) h.cell plan place x there.there) charge.2 (h.shows.table.slot_is place there.there there.at) in
-                  let is = free place charge.1 apart in
-                  omega (arith, dead_slot.0, found_shares s place there, is.shares);
+              unfreed = λ i place who e of.
+                  let rest = charged_rest h.cell plan i place who of (h.shows.owner_is i who e) in
+                  let charge = rest.1 in
+                  let apart : place ≢ slot = λ q. let wrong : dead charge.0 charge.1 rest.0 ≡ live plan.last = sym charge.3 ∙ ap plan.phase (q ∙ unheld.0) ∙ lies.1 in cc in
+                  let there = slotted s h place charge.2 in
+                  let dead_slot = subst (λ x. SlotIs (shown s) h.cell plan place x there.there) charge.3 (h.shows.table.slot_is place there.there there.at) in
+                  let is = free place charge.2 apart in
+                  omega (arith, dead_slot.shares, found_shares s place there, is.shares);
+              untied = λ i number place e. no_weak s h slot i number place unheld.0 ((counts.free word k fixed how).1 (omega (arith, within, all))) free e;
               some_shares = λ e. omega (arith, e, same.1);
             } in (
               Ends slot can.spot,

@@ -4,7 +4,7 @@ use mathlib.Core.Option.{some, some-injective, some-ne-none}
 use lib.ListN.{get_elem?}
 use Rattle.atomic_table.specs.Table.{Me, Allows, Splits, Joins}
 use Rattle.counted_handles.specs.declared.view.View.{View}
-use Rattle.counted_handles.specs.declared.view.View.TheVariants.{Begin, Began, Publishes, Reads, Has, Buries, Frees, Ends, Gone}
+use Rattle.counted_handles.specs.declared.view.View.TheVariants.{Begin, Began, Publishes, Reads, Hosts, Has, HasWeakly, Buries, Fades, Resets, Frees, Ends, Gone}
 use Rattle.counted_handles.specs.Shown.{Room, Board}
 use Rattle.counted_handles.specs.Ruled.{RoomSpot, Holds, Ended, Ruled, IsQuiet}
 
@@ -14,9 +14,13 @@ IsLater (Begin value) = ⊥
 IsLater (Began spot) = ⊥
 IsLater (Publishes p) = Unit {0}
 IsLater (Reads r) = Unit {0}
+IsLater (Hosts r hold) = Unit {0}
 IsLater (Has mark) = Unit {0}
 IsLater (Buries slot name) = ⊥
-IsLater (Frees slot spot) = Unit {0}
+IsLater (HasWeakly tie) = Unit {0}
+IsLater (Fades slot spot) = Unit {0}
+IsLater (Resets slot) = Unit {0}
+IsLater (Frees slot) = Unit {0}
 IsLater (Ends slot spot) = ⊥
 IsLater Gone = ⊥
 
@@ -26,9 +30,13 @@ not_quiet spots (Begin value) is quiet = is
 not_quiet spots (Began spot) is quiet = is
 not_quiet spots (Publishes p) is quiet = quiet
 not_quiet spots (Reads r) is quiet = quiet
+not_quiet spots (Hosts r hold) is quiet = quiet
 not_quiet spots (Has mark) is quiet = quiet
 not_quiet spots (Buries slot name) is quiet = is
-not_quiet spots (Frees slot spot) is quiet = quiet
+not_quiet spots (HasWeakly tie) is quiet = quiet
+not_quiet spots (Fades slot spot) is quiet = quiet
+not_quiet spots (Resets slot) is quiet = quiet
+not_quiet spots (Frees slot) is quiet = quiet
 not_quiet spots (Ends slot spot) is quiet = is
 not_quiet spots Gone is quiet = is
 

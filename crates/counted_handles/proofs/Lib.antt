@@ -6,8 +6,10 @@ pub mod Frames
 pub mod Live
 pub mod LoadStep
 pub mod WordSteps
+pub mod Ties
 pub mod ReleaseStep
 pub mod BuryStep
+pub mod FadeStep
 pub mod FreeStep
 pub mod PublisherWords
 pub mod ProbeStep
@@ -17,6 +19,9 @@ pub mod SettleStep
 pub mod NewestStep
 pub mod SplitStep
 pub mod JoinStep
+pub mod MergeStep
+pub mod HostStep
+pub mod NoteStep
 pub mod OpenStep
 pub mod Later
 pub mod LastLemmas
@@ -24,6 +29,7 @@ pub mod EndStep
 pub mod Rights
 pub mod Opening
 pub mod CallLemmas
+pub mod HostLemmas
 pub mod GuestLemmas
 pub mod EndLemmas
 pub mod OpenLemmas
@@ -31,3 +37,6 @@ pub mod PutLemmas
 pub mod MadeLemmas
 pub mod UnmadeLemmas
 pub mod Burials
+pub mod Lapsings
+pub mod WeakLemmas
+mod HeldLemmas

@@ -8,7 +8,7 @@ use Rattle.cell_core.specs.Cell.{with_strong}
 use Rattle.cell_core.specs.Shows.{Shows}
 use Rattle.cell_core.specs.Words.{State, slots, fetch_add}
 use Rattle.cell_core.specs.WordSteps.{with_owner}
-use Rattle.cell_core.specs.declared.words.Owner.TheVariants.{Holding, Freeing, Spent}
+use Rattle.cell_core.specs.declared.words.Owner.TheVariants.{Holding, Fading, Spent}
 use Rattle.cell_core.proofs.FrameLemmas.{seat_stays}
 use Rattle.counted_handles.specs.declared.view.Mark.{Mark}
 use Rattle.counted_handles.specs.declared.view.Reading.{Reading}
@@ -21,7 +21,7 @@ use Rattle.counted_handles.proofs.Lists.{got_map, map_set, sum_set, sum_has}
 use Rattle.counted_handles.proofs.Slots.{behind_first, first_set}
 use Rattle.counted_handles.proofs.Owners.{seated}
 use Rattle.counted_handles.proofs.FreeSlots.{frees_behind}
-use Rattle.counted_handles.proofs.Frames.{unmoved, home_stays, publisher_else, not_first, state_is, seat_step}
+use Rattle.counted_handles.proofs.Frames.{unmoved, home_stays, publisher_else, noted_else, not_first, state_is, seat_step}
 use Rattle.counted_handles.proofs.Live.{slotted, last_room, live_mark, live_mark_is}
 
 module _ {T : Type 0} (begins : T → Type 0) (follows : T → T → Type 0) (spots : List (RoomSpot T)) where
@@ -51,7 +51,8 @@ module _ {T : Type 0} (begins : T → Type 0) (follows : T → T → Type 0) (sp
       (ap (λ w. slots_in w s.homes) (behind_first s.words word))
       (publisher_else s.views id new first)
       (map_set owner_of s.views id new)
-      (omega (arith, sums, mine.1, h.few, some_left)) in (
+      (omega (arith, sums, mine.1, h.few, some_left))
+      (noted_else s.views id new first) in (
         new,
         keeps,
         tt,
@@ -61,16 +62,17 @@ module _ {T : Type 0} (begins : T → Type 0) (follows : T → T → Type 0) (sp
           is_none = λ p e. cc;
           cell = with_strong last h.cell;
           published = refl;
+          gone = λ j u. u;
           shows = subst (λ x. Shows x (with_strong last h.cell)) (sym same) shows;
           left = omega arith;
           read = refl;
-          free = frees_behind s.words s.homes word;
+          free = λ last swept is are. frees_behind s.words s.homes word last swept are;
           fixed = λ p here counts w e. let some_reader = sum_has read_of s.views id (Reads r) at in absurd (omega (arith, counts.readers, (counts.fixed w e).0, some_reader.1));
           homes_are = λ place home e. home_stays spots h.name st after place home
               (λ p. ap (λ (x : State T). x.publisher) same ∙ p)
-              (λ i q. ap (λ (x : State T). slice_get x.owners i) same ∙ seat_stays st.owners id Spent (Holding last slot) (Freeing place) spent (λ e. cc) i q)
+              (λ i q. ap (λ (x : State T). slice_get x.owners i) same ∙ seat_stays st.owners id Spent (Holding last slot) (Fading place) spent (λ e. cc) i q)
               (h.homes place home e);
-          mine = (known.0, ([], append-nil h.cell.published), live_mark_is room);
+          mine = (known.0, ([], append-nil h.cell.published), live_mark_is room, known.3);
           others = λ j view other e. unmoved s.homes h.name view;
         }),
         (

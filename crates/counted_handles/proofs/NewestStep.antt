@@ -1,4 +1,4 @@
--- A load by the publisher keeps the rule, and so does its look at W.
+-- A load by the publisher keeps the rule, and so do its looks at W.
 use Rattle.std.proofs.Common.{◌≡◌, refl, sym, ap, ◌∙◌, subst, ℕ, ◌+◌, ◌-◌, ◌%◌, ◌^◌, ◌<◌, List, [], length, get_or, set, arith, Some, None, append-nil}
 use Rattle.std.specs.List.{slice_get}
 use Rattle.atomic_table.specs.Table.{Allows, keeps}
@@ -9,18 +9,19 @@ use Rattle.cell_core.specs.Cell.{with_strong}
 use Rattle.cell_core.specs.Shows.{Shows}
 use Rattle.cell_core.specs.Words.{State, slots, fetch_add}
 use Rattle.cell_core.specs.WordSteps.{with_owner}
-use Rattle.cell_core.specs.declared.words.Owner.TheVariants.{Holding, Freeing, Spent}
+use Rattle.cell_core.specs.declared.words.Owner.TheVariants.{Holding, Fading, Spent}
 use Rattle.counted_handles.specs.declared.view.Mark.{Mark}
 use Rattle.counted_handles.specs.declared.view.Publishing.{Publishing}
+use Rattle.counted_handles.specs.declared.view.Hold.TheVariants.{Once}
 use Rattle.counted_handles.specs.declared.view.View.TheVariants.{Publishes}
-use Rattle.counted_handles.specs.Shown.{holder, owner_of, left_of, slots_in, shown}
+use Rattle.counted_handles.specs.Shown.{held_by, owner_of, left_of, slots_in, shown}
 use Rattle.counted_handles.specs.Ruled.{RoomSpot, Holds}
-use Rattle.counted_handles.specs.Tells.{Newest, Looked}
+use Rattle.counted_handles.specs.Tells.{Newest, Looked, Greeted}
 use Rattle.counted_handles.specs.History.{IsHistory}
 use Rattle.counted_handles.proofs.Lists.{map_set, sum_set, sum_has}
 use Rattle.counted_handles.proofs.Slots.{behind_first, first_set}
 use Rattle.counted_handles.proofs.Owners.{seated}
-use Rattle.counted_handles.proofs.Frames.{unmoved, home_stays, publisher_step, knows_publisher, publisher_here, state_is}
+use Rattle.counted_handles.proofs.Frames.{unmoved, home_stays, publisher_step, knows_publisher, publisher_here, noted_here, noted_is, state_is}
 use Rattle.counted_handles.proofs.Live.{slotted, last_room, live_mark, live_mark_is}
 use Rattle.counted_handles.proofs.PublisherWords.{how_is, first_owner, shown_publisher}
 
@@ -34,12 +35,12 @@ module _ {T : Type 0} (begins : T → Type 0) (follows : T → T → Type 0) (sp
       let slot : ℕ = plan.slot plan.last in
       let room = last_room spots s h in
       let mark : Mark T = live_mark room in
-      let new : Publishing T = record p { share = Some mark; left = p.left - 1; fixed = None } in
+      let new : Publishing T = record p { share = Some (Once mark); left = p.left - 1; fixed = None } in
       let word : ℕ = (get_or s.words 0 0 + 1) % 2 ^ 64 in
       let known = h.knows 0 (Publishes p) at in
       let mine = sum_has left_of s.views 0 (Publishes p) at in
       let sums = sum_set left_of s.views 0 (Publishes p) (Publishes new) at in
-      let spent : slice_get st.owners 0 ≡ Some Spent = first_owner s p at ∙ ap (λ x. Some (holder x)) whole in
+      let spent : slice_get st.owners 0 ≡ Some Spent = first_owner s p at ∙ ap (λ x. Some (held_by x)) whole in
       let more : State T = record st { latest = fetch_add st.latest 1; granted = st.granted + 1 } in
       let kept = load_keeps st h.cell h.shows (omega (arith, mine.1, h.few, some_left)) in
       let shows = seated more (with_strong last h.cell) 0 last slot spent kept in
@@ -50,7 +51,8 @@ module _ {T : Type 0} (begins : T → Type 0) (follows : T → T → Type 0) (sp
       (ap (λ w. slots_in w s.homes) (behind_first s.words word))
       (publisher_here s.views (Publishes p) (Publishes new) at ∙ sym (how_is s p at))
       (map_set owner_of s.views 0 (Publishes new))
-      (omega (arith, sums, mine.1, h.few, some_left)) in (
+      (omega (arith, sums, mine.1, h.few, some_left))
+      (noted_here s.views (Publishes p) (Publishes new) at ∙ sym (noted_is s.views (Publishes p) at)) in (
         Publishes new,
         keeps,
         tt,
@@ -63,11 +65,13 @@ module _ {T : Type 0} (begins : T → Type 0) (follows : T → T → Type 0) (sp
           left = omega arith;
           readers = refl;
           guests = (knows_publisher begins follows spots s h p at).guests;
+          sunk = (knows_publisher begins follows spots s h p at).sunk;
+          gone = λ j u. u;
           fixed = λ w e. absurd (let wrong = e in cc);
           free = λ w k e q. absurd (let wrong = e in cc);
           homes_are = λ place home e. home_stays spots h.name st after place home
               (λ q. ap (λ (x : State T). x.publisher) same ∙ q)
-              (λ i q. ap (λ (x : State T). slice_get x.owners i) same ∙ seat_stays st.owners 0 Spent (Holding last slot) (Freeing place) spent (λ e. cc) i q)
+              (λ i q. ap (λ (x : State T). slice_get x.owners i) same ∙ seat_stays st.owners 0 Spent (Holding last slot) (Fading place) spent (λ e. cc) i q)
               (h.homes place home e);
           mine = (known.0, known.1, live_mark_is room, known.3);
           others = λ j view other e. unmoved s.homes h.name view;
@@ -98,7 +102,7 @@ module _ {T : Type 0} (begins : T → Type 0) (follows : T → T → Type 0) (sp
       let there = slotted s h (h.shows.plan.slot h.shows.plan.last) lies.0 in
       let first = first_set s.words s.homes (h.shows.plan.slot h.shows.plan.last) found there.there there.at in
       let after : State T = shown (record { words = words; homes = s.homes; views = set s.views 0 (Publishes new) }) in
-      let same : after ≡ st = shown_publisher s words s.homes p new st.latest st.table at refl refl first (ap (λ w. slots_in w s.homes) (behind_first s.words found))
+      let same : after ≡ st = shown_publisher s words s.homes p new st.latest st.table at refl refl refl first (ap (λ w. slots_in w s.homes) (behind_first s.words found))
       ∙ ap (λ x. record st { publisher = x }) (sym (how_is s p at)) in (
         Publishes new,
         keeps,
@@ -112,8 +116,10 @@ module _ {T : Type 0} (begins : T → Type 0) (follows : T → T → Type 0) (sp
           left = omega arith;
           readers = refl;
           guests = (knows_publisher begins follows spots s h p at).guests;
+          sunk = (knows_publisher begins follows spots s h p at).sunk;
+          gone = λ j u. u;
           fixed = λ w e. (alone, first ∙ (let f : found ≡ w = cc in f));
-          free = λ w k e q slot l. absurd (omega (arith, l));
+          free = λ w k e q. (λ slot l apart. absurd (omega (arith, l)), λ l. absurd (omega (arith, l)));
           homes_are = λ place home e. home_stays spots h.name st after place home
               (λ q. ap (λ (x : State T). x.publisher) same ∙ q)
               (λ i q. ap (λ (x : State T). slice_get x.owners i) same ∙ q)
@@ -122,4 +128,44 @@ module _ {T : Type 0} (begins : T → Type 0) (follows : T → T → Type 0) (sp
           others = λ j view other e. unmoved s.homes h.name view;
         }),
         (subst (λ k. k < slots) (sym (latest_slot st h.cell h.shows)) lies.0, refl),
+      )
+
+  pub greets : (p : Publishing T) → Allows (Holds begins follows spots) slots 0 (Publishes p, []) 0 (λ n. n) (λ found me. Greeted p me)
+  greets p s h size at bound =
+      let st : State T = shown s in
+      let found : ℕ = get_or s.words 0 0 in
+      let words : List ℕ = set s.words 0 found in
+      let new : Publishing T = record p { fixed = None } in
+      let known = h.knows 0 (Publishes p) at in
+      let counts = knows_publisher begins follows spots s h p at in
+      let lies = last_lies st h.cell h.shows in
+      let there = slotted s h (h.shows.plan.slot h.shows.plan.last) lies.0 in
+      let first = first_set s.words s.homes (h.shows.plan.slot h.shows.plan.last) found there.there there.at in
+      let after : State T = shown (record { words = words; homes = s.homes; views = set s.views 0 (Publishes new) }) in
+      let same : after ≡ st = shown_publisher s words s.homes p new st.latest st.table at refl refl refl first (ap (λ w. slots_in w s.homes) (behind_first s.words found))
+      ∙ ap (λ x. record st { publisher = x }) (sym (how_is s p at)) in (
+        Publishes new,
+        keeps,
+        tt,
+        publisher_step begins follows spots s h words s.homes p new (record {
+          at = at;
+          cell = h.cell;
+          begun = ([], append-nil h.cell.published);
+          history = h.history;
+          shows = subst (λ x. Shows x h.cell) (sym same) h.shows;
+          left = omega arith;
+          readers = refl;
+          guests = counts.guests;
+          sunk = counts.sunk;
+          gone = λ j u. u;
+          fixed = λ w e. absurd (let wrong = e in cc);
+          free = λ w k e q. absurd (let wrong = e in cc);
+          homes_are = λ place home e. home_stays spots h.name st after place home
+              (λ q. ap (λ (x : State T). x.publisher) same ∙ q)
+              (λ i q. ap (λ (x : State T). slice_get x.owners i) same ∙ q)
+              (h.homes place home e);
+          mine = (known.0, known.1, known.2, known.3);
+          others = λ j view other e. unmoved s.homes h.name view;
+        }),
+        (refl, counts.guests),
       )

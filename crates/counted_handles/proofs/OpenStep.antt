@@ -9,7 +9,8 @@ use Rattle.atomic_table.specs.Table.{Allows, takes, gives}
 use Rattle.atomic_table.proofs.Lists.{at_set, set_else}
 use Rattle.cell_core.proofs.BeginShows.{begun_shows}
 use Rattle.cell_core.specs.Cell.{start}
-use Rattle.cell_core.specs.Shows.{Plan, Shows, OwnerIs}
+use Rattle.cell_core.specs.Shows.{Rest, Plan, Shows, InCharge, OwnerIs}
+use Rattle.cell_core.specs.Shows.Rest.{fading, outlived, closing, closed}
 use Rattle.cell_core.specs.Words.{State, slots, grants, begun, bulk, first_slot, free_slot, free_word}
 use Rattle.cell_core.specs.declared.words.Owner.{Owner}
 use Rattle.cell_core.specs.declared.words.Owner.TheVariants.{Spent}
@@ -41,9 +42,16 @@ only_spent : {T : Type 0} (plan : Plan) (value : T) (i : ℕ) (how : Owner) → 
 only_spent plan value zero how e = subst (λ x. OwnerIs (start value) plan 0 x) (let same : Spent ≡ how = (let q = e in cc) in same) tt
 only_spent plan value (suc i) how e = absurd (let wrong = e in cc)
 
+-- nobody is in charge of a slot where there is no owner
+none_charged : (slot : ℕ) (rest : Rest) → InCharge [] slot rest → InCharge (Spent ∷ []) slot rest
+none_charged slot (fading k) c = absurd (let wrong = c in cc)
+none_charged slot outlived c = c
+none_charged slot (closing k) c = absurd (let wrong = c in cc)
+none_charged slot (closed k) c = absurd (let wrong = c in cc)
+
 module _ {T : Type 0} (spots : List (RoomSpot T)) (value : T) (name : ℕ) (spot : RoomSpot T) where
-  only_knows : (homes : List (maybe.Option (Room T))) (j : ℕ) (view : View T) → get_elem? (Publishes (opener value name spot) ∷ []) j ≡ some view → Knows spots name (value ∷ []) homes view
-  only_knows homes zero view e = subst (Knows spots name (value ∷ []) homes) (some-injective (Publishes (opener value name spot)) view e) (refl, refl, tt, tt)
+  only_knows : (homes : List (maybe.Option (Room T))) (j : ℕ) (view : View T) → get_elem? (Publishes (opener value name spot) ∷ []) j ≡ some view → Knows spots name (start value) homes view
+  only_knows homes zero view e = subst (Knows spots name (start value) homes) (some-injective (Publishes (opener value name spot)) view e) (refl, refl, tt, tt)
   only_knows homes (suc j) view e = absurd (some-ne-none view (sym e))
 
   only_first : (j : ℕ) (p : Publishing T) → get_elem? (Publishes (opener value name spot) ∷ []) j ≡ some (Publishes p) → j ≡ 0
@@ -84,8 +92,9 @@ module _ {T : Type 0} (begins : T → Type 0) (follows : T → T → Type 0) (sp
       let state : State T = record (begun value) { owners = owners } in
       let shows : Shows state (start value) = owners_as (begun value) (start value) owners (begun_shows value) (record {
         held_as = λ j. refl;
+        weak_as = λ j. refl;
         burying = λ i slot q. absurd (let wrong = q in cc);
-        freeing = λ i slot q. absurd (let wrong = q in cc);
+        charge = none_charged;
         owner_is = only_spent (begun_shows value).plan value;
       }) in
       let lefts_are : lefts (Publishes (opener value name spot) ∷ []) ≡ grants = (let e = sum_by-cons left_of (Publishes (opener value name spot)) [] in omega (arith, e)) in
@@ -93,7 +102,7 @@ module _ {T : Type 0} (begins : T → Type 0) (follows : T → T → Type 0) (sp
       ap (slots_in (bulk ∷ 1 ∷ free_words 63)) made.1
       ∙ (λ i. record { shares = bulk; weak = 1; version = full i } ∷ frees_in 63 rest made.2 (λ slot home e. let free = others (suc slot) home (omega arith) (sym (made.3 slot) ∙ e) in ap version_at free.1 ∙ free.3) i) in
       let after : State T = shown (record { words = first_words; homes = set homes 0 (some room); views = Publishes (opener value name spot) ∷ [] }) in
-      let same : after ≡ state = state_is _ _ refl table refl refl (omega (arith, lefts_are)) in
+      let same : after ≡ state = state_is _ _ refl table refl refl (omega (arith, lefts_are)) refl in
       record {
         cell = start value;
         shows = subst (λ x. Shows x (start value)) (sym same) shows;
@@ -109,7 +118,7 @@ module _ {T : Type 0} (begins : T → Type 0) (follows : T → T → Type 0) (sp
             subst (λ x. HomeIs spots name after place x) (sym free.1) (free.2, subst (λ v. IsShared name place v free.0.stake) (sym free.3) free.4))
             (at_set homes 0 place (some room) home e);
         knows = λ j view e. only_knows spots value name spot (set homes 0 (some room)) j view e;
-        first = (opener value name spot, refl, record { readers = refl; guests = tt; fixed = λ w e. absurd (let wrong = e in cc); free = λ w k e. absurd (let wrong = e in cc) });
+        first = (opener value name spot, refl, record { readers = refl; guests = tt; sunk = tt; fixed = λ w e. absurd (let wrong = e in cc); free = λ w k e. absurd (let wrong = e in cc) });
         only = λ j p e. only_first spots value name spot j p e;
       }
 

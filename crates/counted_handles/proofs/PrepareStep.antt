@@ -18,7 +18,7 @@ use Rattle.counted_handles.specs.Ruled.{RoomSpot, HomeIs, IsShared, Comes, Holds
 use Rattle.counted_handles.specs.Tells.{Prepared}
 use Rattle.counted_handles.proofs.Lists.{got_within}
 use Rattle.counted_handles.proofs.Slots.{first_kept}
-use Rattle.counted_handles.proofs.Frames.{no_share, share_kept, home_stays, publisher_step, knows_publisher}
+use Rattle.counted_handles.proofs.Frames.{no_share, held_kept, home_stays, publisher_step, knows_publisher}
 use Rattle.counted_handles.proofs.Live.{slotted}
 use Rattle.counted_handles.proofs.WordSteps.{home_version, place_set}
 use Rattle.counted_handles.proofs.PublisherWords.{how_is, shown_publisher}
@@ -46,7 +46,7 @@ module _ {T : Type 0} (begins : T → Type 0) (follows : T → T → Type 0) (sp
       let after : State T = shown (record { words = words; homes = homes; views = set s.views 0 (Publishes new) }) in
       let version : room.value ≡ Some (record { number = last + 1; value = value }) = full ∙ ap (λ n. Some (record { number = n; value = value })) is_next in
       let same : after ≡ with_publisher (Swapping slot) (with_slot slot (with_shares bulk (with_version (Some (record { number = last + 1; value = value })) there.there)) st) =
-      shown_publisher s words homes p new st.latest (slice_set st.table slot (with_shares bulk (with_version (Some (record { number = last + 1; value = value })) there.there))) at refl refl (first_kept s.words (slot + slot) bulk)
+      shown_publisher s words homes p new st.latest (slice_set st.table slot (with_shares bulk (with_version (Some (record { number = last + 1; value = value })) there.there))) at refl refl refl (first_kept s.words (slot + slot) bulk)
       (place_set s slot bulk (some room) there ∙ ap (λ v. slice_set st.table slot (with_shares bulk (with_version v there.there))) version) in
       let here : get_elem? homes slot ≡ some (some room) = set_here s.homes slot (some room) (got_within s.homes slot there.home there.home_at) in (
         Publishes new,
@@ -61,6 +61,8 @@ module _ {T : Type 0} (begins : T → Type 0) (follows : T → T → Type 0) (sp
           left = omega arith;
           readers = refl;
           guests = counts.guests;
+          sunk = counts.sunk;
+          gone = λ j u. u;
           fixed = λ w e. ((counts.fixed w e).0, first_kept s.words (slot + slot) bulk ∙ (counts.fixed w e).1);
           free = λ w k e q. absurd (let wrong : Swapping slot ≡ Probing k = q in cc);
           homes_are = λ place home e. ⊎_elim
@@ -78,7 +80,7 @@ module _ {T : Type 0} (begins : T → Type 0) (follows : T → T → Type 0) (sp
           mine = (
             known.0,
             known.1,
-            share_kept s.homes homes h.name p.share (no_share s.homes h.name slot there.home (some room) (Publishes p) there.home_at empty).mark known.2,
+            held_kept s.homes homes h.name h.cell.published h.cell.published p.share (no_share s.homes h.name slot there.home (some room) (Publishes p) there.home_at empty).mark ([], append-nil h.cell.published) known.2,
             record { room = room; home = here; number = number; value = value; next_is = refl; version = full },
           );
           others = λ j view other e. no_share s.homes h.name slot there.home (some room) view there.home_at empty;

@@ -12,7 +12,7 @@ use Rattle.cell_core.specs.Words.{State, slots, free_word, slot_of}
 use Rattle.cell_core.specs.WordSteps.{with_publisher, with_shares, with_version}
 use Rattle.cell_core.specs.Shows.{Shows, SlotIs, PublisherIs}
 use Rattle.cell_core.specs.declared.words.Publisher.TheVariants.{Probing, Preparing}
-use Rattle.cell_core.specs.declared.words.Owner.TheVariants.{Freeing}
+use Rattle.cell_core.specs.declared.words.Owner.TheVariants.{Fading}
 use Rattle.counted_handles.specs.declared.view.Publishing.{Publishing}
 use Rattle.counted_handles.specs.declared.view.View.TheVariants.{Publishes}
 use Rattle.counted_handles.specs.Shown.{Room, version_at, shown}
@@ -21,13 +21,13 @@ use Rattle.counted_handles.specs.Tells.{Probed, beyond}
 use Rattle.counted_handles.proofs.Lists.{when_equal, when_apart}
 use Rattle.counted_handles.proofs.Slots.{first_kept}
 use Rattle.counted_handles.proofs.FreeSlots.{frees_again}
-use Rattle.counted_handles.proofs.Frames.{no_share, share_kept, unmoved, home_stays, publisher_step, knows_publisher}
+use Rattle.counted_handles.proofs.Frames.{no_share, held_kept, unmoved, home_stays, publisher_step, knows_publisher}
 use Rattle.counted_handles.proofs.Live.{slotted}
 use Rattle.counted_handles.proofs.WordSteps.{found_shares, home_version, place_set, shares_set, slots_kept}
 use Rattle.counted_handles.proofs.PublisherWords.{how_is, shown_publisher}
 
 -- a slot whose S is FREE has its place at home while the publisher probes: whole, and with nothing in it
-pub free_room : {T : Type 0} (spots : List (RoomSpot T)) (name : ℕ) (state : State T) (place k : ℕ) (home : maybe.Option (Room T)) → state.publisher ≡ Probing k → ((i : ℕ) → slice_get state.owners i ≡ Some (Freeing place) → ⊥) → version_at home ≡ None → HomeIs spots name state place home → (room : Room T) × (home ≡ some room) × LiesAt spots place room × (room.value ≡ None) × (room.stake ≡ [])
+pub free_room : {T : Type 0} (spots : List (RoomSpot T)) (name : ℕ) (state : State T) (place k : ℕ) (home : maybe.Option (Room T)) → state.publisher ≡ Probing k → ((i : ℕ) → slice_get state.owners i ≡ Some (Fading place) → ⊥) → version_at home ≡ None → HomeIs spots name state place home → (room : Room T) × (home ≡ some room) × LiesAt spots place room × (room.value ≡ None) × (room.stake ≡ [])
 free_room spots name state place k none probing unfreed empty is = ⊎_elim (λ e. absurd (let wrong : Probing k ≡ Preparing place = sym probing ∙ e in cc)) (λ e. absurd (unfreed e.0 e.1)) is
 free_room spots name state place k (some room) probing unfreed empty is = (room, refl, is.0, empty, subst (λ v. IsShared name place v room.stake) empty is.1)
 
@@ -52,17 +52,17 @@ module _ {T : Type 0} (begins : T → Type 0) (follows : T → T → Type 0) (sp
             let taken = take_keeps st h.cell slot there.there h.shows probing there.at (shares ∙ free.1) in
             let was = subst (λ x. SlotIs (with_publisher (Preparing slot) st) h.cell taken.plan slot x there.there) taken.publisher_is.1 (taken.table.slot_is slot there.there there.at) in
             let empty : version_at there.home ≡ None = home_version s slot there ∙ was.2 in
-            let unfreed : (i : ℕ) → slice_get st.owners i ≡ Some (Freeing slot) → ⊥ = λ i q.
-            let charge = h.shows.owner_is i (Freeing slot) q in
-            let dead = subst (λ x. SlotIs st h.cell h.shows.plan slot x there.there) charge.2 (h.shows.table.slot_is slot there.there there.at) in
-            omega (arith, dead.0, shares, free.1) in
+            let unfreed : (i : ℕ) → slice_get st.owners i ≡ Some (Fading slot) → ⊥ = λ i q.
+            let charge = h.shows.owner_is i (Fading slot) q in
+            let was_dead = subst (λ x. SlotIs st h.cell h.shows.plan slot x there.there) charge.3 (h.shows.table.slot_is slot there.there there.at) in
+            omega (arith, was_dead.shares, shares, free.1) in
             let room = free_room spots h.name st slot slot there.home probing unfreed empty (h.homes slot there.home there.home_at) in
             let spot : RoomSpot T = room.2.0 in
             let new : Publishing T = record p { how = Preparing slot; spot = spot } in
             let homes : List (maybe.Option (Room T)) = set s.homes slot none in
             let after : State T = shown (record { words = words; homes = homes; views = set s.views 0 (Publishes new) }) in
             let same : after ≡ with_publisher (Preparing slot) st =
-            shown_publisher s words homes p new st.latest st.table at refl refl (first_kept s.words (slot + slot) found)
+            shown_publisher s words homes p new st.latest st.table at refl refl refl (first_kept s.words (slot + slot) found)
             (place_set s slot found none there ∙ ap (λ v. slice_set st.table slot (with_shares found (with_version v there.there))) (sym was.2) ∙ slots_kept s slot found there (sym shares)) in (
               Publishes new,
               takes slot room.0,
@@ -76,6 +76,8 @@ module _ {T : Type 0} (begins : T → Type 0) (follows : T → T → Type 0) (sp
                 left = omega arith;
                 readers = refl;
                 guests = counts.guests;
+                sunk = counts.sunk;
+                gone = λ j u. u;
                 fixed = λ w e. ((counts.fixed w e).0, first_kept s.words (slot + slot) found ∙ (counts.fixed w e).1);
                 free = λ w k e q. absurd (let wrong : Preparing slot ≡ Probing k = q in cc);
                 homes_are = λ place home e. ⊎_elim
@@ -85,7 +87,7 @@ module _ {T : Type 0} (begins : T → Type 0) (follows : T → T → Type 0) (sp
                     (λ i q. ap (λ (x : State T). slice_get x.owners i) same ∙ q)
                     (h.homes place home t.1))
                     (at_set s.homes slot place none home e);
-                mine = (known.0, known.1, share_kept s.homes homes h.name p.share (no_share s.homes h.name slot there.home none (Publishes p) there.home_at empty).mark known.2, room.2.1);
+                mine = (known.0, known.1, held_kept s.homes homes h.name h.cell.published h.cell.published p.share (no_share s.homes h.name slot there.home none (Publishes p) there.home_at empty).mark ([], append-nil h.cell.published) known.2, room.2.1);
                 others = λ j view other e. no_share s.homes h.name slot there.home none view there.home_at empty;
               }),
               when_equal found free_word _ _ free.1 (record { spot = spot; room = room.0; me_is = refl; lies = room.2.2; empty = room.3; whole = room.4 }),
@@ -95,7 +97,7 @@ module _ {T : Type 0} (begins : T → Type 0) (follows : T → T → Type 0) (sp
             let new : Publishing T = record p { how = Probing (beyond slot) } in
             let after : State T = shown (record { words = words; homes = s.homes; views = set s.views 0 (Publishes new) }) in
             let same : after ≡ with_publisher (Probing (beyond slot)) st =
-            shown_publisher s words s.homes p new st.latest st.table at refl refl (first_kept s.words (slot + slot) found) (shares_set s slot found there ∙ slots_kept s slot found there (sym shares)) in (
+            shown_publisher s words s.homes p new st.latest st.table at refl refl refl (first_kept s.words (slot + slot) found) (shares_set s slot found there ∙ slots_kept s slot found there (sym shares)) in (
               Publishes new,
               keeps,
               tt,
@@ -108,6 +110,8 @@ module _ {T : Type 0} (begins : T → Type 0) (follows : T → T → Type 0) (sp
                 left = omega arith;
                 readers = refl;
                 guests = counts.guests;
+                sunk = counts.sunk;
+                gone = λ j u. u;
                 fixed = λ w e. ((counts.fixed w e).0, first_kept s.words (slot + slot) found ∙ (counts.fixed w e).1);
                 free = λ w k e q. frees_again s.words s.homes (suc (slot + slot)) (slot_of w) p.swept (counts.free w slot e how);
                 homes_are = λ place home e. home_stays spots h.name st after place home

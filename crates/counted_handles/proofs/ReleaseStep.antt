@@ -1,5 +1,5 @@
 -- A release keeps the rule.
-use Rattle.std.proofs.Common.{◌≡◌, refl, sym, ap, ◌∙◌, subst, ℕ, suc, ◌+◌, ◌-◌, ◌%◌, ◌^◌, ◌<◌, inl, inr, false, List, [], get_or, set, arith, Some}
+use Rattle.std.proofs.Common.{◌≡◌, refl, sym, ap, ◌∙◌, subst, ℕ, suc, ◌+◌, ◌-◌, ◌%◌, ◌^◌, ◌<◌, inl, inr, List, [], get_or, set, arith, Some}
 use Rattle.std.specs.List.{slice_get}
 use Rattle.std.proofs.lemmas.Bool.Decides.{eqb_tells}
 use mathlib.Core.Option.{some}
@@ -10,8 +10,8 @@ use Rattle.cell_core.proofs.FrameLemmas.{seat_stays}
 use Rattle.cell_core.specs.Cell.{without_strong}
 use Rattle.cell_core.specs.Words.{State, slots, fetch_sub}
 use Rattle.cell_core.specs.WordSteps.{with_owner, with_slot, with_shares}
-use Rattle.cell_core.specs.Shows.{Shows, OwnerIs, holds}
-use Rattle.cell_core.specs.declared.words.Owner.TheVariants.{Holding, Burying, Freeing}
+use Rattle.cell_core.specs.Shows.{Shows, OwnerIs, holds, has_weakly}
+use Rattle.cell_core.specs.declared.words.Owner.TheVariants.{Holding, Burying, Fading}
 use Rattle.counted_handles.specs.declared.view.Mark.{Mark}
 use Rattle.counted_handles.specs.declared.view.Publishing.{Publishing}
 use Rattle.counted_handles.specs.declared.view.View.{View}
@@ -29,9 +29,9 @@ use Rattle.counted_handles.proofs.WordSteps.{found_shares, shown_shares}
 module _ {T : Type 0} (begins : T → Type 0) (follows : T → T → Type 0) (spots : List (RoomSpot T)) where
   -- an owner has given its share back, and goes on as the shares left ask
   gone_on : (s : Board T) (h : Holds begins follows spots s) (id : ℕ) (mark : Mark T) (new : View T) → get_elem? s.views id ≡ some (Has mark) → mark.slot < slots
-      → ((p : Publishing T) → new ≡ Publishes p → ⊥) → left_of new ≡ 0 → read_of new ≡ 0 → ((j : ℕ) → holds j (owner_of new) ≡ false)
+      → ((p : Publishing T) → new ≡ Publishes p → ⊥) → left_of new ≡ 0 → read_of new ≡ 0 → ((j : ℕ) → (holds j (owner_of new) ≡ 0) × (has_weakly j (owner_of new) ≡ 0))
       → (fetch_sub (get_or s.words (suc (mark.slot + mark.slot)) 0) 1 ≡ 0 → owner_of new ≡ Burying mark.slot)
-      → OwnerIs (without_strong mark.number h.cell) h.shows.plan id (owner_of new) → Knows spots h.name h.cell.published s.homes new
+      → OwnerIs (without_strong mark.number h.cell) h.shows.plan id (owner_of new) → Knows spots h.name (without_strong mark.number h.cell) s.homes new
       → Holds begins follows spots (record { words = set s.words (suc (mark.slot + mark.slot)) (fetch_sub (get_or s.words (suc (mark.slot + mark.slot)) 0) 1); homes = s.homes; views = set s.views id new })
   gone_on s h id mark new at l not_publishes no_left no_read gives_up due mine knows =
       let st : State T = shown s in
@@ -53,14 +53,15 @@ module _ {T : Type 0} (begins : T → Type 0) (follows : T → T → Type 0) (sp
         is_none = not_publishes;
         cell = without_strong mark.number h.cell;
         published = refl;
+        gone = λ j u. u;
         shows = subst (λ x. Shows x (without_strong mark.number h.cell)) (sym same) shows;
         left = omega (arith, no_left);
         read = no_read;
         fixed = λ p here counts w e. first_kept s.words (place + place) word ∙ (counts.fixed w e).1;
-        free = λ last swept are. frees_stay s.words s.homes place word last swept (λ is. not_free s.words s.homes h.name mark (h.knows id (Has mark) at) is) are;
+        free = λ last swept is are. frees_stay s.words s.homes place word last swept (λ free. not_free s.words s.homes h.name mark (h.knows id (Has mark) at) free) are;
         homes_are = λ slot home e. home_stays spots h.name st after slot home
             (λ p. ap (λ (x : State T). x.publisher) same ∙ p)
-            (λ i q. ap (λ (x : State T). slice_get x.owners i) same ∙ seat_stays st.owners id (Holding mark.number place) (owner_of new) (Freeing slot) seat (λ e. cc) i q)
+            (λ i q. ap (λ (x : State T). slice_get x.owners i) same ∙ seat_stays st.owners id (Holding mark.number place) (owner_of new) (Fading slot) seat (λ e. cc) i q)
             (h.homes slot home e);
         mine = knows;
         others = λ j view other e. unmoved s.homes h.name view;
@@ -88,14 +89,14 @@ module _ {T : Type 0} (begins : T → Type 0) (follows : T → T → Type 0) (sp
           Buries place mark.name,
           keeps,
           tt,
-          gone_on s h id mark (Buries place mark.name) at l (λ p e. cc) refl refl (λ j. refl) (λ e. refl) l known.name_is,
+          gone_on s h id mark (Buries place mark.name) at l (λ p e. cc) refl refl (λ j. (refl, refl)) (λ e. refl) l known.name_is,
           (is_counted s h id mark at l, rw one.0 refl),
         )
         | inr other ↦ (
           Gone,
           keeps,
           tt,
-          gone_on s h id mark Gone at l (λ p e. cc) refl refl (λ j. refl) (λ e. absurd (other.1 (omega (arith, e, bound)))) tt tt,
+          gone_on s h id mark Gone at l (λ p e. cc) refl refl (λ j. (refl, refl)) (λ e. absurd (other.1 (omega (arith, e, bound)))) tt tt,
           (is_counted s h id mark at l, rw other.0 refl),
         )
       ]

@@ -7,10 +7,10 @@ use Rattle.cell_core.proofs.SeatLemmas.{get_within}
 use mathlib.Core.Option.{some}
 use Rattle.raw_slots.specs.Places.{Stake, Claimable, Returnable, Alone}
 use Rattle.cell_core.specs.Shows.{SlotIs}
-use Rattle.cell_core.specs.declared.words.Owner.TheVariants.{Freeing}
+use Rattle.cell_core.specs.declared.words.Owner.TheVariants.{Fading}
 use Rattle.counted_handles.specs.declared.view.Mark.{Mark}
 use Rattle.counted_handles.specs.declared.view.View.{View}
-use Rattle.counted_handles.specs.declared.view.View.TheVariants.{Has, Frees}
+use Rattle.counted_handles.specs.declared.view.View.TheVariants.{Has, Fades}
 use Rattle.counted_handles.specs.Shown.{Room, version_at, owner_of, shown}
 use Rattle.counted_handles.specs.Ruled.{RoomSpot, Ruled, stake_of, version_of}
 use Rattle.counted_handles.specs.Tells.{IsClaimed}
@@ -45,16 +45,16 @@ module _ {T : Type 0} (begins : T → Type 0) (follows : T → T → Type 0) (sp
       let is = h.knows id (Has mark) at in
       (is.room, is.home, is.stake)
 
-  pub alone : (id : ℕ) (spot : RoomSpot T) (mark : Mark T) → Alone (Ruled begins follows spots) id (Frees mark.slot spot) (Has mark)
+  pub alone : (id : ℕ) (spot : RoomSpot T) (mark : Mark T) → Alone (Ruled begins follows spots) id (Fades mark.slot spot) (Has mark)
   alone id spot mark s r at i there =
-      let h = later begins follows spots s id (Frees mark.slot spot) tt at r in
+      let h = later begins follows spots s id (Fades mark.slot spot) tt at r in
       let slot : ℕ = mark.slot in
-      let charge = h.shows.owner_is id (Freeing slot) (got_map owner_of s.views id (Frees slot spot) at) in
-      let slot_there = slotted s h slot charge.1 in
-      let was = subst (λ p. SlotIs (shown s) h.cell h.shows.plan slot p slot_there.there) charge.2 (h.shows.table.slot_is slot slot_there.there slot_there.at) in
+      let charge = h.shows.owner_is id (Fading slot) (got_map owner_of s.views id (Fades slot spot) at) in
+      let slot_there = slotted s h slot charge.2 in
+      let was = subst (λ p. SlotIs (shown s) h.cell h.shows.plan slot p slot_there.there) charge.3 (h.shows.table.slot_is slot slot_there.there slot_there.at) in
       let is = h.knows i (Has mark) there in
       let homes : slot_there.home ≡ some is.room = one_there s.homes slot slot_there.home (some is.room) slot_there.home_at is.home in
-      let wrong : None ≡ Some (version_of mark) = sym was.1 ∙ sym (home_version s slot slot_there) ∙ ap version_at homes ∙ is.version in
+      let wrong : None ≡ Some (version_of mark) = sym was.version ∙ sym (home_version s slot slot_there) ∙ ap version_at homes ∙ is.version in
       absurd (cc)
 
   -- the same, for a share and a view that are known by equations
@@ -63,7 +63,7 @@ module _ {T : Type 0} (begins : T → Type 0) (follows : T → T → Type 0) (sp
       subst (λ x. Returnable (λ (y : Room T). y.stake) (Ruled begins follows spots) id x slot) (sym is)
       (subst (λ k. Returnable (λ (y : Room T). y.stake) (Ruled begins follows spots) id (stake_of mark) k) is_slot (returnable id mark))
 
-  pub alone_right : (id slot : ℕ) (spot : RoomSpot T) (mark : Mark T) (view : View T) → view ≡ Frees slot spot → mark.slot ≡ slot → Alone (Ruled begins follows spots) id view (Has mark)
+  pub alone_right : (id slot : ℕ) (spot : RoomSpot T) (mark : Mark T) (view : View T) → view ≡ Fades slot spot → mark.slot ≡ slot → Alone (Ruled begins follows spots) id view (Has mark)
   alone_right id slot spot mark view is is_slot =
       subst (λ v. Alone (Ruled begins follows spots) id v (Has mark)) (sym is)
-      (subst (λ k. Alone (Ruled begins follows spots) id (Frees k spot) (Has mark)) is_slot (alone id spot mark))
+      (subst (λ k. Alone (Ruled begins follows spots) id (Fades k spot) (Has mark)) is_slot (alone id spot mark))

@@ -8,17 +8,18 @@ use Rattle.cell_core.specs.Words.{State, slots, grants, bulk, fetch_sub}
 use Rattle.cell_core.specs.WordSteps.{with_publisher, with_owner, with_slot, with_shares}
 use Rattle.cell_core.specs.Shows.{Shows, PublisherIs}
 use Rattle.cell_core.specs.declared.words.Publisher.TheVariants.{Probing, Preparing, Settling}
-use Rattle.cell_core.specs.declared.words.Owner.TheVariants.{Holding, Freeing, Spent}
+use Rattle.cell_core.specs.declared.words.Owner.TheVariants.{Holding, Fading, Spent}
 use Rattle.counted_handles.specs.declared.view.Mark.{Mark}
 use Rattle.counted_handles.specs.declared.view.Publishing.{Publishing}
+use Rattle.counted_handles.specs.declared.view.Hold.TheVariants.{Once}
 use Rattle.counted_handles.specs.declared.view.View.TheVariants.{Publishes}
-use Rattle.counted_handles.specs.Shown.{holder, owner_of, left_of, lefts, shown}
+use Rattle.counted_handles.specs.Shown.{held_by, owner_of, left_of, lefts, shown}
 use Rattle.counted_handles.specs.Ruled.{RoomSpot, Holds}
 use Rattle.counted_handles.specs.Tells.{IsSettled}
 use Rattle.counted_handles.proofs.Lists.{map_set, sum_set}
 use Rattle.counted_handles.proofs.Slots.{first_kept}
 use Rattle.counted_handles.proofs.Owners.{seated}
-use Rattle.counted_handles.proofs.Frames.{unmoved, home_stays, publisher_step, publisher_here, knows_publisher, state_is}
+use Rattle.counted_handles.proofs.Frames.{unmoved, home_stays, publisher_step, publisher_here, noted_here, noted_is, knows_publisher, state_is}
 use Rattle.counted_handles.proofs.Live.{slotted, live_room, live_mark, live_mark_is}
 use Rattle.counted_handles.proofs.WordSteps.{found_shares, shares_set}
 use Rattle.counted_handles.proofs.PublisherWords.{how_is, first_owner}
@@ -37,12 +38,12 @@ module _ {T : Type 0} (begins : T → Type 0) (follows : T → T → Type 0) (sp
       let l : slot < slots = subst (λ k. k < slots) its.0.here lies.0 in
       let room = live_room spots s h number slot l (ap plan.phase (sym its.0.here) ∙ lies.1) in
       let mark : Mark T = live_mark room in
-      let new : Publishing T = record p { how = Probing 0; share = Some mark } in
+      let new : Publishing T = record p { how = Probing 0; share = Some (Once mark) } in
       let there = slotted s h slot l in
       let shares = found_shares s slot there in
       let known = h.knows 0 (Publishes p) at in
       let counts = knows_publisher begins follows spots s h p at in
-      let spent : slice_get st.owners 0 ≡ Some Spent = first_owner s p at ∙ ap (λ x. Some (holder x)) whole in
+      let spent : slice_get st.owners 0 ≡ Some Spent = first_owner s p at ∙ ap (λ x. Some (held_by x)) whole in
       let kept = settle_keeps st h.cell number slot given there.there h.shows settling there.at in
       let more : State T = with_publisher (Probing 0) (with_slot slot (with_shares (fetch_sub there.there.shares (bulk - given - 1)) there.there) st) in
       let shows = seated more h.cell 0 number slot spent kept in
@@ -53,7 +54,8 @@ module _ {T : Type 0} (begins : T → Type 0) (follows : T → T → Type 0) (sp
       (shares_set s slot word there ∙ ap (λ n. slice_set st.table slot (with_shares (fetch_sub n (bulk - given - 1)) there.there)) (sym shares))
       (publisher_here s.views (Publishes p) (Publishes new) at)
       (map_set owner_of s.views 0 (Publishes new))
-      (ap (λ k. grants - k) (let e : lefts (set s.views 0 (Publishes new)) ≡ lefts s.views = omega (arith, sums) in e)) in (
+      (ap (λ k. grants - k) (let e : lefts (set s.views 0 (Publishes new)) ≡ lefts s.views = omega (arith, sums) in e))
+      (noted_here s.views (Publishes p) (Publishes new) at ∙ sym (noted_is s.views (Publishes p) at)) in (
         Publishes new,
         keeps,
         tt,
@@ -66,11 +68,13 @@ module _ {T : Type 0} (begins : T → Type 0) (follows : T → T → Type 0) (sp
           left = omega arith;
           readers = refl;
           guests = counts.guests;
+          sunk = counts.sunk;
+          gone = λ j u. u;
           fixed = λ w e. absurd (let wrong = sym unfixed ∙ e in cc);
           free = λ w k e q. absurd (let wrong = sym unfixed ∙ e in cc);
           homes_are = λ place home e. home_stays spots h.name st after place home
               (λ q. absurd (let wrong : Settling number slot given ≡ Preparing place = sym settling ∙ q in cc))
-              (λ i q. ap (λ (x : State T). slice_get x.owners i) same ∙ seat_stays st.owners 0 Spent (Holding number slot) (Freeing place) spent (λ e. cc) i q)
+              (λ i q. ap (λ (x : State T). slice_get x.owners i) same ∙ seat_stays st.owners 0 Spent (Holding number slot) (Fading place) spent (λ e. cc) i q)
               (h.homes place home e);
           mine = (known.0, known.1, live_mark_is room, tt);
           others = λ j view other e. unmoved s.homes h.name view;

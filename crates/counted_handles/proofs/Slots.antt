@@ -50,6 +50,20 @@ set_at (s ∷ w ∷ words) (old ∷ homes) (suc k) n home there e = ap (λ l. re
 pub slot_set : {T : Type 0} (words : List ℕ) (homes : List (maybe.Option (Room T))) (k n : ℕ) (home : maybe.Option (Room T)) (there : Slot T) → slice_get (slots_in words homes) k ≡ Some there → slots_in (set words (k + k) n) (set homes k home) ≡ set (slots_in words homes) k (record { shares = n; weak = there.weak; version = version_at home })
 slot_set words homes k n home there e = ap (λ m. slots_in (set words m n) (set homes k home)) (sym (twice k)) ∙ set_at words homes k n home there e
 
+weak_at : {T : Type 0} (words : List ℕ) (homes : List (maybe.Option (Room T))) (k n : ℕ) (home : maybe.Option (Room T)) (there : Slot T) → slice_get (slots_in words homes) k ≡ Some there → slots_in (set words (suc (double k)) n) (set homes k home) ≡ set (slots_in words homes) k (record { shares = there.shares; weak = n; version = version_at home })
+unfolding double
+weak_at [] homes k n home there e = absurd (let wrong = e in cc)
+weak_at (s ∷ []) homes k n home there e = absurd (let wrong = e in cc)
+weak_at (s ∷ w ∷ words) [] k n home there e = absurd (let wrong = e in cc)
+weak_at {T} (s ∷ w ∷ words) (old ∷ homes) zero n home there e =
+    let same : record { shares = s; weak = w; version = version_at old } ≡ there = (let h = e in cc) in
+    ap (λ (x : Slot T). record { shares = x.shares; weak = n; version = version_at home } ∷ slots_in words homes) same
+weak_at (s ∷ w ∷ words) (old ∷ homes) (suc k) n home there e = ap (λ l. record { shares = s; weak = w; version = version_at old } ∷ l) (weak_at words homes k n home there e)
+
+-- a slot whose K and whose place are set
+pub weak_set : {T : Type 0} (words : List ℕ) (homes : List (maybe.Option (Room T))) (k n : ℕ) (home : maybe.Option (Room T)) (there : Slot T) → slice_get (slots_in words homes) k ≡ Some there → slots_in (set words (suc (k + k)) n) (set homes k home) ≡ set (slots_in words homes) k (record { shares = there.shares; weak = n; version = version_at home })
+weak_set words homes k n home there e = ap (λ m. slots_in (set words (suc m) n) (set homes k home)) (sym (twice k)) ∙ weak_at words homes k n home there e
+
 -- W, and the words behind it
 pub behind_first : (words : List ℕ) (n : ℕ) → behind (set words 0 n) ≡ behind words
 behind_first [] n = refl

@@ -19,7 +19,7 @@ use Rattle.counted_handles.specs.Ruled.{RoomSpot, Comes, NextIs, Holds}
 use Rattle.counted_handles.specs.Tells.{Swapped}
 use Rattle.counted_handles.proofs.Lists.{one_there}
 use Rattle.counted_handles.proofs.Slots.{behind_first, first_set}
-use Rattle.counted_handles.proofs.Frames.{unmoved, home_stays, publisher_step, knows_publisher, guests_longer}
+use Rattle.counted_handles.proofs.Frames.{unmoved, home_stays, publisher_step, knows_publisher, guests_longer, held_kept}
 use Rattle.counted_handles.proofs.Live.{slotted}
 use Rattle.counted_handles.proofs.WordSteps.{home_version}
 use Rattle.counted_handles.proofs.PublisherWords.{how_is, shown_publisher}
@@ -52,7 +52,7 @@ module _ {T : Type 0} (begins : T → Type 0) (follows : T → T → Type 0) (sp
       let after : State T = shown (record { words = words; homes = s.homes; views = set s.views 0 (Publishes new) }) in
       let settling : Settling last (slot_of found) (given_of found) ≡ Settling last (plan.slot last) plan.given = λ i. Settling last (latest_slot st h.cell h.shows i) (latest_given st h.cell h.shows i) in
       let same : after ≡ with_publisher (Settling last (plan.slot last) plan.given) (record st { latest = word_of slot 0 }) =
-      shown_publisher s words s.homes p new (word_of slot 0) st.table at refl refl (first_set s.words s.homes slot (word_of slot 0) there.there there.at) (ap (λ w. slots_in w s.homes) (behind_first s.words (word_of slot 0)))
+      shown_publisher s words s.homes p new (word_of slot 0) st.table at refl refl refl (first_set s.words s.homes slot (word_of slot 0) there.there there.at) (ap (λ w. slots_in w s.homes) (behind_first s.words (word_of slot 0)))
       ∙ ap (λ q. with_publisher q (record st { latest = word_of slot 0 })) settling in (
         Publishes new,
         keeps,
@@ -66,13 +66,15 @@ module _ {T : Type 0} (begins : T → Type 0) (follows : T → T → Type 0) (sp
           left = omega arith;
           readers = refl;
           guests = guests_longer p.name p.published value p.guests (knows_publisher begins follows spots s h p at).guests;
+          sunk = (knows_publisher begins follows spots s h p at).sunk;
+          gone = λ j u. u;
           fixed = λ w e. absurd (let wrong = e in cc);
           free = λ w k e q. absurd (let wrong = e in cc);
           homes_are = λ place home e. home_stays spots h.name st after place home
               (λ q. absurd (let wrong : Swapping slot ≡ Preparing place = sym swapping ∙ q in cc))
               (λ i q. ap (λ (x : State T). slice_get x.owners i) same ∙ q)
               (h.homes place home e);
-          mine = (known.0, ap (λ l. l ++ value ∷ []) known.1, known.2, tt);
+          mine = (known.0, ap (λ l. l ++ value ∷ []) known.1, held_kept s.homes s.homes h.name h.cell.published (h.cell.published ++ value ∷ []) p.share (λ mark e is. is) (value ∷ [], refl) known.2, tt);
           others = λ j view other e. unmoved s.homes h.name view;
         }),
         (last, ap length known.1 ∙ h.shows.numbers.last, subst (λ k. k < slots) (sym (latest_slot st h.cell h.shows)) (last_lies st h.cell h.shows).0, refl),

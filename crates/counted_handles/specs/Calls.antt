@@ -1,22 +1,23 @@
 -- What the calls ask and give (own).
-use Rattle.std.specs.Prelude.{◌≡◌, ℕ, ◌+◌, ◌-◌, ◌^◌, ◌<◌, ◌≤◌, List, [], ◌∷◌, ◌++◌, length, Option, None, Some, vec_len}
+use Rattle.std.specs.Prelude.{◌≡◌, Bool, true, false, Contains, ℕ, ◌+◌, ◌-◌, ◌^◌, ◌<◌, ◌≤◌, List, [], ◌∷◌, ◌++◌, length, Option, None, Some, vec_len}
 use Rattle.std.specs.List.{slice_get}
 use Rattle.atomic_table.specs.Seated.{TableId}
-use Rattle.cell_core.specs.Words.{slots, slot_of}
+use Rattle.cell_core.specs.Words.{slots, notes, slot_of}
 use Rattle.cell_core.specs.declared.words.Publisher.TheVariants.{Probing, Preparing, Swapping, Settling}
 use Rattle.counted_handles.specs.declared.rule.Spots.{Spots}
 use Rattle.counted_handles.specs.declared.view.Mark.{Mark}
+use Rattle.counted_handles.specs.declared.view.Tie.{Tie}
 use Rattle.counted_handles.specs.declared.view.Publishing.{Publishing}
 use Rattle.counted_handles.specs.declared.view.Reading.{Reading}
 use Rattle.counted_handles.specs.declared.view.View.{View}
-use Rattle.counted_handles.specs.declared.view.View.TheVariants.{Began, Publishes, Reads, Has, Frees, Ends}
+use Rattle.counted_handles.specs.declared.view.View.TheVariants.{Began, Publishes, Reads, Has, HasWeakly, Fades, Ends}
 use Rattle.raw_slots.specs.Places.{Stake}
 use Rattle.cell_core.specs.declared.words.Version.{Version}
 use Rattle.counted_handles.specs.History.{IsHistory}
 use Rattle.counted_handles.specs.Shown.{Room}
 use Rattle.counted_handles.specs.Ruled.{RoomSpot, Begins, stake_of, mark_of, version_of, first_version}
-use Rattle.counted_handles.specs.Cuts.{reader_of}
-use Rattle.counted_handles.specs.Tells.{Sat, IsLastMark, IsOlder}
+use Rattle.counted_handles.specs.Cuts.{met_by}
+use Rattle.counted_handles.specs.Tells.{Sat, IsLastMark, IsOlder, IsOfTie, tie_of, with_gone}
 
 -- a table of the cell's size: W, with two words a slot (own)
 abbrev pub Fits : TableId → Type 0
@@ -104,7 +105,14 @@ pub record IsNewest {T : Type 0} (begins : T → Type 0) (follows : T → T → 
   pub last : IsLastMark begins follows p.published p.name found mark
   pub me_is : me ≡ (Publishes (gave_back p), [])
   pub share_is : share ≡ (Has mark, [])
-  pub reader_is : reader ≡ (reader_of p (r.left - 1), [])
+  pub reader_is : reader ≡ (met_by p r.gone (r.left - 1), [])
+  pub begun : Begins r.seen p.published
+
+-- what the publisher's look for a reader leaves that it took in: its own seat, and the reader's, which has seen all that is published, of
+-- which it had seen a beginning (own)
+pub record IsGreeted {T : Type 0} (p : Publishing T) (r : Reading T) (me reader : Sat T) : Type 0 where
+  pub me_is : me ≡ (Publishes (gave_back p), [])
+  pub reader_is : reader ≡ (met_by p r.gone r.left, [])
   pub begun : Begins r.seen p.published
 
 -- the first seat has slot 0's place, with the first version in it, shared: it is to be given back (own)
@@ -123,7 +131,7 @@ pub record IsOut {T : Type 0} (begins : T → Type 0) (follows : T → T → Typ
   pub spot : RoomSpot T
   pub room : Room T
   pub mark : Mark T
-  pub me_is : me ≡ (Frees slot spot, (slot, room) ∷ [])
+  pub me_is : me ≡ (Fades slot spot, (slot, room) ∷ [])
   pub lies : room.at ≡ spot.at
   pub version : room.value ≡ Some (version_of mark)
   pub whole : room.stake ≡ []
@@ -149,20 +157,10 @@ pub record IsLoaded {T : Type 0} (begins : T → Type 0) (follows : T → T → 
 pub record IsEmptied {T : Type 0} (slot : ℕ) (me : Sat T) : Type 0 where
   pub spot : RoomSpot T
   pub room : Room T
-  pub me_is : me ≡ (Frees slot spot, (slot, room) ∷ [])
+  pub me_is : me ≡ (Fades slot spot, (slot, room) ∷ [])
   pub lies : room.at ≡ spot.at
   pub empty : room.value ≡ None
   pub whole : room.stake ≡ []
-
--- an owner: the version is held, for a share of its slot at this table (own)
-pub record IsOwner {T : Type 0} (id : TableId) (stake : Stake (View T)) (value : Option (Version T)) (slot : ℕ) (version : Version T) : Type 0 where
-  pub mark : Mark T
-  pub stake_is : stake ≡ stake_of mark
-  pub held_is : value ≡ Some version
-  pub slot_is : mark.slot ≡ slot
-  pub name_is : mark.name ≡ id.views_name
-  pub within : slot < slots
-  pub fits : Fits id
 
 -- what a load gives its caller: an owner of the version published last, and the reader has seen all that is published (own)
 pub record IsOwned {T : Type 0} (begins : T → Type 0) (follows : T → T → Type 0) (reading : Reading T) (views : List (View T)) (version : Version T) : Type 0 where
@@ -198,8 +196,18 @@ IsAtRest p views = (views ≡ Publishes p ∷ []) × (p.share ≡ None) × (p.le
 pub record IsOwnLast {T : Type 0} (p : Publishing T) (r : Reading T) (views reader : List (View T)) (version : Version T) : Type 0 where
   pub last : IsOld p version
   pub views_are : views ≡ Publishes (gave_back p) ∷ []
-  pub reader_is : reader ≡ reader_of p (r.left - 1) ∷ []
+  pub reader_is : reader ≡ met_by p r.gone (r.left - 1) ∷ []
   pub begun : Begins r.seen p.published
+
+-- what such a look gives its caller: the reader has seen all that is published, of which it had seen a beginning (own)
+pub record HasMet {T : Type 0} (p : Publishing T) (r : Reading T) (views reader : List (View T)) : Type 0 where
+  pub views_are : views ≡ Publishes (gave_back p) ∷ []
+  pub reader_is : reader ≡ met_by p r.gone r.left ∷ []
+  pub begun : Begins r.seen p.published
+
+-- a reader's token with no share that isn't split off (own)
+abbrev pub CanMeet : {T : Type 0} → Reading T → List (View T) → Type 0
+CanMeet r views = (views ≡ Reads r ∷ []) × (r.share ≡ None)
 
 -- the publisher with a reader that it took in last, and others before it (own)
 pub record IsHost {T : Type 0} (p : Publishing T) (r : Reading T) (rest : List (Reading T)) (views : List (View T)) : Type 0 where
@@ -256,3 +264,51 @@ pub record IsVacant {T : Type 0} (slot : ℕ) (me : Sat T) : Type 0 where
   pub me_is : me ≡ (Ends slot spot, (slot, room) ∷ [])
   pub lies : room.at ≡ spot.at
   pub whole : room.stake ≡ []
+
+-- a reader's seat with no share that isn't split off (own)
+abbrev pub IsWhole : {T : Type 0} → Reading T → Sat T → Type 0
+IsWhole r me = (me ≡ (Reads r, [])) × (r.share ≡ None)
+
+-- a reader with a grant less (own)
+abbrev pub with_grant_less : {T : Type 0} → Reading T → Reading T
+with_grant_less r = record r { left = r.left - 1 }
+
+-- a clone: the reader with a grant less, and two seats of owners of the version, each with a share (own)
+abbrev pub IsCloned : {T : Type 0} → Reading T → Mark T → Sat T → Sat T → Sat T → Type 0
+IsCloned r mark me share owner = (me ≡ (Reads (with_grant_less r), [])) × (share ≡ (Has mark, [])) × (owner ≡ (Has mark, []))
+
+-- an owner's version is there still: it isn't one of those that the reader has seen buried (own)
+abbrev pub IsFound : {T : Type 0} → Reading T → Mark T → Sat T → Sat T → Type 0
+IsFound r mark me owner = (me ≡ (Reads r, [])) × (owner ≡ (Has mark, [])) × (Contains r.gone mark.number → ⊥)
+
+-- an upgrade that gives a share of the weak owner's version, for a grant (own)
+pub record IsLifted {T : Type 0} (r : Reading T) (tie : Tie T) (me share : Sat T) : Type 0 where
+  pub mark : Mark T
+  pub of : IsOfTie tie mark
+  pub share_is : share ≡ (Has mark, [])
+  pub me_is : me ≡ (Reads (with_grant_less r), [])
+
+-- the reader as an upgrade leaves it that gives none: it has seen the number buried, and has a grant less where the upgrade raised (own)
+abbrev pub sunk_by : {T : Type 0} → Reading T → ℕ → Bool → Reading T
+sunk_by r number true = with_gone number (with_grant_less r)
+sunk_by r number false = with_gone number r
+
+-- a note: the publisher has made one weak owner more, and two seats, of the owner and of a weak owner of its version (own)
+abbrev pub IsNoted : {T : Type 0} → Publishing T → Mark T → Sat T → Sat T → Sat T → Type 0
+IsNoted p mark me owner weak =
+    (me ≡ (Publishes (record p { noted = p.noted + 1; fixed = None }), [])) × (owner ≡ (Has mark, [])) × (weak ≡ (HasWeakly (tie_of mark), []))
+
+-- the publisher's token with no share that isn't split off, which may note once more (own)
+abbrev pub CanNote : {T : Type 0} → Publishing T → List (View T) → Type 0
+CanNote p views = (views ≡ Publishes p ∷ []) × (p.share ≡ None) × (p.noted < notes)
+
+-- the publisher that has made one weak owner more (own)
+abbrev pub with_note : {T : Type 0} → Publishing T → Publishing T
+with_note p = record p { noted = p.noted + 1; fixed = None }
+
+-- a load by the publisher with a note: what it gives its caller, beside the owners (own)
+pub record IsNewestNoted {T : Type 0} (p : Publishing T) (r : Reading T) (views reader : List (View T)) (version : Version T) : Type 0 where
+  pub last : IsOld p version
+  pub views_are : views ≡ Publishes (record (gave_back p) { noted = p.noted + 1 }) ∷ []
+  pub reader_is : reader ≡ met_by p r.gone (r.left - 1) ∷ []
+  pub begun : Begins r.seen p.published

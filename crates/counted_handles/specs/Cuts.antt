@@ -3,13 +3,23 @@ use Rattle.std.specs.Prelude.{ℕ, ◌+◌, ◌-◌, ◌^◌, List, [], ◌∷�
 use Rattle.counted_handles.specs.declared.view.Mark.{Mark}
 use Rattle.counted_handles.specs.declared.view.Publishing.{Publishing}
 use Rattle.counted_handles.specs.declared.view.Reading.{Reading}
+use Rattle.counted_handles.specs.declared.view.Hold.{Hold}
+use Rattle.counted_handles.specs.declared.view.Hold.TheVariants.{Once, Double, Loose, Mixed}
 use Rattle.counted_handles.specs.declared.view.View.{View}
-use Rattle.counted_handles.specs.declared.view.View.TheVariants.{Publishes, Reads, Has, Gone}
+use Rattle.counted_handles.specs.declared.view.View.TheVariants.{Publishes, Reads, Hosts, Has, HasWeakly, Gone}
 
 -- the owner of a share; none is spent (own)
 abbrev pub owner_view : {T : Type 0} → Option (Mark T) → View T
 owner_view None = Gone
 owner_view (Some mark) = Has mark
+
+-- the owner of a share that is alone (own)
+abbrev pub once_view : {T : Type 0} → Option (Hold T) → View T
+once_view None = Gone
+once_view (Some (Once mark)) = Has mark
+once_view (Some (Double mark)) = Gone
+once_view (Some (Loose tie)) = Gone
+once_view (Some (Mixed mark tie)) = Gone
 
 -- a share goes to a seat of its own: what the reader or the publisher keeps, and what the new seat has (own)
 abbrev pub kept_share : {T : Type 0} → View T → View T
@@ -19,12 +29,21 @@ kept_share view = view
 
 abbrev pub given_share : {T : Type 0} → View T → View T
 given_share (Reads r) = owner_view r.share
-given_share (Publishes p) = owner_view p.share
+given_share (Publishes p) = once_view p.share
 given_share view = Gone
 
 -- a reader with so many of the publisher's grants, which has seen all that is published (own)
 abbrev pub reader_of : {T : Type 0} → Publishing T → ℕ → View T
-reader_of p n = Reads (record { seen = p.published; share = None; left = n; name = p.name })
+reader_of p n = Reads (record { seen = p.published; share = None; left = n; gone = []; name = p.name })
+
+-- the same, with what a reader that the publisher took in has seen buried (own)
+abbrev pub met_by : {T : Type 0} → Publishing T → List ℕ → ℕ → View T
+met_by p gone n = Reads (record { seen = p.published; share = None; left = n; gone = gone; name = p.name })
+
+-- what the reader taken in last has seen buried (own)
+abbrev pub gone_of : {T : Type 0} → List (Reading T) → List ℕ
+gone_of [] = []
+gone_of (r ∷ rest) = r.gone
 
 -- the publisher without these grants, and with one reader more (own)
 abbrev pub with_reader : {T : Type 0} → Publishing T → ℕ → Publishing T
@@ -86,3 +105,78 @@ kept_dealt view = view
 abbrev pub dealt : {T : Type 0} → View T → View T
 dealt (Publishes p) = reader_of p dealt_grants
 dealt view = Gone
+
+-- what the reader has that is given back so (own)
+abbrev pub handed_met : {T : Type 0} → View T → View T
+handed_met (Publishes p) = met_by p (gone_of p.guests) p.left
+handed_met view = Gone
+
+-- a reader takes an owner in, weak or strong (own)
+abbrev pub hosting : {T : Type 0} → View T → View T → View T
+hosting (Reads r) (Has mark) = Hosts r (Once mark)
+hosting (Reads r) (HasWeakly tie) = Hosts r (Loose tie)
+hosting view guest = view
+
+-- what it has gained goes off: what it keeps, and what the new seat has (own)
+abbrev pub less : {T : Type 0} → Hold T → Hold T
+less (Once mark) = Once mark
+less (Double mark) = Once mark
+less (Loose tie) = Loose tie
+less (Mixed mark tie) = Loose tie
+
+abbrev pub gained : {T : Type 0} → Hold T → View T
+gained (Once mark) = Gone
+gained (Double mark) = Has mark
+gained (Loose tie) = Gone
+gained (Mixed mark tie) = Has mark
+
+abbrev pub kept_gain : {T : Type 0} → View T → View T
+kept_gain (Hosts r hold) = Hosts r (less hold)
+kept_gain view = view
+
+abbrev pub given_gain : {T : Type 0} → View T → View T
+given_gain (Hosts r hold) = gained hold
+given_gain view = Gone
+
+-- the owner that it has taken in goes off again (own)
+abbrev pub lone_view : {T : Type 0} → Hold T → View T
+lone_view (Once mark) = Has mark
+lone_view (Double mark) = Gone
+lone_view (Loose tie) = HasWeakly tie
+lone_view (Mixed mark tie) = Gone
+
+abbrev pub kept_reader : {T : Type 0} → View T → View T
+kept_reader (Hosts r hold) = Reads r
+kept_reader view = view
+
+abbrev pub given_owner : {T : Type 0} → View T → View T
+given_owner (Hosts r hold) = lone_view hold
+given_owner view = Gone
+
+-- the publisher takes an owner in (own)
+abbrev pub sharing : {T : Type 0} → View T → View T → View T
+sharing (Publishes p) (Has mark) = Publishes (record p { share = Some (Once mark) })
+sharing view guest = view
+
+-- a weak owner goes off the publisher: what it keeps, and what the weak owner's seat has (own)
+abbrev pub untied : {T : Type 0} → Option (Hold T) → Option (Hold T)
+untied None = None
+untied (Some (Once mark)) = Some (Once mark)
+untied (Some (Double mark)) = Some (Double mark)
+untied (Some (Loose tie)) = Some (Loose tie)
+untied (Some (Mixed mark tie)) = Some (Once mark)
+
+abbrev pub tie_view : {T : Type 0} → Option (Hold T) → View T
+tie_view None = Gone
+tie_view (Some (Once mark)) = Gone
+tie_view (Some (Double mark)) = Gone
+tie_view (Some (Loose tie)) = Gone
+tie_view (Some (Mixed mark tie)) = HasWeakly tie
+
+abbrev pub kept_untied : {T : Type 0} → View T → View T
+kept_untied (Publishes p) = Publishes (record p { share = untied p.share })
+kept_untied view = view
+
+abbrev pub given_tie : {T : Type 0} → View T → View T
+given_tie (Publishes p) = tie_view p.share
+given_tie view = Gone

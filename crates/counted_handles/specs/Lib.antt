@@ -7,3 +7,5 @@ pub mod Opens
 pub mod Plays
 pub mod Calls
 pub mod Releases
+pub mod Owned
+pub mod Lapses

@@ -3,10 +3,13 @@ use Rattle.std.specs.Prelude.{◌≡◌, ℕ, [], ◌∷◌, length, Option, Som
 use Rattle.cell_core.specs.declared.words.Publisher.{Publisher}
 use Rattle.cell_core.specs.declared.words.Publisher.TheVariants.{Probing, Preparing, Swapping, Settling}
 use Rattle.counted_handles.specs.declared.view.Publishing.{Publishing}
+use Rattle.counted_handles.specs.declared.view.Reading.{Reading}
+use Rattle.counted_handles.specs.declared.view.Hold.{Hold}
+use Rattle.counted_handles.specs.declared.view.Hold.TheVariants.{Once, Double, Loose, Mixed}
 use Rattle.counted_handles.specs.declared.view.View.{View}
-use Rattle.counted_handles.specs.declared.view.View.TheVariants.{Begin, Began, Publishes, Reads, Has, Buries, Frees, Ends}
+use Rattle.counted_handles.specs.declared.view.View.TheVariants.{Begin, Began, Publishes, Reads, Hosts, Has, HasWeakly, Buries, Fades, Resets, Frees, Ends}
 use Rattle.counted_handles.specs.Ruled.{stake_of, mark_of, first_version}
-use Rattle.counted_handles.specs.Tells.{Sat, Loaded, Newest, Released, Tried, Freed, Probed, Prepared, Swapped, IsSettled, Looked, Swept, Skipped, EndsAt, Shut, IsOpened, Offered}
+use Rattle.counted_handles.specs.Tells.{Sat, Loaded, Newest, Greeted, Released, Tried, Faded, Restored, Freed, Noted, Cloned, Lifted, SeenBy, SeenAlive, Probed, Prepared, Swapped, IsSettled, Looked, Swept, Skipped, EndsAt, Shut, IsOpened, Offered}
 
 -- load (own)
 abbrev pub LoadTells : {T : Type 0} → (T → Type 0) → (T → T → Type 0) → View T → ℕ → Sat T → Type 0
@@ -18,6 +21,11 @@ abbrev pub NewestTells : {T : Type 0} → (T → Type 0) → (T → T → Type 0
 NewestTells begins follows (Publishes p) found me = Newest begins follows p found me
 NewestTells begins follows view found me = ⊥
 
+-- greet (own)
+abbrev pub GreetTells : {T : Type 0} → View T → Sat T → Type 0
+GreetTells (Publishes p) me = Greeted p me
+GreetTells view me = ⊥
+
 -- release (own)
 abbrev pub ReleaseTells : {T : Type 0} → View T → ℕ → Sat T → Type 0
 ReleaseTells (Has mark) found me = Released mark found me
@@ -28,9 +36,20 @@ abbrev pub BuryTells : {T : Type 0} → (T → Type 0) → (T → T → Type 0) 
 BuryTells begins follows (Buries slot name) found me = Tried begins follows slot name found me
 BuryTells begins follows view found me = ⊥
 
+-- fade (own)
+abbrev pub FadeTells : {T : Type 0} → View T → ℕ → Sat T → Type 0
+FadeTells (Fades slot spot) found me = Faded slot found me
+FadeTells (HasWeakly tie) found me = Faded tie.slot found me
+FadeTells view found me = ⊥
+
+-- reset (own)
+abbrev pub ResetTells : {T : Type 0} → View T → Sat T → Type 0
+ResetTells (Resets slot) me = Restored slot me
+ResetTells view me = ⊥
+
 -- free (own)
 abbrev pub FreeTells : {T : Type 0} → View T → Sat T → Type 0
-FreeTells (Frees slot spot) me = Freed me
+FreeTells (Frees slot) me = Freed me
 FreeTells view me = ⊥
 
 -- probe, of the slot that is due (own)
@@ -70,14 +89,14 @@ abbrev pub LookTells : {T : Type 0} → View T → ℕ → Sat T → Type 0
 LookTells (Publishes p) found me = Looked p found me
 LookTells view found me = ⊥
 
--- looks at S while no reader is about (own)
+-- looks at S, and at K of the slot in W, while no reader is about (own)
 abbrev pub SweepTells : {T : Type 0} → View T → ℕ → Sat T → Type 0
 SweepTells (Publishes p) found me = Swept p found me
 SweepTells view found me = ⊥
 
-abbrev pub SkipTells : {T : Type 0} → View T → Sat T → Type 0
-SkipTells (Publishes p) me = Skipped p me
-SkipTells view me = ⊥
+abbrev pub SkipTells : {T : Type 0} → View T → ℕ → Sat T → Type 0
+SkipTells (Publishes p) found me = Skipped p found me
+SkipTells view found me = ⊥
 
 -- the look at S by which a cell ends, of the slot in W as the publisher saw it (own)
 abbrev pub EndOf : {T : Type 0} → Publishing T → Option ℕ → ℕ → Sat T → Type 0
@@ -104,3 +123,37 @@ OfferTells {T} (Began spot, (slot, room) ∷ []) me =
     (value : T) × (name : ℕ) × (life : ℕ) × (tally : ℕ) × (room.value ≡ Some (first_version value))
     × (room.stake ≡ stake_of (mark_of name 0 (first_version value) life tally) ∷ []) × Offered value name spot me
 OfferTells before me = ⊥
+
+-- note, of the version that the publisher has a share of (own)
+abbrev pub NoteOf : {T : Type 0} → Publishing T → Option (Hold T) → Sat T → Type 0
+NoteOf p (Some (Once mark)) me = Noted p mark me
+NoteOf p (Some (Double mark)) me = ⊥
+NoteOf p (Some (Loose tie)) me = ⊥
+NoteOf p (Some (Mixed mark tie)) me = ⊥
+NoteOf p None me = ⊥
+
+abbrev pub NoteTells : {T : Type 0} → View T → Sat T → Type 0
+NoteTells (Publishes p) me = NoteOf p p.share me
+NoteTells view me = ⊥
+
+-- raise, of what a reader has taken in (own)
+abbrev pub RaiseOf : {T : Type 0} → Reading T → Hold T → ℕ → Sat T → Type 0
+RaiseOf r (Once mark) found me = Cloned r mark me
+RaiseOf r (Loose tie) found me = Lifted r tie found me
+RaiseOf r (Double mark) found me = ⊥
+RaiseOf r (Mixed mark tie) found me = ⊥
+
+abbrev pub RaiseTells : {T : Type 0} → View T → ℕ → Sat T → Type 0
+RaiseTells (Hosts r hold) found me = RaiseOf r hold found me
+RaiseTells view found me = ⊥
+
+-- look, of what a reader has taken in (own)
+abbrev pub SeeOf : {T : Type 0} → Reading T → Hold T → ℕ → Sat T → Type 0
+SeeOf r (Once mark) found me = SeenAlive r mark me
+SeeOf r (Loose tie) found me = SeenBy r tie found me
+SeeOf r (Double mark) found me = ⊥
+SeeOf r (Mixed mark tie) found me = ⊥
+
+abbrev pub SeeTells : {T : Type 0} → View T → ℕ → Sat T → Type 0
+SeeTells (Hosts r hold) found me = SeeOf r hold found me
+SeeTells view found me = ⊥

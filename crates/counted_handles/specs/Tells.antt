@@ -1,15 +1,17 @@
 -- What each step tells the seat that makes it (own).
-use Rattle.std.specs.Prelude.{◌≡◌, ℕ, ◌+◌, ◌-◌, ◌<◌, List, [], ◌∷◌, length, ◌==◌, Some, None, MatchBool, if◌then◌else◌, ◌++◌, Option}
+use Rattle.std.specs.Prelude.{◌≡◌, ℕ, ◌+◌, ◌-◌, ◌<◌, ◌≤◌, Contains, List, [], ◌∷◌, length, ◌==◌, Some, None, MatchBool, if◌then◌else◌, ◌++◌, Option}
 use Rattle.std.specs.List.{slice_get}
 use Rattle.atomic_table.specs.Table.{Me}
-use Rattle.cell_core.specs.Words.{slots, grants, bulk, slot_of, given_of, free_word}
+use Rattle.cell_core.specs.Words.{slots, grants, bulk, slot_of, given_of, free_word, dead_word}
 use Rattle.cell_core.specs.declared.words.Version.{Version}
 use Rattle.cell_core.specs.declared.words.Publisher.TheVariants.{Probing, Preparing, Swapping, Settling}
 use Rattle.counted_handles.specs.declared.view.Mark.{Mark}
 use Rattle.counted_handles.specs.declared.view.Reading.{Reading}
 use Rattle.counted_handles.specs.declared.view.Publishing.{Publishing}
+use Rattle.counted_handles.specs.declared.view.Tie.{Tie}
+use Rattle.counted_handles.specs.declared.view.Hold.TheVariants.{Once, Double, Loose, Mixed}
 use Rattle.counted_handles.specs.declared.view.View.{View}
-use Rattle.counted_handles.specs.declared.view.View.TheVariants.{Begin, Began, Publishes, Reads, Has, Buries, Frees, Ends, Gone}
+use Rattle.counted_handles.specs.declared.view.View.TheVariants.{Begin, Began, Publishes, Reads, Hosts, Has, HasWeakly, Buries, Fades, Resets, Frees, Ends, Gone}
 use Rattle.raw_slots.specs.Places.{Stake}
 use Rattle.counted_handles.specs.History.{IsHistory}
 use Rattle.counted_handles.specs.Shown.{Room}
@@ -46,13 +48,12 @@ pub record IsOlder {T : Type 0} (begins : T → Type 0) (follows : T → T → T
   pub value_is : slice_get published version.number ≡ Some version.value
   pub older : version.number + 1 < length published
 
--- a bury that won: the owner has the slot's place, with the version that lay there, which isn't the last, and is to free the
--- slot (own)
+-- a bury that won: the owner has the slot's place, with the version that lay there, which isn't the last, and is to fade (own)
 pub record IsWon {T : Type 0} (begins : T → Type 0) (follows : T → T → Type 0) (slot name : ℕ) (me : Sat T) : Type 0 where
   pub spot : RoomSpot T
   pub room : Room T
   pub mark : Mark T
-  pub me_is : me ≡ (Frees slot spot, (slot, room) ∷ [])
+  pub me_is : me ≡ (Fades slot spot, (slot, room) ∷ [])
   pub lies : room.at ≡ spot.at
   pub version : room.value ≡ Some (version_of mark)
   pub stake : room.stake ≡ stake_of mark ∷ []
@@ -63,6 +64,14 @@ pub record IsWon {T : Type 0} (begins : T → Type 0) (follows : T → T → Typ
 -- bury: it wins where S was 0 (own)
 abbrev pub Tried : {T : Type 0} → (T → Type 0) → (T → T → Type 0) → ℕ → ℕ → ℕ → Sat T → Type 0
 Tried begins follows slot name found me = MatchBool (found == 0) (IsWon begins follows slot name me) (me ≡ (Gone, []))
+
+-- fade, of who buried a version: K counted it; where K was 1 a reset is due, else the owner has made all its steps (own)
+abbrev pub Faded : {T : Type 0} → ℕ → ℕ → Sat T → Type 0
+Faded slot found me = (0 < found) × MatchBool (found == 1) (me ≡ (Resets slot, [])) (me ≡ (Gone, []))
+
+-- reset: a free is due (own)
+abbrev pub Restored : {T : Type 0} → ℕ → Sat T → Type 0
+Restored slot me = me ≡ (Frees slot, [])
 
 -- free: the owner has made all its steps (own)
 abbrev pub Freed : {T : Type 0} → Sat T → Type 0
@@ -98,7 +107,7 @@ Swapped p value found me =
 -- settle: the publisher has a share of the version before (own)
 pub record IsSettled {T : Type 0} (p : Publishing T) (number slot : ℕ) (me : Sat T) : Type 0 where
   pub mark : Mark T
-  pub me_is : me ≡ (Publishes (record p { how = Probing 0; share = Some mark }), [])
+  pub me_is : me ≡ (Publishes (record p { how = Probing 0; share = Some (Once mark) }), [])
   pub number_is : mark.number ≡ number
   pub slot_is : mark.slot ≡ slot
   pub within : slot < slots
@@ -109,9 +118,54 @@ pub record IsSettled {T : Type 0} (p : Publishing T) (number slot : ℕ) (me : S
 abbrev pub Newest : {T : Type 0} → (T → Type 0) → (T → T → Type 0) → Publishing T → ℕ → Sat T → Type 0
 Newest {T} begins follows p found me =
     (mark : Mark T)
-    × (me ≡ (Publishes (record p { share = Some mark; left = p.left - 1; fixed = None }), []))
+    × (me ≡ (Publishes (record p { share = Some (Once mark); left = p.left - 1; fixed = None }), []))
     × IsLastMark begins follows p.published p.name found mark
     × AreGuests p.name p.published p.guests
+
+-- greet: a look by the publisher, which costs no grant: the readers that it has taken in had seen beginnings of what is published (own)
+abbrev pub Greeted : {T : Type 0} → Publishing T → Sat T → Type 0
+Greeted p me = (me ≡ (Publishes (record p { fixed = None }), [])) × AreGuests p.name p.published p.guests
+
+-- the weak owner of a share's version (own)
+abbrev pub tie_of : {T : Type 0} → Mark T → Tie T
+tie_of mark = record { number = mark.number; slot = mark.slot; value = mark.value; name = mark.name }
+
+-- note: the publisher has the version weakly, too, of which it has a share, and has made one weak owner more (own)
+abbrev pub Noted : {T : Type 0} → Publishing T → Mark T → Sat T → Type 0
+Noted p mark me = me ≡ (Publishes (record p { share = Some (Mixed mark (tie_of mark)); noted = p.noted + 1; fixed = None }), [])
+
+-- a reader that has seen one number more buried (own)
+abbrev pub with_gone : {T : Type 0} → ℕ → Reading T → Reading T
+with_gone number r = record r { gone = number ∷ r.gone }
+
+-- raise, of an owner that a reader has taken in: it has another share of its version, for a grant (own)
+abbrev pub Cloned : {T : Type 0} → Reading T → Mark T → Sat T → Type 0
+Cloned r mark me = me ≡ (Hosts (record r { left = r.left - 1 }) (Double mark), [])
+
+-- a share is of a weak owner's version (own)
+pub record IsOfTie {T : Type 0} (tie : Tie T) (mark : Mark T) : Type 0 where
+  pub number_is : mark.number ≡ tie.number
+  pub slot_is : mark.slot ≡ tie.slot
+  pub value_is : mark.value ≡ tie.value
+  pub name_is : mark.name ≡ tie.name
+  pub within : mark.slot < slots
+
+-- raise, of a weak owner that a reader has taken in, for a grant: it has a share of its version where S was less than DEAD; else the
+-- version is buried (own)
+abbrev pub Lifted : {T : Type 0} → Reading T → Tie T → ℕ → Sat T → Type 0
+Lifted {T} r tie found me =
+    (found < dead_word → (mark : Mark T) × IsOfTie tie mark × (me ≡ (Hosts (record r { left = r.left - 1 }) (Mixed mark tie), [])))
+    × (dead_word ≤ found → me ≡ (Hosts (with_gone tie.number (record r { left = r.left - 1 })) (Loose tie), []))
+
+-- look, of a weak owner that a reader has taken in: where S is DEAD or more its version is buried (own)
+abbrev pub SeenBy : {T : Type 0} → Reading T → Tie T → ℕ → Sat T → Type 0
+SeenBy r tie found me =
+    (found < dead_word → me ≡ (Hosts r (Loose tie), []))
+    × (dead_word ≤ found → me ≡ (Hosts (with_gone tie.number r) (Loose tie), []))
+
+-- look, of an owner that a reader has taken in: its version isn't buried (own)
+abbrev pub SeenAlive : {T : Type 0} → Reading T → Mark T → Sat T → Type 0
+SeenAlive r mark me = (me ≡ (Hosts r (Once mark), [])) × (Contains r.gone mark.number → ⊥)
 
 -- a look at W while no reader is about (own)
 abbrev pub Looked : {T : Type 0} → Publishing T → ℕ → Sat T → Type 0
@@ -121,9 +175,9 @@ Looked p found me = (slot_of found < slots) × (me ≡ (Publishes (record p { fi
 abbrev pub Swept : {T : Type 0} → Publishing T → ℕ → Sat T → Type 0
 Swept p found me = MatchBool (found == free_word) (me ≡ (Publishes (record p { swept = p.swept + 1 }), [])) (me ≡ (Publishes p, []))
 
--- the slot in W counts (own)
-abbrev pub Skipped : {T : Type 0} → Publishing T → Sat T → Type 0
-Skipped p me = me ≡ (Publishes (record p { swept = p.swept + 1 }), [])
+-- a look at K of the slot in W: it counts where it has no weak owner (own)
+abbrev pub Skipped : {T : Type 0} → Publishing T → ℕ → Sat T → Type 0
+Skipped p found me = MatchBool (found == 1) (me ≡ (Publishes (record p { swept = p.swept + 1 }), [])) (me ≡ (Publishes p, []))
 
 -- the cell's end: the first seat has the place of the last version, of which nobody has a share (own)
 pub record IsEnding {T : Type 0} (p : Publishing T) (slot : ℕ) (me : Sat T) : Type 0 where
@@ -159,7 +213,7 @@ pub record IsOpened {T : Type 0} (value : T) (me : Sat T) : Type 0 where
 -- the publisher of a new cell, with all grants (own)
 abbrev pub opener : {T : Type 0} → T → ℕ → RoomSpot T → Publishing T
 opener value name spot =
-    record { published = value ∷ []; how = Probing 0; next = None; share = None; left = grants; readers = 0; fixed = None; swept = 0; guests = []; name = name; spot = spot }
+    record { published = value ∷ []; how = Probing 0; next = None; share = None; left = grants; noted = 0; readers = 0; fixed = None; swept = 0; guests = []; name = name; spot = spot }
 
 -- the second look at W: the first value is published (own)
 abbrev pub Offered : {T : Type 0} → T → ℕ → RoomSpot T → Sat T → Type 0
@@ -172,7 +226,11 @@ IsClaimed (Begin first) stake value = ⊥
 IsClaimed (Began spot) stake value = ⊥
 IsClaimed (Publishes p) stake value = ⊥
 IsClaimed (Reads r) stake value = ⊥
+IsClaimed (Hosts r hold) stake value = ⊥
 IsClaimed (Buries slot name) stake value = ⊥
-IsClaimed (Frees slot spot) stake value = ⊥
+IsClaimed (HasWeakly tie) stake value = ⊥
+IsClaimed (Fades slot spot) stake value = ⊥
+IsClaimed (Resets slot) stake value = ⊥
+IsClaimed (Frees slot) stake value = ⊥
 IsClaimed (Ends slot spot) stake value = ⊥
 IsClaimed Gone stake value = ⊥

@@ -4,12 +4,12 @@ ghost use Rattle.cell_core.specs.Words.{slots};
 ghost use Rattle.cell_core.specs.declared.words.Publisher.TheVariants.{Preparing, Swapping, Settling};
 ghost use Rattle.counted_handles.specs.declared.view.Mark.{Mark};
 ghost use Rattle.counted_handles.specs.declared.view.Publishing.{Publishing};
-ghost use Rattle.counted_handles.specs.declared.view.View.TheVariants.{Begin, Publishes, Has, Buries, Frees, Gone};
+ghost use Rattle.counted_handles.specs.declared.view.View.TheVariants.{Begin, Publishes, Has, Buries, Fades, Resets, Frees, Gone};
 ghost use Rattle.counted_handles.specs.Ruled.{RoomSpot, stake_of, mark_of, version_of};
 ghost use Rattle.counted_handles.specs.Shown.{Room};
-ghost use Rattle.counted_handles.specs.Tells.{IsTaken, Released, Tried, IsSettled, Swapped, Prepared, Looked, IsOpened, Offered};
+ghost use Rattle.counted_handles.specs.Tells.{IsTaken, Released, Tried, Faded, IsSettled, Swapped, Prepared, Looked, IsOpened, Offered};
 ghost use Rattle.counted_handles.specs.declared.view.Reading.{Reading};
-ghost use Rattle.counted_handles.specs.Calls.{CanRead, Fits, AreSpots, Drawn, IsProbing, IsReady, IsSwapping, IsSettling, IsSwappedIn, IsIdle, IsGuest, IsNewest, IsOffering, IsLoaded};
+ghost use Rattle.counted_handles.specs.Calls.{CanRead, Fits, AreSpots, Drawn, IsProbing, IsReady, IsSwapping, IsSettling, IsSwappedIn, IsIdle, IsGuest, IsWhole, IsNewest, IsGreeted, IsOffering, IsLoaded};
 
 use crate::names::Names;
 use crate::plays;
@@ -82,14 +82,41 @@ pub(crate) fn bury<T, C: Names<T>>(
     words.compare_exchange::<plays::Buries<C>>(seat, slot + slot + 1, 0, DEAD)
 }
 
-// A free: the seat gives the slot's place back, whole and empty.
+// A fade: the seat gives the slot's place back, whole and empty. It gives K as it was: where that is 1 nobody else is left.
+pub(crate) fn fade<T, C: Names<T>>(
+    words: &Words<T, C>,
+    seat: &mut Seat<Room<T>, View<T>>,
+    slot: usize,
+) -> u64
+    requires fits { Fits words.now.table_id × (seat.old.table_id ≡ words.now.table_id) }
+    requires whole { (spot : RoomSpot T) × (room : Room T) × (seat.old.me ≡ (Fades slot spot, (slot, room) ∷ [])) × (slot < slots) × (room.at ≡ spot.at) × (room.value ≡ None) × (room.stake ≡ []) }
+    ensures seat { (seat.new.table_id ≡ seat.old.table_id) × (seat.new.id ≡ seat.old.id) }
+    ensures faded { Faded slot result seat.new.me }
+{
+    words.fetch_sub::<plays::Fades>(seat, slot + slot + 2, 1)
+}
+
+// A reset: K of a slot that nobody else has is 1 again.
+pub(crate) fn reset<T, C: Names<T>>(
+    words: &Words<T, C>,
+    seat: &mut Seat<Room<T>, View<T>>,
+    slot: usize,
+)
+    requires fits { Fits words.now.table_id × (seat.old.table_id ≡ words.now.table_id) }
+    requires due { (seat.old.me ≡ (Resets slot, [])) × (slot < slots) }
+    ensures seat { (seat.new.table_id ≡ seat.old.table_id) × (seat.new.id ≡ seat.old.id) × (seat.new.me ≡ (Frees slot, [])) }
+{
+    words.store::<plays::Resets>(seat, slot + slot + 2, 1);
+}
+
+// A free: the slot may be used again.
 pub(crate) fn free<T, C: Names<T>>(
     words: &Words<T, C>,
     seat: &mut Seat<Room<T>, View<T>>,
     slot: usize,
 )
     requires fits { Fits words.now.table_id × (seat.old.table_id ≡ words.now.table_id) }
-    requires whole { (spot : RoomSpot T) × (room : Room T) × (seat.old.me ≡ (Frees slot spot, (slot, room) ∷ [])) × (slot < slots) × (room.at ≡ spot.at) × (room.value ≡ None) × (room.stake ≡ []) }
+    requires due { (seat.old.me ≡ (Frees slot, [])) × (slot < slots) }
     ensures seat { (seat.new.table_id ≡ seat.old.table_id) × (seat.new.id ≡ seat.old.id) × (seat.new.me ≡ (Gone, [])) }
 {
     words.store::<plays::Frees>(seat, slot + slot + 1, FREE);
@@ -189,6 +216,22 @@ pub(crate) fn draw_newest<T, C: Names<T>>(
     let share = words.split_seat::<Shares>(seat);
     let reader = words.split_seat::<plays::Meets>(seat);
     (found, share, reader)
+}
+
+// The publisher's look at W for a reader that it takes in: the reader's seat, which has then seen all that is published.
+pub(crate) fn greet<T, C: Names<T>>(
+    words: &Words<T, C>,
+    seat: &mut Seat<Room<T>, View<T>>,
+    guest: Seat<Room<T>, View<T>>,
+) -> Seat<Room<T>, View<T>>
+    requires fits { Fits words.now.table_id × (seat.old.table_id ≡ words.now.table_id) × (seat.old.id ≡ 0) × (guest.table_id ≡ words.now.table_id) }
+    requires idle { (p : Publishing T) × (r : Reading T) × IsIdle p seat.old.me × IsWhole r guest.me }
+    ensures seats { (seat.new.table_id ≡ seat.old.table_id) × (seat.new.id ≡ seat.old.id) × (result.table_id ≡ seat.old.table_id) }
+    ensures greeted { (p : Publishing T) (r : Reading T) → IsIdle p seat.old.me → IsWhole r guest.me → IsGreeted p r seat.new.me result.me }
+{
+    words.join_seat::<plays::Lodges>(seat, guest);
+    words.load::<plays::Greets>(seat, 0);
+    words.split_seat::<plays::Meets>(seat)
 }
 
 // The publisher's look at W while no reader is about: nobody else changes W then.

@@ -17,7 +17,7 @@ use cell_core::{SLOTS, Version};
 use raw_slots::collect;
 use std::mem;
 
-// A look at S of the next slot while no reader is about: whether the slot is free, or the one in W.
+// A look at the next slot while no reader is about: whether it is free by S, or is the one in W and has no weak owner by K.
 fn pass<T, C: Names<T>>(
     words: &Words<T, C>,
     seat: &mut Seat<Room<T>, View<T>>,
@@ -30,13 +30,12 @@ fn pass<T, C: Names<T>>(
     ensures passed { (p : Publishing T) (word : ℕ) → IsSweeping p word last slot seat.old.me → MatchBool result (seat.new.me ≡ (Publishes (record p { swept = p.swept + 1 }), [])) (seat.new.me ≡ (Publishes p, [])) }
 {
     if slot == last {
-        words.load::<plays::Skips>(seat, 0);
-        return true;
+        return words.load::<plays::Skips>(seat, slot + slot + 2) == 1;
     }
     words.load::<plays::Sweeps>(seat, slot + slot + 1) == FREE
 }
 
-// A look at S of each slot: whether all are free but for the one in W.
+// A look at each slot: whether all are free but for the one in W, and that one has no weak owner.
 fn sweep<T, C: Names<T>>(
     words: &Words<T, C>,
     seat: &mut Seat<Room<T>, View<T>>,

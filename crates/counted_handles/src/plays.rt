@@ -1,7 +1,7 @@
 //! The steps by name: what each tells, and how seats are cut and made one.
-ghost use Rattle.counted_handles.specs.Plays.{LoadTells, NewestTells, ReleaseTells, BuryTells, FreeTells, ProbeTells, PrepareTells, SwapTells, SettleTells, LookTells, SweepTells, SkipTells, EndTells, ShutTells, OpenTells, OfferTells};
+ghost use Rattle.counted_handles.specs.Plays.{LoadTells, NewestTells, GreetTells, ReleaseTells, BuryTells, FadeTells, ResetTells, FreeTells, NoteTells, RaiseTells, SeeTells, ProbeTells, PrepareTells, SwapTells, SettleTells, LookTells, SweepTells, SkipTells, EndTells, ShutTells, OpenTells, OfferTells};
 ghost use Rattle.counted_handles.specs.Tells.{IsClaimed};
-ghost use Rattle.counted_handles.specs.Cuts.{kept_share, given_share, kept_back, handed_back, kept_dealt, dealt, lodging, kept_met, kept_home, sent_home};
+ghost use Rattle.counted_handles.specs.Cuts.{kept_share, given_share, kept_back, handed_back, kept_dealt, dealt, lodging, kept_met, handed_met, kept_home, sent_home, hosting, kept_gain, given_gain, kept_reader, given_owner, sharing, kept_untied, given_tie};
 ghost use Rattle.counted_handles.specs.declared.view.View.TheVariants.{Has, Gone};
 ghost use Rattle.counted_handles.specs.Ruled.{mark_of};
 
@@ -32,6 +32,13 @@ impl<T, C: Names<T>> Play<Room<T>, View<T>> for Newests<C> {
     ghost then = { λ _ me found new. NewestTells C.begins C.follows me.0 found new };
 }
 
+/// The publisher's look at W for the readers that it has taken in.
+pub struct Greets;
+
+impl<T> Play<Room<T>, View<T>> for Greets {
+    ghost then = { λ _ me _ new. GreetTells me.0 new };
+}
+
 /// A release.
 pub struct Releases;
 
@@ -46,6 +53,20 @@ pub struct Buries<C> {
 
 impl<T, C: Names<T>> Play<Room<T>, View<T>> for Buries<C> {
     ghost then = { λ _ me found new. BuryTells C.begins C.follows me.0 found new };
+}
+
+/// A fade of who buried a version.
+pub struct Fades;
+
+impl<T> Play<Room<T>, View<T>> for Fades {
+    ghost then = { λ _ me found new. FadeTells me.0 found new };
+}
+
+/// A reset.
+pub struct Resets;
+
+impl<T> Play<Room<T>, View<T>> for Resets {
+    ghost then = { λ _ me _ new. ResetTells me.0 new };
 }
 
 /// A free.
@@ -97,11 +118,11 @@ impl<T> Play<Room<T>, View<T>> for Sweeps {
     ghost then = { λ _ me found new. SweepTells me.0 found new };
 }
 
-/// The same, of the slot in W.
+/// A look at K of the slot in W, likewise.
 pub struct Skips;
 
 impl<T> Play<Room<T>, View<T>> for Skips {
-    ghost then = { λ _ me _ new. SkipTells me.0 new };
+    ghost then = { λ _ me found new. SkipTells me.0 found new };
 }
 
 /// The look at S of the slot in W that ends the cell.
@@ -183,7 +204,73 @@ pub struct Meets;
 impl<T> Split<View<T>> for Meets {
     ghost left = { kept_met };
 
-    ghost right = { handed_back };
+    ghost right = { handed_met };
+}
+
+/// The publisher's note of the version that it has a share of.
+pub struct Notes;
+
+impl<T> Play<Room<T>, View<T>> for Notes {
+    ghost then = { λ _ me _ new. NoteTells me.0 new };
+}
+
+/// A raise of what a reader has taken in.
+pub struct Raises;
+
+impl<T> Play<Room<T>, View<T>> for Raises {
+    ghost then = { λ _ me found new. RaiseTells me.0 found new };
+}
+
+/// A look at S of what a reader has taken in.
+pub struct Sees;
+
+impl<T> Play<Room<T>, View<T>> for Sees {
+    ghost then = { λ _ me found new. SeeTells me.0 found new };
+}
+
+/// A reader takes an owner in, weak or strong.
+pub struct Receives;
+
+impl<T> Join<View<T>> for Receives {
+    ghost both = { hosting };
+
+    ghost spent = { Gone };
+}
+
+/// What it has gained of it goes to a seat of its own.
+pub struct Gains;
+
+impl<T> Split<View<T>> for Gains {
+    ghost left = { kept_gain };
+
+    ghost right = { given_gain };
+}
+
+/// And the owner that it took in.
+pub struct Departs;
+
+impl<T> Split<View<T>> for Departs {
+    ghost left = { kept_reader };
+
+    ghost right = { given_owner };
+}
+
+/// The publisher takes an owner in.
+pub struct Borrows;
+
+impl<T> Join<View<T>> for Borrows {
+    ghost both = { sharing };
+
+    ghost spent = { Gone };
+}
+
+/// What the publisher has weakly goes to a seat of its own.
+pub struct Unties;
+
+impl<T> Split<View<T>> for Unties {
+    ghost left = { kept_untied };
+
+    ghost right = { given_tie };
 }
 
 /// A claim.

@@ -5,9 +5,9 @@ ghost use Rattle.counted_handles.specs.declared.view.Publishing.{Publishing};
 ghost use Rattle.counted_handles.specs.declared.view.Reading.{Reading};
 ghost use Rattle.counted_handles.specs.History.{IsHistory};
 ghost use Rattle.counted_handles.specs.Tells.{IsTaken};
-ghost use Rattle.counted_handles.specs.Calls.{Fits, AreSpots, CanRead, IsPut, CanPublish, IsOld, IsNewer, IsAtRest, IsOwnLast};
+ghost use Rattle.counted_handles.specs.Calls.{Fits, AreSpots, CanRead, IsPut, CanPublish, IsOld, IsNewer, IsAtRest, IsOwnLast, CanMeet, HasMet};
 
-use crate::calls::{SPAN, Words, draw_newest, shelve, swap_in, take};
+use crate::calls::{SPAN, Words, draw_newest, greet, shelve, swap_in, take};
 use crate::names::Names;
 use crate::owner::{Strong, own};
 use crate::plays::{About, Puts};
@@ -54,7 +54,7 @@ fn put<T: Drop, C: Names<T>>(
 /// the value where this call saw none of the 64 slots free: nothing is then published. It waits for nobody.
 pub fn publish<'a, T: Drop, C: Names<T>>(
     words: &'a Words<T, C>,
-    spots: &Spots<T>,
+    spots: &'a Spots<T>,
     badge: &mut Badge<View<T>>,
     number: u64,
     value: T,
@@ -64,7 +64,7 @@ pub fn publish<'a, T: Drop, C: Names<T>>(
     requires room { number < 2 ^ 64 - 1 }
     requires due { (p : Publishing T) × CanPublish p badge.old.views × (length p.published ≡ number + 1) × (p.name ≡ words.now.table_id.views_name) × IsHistory C.begins C.follows (p.published ++ value ∷ []) }
     ensures badge { (badge.new.table_id ≡ badge.old.table_id) × (badge.new.id ≡ badge.old.id) }
-    ensures old { IfOk result (λ strong. (p : Publishing T) → CanPublish p badge.old.views → IsOld p strong) }
+    ensures old { IfOk result (λ strong. (strong.table ≡ words.now.table_id) × ((p : Publishing T) → CanPublish p badge.old.views → IsOld p strong.version)) }
     ensures published { IfOk result (λ _. (p : Publishing T) → CanPublish p badge.old.views → IsNewer p value badge.new.views) }
     ensures refused { IfErr result (λ refused. (refused.value ≡ value) × (refused.probed ≡ slots) × (badge.new.views ≡ badge.old.views)) }
 {
@@ -85,7 +85,7 @@ pub fn publish<'a, T: Drop, C: Names<T>>(
 /// published. It waits for nobody.
 pub fn newest<'a, T: Drop, C: Names<T>>(
     words: &'a Words<T, C>,
-    spots: &Spots<T>,
+    spots: &'a Spots<T>,
     badge: &mut Badge<View<T>>,
     reader: &mut Badge<View<T>>,
 ) -> Strong<'a, T, C>
@@ -93,7 +93,8 @@ pub fn newest<'a, T: Drop, C: Names<T>>(
     requires fits { (badge.old.table_id ≡ words.now.table_id) × (badge.old.id ≡ 0) × (reader.old.table_id ≡ words.now.table_id) }
     requires can { (p : Publishing T) × (r : Reading T) × IsAtRest p badge.old.views × CanRead r reader.old.views × (p.name ≡ words.now.table_id.views_name) }
     ensures badges { (badge.new.table_id ≡ badge.old.table_id) × (badge.new.id ≡ badge.old.id) × (reader.new.table_id ≡ words.now.table_id) }
-    ensures newest { (p : Publishing T) (r : Reading T) → IsAtRest p badge.old.views → CanRead r reader.old.views → IsOwnLast p r badge.new.views reader.new.views result }
+    ensures newest { (p : Publishing T) (r : Reading T) → IsAtRest p badge.old.views → CanRead r reader.old.views → IsOwnLast p r badge.new.views reader.new.views result.version }
+    ensures table { result.table ≡ words.now.table_id }
 {
     let mut seat = mem::replace(badge, Badge::blank()).into_seat();
     let guest = mem::replace(reader, Badge::blank()).into_seat();
@@ -101,4 +102,23 @@ pub fn newest<'a, T: Drop, C: Names<T>>(
     *badge = seat.into_badge();
     *reader = rest.into_badge();
     own(words, spots, share, (found / SPAN) as usize)
+}
+
+/// The reader sees all that this publisher has published, of which it had seen a beginning, for no grant: one look at W. It waits
+/// for nobody.
+pub fn meet<T, C: Names<T>>(
+    words: &Words<T, C>,
+    badge: &mut Badge<View<T>>,
+    reader: &mut Badge<View<T>>,
+)
+    requires fits { Fits words.now.table_id × (badge.old.table_id ≡ words.now.table_id) × (badge.old.id ≡ 0) × (reader.old.table_id ≡ words.now.table_id) }
+    requires can { (p : Publishing T) × (r : Reading T) × IsAtRest p badge.old.views × CanMeet r reader.old.views }
+    ensures badges { (badge.new.table_id ≡ badge.old.table_id) × (badge.new.id ≡ badge.old.id) × (reader.new.table_id ≡ words.now.table_id) }
+    ensures met { (p : Publishing T) (r : Reading T) → IsAtRest p badge.old.views → CanMeet r reader.old.views → HasMet p r badge.new.views reader.new.views }
+{
+    let mut seat = mem::replace(badge, Badge::blank()).into_seat();
+    let guest = mem::replace(reader, Badge::blank()).into_seat();
+    let rest = greet(words, &mut seat, guest);
+    *badge = seat.into_badge();
+    *reader = rest.into_badge();
 }

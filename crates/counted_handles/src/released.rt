@@ -2,13 +2,13 @@
 ghost use Rattle.std.specs.Prelude.{◌≡◌, ◌↔◌, ℕ, ◌<◌, [], true, MatchBool};
 ghost use Rattle.cell_core.specs.Words.{slots};
 ghost use Rattle.cell_core.specs.declared.words.Version.{Version};
-ghost use Rattle.counted_handles.specs.declared.released.Steps.TheVariants.{Lowered, Won, Buried, Freed};
+ghost use Rattle.counted_handles.specs.declared.released.Steps.TheVariants.{Lowered, Won, Buried, Faded, Restored, Freed};
 ghost use Rattle.counted_handles.specs.declared.view.Mark.{Mark};
-ghost use Rattle.counted_handles.specs.declared.view.View.TheVariants.{Has, Buries};
+ghost use Rattle.counted_handles.specs.declared.view.View.TheVariants.{Has, Buries, Resets, Frees};
 ghost use Rattle.counted_handles.specs.Calls.{Fits, IsOut, IsEmptied};
-ghost use Rattle.counted_handles.specs.Releases.{IsLowered, HasLost, LiesIn, buried_in};
+ghost use Rattle.counted_handles.specs.Releases.{IsLowered, HasLost, LiesIn, IsOutlived, buried_in};
 
-use crate::calls::{Words, bury, free, lower};
+use crate::calls::{Words, bury, fade, free, lower, reset};
 use crate::names::Names;
 use crate::rule::Room;
 use crate::view::View;
@@ -28,6 +28,15 @@ pub enum Steps {
     Won,
     /// And that version, which has this number, is taken out of there.
     Buried(u64),
+    /// And its fade is made.
+    Faded {
+        /// The version's number.
+        number: u64,
+        /// The fade found this in K: its own 1, and weak owners. Where there is one, the last of them gives the slot free.
+        found: u64,
+    },
+    /// It was the last: K is set to 1.
+    Restored(u64),
     /// And the slot is free again.
     Freed(u64),
 }
@@ -54,8 +63,11 @@ impl Released {
         ensures { result ≡ buried_in self.now }
     {
         match self.steps {
-            Steps::Buried(number) | Steps::Freed(number) => Some(number),
             Steps::Lowered(_) | Steps::Lost(_) | Steps::Won => None,
+            Steps::Buried(number)
+            | Steps::Faded { number, .. }
+            | Steps::Restored(number)
+            | Steps::Freed(number) => Some(number),
         }
     }
 
@@ -123,6 +135,45 @@ impl Released {
         }
     }
 
+    // Who buried the version gives the slot's place back, and stands for nobody in K: whether nobody else does.
+    pub(crate) fn fade<T, C: Names<T>>(
+        &mut self,
+        words: &Words<T, C>,
+        seat: &mut Seat<Room<T>, View<T>>,
+        slot: usize,
+    ) -> bool
+        requires fits { Fits words.now.table_id × (seat.old.table_id ≡ words.now.table_id) × (slot < slots) }
+        requires buried { (number : ℕ) × (self.old ≡ Buried number) × IsEmptied slot seat.old.me }
+        ensures seat { (seat.new.table_id ≡ seat.old.table_id) × (seat.new.id ≡ seat.old.id) }
+        ensures faded { (number : ℕ) → self.old ≡ Buried number → MatchBool result ((self.new ≡ Faded number 1) × (seat.new.me ≡ (Resets slot, []))) (IsOutlived number self.new) }
+    {
+        let found = fade(words, seat, slot);
+        match self.steps {
+            Steps::Buried(number) => self.steps = Steps::Faded { number, found },
+            _ => unreachable!(),
+        }
+        found == 1
+    }
+
+    // K is 1 again.
+    pub(crate) fn reset<T, C: Names<T>>(
+        &mut self,
+        words: &Words<T, C>,
+        seat: &mut Seat<Room<T>, View<T>>,
+        slot: usize,
+    )
+        requires fits { Fits words.now.table_id × (seat.old.table_id ≡ words.now.table_id) × (slot < slots) }
+        requires faded { (number : ℕ) × (self.old ≡ Faded number 1) × (seat.old.me ≡ (Resets slot, [])) }
+        ensures seat { (seat.new.table_id ≡ seat.old.table_id) × (seat.new.id ≡ seat.old.id) × (seat.new.me ≡ (Frees slot, [])) }
+        ensures restored { (number : ℕ) → self.old ≡ Faded number 1 → self.new ≡ Restored number }
+    {
+        reset(words, seat, slot);
+        match self.steps {
+            Steps::Faded { number, .. } => self.steps = Steps::Restored(number),
+            _ => unreachable!(),
+        }
+    }
+
     // The slot is free again.
     pub(crate) fn free<T, C: Names<T>>(
         &mut self,
@@ -131,12 +182,12 @@ impl Released {
         slot: usize,
     )
         requires fits { Fits words.now.table_id × (seat.old.table_id ≡ words.now.table_id) × (slot < slots) }
-        requires buried { (number : ℕ) × (self.old ≡ Buried number) × IsEmptied slot seat.old.me }
-        ensures freed { (number : ℕ) → self.old ≡ Buried number → self.new ≡ Freed number }
+        requires restored { (number : ℕ) × (self.old ≡ Restored number) × (seat.old.me ≡ (Frees slot, [])) }
+        ensures freed { (number : ℕ) → self.old ≡ Restored number → self.new ≡ Freed number }
     {
         free(words, seat, slot);
         match self.steps {
-            Steps::Buried(number) => self.steps = Steps::Freed(number),
+            Steps::Restored(number) => self.steps = Steps::Freed(number),
             _ => unreachable!(),
         }
     }

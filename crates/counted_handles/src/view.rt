@@ -19,6 +19,30 @@ pub struct Mark<T> {
     pub tally: u64,
 }
 
+/// What a weak owner knows of its version, which may be buried.
+pub struct Tie<T> {
+    /// The version's number.
+    pub number: u64,
+    /// Its slot.
+    pub slot: usize,
+    /// Its value.
+    pub value: T,
+    /// The name of the views.
+    pub name: u64,
+}
+
+/// What a seat has of a version, for itself or of an owner that it has taken in.
+pub enum Hold<T> {
+    /// A share.
+    Once(Mark<T>),
+    /// Two shares.
+    Double(Mark<T>),
+    /// The version, weakly.
+    Loose(Tie<T>),
+    /// A share, and the version weakly.
+    Mixed(Mark<T>, Tie<T>),
+}
+
 /// What a reader knows.
 pub struct Reading<T> {
     /// The values that it has seen published, the first one first.
@@ -27,6 +51,8 @@ pub struct Reading<T> {
     pub share: Option<Mark<T>>,
     /// So many grants are left.
     pub left: u64,
+    /// Numbers that it has seen buried.
+    pub gone: LinkedList<u64>,
     /// The name of the views.
     pub name: u64,
 }
@@ -39,10 +65,12 @@ pub struct Publishing<T> {
     pub how: Publisher,
     /// The value that its publication is of, from prepare to swap.
     pub next: Option<T>,
-    /// A share that isn't split off yet.
-    pub share: Option<Mark<T>>,
+    /// What it has of a version, and isn't split off yet.
+    pub share: Option<Hold<T>>,
     /// So many grants are left.
     pub left: u64,
+    /// So many weak owners were made.
+    pub noted: u64,
     /// So many readers are about.
     pub readers: u64,
     /// The word W, where it was seen and nobody can change it.
@@ -67,12 +95,20 @@ pub enum View<T> {
     Publishes(Publishing<T>),
     /// A reader.
     Reads(Reading<T>),
+    /// A reader that has taken an owner in, weak or strong, and what this has.
+    Hosts(Reading<T>, Hold<T>),
     /// An owner.
     Has(Mark<T>),
+    /// A weak owner.
+    HasWeakly(Tie<T>),
     /// An owner that has given its share back, and S was then 0: a slot, and the name of the views.
     Buries(usize, u64),
-    /// An owner whose bury has won: a slot, and where its place lies.
-    Frees(usize, Spot<Option<Version<T>>>),
+    /// An owner whose bury has won, and that is to fade: a slot, and where its place lies.
+    Fades(usize, Spot<Option<Version<T>>>),
+    /// An owner that has brought K to 0: a slot.
+    Resets(usize),
+    /// An owner that has set K to 1: a slot.
+    Frees(usize),
     /// The first seat, at the cell's end, which has taken the last version's place: its slot, and where the place lies.
     Ends(usize, Spot<Option<Version<T>>>),
     /// A seat that is spent.

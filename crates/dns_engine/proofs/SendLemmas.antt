@@ -27,15 +27,14 @@ shared_send = search (version_send, version_sync, crossing.crosses, sendable) de
 pub shared_sync : IsSync shared.the_row
 shared_sync = search (version_send, version_sync, crossing.crosses, sendable) depth 60 fits 20000
 
-module _ (a : NamedLft) (T : RattleType) (g : Ghosts T.Denot) where
-  owners_send : IsSend (owners.the_row a T g)
+module _ (a : NamedLft) (T : RattleType) (g : Ghosts T.Denot) (N : RattleType) (n : naming.Ghosts N.Denot) where
+  owners_send : IsSend (owners.the_row a T N g n)
   owners_send =
       search (shared_send, shared_sync, array_vec.the_send, cells.the_field_send, option.the_field_send, option.the_send, cell.crosses, crossing.crosses, sendable)
       depth 60 fits 20000
 
-  module _ (N : RattleType) (n : naming.Ghosts N.Denot) where
-    pub engine_send : IsSend (engine.the_row a T N g n)
-    engine_send = search (shared_send, shared_sync, owners_send, cell.crosses, crossing.crosses, sendable) depth 60 fits 20000
+  pub engine_send : IsSend (engine.the_row a T N g n)
+  engine_send = search (shared_send, shared_sync, owners_send, cell.crosses, crossing.crosses, sendable) depth 60 fits 20000
 
 -- what the engine has to do with, as a set for search
 pub ruleset crosses = (version_send, version_sync, shared_send, shared_sync, engine_send)

@@ -30,9 +30,9 @@ use zone_tree::Version;
 pub struct Engine<'a, Z: FirstZone, N: Naming> {
     publisher: VersionPublisher<Z, N>,
     reader: VersionReader<N>,
-    last: VersionOwner<'a, Z>,
+    last: VersionOwner<'a, Z, N>,
     keep: usize,
-    older: Owners<'a, Z>,
+    older: Owners<'a, Z, N>,
 }
 
 impl<'a, Z: FirstZone, N: Naming> Model for Engine<'a, Z, N> {
@@ -121,7 +121,7 @@ impl<'a, Z: FirstZone, N: Naming> Engine<'a, Z, N> {
         cell: &VersionCell<Z, N>,
         reader: &mut VersionReader<N>,
     ) -> Result<(), Spent>
-        ensures met { IfOk result (λ _. (reader.new ≡ record { cell = reader.old.cell; seen = self.old.held.published; left = reader.old.left - 1 }) × (0 < reader.old.left)) }
+        ensures met { IfOk result (λ _. (reader.new ≡ record { cell = reader.old.cell; seen = self.old.held.published; left = reader.old.left - 1; gone = reader.old.gone }) × (0 < reader.old.left)) }
         ensures begun { IfOk result (λ _. Begins reader.old.seen self.old.held.published) }
         ensures same { self.new ≡ self.old }
         ensures spent { IfErr result (λ _. (reader.old.left ≡ 0) × (reader.new ≡ reader.old)) }

@@ -45,7 +45,7 @@ impl<Z: FirstZone, N: Naming> Model for Newest<Z, N> {
 impl<Z: FirstZone, N: Naming> Newest<Z, N> {
     /// A version alone, which a reader has just loaded: the last that it has seen. [`Spent`] where the version can't be shared.
     pub fn alone(
-        last: &VersionOwner<'_, Z>,
+        last: &VersionOwner<'_, Z, N>,
         reader: &VersionReader<N>,
     ) -> Result<Newest<Z, N>, Spent>
         requires history { IsHistory (IsFirst Z.zone) IsNext reader.now.seen }

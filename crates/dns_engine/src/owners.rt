@@ -5,17 +5,17 @@ ghost use Rattle.dns_engine.specs.Held.{newest};
 use crate::copies::Copies;
 use crate::versions::{FirstZone, VersionOwner};
 use arrayvec::ArrayVec;
-use snapshot_cell::Spent;
+use snapshot_cell::{Naming, Spent};
 use std::marker::Model;
 use transfer_core::KEPT;
 
 /// Owners of versions, the oldest first. Contracts see the versions.
 #[derive(Drop)]
-pub(crate) struct Owners<'a, Z: FirstZone> {
-    places: ArrayVec<Option<VersionOwner<'a, Z>>, KEPT>,
+pub(crate) struct Owners<'a, Z: FirstZone, N: Naming> {
+    places: ArrayVec<Option<VersionOwner<'a, Z, N>>, KEPT>,
 }
 
-impl<'a, Z: FirstZone> Model for Owners<'a, Z> {
+impl<'a, Z: FirstZone, N: Naming> Model for Owners<'a, Z, N> {
     ghost use Rattle.std.specs.Prelude.{List};
     ghost use Rattle.zone_tree.specs.Version.{Version};
     ghost use Rattle.dns_engine.specs.Owned.{placed, versions_of, IsFull};
@@ -27,9 +27,9 @@ impl<'a, Z: FirstZone> Model for Owners<'a, Z> {
     ghost invariant = { λ a. IsFull a.places.items };
 }
 
-impl<'a, Z: FirstZone> Owners<'a, Z> {
+impl<'a, Z: FirstZone, N: Naming> Owners<'a, Z, N> {
     /// No owner.
-    pub(crate) fn new() -> Owners<'a, Z>
+    pub(crate) fn new() -> Owners<'a, Z, N>
         ensures { result ≡ [] }
     {
         Owners {
@@ -51,7 +51,7 @@ impl<'a, Z: FirstZone> Owners<'a, Z> {
     }
 
     /// Puts an owner of the next version after the others, of which the newest stay, so many in all.
-    pub(crate) fn keep_newest(&mut self, keep: usize, owner: VersionOwner<'a, Z>)
+    pub(crate) fn keep_newest(&mut self, keep: usize, owner: VersionOwner<'a, Z, N>)
         requires most { keep ≤ KEPT }
         requires kept { length self.old ≤ keep }
         ensures { self.new ≡ newest keep (self.old ++ owner.entry.value ∷ []) }

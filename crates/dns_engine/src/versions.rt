@@ -5,7 +5,7 @@ ghost use Rattle.dns_engine.specs.Versions.{IsFirst, IsNext};
 
 use crate::shared::SharedVersion;
 use cell_core::Follows;
-use snapshot_cell::{NamedCell, NamedPublisher, NamedReader, Names, Strong};
+use snapshot_cell::{NamedCell, NamedPublisher, NamedReader, NamedStrong, Names};
 use std::marker::{Brand, PhantomData};
 
 /// The first zone of a cell, which contracts alone see. A type has it that stands for a zone known only when the program runs.
@@ -42,4 +42,4 @@ pub type VersionPublisher<Z, N> = NamedPublisher<SharedVersion, ZoneVersions<Z>,
 pub type VersionReader<N> = NamedReader<SharedVersion, N>;
 
 /// An owner of a version.
-pub type VersionOwner<'a, Z> = Strong<'a, SharedVersion, ZoneVersions<Z>>;
+pub type VersionOwner<'a, Z, N> = NamedStrong<'a, SharedVersion, ZoneVersions<Z>, N>;

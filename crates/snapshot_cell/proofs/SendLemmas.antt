@@ -34,6 +34,7 @@ use Rattle.snapshot_cell.proofs.tokens.Reader.TheSendSync as reader
 use Rattle.snapshot_cell.specs.contracts.cell.Cell as Cell
 use Rattle.snapshot_cell.specs.contracts.named.NamedCell as NamedCell
 use Rattle.snapshot_cell.specs.contracts.named.NamedPublisher as NamedPublisher
+use Rattle.snapshot_cell.specs.contracts.named_owner.NamedStrong as NamedStrong
 use Rattle.snapshot_cell.specs.contracts.tokens.Publisher as Publisher
 use Rattle.snapshot_cell.specs.declared.named.Naming as naming
 
@@ -99,15 +100,21 @@ module _ (T C : RattleType) (g : names.Ghosts C.Denot T.Denot) (g' : follows.Gho
     strong_send a =
         let older = older_sync T y in
         let room = room_send T s y in
-        search (shared.the_sync, held.the_send, crossing.crosses, sendable) depth 60 fits 20000
+        search (shared.the_sync, spots_sync, held.the_send, option.the_send, crossing.crosses, sendable) depth 60 fits 20000
 
     pub strong_sync : (a : NamedLft) → IsSync (Strong.the_row a T C g g')
     strong_sync a =
         let older = older_sync T y in
         let room = room_send T s y in
-        search (shared.the_sync, held.the_sync, crossing.crosses, sendable) depth 60 fits 20000
+        search (shared.the_sync, spots_sync, held.the_sync, option.the_sync, crossing.crosses, sendable) depth 60 fits 20000
 
     module _ (N : RattleType) (n : naming.Ghosts N.Denot) where
+      pub named_strong_send : (a : NamedLft) → IsSend (NamedStrong.the_row a T C N g g' n)
+      named_strong_send a = search (strong_send, phantom.the_field_send, sendable) depth 60 fits 20000
+
+      pub named_strong_sync : (a : NamedLft) → IsSync (NamedStrong.the_row a T C N g g' n)
+      named_strong_sync a = search (strong_sync, phantom.the_field_sync, sendable) depth 60 fits 20000
+
       pub named_cell_send : IsSend (NamedCell.the_row T C N n g g')
       named_cell_send = search (cell_send, phantom.the_field_send, sendable) depth 60 fits 20000
 
@@ -121,4 +128,4 @@ module _ (T C : RattleType) (g : names.Ghosts C.Denot T.Denot) (g' : follows.Gho
       named_cell_field_sync = search (cell_sync, phantom.the_field_sync, sendable) depth 60 fits 20000
 
 -- a cell with its tokens and owners, as a set for search
-pub ruleset crosses = (reader.the_send, cell_send, cell_sync, publisher_send, strong_send, strong_sync, named_reader.the_send, named_cell_send, named_cell_sync, named_cell_field_send, named_cell_field_sync, named_publisher_send)
+pub ruleset crosses = (reader.the_send, cell_send, cell_sync, publisher_send, strong_send, strong_sync, named_strong_send, named_strong_sync, named_reader.the_send, named_cell_send, named_cell_sync, named_cell_field_send, named_cell_field_sync, named_publisher_send)

@@ -13,7 +13,7 @@ use Rattle.counted_handles.specs.Cuts.{dealt_grants, with_reader, reader_of}
 use Rattle.counted_handles.specs.Opens.{IsBegun}
 use Rattle.counted_handles.specs.Tells.{opener}
 use Rattle.counted_handles.specs.Calls.{IsOwned, IsNewer}
-use Rattle.snapshot_cell.specs.Tokens.{ReaderState, seen_in, IsReader, IsPublisher, IsLoad, IsDealing, first_reader}
+use Rattle.snapshot_cell.specs.Tokens.{ReaderState, seen_in, gone_in, IsReader, IsPublisher, IsLoad, IsDealing, first_reader}
 use Rattle.snapshot_cell.proofs.HistoryLemmas.{history_next}
 
 abbrev got_or : {X : Type 0} → X → Option X → X
@@ -33,17 +33,18 @@ same_last published version number value size got size_too got_too =
     λ i. record { number = numbers i; value = values i }
 
 module _ {T : Type 0} (begins : T → Type 0) (follows : T → T → Type 0) where
-  pub loaded_as : (before : ReaderState T) (cell new_cell : TableId) (views new_views : List (View T)) (left : ℕ) (version : Version T) → before ≡ record { cell = cell; seen = seen_in views; left = left } → (inv : IsReader cell views left) → 0 < left → new_cell ≡ cell
-      → IsOwned begins follows inv.reading new_views version → IsLoad begins follows before (record { cell = new_cell; seen = seen_in new_views; left = left - 1 }) version
+  pub loaded_as : (before : ReaderState T) (cell new_cell : TableId) (views new_views : List (View T)) (left : ℕ) (version : Version T) → before ≡ record { cell = cell; seen = seen_in views; left = left; gone = gone_in views } → (inv : IsReader cell views left) → 0 < left → new_cell ≡ cell
+      → IsOwned begins follows inv.reading new_views version → IsLoad begins follows before (record { cell = new_cell; seen = seen_in new_views; left = left - 1; gone = gone_in new_views }) version
   loaded_as before cell new_cell views new_views left version is inv some same o =
       let saw : seen_in views ≡ inv.reading.seen = ap seen_in inv.views_are in
       let sees : seen_in new_views ≡ o.published = ap seen_in o.views_are in
-      subst (λ b. IsLoad begins follows b (record { cell = new_cell; seen = seen_in new_views; left = left - 1 }) version) (sym is) (record {
+      subst (λ b. IsLoad begins follows b (record { cell = new_cell; seen = seen_in new_views; left = left - 1; gone = gone_in new_views }) version) (sym is) (record {
         cell = same;
         begun = subst (λ s. Begins s (seen_in new_views)) (sym saw) (subst (λ p. Begins inv.reading.seen p) (sym sees) o.begun);
         history = subst (IsHistory begins follows) (sym sees) o.history;
         last = (ap (λ (l : List T). length l) sees ∙ o.last, ap (λ l. slice_get l version.number) sees ∙ o.value_is);
         left = omega arith;
+        gone = ap gone_in o.views_are ∙ sym (ap gone_in inv.views_are);
       })
 
   -- a token whose view tells the same
@@ -113,17 +114,18 @@ module _ {T : Type 0} where
 
   pub dealt_reader : (value : T) (count : ℕ) (table cell : TableId) (views dealt : List (View T)) (n : ℕ) → (d : IsDealing value table.views_name count views) → cell ≡ table → dealt ≡ reader_of d.publishing n ∷ [] → IsReader cell dealt n
   dealt_reader value count table cell views dealt n d same is = record {
-    reading = record { seen = d.publishing.published; share = None; left = n; name = d.publishing.name };
+    reading = record { seen = d.publishing.published; share = None; left = n; gone = []; name = d.publishing.name };
     views_are = is;
     whole = refl;
     left_is = refl;
     name_is = d.name_is ∙ ap (λ (z : TableId). z.views_name) (sym same);
   }
 
-  pub dealt_state : (value : T) (count : ℕ) (table cell : TableId) (views dealt : List (View T)) → (d : IsDealing value table.views_name count views) → cell ≡ table → dealt ≡ reader_of d.publishing dealt_grants ∷ [] → record { cell = cell; seen = seen_in dealt; left = dealt_grants } ≡ first_reader table value
+  pub dealt_state : (value : T) (count : ℕ) (table cell : TableId) (views dealt : List (View T)) → (d : IsDealing value table.views_name count views) → cell ≡ table → dealt ≡ reader_of d.publishing dealt_grants ∷ [] → record { cell = cell; seen = seen_in dealt; left = dealt_grants; gone = gone_in dealt } ≡ first_reader table value
   dealt_state value count table cell views dealt d same is =
       let saw : seen_in dealt ≡ value ∷ [] = ap seen_in is ∙ d.published in
-      λ i. record { cell = same i; seen = saw i; left = dealt_grants }
+      let none : gone_in dealt ≡ [] = ap gone_in is in
+      λ i. record { cell = same i; seen = saw i; left = dealt_grants; gone = none i }
 
   -- the publisher's token, when the readers have theirs
   pub first_token : (begins : T → Type 0) (follows : T → T → Type 0) (value last : T) (count : ℕ) (table cell : TableId) (id : ℕ) (views new_views : List (View T)) (spare_cell : TableId) (spare : List (View T)) → (d : IsDealing value table.views_name count views) → begins value → last ≡ value → cell ≡ table → id ≡ 0
@@ -141,7 +143,7 @@ module _ {T : Type 0} where
     value_is = ap (λ (l : List T). slice_get l 0) d.published ∙ ap Some (sym seen);
     spare_fits = spare_same;
     readers_are = ap (λ n. n + 1) d.readers_are;
-    rest = record { seen = d.publishing.published; share = None; left = d.publishing.left; name = d.publishing.name };
+    rest = record { seen = d.publishing.published; share = None; left = d.publishing.left; gone = []; name = d.publishing.name };
     spare_is = spare_is;
     spare_whole = refl;
   }

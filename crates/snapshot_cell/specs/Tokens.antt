@@ -1,5 +1,5 @@
 -- What a cell's tokens are to contracts (own).
-use Rattle.std.specs.Prelude.{◌≡◌, ℕ, ◌+◌, ◌*◌, List, [], ◌∷◌, ◌++◌, length, None, Some}
+use Rattle.std.specs.Prelude.{◌≡◌, ◌⊎◌, ℕ, ◌+◌, ◌-◌, ◌*◌, List, [], ◌∷◌, ◌++◌, length, Option, None, Some}
 use Rattle.std.specs.List.{slice_get}
 use base.Stored.{Coded, coded×, coded_ℕ, coded_list, coded_via}
 use Rattle.atomic_table.specs.Seated.{TableId, table_id_coded}
@@ -9,20 +9,22 @@ use Rattle.cell_core.specs.declared.words.Publisher.TheVariants.{Probing}
 use Rattle.counted_handles.specs.declared.view.Reading.{Reading}
 use Rattle.counted_handles.specs.declared.view.Publishing.{Publishing}
 use Rattle.counted_handles.specs.declared.view.View.{View}
-use Rattle.counted_handles.specs.declared.view.View.TheVariants.{Begin, Began, Publishes, Reads, Has, Buries, Frees, Ends, Gone}
+use Rattle.counted_handles.specs.declared.view.View.TheVariants.{Begin, Began, Publishes, Reads, Hosts, Has, HasWeakly, Buries, Fades, Resets, Frees, Ends, Gone}
 use Rattle.counted_handles.specs.Cuts.{dealt_grants}
 use Rattle.counted_handles.specs.History.{IsHistory}
 use Rattle.counted_handles.specs.Ruled.{Begins}
 
--- a reader: its cell, the values that it has seen published, the first one first, and the grants that it has left (own)
+-- a reader: its cell, the values that it has seen published, the first one first, the grants that it has left, and the numbers that it has
+-- seen buried (own)
 pub record ReaderState (T : Type 0) : Type 0 where
   pub cell : TableId
   pub seen : List T
   pub left : ℕ
+  pub gone : List ℕ
 
 abbrev pub reader_coded : {T : Type 0} → Coded T → Coded (ReaderState T)
-reader_coded {T} v = coded_via (coded× table_id_coded (coded× (coded_list v) coded_ℕ)) (λ (s : ReaderState T). (s.cell, (s.seen, s.left)))
-    (λ x y e i. record { cell = (e i).0; seen = (e i).1.0; left = (e i).1.1 })
+reader_coded {T} v = coded_via (coded× table_id_coded (coded× (coded_list v) (coded× coded_ℕ (coded_list coded_ℕ)))) (λ (s : ReaderState T). (s.cell, (s.seen, (s.left, s.gone))))
+    (λ x y e i. record { cell = (e i).0; seen = (e i).1.0; left = (e i).1.1.0; gone = (e i).1.1.1 })
 
 -- the publisher: its cell, the values published, the first one first, and the last one with its number (own)
 pub record PublisherState (T : Type 0) : Type 0 where
@@ -39,11 +41,15 @@ publisher_coded {T} v = coded_via (coded× table_id_coded (coded× (coded_list v
 abbrev pub values_of : {T : Type 0} → View T → List T
 values_of (Publishes p) = p.published
 values_of (Reads r) = r.seen
+values_of (Hosts r hold) = r.seen
 values_of (Begin value) = []
 values_of (Began spot) = []
 values_of (Has mark) = []
 values_of (Buries slot name) = []
-values_of (Frees slot spot) = []
+values_of (HasWeakly tie) = []
+values_of (Fades slot spot) = []
+values_of (Resets slot) = []
+values_of (Frees slot) = []
 values_of (Ends slot spot) = []
 values_of Gone = []
 
@@ -53,6 +59,26 @@ seen_in (view ∷ views) = values_of view
 
 abbrev pub published_in : {T : Type 0} → List (View T) → List T
 published_in views = seen_in views
+
+-- the numbers that a seat has seen buried (own)
+abbrev pub sunk_of : {T : Type 0} → View T → List ℕ
+sunk_of (Reads r) = r.gone
+sunk_of (Hosts r hold) = r.gone
+sunk_of (Publishes p) = []
+sunk_of (Begin value) = []
+sunk_of (Began spot) = []
+sunk_of (Has mark) = []
+sunk_of (Buries slot name) = []
+sunk_of (HasWeakly tie) = []
+sunk_of (Fades slot spot) = []
+sunk_of (Resets slot) = []
+sunk_of (Frees slot) = []
+sunk_of (Ends slot spot) = []
+sunk_of Gone = []
+
+abbrev pub gone_in : {T : Type 0} → List (View T) → List ℕ
+gone_in [] = []
+gone_in (view ∷ views) = sunk_of view
 
 -- a reader's token: it has no share that isn't split off, and so many grants (own)
 pub record IsReader {T : Type 0} (cell : TableId) (views : List (View T)) (left : ℕ) : Type 0 where
@@ -94,7 +120,7 @@ pub record IsDealing {T : Type 0} (value : T) (name count : ℕ) (views : List (
 
 -- a reader of a new cell (own)
 abbrev pub first_reader : {T : Type 0} → TableId → T → ReaderState T
-first_reader cell value = record { cell = cell; seen = value ∷ []; left = dealt_grants }
+first_reader cell value = record { cell = cell; seen = value ∷ []; left = dealt_grants; gone = [] }
 
 -- the publisher of a new cell (own)
 abbrev pub first_publisher : {T : Type 0} → TableId → T → PublisherState T
@@ -105,13 +131,20 @@ abbrev pub IsLastOf : {T : Type 0} → List T → Version T → Type 0
 IsLastOf published version = (length published ≡ version.number + 1) × (slice_get published version.number ≡ Some version.value)
 
 -- a load: the owner's version is the last of the values that the reader has then seen, which may have been published and begin with
--- those that it had seen; and it has one grant less (own)
+-- those that it had seen; and it has one grant less, and has seen no number more buried (own)
 pub record IsLoad {T : Type 0} (begins : T → Type 0) (follows : T → T → Type 0) (before after : ReaderState T) (version : Version T) : Type 0 where
   pub cell : after.cell ≡ before.cell
   pub begun : Begins before.seen after.seen
   pub history : IsHistory begins follows after.seen
   pub last : IsLastOf after.seen version
   pub left : before.left ≡ after.left + 1
+  pub gone : after.gone ≡ before.gone
+
+-- an upgrade: an owner of the weak owner's very version, for a grant; or none, and the reader has then seen its number buried, for a grant or
+-- for none (own)
+abbrev pub IsUpgraded : {T : Type 0} → ReaderState T → ReaderState T → Version T → Option (Version T) → Type 0
+IsUpgraded before after version (Some found) = (found ≡ version) × (after ≡ record before { left = before.left - 1 })
+IsUpgraded before after version None = (after ≡ record before { gone = version.number ∷ before.gone }) ⊎ (after ≡ record before { left = before.left - 1; gone = version.number ∷ before.gone })
 
 -- a publication: one value more is published, with the next number (own)
 abbrev pub published_next : {T : Type 0} → PublisherState T → T → PublisherState T

@@ -158,7 +158,8 @@ impl<T: Drop, C: Names<T>> Cell<T, C> {
     /// for nobody.
     pub fn load(&self, reader: &mut Reader<T>) -> Result<Strong<'_, T, C>, Spent>
         requires { reader.old.cell ≡ self.now }
-        ensures loaded { IfOk result (λ strong. IsLoad C.begins C.follows reader.old reader.new strong) }
+        ensures loaded { IfOk result (λ strong. IsLoad C.begins C.follows reader.old reader.new strong.version) }
+        ensures table { IfOk result (λ strong. strong.table ≡ self.now) }
         ensures spent { IfErr result (λ _. (reader.old.left ≡ 0) × (reader.new ≡ reader.old)) }
     {
         if reader.left == 0 {
@@ -176,7 +177,8 @@ impl<T: Drop, C: Names<T>> Cell<T, C> {
         reader: &mut Reader<T>,
     ) -> Result<Strong<'_, T, C>, Spent>
         requires { (publisher.old.cell ≡ self.now) × (reader.old.cell ≡ self.now) }
-        ensures newest { IfOk result (λ strong. (strong ≡ record { number = publisher.old.number; value = publisher.old.value }) × (reader.new ≡ record { cell = self.now; seen = publisher.old.published; left = reader.old.left - 1 }) × (0 < reader.old.left)) }
+        ensures table { IfOk result (λ strong. strong.table ≡ self.now) }
+        ensures newest { IfOk result (λ strong. (strong.version ≡ record { number = publisher.old.number; value = publisher.old.value }) × (reader.new ≡ record { cell = self.now; seen = publisher.old.published; left = reader.old.left - 1; gone = reader.old.gone }) × (0 < reader.old.left)) }
         ensures begun { IfOk result (λ _. Begins reader.old.seen publisher.old.published) }
         ensures same { publisher.new ≡ publisher.old }
         ensures spent { IfErr result (λ _. (reader.old.left ≡ 0) × (reader.new ≡ reader.old)) }
@@ -191,6 +193,16 @@ impl<T: Drop, C: Names<T>> Cell<T, C> {
             &mut publisher.badge,
             &mut reader.badge,
         ))
+    }
+
+    /// The reader sees all that its publisher has published, of which it had seen a beginning, for no grant. It waits for nobody.
+    pub fn meet(&self, publisher: &mut Publisher<T, C>, reader: &mut Reader<T>)
+        requires { (publisher.old.cell ≡ self.now) × (reader.old.cell ≡ self.now) }
+        ensures met { reader.new ≡ record { cell = self.now; seen = publisher.old.published; left = reader.old.left; gone = reader.old.gone } }
+        ensures begun { Begins reader.old.seen publisher.old.published }
+        ensures same { publisher.new ≡ publisher.old }
+    {
+        counted_handles::meet(&self.table.shared, &mut publisher.badge, &mut reader.badge);
     }
 
     /// Ends the cell, and gives the value published last. [`StillOut`] with all three as they were where a reader isn't given back,
@@ -228,7 +240,8 @@ impl<T: Drop, C: Names<T>> Cell<T, C> {
         requires cell { publisher.old.cell ≡ self.now }
         requires room { publisher.old.number < 2 ^ 64 - 1 }
         requires follows { C.follows publisher.old.value value }
-        ensures old { IfOk result (λ strong. strong ≡ record { number = publisher.old.number; value = publisher.old.value }) }
+        ensures table { IfOk result (λ strong. strong.table ≡ self.now) }
+        ensures old { IfOk result (λ strong. strong.version ≡ record { number = publisher.old.number; value = publisher.old.value }) }
         ensures published { IfOk result (λ _. publisher.new ≡ published_next publisher.old value) }
         ensures refused { IfErr result (λ refused. (refused.value ≡ value) × (refused.probed ≡ slots) × (publisher.new ≡ publisher.old)) }
     {

@@ -9,8 +9,9 @@ ghost use Rattle.atomic_table.specs.Seated.{TableId};
 use crate::cell::Cell;
 use crate::fault::Spent;
 use crate::named_ending::end_all_named;
+use crate::named_owner::NamedStrong;
 use crate::tokens::{Publisher, Reader};
-use counted_handles::{Names, NoSlot, Strong};
+use counted_handles::{Names, NoSlot};
 use std::marker::{Brand, Model, PhantomData};
 
 /// Which cell it is. Each call of a program that runs a cell picks it.
@@ -135,11 +136,11 @@ impl<T: Drop, C: Names<T>, N: Naming> NamedCell<T, C, N> {
     }
 
     /// As [`Cell::load`].
-    pub fn load(&self, reader: &mut NamedReader<T, N>) -> Result<Strong<'_, T, C>, Spent>
+    pub fn load(&self, reader: &mut NamedReader<T, N>) -> Result<NamedStrong<'_, T, C, N>, Spent>
         ensures loaded { IfOk result (λ strong. IsLoad C.begins C.follows reader.old reader.new strong) }
         ensures spent { IfErr result (λ _. (reader.old.left ≡ 0) × (reader.new ≡ reader.old)) }
     {
-        self.cell.load(&mut reader.reader)
+        Ok(NamedStrong::of(self.cell.load(&mut reader.reader)?))
     }
 
     /// As [`Cell::newest`].
@@ -147,14 +148,25 @@ impl<T: Drop, C: Names<T>, N: Naming> NamedCell<T, C, N> {
         &self,
         publisher: &mut NamedPublisher<T, C, N>,
         reader: &mut NamedReader<T, N>,
-    ) -> Result<Strong<'_, T, C>, Spent>
-        ensures newest { IfOk result (λ strong. (strong ≡ record { number = publisher.old.number; value = publisher.old.value }) × (reader.new ≡ record { cell = reader.old.cell; seen = publisher.old.published; left = reader.old.left - 1 }) × (0 < reader.old.left)) }
+    ) -> Result<NamedStrong<'_, T, C, N>, Spent>
+        ensures newest { IfOk result (λ strong. (strong ≡ record { number = publisher.old.number; value = publisher.old.value }) × (reader.new ≡ record { cell = reader.old.cell; seen = publisher.old.published; left = reader.old.left - 1; gone = reader.old.gone }) × (0 < reader.old.left)) }
         ensures begun { IfOk result (λ _. Begins reader.old.seen publisher.old.published) }
         ensures same { publisher.new ≡ publisher.old }
         ensures spent { IfErr result (λ _. (reader.old.left ≡ 0) × (reader.new ≡ reader.old)) }
     {
-        self.cell
-            .newest(&mut publisher.publisher, &mut reader.reader)
+        let strong = self
+            .cell
+            .newest(&mut publisher.publisher, &mut reader.reader)?;
+        Ok(NamedStrong::of(strong))
+    }
+
+    /// As [`Cell::meet`].
+    pub fn meet(&self, publisher: &mut NamedPublisher<T, C, N>, reader: &mut NamedReader<T, N>)
+        ensures met { reader.new ≡ record { cell = reader.old.cell; seen = publisher.old.published; left = reader.old.left; gone = reader.old.gone } }
+        ensures begun { Begins reader.old.seen publisher.old.published }
+        ensures same { publisher.new ≡ publisher.old }
+    {
+        self.cell.meet(&mut publisher.publisher, &mut reader.reader);
     }
 
     /// As [`Cell::close`].
@@ -189,13 +201,14 @@ impl<T: Drop, C: Names<T>, N: Naming> NamedCell<T, C, N> {
         &self,
         publisher: &mut NamedPublisher<T, C, N>,
         value: T,
-    ) -> Result<Strong<'_, T, C>, NoSlot<T>>
+    ) -> Result<NamedStrong<'_, T, C, N>, NoSlot<T>>
         requires room { publisher.old.number < 2 ^ 64 - 1 }
         requires follows { C.follows publisher.old.value value }
         ensures old { IfOk result (λ strong. strong ≡ record { number = publisher.old.number; value = publisher.old.value }) }
         ensures published { IfOk result (λ _. publisher.new ≡ published_next publisher.old value) }
         ensures refused { IfErr result (λ refused. (refused.value ≡ value) × (refused.probed ≡ slots) × (publisher.new ≡ publisher.old)) }
     {
-        self.cell.publish(&mut publisher.publisher, value)
+        let old = self.cell.publish(&mut publisher.publisher, value)?;
+        Ok(NamedStrong::of(old))
     }
 }

@@ -14,7 +14,8 @@ pub const READERS: usize = 64;
 /// How many loads a reader can make (own).
 pub(crate) const LOADS: u64 = 1 << 40;
 
-/// One who loads. Contracts see its cell, the values that it has seen published and the grants that it has left.
+/// One who loads. Contracts see its cell, the values that it has seen published, the grants that it has left, and the numbers that it has
+/// seen buried.
 #[derive(Drop)]
 pub struct Reader<T> {
     pub(crate) badge: Badge<View<T>>,
@@ -22,13 +23,13 @@ pub struct Reader<T> {
 }
 
 impl<T> Model for Reader<T> {
-    ghost use Rattle.snapshot_cell.specs.Tokens.{ReaderState, reader_coded, seen_in, IsReader};
+    ghost use Rattle.snapshot_cell.specs.Tokens.{ReaderState, reader_coded, seen_in, gone_in, IsReader};
 
     ghost Value = { ReaderState T };
 
     ghost coded = { reader_coded T.code };
 
-    ghost view = { λ a. record { cell = a.badge.table_id; seen = seen_in a.badge.views; left = a.left } };
+    ghost view = { λ a. record { cell = a.badge.table_id; seen = seen_in a.badge.views; left = a.left; gone = gone_in a.badge.views } };
 
     ghost invariant = { λ a. IsReader a.badge.table_id a.badge.views a.left };
 }

@@ -5,7 +5,7 @@ ghost use Rattle.std.specs.List.{All};
 use crate::begun::{Named, begun, end_at, name_parts, tally_of};
 use crate::counted::{Counted, Rising, Tally};
 use crate::players::{Loader, Teller};
-use snapshot_cell::{Naming, Parts, Strong};
+use snapshot_cell::{NamedStrong, Naming, Parts};
 use std::alloc::Global;
 use std::collections::VecDeque;
 use std::marker::Brand;
@@ -22,15 +22,18 @@ const ACROSS: usize = 63;
 const SLOTS: u64 = 64;
 
 /// The owners that are held, the eldest first.
-type Owners<'a> = VecDeque<Strong<'a, Counted, Rising>>;
+type Owners<'a, N> = VecDeque<NamedStrong<'a, Counted, Rising, N>>;
 
 /// Whether the owner's release buries its version, whose value has its number.
-fn ends(owner: Strong<'_, Counted, Rising>, number: u64) -> bool {
+fn ends<N: Naming>(owner: NamedStrong<'_, Counted, Rising, N>, number: u64) -> bool {
     owner.get().number == number && owner.release().buried() == Some(number)
 }
 
 /// One more value is published, and the old owner held. None where that was refused.
-fn publish_one<'a, N: Naming>(teller: &mut Teller<'a, N>, owners: &mut Owners<'a>) -> Option<()> {
+fn publish_one<'a, N: Naming>(
+    teller: &mut Teller<'a, N>,
+    owners: &mut Owners<'a, N>,
+) -> Option<()> {
     if teller.publisher.last() >= VALUES {
         return None;
     }
@@ -41,7 +44,7 @@ fn publish_one<'a, N: Naming>(teller: &mut Teller<'a, N>, owners: &mut Owners<'a
 
 /// Publishes all values, with each owner held across so many publications: whether each of those let go was the last owner of the
 /// eldest version.
-fn play<'a, N: Naming>(teller: &mut Teller<'a, N>, owners: &mut Owners<'a>) -> bool {
+fn play<'a, N: Naming>(teller: &mut Teller<'a, N>, owners: &mut Owners<'a, N>) -> bool {
     for published in 0..VALUES {
         if publish_one(teller, owners).is_none() {
             return false;
@@ -61,7 +64,7 @@ fn play<'a, N: Naming>(teller: &mut Teller<'a, N>, owners: &mut Owners<'a>) -> b
 }
 
 /// Publishes as many values as there are slots, and holds each old owner: the value that was refused.
-fn fill<'a, N: Naming>(teller: &mut Teller<'a, N>, owners: &mut Owners<'a>) -> Option<Counted>
+fn fill<'a, N: Naming>(teller: &mut Teller<'a, N>, owners: &mut Owners<'a, N>) -> Option<Counted>
     ensures { IfSome result (λ value. (teller.new.publisher.number < 100000) × (value.number ≡ teller.new.publisher.number + 1)) }
 {
     for _ in 0..SLOTS {
@@ -75,6 +78,19 @@ fn fill<'a, N: Naming>(teller: &mut Teller<'a, N>, owners: &mut Owners<'a>) -> O
         }
     }
     None
+}
+
+/// Each old owner is held across 63 publications, and then the last ones are let go, too.
+fn hold_on<'a, R: Abort, N: Naming>(
+    rt: &R,
+    alloc: Global,
+    teller: &mut Teller<'a, N>,
+    tally: &Arc<Tally>,
+) {
+    let mut owners: Owners<'a, N> = VecDeque::new(alloc);
+    assert!(rt; play(teller, &mut owners));
+    assert_eq!(rt; owners.len(), ACROSS - 1);
+    assert!(rt; tally.were_dropped_once(VALUES as usize + 1 - ACROSS));
 }
 
 /// The values are published with each old owner held, and then the cell is ended.
@@ -98,11 +114,7 @@ fn hold_across<R: Abort, N: Naming>(
         publisher,
         tally: Arc::try_clone(tally).expect(rt, "memory"),
     };
-    let mut owners: Owners = VecDeque::new(alloc);
-    assert!(rt; play(&mut teller, &mut owners));
-    assert_eq!(rt; owners.len(), ACROSS - 1);
-    assert!(rt; tally.were_dropped_once(VALUES as usize + 1 - ACROSS));
-    drop(owners);
+    hold_on(rt, alloc, &mut teller, tally);
     let publisher = teller.into_publisher();
     let named = Named {
         cell,
@@ -124,7 +136,7 @@ fn owners_across_63_publications(rt: HostRuntime) {
 fn let_one_go<'a, R: Abort, N: Naming>(
     rt: &R,
     teller: &mut Teller<'a, N>,
-    owners: &mut Owners<'a>,
+    owners: &mut Owners<'a, N>,
     refused: Counted,
 )
     requires { (teller.old.publisher.number < 100000) × (refused.number ≡ teller.old.publisher.number + 1) }
@@ -145,7 +157,7 @@ fn hold_all<'a, R: Abort, N: Naming>(
     teller: &mut Teller<'a, N>,
     loader: &mut Loader<'_, N>,
 ) {
-    let mut owners: Owners<'a> = VecDeque::new(alloc);
+    let mut owners: Owners<'a, N> = VecDeque::new(alloc);
     let refused = fill(teller, &mut owners).expect(rt, "a value");
     assert_eq!(rt;
         (refused.number, teller.publisher.last(), owners.len()),

@@ -1,7 +1,7 @@
 //! What threads do with one cell, each of them a job.
 use crate::counted::{Counted, Rising};
 use crate::players::{Loader, Ran, Teller};
-use snapshot_cell::{Naming, Strong};
+use snapshot_cell::{NamedStrong, Naming};
 use std::process::Abort;
 use std::thread;
 use std::thread::Threads;
@@ -30,7 +30,7 @@ pub(crate) enum Job<'a, N: Naming> {
     /// Publishes all values.
     Publish(Teller<'a, N>),
     /// Releases an owner, which is the last one of version 0.
-    Release(Strong<'a, Counted, Rising>),
+    Release(NamedStrong<'a, Counted, Rising, N>),
     /// Publishes and loads while a drop sleeps.
     GoOn(Others<'a, N>),
 }

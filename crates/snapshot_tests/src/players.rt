@@ -3,7 +3,7 @@ ghost use Rattle.std.specs.Prelude.{◌≡◌, ◌+◌, ◌<◌, ◌-◌, ◌^�
 
 use crate::begun::Named;
 use crate::counted::{Counted, Rising, Tally};
-use snapshot_cell::{NamedCell, NamedPublisher, NamedReader, Naming, Strong};
+use snapshot_cell::{NamedCell, NamedPublisher, NamedReader, NamedStrong, Naming};
 use std::alloc::Global;
 use std::process::Abort;
 use std::sync::Arc;
@@ -65,7 +65,7 @@ impl<'a, N: Naming> Loader<'a, N> {
     }
 
     /// One load: the owner, where its value is the one of its number.
-    pub(crate) fn load(&mut self) -> Option<Strong<'a, Counted, Rising>> {
+    pub(crate) fn load(&mut self) -> Option<NamedStrong<'a, Counted, Rising, N>> {
         let strong = self.cell.load(&mut self.reader).ok()?;
         (strong.get().number == strong.number()).then_some(strong)
     }
@@ -109,7 +109,10 @@ impl<'a, N: Naming> Teller<'a, N> {
     }
 
     /// One publication: the old version's owner, or the value where there was no slot.
-    pub(crate) fn publish(&mut self, value: Counted) -> Result<Strong<'a, Counted, Rising>, Counted>
+    pub(crate) fn publish(
+        &mut self,
+        value: Counted,
+    ) -> Result<NamedStrong<'a, Counted, Rising, N>, Counted>
         requires { (self.old.publisher.number < 2 ^ 64 - 1) × (value.number ≡ self.old.publisher.number + 1) }
         ensures { IfErr result (λ value. (value.number ≡ self.old.publisher.number + 1) × (self.new.publisher.number ≡ self.old.publisher.number)) }
     {

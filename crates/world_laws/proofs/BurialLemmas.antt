@@ -1,7 +1,6 @@
 -- A number is told as buried once.
 use Rattle.std.proofs.Common.{◌≡◌, refl, sym, ap, ◌∙◌, subst, ℕ, zero, suc, ◌+◌, ◌<◌, ◌≤◌, Bool, true, false, ◌⊎◌, inl, inr, List, [], ◌∷◌, ◌++◌, length, arith, Option, Some, None}
-use Rattle.std.specs.Prelude.{◌==◌, ◌||◌, ◌&&◌, not, nat_lt, bytes_eq, filter, if◌then◌else◌}
-use Rattle.std.specs.List.{list_any}
+use Rattle.std.specs.Prelude.{◌==◌, ◌||◌, ◌&&◌, is_some, not, nat_le, nat_lt, bytes_eq, filter, if◌then◌else◌}
 use Rattle.std.specs.Option.{option_and_then}
 use Rattle.std.proofs.lemmas.Bool.{cases_Bool}
 use Rattle.std.proofs.lemmas.Bool.Decides.{eqb_tells}
@@ -14,14 +13,13 @@ use Rattle.cell_core.specs.Made.{made}
 use Rattle.cell_core.proofs.SeatLemmas.{held_none}
 use Rattle.cell_core.specs.Shows.{Shows, ShowsStep, OwnerIs, holds as owner_has}
 use Rattle.cell_core.specs.declared.words.Owner.{Owner}
-use Rattle.cell_core.specs.declared.words.Owner.TheVariants.{Holding, Burying, Freeing, Spent}
-use Rattle.cell_core.specs.Words.{found_last, grants}
+use Rattle.cell_core.specs.declared.words.Owner.TheVariants.{Holding, Twice, Weakly, Both, Burying, Fading, Resetting, Freeing, Spent}
+use Rattle.cell_core.specs.Words.{found_by, found_last, grants}
 use Rattle.cell_core.specs.WordSteps.{Makes}
 use Rattle.cell_core.specs.declared.words.WordEvent.{WordEvent}
 use Rattle.cell_core.specs.declared.words.WordEvent.TheVariants as told
 use Rattle.cell_core.specs.declared.words.WordStep.TheVariants as word
 use Rattle.dns_rdata.specs.Record.{Record}
-use Rattle.dns_rdata.specs.Numbers.{type_IXFR}
 use Rattle.serve_core.specs.declared.heading.Heading.{Heading}
 use Rattle.dns_message.specs.declared.query.Parsed.{Parsed}
 use Rattle.dns_message.specs.declared.query.Parsed.TheVariants as parsed
@@ -34,7 +32,7 @@ use Rattle.zone_tree.specs.Version.{Version as Numbered}
 use Rattle.world_run.specs.declared.judged.Judged.{Judged}
 use Rattle.world_run.specs.declared.judged.Judged.TheVariants as judgement
 use Rattle.world_run.specs.declared.phase.End.{End}
-use Rattle.world_run.specs.declared.phase.End.TheVariants.{Owned, Told, NoSlot, Kept}
+use Rattle.world_run.specs.declared.phase.End.TheVariants.{Owned, OwnedWeakly, Told, NoSlot, Kept, Sent}
 use Rattle.world_run.specs.declared.phase.Keeping.{Keeping}
 use Rattle.world_run.specs.declared.phase.Phase.{Phase}
 use Rattle.world_run.specs.declared.phase.Phase.TheVariants as phase
@@ -48,31 +46,49 @@ use Rattle.world_run.specs.declared.start.Start.TheVariants.{Refused, Answers, T
 use Rattle.world_run.specs.declared.step.Answer.{Answer}
 use Rattle.world_run.specs.declared.step.Answer.TheVariants as answer
 use Rattle.world_run.specs.declared.step.Call.{Call}
-use Rattle.world_run.specs.declared.step.Call.TheVariants.{Load, Drop, Ask, Transfer, Update}
+use Rattle.world_run.specs.declared.step.Call.TheVariants.{Load, Drop, Copy, Weak, Fade, Up, Ask, Transfer, Update}
 use Rattle.world_run.specs.declared.step.WorldReply.{WorldReply}
 use Rattle.world_run.specs.declared.step.WorldReply.TheVariants.{Answered, Begun, Step, Last, NotEnabled}
 use Rattle.world_run.specs.declared.step.WorldStep.{WorldStep as Line}
 use Rattle.world_run.specs.declared.step.WorldStep.TheVariants.{Whole, Begin, Next}
 use Rattle.world_laws.specs.Held.{tells_buried, IsGone}
 use Rattle.world_run.specs.Judgements.{asks_update, judged}
-use Rattle.world_run.specs.Phases.{word_step, step_name, after, past, oldest_after, load_after, probe_after, settle_after, keep_after, updates}
-use Rattle.world_run.specs.World.{World, started, call_of, without_call, owner_of, is_taken, zone_of, version_of, answer_of, asks_sent, ask_start, drop_start, transfer_asked, transfer_said, transfer_start, is_held, oldest_kept, update_start, start, answer_at, step_once, steps_up_to, go_on, most_steps, is_full, all_made, whole, begin, begin_under, stepped, next, turn, onto_replies, play}
-use Rattle.world_laws.proofs.EndLemmas.{IsFirst, FirstOf, start_first}
+use Rattle.world_run.specs.Phases.{word_step, step_name, after, past, gone, leaving_after, oldest_after, sent_after, load_after, look_after, raise_after, note_after, probe_after, settle_after, keep_after, enter_after, seek_after, gain_after, gained_after, got_after, completed, with_got}
+use Rattle.world_run.specs.Transfers.{sent_for, messages_answer}
+use Rattle.world_run.specs.Entries.{later}
+use Rattle.world_run.specs.declared.entries.Entry.{Entry}
+use Rattle.world_run.specs.declared.sending.Seeking.{Seeking}
+use Rattle.world_run.specs.declared.sending.Sending.{Sending}
+use Rattle.world_run.specs.World.{World, started, call_of, without_call, owner_of, is_taken, zone_of, answer_of, asks_sent, ask_start, drop_start, fade_start, copy_start, weak_start, up_start, is_used, is_taken_weakly, seek_start, transfer_asked, transfer_said, transfer_of, transfer_start, none_got, is_barred, can_enter, is_held, oldest_kept, update_start, start, answer_at, step_once, steps_up_to, go_on, most_steps, is_full, all_made, whole, begin, begin_under, stepped, next, turn, onto_replies, play}
+use Rattle.world_laws.proofs.FirstLemmas.{IsOpening, OpeningOf, start_opening}
 use Rattle.world_laws.proofs.HandPlay.{started_hands}
-use Rattle.world_laws.proofs.HandSteps.{Zones}
-use Rattle.world_laws.proofs.ReplayLemmas.{step_by}
+use Rattle.world_laws.proofs.HandSeats.{Zones}
+use Rattle.world_laws.proofs.SwapLemmas.{step_by}
+
+-- a number that is to be told
+abbrev pub told_of : ℕ → Option ℕ → ℕ
+told_of n None = 0
+told_of n (Some number) = one_if (number == n)
 
 -- a number that a call has buried and is to tell
 abbrev pub freed : ℕ → Phase → ℕ
 freed n (phase.Load name) = 0
+freed n (phase.Look name owner) = 0
+freed n (phase.Seek owner seeking) = 0
+freed n (phase.Gain owner seeking) = 0
+freed n (phase.Raise name owner) = 0
+freed n (phase.Note name owner) = 0
 freed n (phase.Probe version keeping) = 0
 freed n (phase.Prepare version keeping) = 0
 freed n (phase.Swap keeping) = 0
 freed n (phase.Settle keeping) = 0
 freed n (phase.Keep given keeping) = 0
+freed n (phase.Enter given kept keeping) = 0
 freed n (phase.Release owner for) = 0
 freed n (phase.Bury owner for) = 0
-freed n (phase.Free owner number for) = one_if (number == n)
+freed n (phase.Fade owner number for) = told_of n number
+freed n (phase.Reset owner number for) = told_of n number
+freed n (phase.Free owner number for) = told_of n number
 
 abbrev pub frees : ℕ → List UnderWay → ℕ
 frees n [] = 0
@@ -82,6 +98,8 @@ abbrev pub buried_in : ℕ → Answer → ℕ
 buried_in n (answer.Owner name number) = 0
 buried_in n answer.Left = 0
 buried_in n (answer.Buried number) = one_if (number == n)
+buried_in n answer.Faded = 0
+buried_in n answer.Nothing = 0
 buried_in n (answer.Reply octets) = 0
 buried_in n answer.Silent = 0
 buried_in n (answer.Messages messages) = 0
@@ -89,9 +107,11 @@ buried_in n (answer.Messages messages) = 0
 abbrev pub told_by : ℕ → Progress → ℕ
 told_by n (On at) = freed n at
 told_by n (Done (Owned name owner number)) = 0
+told_by n (Done (OwnedWeakly name owner number)) = 0
 told_by n (Done (Told given)) = buried_in n given
+told_by n (Done (Sent sending)) = 0
 told_by n (Done (NoSlot head)) = 0
-told_by n (Done (Kept head owner)) = 0
+told_by n (Done (Kept head owner entry)) = 0
 
 -- each number was told once, or is to be told once, and is buried
 pub record Once (words : Zones) (seen : ℕ → ℕ) (calls : List UnderWay) (progress : Progress) : Type 0 where
@@ -104,18 +124,42 @@ abbrev pub quiet : Progress
 quiet = Done (Told answer.Left)
 
 -- a step that buries nothing tells no more
-oldest_none : (n : ℕ) (head : Heading) (kept : ℕ) (oldest : Option ℕ) → told_by n (oldest_after head kept oldest) ≡ 0
-oldest_none n head kept None = refl
-oldest_none n head kept (Some owner) = refl
+leaving_none : (n : ℕ) (head : Heading) (kept : ℕ) (entry : Option Entry) (leaving : List ℕ) → told_by n (leaving_after head kept entry leaving) ≡ 0
+leaving_none n head kept entry [] = refl
+leaving_none n head kept entry (owner ∷ leaving) = refl
+
+oldest_none : (n : ℕ) (head : Heading) (kept : ℕ) (entry : Option Entry) (leaving : List ℕ) (oldest : Option ℕ) → told_by n (oldest_after head kept entry leaving oldest) ≡ 0
+oldest_none n head kept entry leaving None = leaving_none n head kept entry leaving
+oldest_none n head kept entry leaving (Some owner) = refl
+
+sent_none : (n : ℕ) (sending : Sending) (got : List ℕ) → told_by n (sent_after sending got) ≡ 0
+sent_none n sending [] = refl
+sent_none n sending (owner ∷ got) = refl
 
 past_less : (n : ℕ) (for : Purpose) (given : Answer) → told_by n (past for given) ≤ buried_in n given
 past_less n purpose.Drop given = omega arith
-past_less n (purpose.Publish keeping kept) given = let none = oldest_none n keeping.heading kept keeping.oldest in omega (arith, none)
-past_less n (purpose.Oldest head kept) given = omega arith
+past_less n (purpose.Publish keeping kept entry) given = let none = oldest_none n keeping.heading kept entry keeping.leaving keeping.oldest in omega (arith, none)
+past_less n (purpose.Oldest head kept entry leaving) given = let none = leaving_none n head kept entry leaving in omega (arith, none)
+past_less n (purpose.Leaves head kept entry leaving) given = let none = leaving_none n head kept entry leaving in omega (arith, none)
+past_less n (purpose.Sent sending got) given = let none = sent_none n sending got in omega (arith, none)
 
 load_none : (n : ℕ) (name : List ℕ) (event : WordEvent) → told_by n (load_after name event) ≡ 0
 load_none n name (told.Loaded owner number) = refl
 load_none n name event = refl
+
+look_none : (n : ℕ) (name : List ℕ) (owner : ℕ) (event : WordEvent) → told_by n (look_after name owner event) ≡ 0
+look_none n name owner told.Alive = refl
+look_none n name owner told.Dead = refl
+look_none n name owner event = refl
+
+raise_none : (n : ℕ) (name : List ℕ) (owner : ℕ) (event : WordEvent) → told_by n (raise_after name owner event) ≡ 0
+raise_none n name owner (told.Raised next number) = refl
+raise_none n name owner told.Dead = refl
+raise_none n name owner event = refl
+
+note_none : (n : ℕ) (name : List ℕ) (owner : ℕ) (event : WordEvent) → told_by n (note_after name owner event) ≡ 0
+note_none n name owner (told.Noted next number) = refl
+note_none n name owner event = refl
 
 probe_none : (n : ℕ) (version : Numbered) (keeping : Keeping) (event : WordEvent) → told_by n (probe_after version keeping event) ≡ 0
 probe_none n version keeping told.Taken = refl
@@ -126,13 +170,47 @@ settle_none : (n : ℕ) (keeping : Keeping) (event : WordEvent) → told_by n (s
 settle_none n keeping (told.Settled owner number) = refl
 settle_none n keeping event = refl
 
+entered_none : (n given : ℕ) (keeping : Keeping) (owner : ℕ) (enters : Bool) → told_by n (if enters then On (phase.Enter given owner keeping) else On (phase.Release given (purpose.Publish keeping owner None))) ≡ 0
+entered_none n given keeping owner true = refl
+entered_none n given keeping owner false = refl
+
 keep_none : (n given : ℕ) (keeping : Keeping) (event : WordEvent) → told_by n (keep_after given keeping event) ≡ 0
-keep_none n given keeping (told.Loaded owner number) = refl
+keep_none n given keeping (told.Loaded owner number) = entered_none n given keeping owner (is_some keeping.enters)
 keep_none n given keeping event = refl
 
-release_none : (n owner : ℕ) (for : Purpose) (event : WordEvent) → told_by n (after (phase.Release owner for) event) ≤ 0
-release_none n owner for told.Emptied = omega arith
-release_none n owner for event = past_less n for answer.Left
+enter_none : (n given kept : ℕ) (keeping : Keeping) (event : WordEvent) → told_by n (enter_after given kept keeping event) ≡ 0
+enter_none n given kept keeping (told.Noted owner number) = refl
+enter_none n given kept keeping event = refl
+
+seek_none : (n owner : ℕ) (seeking : Seeking) (event : WordEvent) → told_by n (seek_after owner seeking event) ≡ 0
+seek_none n owner seeking told.Alive = refl
+seek_none n owner seeking told.Dead = sent_none n seeking.sending seeking.owners
+seek_none n owner seeking event = refl
+
+gained_none : (n : ℕ) (seeking : Seeking) (left : List ℕ) → told_by n (gained_after seeking left) ≡ 0
+gained_none n seeking [] = sent_none n (completed seeking.sending) seeking.owners
+gained_none n seeking (owner ∷ left) = refl
+
+got_none : (n owner : ℕ) (seeking : Seeking) (next_owner : ℕ) (found : Option Numbered) → told_by n (got_after owner seeking next_owner found) ≡ 0
+got_none n owner seeking next_owner None = refl
+got_none n owner seeking next_owner (Some version) = gained_none n (with_got next_owner version seeking) seeking.left
+
+gain_none : (n : ℕ) (words : Zones) (owner : ℕ) (seeking : Seeking) (event : WordEvent) → told_by n (gain_after words owner seeking event) ≡ 0
+gain_none n words owner seeking (told.Raised next_owner number) = got_none n owner seeking next_owner (found_by words next_owner)
+gain_none n words owner seeking told.Dead = sent_none n seeking.sending seeking.owners
+gain_none n words owner seeking event = refl
+
+release_none : (words : Zones) (n owner : ℕ) (for : Purpose) (event : WordEvent) → told_by n (after words (phase.Release owner for) event) ≤ 0
+release_none words n owner for told.Emptied = omega arith
+release_none words n owner for event = past_less n for answer.Left
+
+gone_less : (n : ℕ) (for : Purpose) (number : Option ℕ) → told_by n (past for (gone number)) ≤ told_of n number
+gone_less n for None = past_less n for answer.Faded
+gone_less n for (Some number) = past_less n for (answer.Buried number)
+
+fade_less : (words : Zones) (n owner : ℕ) (number : Option ℕ) (for : Purpose) (event : WordEvent) → told_by n (after words (phase.Fade owner number for) event) ≤ told_of n number
+fade_less words n owner number for told.Closed = omega arith
+fade_less words n owner number for event = gone_less n for number
 
 -- what a step makes of numbers that are to be told
 record Goes (cell next : Cell Numbered) (at : Phase) (progress : Progress) : Type 0 where
@@ -142,39 +220,47 @@ record Goes (cell next : Cell Numbered) (at : Phase) (progress : Progress) : Typ
 grows : (words : Zones) (at : Phase) (event : WordEvent) (cell next : Cell Numbered) → ShowsStep words (word_step at) event cell next → (n : ℕ) → cell.buried n ≡ true → next.buried n ≡ true
 grows words at event cell next s n e = let short = step_runs words (word_step at) event cell next s in (run_grows cell next short.steps short.runs).buried n e
 
-bury_goes : (words new : Zones) (owner : ℕ) (for : Purpose) (event : WordEvent) (cell next : Cell Numbered) → Makes {T = Numbered} words (word.Bury owner) event new → ShowsStep {T = Numbered} words (word.Bury owner) event cell next → Goes cell next (phase.Bury owner for) (after (phase.Bury owner for) event)
+bury_goes : (words new : Zones) (owner : ℕ) (for : Purpose) (event : WordEvent) (cell next : Cell Numbered) → Makes {T = Numbered} words (word.Bury owner) event new → ShowsStep {T = Numbered} words (word.Bury owner) event cell next → Goes cell next (phase.Bury owner for) (after new (phase.Bury owner for) event)
 bury_goes words new owner for event cell next (place, there, seat, found, m) s =
     elim (cases_Bool (there.shares == 0)) [
       | inl none ↦ (
           let h = rw none at m in
           let shown = subst (λ e. ShowsStep {T = Numbered} words (word.Bury owner) e cell next) h.2 s in
           let is : next.buried h.0 ≡ true = ap (λ (c : Cell Numbered). c.buried h.0) shown.4 ∙ (elim (eqb_tells h.0 h.0) [ inl same ↦ rw same.0 refl | inr other ↦ absurd (other.1 refl) ]) in
-          subst (λ e. Goes cell next (phase.Bury owner for) (after (phase.Bury owner for) e)) (sym h.2) (record {
+          subst (λ e. Goes cell next (phase.Bury owner for) (after new (phase.Bury owner for) e)) (sym h.2) (record {
             stays = grows words (phase.Bury owner for) event cell next s;
             less = inr (h.0, shown.2, is, λ n. refl);
           })
           )
       | inr some ↦ (
           let h = rw some at m in
-          subst (λ e. Goes cell next (phase.Bury owner for) (after (phase.Bury owner for) e)) (sym h.0) (record {
+          subst (λ e. Goes cell next (phase.Bury owner for) (after new (phase.Bury owner for) e)) (sym h.0) (record {
             stays = grows words (phase.Bury owner for) event cell next s;
             less = inl (λ n. past_less n for answer.Left);
           })
           )
     ]
 
-goes : (words new : Zones) (at : Phase) (event : WordEvent) (cell next : Cell Numbered) → Makes words (word_step at) event new → ShowsStep words (word_step at) event cell next → Goes cell next at (after at event)
+goes : (words new : Zones) (at : Phase) (event : WordEvent) (cell next : Cell Numbered) → Makes words (word_step at) event new → ShowsStep words (word_step at) event cell next → Goes cell next at (after new at event)
 goes words new (phase.Load name) event cell next m s = record { stays = grows words (phase.Load name) event cell next s; less = inl (λ n. let e = load_none n name event in omega (arith, e)) }
+goes words new (phase.Look name owner) event cell next m s = record { stays = grows words (phase.Look name owner) event cell next s; less = inl (λ n. let e = look_none n name owner event in omega (arith, e)) }
+goes words new (phase.Seek owner seeking) event cell next m s = record { stays = grows words (phase.Seek owner seeking) event cell next s; less = inl (λ n. let e = seek_none n owner seeking event in omega (arith, e)) }
+goes words new (phase.Gain owner seeking) event cell next m s = record { stays = grows words (phase.Gain owner seeking) event cell next s; less = inl (λ n. let e = gain_none n new owner seeking event in omega (arith, e)) }
+goes words new (phase.Raise name owner) event cell next m s = record { stays = grows words (phase.Raise name owner) event cell next s; less = inl (λ n. let e = raise_none n name owner event in omega (arith, e)) }
+goes words new (phase.Note name owner) event cell next m s = record { stays = grows words (phase.Note name owner) event cell next s; less = inl (λ n. let e = note_none n name owner event in omega (arith, e)) }
 goes words new (phase.Probe version keeping) event cell next m s = record { stays = grows words (phase.Probe version keeping) event cell next s; less = inl (λ n. let e = probe_none n version keeping event in omega (arith, e)) }
 goes words new (phase.Prepare version keeping) event cell next m s = record { stays = grows words (phase.Prepare version keeping) event cell next s; less = inl (λ n. omega arith) }
 goes words new (phase.Swap keeping) event cell next m s = record { stays = grows words (phase.Swap keeping) event cell next s; less = inl (λ n. omega arith) }
 goes words new (phase.Settle keeping) event cell next m s = record { stays = grows words (phase.Settle keeping) event cell next s; less = inl (λ n. let e = settle_none n keeping event in omega (arith, e)) }
 goes words new (phase.Keep given keeping) event cell next m s = record { stays = grows words (phase.Keep given keeping) event cell next s; less = inl (λ n. let e = keep_none n given keeping event in omega (arith, e)) }
-goes words new (phase.Release owner for) event cell next m s = record { stays = grows words (phase.Release owner for) event cell next s; less = inl (λ n. release_none n owner for event) }
+goes words new (phase.Enter given kept keeping) event cell next m s = record { stays = grows words (phase.Enter given kept keeping) event cell next s; less = inl (λ n. let e = enter_none n given kept keeping event in omega (arith, e)) }
+goes words new (phase.Release owner for) event cell next m s = record { stays = grows words (phase.Release owner for) event cell next s; less = inl (λ n. release_none new n owner for event) }
 goes words new (phase.Bury owner for) event cell next m s = bury_goes words new owner for event cell next m s
-goes words new (phase.Free owner number for) event cell next m s = record { stays = grows words (phase.Free owner number for) event cell next s; less = inl (λ n. past_less n for (answer.Buried number)) }
+goes words new (phase.Fade owner number for) event cell next m s = record { stays = grows words (phase.Fade owner number for) event cell next s; less = inl (λ n. fade_less new n owner number for event) }
+goes words new (phase.Reset owner number for) event cell next m s = record { stays = grows words (phase.Reset owner number for) event cell next s; less = inl (λ n. omega arith) }
+goes words new (phase.Free owner number for) event cell next m s = record { stays = grows words (phase.Free owner number for) event cell next s; less = inl (λ n. gone_less n for number) }
 
-step_once_by : (words new : Zones) (seen : ℕ → ℕ) (calls : List UnderWay) (at : Phase) (event : WordEvent) → Makes words (word_step at) event new → Once words seen calls (On at) → Once new seen calls (after at event)
+step_once_by : (words new : Zones) (seen : ℕ → ℕ) (calls : List UnderWay) (at : Phase) (event : WordEvent) → Makes words (word_step at) event new → Once words seen calls (On at) → Once new seen calls (after new at event)
 step_once_by words new seen calls at event m o =
     let t = step_shows words new (word_step at) event o.cell o.shows m in
     let g = goes words new at event o.cell t.0 m t.1 in
@@ -245,16 +331,24 @@ silent words seen calls given none o = record {
   gone = λ n some. o.gone n (let b = none n in omega (arith, some, b));
 }
 
+messages_told : (n : ℕ) (o : Option (List (List ℕ))) → one_if (tells_buried n (Answered (messages_answer o))) ≡ 0
+messages_told n None = refl
+messages_told n (Some messages) = refl
+
 end_less : (n : ℕ) (end : End) → one_if (tells_buried n (Answered (answer_at end))) ≤ told_by n (Done end)
 end_less n (Owned name owner number) = omega arith
+end_less n (OwnedWeakly name owner number) = omega arith
 end_less n (Told (answer.Owner name number)) = omega arith
 end_less n (Told answer.Left) = omega arith
 end_less n (Told (answer.Buried number)) = omega arith
+end_less n (Told answer.Faded) = omega arith
+end_less n (Told answer.Nothing) = omega arith
 end_less n (Told (answer.Reply octets)) = omega arith
 end_less n (Told answer.Silent) = omega arith
 end_less n (Told (answer.Messages messages)) = omega arith
 end_less n (NoSlot head) = omega arith
-end_less n (Kept head owner) = omega arith
+end_less n (Kept head owner entry) = omega arith
+end_less n (Sent sending) = let none = messages_told n (sent_for sending (reads sending.request)) in omega (arith, none)
 
 -- a call at its end tells what it is to tell
 ended : (words : Zones) (seen : ℕ → ℕ) (calls : List UnderWay) (end : End) (given : WorldReply) → ((n : ℕ) → one_if (tells_buried n given) ≤ told_by n (Done end)) → Once words seen calls (Done end) → Once words (with_reply seen given) calls quiet
@@ -266,23 +360,32 @@ ended words seen calls end given less o = record {
 }
 
 -- a call that takes its first step has nothing to tell
-first_quiet : (words : Zones) (at : Phase) (n : ℕ) → IsFirst words at → freed n at ≡ 0
-first_quiet words (phase.Load name) n is = refl
-first_quiet words (phase.Probe version keeping) n is = refl
-first_quiet words (phase.Prepare version keeping) n is = refl
-first_quiet words (phase.Swap keeping) n is = refl
-first_quiet words (phase.Settle keeping) n is = refl
-first_quiet words (phase.Keep given keeping) n is = refl
-first_quiet words (phase.Release owner for) n is = refl
-first_quiet words (phase.Bury owner for) n is = refl
-first_quiet words (phase.Free owner number for) n is = absurd is
+first_quiet : (at : Phase) (n : ℕ) → IsOpening at → freed n at ≡ 0
+first_quiet (phase.Load name) n is = refl
+first_quiet (phase.Look name owner) n is = refl
+first_quiet (phase.Raise name owner) n is = refl
+first_quiet (phase.Note name owner) n is = refl
+first_quiet (phase.Probe version keeping) n is = refl
+first_quiet (phase.Prepare version keeping) n is = refl
+first_quiet (phase.Swap keeping) n is = refl
+first_quiet (phase.Settle keeping) n is = refl
+first_quiet (phase.Keep given keeping) n is = refl
+first_quiet (phase.Enter given kept keeping) n is = refl
+first_quiet (phase.Seek owner seeking) n is = refl
+first_quiet (phase.Gain owner seeking) n is = refl
+first_quiet (phase.Release owner for) n is = refl
+first_quiet (phase.Bury owner for) n is = refl
+first_quiet (phase.Fade owner None for) n is = refl
+first_quiet (phase.Fade owner (Some number) for) n is = absurd is
+first_quiet (phase.Reset owner number for) n is = absurd is
+first_quiet (phase.Free owner number for) n is = absurd is
 
-begun_once : (words : Zones) (seen : ℕ → ℕ) (calls : List UnderWay) (at : Phase) → IsFirst words at → Once words seen calls quiet → Once words seen calls (On at)
+begun_once : (words : Zones) (seen : ℕ → ℕ) (calls : List UnderWay) (at : Phase) → IsOpening at → Once words seen calls quiet → Once words seen calls (On at)
 begun_once words seen calls at is o = record {
   cell = o.cell;
   shows = o.shows;
-  few = λ n. (let a = o.few n in let b = first_quiet words at n is in omega (arith, a, b));
-  gone = λ n some. o.gone n (let b = first_quiet words at n is in omega (arith, some, b));
+  few = λ n. (let a = o.few n in let b = first_quiet at n is in omega (arith, a, b));
+  gone = λ n some. o.gone n (let b = first_quiet at n is in omega (arith, some, b));
 }
 
 -- an answer without a step tells no number
@@ -299,47 +402,81 @@ answer_still : (n : ℕ) (o : Option (List ℕ)) → buried_in n (answer_of o) �
 answer_still n None = refl
 answer_still n (Some octets) = refl
 
-drop_still : (o : Option ℕ) → IsStill (drop_start o)
-drop_still None = tt
-drop_still (Some owner) = tt
+drop_still : (calls : List UnderWay) (o : Option ℕ) → IsStill (drop_start calls o)
+drop_still calls None = tt
+drop_still calls (Some owner) = still_if (is_used calls owner) _ _ tt tt
+
+fade_still : (calls : List UnderWay) (o : Option ℕ) → IsStill (fade_start calls o)
+fade_still calls None = tt
+fade_still calls (Some owner) = still_if (is_used calls owner) _ _ tt tt
+
+copy_still : (name : List ℕ) (o : Option ℕ) → IsStill (copy_start name o)
+copy_still name None = tt
+copy_still name (Some owner) = tt
+
+weak_still : (name : List ℕ) (o : Option ℕ) → IsStill (weak_start name o)
+weak_still name None = tt
+weak_still name (Some owner) = tt
+
+up_still : (calls : List UnderWay) (name : List ℕ) (o : Option ℕ) → IsStill (up_start calls name o)
+up_still calls name None = tt
+up_still calls name (Some owner) = still_if (is_used calls owner) _ _ tt tt
 
 ask_still : (zone : Option (List Record)) (request : List ℕ) → IsStill (ask_start zone request)
 ask_still None request = tt
 ask_still (Some zone) request = still_if (asks_update (reads request) || asks_sent Udp zone (reads request)) _ _ tt (λ n. answer_still n (got_for Udp true zone (reads request)).reply)
 
-asked_still : (world : World) (version : Numbered) (query : QueryAsked) → IsStill (transfer_asked world version query)
-asked_still world version query =
-    still_if (not (is_permitted version.zone (peer_over Tcp true) query)) _ _ tt
-    (still_if (query.question.rtype.0 == type_IXFR && list_any (λ call. updates call.phase) world.calls) _ _ tt (λ n. refl))
+sent_still : (n : ℕ) (o : Option (List (List ℕ))) → buried_in n (messages_answer o) ≡ 0
+sent_still n None = refl
+sent_still n (Some messages) = refl
 
-said_still : (world : World) (version : Numbered) (said : Parsed) → IsStill (transfer_said world version said)
-said_still world version parsed.Silent = tt
-said_still world version (parsed.Fault head code) = tt
-said_still world version (parsed.BadOpt head question code dnssec_ok) = tt
-said_still world version (parsed.Query query) = asked_still world version query
-said_still world version (parsed.Update update) = tt
-said_still world version (parsed.NoMemory head) = tt
+seek_still : (words : Zones) (sending : Sending) (owners : List ℕ) → IsStill (seek_start words sending owners)
+seek_still words sending [] = λ n. sent_still n (sent_for sending (reads sending.request))
+seek_still words sending (owner ∷ left) = still_if (nat_le (words.granted + length (owner ∷ left)) grants) _ _ tt tt
 
-transfer_still : (world : World) (version : Option Numbered) (request : List ℕ) → IsStill (transfer_start world version request)
-transfer_still world None request = tt
-transfer_still world (Some version) request = said_still world version (reads request)
+asked_still : (world : World) (sending : Sending) (query : QueryAsked) → IsStill (transfer_asked world sending query)
+asked_still world sending query =
+    still_if (not (is_permitted sending.version.zone (peer_over Tcp true) query)) _ _ tt
+    (still_if (is_some query.serial && is_barred world.calls) _ _ tt (seek_still world.words sending (later sending.version.number query.serial world.entries)))
+
+said_still : (world : World) (sending : Sending) (said : Parsed) → IsStill (transfer_said world sending said)
+said_still world sending parsed.Silent = tt
+said_still world sending (parsed.Fault head code) = tt
+said_still world sending (parsed.BadOpt head question code dnssec_ok) = tt
+said_still world sending (parsed.Query query) = asked_still world sending query
+said_still world sending (parsed.Update update) = tt
+said_still world sending (parsed.NoMemory head) = tt
+
+of_still : (world : World) (owner : ℕ) (request : List ℕ) (version : Option Numbered) → IsStill (transfer_of world owner request version)
+of_still world owner request None = tt
+of_still world owner request (Some version) = said_still world (none_got owner version request) (reads request)
+
+transfer_still : (world : World) (request : List ℕ) (owner : Option ℕ) → IsStill (transfer_start world request owner)
+transfer_still world request None = tt
+transfer_still world request (Some owner) = of_still world owner request (found_by world.words owner)
 
 update_still : (world : World) (what : Option Judged) → IsStill (update_start world what)
 update_still world None = tt
 update_still world (Some (judgement.Told head code)) = λ n. refl
-update_still world (Some (judgement.Makes head version)) = still_if (nat_lt world.words.granted grants && is_held world.words (oldest_kept world.keep world.kept)) _ _ tt tt
+update_still world (Some (judgement.Makes head version)) = still_if (nat_lt world.words.granted grants && is_held world.words (oldest_kept world.keep world.kept) && can_enter world.words world.window) _ _ tt tt
 
 start_still : (world : World) (call : Call) → IsStill (start world call)
 start_still world (Load name) = still_if (is_taken name world) _ _ tt tt
-start_still world (Drop name) = drop_still (owner_of name world.names)
+start_still world (Drop name) = drop_still world.calls (owner_of name world.names)
+start_still world (Copy given name) = still_if (is_taken name world) _ _ tt (copy_still name (owner_of given world.names))
+start_still world (Weak given name) = still_if (is_taken_weakly name world || is_barred world.calls) _ _ tt (weak_still name (owner_of given world.names))
+start_still world (Fade name) = fade_still world.calls (owner_of name world.weak_names)
+start_still world (Up weak name) = still_if (is_taken name world) _ _ tt (up_still world.calls name (owner_of weak world.weak_names))
 start_still world (Ask name request) = ask_still (zone_of name world) request
-start_still world (Transfer name request) = transfer_still world (version_of name world) request
-start_still world (Update request) = still_if (list_any (λ call. updates call.phase) world.calls) _ _ tt (update_still world (option_and_then (λ last. judged last request) (found_last world.words)))
+start_still world (Transfer name request) = transfer_still world request (owner_of name world.names)
+start_still world (Update request) = still_if (is_barred world.calls) _ _ tt (update_still world (option_and_then (λ last. judged last request) (found_last world.words)))
 
 told_same : (n : ℕ) (given : Answer) → one_if (tells_buried n (Answered given)) ≤ buried_in n given
 told_same n (answer.Owner name number) = omega arith
 told_same n answer.Left = omega arith
 told_same n (answer.Buried number) = omega arith
+told_same n answer.Faded = omega arith
+told_same n answer.Nothing = omega arith
 told_same n (answer.Reply octets) = omega arith
 told_same n answer.Silent = omega arith
 told_same n (answer.Messages messages) = omega arith
@@ -375,7 +512,7 @@ made_once : (seen : ℕ → ℕ) (world : World) (call : Call) (came : Progress 
 made_once seen world call (On at, words) o = left_there words seen world.calls at o
 made_once seen world call (Done end, words) o = ended words seen world.calls end (Answered (answer_at end)) (λ n. end_less n end) o
 
-whole_once : (seen : ℕ → ℕ) (world : World) (call : Call) (how : Start) → IsStill how → FirstOf world.words how → Once world.words seen world.calls quiet → OnceBehind seen (whole world call how)
+whole_once : (seen : ℕ → ℕ) (world : World) (call : Call) (how : Start) → IsStill how → OpeningOf how → Once world.words seen world.calls quiet → OnceBehind seen (whole world call how)
 whole_once seen world call Refused still is o = to_some seen _ (silent world.words seen world.calls NotEnabled (λ n. refl) o)
 whole_once seen world call (Answers given) still is o = to_if seen (is_full world) _ _ (to_none seen) (to_some seen _ (answered_once world.words seen world.calls given still o))
 whole_once seen world call (Takes at) still is o =
@@ -394,14 +531,14 @@ pushed words seen calls c given none o = record {
   gone = λ n some. o.gone n (let b = none n in let d = frees_push n calls c in omega (arith, some, b, d));
 }
 
-begin_once : (seen : ℕ → ℕ) (world : World) (name : List ℕ) (call : Call) (how : Start) → IsStill how → FirstOf world.words how → Once world.words seen world.calls quiet → OnceBehind seen (begin world name call how)
+begin_once : (seen : ℕ → ℕ) (world : World) (name : List ℕ) (call : Call) (how : Start) → IsStill how → OpeningOf how → Once world.words seen world.calls quiet → OnceBehind seen (begin world name call how)
 begin_once seen world name call Refused still is o = to_some seen _ (silent world.words seen world.calls NotEnabled (λ n. refl) o)
 begin_once seen world name call (Answers given) still is o = to_if seen (is_full world) _ _ (to_none seen) (to_some seen _ (answered_once world.words seen world.calls given still o))
 begin_once seen world name call (Takes at) still is o =
     to_if seen (is_full world) _ _ (to_none seen) (to_some seen _ (pushed world.words seen world.calls (record { name = name; phase = at }) Begun (λ n. refl) (begun_once world.words seen world.calls at is o)))
 
 under_once : (seen : ℕ → ℕ) (world : World) (name : List ℕ) (call : Call) (other : Option UnderWay) → Once world.words seen world.calls quiet → OnceBehind seen (begin_under world name call other)
-under_once seen world name call None o = begin_once seen world name call (start world call) (start_still world call) (start_first world call) o
+under_once seen world name call None o = begin_once seen world name call (start world call) (start_still world call) (start_opening world call) o
 under_once seen world name call (Some other) o = to_some seen _ (silent world.words seen world.calls NotEnabled (λ n. refl) o)
 
 -- the call of a name, apart
@@ -456,7 +593,7 @@ next_once seen world name None found once = silent world.words seen world.calls 
 next_once seen world name (Some call) found once = stepped_once seen world name call (step_once world.words call.phase) found refl once
 
 turn_once : (seen : ℕ → ℕ) (world : World) (line : Line) → Once world.words seen world.calls quiet → OnceBehind seen (turn world line)
-turn_once seen world (Whole call) o = whole_once seen world call (start world call) (start_still world call) (start_first world call) o
+turn_once seen world (Whole call) o = whole_once seen world call (start world call) (start_still world call) (start_opening world call) o
 turn_once seen world (Begin name call) o = under_once seen world name call (call_of name world.calls) o
 turn_once seen world (Next name) o = to_some seen _ (next_once seen world name (call_of name world.calls) refl o)
 
@@ -522,13 +659,26 @@ told_once first keep window lines replies world number e =
     let a = t.few number in omega (arith, a)
 
 -- an owner of a number that is buried is none
-unheld : (words : Zones) (cell : Cell Numbered) (s : Shows words cell) (number i : ℕ) (how : Owner) → cell.buried number ≡ true → OwnerIs cell s.plan i how → owner_has number how ≡ false
+unheld : (words : Zones) (cell : Cell Numbered) (s : Shows words cell) (number i : ℕ) (how : Owner) → cell.buried number ≡ true → OwnerIs cell s.plan i how → owner_has number how ≡ 0
 unheld words cell s number i (Holding other place) gone is =
     elim (eqb_tells number other) [
       | inl same ↦ absurd (let f : cell.buried number ≡ false = ap cell.buried same.1 ∙ is.unburied in let wrong : true ≡ false = sym gone ∙ f in cc)
-      | inr apart ↦ apart.0
+      | inr apart ↦ rw apart.0 refl
     ]
+unheld words cell s number i (Twice other place) gone is =
+    elim (eqb_tells number other) [
+      | inl same ↦ absurd (let f : cell.buried number ≡ false = ap cell.buried same.1 ∙ is.unburied in let wrong : true ≡ false = sym gone ∙ f in cc)
+      | inr apart ↦ rw apart.0 refl
+    ]
+unheld words cell s number i (Both other place) gone is =
+    elim (eqb_tells number other) [
+      | inl same ↦ absurd (let f : cell.buried number ≡ false = ap cell.buried same.1 ∙ is.0.unburied in let wrong : true ≡ false = sym gone ∙ f in cc)
+      | inr apart ↦ rw apart.0 refl
+    ]
+unheld words cell s number i (Weakly other place) gone is = refl
 unheld words cell s number i (Burying place) gone is = refl
+unheld words cell s number i (Fading place) gone is = refl
+unheld words cell s number i (Resetting place) gone is = refl
 unheld words cell s number i (Freeing place) gone is = refl
 unheld words cell s number i Spent gone is = refl
 

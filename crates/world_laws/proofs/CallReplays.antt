@@ -1,7 +1,7 @@
 -- Calls as steps: what each step makes of the versions that a run publishes, and of the calls under way.
 use Rattle.std.proofs.Common.{◌≡◌, ◌≢◌, refl, sym, ap, ◌∙◌, subst, ℕ, zero, suc, ◌+◌, ◌<◌, ◌≤◌, Bool, true, false, ◌⊎◌, inl, inr, List, [], ◌∷◌, ◌++◌, length, map, take, arith, Option, Some, None, length-append}
-use Rattle.std.specs.Prelude.{◌==◌, ◌||◌, not, bytes_eq, unwrap_or}
-use Rattle.std.specs.List.{slice_get, slice_set, list_any}
+use Rattle.std.specs.Prelude.{◌==◌, is_some, nat_lt, unwrap_or, if◌then◌else◌}
+use Rattle.std.specs.List.{slice_get, slice_set}
 use Rattle.std.specs.Option.{option_and_then}
 use Rattle.std.proofs.lemmas.Bool.{cases_Bool}
 use Rattle.std.proofs.lemmas.Bool.Decides.{eqb_tells}
@@ -10,10 +10,11 @@ use Rattle.std.proofs.lemmas.Option.{slice_get_within}
 use Rattle.cell_core.proofs.RunShows.{step_runs}
 use Rattle.cell_core.proofs.SeatLemmas.{get_set_same, get_set_other}
 use Rattle.cell_core.proofs.StepShows.{step_shows}
+use Rattle.cell_core.proofs.PublishedLemmas.{OfWeak, weak_quiet}
 use Rattle.cell_core.specs.Cell.{Cell, CellStep, Runs, start as cell_start}
 use Rattle.cell_core.specs.Shows.{Shows, ShowsStep, PublisherIs, SlotIs, Phase as SlotPhase}
-use Rattle.cell_core.specs.Words.{State, bulk, free_word, dead_word, fetch_sub, version_in}
-use Rattle.cell_core.specs.WordSteps.{Makes, with_version, with_shares}
+use Rattle.cell_core.specs.Words.{State, bulk, free_word, dead_word, fetch_add, fetch_sub, found_by, version_in}
+use Rattle.cell_core.specs.WordSteps.{Makes, with_version, with_shares, with_weak_word}
 use Rattle.cell_core.specs.declared.words.Publisher.TheVariants.{Swapping}
 use Rattle.cell_core.specs.declared.words.Slot.{Slot}
 use Rattle.cell_core.specs.declared.words.Version.{Version}
@@ -28,6 +29,9 @@ use Rattle.dns_message.specs.declared.query.Parsed.TheVariants as parsed
 use Rattle.dns_message.specs.declared.update.Update.{Update as DynamicUpdate}
 use Rattle.dns_message.specs.Request.{reads}
 use Rattle.update_core.specs.Act.{act, replay}
+use Rattle.world_run.specs.declared.entries.Entry.{Entry}
+use Rattle.world_run.specs.declared.sending.Seeking.{Seeking}
+use Rattle.world_run.specs.declared.sending.Sending.{Sending}
 use Rattle.world_run.specs.declared.phase.Keeping.{Keeping}
 use Rattle.world_run.specs.declared.phase.Phase.{Phase}
 use Rattle.world_run.specs.declared.phase.Phase.TheVariants as phase
@@ -35,16 +39,15 @@ use Rattle.world_run.specs.declared.phase.Purpose.{Purpose}
 use Rattle.world_run.specs.declared.phase.Purpose.TheVariants as purpose
 use Rattle.world_run.specs.declared.phase.Progress.{Progress}
 use Rattle.world_run.specs.declared.phase.Progress.TheVariants.{On, Done}
-use Rattle.world_run.specs.declared.calls.UnderWay.{UnderWay}
 use Rattle.world_run.specs.declared.step.Answer.{Answer}
 use Rattle.world_run.specs.declared.step.Answer.TheVariants as answer
 use Rattle.zone_tree.specs.Version.{Version as Numbered, KnowsChanges}
 use Rattle.world_run.specs.Numbered.{first_version}
-use Rattle.world_run.specs.Phases.{word_step, after, past, oldest_after, updates}
+use Rattle.world_run.specs.Phases.{word_step, after, past, gone, leaving_after, oldest_after, sent_after, completed, with_got, gained_after, got_after, updates}
 use Rattle.world_laws.specs.Replays.{IsAccepted, AreReplays}
 use Rattle.world_laws.specs.InTurn.{LeavesPublished}
-use Rattle.world_run.specs.World.{call_of, without_call, next}
-use Rattle.world_laws.proofs.HandSteps.{swaps_now, swapped_in}
+use Rattle.world_run.specs.World.{next}
+use Rattle.world_laws.proofs.HandSeats.{swaps_now, swapped_in}
 
 -- what stands at a place of a list with one more, and where
 placed : {X : Type 0} (xs : List X) (x y : X) (k : ℕ) → slice_get (xs ++ x ∷ []) k ≡ Some y → (slice_get xs k ≡ Some y) ⊎ ((k ≡ length xs) × (x ≡ y))
@@ -210,6 +213,11 @@ NoSwap word.Settle = Unit {0}
 NoSwap (word.Release owner) = Unit {0}
 NoSwap (word.Bury owner) = Unit {0}
 NoSwap (word.Free owner) = Unit {0}
+NoSwap (word.Look owner) = Unit {0}
+NoSwap (word.Raise owner) = Unit {0}
+NoSwap (word.Note owner) = Unit {0}
+NoSwap (word.Fade owner) = Unit {0}
+NoSwap (word.Reset owner) = Unit {0}
 
 -- it publishes nothing
 load_publishes : (words new : Zones) (event : WordEvent) (cell later : Cell Numbered) → Makes {T = Numbered} words word.Load event new → ShowsStep {T = Numbered} words word.Load event cell later → later.published ≡ cell.published
@@ -232,6 +240,9 @@ bury_publishes words new owner event cell later (place, there, seat, found, m) s
           )
     ]
 
+weak_publishes : (words : Zones) (step : WordStep Numbered) (event : WordEvent) (cell later : Cell Numbered) → OfWeak step → ShowsStep words step event cell later → later.published ≡ cell.published
+weak_publishes words step event cell later of s = (weak_quiet words step event cell later of s).0
+
 pub publishes_nothing : (words new : Zones) (step : WordStep Numbered) (event : WordEvent) (cell later : Cell Numbered) → NoSwap step → Makes words step event new → ShowsStep words step event cell later → later.published ≡ cell.published
 publishes_nothing words new word.Load event cell later apart m s = load_publishes words new event cell later m s
 publishes_nothing words new word.Probe event cell later apart m s = ap (λ (c : Cell Numbered). c.published) s
@@ -241,6 +252,11 @@ publishes_nothing words new word.Settle event cell later apart m s = ap (λ (c :
 publishes_nothing words new (word.Release owner) event cell later apart m s = ap (λ (c : Cell Numbered). c.published) s.3.2
 publishes_nothing words new (word.Bury owner) event cell later apart m s = bury_publishes words new owner event cell later m s
 publishes_nothing words new (word.Free owner) event cell later apart m s = ap (λ (c : Cell Numbered). c.published) s
+publishes_nothing words new (word.Look owner) event cell later apart m s = weak_publishes words (word.Look owner) event cell later tt s
+publishes_nothing words new (word.Raise owner) event cell later apart m s = weak_publishes words (word.Raise owner) event cell later tt s
+publishes_nothing words new (word.Note owner) event cell later apart m s = weak_publishes words (word.Note owner) event cell later tt s
+publishes_nothing words new (word.Fade owner) event cell later apart m s = weak_publishes words (word.Fade owner) event cell later tt s
+publishes_nothing words new (word.Reset owner) event cell later apart m s = weak_publishes words (word.Reset owner) event cell later tt s
 
 pub tells_same : (S : Script) (first : List Record) (words new : Zones) (us : List Placed) (step : WordStep Numbered) (event : WordEvent) → NoSwap step → Makes words step event new → Tells S first words us → Tells S first new us
 tells_same S first words new us step event apart m t =
@@ -299,25 +315,41 @@ tells_swapped S first words new us event n m t =
 -- what a call under way is about to publish
 abbrev pub Coherent : Script → List Record → List Placed → Zones → Phase → Type 0
 Coherent S first us words (phase.Load name) = Unit {0}
+Coherent S first us words (phase.Look name owner) = Unit {0}
+Coherent S first us words (phase.Seek owner seeking) = Unit {0}
+Coherent S first us words (phase.Gain owner seeking) = Unit {0}
+Coherent S first us words (phase.Raise name owner) = Unit {0}
+Coherent S first us words (phase.Note name owner) = Unit {0}
 Coherent S first us words (phase.Probe version keeping) = IsNext S first us version
 Coherent S first us words (phase.Prepare version keeping) = IsNext S first us version
 Coherent S first us words (phase.Swap keeping) = SwapsNext S first us words
 Coherent S first us words (phase.Settle keeping) = Unit {0}
 Coherent S first us words (phase.Keep given keeping) = Unit {0}
+Coherent S first us words (phase.Enter given kept keeping) = Unit {0}
 Coherent S first us words (phase.Release owner for) = Unit {0}
 Coherent S first us words (phase.Bury owner for) = Unit {0}
+Coherent S first us words (phase.Fade owner number for) = Unit {0}
+Coherent S first us words (phase.Reset owner number for) = Unit {0}
 Coherent S first us words (phase.Free owner number for) = Unit {0}
 
 -- a call that is no update is about to publish nothing
 pub no_update : (S : Script) (first : List Record) (us : List Placed) (words : Zones) (at : Phase) → updates at ≡ false → Coherent S first us words at
 no_update S first us words (phase.Load name) e = tt
+no_update S first us words (phase.Look name owner) e = tt
+no_update S first us words (phase.Seek owner seeking) e = tt
+no_update S first us words (phase.Gain owner seeking) e = tt
+no_update S first us words (phase.Raise name owner) e = tt
+no_update S first us words (phase.Note name owner) e = tt
 no_update S first us words (phase.Probe version keeping) e = absurd (let wrong = e in cc)
 no_update S first us words (phase.Prepare version keeping) e = absurd (let wrong = e in cc)
 no_update S first us words (phase.Swap keeping) e = absurd (let wrong = e in cc)
 no_update S first us words (phase.Settle keeping) e = tt
 no_update S first us words (phase.Keep given keeping) e = tt
+no_update S first us words (phase.Enter given kept keeping) e = tt
 no_update S first us words (phase.Release owner for) e = tt
 no_update S first us words (phase.Bury owner for) e = tt
+no_update S first us words (phase.Fade owner number for) e = tt
+no_update S first us words (phase.Reset owner number for) e = tt
 no_update S first us words (phase.Free owner number for) e = tt
 
 -- an owner's step, or a load
@@ -330,6 +362,11 @@ OfOwner word.Settle = ⊥
 OfOwner (word.Release owner) = Unit {0}
 OfOwner (word.Bury owner) = Unit {0}
 OfOwner (word.Free owner) = Unit {0}
+OfOwner (word.Look owner) = Unit {0}
+OfOwner (word.Raise owner) = Unit {0}
+OfOwner (word.Note owner) = Unit {0}
+OfOwner (word.Fade owner) = Unit {0}
+OfOwner (word.Reset owner) = Unit {0}
 
 -- a slot whose version stays
 version_stays : (words new : Zones) (place at : ℕ) (there other : Slot Numbered) → slice_get words.table at ≡ Some there → new.table ≡ slice_set words.table at other → other.version ≡ there.version → version_in new place ≡ version_in words place
@@ -386,6 +423,27 @@ release_keeps_swap S first us words new owner event (number, at, there, seat, fo
           )
     ]
 
+look_keeps_swap : (S : Script) (first : List Record) (us : List Placed) (words new : Zones) (owner : ℕ) (event : WordEvent) → Makes {T = Numbered} words (word.Look owner) event new → SwapsNext S first us words → SwapsNext S first us new
+look_keeps_swap S first us words new owner event (number, at, there, own, found, m) n =
+    elim (cases_Bool (nat_lt there.shares dead_word)) [
+      | inl little ↦ (let h = rw little at m in swaps_kept S first us words new (ap (λ (w : Zones). w.publisher) h.1) (λ place publisher. ap (λ (w : Zones). version_in w place) h.1) n)
+      | inr great ↦ (let h = rw great at m in swaps_kept S first us words new (ap (λ (w : Zones). w.publisher) h.1) (λ place publisher. ap (λ (w : Zones). version_in w place) h.1) n)
+    ]
+
+raise_keeps_swap : (S : Script) (first : List Record) (us : List Placed) (words new : Zones) (owner : ℕ) (event : WordEvent) → Makes {T = Numbered} words (word.Raise owner) event new → SwapsNext S first us words → SwapsNext S first us new
+raise_keeps_swap S first us words new owner event (number, at, there, own, found, room, m) n =
+    elim (cases_Bool (nat_lt there.shares dead_word)) [
+      | inl little ↦ (let h = rw little at m in swaps_kept S first us words new (ap (λ (w : Zones). w.publisher) h.1) (λ place publisher. version_stays words new place at there (with_shares (fetch_add there.shares 1) there) found (ap (λ (w : Zones). w.table) h.1) refl) n)
+      | inr great ↦ (let h = rw great at m in swaps_kept S first us words new (ap (λ (w : Zones). w.publisher) h.1) (λ place publisher. version_stays words new place at there (with_shares (fetch_add there.shares 1) there) found (ap (λ (w : Zones). w.table) h.1) refl) n)
+    ]
+
+fade_keeps_swap : (S : Script) (first : List Record) (us : List Placed) (words new : Zones) (owner : ℕ) (event : WordEvent) → Makes {T = Numbered} words (word.Fade owner) event new → SwapsNext S first us words → SwapsNext S first us new
+fade_keeps_swap S first us words new owner event (at, there, fades, found, m) n =
+    elim (cases_Bool (fetch_sub there.weak 1 == 0)) [
+      | inl none ↦ (let h = rw none at m in swaps_kept S first us words new (ap (λ (w : Zones). w.publisher) h.1) (λ place publisher. version_stays words new place at there (with_weak_word 0 there) found (ap (λ (w : Zones). w.table) h.1) refl) n)
+      | inr some ↦ (let h = rw some at m in swaps_kept S first us words new (ap (λ (w : Zones). w.publisher) h.1) (λ place publisher. version_stays words new place at there (with_weak_word (fetch_sub there.weak 1) there) found (ap (λ (w : Zones). w.table) h.1) refl) n)
+    ]
+
 owner_keeps_swap : (S : Script) (first : List Record) (us : List Placed) (words new : Zones) (cell : Cell Numbered) (step : WordStep Numbered) (event : WordEvent) → OfOwner step → Shows words cell → Makes words step event new → SwapsNext S first us words → SwapsNext S first us new
 owner_keeps_swap S first us words new cell word.Load event of s (number, found, few, told_is, new_is) n =
     swaps_kept S first us words new (ap (λ (w : Zones). w.publisher) new_is) (λ place publisher. ap (λ (w : Zones). version_in w place) new_is) n
@@ -397,28 +455,51 @@ owner_keeps_swap S first us words new cell (word.Release owner) event of s m n =
 owner_keeps_swap S first us words new cell (word.Bury owner) event of s m n = bury_keeps_swap S first us words new cell owner event s m n
 owner_keeps_swap S first us words new cell (word.Free owner) event of s (at, there, seat, found, told_is, new_is) n =
     swaps_kept S first us words new (ap (λ (w : Zones). w.publisher) new_is) (λ place publisher. version_stays words new place at there (with_shares free_word there) found (ap (λ (w : Zones). w.table) new_is) refl) n
+owner_keeps_swap S first us words new cell (word.Look owner) event of s m n = look_keeps_swap S first us words new owner event m n
+owner_keeps_swap S first us words new cell (word.Raise owner) event of s m n = raise_keeps_swap S first us words new owner event m n
+owner_keeps_swap S first us words new cell (word.Note owner) event of s (number, at, there, seat, found, room, told_is, new_is) n =
+    swaps_kept S first us words new (ap (λ (w : Zones). w.publisher) new_is) (λ place publisher. version_stays words new place at there (with_weak_word (fetch_add there.weak 1) there) found (ap (λ (w : Zones). w.table) new_is) refl) n
+owner_keeps_swap S first us words new cell (word.Fade owner) event of s m n = fade_keeps_swap S first us words new owner event m n
+owner_keeps_swap S first us words new cell (word.Reset owner) event of s (at, there, seat, found, told_is, new_is) n =
+    swaps_kept S first us words new (ap (λ (w : Zones). w.publisher) new_is) (λ place publisher. version_stays words new place at there (with_weak_word 1 there) found (ap (λ (w : Zones). w.table) new_is) refl) n
 
 owner_keeps : (S : Script) (first : List Record) (us : List Placed) (words new : Zones) (cell : Cell Numbered) (step : WordStep Numbered) (event : WordEvent) (other : Phase) → OfOwner step → Shows words cell → Makes words step event new → Coherent S first us words other → Coherent S first us new other
 owner_keeps S first us words new cell step event (phase.Load name) of s m c = tt
+owner_keeps S first us words new cell step event (phase.Look name owner) of s m c = tt
+owner_keeps S first us words new cell step event (phase.Seek owner seeking) of s m c = tt
+owner_keeps S first us words new cell step event (phase.Gain owner seeking) of s m c = tt
+owner_keeps S first us words new cell step event (phase.Raise name owner) of s m c = tt
+owner_keeps S first us words new cell step event (phase.Note name owner) of s m c = tt
 owner_keeps S first us words new cell step event (phase.Probe version keeping) of s m c = c
 owner_keeps S first us words new cell step event (phase.Prepare version keeping) of s m c = c
 owner_keeps S first us words new cell step event (phase.Swap keeping) of s m c = owner_keeps_swap S first us words new cell step event of s m c
 owner_keeps S first us words new cell step event (phase.Settle keeping) of s m c = tt
 owner_keeps S first us words new cell step event (phase.Keep given keeping) of s m c = tt
+owner_keeps S first us words new cell step event (phase.Enter given kept keeping) of s m c = tt
 owner_keeps S first us words new cell step event (phase.Release owner for) of s m c = tt
 owner_keeps S first us words new cell step event (phase.Bury owner for) of s m c = tt
+owner_keeps S first us words new cell step event (phase.Fade owner number for) of s m c = tt
+owner_keeps S first us words new cell step event (phase.Reset owner number for) of s m c = tt
 owner_keeps S first us words new cell step event (phase.Free owner number for) of s m c = tt
 
 -- a call that is no update takes such steps
 of_owner : (at : Phase) → updates at ≡ false → OfOwner (word_step at)
 of_owner (phase.Load name) e = tt
+of_owner (phase.Look name owner) e = tt
+of_owner (phase.Seek owner seeking) e = tt
+of_owner (phase.Gain owner seeking) e = tt
+of_owner (phase.Raise name owner) e = tt
+of_owner (phase.Note name owner) e = tt
 of_owner (phase.Probe version keeping) e = absurd (let wrong = e in cc)
 of_owner (phase.Prepare version keeping) e = absurd (let wrong = e in cc)
 of_owner (phase.Swap keeping) e = absurd (let wrong = e in cc)
 of_owner (phase.Settle keeping) e = absurd (let wrong = e in cc)
 of_owner (phase.Keep given keeping) e = absurd (let wrong = e in cc)
+of_owner (phase.Enter given kept keeping) e = absurd (let wrong = e in cc)
 of_owner (phase.Release owner for) e = tt
 of_owner (phase.Bury owner for) e = tt
+of_owner (phase.Fade owner number for) e = tt
+of_owner (phase.Reset owner number for) e = tt
 of_owner (phase.Free owner number for) e = tt
 
 owner_no_swap : (step : WordStep Numbered) → OfOwner step → NoSwap step
@@ -430,22 +511,37 @@ owner_no_swap word.Settle of = absurd of
 owner_no_swap (word.Release owner) of = tt
 owner_no_swap (word.Bury owner) of = tt
 owner_no_swap (word.Free owner) of = tt
+owner_no_swap (word.Look owner) of = tt
+owner_no_swap (word.Raise owner) of = tt
+owner_no_swap (word.Note owner) of = tt
+owner_no_swap (word.Fade owner) of = tt
+owner_no_swap (word.Reset owner) of = tt
 
 -- what follows on a step of a call is of the same kind, and about to publish the same
 abbrev pub Follows : Script → List Record → List Placed → Zones → Bool → Progress → Type 0
 Follows S first us words kind (On next) = Coherent S first us words next × (updates next ≡ kind)
 Follows S first us words kind (Done end) = Unit {0}
 
-oldest_follows : (S : Script) (first : List Record) (us : List Placed) (words : Zones) (head : Heading) (kept : ℕ) (oldest : Option ℕ) → Follows S first us words true (oldest_after head kept oldest)
-oldest_follows S first us words head kept None = tt
-oldest_follows S first us words head kept (Some owner) = (tt, refl)
+leaving_follows : (S : Script) (first : List Record) (us : List Placed) (words : Zones) (head : Heading) (kept : ℕ) (entry : Option Entry) (leaving : List ℕ) → Follows S first us words true (leaving_after head kept entry leaving)
+leaving_follows S first us words head kept entry [] = tt
+leaving_follows S first us words head kept entry (owner ∷ leaving) = (tt, refl)
+
+oldest_follows : (S : Script) (first : List Record) (us : List Placed) (words : Zones) (head : Heading) (kept : ℕ) (entry : Option Entry) (leaving : List ℕ) (oldest : Option ℕ) → Follows S first us words true (oldest_after head kept entry leaving oldest)
+oldest_follows S first us words head kept entry leaving None = leaving_follows S first us words head kept entry leaving
+oldest_follows S first us words head kept entry leaving (Some owner) = (tt, refl)
+
+sent_follows : (S : Script) (first : List Record) (us : List Placed) (words : Zones) (sending : Sending) (got : List ℕ) → Follows S first us words false (sent_after sending got)
+sent_follows S first us words sending [] = tt
+sent_follows S first us words sending (owner ∷ got) = (tt, refl)
 
 past_follows : (S : Script) (first : List Record) (us : List Placed) (words : Zones) (owner : ℕ) (for : Purpose) (given : Answer) → Follows S first us words (updates (phase.Release owner for)) (past for given)
 past_follows S first us words owner purpose.Drop given = tt
-past_follows S first us words owner (purpose.Publish keeping kept) given = oldest_follows S first us words keeping.heading kept keeping.oldest
-past_follows S first us words owner (purpose.Oldest head kept) given = tt
+past_follows S first us words owner (purpose.Publish keeping kept entry) given = oldest_follows S first us words keeping.heading kept entry keeping.leaving keeping.oldest
+past_follows S first us words owner (purpose.Oldest head kept entry leaving) given = leaving_follows S first us words head kept entry leaving
+past_follows S first us words owner (purpose.Leaves head kept entry leaving) given = leaving_follows S first us words head kept entry leaving
+past_follows S first us words owner (purpose.Sent sending got) given = sent_follows S first us words sending got
 
-load_follows : (S : Script) (first : List Record) (us : List Placed) (words : Zones) (name : List ℕ) (event : WordEvent) → Follows S first us words false (after (phase.Load name) event)
+load_follows : (S : Script) (first : List Record) (us : List Placed) (words : Zones) (name : List ℕ) (event : WordEvent) → Follows S first us words false (after words (phase.Load name) event)
 load_follows S first us words name (told.Loaded owner number) = tt
 load_follows S first us words name told.Passed = (tt, refl)
 load_follows S first us words name told.Taken = (tt, refl)
@@ -458,8 +554,29 @@ load_follows S first us words name told.Emptied = (tt, refl)
 load_follows S first us words name (told.Buried number) = (tt, refl)
 load_follows S first us words name told.Kept = (tt, refl)
 load_follows S first us words name told.Freed = (tt, refl)
+load_follows S first us words name told.Alive = (tt, refl)
+load_follows S first us words name told.Dead = (tt, refl)
+load_follows S first us words name (told.Raised owner number) = (tt, refl)
+load_follows S first us words name (told.Noted owner number) = (tt, refl)
+load_follows S first us words name told.Faded = (tt, refl)
+load_follows S first us words name told.Closed = (tt, refl)
+load_follows S first us words name told.Restored = (tt, refl)
 
-probe_follows : (S : Script) (first : List Record) (us : List Placed) (words : Zones) (version : Numbered) (keeping : Keeping) → IsNext S first us version → (event : WordEvent) → Follows S first us words true (after (phase.Probe version keeping) event)
+look_follows : (S : Script) (first : List Record) (us : List Placed) (words : Zones) (name : List ℕ) (owner : ℕ) (event : WordEvent) → Follows S first us words false (after words (phase.Look name owner) event)
+look_follows S first us words name owner told.Alive = (tt, refl)
+look_follows S first us words name owner told.Dead = tt
+look_follows S first us words name owner event = (tt, refl)
+
+raise_follows : (S : Script) (first : List Record) (us : List Placed) (words : Zones) (name : List ℕ) (owner : ℕ) (event : WordEvent) → Follows S first us words false (after words (phase.Raise name owner) event)
+raise_follows S first us words name owner (told.Raised next number) = tt
+raise_follows S first us words name owner told.Dead = tt
+raise_follows S first us words name owner event = (tt, refl)
+
+note_follows : (S : Script) (first : List Record) (us : List Placed) (words : Zones) (name : List ℕ) (owner : ℕ) (event : WordEvent) → Follows S first us words false (after words (phase.Note name owner) event)
+note_follows S first us words name owner (told.Noted next number) = tt
+note_follows S first us words name owner event = (tt, refl)
+
+probe_follows : (S : Script) (first : List Record) (us : List Placed) (words : Zones) (version : Numbered) (keeping : Keeping) → IsNext S first us version → (event : WordEvent) → Follows S first us words true (after words (phase.Probe version keeping) event)
 probe_follows S first us words version keeping n (told.Loaded owner number) = (n, refl)
 probe_follows S first us words version keeping n told.Passed = (n, refl)
 probe_follows S first us words version keeping n told.Taken = (n, refl)
@@ -472,8 +589,15 @@ probe_follows S first us words version keeping n told.Emptied = (n, refl)
 probe_follows S first us words version keeping n (told.Buried number) = (n, refl)
 probe_follows S first us words version keeping n told.Kept = (n, refl)
 probe_follows S first us words version keeping n told.Freed = (n, refl)
+probe_follows S first us words version keeping n told.Alive = (n, refl)
+probe_follows S first us words version keeping n told.Dead = (n, refl)
+probe_follows S first us words version keeping n (told.Raised owner number) = (n, refl)
+probe_follows S first us words version keeping n (told.Noted owner number) = (n, refl)
+probe_follows S first us words version keeping n told.Faded = (n, refl)
+probe_follows S first us words version keeping n told.Closed = (n, refl)
+probe_follows S first us words version keeping n told.Restored = (n, refl)
 
-settle_follows : (S : Script) (first : List Record) (us : List Placed) (words : Zones) (keeping : Keeping) (event : WordEvent) → Follows S first us words true (after (phase.Settle keeping) event)
+settle_follows : (S : Script) (first : List Record) (us : List Placed) (words : Zones) (keeping : Keeping) (event : WordEvent) → Follows S first us words true (after words (phase.Settle keeping) event)
 settle_follows S first us words keeping (told.Loaded owner number) = (tt, refl)
 settle_follows S first us words keeping told.Passed = (tt, refl)
 settle_follows S first us words keeping told.Taken = (tt, refl)
@@ -486,22 +610,46 @@ settle_follows S first us words keeping told.Emptied = (tt, refl)
 settle_follows S first us words keeping (told.Buried number) = (tt, refl)
 settle_follows S first us words keeping told.Kept = (tt, refl)
 settle_follows S first us words keeping told.Freed = (tt, refl)
+settle_follows S first us words keeping told.Alive = (tt, refl)
+settle_follows S first us words keeping told.Dead = (tt, refl)
+settle_follows S first us words keeping (told.Raised owner number) = (tt, refl)
+settle_follows S first us words keeping (told.Noted owner number) = (tt, refl)
+settle_follows S first us words keeping told.Faded = (tt, refl)
+settle_follows S first us words keeping told.Closed = (tt, refl)
+settle_follows S first us words keeping told.Restored = (tt, refl)
 
-keep_follows : (S : Script) (first : List Record) (us : List Placed) (words : Zones) (given : ℕ) (keeping : Keeping) (event : WordEvent) → Follows S first us words true (after (phase.Keep given keeping) event)
-keep_follows S first us words given keeping (told.Loaded owner number) = (tt, refl)
-keep_follows S first us words given keeping told.Passed = (tt, refl)
-keep_follows S first us words given keeping told.Taken = (tt, refl)
-keep_follows S first us words given keeping told.NoSlot = (tt, refl)
-keep_follows S first us words given keeping told.Prepared = (tt, refl)
-keep_follows S first us words given keeping (told.Swapped number) = (tt, refl)
-keep_follows S first us words given keeping (told.Settled owner number) = (tt, refl)
-keep_follows S first us words given keeping told.Left = (tt, refl)
-keep_follows S first us words given keeping told.Emptied = (tt, refl)
-keep_follows S first us words given keeping (told.Buried number) = (tt, refl)
-keep_follows S first us words given keeping told.Kept = (tt, refl)
-keep_follows S first us words given keeping told.Freed = (tt, refl)
+entered_follows : (S : Script) (first : List Record) (us : List Placed) (words : Zones) (given : ℕ) (keeping : Keeping) (owner : ℕ) (enters : Bool)
+    → Follows S first us words true (if enters then On (phase.Enter given owner keeping) else On (phase.Release given (purpose.Publish keeping owner None)))
+entered_follows S first us words given keeping owner true = (tt, refl)
+entered_follows S first us words given keeping owner false = (tt, refl)
 
-release_follows : (S : Script) (first : List Record) (us : List Placed) (words : Zones) (at : ℕ) (for : Purpose) (event : WordEvent) → Follows S first us words (updates (phase.Release at for)) (after (phase.Release at for) event)
+keep_follows : (S : Script) (first : List Record) (us : List Placed) (words : Zones) (given : ℕ) (keeping : Keeping) (event : WordEvent) → Follows S first us words true (after words (phase.Keep given keeping) event)
+keep_follows S first us words given keeping (told.Loaded owner number) = entered_follows S first us words given keeping owner (is_some keeping.enters)
+keep_follows S first us words given keeping event = (tt, refl)
+
+enter_follows : (S : Script) (first : List Record) (us : List Placed) (words : Zones) (given kept : ℕ) (keeping : Keeping) (event : WordEvent) → Follows S first us words true (after words (phase.Enter given kept keeping) event)
+enter_follows S first us words given kept keeping (told.Noted owner number) = (tt, refl)
+enter_follows S first us words given kept keeping event = (tt, refl)
+
+seek_follows : (S : Script) (first : List Record) (us : List Placed) (words : Zones) (owner : ℕ) (seeking : Seeking) (event : WordEvent) → Follows S first us words false (after words (phase.Seek owner seeking) event)
+seek_follows S first us words owner seeking told.Alive = (tt, refl)
+seek_follows S first us words owner seeking told.Dead = sent_follows S first us words seeking.sending seeking.owners
+seek_follows S first us words owner seeking event = (tt, refl)
+
+gained_follows : (S : Script) (first : List Record) (us : List Placed) (words : Zones) (seeking : Seeking) (left : List ℕ) → Follows S first us words false (gained_after seeking left)
+gained_follows S first us words seeking [] = sent_follows S first us words (completed seeking.sending) seeking.owners
+gained_follows S first us words seeking (owner ∷ left) = (tt, refl)
+
+got_follows : (S : Script) (first : List Record) (us : List Placed) (words : Zones) (owner : ℕ) (seeking : Seeking) (next : ℕ) (found : Option Numbered) → Follows S first us words false (got_after owner seeking next found)
+got_follows S first us words owner seeking next None = (tt, refl)
+got_follows S first us words owner seeking next (Some version) = gained_follows S first us words (with_got next version seeking) seeking.left
+
+gain_follows : (S : Script) (first : List Record) (us : List Placed) (words : Zones) (owner : ℕ) (seeking : Seeking) (event : WordEvent) → Follows S first us words false (after words (phase.Gain owner seeking) event)
+gain_follows S first us words owner seeking (told.Raised next number) = got_follows S first us words owner seeking next (found_by words next)
+gain_follows S first us words owner seeking told.Dead = sent_follows S first us words seeking.sending seeking.owners
+gain_follows S first us words owner seeking event = (tt, refl)
+
+release_follows : (S : Script) (first : List Record) (us : List Placed) (words : Zones) (at : ℕ) (for : Purpose) (event : WordEvent) → Follows S first us words (updates (phase.Release at for)) (after words (phase.Release at for) event)
 release_follows S first us words at for (told.Loaded owner number) = past_follows S first us words at for answer.Left
 release_follows S first us words at for told.Passed = past_follows S first us words at for answer.Left
 release_follows S first us words at for told.Taken = past_follows S first us words at for answer.Left
@@ -514,8 +662,15 @@ release_follows S first us words at for told.Emptied = (tt, refl)
 release_follows S first us words at for (told.Buried number) = past_follows S first us words at for answer.Left
 release_follows S first us words at for told.Kept = past_follows S first us words at for answer.Left
 release_follows S first us words at for told.Freed = past_follows S first us words at for answer.Left
+release_follows S first us words at for told.Alive = past_follows S first us words at for answer.Left
+release_follows S first us words at for told.Dead = past_follows S first us words at for answer.Left
+release_follows S first us words at for (told.Raised owner number) = past_follows S first us words at for answer.Left
+release_follows S first us words at for (told.Noted owner number) = past_follows S first us words at for answer.Left
+release_follows S first us words at for told.Faded = past_follows S first us words at for answer.Left
+release_follows S first us words at for told.Closed = past_follows S first us words at for answer.Left
+release_follows S first us words at for told.Restored = past_follows S first us words at for answer.Left
 
-bury_follows : (S : Script) (first : List Record) (us : List Placed) (words : Zones) (at : ℕ) (for : Purpose) (event : WordEvent) → Follows S first us words (updates (phase.Bury at for)) (after (phase.Bury at for) event)
+bury_follows : (S : Script) (first : List Record) (us : List Placed) (words : Zones) (at : ℕ) (for : Purpose) (event : WordEvent) → Follows S first us words (updates (phase.Bury at for)) (after words (phase.Bury at for) event)
 bury_follows S first us words at for (told.Loaded owner number) = past_follows S first us words at for answer.Left
 bury_follows S first us words at for told.Passed = past_follows S first us words at for answer.Left
 bury_follows S first us words at for told.Taken = past_follows S first us words at for answer.Left
@@ -528,6 +683,17 @@ bury_follows S first us words at for told.Emptied = past_follows S first us word
 bury_follows S first us words at for (told.Buried number) = (tt, refl)
 bury_follows S first us words at for told.Kept = past_follows S first us words at for answer.Left
 bury_follows S first us words at for told.Freed = past_follows S first us words at for answer.Left
+bury_follows S first us words at for told.Alive = past_follows S first us words at for answer.Left
+bury_follows S first us words at for told.Dead = past_follows S first us words at for answer.Left
+bury_follows S first us words at for (told.Raised owner number) = past_follows S first us words at for answer.Left
+bury_follows S first us words at for (told.Noted owner number) = past_follows S first us words at for answer.Left
+bury_follows S first us words at for told.Faded = past_follows S first us words at for answer.Left
+bury_follows S first us words at for told.Closed = past_follows S first us words at for answer.Left
+bury_follows S first us words at for told.Restored = past_follows S first us words at for answer.Left
+
+fade_follows : (S : Script) (first : List Record) (us : List Placed) (words : Zones) (at : ℕ) (number : Option ℕ) (for : Purpose) (event : WordEvent) → Follows S first us words (updates (phase.Fade at number for)) (after words (phase.Fade at number for) event)
+fade_follows S first us words at number for told.Closed = (tt, refl)
+fade_follows S first us words at number for event = past_follows S first us words at for (gone number)
 
 -- a step leaves the updates so far, and the versions that are published, as they were; or it is the swap of an update, which is the next
 abbrev pub Grown : Script → List Placed → List Placed → Zones → Zones → Phase → Type 0
@@ -542,13 +708,21 @@ leaves_step words new step event apart m cell s =
 
 none_now : (at : Phase) → NoSwap (word_step at) → swaps_now at ≡ 0
 none_now (phase.Load name) apart = refl
+none_now (phase.Look name owner) apart = refl
+none_now (phase.Seek owner seeking) apart = refl
+none_now (phase.Gain owner seeking) apart = refl
+none_now (phase.Raise name owner) apart = refl
+none_now (phase.Note name owner) apart = refl
 none_now (phase.Probe version keeping) apart = refl
 none_now (phase.Prepare version keeping) apart = refl
 none_now (phase.Swap keeping) apart = absurd apart
 none_now (phase.Settle keeping) apart = refl
 none_now (phase.Keep given keeping) apart = refl
+none_now (phase.Enter given kept keeping) apart = refl
 none_now (phase.Release owner for) apart = refl
 none_now (phase.Bury owner for) apart = refl
+none_now (phase.Fade owner number for) apart = refl
+none_now (phase.Reset owner number for) apart = refl
 none_now (phase.Free owner number for) apart = refl
 
 -- the words and the updates behind a step of a call, with what the call is about to publish
@@ -571,179 +745,35 @@ prepared_next S first us words new version event n (place, there, last, is, foun
     record { place = place; number = last + 1; version = version; publisher = ap (λ (w : Zones). w.publisher) new_is; there = ap (option_and_then (λ (s : Slot Numbered). s.version)) here; is_next = n }
 
 -- a step that is no swap, of an update
-behind_update : (S : Script) (first : List Record) (us : List Placed) (words new : Zones) (at : Phase) (event : WordEvent) → NoSwap (word_step at) → updates at ≡ true → Makes words (word_step at) event new → Tells S first words us → Follows S first us new (updates at) (after at event)
-    → Behind S first us words new at (after at event)
+behind_update : (S : Script) (first : List Record) (us : List Placed) (words new : Zones) (at : Phase) (event : WordEvent) → NoSwap (word_step at) → updates at ≡ true → Makes words (word_step at) event new → Tells S first words us → Follows S first us new (updates at) (after new at event)
+    → Behind S first us words new at (after new at event)
 behind_update S first us words new at event apart is m t follows = record { later = us; tells = tells_same S first words new us (word_step at) event apart m t; follows = follows; others = λ other alone c. others_none S first us us words new other (alone is) c; grown = inl (refl, none_now at apart, leaves_step words new (word_step at) event apart m) }
 
 -- a step that is no update's
-behind_owner : (S : Script) (first : List Record) (us : List Placed) (words new : Zones) (at : Phase) (event : WordEvent) → OfOwner (word_step at) → Makes words (word_step at) event new → Tells S first words us → Follows S first us new (updates at) (after at event)
-    → Behind S first us words new at (after at event)
+behind_owner : (S : Script) (first : List Record) (us : List Placed) (words new : Zones) (at : Phase) (event : WordEvent) → OfOwner (word_step at) → Makes words (word_step at) event new → Tells S first words us → Follows S first us new (updates at) (after new at event)
+    → Behind S first us words new at (after new at event)
 behind_owner S first us words new at event of m t follows =
     record { later = us; tells = tells_same S first words new us (word_step at) event (owner_no_swap (word_step at) of) m t; follows = follows; others = λ other alone c. owner_keeps S first us words new t.cell (word_step at) event other of t.shows m c; grown = inl (refl, none_now at (owner_no_swap (word_step at) of), leaves_step words new (word_step at) event (owner_no_swap (word_step at) of) m) }
 
-behind_swap : (S : Script) (first : List Record) (us : List Placed) (words new : Zones) (keeping : Keeping) (event : WordEvent) → SwapsNext S first us words → Makes {T = Numbered} words word.Swap event new → Tells S first words us → Behind S first us words new (phase.Swap keeping) (after (phase.Swap keeping) event)
+behind_swap : (S : Script) (first : List Record) (us : List Placed) (words new : Zones) (keeping : Keeping) (event : WordEvent) → SwapsNext S first us words → Makes {T = Numbered} words word.Swap event new → Tells S first words us → Behind S first us words new (phase.Swap keeping) (after new (phase.Swap keeping) event)
 behind_swap S first us words new keeping event n m t =
     record { later = us ++ placed_next S first us n.version n.is_next ∷ []; tells = tells_swapped S first words new us event n m t; follows = (tt, refl); others = λ other alone c. others_none S first us (us ++ placed_next S first us n.version n.is_next ∷ []) words new other (alone refl) c; grown = inr (placed_next S first us n.version n.is_next, refl, refl, refl, n.is_next.mine) }
 
-pub behind : (S : Script) (first : List Record) (us : List Placed) (words new : Zones) (at : Phase) (event : WordEvent) → Makes words (word_step at) event new → Tells S first words us → Coherent S first us words at → Behind S first us words new at (after at event)
+pub behind : (S : Script) (first : List Record) (us : List Placed) (words new : Zones) (at : Phase) (event : WordEvent) → Makes words (word_step at) event new → Tells S first words us → Coherent S first us words at → Behind S first us words new at (after new at event)
 behind S first us words new (phase.Load name) event m t c = behind_owner S first us words new (phase.Load name) event tt m t (load_follows S first us new name event)
+behind S first us words new (phase.Look name owner) event m t c = behind_owner S first us words new (phase.Look name owner) event tt m t (look_follows S first us new name owner event)
+behind S first us words new (phase.Seek owner seeking) event m t c = behind_owner S first us words new (phase.Seek owner seeking) event tt m t (seek_follows S first us new owner seeking event)
+behind S first us words new (phase.Gain owner seeking) event m t c = behind_owner S first us words new (phase.Gain owner seeking) event tt m t (gain_follows S first us new owner seeking event)
+behind S first us words new (phase.Raise name owner) event m t c = behind_owner S first us words new (phase.Raise name owner) event tt m t (raise_follows S first us new name owner event)
+behind S first us words new (phase.Note name owner) event m t c = behind_owner S first us words new (phase.Note name owner) event tt m t (note_follows S first us new name owner event)
 behind S first us words new (phase.Probe version keeping) event m t c = behind_update S first us words new (phase.Probe version keeping) event tt refl m t (probe_follows S first us new version keeping c event)
 behind S first us words new (phase.Prepare version keeping) event m t c = behind_update S first us words new (phase.Prepare version keeping) event tt refl m t (prepared_next S first us words new version event c m, refl)
 behind S first us words new (phase.Swap keeping) event m t c = behind_swap S first us words new keeping event c m t
 behind S first us words new (phase.Settle keeping) event m t c = behind_update S first us words new (phase.Settle keeping) event tt refl m t (settle_follows S first us new keeping event)
 behind S first us words new (phase.Keep given keeping) event m t c = behind_update S first us words new (phase.Keep given keeping) event tt refl m t (keep_follows S first us new given keeping event)
+behind S first us words new (phase.Enter given kept keeping) event m t c = behind_update S first us words new (phase.Enter given kept keeping) event tt refl m t (enter_follows S first us new given kept keeping event)
 behind S first us words new (phase.Release at for) event m t c = behind_owner S first us words new (phase.Release at for) event tt m t (release_follows S first us new at for event)
 behind S first us words new (phase.Bury at for) event m t c = behind_owner S first us words new (phase.Bury at for) event tt m t (bury_follows S first us new at for event)
-behind S first us words new (phase.Free at number for) event m t c = behind_owner S first us words new (phase.Free at number for) event tt m t (past_follows S first us new at for (answer.Buried number))
-
--- each call under way is about to publish what the next update makes
-abbrev pub AllCoherent : Script → List Record → List Placed → Zones → List UnderWay → Type 0
-AllCoherent S first us words [] = Unit {0}
-AllCoherent S first us words (call ∷ calls) = Coherent S first us words call.phase × AllCoherent S first us words calls
-
-abbrev pub any_update : List UnderWay → Bool
-any_update calls = list_any (λ (call : UnderWay). updates call.phase) calls
-
--- at most one of them is an update
-abbrev pub AtMostOne : List UnderWay → Type 0
-AtMostOne [] = Unit {0}
-AtMostOne (call ∷ calls) = (updates call.phase ≡ true → any_update calls ≡ false) × AtMostOne calls
-
-or_false : (a b : Bool) → (a || b) ≡ false → (a ≡ false) × (b ≡ false)
-or_false true b e = absurd (let wrong = e in cc)
-or_false false b e = (refl, e)
-
-not_both : (a : Bool) → a ≡ true → a ≡ false → ⊥
-not_both a t f = let wrong : true ≡ false = sym t ∙ f in cc
-
-pub others_all : (S : Script) (first : List Record) (us : List Placed) (words new : Zones) (at : Phase) (progress : Progress) (b : Behind S first us words new at progress) (calls : List UnderWay) → (updates at ≡ true → any_update calls ≡ false) → AllCoherent S first us words calls → AllCoherent S first b.later new calls
-others_all S first us words new at progress b [] alone c = tt
-others_all S first us words new at progress b (call ∷ calls) alone c =
-    (b.others call.phase (λ t. (or_false (updates call.phase) (any_update calls) (alone t)).0) c.0, others_all S first us words new at progress b calls (λ t. (or_false (updates call.phase) (any_update calls) (alone t)).1) c.1)
-
-pub without_coherent : (S : Script) (first : List Record) (us : List Placed) (words : Zones) (name : List ℕ) (calls : List UnderWay) → AllCoherent S first us words calls → AllCoherent S first us words (without_call name calls)
-without_coherent S first us words name [] c = tt
-without_coherent S first us words name (call ∷ calls) c =
-    elim (cases_Bool (not (bytes_eq call.name name))) [
-      | inl kept ↦ rw kept (c.0, without_coherent S first us words name calls c.1)
-      | inr gone ↦ rw gone (without_coherent S first us words name calls c.1)
-    ]
-
-without_any : (name : List ℕ) (calls : List UnderWay) → any_update calls ≡ false → any_update (without_call name calls) ≡ false
-without_any name [] e = refl
-without_any name (call ∷ calls) e =
-    let parts = or_false (updates call.phase) (any_update calls) e in
-    elim (cases_Bool (not (bytes_eq call.name name))) [
-      | inl kept ↦ rw kept (rw parts.0 (without_any name calls parts.1))
-      | inr gone ↦ rw gone (without_any name calls parts.1)
-    ]
-
-pub without_one : (name : List ℕ) (calls : List UnderWay) → AtMostOne calls → AtMostOne (without_call name calls)
-without_one name [] one = tt
-without_one name (call ∷ calls) one =
-    elim (cases_Bool (not (bytes_eq call.name name))) [
-      | inl kept ↦ rw kept ((λ t. without_any name calls (one.0 t)), without_one name calls one.1)
-      | inr gone ↦ rw gone (without_one name calls one.1)
-    ]
-
-pub with_coherent : (S : Script) (first : List Record) (us : List Placed) (words : Zones) (calls : List UnderWay) (call : UnderWay) → AllCoherent S first us words calls → Coherent S first us words call.phase → AllCoherent S first us words (calls ++ call ∷ [])
-with_coherent S first us words [] call c new = (new, tt)
-with_coherent S first us words (other ∷ calls) call c new = (c.0, with_coherent S first us words calls call c.1 new)
-
-with_any : (calls : List UnderWay) (call : UnderWay) → any_update calls ≡ false → updates call.phase ≡ false → any_update (calls ++ call ∷ []) ≡ false
-with_any [] call none e = rw e refl
-with_any (other ∷ calls) call none e =
-    let parts = or_false (updates other.phase) (any_update calls) none in rw parts.0 (with_any calls call parts.1 e)
-
-pub with_one : (calls : List UnderWay) (call : UnderWay) → AtMostOne calls → (updates call.phase ≡ true → any_update calls ≡ false) → AtMostOne (calls ++ call ∷ [])
-with_one [] call one alone = ((λ t. refl), tt)
-with_one (other ∷ calls) call one alone = (
-  λ t. elim (cases_Bool (updates call.phase)) [
-    | inl is ↦ absurd (not_both (updates other.phase) t (or_false (updates other.phase) (any_update calls) (alone is)).0)
-    | inr isnt ↦ with_any calls call (one.0 t) isnt
-  ],
-  with_one calls call one.1 (λ is. (or_false (updates other.phase) (any_update calls) (alone is)).1),
-)
-
-pub found_coherent : (S : Script) (first : List Record) (us : List Placed) (words : Zones) (name : List ℕ) (calls : List UnderWay) (call : UnderWay) → call_of name calls ≡ Some call → AllCoherent S first us words calls → Coherent S first us words call.phase
-found_coherent S first us words name [] call e c = absurd (let wrong = e in cc)
-found_coherent S first us words name (other ∷ calls) call e c =
-    elim (cases_Bool (bytes_eq other.name name)) [
-      | inl here ↦ (let found = rw here at e in let same : other ≡ call = (let f = found in cc) in subst (λ (o : UnderWay). Coherent S first us words o.phase) same c.0)
-      | inr elsewhere ↦ found_coherent S first us words name calls call (rw elsewhere at e) c.1
-    ]
-
-pub found_any : (name : List ℕ) (calls : List UnderWay) (call : UnderWay) → call_of name calls ≡ Some call → updates call.phase ≡ true → any_update calls ≡ false → ⊥
-found_any name [] call e is none = let wrong = e in cc
-found_any name (other ∷ calls) call e is none =
-    let parts = or_false (updates other.phase) (any_update calls) none in
-    elim (cases_Bool (bytes_eq other.name name)) [
-      | inl here ↦ (let found = rw here at e in let same : other ≡ call = (let f = found in cc) in not_both (updates call.phase) is (ap (λ (o : UnderWay). updates o.phase) (sym same) ∙ parts.0))
-      | inr elsewhere ↦ found_any name calls call (rw elsewhere at e) is parts.1
-    ]
-
-pub found_alone : (name : List ℕ) (calls : List UnderWay) (call : UnderWay) → call_of name calls ≡ Some call → AtMostOne calls → updates call.phase ≡ true → any_update (without_call name calls) ≡ false
-found_alone name [] call e one is = refl
-found_alone name (other ∷ calls) call e one is =
-    elim (cases_Bool (bytes_eq other.name name)) [
-      | inl here ↦ (
-          let found = rw here at e in
-          let same : other ≡ call = (let f = found in cc) in
-          rw here (without_any name calls (one.0 (ap (λ (o : UnderWay). updates o.phase) same ∙ is)))
-          )
-      | inr elsewhere ↦ (
-          let there : call_of name calls ≡ Some call = rw elsewhere at e in
-          elim (cases_Bool (updates other.phase)) [
-            | inl both ↦ absurd (found_any name calls call there is (one.0 both))
-            | inr none ↦ rw elsewhere (rw none (found_alone name calls call there one.1 is))
-          ]
-          )
-    ]
-
--- and so they are where more lines were played, and where further lines may have begun the update under way
-abbrev pub moved : Script → ℕ → (ℕ → Heading → Type 0) → Script
-moved S top by = scripted S.sends top by
-
-next_on : (S : Script) (top : ℕ) (by : ℕ → Heading → Type 0) (first : List Record) (us : List Placed) (version : Numbered) → S.top ≤ top → ((place : ℕ) (head : Heading) → S.by place head → by place head) → IsNext S first us version → IsNext (moved S top by) first us version
-next_on S top by first us version more map n =
-    let l = n.fresh.played in
-    record { place = n.place; fresh = record { played = omega (arith, l, more); last = n.fresh.last }; makes = n.makes; mine = map n.place (heading_of_update n.makes.update) n.mine }
-
-pub coherent_on : (S : Script) (top : ℕ) (by : ℕ → Heading → Type 0) (first : List Record) (us : List Placed) (words : Zones) (at : Phase) → S.top ≤ top → ((place : ℕ) (head : Heading) → S.by place head → by place head) → Coherent S first us words at → Coherent (moved S top by) first us words at
-coherent_on S top by first us words (phase.Load name) more map c = tt
-coherent_on S top by first us words (phase.Probe version keeping) more map c = next_on S top by first us version more map c
-coherent_on S top by first us words (phase.Prepare version keeping) more map c = next_on S top by first us version more map c
-coherent_on S top by first us words (phase.Swap keeping) more map c = record { place = c.place; number = c.number; version = c.version; publisher = c.publisher; there = c.there; is_next = next_on S top by first us c.version more map c.is_next }
-coherent_on S top by first us words (phase.Settle keeping) more map c = tt
-coherent_on S top by first us words (phase.Keep given keeping) more map c = tt
-coherent_on S top by first us words (phase.Release owner for) more map c = tt
-coherent_on S top by first us words (phase.Bury owner for) more map c = tt
-coherent_on S top by first us words (phase.Free owner number for) more map c = tt
-
-pub all_on : (S : Script) (top : ℕ) (by : ℕ → Heading → Type 0) (first : List Record) (us : List Placed) (words : Zones) (calls : List UnderWay) → S.top ≤ top → ((place : ℕ) (head : Heading) → S.by place head → by place head) → AllCoherent S first us words calls → AllCoherent (moved S top by) first us words calls
-all_on S top by first us words [] more map c = tt
-all_on S top by first us words (call ∷ calls) more map c = (coherent_on S top by first us words call.phase more map c.0, all_on S top by first us words calls more map c.1)
-
--- where no update is under way nothing is about to be published
-pub all_none : (S : Script) (first : List Record) (us : List Placed) (words : Zones) (calls : List UnderWay) → any_update calls ≡ false → AllCoherent S first us words calls
-all_none S first us words [] none = tt
-all_none S first us words (call ∷ calls) none =
-    let parts = or_false (updates call.phase) (any_update calls) none in (no_update S first us words call.phase parts.0, all_none S first us words calls parts.1)
-
-pub tells_on : (S : Script) (top : ℕ) (by : ℕ → Heading → Type 0) (first : List Record) (words : Zones) (us : List Placed) → S.top ≤ top → Tells S first words us → Tells (moved S top by) first words us
-tells_on S top by first words us more t = record {
-  cell = t.cell;
-  steps = t.steps;
-  runs = t.runs;
-  shows = t.shows;
-  replays = t.replays;
-  in_turn = record { sends = t.in_turn.sends; rises = t.in_turn.rises; played = λ k one e. (let l = t.in_turn.played k one e in omega (arith, l, more)) };
-}
-
--- one line more was played
-abbrev pub later_on : Script → Script
-later_on S = moved S (S.top + 1) S.by
-
--- the next line is behind those that sent the updates so far
-pub fresh_on : (S : Script) (us : List Placed) → AreInTurn S us → IsFresh (later_on S) us S.top
-fresh_on S us t = record { played = omega arith; last = t.played }
+behind S first us words new (phase.Fade at number for) event m t c = behind_owner S first us words new (phase.Fade at number for) event tt m t (fade_follows S first us new at number for event)
+behind S first us words new (phase.Reset at number for) event m t c = behind_owner S first us words new (phase.Reset at number for) event tt m t (tt, refl)
+behind S first us words new (phase.Free at number for) event m t c = behind_owner S first us words new (phase.Free at number for) event tt m t (past_follows S first us new at for (gone number))

@@ -1,45 +1,31 @@
 -- A call that takes all its steps comes to its end, once it has taken its first.
-use Rattle.std.proofs.Common.{◌≡◌, ◌≢◌, refl, sym, ap, ◌∙◌, subst, ℕ, zero, suc, ◌+◌, ◌-◌, ◌^◌, ◌<◌, ◌≤◌, Bool, true, false, inl, inr, List, [], ◌∷◌, ◌++◌, length, arith, Option, Some, None}
-use Rattle.std.specs.Prelude.{◌==◌, ◌&&◌, is_some, nat_lt, ◌||◌, not}
+use Rattle.std.proofs.Common.{◌≡◌, ◌≢◌, refl, sym, ap, ◌∙◌, subst, ℕ, zero, suc, ◌+◌, ◌-◌, ◌*◌, ◌^◌, ◌<◌, ◌≤◌, Bool, true, false, inl, inr, List, [], ◌∷◌, ◌++◌, length, arith, Option, Some, None}
+use Rattle.std.specs.Prelude.{◌==◌, is_some}
 use Rattle.std.specs.List.{slice_get, slice_set}
 use Rattle.std.specs.Option.{option_map, option_and_then}
 use Rattle.std.specs.Prelude.{if◌then◌else◌}
-use Rattle.std.specs.List.{list_any}
-use Rattle.std.proofs.lemmas.Bool.{cases_Bool, ltb-true}
+use Rattle.std.proofs.lemmas.Bool.{cases_Bool}
 use Rattle.std.proofs.lemmas.Bool.Decides.{eqb_tells}
 use Rattle.std.proofs.lemmas.Option.{slice_get_within}
-use Rattle.cell_core.proofs.GoesOn.{release_goes_on, bury_goes_on, free_goes_on, probe_goes_on, prepare_goes_on, swap_goes_on, settle_goes_on}
+use Rattle.cell_core.proofs.GoesOn.{release_goes_on, bury_goes_on, free_goes_on, fade_goes_on, reset_goes_on, probe_goes_on, prepare_goes_on, swap_goes_on, settle_goes_on}
 use Rattle.cell_core.proofs.MadeLemmas.{makes_made}
 use Rattle.cell_core.proofs.SeatLemmas.{get_set_same, get_push_new}
 use Rattle.cell_core.proofs.StepShows.{step_shows}
 use Rattle.cell_core.specs.Cell.{Cell}
 use Rattle.cell_core.specs.Shows.{Shows, PublisherIs}
-use Rattle.cell_core.specs.Words.{State, slots, free_word, fetch_sub, slot_of, given_of}
+use Rattle.cell_core.specs.Words.{State, slots, free_word, fetch_sub, slot_of, given_of, fading_of}
 use Rattle.cell_core.specs.WordSteps.{Makes}
 use Rattle.cell_core.specs.declared.words.Owner.{Owner}
-use Rattle.cell_core.specs.declared.words.Owner.TheVariants.{Holding, Burying, Freeing, Spent}
+use Rattle.cell_core.specs.declared.words.Owner.TheVariants.{Holding, Weakly, Burying, Fading, Resetting, Freeing, Spent}
 use Rattle.cell_core.specs.declared.words.Publisher.TheVariants.{Probing, Preparing, Swapping, Settling}
 use Rattle.cell_core.specs.declared.words.WordEvent.{WordEvent}
 use Rattle.cell_core.specs.declared.words.WordEvent.TheVariants as told
 use Rattle.cell_core.specs.declared.words.WordStep.TheVariants as word
 use Rattle.cell_core.proofs.GoesOn.{load_goes_on}
 use Rattle.cell_core.proofs.SeatLemmas.{get_set_other, get_push_old}
-use Rattle.cell_core.specs.Words.{grants, place_of, version_in, found_last}
-use Rattle.cell_core.specs.declared.words.Version.{Version}
-use Rattle.dns_rdata.specs.Record.{Record}
+use Rattle.cell_core.specs.Words.{grants}
 use Rattle.serve_core.specs.declared.heading.Heading.{Heading}
-use Rattle.dns_message.specs.declared.query.Parsed.{Parsed}
-use Rattle.dns_message.specs.Request.{reads}
-use Rattle.world_run.specs.Judgements.{asks_update, judged}
 use Rattle.zone_tree.specs.Version.{Version as Numbered}
-use Rattle.dns_message.specs.declared.query.Parsed.TheVariants as parsed
-use Rattle.dns_message.specs.declared.query.Query.{Query as QueryAsked}
-use Rattle.dns_rdata.specs.Numbers.{type_IXFR}
-use Rattle.serve_core.specs.declared.transport.Transport.TheVariants.{Udp, Tcp}
-use Rattle.serve_core.specs.Transfers.{peer_over, is_permitted}
-use Rattle.world_run.specs.World.{version_of, asks_sent, transfer_asked, transfer_said, transfer_start}
-use Rattle.world_run.specs.declared.judged.Judged.{Judged}
-use Rattle.world_run.specs.declared.judged.Judged.TheVariants as judgement
 use Rattle.world_run.specs.declared.phase.Keeping.{Keeping}
 use Rattle.world_run.specs.declared.phase.Phase.{Phase}
 use Rattle.world_run.specs.declared.phase.Phase.TheVariants as phase
@@ -47,21 +33,14 @@ use Rattle.world_run.specs.declared.phase.Purpose.{Purpose}
 use Rattle.world_run.specs.declared.phase.Purpose.TheVariants as purpose
 use Rattle.world_run.specs.declared.phase.Progress.{Progress}
 use Rattle.world_run.specs.declared.phase.Progress.TheVariants.{On, Done}
-use Rattle.world_run.specs.declared.calls.UnderWay.{UnderWay}
-use Rattle.world_run.specs.declared.start.Start.{Start}
-use Rattle.world_run.specs.declared.start.Start.TheVariants.{Refused, Answers, Takes}
 use Rattle.world_run.specs.declared.step.Answer.{Answer}
 use Rattle.world_run.specs.declared.step.Answer.TheVariants as answer
-use Rattle.world_run.specs.declared.step.Call.{Call}
-use Rattle.world_run.specs.declared.step.Call.TheVariants.{Load, Drop, Ask, Transfer, Update}
-use Rattle.world_run.specs.declared.step.WorldReply.{WorldReply}
-use Rattle.world_run.specs.declared.step.WorldReply.TheVariants.{Answered, NotEnabled}
-use Rattle.world_run.specs.declared.step.WorldStep.{WorldStep}
-use Rattle.world_run.specs.declared.step.WorldStep.TheVariants.{Whole, Begin, Next}
-use Rattle.world_run.specs.Phases.{word_step, after, past, oldest_after, updates}
-use Rattle.world_run.specs.World.{World, owner_of, call_of, is_taken, zone_of, drop_start, ask_said, ask_start, is_held, publication_start, update_start, oldest_kept, start, answer_at, step_once, steps_up_to, most_steps, is_full, all_made, whole, begin, begin_under, stepped, next, turn}
-use Rattle.world_laws.proofs.RunLemmas.{one_step}
-use Rattle.world_run.proofs.StepLemmas.{stays_there}
+use Rattle.cell_core.proofs.GoesOn.{note_goes_on}
+use Rattle.cell_core.specs.Words.{notes}
+use Rattle.world_run.specs.declared.entries.Entry.{Entry}
+use Rattle.world_run.specs.declared.sending.Sending.{Sending}
+use Rattle.world_run.specs.Phases.{word_step, after, past, gone, leaving_after, oldest_after, sent_after, entry_of}
+use Rattle.world_run.specs.World.{step_once, steps_up_to}
 
 abbrev pub Zones : Type 0
 Zones = State Numbered
@@ -72,19 +51,19 @@ IsDone (On phase) = ⊥
 IsDone (Done end) = Unit {0}
 
 -- a step that is made, as what follows on it
-went : (words new : Zones) (at : Phase) (event : WordEvent) (progress : Progress) → Makes words (word_step at) event new → after at event ≡ progress → step_once words at ≡ Some (progress, new)
+pub went : (words new : Zones) (at : Phase) (event : WordEvent) (progress : Progress) → Makes words (word_step at) event new → after new at event ≡ progress → step_once words at ≡ Some (progress, new)
 went words new at event progress m goes =
-    ap (option_map (λ t. (after at t.0, t.1))) (makes_made words new (word_step at) event m) ∙ ap (λ (p : Progress). Some (p, new)) goes
+    ap (option_map (λ t. (after t.1 at t.0, t.1))) (makes_made words new (word_step at) event m) ∙ ap (λ (p : Progress). Some (p, new)) goes
 
 -- the step that ends a call
-done_by : (left : ℕ) (words new : Zones) (at : Phase) (progress : Progress) → 0 < left → step_once words at ≡ Some (progress, new) → IsDone progress → IsDone (steps_up_to left words at).0
+pub done_by : (left : ℕ) (words new : Zones) (at : Phase) (progress : Progress) → 0 < left → step_once words at ≡ Some (progress, new) → IsDone progress → IsDone (steps_up_to left words at).0
 unfolding steps_up_to
 done_by zero words new at progress some e is = absurd (omega (arith, some))
 done_by (suc left) words new at (On next) some e is = absurd is
 done_by (suc left) words new at (Done end) some e is = rw e tt
 
 -- a step behind which the call goes on
-on_by : (left : ℕ) (words new : Zones) (at next : Phase) → 0 < left → step_once words at ≡ Some (On next, new) → IsDone (steps_up_to (left - 1) new next).0 → IsDone (steps_up_to left words at).0
+pub on_by : (left : ℕ) (words new : Zones) (at next : Phase) → 0 < left → step_once words at ≡ Some (On next, new) → IsDone (steps_up_to (left - 1) new next).0 → IsDone (steps_up_to left words at).0
 unfolding steps_up_to
 on_by zero words new at next some e is = absurd (omega (arith, some))
 on_by (suc left) words new at next some e is = let same : suc left - 1 ≡ left = omega arith in rw e (rw same at is)
@@ -95,7 +74,7 @@ EndsFrom left words (On next) = IsDone (steps_up_to left words next).0
 EndsFrom left words (Done end) = Unit {0}
 
 -- a step behind which the call comes to its end
-step_ends : (left : ℕ) (words new : Zones) (at : Phase) (progress : Progress) → 0 < left → step_once words at ≡ Some (progress, new) → EndsFrom (left - 1) new progress → IsDone (steps_up_to left words at).0
+pub step_ends : (left : ℕ) (words new : Zones) (at : Phase) (progress : Progress) → 0 < left → step_once words at ≡ Some (progress, new) → EndsFrom (left - 1) new progress → IsDone (steps_up_to left words at).0
 step_ends left words new at (On next) some e ends = on_by left words new at next some e ends
 step_ends left words new at (Done end) some e ends = done_by left words new at (Done end) some e tt
 
@@ -104,26 +83,63 @@ abbrev pub HeldBeside : ℕ → List Owner → Option ℕ → Type 0
 HeldBeside owner owners None = Unit {0}
 HeldBeside owner owners (Some oldest) = (oldest ≢ owner) × (number : ℕ) × (place : ℕ) × (slice_get owners oldest ≡ Some (Holding number place))
 
+-- an owner is none of several
+abbrev pub IsApart : ℕ → List ℕ → Type 0
+IsApart owner [] = Unit {0}
+IsApart owner (o ∷ os) = (o ≢ owner) × IsApart owner os
+
+-- several owners are of one kind, strong or weak, and each is another one
+abbrev pub AreAll : (ℕ → ℕ → Owner) → List Owner → List ℕ → Type 0
+AreAll how owners [] = Unit {0}
+AreAll how owners (o ∷ os) = ((number : ℕ) × (place : ℕ) × (slice_get owners o ≡ Some (how number place))) × IsApart o os × AreAll how owners os
+
 -- what an owner is released for can go on once it is gone
 abbrev pub CanPass : ℕ → List Owner → Purpose → Type 0
 CanPass owner owners purpose.Drop = Unit {0}
-CanPass owner owners (purpose.Publish keeping kept) = HeldBeside owner owners keeping.oldest
-CanPass owner owners (purpose.Oldest head kept) = Unit {0}
+CanPass owner owners (purpose.Publish keeping kept entry) = HeldBeside owner owners keeping.oldest × IsApart owner keeping.leaving × AreAll Weakly owners keeping.leaving
+CanPass owner owners (purpose.Oldest head kept entry leaving) = IsApart owner leaving × AreAll Weakly owners leaving
+CanPass owner owners (purpose.Leaves head kept entry leaving) = IsApart owner leaving × AreAll Weakly owners leaving
+CanPass owner owners (purpose.Sent sending got) = IsApart owner got × AreAll Holding owners got
 
 -- so many steps follow at most
 abbrev pub behind_owner : Purpose → ℕ
 behind_owner purpose.Drop = 0
-behind_owner (purpose.Publish keeping kept) = 3
-behind_owner (purpose.Oldest head kept) = 0
+behind_owner (purpose.Publish keeping kept entry) = 5 + 3 * length keeping.leaving
+behind_owner (purpose.Oldest head kept entry leaving) = 3 * length leaving
+behind_owner (purpose.Leaves head kept entry leaving) = 3 * length leaving
+behind_owner (purpose.Sent sending got) = 5 * length got
 
 held_set : (owner : ℕ) (owners : List Owner) (next : Owner) (oldest : Option ℕ) → HeldBeside owner owners oldest → HeldBeside owner (slice_set owners owner next) oldest
 held_set owner owners next None held = tt
 held_set owner owners next (Some oldest) held = (held.0, held.1, held.2, get_set_other owners owner oldest next held.0 ∙ held.3)
 
+all_set : (how : ℕ → ℕ → Owner) (owner : ℕ) (owners : List Owner) (next : Owner) (os : List ℕ) → IsApart owner os → AreAll how owners os → AreAll how (slice_set owners owner next) os
+all_set how owner owners next [] apart all = tt
+all_set how owner owners next (o ∷ os) apart all = ((all.0.0, all.0.1, get_set_other owners owner o next apart.0 ∙ all.0.2), all.1, all_set how owner owners next os apart.1 all.2)
+
+pub all_push : (how : ℕ → ℕ → Owner) (owners : List Owner) (one : Owner) (os : List ℕ) → AreAll how owners os → AreAll how (owners ++ one ∷ []) os
+all_push how owners one [] all = tt
+all_push how owners one (o ∷ os) all = ((all.0.0, all.0.1, get_push_old owners one (how all.0.0 all.0.1) o all.0.2), all.1, all_push how owners one os all.2)
+
+-- a new owner is another one
+pub apart_new : (how : ℕ → ℕ → Owner) (owners : List Owner) (os : List ℕ) → AreAll how owners os → IsApart (length owners) os
+apart_new how owners [] all = tt
+apart_new how owners (o ∷ os) all = (let within = slice_get_within owners o (how all.0.0 all.0.1) all.0.2 in (λ e. absurd (omega (arith, e, within))), apart_new how owners os all.2)
+
+-- a strong owner is no weak one
+pub apart_strong : (owners : List Owner) (owner number place : ℕ) (os : List ℕ) → slice_get owners owner ≡ Some (Holding number place) → AreAll Weakly owners os → IsApart owner os
+apart_strong owners owner number place [] at all = tt
+apart_strong owners owner number place (o ∷ os) at all = (
+  λ e. (let wrong : Some (Weakly all.0.0 all.0.1) ≡ Some (Holding number place) = sym all.0.2 ∙ (ap (slice_get owners) e ∙ at) in absurd (let w = wrong in cc)),
+  apart_strong owners owner number place os at all.2,
+)
+
 can_set : (owner : ℕ) (owners : List Owner) (next : Owner) (for : Purpose) → CanPass owner owners for → CanPass owner (slice_set owners owner next) for
 can_set owner owners next purpose.Drop can = tt
-can_set owner owners next (purpose.Publish keeping kept) can = held_set owner owners next keeping.oldest can
-can_set owner owners next (purpose.Oldest head kept) can = tt
+can_set owner owners next (purpose.Publish keeping kept entry) can = (held_set owner owners next keeping.oldest can.0, can.1, all_set Weakly owner owners next keeping.leaving can.1 can.2)
+can_set owner owners next (purpose.Oldest head kept entry leaving) can = (can.0, all_set Weakly owner owners next leaving can.0 can.1)
+can_set owner owners next (purpose.Leaves head kept entry leaving) can = (can.0, all_set Weakly owner owners next leaving can.0 can.1)
+can_set owner owners next (purpose.Sent sending got) can = (can.0, all_set Holding owner owners next got can.0 can.1)
 
 -- it goes on so behind the owner's step
 can_after : (words new : Zones) (owner : ℕ) (next : Owner) (for : Purpose) → new.owners ≡ slice_set words.owners owner next → CanPass owner words.owners for → CanPass owner new.owners for
@@ -133,30 +149,69 @@ can_after words new owner next for is can = subst (λ o. CanPass owner o for) (s
 abbrev pub Passes : ℕ → Purpose → Type 0
 Passes owner for = (left : ℕ) (words : Zones) (cell : Cell Numbered) (given : Answer) → behind_owner for ≤ left → Shows words cell → CanPass owner words.owners for → EndsFrom left words (past for given)
 
-free_ends : (left : ℕ) (words : Zones) (cell : Cell Numbered) (owner number place : ℕ) (for : Purpose) → Passes owner for → 1 + behind_owner for ≤ left → Shows words cell → slice_get words.owners owner ≡ Some (Freeing place) → CanPass owner words.owners for
-    → IsDone (steps_up_to left words (phase.Free owner number for)).0
-free_ends left words cell owner number place for passes enough s seat can =
-    let has = free_goes_on words cell owner place s seat in
-    let shown = step_shows words has.1 (word.Free owner) has.0 cell s has.2 in
-    let (there_place, there, freed, found, told_is, new_is) = has.2 in
-    step_ends left words has.1 (phase.Free owner number for) (past for (answer.Buried number)) (omega (arith, enough)) (went words has.1 (phase.Free owner number for) has.0 _ has.2 refl)
-    (passes (left - 1) has.1 shown.0 (answer.Buried number) (omega (arith, enough)) shown.2 (can_after words has.1 owner Spent for (ap (λ (w : Zones). w.owners) new_is) can))
-
 -- an owner that has come further stands there
 seat_after : (words new : Zones) (owner : ℕ) (before next : Owner) → slice_get words.owners owner ≡ Some before → new.owners ≡ slice_set words.owners owner next → slice_get new.owners owner ≡ Some next
 seat_after words new owner before next seat is =
     ap (λ (o : List Owner). slice_get o owner) is ∙ get_set_same words.owners owner next (slice_get_within words.owners owner before seat)
 
-bury_done : (left : ℕ) (words new : Zones) (cell : Cell Numbered) (owner : ℕ) (for : Purpose) (event : WordEvent) → Passes owner for → 2 + behind_owner for ≤ left → Shows new cell → CanPass owner words.owners for → Makes words (word.Bury owner) event new → IsDone (steps_up_to left words (phase.Bury owner for)).0
+free_ends : (left : ℕ) (words : Zones) (cell : Cell Numbered) (owner place : ℕ) (number : Option ℕ) (for : Purpose) → Passes owner for → 1 + behind_owner for ≤ left → Shows words cell → slice_get words.owners owner ≡ Some (Freeing place) → CanPass owner words.owners for
+    → IsDone (steps_up_to left words (phase.Free owner number for)).0
+free_ends left words cell owner place number for passes enough s seat can =
+    let has = free_goes_on words cell owner place s seat in
+    let shown = step_shows words has.1 (word.Free owner) has.0 cell s has.2 in
+    let (there_place, there, freed, found, told_is, new_is) = has.2 in
+    step_ends left words has.1 (phase.Free owner number for) (past for (gone number)) (omega (arith, enough)) (went words has.1 (phase.Free owner number for) has.0 _ has.2 refl)
+    (passes (left - 1) has.1 shown.0 (gone number) (omega (arith, enough)) shown.2 (can_after words has.1 owner Spent for (ap (λ (w : Zones). w.owners) new_is) can))
+
+reset_ends : (left : ℕ) (words : Zones) (cell : Cell Numbered) (owner place : ℕ) (number : Option ℕ) (for : Purpose) → Passes owner for → 2 + behind_owner for ≤ left → Shows words cell → slice_get words.owners owner ≡ Some (Resetting place) → CanPass owner words.owners for
+    → IsDone (steps_up_to left words (phase.Reset owner number for)).0
+reset_ends left words cell owner place number for passes enough s seat can =
+    let has = reset_goes_on words cell owner place s seat in
+    let shown = step_shows words has.1 (word.Reset owner) has.0 cell s has.2 in
+    let (there_place, there, resets, found, told_is, new_is) = has.2 in
+    let owners_is : has.1.owners ≡ slice_set words.owners owner (Freeing there_place) = ap (λ (w : Zones). w.owners) new_is in
+    let next_seat = seat_after words has.1 owner (Resetting place) (Freeing there_place) seat owners_is in
+    on_by left words has.1 (phase.Reset owner number for) (phase.Free owner number for) (omega (arith, enough)) (went words has.1 (phase.Reset owner number for) has.0 _ has.2 refl)
+    (free_ends (left - 1) has.1 shown.0 owner there_place number for passes (omega (arith, enough)) shown.2 next_seat (can_after words has.1 owner (Freeing there_place) for owners_is can))
+
+fade_done : (left : ℕ) (words new : Zones) (cell : Cell Numbered) (owner : ℕ) (how : Owner) (number : Option ℕ) (for : Purpose) (event : WordEvent) → Passes owner for → 3 + behind_owner for ≤ left → Shows new cell → slice_get words.owners owner ≡ Some how → CanPass owner words.owners for
+    → Makes words (word.Fade owner) event new → IsDone (steps_up_to left words (phase.Fade owner number for)).0
+fade_done left words new cell owner how number for event passes enough s seat can (place, there, fades, found, m) =
+    elim (cases_Bool (fetch_sub there.weak 1 == 0)) [
+      | inl none ↦ (
+          let h = rw none at m in
+          let made_here : Makes words (word.Fade owner) told.Closed new = (place, there, fades, found, rw none (refl, h.1)) in
+          let owners_is : new.owners ≡ slice_set words.owners owner (Resetting place) = ap (λ (w : Zones). w.owners) h.1 in
+          let next_seat = seat_after words new owner how (Resetting place) seat owners_is in
+          on_by left words new (phase.Fade owner number for) (phase.Reset owner number for) (omega (arith, enough)) (went words new (phase.Fade owner number for) told.Closed _ made_here refl)
+          (reset_ends (left - 1) new cell owner place number for passes (omega (arith, enough)) s next_seat (can_after words new owner (Resetting place) for owners_is can))
+          )
+      | inr some ↦ (
+          let h = rw some at m in
+          let made_here : Makes words (word.Fade owner) told.Faded new = (place, there, fades, found, rw some (refl, h.1)) in
+          let owners_is : new.owners ≡ slice_set words.owners owner Spent = ap (λ (w : Zones). w.owners) h.1 in
+          step_ends left words new (phase.Fade owner number for) (past for (gone number)) (omega (arith, enough)) (went words new (phase.Fade owner number for) told.Faded _ made_here refl)
+          (passes (left - 1) new cell (gone number) (omega (arith, enough)) s (can_after words new owner Spent for owners_is can))
+          )
+    ]
+
+pub fade_ends : (left : ℕ) (words : Zones) (cell : Cell Numbered) (owner place : ℕ) (how : Owner) (number : Option ℕ) (for : Purpose) → Passes owner for → 3 + behind_owner for ≤ left → Shows words cell → slice_get words.owners owner ≡ Some how → fading_of how ≡ Some place → CanPass owner words.owners for
+    → IsDone (steps_up_to left words (phase.Fade owner number for)).0
+fade_ends left words cell owner place how number for passes enough s seat fades can =
+    let has = fade_goes_on words cell owner place s (ap (option_and_then fading_of) seat ∙ fades) in
+    let shown = step_shows words has.1 (word.Fade owner) has.0 cell s has.2 in
+    fade_done left words has.1 shown.0 owner how number for has.0 passes enough shown.2 seat can has.2
+
+bury_done : (left : ℕ) (words new : Zones) (cell : Cell Numbered) (owner : ℕ) (for : Purpose) (event : WordEvent) → Passes owner for → 4 + behind_owner for ≤ left → Shows new cell → CanPass owner words.owners for → Makes words (word.Bury owner) event new → IsDone (steps_up_to left words (phase.Bury owner for)).0
 bury_done left words new cell owner for event passes enough s can (place, there, seat, found, m) =
     elim (cases_Bool (there.shares == 0)) [
       | inl none ↦ (
           let h = rw none at m in
           let made_here : Makes words (word.Bury owner) (told.Buried h.0) new = (place, there, seat, found, rw none (h.0, h.1, refl, h.3)) in
-          let owners_is : new.owners ≡ slice_set words.owners owner (Freeing place) = ap (λ (w : Zones). w.owners) h.3 in
-          let next_seat = seat_after words new owner (Burying place) (Freeing place) seat owners_is in
-          on_by left words new (phase.Bury owner for) (phase.Free owner h.0 for) (omega (arith, enough)) (went words new (phase.Bury owner for) (told.Buried h.0) _ made_here refl)
-          (free_ends (left - 1) new cell owner h.0 place for passes (omega (arith, enough)) s next_seat (can_after words new owner (Freeing place) for owners_is can))
+          let owners_is : new.owners ≡ slice_set words.owners owner (Fading place) = ap (λ (w : Zones). w.owners) h.3 in
+          let next_seat = seat_after words new owner (Burying place) (Fading place) seat owners_is in
+          on_by left words new (phase.Bury owner for) (phase.Fade owner (Some h.0) for) (omega (arith, enough)) (went words new (phase.Bury owner for) (told.Buried h.0) _ made_here refl)
+          (fade_ends (left - 1) new cell owner place (Fading place) (Some h.0) for passes (omega (arith, enough)) s next_seat refl (can_after words new owner (Fading place) for owners_is can))
           )
       | inr some ↦ (
           let h = rw some at m in
@@ -167,13 +222,13 @@ bury_done left words new cell owner for event passes enough s can (place, there,
           )
     ]
 
-bury_ends : (left : ℕ) (words : Zones) (cell : Cell Numbered) (owner place : ℕ) (for : Purpose) → Passes owner for → 2 + behind_owner for ≤ left → Shows words cell → slice_get words.owners owner ≡ Some (Burying place) → CanPass owner words.owners for → IsDone (steps_up_to left words (phase.Bury owner for)).0
+bury_ends : (left : ℕ) (words : Zones) (cell : Cell Numbered) (owner place : ℕ) (for : Purpose) → Passes owner for → 4 + behind_owner for ≤ left → Shows words cell → slice_get words.owners owner ≡ Some (Burying place) → CanPass owner words.owners for → IsDone (steps_up_to left words (phase.Bury owner for)).0
 bury_ends left words cell owner place for passes enough s seat can =
     let has = bury_goes_on words cell owner place s seat in
     let shown = step_shows words has.1 (word.Bury owner) has.0 cell s has.2 in
     bury_done left words has.1 shown.0 owner for has.0 passes enough shown.2 can has.2
 
-release_done : (left : ℕ) (words new : Zones) (cell : Cell Numbered) (owner : ℕ) (for : Purpose) (event : WordEvent) → Passes owner for → 3 + behind_owner for ≤ left → Shows new cell → CanPass owner words.owners for → Makes words (word.Release owner) event new → IsDone (steps_up_to left words (phase.Release owner for)).0
+release_done : (left : ℕ) (words new : Zones) (cell : Cell Numbered) (owner : ℕ) (for : Purpose) (event : WordEvent) → Passes owner for → 5 + behind_owner for ≤ left → Shows new cell → CanPass owner words.owners for → Makes words (word.Release owner) event new → IsDone (steps_up_to left words (phase.Release owner for)).0
 release_done left words new cell owner for event passes enough s can (number, place, there, seat, found, m) =
     elim (cases_Bool (fetch_sub there.shares 1 == 0)) [
       | inl none ↦ (
@@ -193,26 +248,40 @@ release_done left words new cell owner for event passes enough s can (number, pl
           )
     ]
 
-release_ends : (left : ℕ) (words : Zones) (cell : Cell Numbered) (owner number place : ℕ) (for : Purpose) → Passes owner for → 3 + behind_owner for ≤ left → Shows words cell → slice_get words.owners owner ≡ Some (Holding number place) → CanPass owner words.owners for
+pub release_ends : (left : ℕ) (words : Zones) (cell : Cell Numbered) (owner number place : ℕ) (for : Purpose) → Passes owner for → 5 + behind_owner for ≤ left → Shows words cell → slice_get words.owners owner ≡ Some (Holding number place) → CanPass owner words.owners for
     → IsDone (steps_up_to left words (phase.Release owner for)).0
 release_ends left words cell owner number place for passes enough s seat can =
     let has = release_goes_on words cell owner number place s seat in
     let shown = step_shows words has.1 (word.Release owner) has.0 cell s has.2 in
     release_done left words has.1 shown.0 owner for has.0 passes enough shown.2 can has.2
 
-drop_passes : (owner : ℕ) → Passes owner purpose.Drop
+pub drop_passes : (owner : ℕ) → Passes owner purpose.Drop
 drop_passes owner left words cell given enough s can = tt
 
-oldest_passes : (owner : ℕ) (head : Heading) (kept : ℕ) → Passes owner (purpose.Oldest head kept)
-oldest_passes owner head kept left words cell given enough s can = tt
+-- the entries that leave the window are given up in turn
+leaves_end : (head : Heading) (kept : ℕ) (entry : Option Entry) (leaving : List ℕ) (left : ℕ) (words : Zones) (cell : Cell Numbered) → 3 * length leaving ≤ left → Shows words cell → AreAll Weakly words.owners leaving → EndsFrom left words (leaving_after head kept entry leaving)
+leaves_end head kept entry [] left words cell enough s all = tt
+leaves_end head kept entry (owner ∷ leaving) left words cell enough s all =
+    fade_ends left words cell owner all.0.1 (Weakly all.0.0 all.0.1) None (purpose.Leaves head kept entry leaving)
+    (λ left words cell given enough s can. leaves_end head kept entry leaving left words cell enough s can.1) (omega (arith, enough)) s all.0.2 refl (all.1, all.2)
 
-past_oldest : (owner : ℕ) (head : Heading) (kept left : ℕ) (words : Zones) (cell : Cell Numbered) (oldest : Option ℕ) → 3 ≤ left → Shows words cell → HeldBeside owner words.owners oldest → EndsFrom left words (oldest_after head kept oldest)
-past_oldest owner head kept left words cell None enough s held = tt
-past_oldest owner head kept left words cell (Some oldest) enough s held =
-    release_ends left words cell oldest held.1 held.2 (purpose.Oldest head kept) (oldest_passes oldest head kept) enough s held.3 tt
+leaves_passes : (owner : ℕ) (head : Heading) (kept : ℕ) (entry : Option Entry) (leaving : List ℕ) → Passes owner (purpose.Oldest head kept entry leaving)
+leaves_passes owner head kept entry leaving left words cell given enough s can = leaves_end head kept entry leaving left words cell enough s can.1
 
-publish_passes : (owner : ℕ) (keeping : Keeping) (kept : ℕ) → Passes owner (purpose.Publish keeping kept)
-publish_passes owner keeping kept left words cell given enough s can = past_oldest owner keeping.heading kept left words cell keeping.oldest enough s can
+past_oldest : (owner : ℕ) (head : Heading) (kept : ℕ) (entry : Option Entry) (leaving : List ℕ) (left : ℕ) (words : Zones) (cell : Cell Numbered) (oldest : Option ℕ) → 5 + 3 * length leaving ≤ left → Shows words cell → HeldBeside owner words.owners oldest → AreAll Weakly words.owners leaving
+    → EndsFrom left words (oldest_after head kept entry leaving oldest)
+past_oldest owner head kept entry leaving left words cell None enough s held all = leaves_end head kept entry leaving left words cell (omega (arith, enough)) s all
+past_oldest owner head kept entry leaving left words cell (Some oldest) enough s held all =
+    release_ends left words cell oldest held.1 held.2 (purpose.Oldest head kept entry leaving) (leaves_passes oldest head kept entry leaving) enough s held.3 (apart_strong words.owners oldest held.1 held.2 leaving held.3 all, all)
+
+publish_passes : (owner : ℕ) (keeping : Keeping) (kept : ℕ) (entry : Option Entry) → Passes owner (purpose.Publish keeping kept entry)
+publish_passes owner keeping kept entry left words cell given enough s can = past_oldest owner keeping.heading kept entry keeping.leaving left words cell keeping.oldest enough s can.0 can.2
+
+-- and so are the owners that a transfer has got
+pub sent_end : (sending : Sending) (got : List ℕ) (left : ℕ) (words : Zones) (cell : Cell Numbered) → 5 * length got ≤ left → Shows words cell → AreAll Holding words.owners got → EndsFrom left words (sent_after sending got)
+sent_end sending [] left words cell enough s all = tt
+sent_end sending (owner ∷ got) left words cell enough s all =
+    release_ends left words cell owner all.0.0 all.0.1 (purpose.Sent sending got) (λ left words cell given enough s can. sent_end sending got left words cell enough s can.1) (omega (arith, enough)) s all.0.2 (all.1, all.2)
 
 -- the oldest version that is to be given up is held
 abbrev pub IsHolding : List Owner → Option ℕ → Type 0
@@ -223,10 +292,18 @@ IsHolding owners (Some oldest) = (number : ℕ) × (place : ℕ) × (slice_get o
 pub record CanEnd (words : Zones) (keeping : Keeping) : Type 0 where
   pub shares : words.granted < grants
   pub oldest : IsHolding words.owners keeping.oldest
+  pub leaving : AreAll Weakly words.owners keeping.leaving
+  pub few : length keeping.leaving ≤ 16
+  pub notes_left : is_some keeping.enters ≡ true → words.noted < notes
 
-can_keep : (words new : Zones) (keeping : Keeping) → new.owners ≡ words.owners → new.granted ≡ words.granted → CanEnd words keeping → CanEnd new keeping
-can_keep words new keeping owners granted can =
-    record { shares = subst (λ n. n < grants) (sym granted) can.shares; oldest = subst (λ o. IsHolding o keeping.oldest) (sym owners) can.oldest }
+can_keep : (words new : Zones) (keeping : Keeping) → new.owners ≡ words.owners → new.granted ≡ words.granted → new.noted ≡ words.noted → CanEnd words keeping → CanEnd new keeping
+can_keep words new keeping owners granted noted can = record {
+  shares = subst (λ n. n < grants) (sym granted) can.shares;
+  oldest = subst (λ o. IsHolding o keeping.oldest) (sym owners) can.oldest;
+  leaving = subst (λ o. AreAll Weakly o keeping.leaving) (sym owners) can.leaving;
+  few = can.few;
+  notes_left = λ e. subst (λ n. n < notes) (sym noted) (can.notes_left e);
+}
 
 -- a new owner is another one
 held_new : (owners : List Owner) (one : Owner) (oldest : Option ℕ) → IsHolding owners oldest → HeldBeside (length owners) (owners ++ one ∷ []) oldest
@@ -239,49 +316,92 @@ held_push : (owner : ℕ) (owners : List Owner) (one : Owner) (oldest : Option �
 held_push owner owners one None held = tt
 held_push owner owners one (Some oldest) held = (held.0, held.1, held.2, get_push_old owners one (Holding held.1 held.2) oldest held.3)
 
-keep_ends : (left : ℕ) (words : Zones) (cell : Cell Numbered) (given number place : ℕ) (keeping : Keeping) → 7 ≤ left → Shows words cell → words.granted < grants → slice_get words.owners given ≡ Some (Holding number place) → HeldBeside given words.owners keeping.oldest
+-- what is to be given up beside an owner
+record Beside (owner : ℕ) (owners : List Owner) (keeping : Keeping) : Type 0 where
+  held : HeldBeside owner owners keeping.oldest
+  apart : IsApart owner keeping.leaving
+  all : AreAll Weakly owners keeping.leaving
+  few : length keeping.leaving ≤ 16
+
+beside_push : (owner : ℕ) (owners : List Owner) (one : Owner) (keeping : Keeping) → Beside owner owners keeping → Beside owner (owners ++ one ∷ []) keeping
+beside_push owner owners one keeping b = record { held = held_push owner owners one keeping.oldest b.held; apart = b.apart; all = all_push Weakly owners one keeping.leaving b.all; few = b.few }
+
+published_ends : (left : ℕ) (words : Zones) (cell : Cell Numbered) (given number place kept : ℕ) (entry : Option Entry) (keeping : Keeping) → 58 ≤ left → Shows words cell → slice_get words.owners given ≡ Some (Holding number place) → Beside given words.owners keeping
+    → IsDone (steps_up_to left words (phase.Release given (purpose.Publish keeping kept entry))).0
+published_ends left words cell given number place kept entry keeping enough s seat b =
+    let few = b.few in
+    release_ends left words cell given number place (purpose.Publish keeping kept entry) (publish_passes given keeping kept entry) (omega (arith, enough, few)) s seat (b.held, b.apart, b.all)
+
+enter_ends : (left : ℕ) (words : Zones) (cell : Cell Numbered) (given number place kept last slot : ℕ) (keeping : Keeping) → 59 ≤ left → Shows words cell → words.noted < notes → slice_get words.owners kept ≡ Some (Holding last slot) → slice_get words.owners given ≡ Some (Holding number place) → Beside given words.owners keeping
+    → IsDone (steps_up_to left words (phase.Enter given kept keeping)).0
+enter_ends left words cell given number place kept last slot keeping enough s room here seat b =
+    let has = note_goes_on words cell kept last slot s here room in
+    let (noted_number, noted_place, there, at, found, few, told_is, new_is) = has.2 in
+    let made_here : Makes words (word.Note kept) (told.Noted (length words.owners) noted_number) has.1 = (noted_number, noted_place, there, at, found, few, refl, new_is) in
+    let shown = step_shows words has.1 (word.Note kept) has.0 cell s has.2 in
+    let one : Owner = Weakly noted_number noted_place in
+    let owners_is : has.1.owners ≡ words.owners ++ one ∷ [] = ap (λ (w : Zones). w.owners) new_is in
+    let still : slice_get has.1.owners given ≡ Some (Holding number place) = ap (λ o. slice_get o given) owners_is ∙ get_push_old words.owners one (Holding number place) given seat in
+    let entry = entry_of keeping.enters noted_number (length words.owners) in
+    on_by left words has.1 (phase.Enter given kept keeping) (phase.Release given (purpose.Publish keeping kept entry)) (omega (arith, enough)) (went words has.1 (phase.Enter given kept keeping) (told.Noted (length words.owners) noted_number) _ made_here refl)
+    (published_ends (left - 1) has.1 shown.0 given number place kept entry keeping (omega (arith, enough)) shown.2 still (subst (λ o. Beside given o keeping) (sym owners_is) (beside_push given words.owners one keeping b)))
+
+loaded_ends : (left : ℕ) (words : Zones) (cell : Cell Numbered) (given number place kept last slot : ℕ) (keeping : Keeping) (enters : Bool) → is_some keeping.enters ≡ enters → 59 ≤ left → Shows words cell → (is_some keeping.enters ≡ true → words.noted < notes) → slice_get words.owners kept ≡ Some (Holding last slot)
+    → slice_get words.owners given ≡ Some (Holding number place) → Beside given words.owners keeping → EndsFrom left words (if enters then On (phase.Enter given kept keeping) else On (phase.Release given (purpose.Publish keeping kept None)))
+loaded_ends left words cell given number place kept last slot keeping true e enough s room here seat b = enter_ends left words cell given number place kept last slot keeping enough s (room e) here seat b
+loaded_ends left words cell given number place kept last slot keeping false e enough s room here seat b = published_ends left words cell given number place kept None keeping (omega (arith, enough)) s seat b
+
+keep_ends : (left : ℕ) (words : Zones) (cell : Cell Numbered) (given number place : ℕ) (keeping : Keeping) → 60 ≤ left → Shows words cell → words.granted < grants → (is_some keeping.enters ≡ true → words.noted < notes) → slice_get words.owners given ≡ Some (Holding number place) → Beside given words.owners keeping
     → IsDone (steps_up_to left words (phase.Keep given keeping)).0
-keep_ends left words cell given number place keeping enough s few seat held =
+keep_ends left words cell given number place keeping enough s few room seat b =
     let has = load_goes_on words cell s few in
     let (last, found, less, told_is, new_is) = has.2 in
     let made_here : Makes words word.Load (told.Loaded (length words.owners) last) has.1 = (last, found, less, refl, new_is) in
     let shown = step_shows words has.1 word.Load has.0 cell s has.2 in
     let one : Owner = Holding last (slot_of words.latest) in
     let owners_is : has.1.owners ≡ words.owners ++ one ∷ [] = ap (λ (w : Zones). w.owners) new_is in
+    let noted_is : has.1.noted ≡ words.noted = ap (λ (w : Zones). w.noted) new_is in
     let still : slice_get has.1.owners given ≡ Some (Holding number place) = ap (λ o. slice_get o given) owners_is ∙ get_push_old words.owners one (Holding number place) given seat in
-    let beside : HeldBeside given has.1.owners keeping.oldest = subst (λ o. HeldBeside given o keeping.oldest) (sym owners_is) (held_push given words.owners one keeping.oldest held) in
-    on_by left words has.1 (phase.Keep given keeping) (phase.Release given (purpose.Publish keeping (length words.owners))) (omega (arith, enough)) (went words has.1 (phase.Keep given keeping) (told.Loaded (length words.owners) last) _ made_here refl)
-    (release_ends (left - 1) has.1 shown.0 given number place (purpose.Publish keeping (length words.owners)) (publish_passes given keeping (length words.owners)) (omega (arith, enough)) shown.2 still beside)
+    let here : slice_get has.1.owners (length words.owners) ≡ Some one = ap (λ o. slice_get o (length words.owners)) owners_is ∙ get_push_new words.owners one (length words.owners) refl in
+    step_ends left words has.1 (phase.Keep given keeping) _ (omega (arith, enough)) (went words has.1 (phase.Keep given keeping) (told.Loaded (length words.owners) last) _ made_here refl)
+    (loaded_ends (left - 1) has.1 shown.0 given number place (length words.owners) last (slot_of words.latest) keeping (is_some keeping.enters) refl (omega (arith, enough)) shown.2 (λ e. subst (λ n. n < notes) (sym noted_is) (room e)) here still
+    (subst (λ o. Beside given o keeping) (sym owners_is) (beside_push given words.owners one keeping b)))
 
-settle_done : (left : ℕ) (words new : Zones) (cell : Cell Numbered) (keeping : Keeping) (event : WordEvent) → 8 ≤ left → Shows new cell → CanEnd words keeping → Makes words word.Settle event new → IsDone (steps_up_to left words (phase.Settle keeping)).0
+settle_done : (left : ℕ) (words new : Zones) (cell : Cell Numbered) (keeping : Keeping) (event : WordEvent) → 61 ≤ left → Shows new cell → CanEnd words keeping → Makes words word.Settle event new → IsDone (steps_up_to left words (phase.Settle keeping)).0
 settle_done left words new cell keeping event enough s can (number, place, given, there, is, found, told_is, new_is) =
     let made_here : Makes words word.Settle (told.Settled (length words.owners) number) new = (number, place, given, there, is, found, refl, new_is) in
     let owners_is : new.owners ≡ words.owners ++ Holding number place ∷ [] = ap (λ (w : Zones). w.owners) new_is in
     let granted_is : new.granted ≡ words.granted = ap (λ (w : Zones). w.granted) new_is in
     let seat : slice_get new.owners (length words.owners) ≡ Some (Holding number place) = ap (λ o. slice_get o (length words.owners)) owners_is ∙ get_push_new words.owners (Holding number place) (length words.owners) refl in
-    let beside : HeldBeside (length words.owners) new.owners keeping.oldest = subst (λ o. HeldBeside (length words.owners) o keeping.oldest) (sym owners_is) (held_new words.owners (Holding number place) keeping.oldest can.oldest) in
+    let noted_is : new.noted ≡ words.noted = ap (λ (w : Zones). w.noted) new_is in
+    let beside : Beside (length words.owners) new.owners keeping = subst (λ o. Beside (length words.owners) o keeping) (sym owners_is) (record {
+      held = held_new words.owners (Holding number place) keeping.oldest can.oldest;
+      apart = apart_new Weakly words.owners keeping.leaving can.leaving;
+      all = all_push Weakly words.owners (Holding number place) keeping.leaving can.leaving;
+      few = can.few;
+    }) in
     on_by left words new (phase.Settle keeping) (phase.Keep (length words.owners) keeping) (omega (arith, enough)) (went words new (phase.Settle keeping) (told.Settled (length words.owners) number) _ made_here refl)
-    (keep_ends (left - 1) new cell (length words.owners) number place keeping (omega (arith, enough)) s (subst (λ n. n < grants) (sym granted_is) can.shares) seat beside)
+    (keep_ends (left - 1) new cell (length words.owners) number place keeping (omega (arith, enough)) s (subst (λ n. n < grants) (sym granted_is) can.shares) (λ e. subst (λ n. n < notes) (sym noted_is) (can.notes_left e)) seat beside)
 
-swap_done : (left : ℕ) (words new : Zones) (cell : Cell Numbered) (keeping : Keeping) (event : WordEvent) → 9 ≤ left → Shows new cell → CanEnd words keeping → Makes words word.Swap event new → IsDone (steps_up_to left words (phase.Swap keeping)).0
+swap_done : (left : ℕ) (words new : Zones) (cell : Cell Numbered) (keeping : Keeping) (event : WordEvent) → 62 ≤ left → Shows new cell → CanEnd words keeping → Makes words word.Swap event new → IsDone (steps_up_to left words (phase.Swap keeping)).0
 swap_done left words new cell keeping event enough s can (place, last, is, within, number, told_is, new_is) =
     let at : new.publisher ≡ Settling last (slot_of words.latest) (given_of words.latest) = ap (λ (w : Zones). w.publisher) new_is in
     let has = settle_goes_on new cell last (slot_of words.latest) (given_of words.latest) s at in
     let shown = step_shows new has.1 word.Settle has.0 cell s has.2 in
-    let still = can_keep words new keeping (ap (λ (w : Zones). w.owners) new_is) (ap (λ (w : Zones). w.granted) new_is) can in
+    let still = can_keep words new keeping (ap (λ (w : Zones). w.owners) new_is) (ap (λ (w : Zones). w.granted) new_is) (ap (λ (w : Zones). w.noted) new_is) can in
     on_by left words new (phase.Swap keeping) (phase.Settle keeping) (omega (arith, enough)) (went words new (phase.Swap keeping) event _ (place, last, is, within, number, told_is, new_is) refl)
     (settle_done (left - 1) new has.1 shown.0 keeping has.0 (omega (arith, enough)) shown.2 still has.2)
 
-prepare_done : (left : ℕ) (words new : Zones) (cell : Cell Numbered) (version : Numbered) (keeping : Keeping) (event : WordEvent) → 10 ≤ left → Shows new cell → CanEnd words keeping → Makes words (word.Prepare version) event new → IsDone (steps_up_to left words (phase.Prepare version keeping)).0
+prepare_done : (left : ℕ) (words new : Zones) (cell : Cell Numbered) (version : Numbered) (keeping : Keeping) (event : WordEvent) → 63 ≤ left → Shows new cell → CanEnd words keeping → Makes words (word.Prepare version) event new → IsDone (steps_up_to left words (phase.Prepare version keeping)).0
 prepare_done left words new cell version keeping event enough s can (place, there, last, is, found, number, fits, told_is, new_is) =
     let at : new.publisher ≡ Swapping place = ap (λ (w : Zones). w.publisher) new_is in
     let has = swap_goes_on new cell place s at in
     let shown = step_shows new has.1 word.Swap has.0 cell s has.2 in
-    let still = can_keep words new keeping (ap (λ (w : Zones). w.owners) new_is) (ap (λ (w : Zones). w.granted) new_is) can in
+    let still = can_keep words new keeping (ap (λ (w : Zones). w.owners) new_is) (ap (λ (w : Zones). w.granted) new_is) (ap (λ (w : Zones). w.noted) new_is) can in
     on_by left words new (phase.Prepare version keeping) (phase.Swap keeping) (omega (arith, enough)) (went words new (phase.Prepare version keeping) event _ (place, there, last, is, found, number, fits, told_is, new_is) refl)
     (swap_done (left - 1) new has.1 shown.0 keeping has.0 (omega (arith, enough)) shown.2 still has.2)
 
-prepare_ends : (left : ℕ) (words : Zones) (cell : Cell Numbered) (version : Numbered) (keeping : Keeping) (place : ℕ) → 10 ≤ left → Shows words cell → CanEnd words keeping → length cell.published < 2 ^ 64 → words.publisher ≡ Preparing place → IsDone (steps_up_to left words (phase.Prepare version keeping)).0
+prepare_ends : (left : ℕ) (words : Zones) (cell : Cell Numbered) (version : Numbered) (keeping : Keeping) (place : ℕ) → 63 ≤ left → Shows words cell → CanEnd words keeping → length cell.published < 2 ^ 64 → words.publisher ≡ Preparing place → IsDone (steps_up_to left words (phase.Prepare version keeping)).0
 prepare_ends left words cell version keeping place enough s can few at =
     let has = prepare_goes_on words cell place version s at few in
     let shown = step_shows words has.1 (word.Prepare version) has.0 cell s has.2 in
@@ -291,15 +411,15 @@ prepare_ends left words cell version keeping place enough s can few at =
 publisher_after : (new : Zones) (state : Zones) → new ≡ state → new.publisher ≡ state.publisher
 publisher_after new state e = ap (λ (w : Zones). w.publisher) e
 
-probe_done : (left : ℕ) (words new : Zones) (cell : Cell Numbered) (version : Numbered) (keeping : Keeping) (place : ℕ) (event : WordEvent) → 10 + (64 - place) ≤ left → place < slots → Shows new cell → CanEnd words keeping → length cell.published < 2 ^ 64 → words.publisher ≡ Probing place
-    → Makes words word.Probe event new → ((next : ℕ) → new.publisher ≡ Probing next → CanEnd new keeping → 10 + (64 - next) ≤ left - 1 → IsDone (steps_up_to (left - 1) new (phase.Probe version keeping)).0) → IsDone (steps_up_to left words (phase.Probe version keeping)).0
+probe_done : (left : ℕ) (words new : Zones) (cell : Cell Numbered) (version : Numbered) (keeping : Keeping) (place : ℕ) (event : WordEvent) → 63 + (64 - place) ≤ left → place < slots → Shows new cell → CanEnd words keeping → length cell.published < 2 ^ 64 → words.publisher ≡ Probing place
+    → Makes words word.Probe event new → ((next : ℕ) → new.publisher ≡ Probing next → CanEnd new keeping → 63 + (64 - next) ≤ left - 1 → IsDone (steps_up_to (left - 1) new (phase.Probe version keeping)).0) → IsDone (steps_up_to left words (phase.Probe version keeping)).0
 probe_done left words new cell version keeping place event enough within s can few at (seen, there, is, found, m) goes =
     let same : seen ≡ place = (let e : Probing seen ≡ Probing place = sym is ∙ at in cc) in
     elim (cases_Bool (there.shares == free_word)) [
       | inl free ↦ (
           let h = rw free at m in
           let made_here : Makes words word.Probe told.Taken new = (seen, there, is, found, rw free (refl, h.1)) in
-          let still = can_keep words new keeping (ap (λ (w : Zones). w.owners) h.1) (ap (λ (w : Zones). w.granted) h.1) can in
+          let still = can_keep words new keeping (ap (λ (w : Zones). w.owners) h.1) (ap (λ (w : Zones). w.granted) h.1) (ap (λ (w : Zones). w.noted) h.1) can in
           on_by left words new (phase.Probe version keeping) (phase.Prepare version keeping) (omega (arith, enough)) (went words new (phase.Probe version keeping) told.Taken _ made_here refl)
           (prepare_ends (left - 1) new cell version keeping seen (omega (arith, enough, within)) s still few (publisher_after new _ h.1))
           )
@@ -312,7 +432,7 @@ probe_done left words new cell version keeping place event enough within s can f
         | inr more ↦ (
             let h = rw (isnt, more.0) at m in
             let made_here : Makes words word.Probe told.Passed new = (seen, there, is, found, rw (isnt, more.0) (refl, h.1)) in
-            let still = can_keep words new keeping (ap (λ (w : Zones). w.owners) h.1) (ap (λ (w : Zones). w.granted) h.1) can in
+            let still = can_keep words new keeping (ap (λ (w : Zones). w.owners) h.1) (ap (λ (w : Zones). w.granted) h.1) (ap (λ (w : Zones). w.noted) h.1) can in
             on_by left words new (phase.Probe version keeping) (phase.Probe version keeping) (omega (arith, enough)) (went words new (phase.Probe version keeping) told.Passed _ made_here refl)
             (goes (seen + 1) (publisher_after new _ h.1) still (omega (arith, enough, within, same, more.1)))
             )
@@ -322,7 +442,7 @@ probe_done left words new cell version keeping place event enough within s can f
 probing_within : (words : Zones) (cell : Cell Numbered) (place : ℕ) → Shows words cell → words.publisher ≡ Probing place → place < slots
 probing_within words cell place s at = subst (λ p. PublisherIs cell s.plan words.granted p) at s.publisher_is
 
-probe_ends : (left : ℕ) (words : Zones) (cell : Cell Numbered) (version : Numbered) (keeping : Keeping) (place : ℕ) → 10 + (64 - place) ≤ left → Shows words cell → CanEnd words keeping → length cell.published < 2 ^ 64 → words.publisher ≡ Probing place → IsDone (steps_up_to left words (phase.Probe version keeping)).0
+pub probe_ends : (left : ℕ) (words : Zones) (cell : Cell Numbered) (version : Numbered) (keeping : Keeping) (place : ℕ) → 63 + (64 - place) ≤ left → Shows words cell → CanEnd words keeping → length cell.published < 2 ^ 64 → words.publisher ≡ Probing place → IsDone (steps_up_to left words (phase.Probe version keeping)).0
 probe_ends zero words cell version keeping place enough s can few at = absurd (omega (arith, enough))
 probe_ends (suc left) words cell version keeping place enough s can few at =
     let has = probe_goes_on words cell place s at in
@@ -332,193 +452,3 @@ probe_ends (suc left) words cell version keeping place enough s can few at =
     let less : suc left - 1 ≡ left = omega arith in
     probe_done (suc left) words has.1 cell version keeping place has.0 enough (probing_within words cell place s at) still can few at has.2
     (λ next is ends room. rw less (probe_ends left has.1 cell version keeping next (omega (arith, room)) still ends few is))
-
--- a call that stays where it is has changed nothing
-abbrev pub Unchanged : Zones → Progress × Zones → Type 0
-Unchanged words (On at, after_steps) = after_steps ≡ words
-Unchanged words (Done end, after_steps) = Unit {0}
-
-done_unchanged : (words : Zones) (came : Progress × Zones) → IsDone came.0 → Unchanged words came
-done_unchanged words (On at, after_steps) is = absurd is
-done_unchanged words (Done end, after_steps) is = tt
-
--- a call begins so
-abbrev pub IsFirst : Zones → Phase → Type 0
-IsFirst words (phase.Load name) = Unit {0}
-IsFirst words (phase.Probe version keeping) = CanEnd words keeping
-IsFirst words (phase.Release owner purpose.Drop) = Unit {0}
-IsFirst words (phase.Release owner (purpose.Publish keeping kept)) = ⊥
-IsFirst words (phase.Release owner (purpose.Oldest head kept)) = ⊥
-IsFirst words (phase.Prepare version keeping) = ⊥
-IsFirst words (phase.Swap keeping) = ⊥
-IsFirst words (phase.Settle keeping) = ⊥
-IsFirst words (phase.Keep given keeping) = ⊥
-IsFirst words (phase.Bury owner for) = ⊥
-IsFirst words (phase.Free owner number for) = ⊥
-
--- it begins with a probe
-abbrev pub IsProbe : Phase → Type 0
-IsProbe (phase.Load name) = ⊥
-IsProbe (phase.Probe version keeping) = Unit {0}
-IsProbe (phase.Prepare version keeping) = ⊥
-IsProbe (phase.Swap keeping) = ⊥
-IsProbe (phase.Settle keeping) = ⊥
-IsProbe (phase.Keep given keeping) = ⊥
-IsProbe (phase.Release owner for) = ⊥
-IsProbe (phase.Bury owner for) = ⊥
-IsProbe (phase.Free owner number for) = ⊥
-
-load_done : (left : ℕ) (words new : Zones) (name : List ℕ) (event : WordEvent) → 1 ≤ left → Makes words word.Load event new → IsDone (steps_up_to left words (phase.Load name)).0
-load_done left words new name event enough (number, found, few, told_is, new_is) =
-    let made_here : Makes words word.Load (told.Loaded (length words.owners) number) new = (number, found, few, refl, new_is) in
-    done_by left words new (phase.Load name) _ (omega arith) (went words new (phase.Load name) (told.Loaded (length words.owners) number) _ made_here refl) tt
-
-first_done : (words new : Zones) (cell : Cell Numbered) (at : Phase) (event : WordEvent) → IsFirst words at → Shows words cell → (IsProbe at → length cell.published < 2 ^ 64) → Makes words (word_step at) event new → IsDone (steps_up_to most_steps words at).0
-first_done words new cell (phase.Load name) event is s few m = load_done most_steps words new name event (omega arith) m
-first_done words new cell (phase.Probe version keeping) event is s few (place, there, at, found, m) = probe_ends most_steps words cell version keeping place (omega arith) s is (few tt) at
-first_done words new cell (phase.Release owner purpose.Drop) event is s few (number, place, there, seat, found, m) = release_ends most_steps words cell owner number place purpose.Drop (drop_passes owner) (omega arith) s seat tt
-first_done words new cell (phase.Release owner (purpose.Publish keeping kept)) event is s few m = absurd is
-first_done words new cell (phase.Release owner (purpose.Oldest head kept)) event is s few m = absurd is
-first_done words new cell (phase.Prepare version keeping) event is s few m = absurd is
-first_done words new cell (phase.Swap keeping) event is s few m = absurd is
-first_done words new cell (phase.Settle keeping) event is s few m = absurd is
-first_done words new cell (phase.Keep given keeping) event is s few m = absurd is
-first_done words new cell (phase.Bury owner for) event is s few m = absurd is
-first_done words new cell (phase.Free owner number for) event is s few m = absurd is
-
-pub first_by : (words : Zones) (cell : Cell Numbered) (at : Phase) (o : Option (Progress × Zones)) → step_once words at ≡ o → IsFirst words at → Shows words cell → (IsProbe at → length cell.published < 2 ^ 64) → Unchanged words (steps_up_to most_steps words at)
-first_by words cell at None e is s few = subst (λ (c : Progress × Zones). Unchanged words c) (sym (stays_there most_steps words at (omega arith) e)) refl
-first_by words cell at (Some came) e is s few =
-    let one = one_step words came.1 at came.0 e in
-    done_unchanged words (steps_up_to most_steps words at) (first_done words came.1 cell at one.event is s few one.makes)
-
--- calls begin so
-abbrev pub FirstOf : Zones → Start → Type 0
-FirstOf words Refused = Unit {0}
-FirstOf words (Answers answer) = Unit {0}
-FirstOf words (Takes at) = IsFirst words at
-
-first_if : (words : Zones) (test : Bool) (one two : Start) → (test ≡ true → FirstOf words one) → (test ≡ false → FirstOf words two) → FirstOf words (if test then one else two)
-first_if words true one two a b = a refl
-first_if words false one two a b = b refl
-
-drop_first : (words : Zones) (owner : Option ℕ) → FirstOf words (drop_start owner)
-drop_first words None = tt
-drop_first words (Some owner) = tt
-
-said_first : (words : Zones) (zone : List Record) (said : Parsed) → FirstOf words (ask_said zone said)
-said_first words zone said = first_if words (asks_update said || asks_sent Udp zone said) _ _ (λ e. tt) (λ e. tt)
-
-ask_first : (words : Zones) (zone : Option (List Record)) (request : List ℕ) → FirstOf words (ask_start zone request)
-ask_first words None request = tt
-ask_first words (Some zone) request = said_first words zone (reads request)
-
-asked_first : (words : Zones) (world : World) (version : Numbered) (query : QueryAsked) → FirstOf words (transfer_asked world version query)
-asked_first words world version query =
-    first_if words (not (is_permitted version.zone (peer_over Tcp true) query)) _ _ (λ e. tt)
-    (λ e. first_if words (query.question.rtype.0 == type_IXFR && list_any (λ call. updates call.phase) world.calls) _ _ (λ f. tt) (λ f. tt))
-
-sent_first : (words : Zones) (world : World) (version : Numbered) (said : Parsed) → FirstOf words (transfer_said world version said)
-sent_first words world version parsed.Silent = tt
-sent_first words world version (parsed.Fault head code) = tt
-sent_first words world version (parsed.BadOpt head question code dnssec_ok) = tt
-sent_first words world version (parsed.Query query) = asked_first words world version query
-sent_first words world version (parsed.Update update) = tt
-sent_first words world version (parsed.NoMemory head) = tt
-
-transfer_first : (words : Zones) (world : World) (version : Option Numbered) (request : List ℕ) → FirstOf words (transfer_start world version request)
-transfer_first words world None request = tt
-transfer_first words world (Some version) request = sent_first words world version (reads request)
-
--- an owner that finds a version holds one
-holding_by : (words : Zones) (owner : ℕ) (o : Option Owner) → slice_get words.owners owner ≡ o
-    → is_some (option_map (λ (v : Version Numbered). v.value) (option_and_then (version_in words) (option_and_then place_of o))) ≡ true
-    → (number : ℕ) × (place : ℕ) × (slice_get words.owners owner ≡ Some (Holding number place))
-holding_by words owner None e found = absurd (let wrong = found in cc)
-holding_by words owner (Some (Holding number place)) e found = (number, place, e)
-holding_by words owner (Some (Burying place)) e found = absurd (let wrong = found in cc)
-holding_by words owner (Some (Freeing place)) e found = absurd (let wrong = found in cc)
-holding_by words owner (Some Spent) e found = absurd (let wrong = found in cc)
-
-holding : (words : Zones) (oldest : Option ℕ) → is_held words oldest ≡ true → IsHolding words.owners oldest
-holding words None held = tt
-holding words (Some owner) held = holding_by words owner (slice_get words.owners owner) refl held
-
-both : (a b : Bool) → (a && b) ≡ true → (a ≡ true) × (b ≡ true)
-both true b e = (refl, e)
-both false b e = absurd (let wrong = e in cc)
-
-publication_first : (words : Zones) (head : Heading) (version : Numbered) (oldest : Option ℕ) → FirstOf words (publication_start words head version oldest)
-publication_first words head version oldest =
-    first_if words (nat_lt words.granted grants && is_held words oldest) _ _
-    (λ e. let parts = both (nat_lt words.granted grants) (is_held words oldest) e in record { shares = ltb-true words.granted grants parts.0; oldest = holding words oldest parts.1 })
-    (λ e. tt)
-
-update_first : (world : World) (what : Option Judged) → FirstOf world.words (update_start world what)
-update_first world None = tt
-update_first world (Some (judgement.Told head code)) = tt
-update_first world (Some (judgement.Makes head version)) = publication_first world.words head version (oldest_kept world.keep world.kept)
-
-pub start_first : (world : World) (call : Call) → FirstOf world.words (start world call)
-start_first world (Load name) = first_if world.words (is_taken name world) _ _ (λ e. tt) (λ e. tt)
-start_first world (Drop name) = drop_first world.words (owner_of name world.names)
-start_first world (Ask name request) = ask_first world.words (zone_of name world) request
-start_first world (Transfer name request) = transfer_first world.words world (version_of name world) request
-start_first world (Update request) = first_if world.words (list_any (λ call. updates call.phase) world.calls) _ _ (λ e. tt) (λ e. update_first world (option_and_then (λ last. judged last request) (found_last world.words)))
-
--- a reply of its own
-abbrev pub Refusal : World → Option (WorldReply × World) → Type 0
-Refusal world o = (after_line : World) → o ≡ Some (NotEnabled, after_line) → after_line ≡ world
-
-itself : (world : World) → Refusal world (Some (NotEnabled, world))
-itself world after_line e =
-    let pair : (NotEnabled, world) ≡ (NotEnabled, after_line) = (let i = e in cc) in sym (ap (λ (p : WorldReply × World). p.1) pair)
-
-another : (world : World) (given : WorldReply) (other : World) → (given ≡ NotEnabled → ⊥) → Refusal world (Some (given, other))
-another world given other isnt after_line e =
-    let pair : (given, other) ≡ (NotEnabled, after_line) = (let i = e in cc) in absurd (isnt (ap (λ (p : WorldReply × World). p.0) pair))
-
-refusal_if : (world : World) (test : Bool) (one two : Option (WorldReply × World)) → Refusal world one → Refusal world two → Refusal world (if test then one else two)
-refusal_if world true one two a b = a
-refusal_if world false one two a b = b
-
-nothing : (world : World) → Refusal world None
-nothing world after_line e = absurd (let wrong = e in cc)
-
-no_answered : (answer : Answer) → Answered answer ≡ NotEnabled → ⊥
-no_answered answer e = absurd (let wrong = e in cc)
-
-all_made_refusal : (world : World) (call : Call) (came : Progress × Zones) → Unchanged world.words came → Refusal world (Some (all_made world call came))
-all_made_refusal world call (On at, words) is =
-    λ after_line e. itself world after_line (ap (λ (w : Zones). Some (NotEnabled, record world { words = w })) (sym is) ∙ e)
-all_made_refusal world call (Done end, words) is = another world _ _ (no_answered (answer_at end))
-
-whole_refusal : (world : World) (cell : Cell Numbered) (call : Call) (how : Start) → FirstOf world.words how → Shows world.words cell → length cell.published < 2 ^ 64 → Refusal world (whole world call how)
-whole_refusal world cell call Refused is s few = itself world
-whole_refusal world cell call (Answers answer) is s few = refusal_if world (is_full world) _ _ (nothing world) (another world _ _ (no_answered answer))
-whole_refusal world cell call (Takes at) is s few =
-    refusal_if world (is_full world) _ _ (nothing world)
-    (all_made_refusal world call (steps_up_to most_steps world.words at) (first_by world.words cell at (step_once world.words at) refl is s (λ probe. few)))
-
-begin_refusal : (world : World) (name : List ℕ) (call : Call) (how : Start) → Refusal world (begin world name call how)
-begin_refusal world name call Refused = itself world
-begin_refusal world name call (Answers answer) = refusal_if world (is_full world) _ _ (nothing world) (another world _ _ (no_answered answer))
-begin_refusal world name call (Takes at) = refusal_if world (is_full world) _ _ (nothing world) (another world _ _ (λ e. absurd (let wrong = e in cc)))
-
-begin_under_refusal : (world : World) (name : List ℕ) (call : Call) (other : Option UnderWay) → Refusal world (begin_under world name call other)
-begin_under_refusal world name call None = begin_refusal world name call (start world call)
-begin_under_refusal world name call (Some other) = itself world
-
-stepped_refusal : (world : World) (name : List ℕ) (at : Phase) (o : Option (Progress × Zones)) → Refusal world (Some (stepped world name at o))
-stepped_refusal world name at None = itself world
-stepped_refusal world name at (Some (On further, words)) = another world _ _ (λ e. absurd (let wrong = e in cc))
-stepped_refusal world name at (Some (Done end, words)) = another world _ _ (λ e. absurd (let wrong = e in cc))
-
-next_refusal : (world : World) (name : List ℕ) (call : Option UnderWay) → Refusal world (Some (next world name call))
-next_refusal world name None = itself world
-next_refusal world name (Some call) = stepped_refusal world name call.phase (step_once world.words call.phase)
-
-pub turn_refusal : (world after_line : World) (line : WorldStep) (cell : Cell Numbered) → Shows world.words cell → length cell.published < 2 ^ 64 → turn world line ≡ Some (NotEnabled, after_line) → after_line ≡ world
-turn_refusal world after_line (Whole call) cell s few e = whole_refusal world cell call (start world call) (start_first world call) s few after_line e
-turn_refusal world after_line (Begin name call) cell s few e = begin_under_refusal world name call (call_of name world.calls) after_line e
-turn_refusal world after_line (Next name) cell s few e = next_refusal world name (call_of name world.calls) after_line e

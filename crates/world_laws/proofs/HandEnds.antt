@@ -1,6 +1,6 @@
 -- What is in hand where a call begins, and where it ends.
-use Rattle.std.proofs.Common.{◌≡◌, refl, sym, ap, ◌∙◌, subst, ℕ, ◌+◌, ◌-◌, ◌≤◌, Bool, true, false, inl, inr, List, [], ◌∷◌, ◌++◌, length, arith, Option, Some, length-append}
-use Rattle.std.specs.Prelude.{◌==◌, ◌||◌, nat_lt, remove, bytes_eq, if◌then◌else◌}
+use Rattle.std.proofs.Common.{◌≡◌, refl, sym, ap, ◌∙◌, subst, ℕ, ◌+◌, ◌-◌, ◌≤◌, Bool, true, false, inl, inr, List, [], ◌∷◌, ◌++◌, length, drop, arith, Option, Some, None, length-append}
+use Rattle.std.specs.Prelude.{◌==◌, ◌||◌, is_some, nat_lt, remove, bytes_eq, if◌then◌else◌}
 use Rattle.std.proofs.lemmas.Bool.{cases_Bool, ltb-true, ltb-false}
 use Rattle.std.proofs.lemmas.Slice.Eq.{bytes_eq-Decides}
 use Rattle.cell_core.proofs.CountLemmas.{one_if}
@@ -10,7 +10,11 @@ use Rattle.world_run.specs.declared.phase.Phase.{Phase}
 use Rattle.world_run.specs.declared.phase.Phase.TheVariants as phase
 use Rattle.world_run.specs.declared.phase.Progress.TheVariants.{On, Done}
 use Rattle.world_run.specs.declared.phase.End.{End}
-use Rattle.world_run.specs.declared.phase.End.TheVariants.{Owned, Told, NoSlot, Kept}
+use Rattle.world_run.specs.declared.phase.End.TheVariants.{Owned, OwnedWeakly, Told, NoSlot, Kept, Sent}
+use Rattle.world_run.specs.declared.entries.Entry.{Entry}
+use Rattle.world_run.specs.declared.phase.Keeping.{Keeping}
+use Rattle.world_run.specs.declared.sending.Sending.{Sending}
+use Rattle.world_run.specs.Entries.{leaving}
 use Rattle.world_run.specs.declared.phase.Purpose.TheVariants as purpose
 use Rattle.world_run.specs.declared.names.Named.{Named}
 use Rattle.world_run.specs.declared.calls.UnderWay.{UnderWay}
@@ -18,51 +22,14 @@ use Rattle.world_run.specs.declared.step.Answer.{Answer}
 use Rattle.zone_tree.specs.Version.{Version as Numbered}
 use Rattle.world_run.specs.declared.phase.Purpose.{Purpose}
 use Rattle.world_run.specs.Phases.{is_for_update, updates}
-use Rattle.world_run.specs.World.{owner_of, without_name, oldest_kept, names_at, kept_at}
-use Rattle.world_laws.proofs.CallReplays.{any_update}
-use Rattle.world_laws.proofs.HandLemmas.{HandIs, AllFit, Seated, times, times_append, fit_append, fit_front, fit_back, seated_as}
-use Rattle.world_laws.proofs.HandLemmas.Hand.{holds, has}
-use Rattle.world_laws.proofs.HandSteps.{Zones, seat, phase_seats, oldest_seats, OldestIn, swapped_for, swapped_in}
+use Rattle.world_run.specs.World.{owner_of, without_name, names_at, weak_names_at, kept_at, entries_at}
+use Rattle.world_laws.proofs.OtherCalls.{any_update}
+use Rattle.world_laws.proofs.HandLemmas.{Hand, Seat, HandIs, AllFit, Seated, times, times_append, fit_append, fit_front, fit_back, seated_as}
+use Rattle.world_laws.proofs.HandLemmas.Hand.{holds, has, weakly}
+use Rattle.world_laws.proofs.HandSeats.{Zones, Stays, AsStays, EntersIf, seat, phase_seats, window_seats, entry_seats, serial_of_entry, staying, early_seats, late_seats, StaysIn, swapped_for, swapped_in}
 use Rattle.world_laws.proofs.HandTurns.{times_four, fit_four, fits_four}
-use Rattle.world_laws.proofs.HandWorld.{name_seats, kept_seats, kept_left, call_seats, AllOldest, swaps_of, reserved_by, named_by, rest_seats, Open, nothing_apart}
-
--- the oldest version that is kept, and the others
-oldest_apart : (from keep : ℕ) (kept : List ℕ) → oldest_seats from (oldest_kept keep kept) ++ kept_left from keep kept true ≡ kept_seats from kept
-oldest_apart from keep [] = elim (cases_Bool (nat_lt keep 0)) [ inl more ↦ rw more refl | inr all ↦ rw all refl ]
-oldest_apart from keep (o ∷ os) = elim (cases_Bool (nat_lt keep (length (o ∷ os)))) [ inl more ↦ rw more refl | inr all ↦ rw all refl ]
-
--- it moves between an update's hand and the others, behind names
-seated_kept : (owners : List Owner) (last from keep : ℕ) (names : List Named) (kept : List ℕ) (calls : List UnderWay) → Seated owners (rest_seats last from names kept keep calls false) → Seated owners (oldest_seats from (oldest_kept keep kept) ++ rest_seats last from names kept keep calls true)
-seated_kept owners last from keep names kept calls s =
-    let e = oldest_apart from keep kept in
-    let all = fits_four owners [] (name_seats names) (kept_seats from kept) (call_seats last from calls) s.fit in
-    let kept_fit = subst (λ ss. AllFit owners ss) (sym e) all.2 in
-    seated_as owners _ (oldest_seats from (oldest_kept keep kept) ++ rest_seats last from names kept keep calls true)
-    (fit_four owners (oldest_seats from (oldest_kept keep kept)) (name_seats names) (kept_left from keep kept true) (call_seats last from calls)
-    (fit_front owners (oldest_seats from (oldest_kept keep kept)) (kept_left from keep kept true) kept_fit) all.1
-    (fit_back owners (oldest_seats from (oldest_kept keep kept)) (kept_left from keep kept true) kept_fit) all.3)
-    (λ i. (
-    let a = times_four i (oldest_seats from (oldest_kept keep kept)) (name_seats names) (kept_left from keep kept true) (call_seats last from calls) in
-    let b = times_four i [] (name_seats names) (kept_seats from kept) (call_seats last from calls) in
-    let d = times_append i (oldest_seats from (oldest_kept keep kept)) (kept_left from keep kept true) in
-    let f : times i (oldest_seats from (oldest_kept keep kept) ++ kept_left from keep kept true) ≡ times i (kept_seats from kept) = ap (times i) e in
-    omega (arith, a, b, d, f)
-    )) s
-
-seated_given : (owners : List Owner) (last from keep : ℕ) (names : List Named) (kept : List ℕ) (calls : List UnderWay) → Seated owners (oldest_seats from (oldest_kept keep kept) ++ rest_seats last from names kept keep calls true) → Seated owners (rest_seats last from names kept keep calls false)
-seated_given owners last from keep names kept calls s =
-    let e = oldest_apart from keep kept in
-    let all = fits_four owners (oldest_seats from (oldest_kept keep kept)) (name_seats names) (kept_left from keep kept true) (call_seats last from calls) s.fit in
-    seated_as owners _ (rest_seats last from names kept keep calls false)
-    (fit_four owners [] (name_seats names) (kept_seats from kept) (call_seats last from calls) tt all.1
-    (subst (λ ss. AllFit owners ss) e (fit_append owners (oldest_seats from (oldest_kept keep kept)) (kept_left from keep kept true) all.0 all.2)) all.3)
-    (λ i. (
-    let a = times_four i (oldest_seats from (oldest_kept keep kept)) (name_seats names) (kept_left from keep kept true) (call_seats last from calls) in
-    let b = times_four i [] (name_seats names) (kept_seats from kept) (call_seats last from calls) in
-    let d = times_append i (oldest_seats from (oldest_kept keep kept)) (kept_left from keep kept true) in
-    let f : times i (oldest_seats from (oldest_kept keep kept) ++ kept_left from keep kept true) ≡ times i (kept_seats from kept) = ap (times i) e in
-    omega (arith, a, b, d, f)
-    )) s
+use Rattle.world_laws.proofs.HandWorld.{Store, stays_of, store_left, seats_as, both_seats, kept_seats, kept_left, call_seats, AllStay, swaps_of, reserved_by, weak_reserved_by, named_by, rest_seats, Open, nothing_apart}
+use Rattle.world_laws.proofs.HandStore.{seated_kept, seated_given}
 
 -- one version more is kept, behind the others
 kept_push : (from : ℕ) (kept : List ℕ) (owner : ℕ) → kept_seats from (kept ++ owner ∷ []) ≡ kept_seats from kept ++ seat owner (has (from + length kept)) ∷ []
@@ -122,17 +89,17 @@ kept_now from keep (o ∷ os) owner last count is =
     ]
 
 -- one name more
-name_push : (names : List Named) (x : Named) → name_seats (names ++ x ∷ []) ≡ name_seats names ++ seat x.owner holds ∷ []
-name_push [] x = refl
-name_push (n ∷ names) x = ap (λ ss. seat n.owner holds ∷ ss) (name_push names x)
+name_push : (hand : Hand) (names : List Named) (x : Named) → seats_as hand (names ++ x ∷ []) ≡ seats_as hand names ++ seat x.owner hand ∷ []
+name_push hand [] x = refl
+name_push hand (n ∷ names) x = ap (λ ss. seat n.owner hand ∷ ss) (name_push hand names x)
 
 named_push : (name : List ℕ) (names : List Named) (x : Named) → named_by name (names ++ x ∷ []) ≡ named_by name names + one_if (bytes_eq x.name name)
 named_push name [] x = omega arith
 named_push name (n ∷ names) x = let more = named_push name names x in omega (arith, more)
 
 -- a call that gives an answer alone has nothing in hand
-told_closed : (words : Zones) (names : List Named) (kept : List ℕ) (keep : ℕ) (calls : List UnderWay) (given : Answer) → Open words names kept keep calls (Done (Told given)) → Open words names kept keep calls nothing_apart
-told_closed words names kept keep calls given o = record {
+told_closed : (words : Zones) (names weaks : List Named) (store : Store) (calls : List UnderWay) (given : Answer) → Open words names weaks store calls (Done (Told given)) → Open words names weaks store calls nothing_apart
+told_closed words names weaks store calls given o = record {
   cell = o.cell;
   shows = o.shows;
   last = o.last;
@@ -142,6 +109,7 @@ told_closed words names kept keep calls given o = record {
   swapped = o.swapped;
   kept_count = o.kept_count;
   kept_from = o.kept_from;
+  shut = o.shut;
   alone = o.alone;
   one = o.one;
   still = tt;
@@ -149,15 +117,45 @@ told_closed words names kept keep calls given o = record {
   seated = o.seated;
   publisher = o.publisher;
   names_once = o.names_once;
+  weak_once = o.weak_once;
   calls_once = o.calls_once;
 }
 
-owned_closed : (words : Zones) (names : List Named) (kept : List ℕ) (keep : ℕ) (calls : List UnderWay) (name : List ℕ) (owner number : ℕ) → Open words names kept keep calls (Done (Owned name owner number)) → Open words (names ++ record { name = name; owner = owner } ∷ []) kept keep calls nothing_apart
-owned_closed words names kept keep calls name owner number o =
+-- an owner more among those of names
+both_push : (i : ℕ) (a b : List Seat) (x : Seat) → times i ((a ++ x ∷ []) ++ b) ≡ times i (x ∷ []) + times i (a ++ b)
+both_push i a b x =
+    let one = times_append i (a ++ x ∷ []) b in
+    let two = times_append i a (x ∷ []) in
+    let three = times_append i a b in
+    omega (arith, one, two, three)
+
+weak_push : (i : ℕ) (a b : List Seat) (x : Seat) → times i (a ++ (b ++ x ∷ [])) ≡ times i (x ∷ []) + times i (a ++ b)
+weak_push i a b x =
+    let one = times_append i a (b ++ x ∷ []) in
+    let two = times_append i b (x ∷ []) in
+    let three = times_append i a b in
+    omega (arith, one, two, three)
+
+-- it moves from a call's hand to the names
+given_seats : (owners : List Owner) (x : Seat) (more both kept_ones calls : List Seat) → AllFit owners more → ((i : ℕ) → times i more ≡ times i (x ∷ []) + times i both) → Seated owners ((x ∷ []) ++ (both ++ (kept_ones ++ calls))) → Seated owners (more ++ (kept_ones ++ calls))
+given_seats owners x more both kept_ones calls fits count s =
+    let all = fits_four owners (x ∷ []) both kept_ones calls s.fit in
+    seated_as owners _ (more ++ (kept_ones ++ calls)) (fit_four owners [] more kept_ones calls tt fits all.2 all.3)
+    (λ i. (
+    let a = times_four i (x ∷ []) both kept_ones calls in
+    let b = times_four i [] more kept_ones calls in
+    let d = count i in
+    omega (arith, a, b, d)
+    )) s
+
+owned_closed : (words : Zones) (names weaks : List Named) (store : Store) (calls : List UnderWay) (name : List ℕ) (owner number : ℕ) → Open words names weaks store calls (Done (Owned name owner number)) → Open words (names ++ record { name = name; owner = owner } ∷ []) weaks store calls nothing_apart
+owned_closed words names weaks store calls name owner number o =
     let x : Named = record { name = name; owner = owner } in
-    let kept_ones = kept_left o.from keep kept (any_update calls) in
-    let push = name_push names x in
-    let all = fits_four words.owners (seat owner holds ∷ []) (name_seats names) kept_ones (call_seats o.last o.from calls) o.seated.fit in
+    let kept_ones = store_left o.from store (any_update calls) in
+    let push = name_push holds names x in
+    let all = fits_four words.owners (seat owner holds ∷ []) (both_seats names weaks) kept_ones (call_seats o.last o.from (stays_of store) calls) o.seated.fit in
+    let front = fit_front words.owners (seats_as holds names) (seats_as weakly weaks) all.1 in
+    let behind = fit_back words.owners (seats_as holds names) (seats_as weakly weaks) all.1 in
     record {
       cell = o.cell;
       shows = o.shows;
@@ -168,26 +166,54 @@ owned_closed words names kept keep calls name owner number o =
       swapped = o.swapped;
       kept_count = o.kept_count;
       kept_from = o.kept_from;
+      shut = o.shut;
       alone = o.alone;
       one = o.one;
       still = tt;
       stills = o.stills;
-      seated = seated_as words.owners _ (rest_seats o.last o.from (names ++ x ∷ []) kept keep calls (any_update calls))
-          (fit_four words.owners [] (name_seats (names ++ x ∷ [])) kept_ones (call_seats o.last o.from calls) tt (subst (λ ss. AllFit words.owners ss) (sym push) (fit_append words.owners (name_seats names) (seat owner holds ∷ []) all.1 all.0)) all.2 all.3)
-          (λ i. (
-          let a = times_four i (seat owner holds ∷ []) (name_seats names) kept_ones (call_seats o.last o.from calls) in
-          let b = times_four i [] (name_seats (names ++ x ∷ [])) kept_ones (call_seats o.last o.from calls) in
-          let d : times i (name_seats (names ++ x ∷ [])) ≡ times i (name_seats names ++ seat owner holds ∷ []) = ap (times i) push in
-          let f = times_append i (name_seats names) (seat owner holds ∷ []) in
-          omega (arith, a, b, d, f)
-          )) o.seated;
+      seated = given_seats words.owners (seat owner holds) (both_seats (names ++ x ∷ []) weaks) (both_seats names weaks) kept_ones (call_seats o.last o.from (stays_of store) calls)
+          (subst (λ ss. AllFit words.owners (ss ++ seats_as weakly weaks)) (sym push) (fit_append words.owners (seats_as holds names ++ seat owner holds ∷ []) (seats_as weakly weaks) (fit_append words.owners (seats_as holds names) (seat owner holds ∷ []) front all.0) behind))
+          (λ i. subst (λ ss. times i (ss ++ seats_as weakly weaks) ≡ times i (seat owner holds ∷ []) + times i (both_seats names weaks)) (sym push) (both_push i (seats_as holds names) (seats_as weakly weaks) (seat owner holds))) o.seated;
       publisher = o.publisher;
       names_once = λ n. (let once = o.names_once n in let more = named_push n names x in omega (arith, once, more));
+      weak_once = o.weak_once;
       calls_once = o.calls_once;
     }
 
-no_slot_closed : (words : Zones) (names : List Named) (kept : List ℕ) (keep : ℕ) (calls : List UnderWay) (head : Heading) → Open words names kept keep calls (Done (NoSlot head)) → Open words names kept keep calls nothing_apart
-no_slot_closed words names kept keep calls head o =
+weakly_closed : (words : Zones) (names weaks : List Named) (store : Store) (calls : List UnderWay) (name : List ℕ) (owner number : ℕ) → Open words names weaks store calls (Done (OwnedWeakly name owner number)) → Open words names (weaks ++ record { name = name; owner = owner } ∷ []) store calls nothing_apart
+weakly_closed words names weaks store calls name owner number o =
+    let x : Named = record { name = name; owner = owner } in
+    let kept_ones = store_left o.from store (any_update calls) in
+    let push = name_push weakly weaks x in
+    let all = fits_four words.owners (seat owner weakly ∷ []) (both_seats names weaks) kept_ones (call_seats o.last o.from (stays_of store) calls) o.seated.fit in
+    let front = fit_front words.owners (seats_as holds names) (seats_as weakly weaks) all.1 in
+    let behind = fit_back words.owners (seats_as holds names) (seats_as weakly weaks) all.1 in
+    record {
+      cell = o.cell;
+      shows = o.shows;
+      last = o.last;
+      from = o.from;
+      settled = o.settled;
+      counted = o.counted;
+      swapped = o.swapped;
+      kept_count = o.kept_count;
+      kept_from = o.kept_from;
+      shut = o.shut;
+      alone = o.alone;
+      one = o.one;
+      still = tt;
+      stills = o.stills;
+      seated = given_seats words.owners (seat owner weakly) (both_seats names (weaks ++ x ∷ [])) (both_seats names weaks) kept_ones (call_seats o.last o.from (stays_of store) calls)
+          (subst (λ ss. AllFit words.owners (seats_as holds names ++ ss)) (sym push) (fit_append words.owners (seats_as holds names) (seats_as weakly weaks ++ seat owner weakly ∷ []) front (fit_append words.owners (seats_as weakly weaks) (seat owner weakly ∷ []) behind all.0)))
+          (λ i. subst (λ ss. times i (seats_as holds names ++ ss) ≡ times i (seat owner weakly ∷ []) + times i (both_seats names weaks)) (sym push) (weak_push i (seats_as holds names) (seats_as weakly weaks) (seat owner weakly))) o.seated;
+      publisher = o.publisher;
+      names_once = o.names_once;
+      weak_once = λ n. (let once = o.weak_once n in let more = named_push n weaks x in omega (arith, once, more));
+      calls_once = o.calls_once;
+    }
+
+no_slot_closed : (words : Zones) (names weaks : List Named) (store : Store) (calls : List UnderWay) (head : Heading) → Open words names weaks store calls (Done (NoSlot head)) → Open words names weaks store calls nothing_apart
+no_slot_closed words names weaks store calls head o =
     let none = o.alone refl in
     record {
       cell = o.cell;
@@ -199,80 +225,138 @@ no_slot_closed words names kept keep calls head o =
       swapped = o.swapped;
       kept_count = o.kept_count;
       kept_from = o.kept_from;
+      shut = o.shut;
       alone = λ e. none;
       one = o.one;
       still = tt;
       stills = o.stills;
-      seated = rw none (seated_given words.owners o.last o.from keep names kept calls o.seated);
+      seated = rw none (seated_given words.owners o.last o.from names weaks store calls o.seated);
       publisher = o.publisher;
       names_once = o.names_once;
+      weak_once = o.weak_once;
       calls_once = o.calls_once;
     }
 
 -- where no update is under way nothing goes by what is kept, nor by the last number
-same_phase : (at : Phase) (one two from first : ℕ) → updates at ≡ false → phase_seats one from at ≡ phase_seats two first at
-same_phase (phase.Load name) one two from first e = refl
-same_phase (phase.Probe version keeping) one two from first e = absurd (let wrong = e in cc)
-same_phase (phase.Prepare version keeping) one two from first e = absurd (let wrong = e in cc)
-same_phase (phase.Swap keeping) one two from first e = absurd (let wrong = e in cc)
-same_phase (phase.Settle keeping) one two from first e = absurd (let wrong = e in cc)
-same_phase (phase.Keep given keeping) one two from first e = absurd (let wrong = e in cc)
-same_phase (phase.Release owner purpose.Drop) one two from first e = refl
-same_phase (phase.Release owner (purpose.Publish keeping kept)) one two from first e = absurd (let wrong = e in cc)
-same_phase (phase.Release owner (purpose.Oldest head kept)) one two from first e = absurd (let wrong = e in cc)
-same_phase (phase.Bury owner purpose.Drop) one two from first e = refl
-same_phase (phase.Bury owner (purpose.Publish keeping kept)) one two from first e = absurd (let wrong = e in cc)
-same_phase (phase.Bury owner (purpose.Oldest head kept)) one two from first e = absurd (let wrong = e in cc)
-same_phase (phase.Free owner number purpose.Drop) one two from first e = refl
-same_phase (phase.Free owner number (purpose.Publish keeping kept)) one two from first e = absurd (let wrong = e in cc)
-same_phase (phase.Free owner number (purpose.Oldest head kept)) one two from first e = absurd (let wrong = e in cc)
+same_phase : (at : Phase) (one two from first : ℕ) (stays later : Stays) → updates at ≡ false → phase_seats one from stays at ≡ phase_seats two first later at
+same_phase (phase.Load name) one two from first stays later e = refl
+same_phase (phase.Look name owner) one two from first stays later e = refl
+same_phase (phase.Seek owner seeking) one two from first stays later e = refl
+same_phase (phase.Gain owner seeking) one two from first stays later e = refl
+same_phase (phase.Raise name owner) one two from first stays later e = refl
+same_phase (phase.Note name owner) one two from first stays later e = refl
+same_phase (phase.Probe version keeping) one two from first stays later e = absurd (let wrong = e in cc)
+same_phase (phase.Prepare version keeping) one two from first stays later e = absurd (let wrong = e in cc)
+same_phase (phase.Swap keeping) one two from first stays later e = absurd (let wrong = e in cc)
+same_phase (phase.Settle keeping) one two from first stays later e = absurd (let wrong = e in cc)
+same_phase (phase.Keep given keeping) one two from first stays later e = absurd (let wrong = e in cc)
+same_phase (phase.Enter given kept keeping) one two from first stays later e = absurd (let wrong = e in cc)
+same_phase (phase.Release owner purpose.Drop) one two from first stays later e = refl
+same_phase (phase.Release owner (purpose.Sent sending owners)) one two from first stays later e = refl
+same_phase (phase.Release owner (purpose.Publish keeping kept entry)) one two from first stays later e = absurd (let wrong = e in cc)
+same_phase (phase.Release owner (purpose.Oldest head kept entry leaving)) one two from first stays later e = absurd (let wrong = e in cc)
+same_phase (phase.Release owner (purpose.Leaves head kept entry leaving)) one two from first stays later e = absurd (let wrong = e in cc)
+same_phase (phase.Bury owner purpose.Drop) one two from first stays later e = refl
+same_phase (phase.Bury owner (purpose.Sent sending owners)) one two from first stays later e = refl
+same_phase (phase.Bury owner (purpose.Publish keeping kept entry)) one two from first stays later e = absurd (let wrong = e in cc)
+same_phase (phase.Bury owner (purpose.Oldest head kept entry leaving)) one two from first stays later e = absurd (let wrong = e in cc)
+same_phase (phase.Bury owner (purpose.Leaves head kept entry leaving)) one two from first stays later e = absurd (let wrong = e in cc)
+same_phase (phase.Fade owner None purpose.Drop) one two from first stays later e = refl
+same_phase (phase.Fade owner None (purpose.Sent sending owners)) one two from first stays later e = refl
+same_phase (phase.Fade owner (Some number) purpose.Drop) one two from first stays later e = refl
+same_phase (phase.Fade owner (Some number) (purpose.Sent sending owners)) one two from first stays later e = refl
+same_phase (phase.Reset owner number purpose.Drop) one two from first stays later e = refl
+same_phase (phase.Reset owner number (purpose.Sent sending owners)) one two from first stays later e = refl
+same_phase (phase.Free owner number purpose.Drop) one two from first stays later e = refl
+same_phase (phase.Free owner number (purpose.Sent sending owners)) one two from first stays later e = refl
+same_phase (phase.Fade owner number (purpose.Publish keeping kept entry)) one two from first stays later e = absurd (let wrong = e in cc)
+same_phase (phase.Reset owner number (purpose.Publish keeping kept entry)) one two from first stays later e = absurd (let wrong = e in cc)
+same_phase (phase.Free owner number (purpose.Publish keeping kept entry)) one two from first stays later e = absurd (let wrong = e in cc)
+same_phase (phase.Fade owner number (purpose.Oldest head kept entry leaving)) one two from first stays later e = absurd (let wrong = e in cc)
+same_phase (phase.Fade owner number (purpose.Leaves head kept entry leaving)) one two from first stays later e = absurd (let wrong = e in cc)
+same_phase (phase.Reset owner number (purpose.Oldest head kept entry leaving)) one two from first stays later e = absurd (let wrong = e in cc)
+same_phase (phase.Reset owner number (purpose.Leaves head kept entry leaving)) one two from first stays later e = absurd (let wrong = e in cc)
+same_phase (phase.Free owner number (purpose.Oldest head kept entry leaving)) one two from first stays later e = absurd (let wrong = e in cc)
+same_phase (phase.Free owner number (purpose.Leaves head kept entry leaving)) one two from first stays later e = absurd (let wrong = e in cc)
 
-old_phase : (at : Phase) (oldest : Option ℕ) → updates at ≡ false → OldestIn oldest at
-old_phase (phase.Load name) oldest e = tt
-old_phase (phase.Probe version keeping) oldest e = absurd (let wrong = e in cc)
-old_phase (phase.Prepare version keeping) oldest e = absurd (let wrong = e in cc)
-old_phase (phase.Swap keeping) oldest e = absurd (let wrong = e in cc)
-old_phase (phase.Settle keeping) oldest e = absurd (let wrong = e in cc)
-old_phase (phase.Keep given keeping) oldest e = absurd (let wrong = e in cc)
-old_phase (phase.Release owner purpose.Drop) oldest e = tt
-old_phase (phase.Release owner (purpose.Publish keeping kept)) oldest e = absurd (let wrong = e in cc)
-old_phase (phase.Release owner (purpose.Oldest head kept)) oldest e = tt
-old_phase (phase.Bury owner purpose.Drop) oldest e = tt
-old_phase (phase.Bury owner (purpose.Publish keeping kept)) oldest e = absurd (let wrong = e in cc)
-old_phase (phase.Bury owner (purpose.Oldest head kept)) oldest e = tt
-old_phase (phase.Free owner number purpose.Drop) oldest e = tt
-old_phase (phase.Free owner number (purpose.Publish keeping kept)) oldest e = absurd (let wrong = e in cc)
-old_phase (phase.Free owner number (purpose.Oldest head kept)) oldest e = tt
+old_phase : (at : Phase) (stays : Stays) → updates at ≡ false → StaysIn stays at
+old_phase (phase.Load name) stays e = tt
+old_phase (phase.Look name owner) stays e = tt
+old_phase (phase.Seek owner seeking) stays e = tt
+old_phase (phase.Gain owner seeking) stays e = tt
+old_phase (phase.Raise name owner) stays e = tt
+old_phase (phase.Note name owner) stays e = tt
+old_phase (phase.Probe version keeping) stays e = absurd (let wrong = e in cc)
+old_phase (phase.Prepare version keeping) stays e = absurd (let wrong = e in cc)
+old_phase (phase.Swap keeping) stays e = absurd (let wrong = e in cc)
+old_phase (phase.Settle keeping) stays e = absurd (let wrong = e in cc)
+old_phase (phase.Keep given keeping) stays e = absurd (let wrong = e in cc)
+old_phase (phase.Enter given kept keeping) stays e = absurd (let wrong = e in cc)
+old_phase (phase.Release owner purpose.Drop) stays e = tt
+old_phase (phase.Release owner (purpose.Sent sending owners)) stays e = tt
+old_phase (phase.Release owner (purpose.Publish keeping kept entry)) stays e = absurd (let wrong = e in cc)
+old_phase (phase.Release owner (purpose.Oldest head kept entry leaving)) stays e = absurd (let wrong = e in cc)
+old_phase (phase.Release owner (purpose.Leaves head kept entry leaving)) stays e = absurd (let wrong = e in cc)
+old_phase (phase.Bury owner purpose.Drop) stays e = tt
+old_phase (phase.Bury owner (purpose.Sent sending owners)) stays e = tt
+old_phase (phase.Bury owner (purpose.Publish keeping kept entry)) stays e = absurd (let wrong = e in cc)
+old_phase (phase.Bury owner (purpose.Oldest head kept entry leaving)) stays e = absurd (let wrong = e in cc)
+old_phase (phase.Bury owner (purpose.Leaves head kept entry leaving)) stays e = absurd (let wrong = e in cc)
+old_phase (phase.Fade owner number purpose.Drop) stays e = tt
+old_phase (phase.Fade owner number (purpose.Sent sending owners)) stays e = tt
+old_phase (phase.Reset owner number purpose.Drop) stays e = tt
+old_phase (phase.Reset owner number (purpose.Sent sending owners)) stays e = tt
+old_phase (phase.Free owner number purpose.Drop) stays e = tt
+old_phase (phase.Free owner number (purpose.Sent sending owners)) stays e = tt
+old_phase (phase.Fade owner number (purpose.Publish keeping kept entry)) stays e = absurd (let wrong = e in cc)
+old_phase (phase.Reset owner number (purpose.Publish keeping kept entry)) stays e = absurd (let wrong = e in cc)
+old_phase (phase.Free owner number (purpose.Publish keeping kept entry)) stays e = absurd (let wrong = e in cc)
+old_phase (phase.Fade owner number (purpose.Oldest head kept entry leaving)) stays e = absurd (let wrong = e in cc)
+old_phase (phase.Fade owner number (purpose.Leaves head kept entry leaving)) stays e = absurd (let wrong = e in cc)
+old_phase (phase.Reset owner number (purpose.Oldest head kept entry leaving)) stays e = absurd (let wrong = e in cc)
+old_phase (phase.Reset owner number (purpose.Leaves head kept entry leaving)) stays e = absurd (let wrong = e in cc)
+old_phase (phase.Free owner number (purpose.Oldest head kept entry leaving)) stays e = absurd (let wrong = e in cc)
+old_phase (phase.Free owner number (purpose.Leaves head kept entry leaving)) stays e = absurd (let wrong = e in cc)
 
 or_false : (a b : Bool) → (a || b) ≡ false → (a ≡ false) × (b ≡ false)
 or_false true b e = absurd (let wrong = e in cc)
 or_false false b e = (refl, e)
 
-same_calls : (calls : List UnderWay) (one two from first : ℕ) → any_update calls ≡ false → call_seats one from calls ≡ call_seats two first calls
-same_calls [] one two from first e = refl
-same_calls (c ∷ cs) one two from first e =
+same_calls : (calls : List UnderWay) (one two from first : ℕ) (stays later : Stays) → any_update calls ≡ false → call_seats one from stays calls ≡ call_seats two first later calls
+same_calls [] one two from first stays later e = refl
+same_calls (c ∷ cs) one two from first stays later e =
     let parts = or_false (updates c.phase) (any_update cs) e in
-    ap (λ ss. ss ++ call_seats one from cs) (same_phase c.phase one two from first parts.0) ∙ ap (λ ss. phase_seats two first c.phase ++ ss) (same_calls cs one two from first parts.1)
+    ap (λ ss. ss ++ call_seats one from stays cs) (same_phase c.phase one two from first stays later parts.0) ∙ ap (λ ss. phase_seats two first later c.phase ++ ss) (same_calls cs one two from first stays later parts.1)
 
-old_calls : (calls : List UnderWay) (oldest : Option ℕ) → any_update calls ≡ false → AllOldest oldest calls
-old_calls [] oldest e = tt
-old_calls (c ∷ cs) oldest e =
-    let parts = or_false (updates c.phase) (any_update cs) e in (old_phase c.phase oldest parts.0, old_calls cs oldest parts.1)
+old_calls : (calls : List UnderWay) (stays : Stays) → any_update calls ≡ false → AllStay stays calls
+old_calls [] stays e = tt
+old_calls (c ∷ cs) stays e =
+    let parts = or_false (updates c.phase) (any_update cs) e in (old_phase c.phase stays parts.0, old_calls cs stays parts.1)
 
 no_swaps_for : (for : Purpose) → is_for_update for ≡ false → swapped_for for ≡ 0
 no_swaps_for purpose.Drop e = refl
-no_swaps_for (purpose.Publish keeping kept) e = absurd (let wrong = e in cc)
-no_swaps_for (purpose.Oldest head kept) e = absurd (let wrong = e in cc)
+no_swaps_for (purpose.Sent sending owners) e = refl
+no_swaps_for (purpose.Publish keeping kept entry) e = absurd (let wrong = e in cc)
+no_swaps_for (purpose.Oldest head kept entry leaving) e = absurd (let wrong = e in cc)
+no_swaps_for (purpose.Leaves head kept entry leaving) e = absurd (let wrong = e in cc)
 
 no_swaps_phase : (at : Phase) → updates at ≡ false → swapped_in at ≡ 0
 no_swaps_phase (phase.Load name) e = refl
+no_swaps_phase (phase.Look name owner) e = refl
+no_swaps_phase (phase.Seek owner seeking) e = refl
+no_swaps_phase (phase.Gain owner seeking) e = refl
+no_swaps_phase (phase.Raise name owner) e = refl
+no_swaps_phase (phase.Note name owner) e = refl
 no_swaps_phase (phase.Probe version keeping) e = refl
 no_swaps_phase (phase.Prepare version keeping) e = refl
 no_swaps_phase (phase.Swap keeping) e = refl
 no_swaps_phase (phase.Settle keeping) e = absurd (let wrong = e in cc)
 no_swaps_phase (phase.Keep given keeping) e = absurd (let wrong = e in cc)
+no_swaps_phase (phase.Enter given kept keeping) e = absurd (let wrong = e in cc)
 no_swaps_phase (phase.Release owner for) e = no_swaps_for for e
 no_swaps_phase (phase.Bury owner for) e = no_swaps_for for e
+no_swaps_phase (phase.Fade owner number for) e = no_swaps_for for e
+no_swaps_phase (phase.Reset owner number for) e = no_swaps_for for e
 no_swaps_phase (phase.Free owner number for) e = no_swaps_for for e
 
 pub no_swaps : (calls : List UnderWay) → any_update calls ≡ false → swaps_of calls ≡ 0
@@ -283,27 +367,76 @@ no_swaps (c ∷ cs) e =
     let more = no_swaps cs parts.1 in
     omega (arith, one, more)
 
-kept_closed : (words : Zones) (names : List Named) (kept : List ℕ) (keep : ℕ) (calls : List UnderWay) (head : Heading) (owner : ℕ) → Open words names kept keep calls (Done (Kept head owner)) → Open words names (kept_at keep (Kept head owner) kept) keep calls nothing_apart
-kept_closed words names kept keep calls head owner o =
+-- what is kept and in the window behind a call's end
+abbrev pub store_at : End → Store → Store
+store_at end store = record { kept = kept_at store.keep end store.kept; keep = store.keep; entries = entries_at store.window end store.entries; window = store.window }
+
+-- what stays of the window, with what is entered, is the window of one version more
+window_more : (owners : List Owner) (total last : ℕ) (entries : List Entry) (entry : Entry) → total ≡ last → AllFit owners (window_seats total entries) → AllFit owners (entry_seats last (Some entry)) → AllFit owners (window_seats (last + 1) (entries ++ entry ∷ []))
+window_more owners total last [] entry same f g = g
+window_more owners total last (e ∷ entries) entry same f g =
+    let count = length-append entries (entry ∷ []) in
+    let numbered = f.0.0 in
+    ((omega (arith, count, numbered, same), f.0.1, f.0.2), window_more owners total last entries entry same f.1 g)
+
+window_now : (owners : List Owner) (store : Store) (head : Heading) (owner total last : ℕ) (entry : Option Entry) → EntersIf (stays_of store) (is_some entry) → (nat_lt 0 store.window ≡ false → store.entries ≡ []) → total ≡ last → AllFit owners (window_seats total (staying (stays_of store) (serial_of_entry entry))) → AllFit owners (entry_seats last entry)
+    → AllFit owners (window_seats (last + 1) (entries_at store.window (Kept head owner entry) store.entries))
+window_now owners store head owner total last None is shut same f g = subst (λ es. AllFit owners (window_seats (last + 1) es)) (sym (shut (sym is))) tt
+window_now owners store head owner total last (Some entry) is shut same f g = window_more owners total last (drop (length (leaving store.window store.entries entry.serial.0)) store.entries) entry same f g
+
+-- whatever the total is
+window_times : (i one two : ℕ) (entries : List Entry) → times i (window_seats one entries) ≡ times i (window_seats two entries)
+window_times i one two [] = refl
+window_times i one two (e ∷ entries) = let more = window_times i one two entries in omega (arith, more)
+
+window_push : (i one two : ℕ) (entries : List Entry) (entry : Entry) → times i (window_seats one (entries ++ entry ∷ [])) ≡ times i (window_seats two entries) + one_if (entry.owner == i)
+window_push i one two [] entry = omega arith
+window_push i one two (e ∷ entries) entry = let more = window_push i one two entries entry in omega (arith, more)
+
+window_count : (i one two last : ℕ) (store : Store) (head : Heading) (owner : ℕ) (entry : Option Entry) → times i (window_seats one (entries_at store.window (Kept head owner entry) store.entries)) ≡ times i (window_seats two (staying (stays_of store) (serial_of_entry entry))) + times i (entry_seats last entry)
+window_count i one two last store head owner None = let same = window_times i one two store.entries in omega (arith, same)
+window_count i one two last store head owner (Some entry) = let push = window_push i one two (drop (length (leaving store.window store.entries entry.serial.0)) store.entries) entry in omega (arith, push)
+
+-- where there is no window, none is entered
+shut_now : (store : Store) (head : Heading) (owner : ℕ) (entry : Option Entry) → EntersIf (stays_of store) (is_some entry) → (nat_lt 0 store.window ≡ false → store.entries ≡ []) → nat_lt 0 store.window ≡ false → entries_at store.window (Kept head owner entry) store.entries ≡ []
+shut_now store head owner None is shut e = shut e
+shut_now store head owner (Some entry) is shut e = absurd (let wrong : true ≡ false = is ∙ e in cc)
+
+kept_closed : (words : Zones) (names weaks : List Named) (store : Store) (calls : List UnderWay) (head : Heading) (owner : ℕ) (entry : Option Entry) → Open words names weaks store calls (Done (Kept head owner entry)) → Open words names weaks (store_at (Kept head owner entry) store) calls nothing_apart
+kept_closed words names weaks store calls head owner entry o =
     let none = o.alone refl in
     let swaps = no_swaps calls none in
-    let k = kept_now o.from keep kept owner o.last (omega (arith, o.swapped, swaps, o.kept_count)) (let f = o.kept_from in let s = o.swapped in let e : o.settled ≡ o.last = omega (arith, s, swaps) in f ∙ ap (λ n. n - (keep + 1)) e) in
-    let others = same_calls calls o.last o.last o.from k.first none in
-    let all = fits_four words.owners (seat owner (has o.last) ∷ []) (name_seats names) (kept_left o.from keep kept true) (call_seats o.last o.from calls) o.seated.fit in
-    let s : Seated words.owners (rest_seats o.last k.first names k.now keep calls false) =
-    seated_as words.owners _ (rest_seats o.last k.first names k.now keep calls false)
-    (fit_four words.owners [] (name_seats names) (kept_seats k.first k.now) (call_seats o.last k.first calls) tt all.1
-    (subst (λ ss. AllFit words.owners ss) (sym k.seats) (fit_append words.owners (kept_left o.from keep kept true) (seat owner (has o.last) ∷ []) all.2 all.0))
+    let k = kept_now o.from store.keep store.kept owner o.last (omega (arith, o.swapped, swaps, o.kept_count)) (let f = o.kept_from in let s = o.swapped in let e : o.settled ≡ o.last = omega (arith, s, swaps) in f ∙ ap (λ n. n - (store.keep + 1)) e) in
+    let entries = entries_at store.window (Kept head owner entry) store.entries in
+    let next : Store = record { kept = k.now; keep = store.keep; entries = entries; window = store.window } in
+    let others = same_calls calls o.last o.last o.from k.first (stays_of store) (stays_of next) none in
+    let total : ℕ = o.from + length store.kept in
+    let settled : total ≡ o.last = omega (arith, o.swapped, swaps, o.kept_count) in
+    let mine = seat owner (has o.last) ∷ late_seats o.last o.from (stays_of store) entry [] in
+    let stay = window_seats total (staying (stays_of store) (serial_of_entry entry)) in
+    let all = fits_four words.owners mine (both_seats names weaks) (store_left o.from store true) (call_seats o.last o.from (stays_of store) calls) o.seated.fit in
+    let entry_fit = fit_front words.owners (entry_seats o.last entry) stay all.0.1 in
+    let stay_fit = fit_back words.owners (entry_seats o.last entry) stay all.0.1 in
+    let kept_fit = subst (λ ss. AllFit words.owners ss) (sym k.seats) (fit_append words.owners (kept_left o.from store.keep store.kept true) (seat owner (has o.last) ∷ []) (fit_front words.owners (kept_left o.from store.keep store.kept true) [] all.2) (all.0.0, tt)) in
+    let window_fit = subst (λ n. AllFit words.owners (window_seats n entries)) (sym k.count) (window_now words.owners store head owner total o.last entry o.still o.shut settled stay_fit entry_fit) in
+    let s : Seated words.owners (rest_seats o.last k.first names weaks next calls false) =
+    seated_as words.owners _ (rest_seats o.last k.first names weaks next calls false)
+    (fit_four words.owners [] (both_seats names weaks) (store_left k.first next false) (call_seats o.last k.first (stays_of next) calls) tt all.1
+    (fit_append words.owners (kept_seats k.first k.now) (window_seats (k.first + length k.now) entries) kept_fit window_fit)
     (subst (λ ss. AllFit words.owners ss) others all.3))
     (λ i. (
-    let a = times_four i (seat owner (has o.last) ∷ []) (name_seats names) (kept_left o.from keep kept true) (call_seats o.last o.from calls) in
-    let b = times_four i [] (name_seats names) (kept_seats k.first k.now) (call_seats o.last k.first calls) in
-    let d : times i (kept_seats k.first k.now) ≡ times i (kept_left o.from keep kept true ++ seat owner (has o.last) ∷ []) = ap (times i) k.seats in
-    let f = times_append i (kept_left o.from keep kept true) (seat owner (has o.last) ∷ []) in
-    let g : times i (call_seats o.last o.from calls) ≡ times i (call_seats o.last k.first calls) = ap (times i) others in
-    omega (arith, a, b, d, f, g)
+    let a = times_four i mine (both_seats names weaks) (store_left o.from store true) (call_seats o.last o.from (stays_of store) calls) in
+    let b = times_four i [] (both_seats names weaks) (store_left k.first next false) (call_seats o.last k.first (stays_of next) calls) in
+    let c = times_append i (kept_seats k.first k.now) (window_seats (k.first + length k.now) entries) in
+    let d : times i (kept_seats k.first k.now) ≡ times i (kept_left o.from store.keep store.kept true ++ seat owner (has o.last) ∷ []) = ap (times i) k.seats in
+    let f = times_append i (kept_left o.from store.keep store.kept true) (seat owner (has o.last) ∷ []) in
+    let g : times i (call_seats o.last o.from (stays_of store) calls) ≡ times i (call_seats o.last k.first (stays_of next) calls) = ap (times i) others in
+    let h = window_count i (k.first + length k.now) total o.last store head owner entry in
+    let l = times_append i (entry_seats o.last entry) stay in
+    let m = times_append i (kept_left o.from store.keep store.kept true) [] in
+    omega (arith, a, b, c, d, f, g, h, l, m)
     )) o.seated in
-    let later : Open words names k.now keep calls nothing_apart = record {
+    let later : Open words names weaks next calls nothing_apart = record {
       cell = o.cell;
       shows = o.shows;
       last = o.last;
@@ -313,27 +446,21 @@ kept_closed words names kept keep calls head owner o =
       swapped = omega (arith, swaps);
       kept_count = k.count;
       kept_from = k.first_is;
+      shut = shut_now store head owner entry o.still o.shut;
       alone = λ e. none;
       one = o.one;
       still = tt;
-      stills = old_calls calls (oldest_kept keep k.now) none;
+      stills = old_calls calls (stays_of next) none;
       seated = rw none s;
       publisher = o.publisher;
       names_once = o.names_once;
+      weak_once = o.weak_once;
       calls_once = o.calls_once;
     } in
-    subst (λ ks. Open words names ks keep calls nothing_apart) k.now_is later
+    subst (λ ks. Open words names weaks (record { kept = ks; keep = store.keep; entries = entries; window = store.window }) calls nothing_apart) k.now_is later
 
--- a call at its end gives what it has in hand to a name, or to the versions that are kept
-pub closed : (words : Zones) (names : List Named) (kept : List ℕ) (keep : ℕ) (calls : List UnderWay) (end : End) → Open words names kept keep calls (Done end) → Open words (names_at end names) (kept_at keep end kept) keep calls nothing_apart
-closed words names kept keep calls (Owned name owner number) o = owned_closed words names kept keep calls name owner number o
-closed words names kept keep calls (Told given) o = told_closed words names kept keep calls given o
-closed words names kept keep calls (NoSlot head) o = no_slot_closed words names kept keep calls head o
-closed words names kept keep calls (Kept head owner) o = kept_closed words names kept keep calls head owner o
-
--- a load begins: its name isn't taken
-pub load_open : (words : Zones) (names : List Named) (kept : List ℕ) (keep : ℕ) (calls : List UnderWay) (name : List ℕ) → named_by name names ≡ 0 → reserved_by name calls ≡ 0 → Open words names kept keep calls nothing_apart → Open words names kept keep calls (On (phase.Load name))
-load_open words names kept keep calls name unnamed unreserved o = record {
+sent_closed : (words : Zones) (names weaks : List Named) (store : Store) (calls : List UnderWay) (sending : Sending) → Open words names weaks store calls (Done (Sent sending)) → Open words names weaks store calls nothing_apart
+sent_closed words names weaks store calls sending o = record {
   cell = o.cell;
   shows = o.shows;
   last = o.last;
@@ -343,25 +470,134 @@ load_open words names kept keep calls name unnamed unreserved o = record {
   swapped = o.swapped;
   kept_count = o.kept_count;
   kept_from = o.kept_from;
+  shut = o.shut;
   alone = o.alone;
   one = o.one;
   still = tt;
   stills = o.stills;
   seated = o.seated;
   publisher = o.publisher;
-  names_once = λ n. (
-      let once = o.names_once n in
-      elim (cases_Bool (bytes_eq name n)) [
-        | inl same ↦ (
-            let e : name ≡ n = (bytes_eq-Decides name n).0 same in
-            let f : named_by n names ≡ 0 = ap (λ m. named_by m names) (sym e) ∙ unnamed in
-            let g : reserved_by n calls ≡ 0 = ap (λ m. reserved_by m calls) (sym e) ∙ unreserved in
-            let h : one_if (bytes_eq name n) ≡ 1 = rw same refl in
-            omega (arith, f, g, h)
-            )
-        | inr other ↦ (let h : one_if (bytes_eq name n) ≡ 0 = rw other refl in omega (arith, once, h))
-      ]
-      );
+  names_once = o.names_once;
+  weak_once = o.weak_once;
+  calls_once = o.calls_once;
+}
+
+-- a call at its end gives what it has in hand to a name, or to the versions that are kept and to the window
+pub closed : (words : Zones) (names weaks : List Named) (store : Store) (calls : List UnderWay) (end : End) → Open words names weaks store calls (Done end) → Open words (names_at end names) (weak_names_at end weaks) (store_at end store) calls nothing_apart
+closed words names weaks store calls (Owned name owner number) o = owned_closed words names weaks store calls name owner number o
+closed words names weaks store calls (OwnedWeakly name owner number) o = weakly_closed words names weaks store calls name owner number o
+closed words names weaks store calls (Told given) o = told_closed words names weaks store calls given o
+closed words names weaks store calls (NoSlot head) o = no_slot_closed words names weaks store calls head o
+closed words names weaks store calls (Kept head owner entry) o = kept_closed words names weaks store calls head owner entry o
+closed words names weaks store calls (Sent sending) o = sent_closed words names weaks store calls sending o
+
+-- a name that isn't taken may be put into use
+once_more : (name n : List ℕ) (named reserved : List ℕ → ℕ) → named name ≡ 0 → reserved name ≡ 0 → named n + (0 + reserved n) ≤ 1 → named n + (one_if (bytes_eq name n) + reserved n) ≤ 1
+once_more name n named reserved unnamed unreserved once =
+    elim (cases_Bool (bytes_eq name n)) [
+      | inl same ↦ (
+          let e : name ≡ n = (bytes_eq-Decides name n).0 same in
+          let f : named n ≡ 0 = ap named (sym e) ∙ unnamed in
+          let g : reserved n ≡ 0 = ap reserved (sym e) ∙ unreserved in
+          let h : one_if (bytes_eq name n) ≡ 1 = rw same refl in
+          omega (arith, f, g, h)
+          )
+      | inr other ↦ (let h : one_if (bytes_eq name n) ≡ 0 = rw other refl in omega (arith, once, h))
+    ]
+
+-- a load begins: its name isn't taken
+pub load_open : (words : Zones) (names weaks : List Named) (store : Store) (calls : List UnderWay) (name : List ℕ) → named_by name names ≡ 0 → reserved_by name calls ≡ 0 → Open words names weaks store calls nothing_apart → Open words names weaks store calls (On (phase.Load name))
+load_open words names weaks store calls name unnamed unreserved o = record {
+  cell = o.cell;
+  shows = o.shows;
+  last = o.last;
+  from = o.from;
+  settled = o.settled;
+  counted = o.counted;
+  swapped = o.swapped;
+  kept_count = o.kept_count;
+  kept_from = o.kept_from;
+  shut = o.shut;
+  alone = o.alone;
+  one = o.one;
+  still = tt;
+  stills = o.stills;
+  seated = o.seated;
+  publisher = o.publisher;
+  names_once = λ n. once_more name n (λ m. named_by m names) (λ m. reserved_by m calls) unnamed unreserved (o.names_once n);
+  weak_once = o.weak_once;
+  calls_once = o.calls_once;
+}
+
+-- an upgrade begins
+pub look_open : (words : Zones) (names weaks : List Named) (store : Store) (calls : List UnderWay) (name : List ℕ) (owner : ℕ) → named_by name names ≡ 0 → reserved_by name calls ≡ 0 → Open words names weaks store calls nothing_apart → Open words names weaks store calls (On (phase.Look name owner))
+look_open words names weaks store calls name owner unnamed unreserved o = record {
+  cell = o.cell;
+  shows = o.shows;
+  last = o.last;
+  from = o.from;
+  settled = o.settled;
+  counted = o.counted;
+  swapped = o.swapped;
+  kept_count = o.kept_count;
+  kept_from = o.kept_from;
+  shut = o.shut;
+  alone = o.alone;
+  one = o.one;
+  still = tt;
+  stills = o.stills;
+  seated = o.seated;
+  publisher = o.publisher;
+  names_once = λ n. once_more name n (λ m. named_by m names) (λ m. reserved_by m calls) unnamed unreserved (o.names_once n);
+  weak_once = o.weak_once;
+  calls_once = o.calls_once;
+}
+
+-- a copy begins
+pub raise_open : (words : Zones) (names weaks : List Named) (store : Store) (calls : List UnderWay) (name : List ℕ) (owner : ℕ) → named_by name names ≡ 0 → reserved_by name calls ≡ 0 → Open words names weaks store calls nothing_apart → Open words names weaks store calls (On (phase.Raise name owner))
+raise_open words names weaks store calls name owner unnamed unreserved o = record {
+  cell = o.cell;
+  shows = o.shows;
+  last = o.last;
+  from = o.from;
+  settled = o.settled;
+  counted = o.counted;
+  swapped = o.swapped;
+  kept_count = o.kept_count;
+  kept_from = o.kept_from;
+  shut = o.shut;
+  alone = o.alone;
+  one = o.one;
+  still = tt;
+  stills = o.stills;
+  seated = o.seated;
+  publisher = o.publisher;
+  names_once = λ n. once_more name n (λ m. named_by m names) (λ m. reserved_by m calls) unnamed unreserved (o.names_once n);
+  weak_once = o.weak_once;
+  calls_once = o.calls_once;
+}
+
+-- a weak owner is begun
+pub note_open : (words : Zones) (names weaks : List Named) (store : Store) (calls : List UnderWay) (name : List ℕ) (owner : ℕ) → named_by name weaks ≡ 0 → weak_reserved_by name calls ≡ 0 → Open words names weaks store calls nothing_apart → Open words names weaks store calls (On (phase.Note name owner))
+note_open words names weaks store calls name owner unnamed unreserved o = record {
+  cell = o.cell;
+  shows = o.shows;
+  last = o.last;
+  from = o.from;
+  settled = o.settled;
+  counted = o.counted;
+  swapped = o.swapped;
+  kept_count = o.kept_count;
+  kept_from = o.kept_from;
+  shut = o.shut;
+  alone = o.alone;
+  one = o.one;
+  still = tt;
+  stills = o.stills;
+  seated = o.seated;
+  publisher = o.publisher;
+  names_once = o.names_once;
+  weak_once = λ n. once_more name n (λ m. named_by m weaks) (λ m. weak_reserved_by m calls) unnamed unreserved (o.weak_once n);
   calls_once = o.calls_once;
 }
 
@@ -389,14 +625,14 @@ without_other name x names rest other e = rw other (ap (λ ns. x ∷ ns) e)
 without_this : (name : List ℕ) (x : Named) (names rest : List Named) → bytes_eq x.name name ≡ true → without_name name names ≡ rest → without_name name (x ∷ names) ≡ rest
 without_this name x names rest same e = rw same e
 
-record OwnerApart (owners : List Owner) (name : List ℕ) (names : List Named) (owner : ℕ) : Type 0 where
-  fit : HandIs owners owner holds
-  others : AllFit owners (name_seats (without_name name names))
-  count : (i : ℕ) → times i (name_seats names) ≡ one_if (owner == i) + times i (name_seats (without_name name names))
+record OwnerApart (owners : List Owner) (hand : Hand) (name : List ℕ) (names : List Named) (owner : ℕ) : Type 0 where
+  fit : HandIs owners owner hand
+  others : AllFit owners (seats_as hand (without_name name names))
+  count : (i : ℕ) → times i (seats_as hand names) ≡ one_if (owner == i) + times i (seats_as hand (without_name name names))
 
-owner_apart : (owners : List Owner) (name : List ℕ) (names : List Named) (owner : ℕ) → named_by name names ≤ 1 → AllFit owners (name_seats names) → owner_of name names ≡ Some owner → OwnerApart owners name names owner
-owner_apart owners name [] owner few fits e = absurd (let wrong = e in cc)
-owner_apart owners name (x ∷ names) owner few fits e =
+owner_apart : (owners : List Owner) (hand : Hand) (name : List ℕ) (names : List Named) (owner : ℕ) → named_by name names ≤ 1 → AllFit owners (seats_as hand names) → owner_of name names ≡ Some owner → OwnerApart owners hand name names owner
+owner_apart owners hand name [] owner few fits e = absurd (let wrong = e in cc)
+owner_apart owners hand name (x ∷ names) owner few fits e =
     elim (cases_Bool (bytes_eq x.name name)) [
       | inl same ↦ (
           let found = rw same at e in
@@ -405,10 +641,10 @@ owner_apart owners name (x ∷ names) owner few fits e =
           let none : named_by name names ≡ 0 = omega (arith, few, g) in
           let rest : without_name name (x ∷ names) ≡ names = without_this name x names names same (none_named name names none) in
           record {
-            fit = subst (λ o. HandIs owners o holds) it fits.0;
-            others = subst (λ ns. AllFit owners (name_seats ns)) (sym rest) fits.1;
+            fit = subst (λ o. HandIs owners o hand) it fits.0;
+            others = subst (λ ns. AllFit owners (seats_as hand ns)) (sym rest) fits.1;
             count = λ i. (
-                let a : times i (name_seats (without_name name (x ∷ names))) ≡ times i (name_seats names) = ap (λ ns. times i (name_seats ns)) rest in
+                let a : times i (seats_as hand (without_name name (x ∷ names))) ≡ times i (seats_as hand names) = ap (λ ns. times i (seats_as hand ns)) rest in
                 let b : one_if (x.owner == i) ≡ one_if (owner == i) = ap (λ o. one_if (o == i)) it in
                 omega (arith, a, b)
                 );
@@ -417,13 +653,13 @@ owner_apart owners name (x ∷ names) owner few fits e =
       | inr other ↦ (
           let g : one_if (bytes_eq x.name name) ≡ 0 = rw other refl in
           let there : owner_of name names ≡ Some owner = rw other at e in
-          let more = owner_apart owners name names owner (omega (arith, few, g)) fits.1 there in
+          let more = owner_apart owners hand name names owner (omega (arith, few, g)) fits.1 there in
           let rest : without_name name (x ∷ names) ≡ x ∷ without_name name names = without_other name x names (without_name name names) other refl in
           record {
             fit = more.fit;
-            others = subst (λ ns. AllFit owners (name_seats ns)) (sym rest) (fits.0, more.others);
+            others = subst (λ ns. AllFit owners (seats_as hand ns)) (sym rest) (fits.0, more.others);
             count = λ i. (
-                let a : times i (name_seats (without_name name (x ∷ names))) ≡ one_if (x.owner == i) + times i (name_seats (without_name name names)) = ap (λ ns. times i (name_seats ns)) rest in
+                let a : times i (seats_as hand (without_name name (x ∷ names))) ≡ one_if (x.owner == i) + times i (seats_as hand (without_name name names)) = ap (λ ns. times i (seats_as hand ns)) rest in
                 let b = more.count i in
                 omega (arith, a, b)
                 );
@@ -431,13 +667,14 @@ owner_apart owners name (x ∷ names) owner few fits e =
           )
     ]
 
--- a drop begins: its name is given up
-pub drop_open : (words : Zones) (names : List Named) (kept : List ℕ) (keep : ℕ) (calls : List UnderWay) (name : List ℕ) (owner : ℕ) → owner_of name names ≡ Some owner → Open words names kept keep calls nothing_apart → Open words (without_name name names) kept keep calls (On (phase.Release owner purpose.Drop))
-drop_open words names kept keep calls name owner e o =
-    let kept_ones = kept_left o.from keep kept (any_update calls) in
-    let all = fits_four words.owners [] (name_seats names) kept_ones (call_seats o.last o.from calls) o.seated.fit in
+-- the owner of a name goes to a call's hand
+pub drop_open : (words : Zones) (names weaks : List Named) (store : Store) (calls : List UnderWay) (name : List ℕ) (owner : ℕ) → owner_of name names ≡ Some owner → Open words names weaks store calls nothing_apart → Open words (without_name name names) weaks store calls (On (phase.Release owner purpose.Drop))
+drop_open words names weaks store calls name owner e o =
+    let kept_ones = store_left o.from store (any_update calls) in
+    let all = fits_four words.owners [] (both_seats names weaks) kept_ones (call_seats o.last o.from (stays_of store) calls) o.seated.fit in
     let few : named_by name names ≤ 1 = (let n = o.names_once name in omega (arith, n)) in
-    let apart = owner_apart words.owners name names owner few all.1 e in
+    let apart = owner_apart words.owners holds name names owner few (fit_front words.owners (seats_as holds names) (seats_as weakly weaks) all.1) e in
+    let behind = fit_back words.owners (seats_as holds names) (seats_as weakly weaks) all.1 in
     record {
       cell = o.cell;
       shows = o.shows;
@@ -448,27 +685,69 @@ drop_open words names kept keep calls name owner e o =
       swapped = o.swapped;
       kept_count = o.kept_count;
       kept_from = o.kept_from;
+      shut = o.shut;
       alone = o.alone;
       one = o.one;
       still = tt;
       stills = o.stills;
-      seated = seated_as words.owners _ (seat owner holds ∷ ([] ++ rest_seats o.last o.from (without_name name names) kept keep calls (any_update calls)))
-          (fit_four words.owners (seat owner holds ∷ []) (name_seats (without_name name names)) kept_ones (call_seats o.last o.from calls) (apart.fit, tt) apart.others all.2 all.3)
+      seated = seated_as words.owners _ (seat owner holds ∷ ([] ++ rest_seats o.last o.from (without_name name names) weaks store calls (any_update calls)))
+          (fit_four words.owners (seat owner holds ∷ []) (both_seats (without_name name names) weaks) kept_ones (call_seats o.last o.from (stays_of store) calls) (apart.fit, tt) (fit_append words.owners (seats_as holds (without_name name names)) (seats_as weakly weaks) apart.others behind) all.2 all.3)
           (λ i. (
-          let a = times_four i (seat owner holds ∷ []) (name_seats (without_name name names)) kept_ones (call_seats o.last o.from calls) in
-          let b = times_four i [] (name_seats names) kept_ones (call_seats o.last o.from calls) in
+          let a = times_four i (seat owner holds ∷ []) (both_seats (without_name name names) weaks) kept_ones (call_seats o.last o.from (stays_of store) calls) in
+          let b = times_four i [] (both_seats names weaks) kept_ones (call_seats o.last o.from (stays_of store) calls) in
+          let f = times_append i (seats_as holds names) (seats_as weakly weaks) in
+          let g = times_append i (seats_as holds (without_name name names)) (seats_as weakly weaks) in
           let d = apart.count i in
-          omega (arith, a, b, d)
+          omega (arith, a, b, d, f, g)
           )) o.seated;
       publisher = o.publisher;
       names_once = λ n. (let once = o.names_once n in let less = less_named n name names in omega (arith, once, less));
+      weak_once = o.weak_once;
+      calls_once = o.calls_once;
+    }
+
+pub fade_open : (words : Zones) (names weaks : List Named) (store : Store) (calls : List UnderWay) (name : List ℕ) (owner : ℕ) → owner_of name weaks ≡ Some owner → Open words names weaks store calls nothing_apart → Open words names (without_name name weaks) store calls (On (phase.Fade owner None purpose.Drop))
+fade_open words names weaks store calls name owner e o =
+    let kept_ones = store_left o.from store (any_update calls) in
+    let all = fits_four words.owners [] (both_seats names weaks) kept_ones (call_seats o.last o.from (stays_of store) calls) o.seated.fit in
+    let few : named_by name weaks ≤ 1 = (let n = o.weak_once name in omega (arith, n)) in
+    let apart = owner_apart words.owners weakly name weaks owner few (fit_back words.owners (seats_as holds names) (seats_as weakly weaks) all.1) e in
+    let front = fit_front words.owners (seats_as holds names) (seats_as weakly weaks) all.1 in
+    record {
+      cell = o.cell;
+      shows = o.shows;
+      last = o.last;
+      from = o.from;
+      settled = o.settled;
+      counted = o.counted;
+      swapped = o.swapped;
+      kept_count = o.kept_count;
+      kept_from = o.kept_from;
+      shut = o.shut;
+      alone = o.alone;
+      one = o.one;
+      still = tt;
+      stills = o.stills;
+      seated = seated_as words.owners _ (seat owner weakly ∷ ([] ++ rest_seats o.last o.from names (without_name name weaks) store calls (any_update calls)))
+          (fit_four words.owners (seat owner weakly ∷ []) (both_seats names (without_name name weaks)) kept_ones (call_seats o.last o.from (stays_of store) calls) (apart.fit, tt) (fit_append words.owners (seats_as holds names) (seats_as weakly (without_name name weaks)) front apart.others) all.2 all.3)
+          (λ i. (
+          let a = times_four i (seat owner weakly ∷ []) (both_seats names (without_name name weaks)) kept_ones (call_seats o.last o.from (stays_of store) calls) in
+          let b = times_four i [] (both_seats names weaks) kept_ones (call_seats o.last o.from (stays_of store) calls) in
+          let f = times_append i (seats_as holds names) (seats_as weakly weaks) in
+          let g = times_append i (seats_as holds names) (seats_as weakly (without_name name weaks)) in
+          let d = apart.count i in
+          omega (arith, a, b, d, f, g)
+          )) o.seated;
+      publisher = o.publisher;
+      names_once = o.names_once;
+      weak_once = λ n. (let once = o.weak_once n in let less = less_named n name weaks in omega (arith, once, less));
       calls_once = o.calls_once;
     }
 
 -- an update begins, where none is under way
-pub update_open : (words : Zones) (names : List Named) (kept : List ℕ) (keep : ℕ) (calls : List UnderWay) (head : Heading) (version : Numbered) → any_update calls ≡ false → Open words names kept keep calls nothing_apart
-    → Open words names kept keep calls (On (phase.Probe version (record { heading = head; oldest = oldest_kept keep kept })))
-update_open words names kept keep calls head version none o = record {
+pub update_open : (words : Zones) (names weaks : List Named) (store : Store) (calls : List UnderWay) (version : Numbered) (keeping : Keeping) → AsStays (stays_of store) keeping → any_update calls ≡ false → Open words names weaks store calls nothing_apart
+    → Open words names weaks store calls (On (phase.Probe version keeping))
+update_open words names weaks store calls version keeping is none o = record {
   cell = o.cell;
   shows = o.shows;
   last = o.last;
@@ -478,12 +757,38 @@ update_open words names kept keep calls head version none o = record {
   swapped = o.swapped;
   kept_count = o.kept_count;
   kept_from = o.kept_from;
+  shut = o.shut;
   alone = λ e. none;
   one = o.one;
-  still = refl;
+  still = is;
   stills = o.stills;
-  seated = seated_kept words.owners o.last o.from keep names kept calls (let s = o.seated in rw none at s);
+  seated = subst (λ oldest. Seated words.owners (early_seats o.from (stays_of store) oldest ++ rest_seats o.last o.from names weaks store calls true)) (sym is.0) (seated_kept words.owners o.last o.from names weaks store calls (let s = o.seated in rw none at s));
   publisher = λ e. absurd (let wrong = e in cc);
   names_once = o.names_once;
+  weak_once = o.weak_once;
+  calls_once = o.calls_once;
+}
+
+-- a transfer begins
+pub seek_open : (words : Zones) (names weaks : List Named) (store : Store) (calls : List UnderWay) (owner : ℕ) (sending : Sending) (left : List ℕ) → Open words names weaks store calls nothing_apart → Open words names weaks store calls (On (phase.Seek owner (record { sending = sending; left = left; owners = [] })))
+seek_open words names weaks store calls owner sending left o = record {
+  cell = o.cell;
+  shows = o.shows;
+  last = o.last;
+  from = o.from;
+  settled = o.settled;
+  counted = o.counted;
+  swapped = o.swapped;
+  kept_count = o.kept_count;
+  kept_from = o.kept_from;
+  shut = o.shut;
+  alone = o.alone;
+  one = o.one;
+  still = tt;
+  stills = o.stills;
+  seated = o.seated;
+  publisher = o.publisher;
+  names_once = o.names_once;
+  weak_once = o.weak_once;
   calls_once = o.calls_once;
 }

@@ -7,13 +7,18 @@ use Rattle.std.proofs.lemmas.Option.{slice_get_within}
 use Rattle.cell_core.proofs.CountLemmas.{one_if}
 use Rattle.cell_core.proofs.SeatLemmas.{get_set_same, get_set_other, get_push_old, get_push_new}
 use Rattle.cell_core.specs.declared.words.Owner.{Owner}
-use Rattle.cell_core.specs.declared.words.Owner.TheVariants.{Holding, Burying, Freeing, Spent}
+use Rattle.cell_core.specs.declared.words.Owner.TheVariants.{Holding, Twice, Weakly, Both, Burying, Fading, Resetting, Freeing, Spent}
 
--- what an owner in hand is: it holds a version, or that of a number; it is to bury, or to free
+-- what an owner in hand is: it holds a version, or that of a number; it has one weakly, or, so many in front of a total, that of the number which is
+-- said; it is to bury, to fade, to reset, or to free
 pub data Hand : Type 0 where
   holds : Hand
   has : ℕ → Hand
+  weakly : Hand
+  notes : ℕ → ℕ → ℕ → Hand
   buries : Hand
+  fades : Hand
+  resets : Hand
   frees : Hand
 
 pub record Seat : Type 0 where
@@ -24,6 +29,10 @@ abbrev pub HandIs : List Owner → ℕ → Hand → Type 0
 HandIs owners owner holds = (number : ℕ) × (place : ℕ) × (slice_get owners owner ≡ Some (Holding number place))
 HandIs owners owner (has number) = (place : ℕ) × (slice_get owners owner ≡ Some (Holding number place))
 HandIs owners owner buries = (place : ℕ) × (slice_get owners owner ≡ Some (Burying place))
+HandIs owners owner weakly = (number : ℕ) × (place : ℕ) × (slice_get owners owner ≡ Some (Weakly number place))
+HandIs owners owner (notes said behind total) = (said + behind ≡ total) × (place : ℕ) × (slice_get owners owner ≡ Some (Weakly said place))
+HandIs owners owner fades = (place : ℕ) × (slice_get owners owner ≡ Some (Fading place))
+HandIs owners owner resets = (place : ℕ) × (slice_get owners owner ≡ Some (Resetting place))
 HandIs owners owner frees = (place : ℕ) × (slice_get owners owner ≡ Some (Freeing place))
 
 abbrev pub AllFit : List Owner → List Seat → Type 0
@@ -40,6 +49,11 @@ abbrev pub lives : Option Owner → ℕ
 lives None = 0
 lives (Some (Holding number place)) = 1
 lives (Some (Burying place)) = 1
+lives (Some (Twice number place)) = 1
+lives (Some (Weakly number place)) = 1
+lives (Some (Both number place)) = 1
+lives (Some (Fading place)) = 1
+lives (Some (Resetting place)) = 1
 lives (Some (Freeing place)) = 1
 lives (Some Spent) = 0
 
@@ -73,6 +87,10 @@ hand_still : (old new : List Owner) (owner : ℕ) (hand : Hand) → ((how : Owne
 hand_still old new owner holds same h = (h.0, h.1, same (Holding h.0 h.1) h.2)
 hand_still old new owner (has number) same h = (h.0, same (Holding number h.0) h.1)
 hand_still old new owner buries same h = (h.0, same (Burying h.0) h.1)
+hand_still old new owner weakly same h = (h.0, h.1, same (Weakly h.0 h.1) h.2)
+hand_still old new owner (notes said behind total) same h = (h.0, h.1, same (Weakly said h.1) h.2)
+hand_still old new owner fades same h = (h.0, same (Fading h.0) h.1)
+hand_still old new owner resets same h = (h.0, same (Resetting h.0) h.1)
 hand_still old new owner frees same h = (h.0, same (Freeing h.0) h.1)
 
 self_equal : (i : ℕ) → one_if (i == i) ≡ 1
@@ -87,29 +105,32 @@ fit_still old new (s ∷ ss) same f =
     let one = self_equal s.owner in
     (hand_still old new s.owner s.hand (λ how at. same s.owner how (omega (arith, one)) at) f.0, fit_still old new ss (λ i how some at. same i how (omega (arith, some)) at) f.1)
 
--- one owner more, which holds a version
-lives_push : (owners : List Owner) (number place i : ℕ) → lives (slice_get (owners ++ Holding number place ∷ []) i) ≡ one_if (length owners == i) + lives (slice_get owners i)
-lives_push [] number place zero = refl
-lives_push [] number place (suc i) = let none = other_equal 0 (suc i) (λ e. absurd (omega (arith, e))) in omega (arith, none)
-lives_push (o ∷ owners) number place zero = let none = other_equal (length (o ∷ owners)) 0 (λ e. absurd (omega (arith, e))) in omega (arith, none)
-lives_push (o ∷ owners) number place (suc i) =
-    let more = lives_push owners number place i in
+-- one owner more, which isn't spent
+lives_push : (owners : List Owner) (how : Owner) (i : ℕ) → lives (Some how) ≡ 1 → lives (slice_get (owners ++ how ∷ []) i) ≡ one_if (length owners == i) + lives (slice_get owners i)
+lives_push [] how zero one = omega (arith, one)
+lives_push [] how (suc i) one = let none = other_equal 0 (suc i) (λ e. absurd (omega (arith, e))) in omega (arith, none)
+lives_push (o ∷ owners) how zero one = let none = other_equal (length (o ∷ owners)) 0 (λ e. absurd (omega (arith, e))) in omega (arith, none)
+lives_push (o ∷ owners) how (suc i) one =
+    let more = lives_push owners how i one in
     let same : one_if (length (o ∷ owners) == suc i) ≡ one_if (length owners == i) = elim (eqb_tells (length owners) i) [
       | inl is ↦ (let one = self_equal (suc i) in let e : length (o ∷ owners) ≡ suc i = omega (arith, is.1) in rw (e, is.0) one)
       | inr isnt ↦ (let none = other_equal (length (o ∷ owners)) (suc i) (λ e. isnt.1 (omega (arith, e))) in rw isnt.0 none)
     ] in
     omega (arith, more, same)
 
-pub seated_push : (old new : List Owner) (number place : ℕ) (ss : List Seat) (hand : Hand) → new ≡ old ++ Holding number place ∷ [] → HandIs new (length old) hand → Seated old ss → Seated new (record { owner = length old; hand = hand } ∷ ss)
-seated_push old new number place ss hand is here s = record {
-  fit = (here, fit_still old new ss (λ i how some at. ap (λ (o : List Owner). slice_get o i) is ∙ get_push_old old (Holding number place) how i at) s.fit);
+pub seated_with : (old new : List Owner) (more : Owner) (ss : List Seat) (hand : Hand) → lives (Some more) ≡ 1 → new ≡ old ++ more ∷ [] → HandIs new (length old) hand → Seated old ss → Seated new (record { owner = length old; hand = hand } ∷ ss)
+seated_with old new more ss hand one is here s = record {
+  fit = (here, fit_still old new ss (λ i how some at. ap (λ (o : List Owner). slice_get o i) is ∙ get_push_old old more how i at) s.fit);
   exact = λ i. (
-      let there = lives_push old number place i in
+      let there = lives_push old more i one in
       let before = s.exact i in
-      let e : lives (slice_get new i) ≡ lives (slice_get (old ++ Holding number place ∷ []) i) = ap (λ (o : List Owner). lives (slice_get o i)) is in
+      let e : lives (slice_get new i) ≡ lives (slice_get (old ++ more ∷ []) i) = ap (λ (o : List Owner). lives (slice_get o i)) is in
       omega (arith, there, before, e)
       );
 }
+
+pub seated_push : (old new : List Owner) (number place : ℕ) (ss : List Seat) (hand : Hand) → new ≡ old ++ Holding number place ∷ [] → HandIs new (length old) hand → Seated old ss → Seated new (record { owner = length old; hand = hand } ∷ ss)
+seated_push old new number place ss hand is here s = seated_with old new (Holding number place) ss hand refl is here s
 
 pub push_there : (old new : List Owner) (number place : ℕ) → new ≡ old ++ Holding number place ∷ [] → slice_get new (length old) ≡ Some (Holding number place)
 push_there old new number place is = ap (λ (o : List Owner). slice_get o (length old)) is ∙ get_push_new old (Holding number place) (length old) refl
@@ -179,6 +200,25 @@ seated_next old new owner hand later ss how next one two at is then s =
 -- the first two of those in hand the other way round
 pub seated_swap : (owners : List Owner) (a b : Seat) (ss : List Seat) → Seated owners (a ∷ b ∷ ss) → Seated owners (b ∷ a ∷ ss)
 seated_swap owners a b ss s = record { fit = (s.fit.1.0, (s.fit.0, s.fit.1.1)); exact = λ i. (let all = s.exact i in omega (arith, all)) }
+
+-- one of those in hand goes in front of others, and back
+moved_times : (i : ℕ) (front : List Seat) (x : Seat) (back rest : List Seat) → times i ((front ++ (x ∷ back)) ++ rest) ≡ times i (((x ∷ front) ++ back) ++ rest)
+moved_times i [] x back rest = refl
+moved_times i (s ∷ front) x back rest = let more = moved_times i front x back rest in omega (arith, more)
+
+moved_fits : (owners : List Owner) (front : List Seat) (x : Seat) (back rest : List Seat) → AllFit owners ((front ++ (x ∷ back)) ++ rest) → AllFit owners (((x ∷ front) ++ back) ++ rest)
+moved_fits owners [] x back rest f = f
+moved_fits owners (s ∷ front) x back rest f = let more = moved_fits owners front x back rest f.1 in (more.0, (f.0, more.1))
+
+put_fits : (owners : List Owner) (front : List Seat) (x : Seat) (back rest : List Seat) → AllFit owners (((x ∷ front) ++ back) ++ rest) → AllFit owners ((front ++ (x ∷ back)) ++ rest)
+put_fits owners [] x back rest f = f
+put_fits owners (s ∷ front) x back rest f = (f.1.0, put_fits owners front x back rest (f.0, f.1.1))
+
+pub seated_moved : (owners : List Owner) (front : List Seat) (x : Seat) (back rest : List Seat) → Seated owners ((front ++ (x ∷ back)) ++ rest) → Seated owners (((x ∷ front) ++ back) ++ rest)
+seated_moved owners front x back rest s = seated_as owners ((front ++ (x ∷ back)) ++ rest) (((x ∷ front) ++ back) ++ rest) (moved_fits owners front x back rest s.fit) (λ i. sym (moved_times i front x back rest)) s
+
+pub seated_put : (owners : List Owner) (front : List Seat) (x : Seat) (back rest : List Seat) → Seated owners (((x ∷ front) ++ back) ++ rest) → Seated owners ((front ++ (x ∷ back)) ++ rest)
+seated_put owners front x back rest s = seated_as owners (((x ∷ front) ++ back) ++ rest) ((front ++ (x ∷ back)) ++ rest) (put_fits owners front x back rest s.fit) (λ i. moved_times i front x back rest) s
 
 pub seated_where : (old new : List Owner) (ss : List Seat) → new ≡ old → Seated old ss → Seated new ss
 seated_where old new ss is s = subst (λ o. Seated o ss) (sym is) s

@@ -1,165 +1,37 @@
 -- The owners that a call has in hand, from step to step.
-use Rattle.std.proofs.Common.{◌≡◌, refl, sym, ap, subst, ℕ, ◌+◌, Bool, true, false, inl, inr, List, [], ◌∷◌, ◌++◌, length, arith, Option, Some, None}
-use Rattle.std.specs.Prelude.{◌==◌, bytes_eq}
+use Rattle.std.proofs.Common.{◌≡◌, refl, sym, ap, ◌∙◌, subst, ℕ, ◌+◌, Bool, true, false, inl, inr, List, [], ◌∷◌, ◌++◌, length, drop, arith, Option, Some, None}
+use Rattle.std.specs.Prelude.{◌==◌, is_some, nat_lt, if◌then◌else◌}
 use Rattle.std.specs.List.{slice_get}
 use Rattle.std.proofs.lemmas.Bool.{cases_Bool}
 use Rattle.cell_core.proofs.CountLemmas.{one_if}
-use Rattle.cell_core.specs.Words.{State, slots, free_word, fetch_sub, slot_of, number_in}
+use Rattle.cell_core.proofs.SeatLemmas.{get_push_new}
+use Rattle.cell_core.specs.Words.{slots, free_word, dead_word, fetch_sub, found_by, slot_of, number_in}
 use Rattle.cell_core.specs.WordSteps.{Makes}
-use Rattle.cell_core.specs.declared.words.Owner.TheVariants.{Holding, Burying, Freeing}
-use Rattle.cell_core.specs.declared.words.Publisher.TheVariants.{Probing}
+use Rattle.cell_core.specs.declared.words.Owner.{Owner}
+use Rattle.cell_core.specs.declared.words.Owner.TheVariants.{Holding, Weakly, Burying, Fading, Resetting, Freeing}
 use Rattle.cell_core.specs.declared.words.WordEvent.{WordEvent}
 use Rattle.cell_core.specs.declared.words.WordStep.TheVariants as word
+use Rattle.serve_core.specs.declared.heading.Heading.{Heading}
 use Rattle.world_run.specs.declared.phase.Keeping.{Keeping}
 use Rattle.world_run.specs.declared.phase.Phase.{Phase}
 use Rattle.world_run.specs.declared.phase.Phase.TheVariants as phase
 use Rattle.world_run.specs.declared.phase.Purpose.{Purpose}
 use Rattle.world_run.specs.declared.phase.Purpose.TheVariants as purpose
-use Rattle.world_run.specs.declared.phase.End.{End}
-use Rattle.world_run.specs.declared.phase.End.TheVariants.{Owned, Told, NoSlot, Kept}
+use Rattle.world_run.specs.declared.entries.Entry.{Entry}
+use Rattle.world_run.specs.declared.sending.Seeking.{Seeking}
+use Rattle.world_run.specs.declared.sending.Sending.{Sending}
+use Rattle.dns_rdata.specs.declared.numbers.Serial.{Serial}
+use Rattle.transfer_core.specs.Window.{fits}
+use Rattle.world_run.specs.Entries.{serials_in, leaving, leaving_for}
 use Rattle.world_run.specs.declared.phase.Progress.{Progress}
-use Rattle.world_run.specs.declared.phase.Progress.TheVariants.{On, Done}
+use Rattle.world_run.specs.declared.phase.Progress.TheVariants.{On}
 use Rattle.world_run.specs.declared.step.Answer.{Answer}
 use Rattle.world_run.specs.declared.step.Answer.TheVariants as answer
 use Rattle.zone_tree.specs.Version.{Version as Numbered}
-use Rattle.world_run.specs.Phases.{word_step, after, past, oldest_after, reserves, is_for_update, updates}
-use Rattle.world_laws.proofs.HandLemmas.{Hand, Seat, Seated, seated_push, push_there, seated_spent, seated_next, seated_swap, seated_where}
-use Rattle.world_laws.proofs.HandLemmas.Hand.{holds, has, buries, frees}
-
-abbrev pub Zones : Type 0
-Zones = State Numbered
-
-abbrev pub seat : ℕ → Hand → Seat
-seat owner hand = record { owner = owner; hand = hand }
-
--- the oldest version that is kept, where it is to be given up, in an update's hand
-abbrev pub oldest_seats : ℕ → Option ℕ → List Seat
-oldest_seats before None = []
-oldest_seats before (Some owner) = seat owner (has before) ∷ []
-
-abbrev pub for_seats : ℕ → ℕ → Purpose → List Seat
-for_seats last before purpose.Drop = []
-for_seats last before (purpose.Publish keeping kept) = seat kept (has last) ∷ oldest_seats before keeping.oldest
-for_seats last before (purpose.Oldest head kept) = seat kept (has last) ∷ []
-
-abbrev pub phase_seats : ℕ → ℕ → Phase → List Seat
-phase_seats last before (phase.Load name) = []
-phase_seats last before (phase.Probe version keeping) = oldest_seats before keeping.oldest
-phase_seats last before (phase.Prepare version keeping) = oldest_seats before keeping.oldest
-phase_seats last before (phase.Swap keeping) = oldest_seats before keeping.oldest
-phase_seats last before (phase.Settle keeping) = oldest_seats before keeping.oldest
-phase_seats last before (phase.Keep given keeping) = seat given holds ∷ oldest_seats before keeping.oldest
-phase_seats last before (phase.Release owner for) = seat owner holds ∷ for_seats last before for
-phase_seats last before (phase.Bury owner for) = seat owner buries ∷ for_seats last before for
-phase_seats last before (phase.Free owner number for) = seat owner frees ∷ for_seats last before for
-
-abbrev pub end_seats : ℕ → ℕ → Option ℕ → End → List Seat
-end_seats last before oldest (Owned name owner number) = seat owner holds ∷ []
-end_seats last before oldest (Told answer) = []
-end_seats last before oldest (NoSlot head) = oldest_seats before oldest
-end_seats last before oldest (Kept head owner) = seat owner (has last) ∷ []
-
-abbrev pub hand_seats : ℕ → ℕ → Option ℕ → Progress → List Seat
-hand_seats last before oldest (On at) = phase_seats last before at
-hand_seats last before oldest (Done end) = end_seats last before oldest end
-
--- an update that is to give up the oldest version gives up this one
-abbrev pub OldestFor : Option ℕ → Purpose → Type 0
-OldestFor oldest purpose.Drop = Unit {0}
-OldestFor oldest (purpose.Publish keeping kept) = keeping.oldest ≡ oldest
-OldestFor oldest (purpose.Oldest head kept) = Unit {0}
-
-abbrev pub OldestIn : Option ℕ → Phase → Type 0
-OldestIn oldest (phase.Load name) = Unit {0}
-OldestIn oldest (phase.Probe version keeping) = keeping.oldest ≡ oldest
-OldestIn oldest (phase.Prepare version keeping) = keeping.oldest ≡ oldest
-OldestIn oldest (phase.Swap keeping) = keeping.oldest ≡ oldest
-OldestIn oldest (phase.Settle keeping) = keeping.oldest ≡ oldest
-OldestIn oldest (phase.Keep given keeping) = keeping.oldest ≡ oldest
-OldestIn oldest (phase.Release owner for) = OldestFor oldest for
-OldestIn oldest (phase.Bury owner for) = OldestFor oldest for
-OldestIn oldest (phase.Free owner number for) = OldestFor oldest for
-
-abbrev pub OldestAt : Option ℕ → Progress → Type 0
-OldestAt oldest (On at) = OldestIn oldest at
-OldestAt oldest (Done end) = Unit {0}
-
--- whether an update has made its swap
-abbrev pub swapped_for : Purpose → ℕ
-swapped_for purpose.Drop = 0
-swapped_for (purpose.Publish keeping kept) = 1
-swapped_for (purpose.Oldest head kept) = 1
-
-abbrev pub swapped_in : Phase → ℕ
-swapped_in (phase.Load name) = 0
-swapped_in (phase.Probe version keeping) = 0
-swapped_in (phase.Prepare version keeping) = 0
-swapped_in (phase.Swap keeping) = 0
-swapped_in (phase.Settle keeping) = 1
-swapped_in (phase.Keep given keeping) = 1
-swapped_in (phase.Release owner for) = swapped_for for
-swapped_in (phase.Bury owner for) = swapped_for for
-swapped_in (phase.Free owner number for) = swapped_for for
-
-abbrev pub swapped_at : Progress → ℕ
-swapped_at (On at) = swapped_in at
-swapped_at (Done (Owned name owner number)) = 0
-swapped_at (Done (Told answer)) = 0
-swapped_at (Done (NoSlot head)) = 0
-swapped_at (Done (Kept head owner)) = 1
-
--- whether it makes it by this step
-abbrev pub swaps_now : Phase → ℕ
-swaps_now (phase.Load name) = 0
-swaps_now (phase.Probe version keeping) = 0
-swaps_now (phase.Prepare version keeping) = 0
-swaps_now (phase.Swap keeping) = 1
-swaps_now (phase.Settle keeping) = 0
-swaps_now (phase.Keep given keeping) = 0
-swaps_now (phase.Release owner for) = 0
-swaps_now (phase.Bury owner for) = 0
-swaps_now (phase.Free owner number for) = 0
-
--- whether a call takes the publisher's steps
-abbrev pub publishes_in : Phase → Bool
-publishes_in (phase.Load name) = false
-publishes_in (phase.Probe version keeping) = true
-publishes_in (phase.Prepare version keeping) = true
-publishes_in (phase.Swap keeping) = true
-publishes_in (phase.Settle keeping) = true
-publishes_in (phase.Keep given keeping) = false
-publishes_in (phase.Release owner for) = false
-publishes_in (phase.Bury owner for) = false
-publishes_in (phase.Free owner number for) = false
-
-abbrev pub publishes_at : Progress → Bool
-publishes_at (On at) = publishes_in at
-publishes_at (Done end) = false
-
--- whether a call is to put a name into use, or has just brought an owner for it
-abbrev pub reserved_at : List ℕ → Progress → ℕ
-reserved_at name (On at) = one_if (reserves name at)
-reserved_at name (Done (Owned other owner number)) = one_if (bytes_eq other name)
-reserved_at name (Done (Told answer)) = 0
-reserved_at name (Done (NoSlot head)) = 0
-reserved_at name (Done (Kept head owner)) = 0
-
--- whether a call is an update, up to its end
-abbrev pub updates_at : Progress → Bool
-updates_at (On at) = updates at
-updates_at (Done (Owned name owner number)) = false
-updates_at (Done (Told answer)) = false
-updates_at (Done (NoSlot head)) = true
-updates_at (Done (Kept head owner)) = true
-
--- what a step of a call makes of what it has in hand, beside others
-pub record Went (old new : Zones) (at : Phase) (progress : Progress) (last before : ℕ) (oldest : Option ℕ) (rest : List Seat) : Type 0 where
-  pub seated : Seated new.owners (hand_seats last before oldest progress ++ rest)
-  pub still : OldestAt oldest progress
-  pub swapped : swapped_at progress ≡ swapped_in at + swaps_now at
-  pub publisher : publishes_at progress ≡ false → (publishes_in at ≡ true → new.publisher ≡ Probing 0) × (publishes_in at ≡ false → new.publisher ≡ old.publisher)
-  pub names : (name : List ℕ) → reserved_at name progress ≡ one_if (reserves name at)
-  pub update : updates_at progress ≡ updates at
+use Rattle.world_run.specs.Phases.{word_step, after, past, gone, leaving_after, oldest_after, sent_after, entry_of, completed, with_got, gained_after, got_after, is_for_update, updates}
+use Rattle.world_laws.proofs.HandLemmas.{Hand, Seat, HandIs, AllFit, Seated, times, times_append, fit_append, fit_front, fit_back, lives, seated_as, seated_with, seated_push, push_there, seated_spent, seated_next, seated_swap, seated_moved, seated_put, seated_where}
+use Rattle.world_laws.proofs.HandLemmas.Hand.{holds, has, weakly, notes, buries, fades, resets, frees}
+use Rattle.world_laws.proofs.HandSeats.{AsStays, Stays, StaysAt, StaysFor, StaysIn, Went, Zones, early_seats, entry_seats, for_seats, hand_seats, holding_seats, late_seats, phase_seats, publishes_at, publishes_in, reserved_at, seat, serial_of_entry, staying, swapped_at, swapped_for, swapped_in, swaps_now, updates_at, weak_reserved_at, weak_seats, window_seats, EntersIf}
 
 no_true : true ≡ false → ⊥
 no_true e = let wrong = e in cc
@@ -168,214 +40,589 @@ no_false : false ≡ true → ⊥
 no_false e = let wrong = e in cc
 
 -- what follows where an owner is gone
-record Passed (new : Zones) (for : Purpose) (progress : Progress) (last before : ℕ) (oldest : Option ℕ) (rest : List Seat) : Type 0 where
-  seated : Seated new.owners (hand_seats last before oldest progress ++ rest)
-  still : OldestAt oldest progress
+record Passed (new : Zones) (for : Purpose) (progress : Progress) (last before : ℕ) (stays : Stays) (rest : List Seat) : Type 0 where
+  seated : Seated new.owners (hand_seats last before stays progress ++ rest)
+  still : StaysAt stays progress
   swapped : swapped_at progress ≡ swapped_for for
   publishes : publishes_at progress ≡ false
   names : (name : List ℕ) → reserved_at name progress ≡ 0
+  weak_names : (name : List ℕ) → weak_reserved_at name progress ≡ 0
   update : updates_at progress ≡ is_for_update for
 
-publish_passed : (new : Zones) (keeping : Keeping) (kept last before : ℕ) (own oldest : Option ℕ) (rest : List Seat) → Seated new.owners (seat kept (has last) ∷ (oldest_seats before own ++ rest)) → Passed new (purpose.Publish keeping kept) (oldest_after keeping.heading kept own) last before oldest rest
-publish_passed new keeping kept last before None oldest rest s = record { seated = s; still = tt; swapped = refl; publishes = refl; names = λ name. refl; update = refl }
-publish_passed new keeping kept last before (Some owner) oldest rest s =
-    let t = seated_swap new.owners (seat kept (has last)) (seat owner (has before)) rest s in
+leaving_passed : (new : Zones) (head : Heading) (kept last before : ℕ) (entry : Option Entry) (leaving : List ℕ) (stays : Stays) (rest : List Seat) → EntersIf stays (is_some entry) → Seated new.owners ((seat kept (has last) ∷ late_seats last before stays entry leaving) ++ rest)
+    → Passed new (purpose.Leaves head kept entry leaving) (leaving_after head kept entry leaving) last before stays rest
+leaving_passed new head kept last before entry [] stays rest shut s = record { seated = s; still = shut; swapped = refl; publishes = refl; names = λ name. refl; weak_names = λ name. refl; update = refl }
+leaving_passed new head kept last before entry (owner ∷ leaving) stays rest shut s = record {
+  seated = seated_moved new.owners (seat kept (has last) ∷ entry_seats last entry) (seat owner weakly) (weak_seats leaving ++ window_seats (before + stays.count) (staying stays (serial_of_entry entry))) rest s;
+  still = shut;
+  swapped = refl;
+  publishes = refl;
+  names = λ name. refl;
+  weak_names = λ name. refl;
+  update = refl;
+}
+
+-- what is in hand of the window behind a publication is what leaves it and what stays
+abbrev parts_seats : ℕ → List ℕ → List Entry → List Seat
+parts_seats total leaving entries = weak_seats leaving ++ window_seats total (drop (length leaving) entries)
+
+split_times : (i total window : ℕ) (entries : List Entry) (serial : ℕ) → times i (parts_seats total (leaving window entries serial) entries) ≡ times i (window_seats total entries)
+split_times i total window [] serial = refl
+split_times i total window (entry ∷ entries) serial =
+    elim (cases_Bool (fits window (serials_in (entry ∷ entries) ++ serial ∷ []))) [
+      | inl all ↦ rw all refl
+      | inr some ↦ rw some (let more = split_times i total window entries serial in omega (arith, more))
+    ]
+
+split_fits : (owners : List Owner) (total window : ℕ) (entries : List Entry) (serial : ℕ) → AllFit owners (window_seats total entries) → AllFit owners (parts_seats total (leaving window entries serial) entries)
+split_fits owners total window [] serial f = tt
+split_fits owners total window (entry ∷ entries) serial f =
+    elim (cases_Bool (fits window (serials_in (entry ∷ entries) ++ serial ∷ []))) [
+      | inl all ↦ rw all f
+      | inr some ↦ rw some ((entry.number, f.0.1, f.0.2), split_fits owners total window entries serial f.1)
+    ]
+
+abbrev apart_seats : ℕ → Stays → Option Serial → List Seat
+apart_seats total stays serial = weak_seats (leaving_for stays.window stays.entries serial) ++ window_seats total (staying stays serial)
+
+apart_times : (i total : ℕ) (stays : Stays) (serial : Option Serial) → times i (apart_seats total stays serial) ≡ times i (window_seats total stays.entries)
+apart_times i total stays None = refl
+apart_times i total stays (Some serial) = split_times i total stays.window stays.entries serial.0
+
+apart_fits : (owners : List Owner) (total : ℕ) (stays : Stays) (serial : Option Serial) → AllFit owners (window_seats total stays.entries) → AllFit owners (apart_seats total stays serial)
+apart_fits owners total stays None f = f
+apart_fits owners total stays (Some serial) f = split_fits owners total stays.window stays.entries serial.0 f
+
+-- so that those in front of what leaves keep their places
+window_apart : (owners : List Owner) (front : List Seat) (total : ℕ) (stays : Stays) (serial : Option Serial) (leaving : List ℕ) (rest : List Seat) → leaving ≡ leaving_for stays.window stays.entries serial
+    → Seated owners ((front ++ window_seats total stays.entries) ++ rest) → Seated owners ((front ++ (weak_seats leaving ++ window_seats total (staying stays serial))) ++ rest)
+window_apart owners front total stays serial leaving rest is s =
+    let mine = window_seats total stays.entries in
+    let apart = apart_seats total stays serial in
+    let whole = fit_front owners (front ++ mine) rest s.fit in
+    subst (λ ls. Seated owners ((front ++ (weak_seats ls ++ window_seats total (staying stays serial))) ++ rest)) (sym is)
+    (seated_as owners ((front ++ mine) ++ rest) ((front ++ apart) ++ rest)
+    (fit_append owners (front ++ apart) rest (fit_append owners front apart (fit_front owners front mine whole) (apart_fits owners total stays serial (fit_back owners front mine whole))) (fit_back owners (front ++ mine) rest s.fit))
+    (λ i. (
+    let a = times_append i (front ++ apart) rest in
+    let b = times_append i (front ++ mine) rest in
+    let c = times_append i front apart in
+    let d = times_append i front mine in
+    let e = apart_times i total stays serial in
+    omega (arith, a, b, c, d, e)
+    )) s)
+
+publish_passed : (new : Zones) (keeping : Keeping) (kept last before : ℕ) (entry : Option Entry) (own : Option ℕ) (stays : Stays) (rest : List Seat) → keeping.leaving ≡ leaving_for stays.window stays.entries (serial_of_entry entry) → EntersIf stays (is_some entry)
+    → Seated new.owners ((seat kept (has last) ∷ (entry_seats last entry ++ early_seats before stays own)) ++ rest) → Passed new (purpose.Publish keeping kept entry) (oldest_after keeping.heading kept entry keeping.leaving own) last before stays rest
+publish_passed new keeping kept last before entry None stays rest is shut s =
+    let p = leaving_passed new keeping.heading kept last before entry keeping.leaving stays rest shut
+    (window_apart new.owners (seat kept (has last) ∷ entry_seats last entry) (before + stays.count) stays (serial_of_entry entry) keeping.leaving rest is s) in
+    record { seated = p.seated; still = p.still; swapped = p.swapped; publishes = p.publishes; names = p.names; weak_names = p.weak_names; update = p.update }
+publish_passed new keeping kept last before entry (Some owner) stays rest is shut s =
+    let moved = seated_moved new.owners (seat kept (has last) ∷ entry_seats last entry) (seat owner (has before)) (window_seats (before + stays.count) stays.entries) rest s in
+    let t = window_apart new.owners (seat owner (has before) ∷ (seat kept (has last) ∷ entry_seats last entry)) (before + stays.count) stays (serial_of_entry entry) keeping.leaving rest is moved in
     record {
       seated = record { fit = ((before, t.fit.0.0, t.fit.0.1), t.fit.1); exact = t.exact };
-      still = tt;
+      still = shut;
       swapped = refl;
       publishes = refl;
       names = λ name. refl;
+      weak_names = λ name. refl;
       update = refl;
     }
 
-passed : (new : Zones) (for : Purpose) (given : Answer) (last before : ℕ) (oldest : Option ℕ) (rest : List Seat) → Seated new.owners (for_seats last before for ++ rest) → Passed new for (past for given) last before oldest rest
-passed new purpose.Drop given last before oldest rest s = record { seated = s; still = tt; swapped = refl; publishes = refl; names = λ name. refl; update = refl }
-passed new (purpose.Publish keeping kept) given last before oldest rest s = publish_passed new keeping kept last before keeping.oldest oldest rest s
-passed new (purpose.Oldest head kept) given last before oldest rest s = record { seated = s; still = tt; swapped = refl; publishes = refl; names = λ name. refl; update = refl }
+-- an entry is made where one is due
+shut_as : (stays : Stays) (entry : Option Entry) (enters : Option Serial) → serial_of_entry entry ≡ enters → EntersIf stays (is_some enters) → EntersIf stays (is_some entry)
+shut_as stays None enters is shut = ap (λ (o : Option Serial). is_some o) is ∙ shut
+shut_as stays (Some entry) enters is shut = ap (λ (o : Option Serial). is_some o) is ∙ shut
 
-release_past : (old new : Zones) (owner : ℕ) (for : Purpose) (given : Answer) (last before : ℕ) (oldest : Option ℕ) (rest : List Seat) → new.publisher ≡ old.publisher → Seated new.owners (for_seats last before for ++ rest) → Went old new (phase.Release owner for) (past for given) last before oldest rest
-release_past old new owner for given last before oldest rest same s =
-    let p = passed new for given last before oldest rest s in
-    record { seated = p.seated; still = p.still; swapped = omega (arith, p.swapped); publisher = λ e. ((λ t. absurd (no_false t)), (λ t. same)); names = p.names; update = p.update }
+sent_passed : (new : Zones) (sending : Sending) (owners : List ℕ) (last before : ℕ) (stays : Stays) (rest : List Seat) → Seated new.owners (holding_seats owners ++ rest) → Passed new (purpose.Sent sending owners) (sent_after sending owners) last before stays rest
+sent_passed new sending [] last before stays rest s = record { seated = s; still = tt; swapped = refl; publishes = refl; names = λ name. refl; weak_names = λ name. refl; update = refl }
+sent_passed new sending (owner ∷ owners) last before stays rest s = record { seated = s; still = tt; swapped = refl; publishes = refl; names = λ name. refl; weak_names = λ name. refl; update = refl }
 
-bury_past : (old new : Zones) (owner : ℕ) (for : Purpose) (given : Answer) (last before : ℕ) (oldest : Option ℕ) (rest : List Seat) → new.publisher ≡ old.publisher → Seated new.owners (for_seats last before for ++ rest) → Went old new (phase.Bury owner for) (past for given) last before oldest rest
-bury_past old new owner for given last before oldest rest same s =
-    let p = passed new for given last before oldest rest s in
-    record { seated = p.seated; still = p.still; swapped = omega (arith, p.swapped); publisher = λ e. ((λ t. absurd (no_false t)), (λ t. same)); names = p.names; update = p.update }
+passed : (new : Zones) (for : Purpose) (given : Answer) (last before : ℕ) (stays : Stays) (rest : List Seat) → StaysFor stays for → Seated new.owners (for_seats last before stays for ++ rest) → Passed new for (past for given) last before stays rest
+passed new purpose.Drop given last before stays rest is s = record { seated = s; still = tt; swapped = refl; publishes = refl; names = λ name. refl; weak_names = λ name. refl; update = refl }
+passed new (purpose.Publish keeping kept entry) given last before stays rest is s = publish_passed new keeping kept last before entry keeping.oldest stays rest (is.0.1 ∙ ap (leaving_for stays.window stays.entries) (sym is.1)) (shut_as stays entry keeping.enters is.1 is.0.2) s
+passed new (purpose.Oldest head kept entry leaving) given last before stays rest is s =
+    let p = leaving_passed new head kept last before entry leaving stays rest is s in
+    record { seated = p.seated; still = p.still; swapped = p.swapped; publishes = p.publishes; names = p.names; weak_names = p.weak_names; update = p.update }
+passed new (purpose.Leaves head kept entry leaving) given last before stays rest is s = leaving_passed new head kept last before entry leaving stays rest is s
+passed new (purpose.Sent sending owners) given last before stays rest is s = sent_passed new sending owners last before stays rest s
 
-release_went : (old new : Zones) (owner : ℕ) (for : Purpose) (event : WordEvent) (last before : ℕ) (oldest : Option ℕ) (rest : List Seat) → OldestFor oldest for → Makes {T = Numbered} old (word.Release owner) event new → Seated old.owners (seat owner holds ∷ (for_seats last before for ++ rest))
-    → Went old new (phase.Release owner for) (after (phase.Release owner for) event) last before oldest rest
-release_went old new owner for event last before oldest rest is (number, place, there, at, found, m) s =
+release_past : (old new : Zones) (owner : ℕ) (for : Purpose) (given : Answer) (last before : ℕ) (stays : Stays) (rest : List Seat) → StaysFor stays for → new.publisher ≡ old.publisher → Seated new.owners (for_seats last before stays for ++ rest) → Went old new (phase.Release owner for) (past for given) last before stays rest
+release_past old new owner for given last before stays rest is same s =
+    let p = passed new for given last before stays rest is s in
+    record { seated = p.seated; still = p.still; swapped = omega (arith, p.swapped); publisher = λ e. ((λ t. absurd (no_false t)), (λ t. same)); names = λ name. (let n = p.names name in omega (arith, n)); weak_names = λ name. (let n = p.weak_names name in omega (arith, n)); update = p.update }
+
+bury_past : (old new : Zones) (owner : ℕ) (for : Purpose) (given : Answer) (last before : ℕ) (stays : Stays) (rest : List Seat) → StaysFor stays for → new.publisher ≡ old.publisher → Seated new.owners (for_seats last before stays for ++ rest) → Went old new (phase.Bury owner for) (past for given) last before stays rest
+bury_past old new owner for given last before stays rest is same s =
+    let p = passed new for given last before stays rest is s in
+    record { seated = p.seated; still = p.still; swapped = omega (arith, p.swapped); publisher = λ e. ((λ t. absurd (no_false t)), (λ t. same)); names = λ name. (let n = p.names name in omega (arith, n)); weak_names = λ name. (let n = p.weak_names name in omega (arith, n)); update = p.update }
+
+release_went : (old new : Zones) (owner : ℕ) (for : Purpose) (event : WordEvent) (last before : ℕ) (stays : Stays) (rest : List Seat) → StaysFor stays for → Makes {T = Numbered} old (word.Release owner) event new → Seated old.owners (seat owner holds ∷ (for_seats last before stays for ++ rest))
+    → Went old new (phase.Release owner for) (after new (phase.Release owner for) event) last before stays rest
+release_went old new owner for event last before stays rest is (number, place, there, at, found, m) s =
     elim (cases_Bool (fetch_sub there.shares 1 == 0)) [
       | inl none ↦ (
           let h = rw none at m in
           let owners_are = ap (λ (w : Zones). w.owners) h.1 in
-          subst (λ e. Went old new (phase.Release owner for) (after (phase.Release owner for) e) last before oldest rest) (sym h.0) (record {
-            seated = seated_next old.owners new.owners owner holds buries (for_seats last before for ++ rest) (Holding number place) (Burying place) refl refl at owners_are (λ e. (place, e)) s;
+          subst (λ e. Went old new (phase.Release owner for) (after new (phase.Release owner for) e) last before stays rest) (sym h.0) (record {
+            seated = seated_next old.owners new.owners owner holds buries (for_seats last before stays for ++ rest) (Holding number place) (Burying place) refl refl at owners_are (λ e. (place, e)) s;
             still = is;
             swapped = omega arith;
             publisher = λ e. ((λ t. absurd (no_false t)), (λ t. ap (λ (w : Zones). w.publisher) h.1));
-            names = λ name. refl;
+            names = λ name. omega arith;
+            weak_names = λ name. omega arith;
             update = refl;
           })
           )
       | inr some ↦ (
           let h = rw some at m in
           let owners_are = ap (λ (w : Zones). w.owners) h.1 in
-          subst (λ e. Went old new (phase.Release owner for) (after (phase.Release owner for) e) last before oldest rest) (sym h.0)
-          (release_past old new owner for answer.Left last before oldest rest (ap (λ (w : Zones). w.publisher) h.1)
-          (seated_spent old.owners new.owners owner holds (for_seats last before for ++ rest) (Holding number place) refl at owners_are s))
+          subst (λ e. Went old new (phase.Release owner for) (after new (phase.Release owner for) e) last before stays rest) (sym h.0)
+          (release_past old new owner for answer.Left last before stays rest is (ap (λ (w : Zones). w.publisher) h.1)
+          (seated_spent old.owners new.owners owner holds (for_seats last before stays for ++ rest) (Holding number place) refl at owners_are s))
           )
     ]
 
-bury_went : (old new : Zones) (owner : ℕ) (for : Purpose) (event : WordEvent) (last before : ℕ) (oldest : Option ℕ) (rest : List Seat) → OldestFor oldest for → Makes {T = Numbered} old (word.Bury owner) event new → Seated old.owners (seat owner buries ∷ (for_seats last before for ++ rest))
-    → Went old new (phase.Bury owner for) (after (phase.Bury owner for) event) last before oldest rest
-bury_went old new owner for event last before oldest rest is (place, there, at, found, m) s =
+bury_went : (old new : Zones) (owner : ℕ) (for : Purpose) (event : WordEvent) (last before : ℕ) (stays : Stays) (rest : List Seat) → StaysFor stays for → Makes {T = Numbered} old (word.Bury owner) event new → Seated old.owners (seat owner buries ∷ (for_seats last before stays for ++ rest))
+    → Went old new (phase.Bury owner for) (after new (phase.Bury owner for) event) last before stays rest
+bury_went old new owner for event last before stays rest is (place, there, at, found, m) s =
     elim (cases_Bool (there.shares == 0)) [
       | inl none ↦ (
           let h = rw none at m in
           let owners_are = ap (λ (w : Zones). w.owners) h.3 in
-          subst (λ e. Went old new (phase.Bury owner for) (after (phase.Bury owner for) e) last before oldest rest) (sym h.2) (record {
-            seated = seated_next old.owners new.owners owner buries frees (for_seats last before for ++ rest) (Burying place) (Freeing place) refl refl at owners_are (λ e. (place, e)) s;
+          subst (λ e. Went old new (phase.Bury owner for) (after new (phase.Bury owner for) e) last before stays rest) (sym h.2) (record {
+            seated = seated_next old.owners new.owners owner buries fades (for_seats last before stays for ++ rest) (Burying place) (Fading place) refl refl at owners_are (λ e. (place, e)) s;
             still = is;
             swapped = omega arith;
             publisher = λ e. ((λ t. absurd (no_false t)), (λ t. ap (λ (w : Zones). w.publisher) h.3));
-            names = λ name. refl;
+            names = λ name. omega arith;
+            weak_names = λ name. omega arith;
             update = refl;
           })
           )
       | inr some ↦ (
           let h = rw some at m in
           let owners_are = ap (λ (w : Zones). w.owners) h.1 in
-          subst (λ e. Went old new (phase.Bury owner for) (after (phase.Bury owner for) e) last before oldest rest) (sym h.0)
-          (bury_past old new owner for answer.Left last before oldest rest (ap (λ (w : Zones). w.publisher) h.1)
-          (seated_spent old.owners new.owners owner buries (for_seats last before for ++ rest) (Burying place) refl at owners_are s))
+          subst (λ e. Went old new (phase.Bury owner for) (after new (phase.Bury owner for) e) last before stays rest) (sym h.0)
+          (bury_past old new owner for answer.Left last before stays rest is (ap (λ (w : Zones). w.publisher) h.1)
+          (seated_spent old.owners new.owners owner buries (for_seats last before stays for ++ rest) (Burying place) refl at owners_are s))
           )
     ]
 
-free_went : (old new : Zones) (owner number : ℕ) (for : Purpose) (event : WordEvent) (last before : ℕ) (oldest : Option ℕ) (rest : List Seat) → Makes {T = Numbered} old (word.Free owner) event new → Seated old.owners (seat owner frees ∷ (for_seats last before for ++ rest))
-    → Went old new (phase.Free owner number for) (after (phase.Free owner number for) event) last before oldest rest
-free_went old new owner number for event last before oldest rest (place, there, at, found, told_is, new_is) s =
-    let owners_are = ap (λ (w : Zones). w.owners) new_is in
-    let p = passed new for (answer.Buried number) last before oldest rest (seated_spent old.owners new.owners owner frees (for_seats last before for ++ rest) (Freeing place) refl at owners_are s) in
-    record { seated = p.seated; still = p.still; swapped = omega (arith, p.swapped); publisher = λ e. ((λ t. absurd (no_false t)), (λ t. ap (λ (w : Zones). w.publisher) new_is)); names = p.names; update = p.update }
+-- who fades last is to reset, and who fades before is past it
+fade_from : (old new : Zones) (owner : ℕ) (number : Option ℕ) (for : Purpose) (event : WordEvent) (last before : ℕ) (stays : Stays) (rest : List Seat) (hand : Hand) (how : Owner) → lives (Some how) ≡ 1 → slice_get old.owners owner ≡ Some how
+    → StaysFor stays for → Makes {T = Numbered} old (word.Fade owner) event new → Seated old.owners (seat owner hand ∷ (for_seats last before stays for ++ rest))
+    → Went old new (phase.Fade owner number for) (after new (phase.Fade owner number for) event) last before stays rest
+fade_from old new owner number for event last before stays rest hand how one here is (place, there, fades_at, found, m) s =
+    elim (cases_Bool (fetch_sub there.weak 1 == 0)) [
+      | inl none ↦ (
+          let h = rw none at m in
+          let owners_are = ap (λ (w : Zones). w.owners) h.1 in
+          subst (λ e. Went old new (phase.Fade owner number for) (after new (phase.Fade owner number for) e) last before stays rest) (sym h.0) (record {
+            seated = seated_next old.owners new.owners owner hand resets (for_seats last before stays for ++ rest) how (Resetting place) one refl here owners_are (λ e. (place, e)) s;
+            still = is;
+            swapped = omega arith;
+            publisher = λ e. ((λ t. absurd (no_false t)), (λ t. ap (λ (w : Zones). w.publisher) h.1));
+            names = λ name. omega arith;
+            weak_names = λ name. omega arith;
+            update = refl;
+          })
+          )
+      | inr some ↦ (
+          let h = rw some at m in
+          let owners_are = ap (λ (w : Zones). w.owners) h.1 in
+          let p = passed new for (gone number) last before stays rest is (seated_spent old.owners new.owners owner hand (for_seats last before stays for ++ rest) how one here owners_are s) in
+          subst (λ e. Went old new (phase.Fade owner number for) (after new (phase.Fade owner number for) e) last before stays rest) (sym h.0)
+          (record { seated = p.seated; still = p.still; swapped = omega (arith, p.swapped); publisher = λ e. ((λ t. absurd (no_false t)), (λ t. ap (λ (w : Zones). w.publisher) h.1)); names = λ name. (let n = p.names name in omega (arith, n)); weak_names = λ name. (let n = p.weak_names name in omega (arith, n)); update = p.update })
+          )
+    ]
 
-load_went : (old new : Zones) (name : List ℕ) (event : WordEvent) (last before : ℕ) (oldest : Option ℕ) (rest : List Seat) → Makes {T = Numbered} old word.Load event new → Seated old.owners rest
-    → Went old new (phase.Load name) (after (phase.Load name) event) last before oldest rest
-load_went old new name event last before oldest rest (number, found, few, told_is, new_is) s =
+fade_went : (old new : Zones) (owner : ℕ) (number : Option ℕ) (for : Purpose) (event : WordEvent) (last before : ℕ) (stays : Stays) (rest : List Seat) → StaysFor stays for → Makes {T = Numbered} old (word.Fade owner) event new → Seated old.owners (phase_seats last before stays (phase.Fade owner number for) ++ rest)
+    → Went old new (phase.Fade owner number for) (after new (phase.Fade owner number for) event) last before stays rest
+fade_went old new owner None for event last before stays rest is m s = fade_from old new owner None for event last before stays rest weakly (Weakly s.fit.0.0 s.fit.0.1) refl s.fit.0.2 is m s
+fade_went old new owner (Some number) for event last before stays rest is m s = fade_from old new owner (Some number) for event last before stays rest fades (Fading s.fit.0.0) refl s.fit.0.1 is m s
+
+reset_went : (old new : Zones) (owner : ℕ) (number : Option ℕ) (for : Purpose) (event : WordEvent) (last before : ℕ) (stays : Stays) (rest : List Seat) → StaysFor stays for → Makes {T = Numbered} old (word.Reset owner) event new → Seated old.owners (seat owner resets ∷ (for_seats last before stays for ++ rest))
+    → Went old new (phase.Reset owner number for) (after new (phase.Reset owner number for) event) last before stays rest
+reset_went old new owner number for event last before stays rest is (place, there, at, found, told_is, new_is) s =
     let owners_are = ap (λ (w : Zones). w.owners) new_is in
-    subst (λ e. Went old new (phase.Load name) (after (phase.Load name) e) last before oldest rest) (sym told_is) (record {
+    record {
+      seated = seated_next old.owners new.owners owner resets frees (for_seats last before stays for ++ rest) (Resetting place) (Freeing place) refl refl at owners_are (λ e. (place, e)) s;
+      still = is;
+      swapped = omega arith;
+      publisher = λ e. ((λ t. absurd (no_false t)), (λ t. ap (λ (w : Zones). w.publisher) new_is));
+      names = λ name. omega arith;
+      weak_names = λ name. omega arith;
+      update = refl;
+    }
+
+free_went : (old new : Zones) (owner : ℕ) (number : Option ℕ) (for : Purpose) (event : WordEvent) (last before : ℕ) (stays : Stays) (rest : List Seat) → StaysFor stays for → Makes {T = Numbered} old (word.Free owner) event new → Seated old.owners (seat owner frees ∷ (for_seats last before stays for ++ rest))
+    → Went old new (phase.Free owner number for) (after new (phase.Free owner number for) event) last before stays rest
+free_went old new owner number for event last before stays rest is (place, there, at, found, told_is, new_is) s =
+    let owners_are = ap (λ (w : Zones). w.owners) new_is in
+    let p = passed new for (gone number) last before stays rest is (seated_spent old.owners new.owners owner frees (for_seats last before stays for ++ rest) (Freeing place) refl at owners_are s) in
+    record { seated = p.seated; still = p.still; swapped = omega (arith, p.swapped); publisher = λ e. ((λ t. absurd (no_false t)), (λ t. ap (λ (w : Zones). w.publisher) new_is)); names = λ name. (let n = p.names name in omega (arith, n)); weak_names = λ name. (let n = p.weak_names name in omega (arith, n)); update = p.update }
+
+load_went : (old new : Zones) (name : List ℕ) (event : WordEvent) (last before : ℕ) (stays : Stays) (rest : List Seat) → Makes {T = Numbered} old word.Load event new → Seated old.owners rest
+    → Went old new (phase.Load name) (after new (phase.Load name) event) last before stays rest
+load_went old new name event last before stays rest (number, found, few, told_is, new_is) s =
+    let owners_are = ap (λ (w : Zones). w.owners) new_is in
+    subst (λ e. Went old new (phase.Load name) (after new (phase.Load name) e) last before stays rest) (sym told_is) (record {
       seated = seated_push old.owners new.owners number (slot_of old.latest) rest holds owners_are (number, slot_of old.latest, push_there old.owners new.owners number (slot_of old.latest) owners_are) s;
       still = tt;
       swapped = refl;
       publisher = λ e. ((λ t. absurd (no_false t)), (λ t. ap (λ (w : Zones). w.publisher) new_is));
-      names = λ name. refl;
+      names = λ name. omega arith;
+      weak_names = λ name. omega arith;
       update = refl;
     })
 
-keep_went : (old new : Zones) (given : ℕ) (keeping : Keeping) (event : WordEvent) (last before : ℕ) (oldest : Option ℕ) (rest : List Seat) → keeping.oldest ≡ oldest → ((number : ℕ) → number_in old (slot_of old.latest) ≡ Some number → number ≡ last) → Makes {T = Numbered} old word.Load event new
-    → Seated old.owners (seat given holds ∷ (oldest_seats before keeping.oldest ++ rest)) → Went old new (phase.Keep given keeping) (after (phase.Keep given keeping) event) last before oldest rest
-keep_went old new given keeping event last before oldest rest is is_last (number, found, few, told_is, new_is) s =
+-- nothing is in hand for what looks, and a raise gives a strong owner, or none
+look_went : (old new : Zones) (name : List ℕ) (owner : ℕ) (event : WordEvent) (last before : ℕ) (stays : Stays) (rest : List Seat) → Makes {T = Numbered} old (word.Look owner) event new → Seated old.owners rest
+    → Went old new (phase.Look name owner) (after new (phase.Look name owner) event) last before stays rest
+look_went old new name owner event last before stays rest (number, place, there, owned, found, m) s =
+    elim (cases_Bool (nat_lt there.shares dead_word)) [
+      | inl alive ↦ (
+          let h = rw alive at m in
+          subst (λ e. Went old new (phase.Look name owner) (after new (phase.Look name owner) e) last before stays rest) (sym h.0) (record {
+            seated = seated_where old.owners new.owners rest (ap (λ (w : Zones). w.owners) h.1) s;
+            still = tt;
+            swapped = refl;
+            publisher = λ e. ((λ t. absurd (no_false t)), (λ t. ap (λ (w : Zones). w.publisher) h.1));
+            names = λ n. omega arith;
+            weak_names = λ n. omega arith;
+            update = refl;
+          })
+          )
+      | inr dead ↦ (
+          let h = rw dead at m in
+          subst (λ e. Went old new (phase.Look name owner) (after new (phase.Look name owner) e) last before stays rest) (sym h.0) (record {
+            seated = seated_where old.owners new.owners rest (ap (λ (w : Zones). w.owners) h.1) s;
+            still = tt;
+            swapped = refl;
+            publisher = λ e. ((λ t. absurd (no_false t)), (λ t. ap (λ (w : Zones). w.publisher) h.1));
+            names = λ n. omega arith;
+            weak_names = λ n. omega arith;
+            update = refl;
+          })
+          )
+    ]
+
+raise_went : (old new : Zones) (name : List ℕ) (owner : ℕ) (event : WordEvent) (last before : ℕ) (stays : Stays) (rest : List Seat) → Makes {T = Numbered} old (word.Raise owner) event new → Seated old.owners rest
+    → Went old new (phase.Raise name owner) (after new (phase.Raise name owner) event) last before stays rest
+raise_went old new name owner event last before stays rest (number, place, there, owned, found, few, m) s =
+    elim (cases_Bool (nat_lt there.shares dead_word)) [
+      | inl alive ↦ (
+          let h = rw alive at m in
+          let owners_are = ap (λ (w : Zones). w.owners) h.1 in
+          subst (λ e. Went old new (phase.Raise name owner) (after new (phase.Raise name owner) e) last before stays rest) (sym h.0) (record {
+            seated = seated_push old.owners new.owners number place rest holds owners_are (number, place, push_there old.owners new.owners number place owners_are) s;
+            still = tt;
+            swapped = refl;
+            publisher = λ e. ((λ t. absurd (no_false t)), (λ t. ap (λ (w : Zones). w.publisher) h.1));
+            names = λ n. omega arith;
+            weak_names = λ n. omega arith;
+            update = refl;
+          })
+          )
+      | inr dead ↦ (
+          let h = rw dead at m in
+          subst (λ e. Went old new (phase.Raise name owner) (after new (phase.Raise name owner) e) last before stays rest) (sym h.0) (record {
+            seated = seated_where old.owners new.owners rest (ap (λ (w : Zones). w.owners) h.1) s;
+            still = tt;
+            swapped = refl;
+            publisher = λ e. ((λ t. absurd (no_false t)), (λ t. ap (λ (w : Zones). w.publisher) h.1));
+            names = λ n. omega arith;
+            weak_names = λ n. omega arith;
+            update = refl;
+          })
+          )
+    ]
+
+-- a note gives a weak owner
+note_went : (old new : Zones) (name : List ℕ) (owner : ℕ) (event : WordEvent) (last before : ℕ) (stays : Stays) (rest : List Seat) → Makes {T = Numbered} old (word.Note owner) event new → Seated old.owners rest
+    → Went old new (phase.Note name owner) (after new (phase.Note name owner) event) last before stays rest
+note_went old new name owner event last before stays rest (number, place, there, at, found, few, told_is, new_is) s =
+    let owners_are = ap (λ (w : Zones). w.owners) new_is in
+    let here = ap (λ (o : List Owner). slice_get o (length old.owners)) owners_are ∙ get_push_new old.owners (Weakly number place) (length old.owners) refl in
+    subst (λ e. Went old new (phase.Note name owner) (after new (phase.Note name owner) e) last before stays rest) (sym told_is) (record {
+      seated = seated_with old.owners new.owners (Weakly number place) rest weakly refl owners_are (number, place, here) s;
+      still = tt;
+      swapped = refl;
+      publisher = λ e. ((λ t. absurd (no_false t)), (λ t. ap (λ (w : Zones). w.publisher) new_is));
+      names = λ n. omega arith;
+      weak_names = λ n. omega arith;
+      update = refl;
+    })
+
+none_enters : (serial : Option Serial) → is_some serial ≡ false → None ≡ serial
+none_enters None e = refl
+none_enters (Some serial) e = absurd (no_true e)
+
+keep_goes : (old new : Zones) (given owner : ℕ) (keeping : Keeping) (last before : ℕ) (stays : Stays) (rest : List Seat) (some : Bool) → is_some keeping.enters ≡ some → AsStays stays keeping → new.publisher ≡ old.publisher
+    → Seated new.owners ((seat given holds ∷ (seat owner (has last) ∷ early_seats before stays keeping.oldest)) ++ rest)
+    → Went old new (phase.Keep given keeping) (if some then On (phase.Enter given owner keeping) else On (phase.Release given (purpose.Publish keeping owner None))) last before stays rest
+keep_goes old new given owner keeping last before stays rest true e is same s = record {
+  seated = s;
+  still = (is, e);
+  swapped = refl;
+  publisher = λ e. ((λ t. absurd (no_false t)), (λ t. same));
+  names = λ name. omega arith;
+  weak_names = λ name. omega arith;
+  update = refl;
+}
+keep_goes old new given owner keeping last before stays rest false e is same s = record {
+  seated = s;
+  still = (is, none_enters keeping.enters e);
+  swapped = refl;
+  publisher = λ e. ((λ t. absurd (no_false t)), (λ t. same));
+  names = λ name. omega arith;
+  weak_names = λ name. omega arith;
+  update = refl;
+}
+
+keep_went : (old new : Zones) (given : ℕ) (keeping : Keeping) (event : WordEvent) (last before : ℕ) (stays : Stays) (rest : List Seat) → AsStays stays keeping → ((number : ℕ) → number_in old (slot_of old.latest) ≡ Some number → number ≡ last) → Makes {T = Numbered} old word.Load event new
+    → Seated old.owners ((seat given holds ∷ early_seats before stays keeping.oldest) ++ rest) → Went old new (phase.Keep given keeping) (after new (phase.Keep given keeping) event) last before stays rest
+keep_went old new given keeping event last before stays rest is is_last (number, found, few, told_is, new_is) s =
     let owners_are = ap (λ (w : Zones). w.owners) new_is in
     let there = push_there old.owners new.owners number (slot_of old.latest) owners_are in
     let here = subst (λ n. slice_get new.owners (length old.owners) ≡ Some (Holding n (slot_of old.latest))) (is_last number found) there in
-    subst (λ e. Went old new (phase.Keep given keeping) (after (phase.Keep given keeping) e) last before oldest rest) (sym told_is) (record {
-      seated = seated_swap new.owners (seat (length old.owners) (has last)) (seat given holds) (oldest_seats before keeping.oldest ++ rest)
-          (seated_push old.owners new.owners number (slot_of old.latest) (seat given holds ∷ (oldest_seats before keeping.oldest ++ rest)) (has last) owners_are (slot_of old.latest, here) s);
-      still = is;
+    subst (λ e. Went old new (phase.Keep given keeping) (after new (phase.Keep given keeping) e) last before stays rest) (sym told_is)
+    (keep_goes old new given (length old.owners) keeping last before stays rest (is_some keeping.enters) refl is (ap (λ (w : Zones). w.publisher) new_is)
+    (seated_swap new.owners (seat (length old.owners) (has last)) (seat given holds) (early_seats before stays keeping.oldest ++ rest)
+    (seated_push old.owners new.owners number (slot_of old.latest) ((seat given holds ∷ early_seats before stays keeping.oldest) ++ rest) (has last) owners_are (slot_of old.latest, here) s)))
+
+-- a note of the version gives it an entry
+entry_is : (number owner : ℕ) (serial : Option Serial) → serial_of_entry (entry_of serial number owner) ≡ serial
+entry_is number owner None = refl
+entry_is number owner (Some serial) = refl
+
+enter_goes : (new : Zones) (given kept owner number last before : ℕ) (keeping : Keeping) (stays : Stays) (rest : List Seat) (enters : Option Serial) → keeping.enters ≡ enters → is_some keeping.enters ≡ true
+    → Seated new.owners ((seat given holds ∷ (seat kept (has last) ∷ (seat owner (notes number 1 (last + 1)) ∷ early_seats before stays keeping.oldest))) ++ rest)
+    → Seated new.owners ((seat given holds ∷ (seat kept (has last) ∷ (entry_seats last (entry_of keeping.enters number owner) ++ early_seats before stays keeping.oldest))) ++ rest)
+enter_goes new given kept owner number last before keeping stays rest None e some s = absurd (no_true (sym some ∙ ap is_some e))
+enter_goes new given kept owner number last before keeping stays rest (Some serial) e some s = rw e s
+
+enter_went : (old new : Zones) (given kept : ℕ) (keeping : Keeping) (event : WordEvent) (last before : ℕ) (stays : Stays) (rest : List Seat) → AsStays stays keeping × (is_some keeping.enters ≡ true) → Makes {T = Numbered} old (word.Note kept) event new
+    → Seated old.owners ((seat given holds ∷ (seat kept (has last) ∷ early_seats before stays keeping.oldest)) ++ rest) → Went old new (phase.Enter given kept keeping) (after new (phase.Enter given kept keeping) event) last before stays rest
+enter_went old new given kept keeping event last before stays rest is (number, place, there, at, found, few, told_is, new_is) s =
+    let same : Some (Holding number place) ≡ Some (Holding last s.fit.1.0.0) = sym at ∙ s.fit.1.0.1 in
+    let numbered : number ≡ last = cc in
+    let owners_are = ap (λ (w : Zones). w.owners) new_is in
+    let here = ap (λ (o : List Owner). slice_get o (length old.owners)) owners_are ∙ get_push_new old.owners (Weakly number place) (length old.owners) refl in
+    let pushed = seated_with old.owners new.owners (Weakly number place) ((seat given holds ∷ (seat kept (has last) ∷ early_seats before stays keeping.oldest)) ++ rest) (notes number 1 (last + 1)) refl owners_are (omega (arith, numbered), place, here) s in
+    let put = seated_put new.owners (seat given holds ∷ (seat kept (has last) ∷ [])) (seat (length old.owners) (notes number 1 (last + 1))) (early_seats before stays keeping.oldest) rest pushed in
+    subst (λ e. Went old new (phase.Enter given kept keeping) (after new (phase.Enter given kept keeping) e) last before stays rest) (sym told_is) (record {
+      seated = enter_goes new given kept (length old.owners) number last before keeping stays rest keeping.enters refl is.1 put;
+      still = (is.0, entry_is number (length old.owners) keeping.enters);
       swapped = refl;
       publisher = λ e. ((λ t. absurd (no_false t)), (λ t. ap (λ (w : Zones). w.publisher) new_is));
-      names = λ name. refl;
+      names = λ name. omega arith;
+      weak_names = λ name. omega arith;
       update = refl;
     })
 
-settle_went : (old new : Zones) (keeping : Keeping) (event : WordEvent) (last before : ℕ) (oldest : Option ℕ) (rest : List Seat) → keeping.oldest ≡ oldest → Makes {T = Numbered} old word.Settle event new → Seated old.owners (oldest_seats before keeping.oldest ++ rest)
-    → Went old new (phase.Settle keeping) (after (phase.Settle keeping) event) last before oldest rest
-settle_went old new keeping event last before oldest rest is (number, place, given, there, at, found, told_is, new_is) s =
+-- a transfer has in hand what it has got
+sent_went : (old new : Zones) (at : Phase) (sending : Sending) (owners : List ℕ) (last before : ℕ) (stays : Stays) (rest : List Seat) → swapped_in at ≡ 0 → swaps_now at ≡ 0 → publishes_in at ≡ false → updates at ≡ false → new.publisher ≡ old.publisher → Seated new.owners (holding_seats owners ++ rest)
+    → Went old new at (sent_after sending owners) last before stays rest
+sent_went old new at sending owners last before stays rest none now quiet other same s =
+    let p = sent_passed new sending owners last before stays rest s in
+    record {
+      seated = p.seated;
+      still = p.still;
+      swapped = omega (arith, p.swapped, none, now);
+      publisher = λ e. ((λ t. absurd (no_false (sym quiet ∙ t))), (λ t. same));
+      names = λ name. (let n = p.names name in omega (arith, n));
+      weak_names = λ name. (let n = p.weak_names name in omega (arith, n));
+      update = p.update ∙ sym other;
+    }
+
+seek_went : (old new : Zones) (owner : ℕ) (seeking : Seeking) (event : WordEvent) (last before : ℕ) (stays : Stays) (rest : List Seat) → Makes {T = Numbered} old (word.Look owner) event new → Seated old.owners (holding_seats seeking.owners ++ rest)
+    → Went old new (phase.Seek owner seeking) (after new (phase.Seek owner seeking) event) last before stays rest
+seek_went old new owner seeking event last before stays rest (number, place, there, owned, found, m) s =
+    elim (cases_Bool (nat_lt there.shares dead_word)) [
+      | inl alive ↦ (
+          let h = rw alive at m in
+          subst (λ e. Went old new (phase.Seek owner seeking) (after new (phase.Seek owner seeking) e) last before stays rest) (sym h.0) (record {
+            seated = seated_where old.owners new.owners (holding_seats seeking.owners ++ rest) (ap (λ (w : Zones). w.owners) h.1) s;
+            still = tt;
+            swapped = refl;
+            publisher = λ e. ((λ t. absurd (no_false t)), (λ t. ap (λ (w : Zones). w.publisher) h.1));
+            names = λ n. omega arith;
+            weak_names = λ n. omega arith;
+            update = refl;
+          })
+          )
+      | inr dead ↦ (
+          let h = rw dead at m in
+          subst (λ e. Went old new (phase.Seek owner seeking) (after new (phase.Seek owner seeking) e) last before stays rest) (sym h.0)
+          (sent_went old new (phase.Seek owner seeking) seeking.sending seeking.owners last before stays rest refl refl refl refl (ap (λ (w : Zones). w.publisher) h.1)
+          (seated_where old.owners new.owners (holding_seats seeking.owners ++ rest) (ap (λ (w : Zones). w.owners) h.1) s))
+          )
+    ]
+
+-- one owner more that was got, behind the others
+holding_times : (i : ℕ) (owners : List ℕ) (owner : ℕ) → times i (holding_seats (owners ++ owner ∷ [])) ≡ one_if (owner == i) + times i (holding_seats owners)
+holding_times i [] owner = refl
+holding_times i (o ∷ os) owner = let more = holding_times i os owner in omega (arith, more)
+
+holding_fits : (all : List Owner) (owners : List ℕ) (owner : ℕ) → HandIs all owner holds → AllFit all (holding_seats owners) → AllFit all (holding_seats (owners ++ owner ∷ []))
+holding_fits all [] owner here f = (here, tt)
+holding_fits all (o ∷ os) owner here f = (f.0, holding_fits all os owner here f.1)
+
+holding_more : (all : List Owner) (owners : List ℕ) (owner : ℕ) (rest : List Seat) → Seated all (seat owner holds ∷ (holding_seats owners ++ rest)) → Seated all (holding_seats (owners ++ owner ∷ []) ++ rest)
+holding_more all owners owner rest s =
+    seated_as all (seat owner holds ∷ (holding_seats owners ++ rest)) (holding_seats (owners ++ owner ∷ []) ++ rest)
+    (fit_append all (holding_seats (owners ++ owner ∷ [])) rest (holding_fits all owners owner s.fit.0 (fit_front all (holding_seats owners) rest s.fit.1)) (fit_back all (holding_seats owners) rest s.fit.1))
+    (λ i. (
+    let one = times_append i (holding_seats (owners ++ owner ∷ [])) rest in
+    let two = times_append i (holding_seats owners) rest in
+    let more = holding_times i owners owner in
+    omega (arith, one, two, more)
+    )) s
+
+gained_went : (old new : Zones) (owner : ℕ) (seeking further : Seeking) (left : List ℕ) (last before : ℕ) (stays : Stays) (rest : List Seat) → new.publisher ≡ old.publisher → Seated new.owners (holding_seats further.owners ++ rest)
+    → Went old new (phase.Gain owner seeking) (gained_after further left) last before stays rest
+gained_went old new owner seeking further [] last before stays rest same s = sent_went old new (phase.Gain owner seeking) (completed further.sending) further.owners last before stays rest refl refl refl refl same s
+gained_went old new owner seeking further (next ∷ left) last before stays rest same s = record {
+  seated = s;
+  still = tt;
+  swapped = refl;
+  publisher = λ e. ((λ t. absurd (no_false t)), (λ t. same));
+  names = λ n. omega arith;
+  weak_names = λ n. omega arith;
+  update = refl;
+}
+
+-- whoever owns a version finds it
+abbrev pub Finds : Zones → Type 0
+Finds words = (owner number place : ℕ) → slice_get words.owners owner ≡ Some (Holding number place) → (version : Numbered) × (found_by words owner ≡ Some version)
+
+gain_went : (old new : Zones) (owner : ℕ) (seeking : Seeking) (event : WordEvent) (last before : ℕ) (stays : Stays) (rest : List Seat) → Finds new → Makes {T = Numbered} old (word.Raise owner) event new → Seated old.owners (holding_seats seeking.owners ++ rest)
+    → Went old new (phase.Gain owner seeking) (after new (phase.Gain owner seeking) event) last before stays rest
+gain_went old new owner seeking event last before stays rest finds (number, place, there, owned, found, few, m) s =
+    elim (cases_Bool (nat_lt there.shares dead_word)) [
+      | inl alive ↦ (
+          let h = rw alive at m in
+          let owners_are = ap (λ (w : Zones). w.owners) h.1 in
+          let here = push_there old.owners new.owners number place owners_are in
+          let it = finds (length old.owners) number place here in
+          let pushed = seated_push old.owners new.owners number place (holding_seats seeking.owners ++ rest) holds owners_are (number, place, here) s in
+          subst (λ e. Went old new (phase.Gain owner seeking) (after new (phase.Gain owner seeking) e) last before stays rest) (sym h.0)
+          (subst (λ o. Went old new (phase.Gain owner seeking) (got_after owner seeking (length old.owners) o) last before stays rest) (sym it.1)
+          (gained_went old new owner seeking (with_got (length old.owners) it.0 seeking) seeking.left last before stays rest (ap (λ (w : Zones). w.publisher) h.1)
+          (holding_more new.owners seeking.owners (length old.owners) rest pushed)))
+          )
+      | inr dead ↦ (
+          let h = rw dead at m in
+          subst (λ e. Went old new (phase.Gain owner seeking) (after new (phase.Gain owner seeking) e) last before stays rest) (sym h.0)
+          (sent_went old new (phase.Gain owner seeking) seeking.sending seeking.owners last before stays rest refl refl refl refl (ap (λ (w : Zones). w.publisher) h.1)
+          (seated_where old.owners new.owners (holding_seats seeking.owners ++ rest) (ap (λ (w : Zones). w.owners) h.1) s))
+          )
+    ]
+
+settle_went : (old new : Zones) (keeping : Keeping) (event : WordEvent) (last before : ℕ) (stays : Stays) (rest : List Seat) → AsStays stays keeping → Makes {T = Numbered} old word.Settle event new → Seated old.owners (early_seats before stays keeping.oldest ++ rest)
+    → Went old new (phase.Settle keeping) (after new (phase.Settle keeping) event) last before stays rest
+settle_went old new keeping event last before stays rest is (number, place, given, there, at, found, told_is, new_is) s =
     let owners_are = ap (λ (w : Zones). w.owners) new_is in
-    subst (λ e. Went old new (phase.Settle keeping) (after (phase.Settle keeping) e) last before oldest rest) (sym told_is) (record {
-      seated = seated_push old.owners new.owners number place (oldest_seats before keeping.oldest ++ rest) holds owners_are (number, place, push_there old.owners new.owners number place owners_are) s;
+    subst (λ e. Went old new (phase.Settle keeping) (after new (phase.Settle keeping) e) last before stays rest) (sym told_is) (record {
+      seated = seated_push old.owners new.owners number place (early_seats before stays keeping.oldest ++ rest) holds owners_are (number, place, push_there old.owners new.owners number place owners_are) s;
       still = is;
       swapped = refl;
       publisher = λ e. ((λ t. ap (λ (w : Zones). w.publisher) new_is), (λ t. absurd (no_true t)));
-      names = λ name. refl;
+      names = λ name. omega arith;
+      weak_names = λ name. omega arith;
       update = refl;
     })
 
-probe_went : (old new : Zones) (version : Numbered) (keeping : Keeping) (event : WordEvent) (last before : ℕ) (oldest : Option ℕ) (rest : List Seat) → keeping.oldest ≡ oldest → Makes {T = Numbered} old word.Probe event new → Seated old.owners (oldest_seats before keeping.oldest ++ rest)
-    → Went old new (phase.Probe version keeping) (after (phase.Probe version keeping) event) last before oldest rest
-probe_went old new version keeping event last before oldest rest is (place, there, at, found, m) s =
+probe_went : (old new : Zones) (version : Numbered) (keeping : Keeping) (event : WordEvent) (last before : ℕ) (stays : Stays) (rest : List Seat) → AsStays stays keeping → Makes {T = Numbered} old word.Probe event new → Seated old.owners (early_seats before stays keeping.oldest ++ rest)
+    → Went old new (phase.Probe version keeping) (after new (phase.Probe version keeping) event) last before stays rest
+probe_went old new version keeping event last before stays rest is (place, there, at, found, m) s =
     elim (cases_Bool (there.shares == free_word)) [
       | inl free ↦ (
           let h = rw free at m in
-          subst (λ e. Went old new (phase.Probe version keeping) (after (phase.Probe version keeping) e) last before oldest rest) (sym h.0) (record {
-            seated = seated_where old.owners new.owners (oldest_seats before keeping.oldest ++ rest) (ap (λ (w : Zones). w.owners) h.1) s;
+          subst (λ e. Went old new (phase.Probe version keeping) (after new (phase.Probe version keeping) e) last before stays rest) (sym h.0) (record {
+            seated = seated_where old.owners new.owners (early_seats before stays keeping.oldest ++ rest) (ap (λ (w : Zones). w.owners) h.1) s;
             still = is;
             swapped = refl;
             publisher = λ e. absurd (no_true e);
-            names = λ name. refl;
+            names = λ name. omega arith;
+            weak_names = λ name. omega arith;
             update = refl;
           })
           )
       | inr taken ↦ elim (cases_Bool (place + 1 == slots)) [
         | inl none ↦ (
             let h = rw (taken, none) at m in
-            let t = seated_where old.owners new.owners (oldest_seats before keeping.oldest ++ rest) (ap (λ (w : Zones). w.owners) h.1) s in
-            subst (λ e. Went old new (phase.Probe version keeping) (after (phase.Probe version keeping) e) last before oldest rest) (sym h.0) (record {
-              seated = subst (λ o. Seated new.owners (oldest_seats before o ++ rest)) is t;
+            let t = seated_where old.owners new.owners (early_seats before stays keeping.oldest ++ rest) (ap (λ (w : Zones). w.owners) h.1) s in
+            subst (λ e. Went old new (phase.Probe version keeping) (after new (phase.Probe version keeping) e) last before stays rest) (sym h.0) (record {
+              seated = subst (λ o. Seated new.owners (early_seats before stays o ++ rest)) is.0 t;
               still = tt;
               swapped = refl;
               publisher = λ e. ((λ t. ap (λ (w : Zones). w.publisher) h.1), (λ t. absurd (no_true t)));
-              names = λ name. refl;
+              names = λ name. omega arith;
+              weak_names = λ name. omega arith;
               update = refl;
             })
             )
         | inr more ↦ (
             let h = rw (taken, more) at m in
-            subst (λ e. Went old new (phase.Probe version keeping) (after (phase.Probe version keeping) e) last before oldest rest) (sym h.0) (record {
-              seated = seated_where old.owners new.owners (oldest_seats before keeping.oldest ++ rest) (ap (λ (w : Zones). w.owners) h.1) s;
+            subst (λ e. Went old new (phase.Probe version keeping) (after new (phase.Probe version keeping) e) last before stays rest) (sym h.0) (record {
+              seated = seated_where old.owners new.owners (early_seats before stays keeping.oldest ++ rest) (ap (λ (w : Zones). w.owners) h.1) s;
               still = is;
               swapped = refl;
               publisher = λ e. absurd (no_true e);
-              names = λ name. refl;
+              names = λ name. omega arith;
+              weak_names = λ name. omega arith;
               update = refl;
             })
             )
       ]
     ]
 
-prepare_went : (old new : Zones) (version : Numbered) (keeping : Keeping) (event : WordEvent) (last before : ℕ) (oldest : Option ℕ) (rest : List Seat) → keeping.oldest ≡ oldest → Makes {T = Numbered} old (word.Prepare version) event new → Seated old.owners (oldest_seats before keeping.oldest ++ rest)
-    → Went old new (phase.Prepare version keeping) (after (phase.Prepare version keeping) event) last before oldest rest
-prepare_went old new version keeping event last before oldest rest is (place, there, number, at, found, last_is, fits, told_is, new_is) s = record {
-  seated = seated_where old.owners new.owners (oldest_seats before keeping.oldest ++ rest) (ap (λ (w : Zones). w.owners) new_is) s;
+prepare_went : (old new : Zones) (version : Numbered) (keeping : Keeping) (event : WordEvent) (last before : ℕ) (stays : Stays) (rest : List Seat) → AsStays stays keeping → Makes {T = Numbered} old (word.Prepare version) event new → Seated old.owners (early_seats before stays keeping.oldest ++ rest)
+    → Went old new (phase.Prepare version keeping) (after new (phase.Prepare version keeping) event) last before stays rest
+prepare_went old new version keeping event last before stays rest is (place, there, number, at, found, last_is, fits, told_is, new_is) s = record {
+  seated = seated_where old.owners new.owners (early_seats before stays keeping.oldest ++ rest) (ap (λ (w : Zones). w.owners) new_is) s;
   still = is;
   swapped = refl;
   publisher = λ e. absurd (no_true e);
-  names = λ name. refl;
+  names = λ name. omega arith;
+  weak_names = λ name. omega arith;
   update = refl;
 }
 
-swap_went : (old new : Zones) (keeping : Keeping) (event : WordEvent) (last before : ℕ) (oldest : Option ℕ) (rest : List Seat) → keeping.oldest ≡ oldest → Makes {T = Numbered} old word.Swap event new → Seated old.owners (oldest_seats before keeping.oldest ++ rest)
-    → Went old new (phase.Swap keeping) (after (phase.Swap keeping) event) last before oldest rest
-swap_went old new keeping event last before oldest rest is (place, number, at, within, last_is, told_is, new_is) s = record {
-  seated = seated_where old.owners new.owners (oldest_seats before keeping.oldest ++ rest) (ap (λ (w : Zones). w.owners) new_is) s;
+swap_went : (old new : Zones) (keeping : Keeping) (event : WordEvent) (last before : ℕ) (stays : Stays) (rest : List Seat) → AsStays stays keeping → Makes {T = Numbered} old word.Swap event new → Seated old.owners (early_seats before stays keeping.oldest ++ rest)
+    → Went old new (phase.Swap keeping) (after new (phase.Swap keeping) event) last before stays rest
+swap_went old new keeping event last before stays rest is (place, number, at, within, last_is, told_is, new_is) s = record {
+  seated = seated_where old.owners new.owners (early_seats before stays keeping.oldest ++ rest) (ap (λ (w : Zones). w.owners) new_is) s;
   still = is;
   swapped = refl;
   publisher = λ e. absurd (no_true e);
-  names = λ name. refl;
+  names = λ name. omega arith;
+  weak_names = λ name. omega arith;
   update = refl;
 }
 
 -- a step of a call keeps account of what it has in hand
-pub went : (old new : Zones) (at : Phase) (event : WordEvent) (last before : ℕ) (oldest : Option ℕ) (rest : List Seat) → OldestIn oldest at → (swaps_now at ≡ 0 → (number : ℕ) → number_in old (slot_of old.latest) ≡ Some number → number ≡ last) → Makes old (word_step at) event new
-    → Seated old.owners (phase_seats last before at ++ rest) → Went old new at (after at event) last before oldest rest
-went old new (phase.Load name) event last before oldest rest is is_last m s = load_went old new name event last before oldest rest m s
-went old new (phase.Probe version keeping) event last before oldest rest is is_last m s = probe_went old new version keeping event last before oldest rest is m s
-went old new (phase.Prepare version keeping) event last before oldest rest is is_last m s = prepare_went old new version keeping event last before oldest rest is m s
-went old new (phase.Swap keeping) event last before oldest rest is is_last m s = swap_went old new keeping event last before oldest rest is m s
-went old new (phase.Settle keeping) event last before oldest rest is is_last m s = settle_went old new keeping event last before oldest rest is m s
-went old new (phase.Keep given keeping) event last before oldest rest is is_last m s = keep_went old new given keeping event last before oldest rest is (is_last refl) m s
-went old new (phase.Release owner for) event last before oldest rest is is_last m s = release_went old new owner for event last before oldest rest is m s
-went old new (phase.Bury owner for) event last before oldest rest is is_last m s = bury_went old new owner for event last before oldest rest is m s
-went old new (phase.Free owner number for) event last before oldest rest is is_last m s = free_went old new owner number for event last before oldest rest m s
+pub went : (old new : Zones) (at : Phase) (event : WordEvent) (last before : ℕ) (stays : Stays) (rest : List Seat) → StaysIn stays at → (swaps_now at ≡ 0 → (number : ℕ) → number_in old (slot_of old.latest) ≡ Some number → number ≡ last) → Finds new → Makes old (word_step at) event new
+    → Seated old.owners (phase_seats last before stays at ++ rest) → Went old new at (after new at event) last before stays rest
+went old new (phase.Load name) event last before stays rest is is_last finds m s = load_went old new name event last before stays rest m s
+went old new (phase.Look name owner) event last before stays rest is is_last finds m s = look_went old new name owner event last before stays rest m s
+went old new (phase.Seek owner seeking) event last before stays rest is is_last finds m s = seek_went old new owner seeking event last before stays rest m s
+went old new (phase.Gain owner seeking) event last before stays rest is is_last finds m s = gain_went old new owner seeking event last before stays rest finds m s
+went old new (phase.Raise name owner) event last before stays rest is is_last finds m s = raise_went old new name owner event last before stays rest m s
+went old new (phase.Note name owner) event last before stays rest is is_last finds m s = note_went old new name owner event last before stays rest m s
+went old new (phase.Probe version keeping) event last before stays rest is is_last finds m s = probe_went old new version keeping event last before stays rest is m s
+went old new (phase.Prepare version keeping) event last before stays rest is is_last finds m s = prepare_went old new version keeping event last before stays rest is m s
+went old new (phase.Swap keeping) event last before stays rest is is_last finds m s = swap_went old new keeping event last before stays rest is m s
+went old new (phase.Settle keeping) event last before stays rest is is_last finds m s = settle_went old new keeping event last before stays rest is m s
+went old new (phase.Keep given keeping) event last before stays rest is is_last finds m s = keep_went old new given keeping event last before stays rest is (is_last refl) m s
+went old new (phase.Enter given kept keeping) event last before stays rest is is_last finds m s = enter_went old new given kept keeping event last before stays rest is m s
+went old new (phase.Release owner for) event last before stays rest is is_last finds m s = release_went old new owner for event last before stays rest is m s
+went old new (phase.Bury owner for) event last before stays rest is is_last finds m s = bury_went old new owner for event last before stays rest is m s
+went old new (phase.Fade owner number for) event last before stays rest is is_last finds m s = fade_went old new owner number for event last before stays rest is m s
+went old new (phase.Reset owner number for) event last before stays rest is is_last finds m s = reset_went old new owner number for event last before stays rest is m s
+went old new (phase.Free owner number for) event last before stays rest is is_last finds m s = free_went old new owner number for event last before stays rest is m s

@@ -1,5 +1,5 @@
 -- Calls that begin, that go on and that end, by what is in hand.
-use Rattle.std.proofs.Common.{◌≡◌, refl, sym, ap, ◌∙◌, subst, ℕ, ◌+◌, ◌≤◌, Bool, true, false, inl, inr, List, [], ◌∷◌, ◌++◌, arith, Option, Some}
+use Rattle.std.proofs.Common.{◌≡◌, refl, sym, ap, ◌∙◌, subst, ℕ, ◌+◌, ◌≤◌, Bool, true, false, inl, inr, List, [], ◌∷◌, ◌++◌, arith, Some}
 use Rattle.std.specs.Prelude.{◌||◌, bytes_eq}
 use Rattle.std.proofs.lemmas.Bool.{cases_Bool}
 use Rattle.std.proofs.lemmas.Slice.Eq.{bytes_eq-Decides}
@@ -8,12 +8,12 @@ use Rattle.cell_core.specs.declared.words.Owner.{Owner}
 use Rattle.world_run.specs.declared.phase.Progress.TheVariants.{On}
 use Rattle.world_run.specs.declared.names.Named.{Named}
 use Rattle.world_run.specs.declared.calls.UnderWay.{UnderWay}
-use Rattle.world_run.specs.Phases.{reserves, updates}
-use Rattle.world_run.specs.World.{call_of, without_call, oldest_kept}
-use Rattle.world_laws.proofs.CallReplays.{any_update, AtMostOne}
+use Rattle.world_run.specs.Phases.{reserves, reserves_weakly, updates}
+use Rattle.world_run.specs.World.{call_of, without_call}
+use Rattle.world_laws.proofs.OtherCalls.{any_update, AtMostOne}
 use Rattle.world_laws.proofs.HandLemmas.{Seat, AllFit, Seated, times, times_append, fit_append, fit_front, fit_back, seated_as}
-use Rattle.world_laws.proofs.HandSteps.{Zones, phase_seats, OldestIn, swapped_in, publishes_in}
-use Rattle.world_laws.proofs.HandWorld.{name_seats, kept_left, call_seats, AllOldest, swaps_of, any_publishes, reserved_by, called, rest_seats, Open, nothing_apart}
+use Rattle.world_laws.proofs.HandSeats.{Zones, Stays, phase_seats, StaysIn, swapped_in, publishes_in}
+use Rattle.world_laws.proofs.HandWorld.{Store, stays_of, both_seats, store_left, call_seats, AllStay, swaps_of, any_publishes, reserved_by, weak_reserved_by, called, rest_seats, Open, nothing_apart}
 
 -- four lists of those in hand, one behind the other
 pub times_four : (i : ℕ) (a b c d : List Seat) → times i (a ++ (b ++ (c ++ d))) ≡ times i a + (times i b + (times i c + times i d))
@@ -29,25 +29,25 @@ fits_four owners a b c d f =
     (fit_front owners a (b ++ (c ++ d)) f, fit_front owners b (c ++ d) g, fit_front owners c d h, fit_back owners c d h)
 
 -- a call among others
-call_times : (i last from : ℕ) (front back : List UnderWay) (c : UnderWay) → times i (call_seats last from (front ++ c ∷ back)) ≡ times i (phase_seats last from c.phase) + times i (call_seats last from (front ++ back))
-call_times i last from [] back c = times_append i (phase_seats last from c.phase) (call_seats last from back)
-call_times i last from (x ∷ front) back c =
-    let more = call_times i last from front back c in
-    let one = times_append i (phase_seats last from x.phase) (call_seats last from (front ++ c ∷ back)) in
-    let two = times_append i (phase_seats last from x.phase) (call_seats last from (front ++ back)) in
+call_times : (i last from : ℕ) (stays : Stays) (front back : List UnderWay) (c : UnderWay) → times i (call_seats last from stays (front ++ c ∷ back)) ≡ times i (phase_seats last from stays c.phase) + times i (call_seats last from stays (front ++ back))
+call_times i last from stays [] back c = times_append i (phase_seats last from stays c.phase) (call_seats last from stays back)
+call_times i last from stays (x ∷ front) back c =
+    let more = call_times i last from stays front back c in
+    let one = times_append i (phase_seats last from stays x.phase) (call_seats last from stays (front ++ c ∷ back)) in
+    let two = times_append i (phase_seats last from stays x.phase) (call_seats last from stays (front ++ back)) in
     omega (arith, more, one, two)
 
-call_fits : (owners : List Owner) (last from : ℕ) (front back : List UnderWay) (c : UnderWay) → AllFit owners (call_seats last from (front ++ c ∷ back)) → AllFit owners (phase_seats last from c.phase) × AllFit owners (call_seats last from (front ++ back))
-call_fits owners last from [] back c f = (fit_front owners (phase_seats last from c.phase) (call_seats last from back) f, fit_back owners (phase_seats last from c.phase) (call_seats last from back) f)
-call_fits owners last from (x ∷ front) back c f =
-    let more = call_fits owners last from front back c (fit_back owners (phase_seats last from x.phase) (call_seats last from (front ++ c ∷ back)) f) in
-    (more.0, fit_append owners (phase_seats last from x.phase) (call_seats last from (front ++ back)) (fit_front owners (phase_seats last from x.phase) (call_seats last from (front ++ c ∷ back)) f) more.1)
+call_fits : (owners : List Owner) (last from : ℕ) (stays : Stays) (front back : List UnderWay) (c : UnderWay) → AllFit owners (call_seats last from stays (front ++ c ∷ back)) → AllFit owners (phase_seats last from stays c.phase) × AllFit owners (call_seats last from stays (front ++ back))
+call_fits owners last from stays [] back c f = (fit_front owners (phase_seats last from stays c.phase) (call_seats last from stays back) f, fit_back owners (phase_seats last from stays c.phase) (call_seats last from stays back) f)
+call_fits owners last from stays (x ∷ front) back c f =
+    let more = call_fits owners last from stays front back c (fit_back owners (phase_seats last from stays x.phase) (call_seats last from stays (front ++ c ∷ back)) f) in
+    (more.0, fit_append owners (phase_seats last from stays x.phase) (call_seats last from stays (front ++ back)) (fit_front owners (phase_seats last from stays x.phase) (call_seats last from stays (front ++ c ∷ back)) f) more.1)
 
-calls_fit : (owners : List Owner) (last from : ℕ) (front back : List UnderWay) (c : UnderWay) → AllFit owners (phase_seats last from c.phase) → AllFit owners (call_seats last from (front ++ back)) → AllFit owners (call_seats last from (front ++ c ∷ back))
-calls_fit owners last from [] back c f g = fit_append owners (phase_seats last from c.phase) (call_seats last from back) f g
-calls_fit owners last from (x ∷ front) back c f g =
-    fit_append owners (phase_seats last from x.phase) (call_seats last from (front ++ c ∷ back)) (fit_front owners (phase_seats last from x.phase) (call_seats last from (front ++ back)) g)
-    (calls_fit owners last from front back c f (fit_back owners (phase_seats last from x.phase) (call_seats last from (front ++ back)) g))
+calls_fit : (owners : List Owner) (last from : ℕ) (stays : Stays) (front back : List UnderWay) (c : UnderWay) → AllFit owners (phase_seats last from stays c.phase) → AllFit owners (call_seats last from stays (front ++ back)) → AllFit owners (call_seats last from stays (front ++ c ∷ back))
+calls_fit owners last from stays [] back c f g = fit_append owners (phase_seats last from stays c.phase) (call_seats last from stays back) f g
+calls_fit owners last from stays (x ∷ front) back c f g =
+    fit_append owners (phase_seats last from stays x.phase) (call_seats last from stays (front ++ c ∷ back)) (fit_front owners (phase_seats last from stays x.phase) (call_seats last from stays (front ++ back)) g)
+    (calls_fit owners last from stays front back c f (fit_back owners (phase_seats last from stays x.phase) (call_seats last from stays (front ++ back)) g))
 
 swaps_split : (front back : List UnderWay) (c : UnderWay) → swaps_of (front ++ c ∷ back) ≡ swapped_in c.phase + swaps_of (front ++ back)
 swaps_split [] back c = refl
@@ -56,6 +56,10 @@ swaps_split (x ∷ front) back c = let more = swaps_split front back c in omega 
 reserved_split : (name : List ℕ) (front back : List UnderWay) (c : UnderWay) → reserved_by name (front ++ c ∷ back) ≡ one_if (reserves name c.phase) + reserved_by name (front ++ back)
 reserved_split name [] back c = refl
 reserved_split name (x ∷ front) back c = let more = reserved_split name front back c in omega (arith, more)
+
+weak_reserved_split : (name : List ℕ) (front back : List UnderWay) (c : UnderWay) → weak_reserved_by name (front ++ c ∷ back) ≡ one_if (reserves_weakly name c.phase) + weak_reserved_by name (front ++ back)
+weak_reserved_split name [] back c = refl
+weak_reserved_split name (x ∷ front) back c = let more = weak_reserved_split name front back c in omega (arith, more)
 
 called_split : (name : List ℕ) (front back : List UnderWay) (c : UnderWay) → called name (front ++ c ∷ back) ≡ one_if (bytes_eq c.name name) + called name (front ++ back)
 called_split name [] back c = refl
@@ -79,13 +83,13 @@ publishes_split : (front back : List UnderWay) (c : UnderWay) → any_publishes 
 publishes_split [] back c = refl
 publishes_split (x ∷ front) back c = ap (λ b. publishes_in x.phase || b) (publishes_split front back c) ∙ or_swap (publishes_in x.phase) (publishes_in c.phase) (any_publishes (front ++ back))
 
-oldest_split : (oldest : Option ℕ) (front back : List UnderWay) (c : UnderWay) → AllOldest oldest (front ++ c ∷ back) → OldestIn oldest c.phase × AllOldest oldest (front ++ back)
-oldest_split oldest [] back c all = all
-oldest_split oldest (x ∷ front) back c all = let more = oldest_split oldest front back c all.1 in (more.0, (all.0, more.1))
+stays_split : (stays : Stays) (front back : List UnderWay) (c : UnderWay) → AllStay stays (front ++ c ∷ back) → StaysIn stays c.phase × AllStay stays (front ++ back)
+stays_split stays [] back c all = all
+stays_split stays (x ∷ front) back c all = let more = stays_split stays front back c all.1 in (more.0, (all.0, more.1))
 
-oldest_join : (oldest : Option ℕ) (front back : List UnderWay) (c : UnderWay) → OldestIn oldest c.phase → AllOldest oldest (front ++ back) → AllOldest oldest (front ++ c ∷ back)
-oldest_join oldest [] back c it all = (it, all)
-oldest_join oldest (x ∷ front) back c it all = (all.0, oldest_join oldest front back c it all.1)
+stays_join : (stays : Stays) (front back : List UnderWay) (c : UnderWay) → StaysIn stays c.phase → AllStay stays (front ++ back) → AllStay stays (front ++ c ∷ back)
+stays_join stays [] back c it all = (it, all)
+stays_join stays (x ∷ front) back c it all = (all.0, stays_join stays front back c it all.1)
 
 not_both : (a : Bool) → a ≡ true → a ≡ false → ⊥
 not_both a t f = let wrong : true ≡ false = sym t ∙ f in cc
@@ -114,21 +118,21 @@ one_join (x ∷ front) back c one alone =
     )
 
 -- a call is taken out from among the others
-pub taken_out : (words : Zones) (names : List Named) (kept : List ℕ) (keep : ℕ) (front back : List UnderWay) (c : UnderWay) → Open words names kept keep (front ++ c ∷ back) nothing_apart → Open words names kept keep (front ++ back) (On c.phase)
-taken_out words names kept keep front back c o =
+pub taken_out : (words : Zones) (names weaks : List Named) (store : Store) (front back : List UnderWay) (c : UnderWay) → Open words names weaks store (front ++ c ∷ back) nothing_apart → Open words names weaks store (front ++ back) (On c.phase)
+taken_out words names weaks store front back c o =
     let flag = any_split front back c in
-    let kept_ones = kept_left o.from keep kept (any_update (front ++ c ∷ back)) in
-    let all = fits_four words.owners [] (name_seats names) kept_ones (call_seats o.last o.from (front ++ c ∷ back)) o.seated.fit in
-    let parts = call_fits words.owners o.last o.from front back c all.3 in
+    let kept_ones = store_left o.from store (any_update (front ++ c ∷ back)) in
+    let all = fits_four words.owners [] (both_seats names weaks) kept_ones (call_seats o.last o.from (stays_of store) (front ++ c ∷ back)) o.seated.fit in
+    let parts = call_fits words.owners o.last o.from (stays_of store) front back c all.3 in
     let one = one_split front back c o.one in
-    let olds = oldest_split (oldest_kept keep kept) front back c o.stills in
-    let s : Seated words.owners (phase_seats o.last o.from c.phase ++ rest_seats o.last o.from names kept keep (front ++ back) (any_update (front ++ c ∷ back))) =
-    seated_as words.owners _ (phase_seats o.last o.from c.phase ++ rest_seats o.last o.from names kept keep (front ++ back) (any_update (front ++ c ∷ back)))
-    (fit_four words.owners (phase_seats o.last o.from c.phase) (name_seats names) kept_ones (call_seats o.last o.from (front ++ back)) parts.0 all.1 all.2 parts.1)
+    let olds = stays_split (stays_of store) front back c o.stills in
+    let s : Seated words.owners (phase_seats o.last o.from (stays_of store) c.phase ++ rest_seats o.last o.from names weaks store (front ++ back) (any_update (front ++ c ∷ back))) =
+    seated_as words.owners _ (phase_seats o.last o.from (stays_of store) c.phase ++ rest_seats o.last o.from names weaks store (front ++ back) (any_update (front ++ c ∷ back)))
+    (fit_four words.owners (phase_seats o.last o.from (stays_of store) c.phase) (both_seats names weaks) kept_ones (call_seats o.last o.from (stays_of store) (front ++ back)) parts.0 all.1 all.2 parts.1)
     (λ i. (
-    let a = times_four i (phase_seats o.last o.from c.phase) (name_seats names) kept_ones (call_seats o.last o.from (front ++ back)) in
-    let b = times_four i [] (name_seats names) kept_ones (call_seats o.last o.from (front ++ c ∷ back)) in
-    let d = call_times i o.last o.from front back c in
+    let a = times_four i (phase_seats o.last o.from (stays_of store) c.phase) (both_seats names weaks) kept_ones (call_seats o.last o.from (stays_of store) (front ++ back)) in
+    let b = times_four i [] (both_seats names weaks) kept_ones (call_seats o.last o.from (stays_of store) (front ++ c ∷ back)) in
+    let d = call_times i o.last o.from (stays_of store) front back c in
     omega (arith, a, b, d)
     )) o.seated in
     let swaps = swaps_split front back c in
@@ -142,29 +146,31 @@ taken_out words names kept keep front back c o =
       swapped = omega (arith, swaps, o.swapped);
       kept_count = o.kept_count;
       kept_from = o.kept_from;
+      shut = o.shut;
       alone = one.1;
       one = one.0;
       still = olds.0;
       stills = olds.1;
-      seated = subst (λ b. Seated words.owners (phase_seats o.last o.from c.phase ++ rest_seats o.last o.from names kept keep (front ++ back) b)) flag s;
+      seated = subst (λ b. Seated words.owners (phase_seats o.last o.from (stays_of store) c.phase ++ rest_seats o.last o.from names weaks store (front ++ back) b)) flag s;
       publisher = λ e f. o.publisher refl (publishes_split front back c ∙ rw e f);
       names_once = λ name. (let n = o.names_once name in let r = reserved_split name front back c in omega (arith, n, r));
+      weak_once = λ name. (let n = o.weak_once name in let r = weak_reserved_split name front back c in omega (arith, n, r));
       calls_once = λ name. (let n = o.calls_once name in let r = called_split name front back c in omega (arith, n, r));
     }
 
 -- and put back
-pub put_back : (words : Zones) (names : List Named) (kept : List ℕ) (keep : ℕ) (front back : List UnderWay) (c : UnderWay) → called c.name (front ++ back) ≡ 0 → Open words names kept keep (front ++ back) (On c.phase) → Open words names kept keep (front ++ c ∷ back) nothing_apart
-put_back words names kept keep front back c none o =
+pub put_back : (words : Zones) (names weaks : List Named) (store : Store) (front back : List UnderWay) (c : UnderWay) → called c.name (front ++ back) ≡ 0 → Open words names weaks store (front ++ back) (On c.phase) → Open words names weaks store (front ++ c ∷ back) nothing_apart
+put_back words names weaks store front back c none o =
     let flag = any_split front back c in
-    let kept_ones = kept_left o.from keep kept (updates c.phase || any_update (front ++ back)) in
-    let all = fits_four words.owners (phase_seats o.last o.from c.phase) (name_seats names) kept_ones (call_seats o.last o.from (front ++ back)) o.seated.fit in
-    let s : Seated words.owners (rest_seats o.last o.from names kept keep (front ++ c ∷ back) (updates c.phase || any_update (front ++ back))) =
-    seated_as words.owners _ (rest_seats o.last o.from names kept keep (front ++ c ∷ back) (updates c.phase || any_update (front ++ back)))
-    (fit_four words.owners [] (name_seats names) kept_ones (call_seats o.last o.from (front ++ c ∷ back)) tt all.1 all.2 (calls_fit words.owners o.last o.from front back c all.0 all.3))
+    let kept_ones = store_left o.from store (updates c.phase || any_update (front ++ back)) in
+    let all = fits_four words.owners (phase_seats o.last o.from (stays_of store) c.phase) (both_seats names weaks) kept_ones (call_seats o.last o.from (stays_of store) (front ++ back)) o.seated.fit in
+    let s : Seated words.owners (rest_seats o.last o.from names weaks store (front ++ c ∷ back) (updates c.phase || any_update (front ++ back))) =
+    seated_as words.owners _ (rest_seats o.last o.from names weaks store (front ++ c ∷ back) (updates c.phase || any_update (front ++ back)))
+    (fit_four words.owners [] (both_seats names weaks) kept_ones (call_seats o.last o.from (stays_of store) (front ++ c ∷ back)) tt all.1 all.2 (calls_fit words.owners o.last o.from (stays_of store) front back c all.0 all.3))
     (λ i. (
-    let a = times_four i (phase_seats o.last o.from c.phase) (name_seats names) kept_ones (call_seats o.last o.from (front ++ back)) in
-    let b = times_four i [] (name_seats names) kept_ones (call_seats o.last o.from (front ++ c ∷ back)) in
-    let d = call_times i o.last o.from front back c in
+    let a = times_four i (phase_seats o.last o.from (stays_of store) c.phase) (both_seats names weaks) kept_ones (call_seats o.last o.from (stays_of store) (front ++ back)) in
+    let b = times_four i [] (both_seats names weaks) kept_ones (call_seats o.last o.from (stays_of store) (front ++ c ∷ back)) in
+    let d = call_times i o.last o.from (stays_of store) front back c in
     omega (arith, a, b, d)
     )) o.seated in
     let swaps = swaps_split front back c in
@@ -178,13 +184,15 @@ put_back words names kept keep front back c none o =
       swapped = omega (arith, swaps, o.swapped);
       kept_count = o.kept_count;
       kept_from = o.kept_from;
+      shut = o.shut;
       alone = λ e. absurd (let wrong = e in cc);
       one = one_join front back c o.one o.alone;
       still = tt;
-      stills = oldest_join (oldest_kept keep kept) front back c o.still o.stills;
-      seated = subst (λ b. Seated words.owners (rest_seats o.last o.from names kept keep (front ++ c ∷ back) b)) (sym flag) s;
+      stills = stays_join (stays_of store) front back c o.still o.stills;
+      seated = subst (λ b. Seated words.owners (rest_seats o.last o.from names weaks store (front ++ c ∷ back) b)) (sym flag) s;
       publisher = λ e f. (let parts = or_false (publishes_in c.phase) (any_publishes (front ++ back)) (sym (publishes_split front back c) ∙ f) in o.publisher parts.0 parts.1);
       names_once = λ name. (let n = o.names_once name in let r = reserved_split name front back c in omega (arith, n, r));
+      weak_once = λ name. (let n = o.weak_once name in let r = weak_reserved_split name front back c in omega (arith, n, r));
       calls_once = λ name. (
           let n = o.calls_once name in
           let r = called_split name front back c in

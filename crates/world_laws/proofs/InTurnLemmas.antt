@@ -1,6 +1,6 @@
 -- Whatever lines are played, each update that makes a version is told NOERROR at its end, and each line is of the call of one, or publishes
 -- nothing.
-use Rattle.std.proofs.Common.{◌≡◌, refl, sym, ap, ◌∙◌, subst, ℕ, zero, suc, ◌+◌, ◌^◌, ◌<◌, Bool, true, false, ◌⊎◌, inl, inr, List, [], ◌∷◌, ◌++◌, length, take, arith, Option, Some, None, length-append, append_assoc}
+use Rattle.std.proofs.Common.{◌≡◌, refl, sym, ap, ◌∙◌, subst, ℕ, zero, suc, ◌+◌, ◌^◌, ◌<◌, ◌≤◌, Bool, true, false, ◌⊎◌, inl, inr, List, [], ◌∷◌, ◌++◌, length, take, arith, Option, Some, None, length-append, append_assoc}
 use Rattle.std.specs.Prelude.{bytes_eq, if◌then◌else◌}
 use Rattle.std.specs.List.{slice_get}
 use Rattle.std.specs.Option.{option_and_then}
@@ -20,7 +20,7 @@ use Rattle.dns_rdata.specs.Record.{Record}
 use Rattle.zone_tree.specs.Version.{Version as Numbered}
 use Rattle.world_run.specs.declared.calls.UnderWay.{UnderWay}
 use Rattle.world_run.specs.declared.phase.End.{End}
-use Rattle.world_run.specs.declared.phase.End.TheVariants.{Owned, Told, NoSlot, Kept}
+use Rattle.world_run.specs.declared.phase.End.TheVariants.{Owned, OwnedWeakly, Told, NoSlot, Kept, Sent}
 use Rattle.world_run.specs.declared.phase.Phase.{Phase}
 use Rattle.world_run.specs.declared.phase.Phase.TheVariants as phase
 use Rattle.world_run.specs.declared.phase.Progress.{Progress}
@@ -41,13 +41,15 @@ use Rattle.world_run.specs.Phases.{step_name, updates}
 use Rattle.world_laws.specs.Replays.{Sends, IsSentAt}
 use Rattle.world_laws.specs.UpdateAnswers.{heading_for, heading_of}
 use Rattle.world_run.specs.World.{World, started, call_of, without_call, code_reply, answer_at, step_once, steps_up_to, most_steps, is_full, all_made, whole, begin, begin_under, start, stepped, next, turn, onto_replies, play}
-use Rattle.world_laws.proofs.CallReplays.{Script, scripted, Placed, updates_in, Zones, any_update, AtMostOne, found_any, found_alone}
-use Rattle.world_laws.proofs.EndLemmas.{Unchanged, FirstOf, IsFirst, IsProbe, first_by, start_first}
-use Rattle.world_laws.proofs.HandPlay.{BeginsOk, start_begins, turn_hands, started_hands}
-use Rattle.world_laws.proofs.HandSteps.{swapped_in, swapped_at}
+use Rattle.world_laws.proofs.CallReplays.{Script, scripted, Placed, updates_in, Zones}
+use Rattle.world_laws.proofs.OtherCalls.{any_update, AtMostOne, found_any, found_alone}
+use Rattle.world_laws.proofs.FirstLemmas.{Unchanged, FirstOf, IsFirst, IsProbe, first_by, start_first}
+use Rattle.world_laws.proofs.HandPlay.{BeginsOk, start_begins, entries_ok, turn_hands, turn_same, started_hands, started_less, started_few}
+use Rattle.world_laws.proofs.HandSeats.{swapped_in, swapped_at}
 use Rattle.world_laws.proofs.HandWorld.{Hands}
 use Rattle.world_laws.proofs.HeldLemmas.{same_length}
-use Rattle.world_laws.proofs.ReplayLemmas.{Goes, HeadEnd, HeadAt, step_keeps, found_here, found_behind, found_new, by_after, AddedBy, Turned, turn_comes, goes_as, AllSent, all_sent, start_goes, no_updates, place_in, update_at, goes_replayed, replayed_us}
+use Rattle.world_laws.proofs.ReplayLemmas.{Goes, found_here, found_behind, found_new, by_after, AddedBy, Turned, turn_comes, goes_as, AllSent, all_sent, start_goes, no_updates, place_in, update_at, goes_replayed, replayed_us}
+use Rattle.world_laws.proofs.SwapLemmas.{HeadEnd, HeadAt, step_keeps}
 
 -- which line may have begun the update that is under way
 abbrev BeganBy : List Line → List WorldReply → ℕ → List UnderWay → ℕ → Heading → Type 0
@@ -63,26 +65,38 @@ IsToldSo lines replies top calls one =
 -- what has a header is an update
 head_updates_for : (for : Purpose) (head : Heading) (owner : ℕ) → heading_for for ≡ Some head → updates (phase.Release owner for) ≡ true
 head_updates_for purpose.Drop head owner e = absurd (let wrong = e in cc)
-head_updates_for (purpose.Publish keeping kept) head owner e = refl
-head_updates_for (purpose.Oldest other kept) head owner e = refl
+head_updates_for (purpose.Sent sending owners) head owner e = absurd (let wrong = e in cc)
+head_updates_for (purpose.Publish keeping kept entry) head owner e = refl
+head_updates_for (purpose.Oldest other kept entry leaving) head owner e = refl
+head_updates_for (purpose.Leaves other kept entry leaving) head owner e = refl
 
 head_updates : (at : Phase) (head : Heading) → heading_of at ≡ Some head → updates at ≡ true
 head_updates (phase.Load name) head e = absurd (let wrong = e in cc)
+head_updates (phase.Look name owner) head e = absurd (let wrong = e in cc)
+head_updates (phase.Seek owner seeking) head e = absurd (let wrong = e in cc)
+head_updates (phase.Gain owner seeking) head e = absurd (let wrong = e in cc)
+head_updates (phase.Raise name owner) head e = absurd (let wrong = e in cc)
+head_updates (phase.Note name owner) head e = absurd (let wrong = e in cc)
 head_updates (phase.Probe version keeping) head e = refl
 head_updates (phase.Prepare version keeping) head e = refl
 head_updates (phase.Swap keeping) head e = refl
 head_updates (phase.Settle keeping) head e = refl
 head_updates (phase.Keep given keeping) head e = refl
+head_updates (phase.Enter given kept keeping) head e = refl
 head_updates (phase.Release owner for) head e = head_updates_for for head owner e
 head_updates (phase.Bury owner for) head e = head_updates_for for head owner e
+head_updates (phase.Fade owner number for) head e = head_updates_for for head owner e
+head_updates (phase.Reset owner number for) head e = head_updates_for for head owner e
 head_updates (phase.Free owner number for) head e = head_updates_for for head owner e
 
 -- an update that made its swap is told NOERROR
 kept_answer : (end : End) (head : Heading) → swapped_at (Done end) ≡ 1 → HeadEnd head end → answer_at end ≡ code_reply head NoError
 kept_answer (Owned name owner number) head swapped is = absurd (omega (arith, swapped))
+kept_answer (OwnedWeakly name owner number) head swapped is = absurd (omega (arith, swapped))
 kept_answer (Told given) head swapped is = absurd (omega (arith, swapped))
 kept_answer (NoSlot other) head swapped is = absurd (omega (arith, swapped))
-kept_answer (Kept other owner) head swapped is = ap (λ h. code_reply h NoError) is
+kept_answer (Kept other owner entry) head swapped is = ap (λ h. code_reply h NoError) is
+kept_answer (Sent sending) head swapped is = absurd (omega (arith, swapped))
 
 -- names that are the same octets
 same_name : (one two : List ℕ) → bytes_eq one two ≡ true → one ≡ two
@@ -389,6 +403,8 @@ own_open lines replies top world name call sent head one found is by =
 record Now (lines : List Line) (replies : List WorldReply) (first : List Record) (top : ℕ) (world : World) : Type 0 where
   goes : Goes (scripted (IsSentAt lines) top (BeganBy lines replies top world.calls)) first world
   hands : Hands world
+  less : world.window ≤ 16
+  few : length world.entries ≤ 16
   told : (k : ℕ) (one : Placed) → slice_get goes.us k ≡ Some one → IsToldSo lines replies top world.calls one
 
 abbrev LineFact : List Line → List WorldReply → List Placed → ℕ → World → World → Type 0
@@ -405,7 +421,7 @@ told_new : (lines : List Line) (replies : List WorldReply) (first : List Record)
 told_new lines replies first top world (Whole call) given after one t e n turned added by =
     let how : start world call ≡ Takes by.1 = by.2 in
     let begins = start_begins (scripted (IsSentAt lines) top (BeganBy lines replies top world.calls)) first world call n.goes n.hands in
-    let firsts = taken_first world n.goes.tells.cell call by.1 (start world call) how (start_first world call) begins in
+    let firsts = taken_first world n.goes.tells.cell call by.1 (start world call) how (start_first world call (entries_ok world n.hands n.few)) begins in
     let same = first_by world.words n.goes.tells.cell by.1 (step_once world.words by.1) refl firsts.0 n.goes.tells.shows firsts.1 in
     let changed = words_change _ _ first world after one n.goes turned.goes added in
     let played : (if is_full world then None else Some (all_made world call (steps_up_to most_steps world.words by.1))) ≡ Some (given, after) = ap (whole world call) (sym how) ∙ e in
@@ -431,7 +447,8 @@ line_now lines replies first top world line given after t sent e n =
     let turned : TurnOf lines replies first top world n line given after = turn_comes (scripted (IsSentAt lines) top (BeganBy lines replies top world.calls)) first world line sent n.goes given after e in
     let goes = goes_as (scripted (IsSentAt lines) (top + 1) (by_after (scripted (IsSentAt lines) (top + 1) (BeganBy lines replies top world.calls)) top line given after)) (top + 1) (BeganBy lines replies (top + 1) after.calls) first after (omega arith)
     (λ some sent head by. began_on lines replies top world line given after t e n.goes.one some sent head by) turned.goes in
-    let hands = turn_hands (scripted (IsSentAt lines) top (BeganBy lines replies top world.calls)) first world line n.goes n.hands given after e in
+    let hands = turn_hands (scripted (IsSentAt lines) top (BeganBy lines replies top world.calls)) first world line n.goes n.hands n.few given after e in
+    let same_on = turn_same world line given after e in
     elim turned.comes [
       | inl same ↦ (
           let is : goes.0.us ≡ n.goes.us = goes.1 ∙ same.0 in
@@ -439,6 +456,8 @@ line_now lines replies first top world line given after t sent e n =
             now = record {
               goes = goes.0;
               hands = hands;
+              less = subst (λ w. w ≤ 16) (sym same_on.1) n.less;
+              few = same_on.2 n.less n.few;
               told = λ k one at. told_on lines replies top world line given after one t e (n.told k one (ap (λ us. slice_get us k) (sym is) ∙ at));
             };
             more = [];
@@ -453,6 +472,8 @@ line_now lines replies first top world line given after t sent e n =
             now = record {
               goes = goes.0;
               hands = hands;
+              less = subst (λ w. w ≤ 16) (sym same_on.1) n.less;
+              few = same_on.2 n.less n.few;
               told = λ k one at. elim (push_cases n.goes.us adds.0 one k (ap (λ us. slice_get us k) (sym is) ∙ at)) [
                 | inl old ↦ told_on lines replies top world line given after one t e (n.told k one old)
                 | inr it ↦ subst (λ o. IsToldSo lines replies (top + 1) after.calls o) it new.0
@@ -591,6 +612,8 @@ started_now : (lines : List Line) (replies : List WorldReply) (first : List Reco
 started_now lines replies first keep window = record {
   goes = start_goes (scripted (IsSentAt lines) 0 (BeganBy lines replies 0 [])) first keep window;
   hands = started_hands first keep window;
+  less = started_less first keep window;
+  few = started_few first keep window;
   told = λ k one at. absurd (no_updates (scripted (IsSentAt lines) 0 (BeganBy lines replies 0 [])) first keep window k one at);
 }
 

@@ -3,10 +3,13 @@ pub mod BurialLemmas
 pub mod CallReplays
 pub mod ChainLists
 pub mod EndLemmas
+pub mod FirstLemmas
 pub mod HandEnds
 pub mod HandLemmas
 pub mod HandPlay
+pub mod HandSeats
 pub mod HandSteps
+pub mod HandStore
 pub mod HandTurns
 pub mod HandWorld
 pub mod HeldLemmas
@@ -14,8 +17,11 @@ pub mod InTurnLemmas
 pub mod LeadLemmas
 pub mod LeadReplies
 pub mod LineLemmas
+pub mod OtherCalls
 pub mod ReplayLemmas
 pub mod RunLemmas
+pub mod SeekLemmas
 pub mod SentUpdates
 pub mod SpeltLemmas
-pub mod ToldLemmas
+pub mod SwapLemmas
+pub mod WindowRest

@@ -21,13 +21,21 @@ use Rattle.world_laws.proofs.RunLemmas.{one_step}
 -- a call's step has its word step's name
 name_is : (at : Phase) → step_name at ≡ name_of (word_step at)
 name_is (phase.Load name) = refl
+name_is (phase.Look name owner) = refl
+name_is (phase.Seek owner seeking) = refl
+name_is (phase.Gain owner seeking) = refl
+name_is (phase.Raise name owner) = refl
+name_is (phase.Note name owner) = refl
 name_is (phase.Probe version keeping) = refl
 name_is (phase.Prepare version keeping) = refl
 name_is (phase.Swap keeping) = refl
 name_is (phase.Settle keeping) = refl
 name_is (phase.Keep given keeping) = refl
+name_is (phase.Enter given kept keeping) = refl
 name_is (phase.Release owner for) = refl
 name_is (phase.Bury owner for) = refl
+name_is (phase.Fade owner number for) = refl
+name_is (phase.Reset owner number for) = refl
 name_is (phase.Free owner number for) = refl
 
 stepped_one : (world : World) (name : List ℕ) (at : Phase) (o : Option (Progress × State Numbered)) → step_once world.words at ≡ o → TakesOneStep world (stepped world name at o).0 (stepped world name at o).1

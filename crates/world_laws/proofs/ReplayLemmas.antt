@@ -1,6 +1,6 @@
 -- The versions of a run are the replays of its updates.
 use Rattle.std.proofs.Common.{lit<, ◌≡◌, ◌≢◌, refl, sym, ap, ◌∙◌, subst, ℕ, zero, suc, ◌+◌, ◌<◌, ◌≤◌, ◌⊎◌, inl, inr, Bool, true, false, List, [], ◌∷◌, ◌++◌, length, take, arith, Option, Some, None}
-use Rattle.std.specs.Prelude.{◌&&◌, nat_lt, if◌then◌else◌, ◌||◌, ◌==◌, not, bytes_eq}
+use Rattle.std.specs.Prelude.{◌&&◌, is_some, min, nat_le, nat_lt, if◌then◌else◌, ◌||◌, not, bytes_eq}
 use Rattle.std.proofs.lemmas.Bool.{cases_Bool}
 use Rattle.std.proofs.lemmas.Slice.Eq.{bytes_eq-Decides}
 use Rattle.std.specs.List.{slice_get}
@@ -8,18 +8,14 @@ use Rattle.std.specs.Option.{option_map, option_and_then}
 use Rattle.std.proofs.lemmas.List.{take_all, length-map}
 use Rattle.std.proofs.lemmas.Option.{slice_get_within}
 use Rattle.cell_core.proofs.BeginShows.{begun_shows}
-use Rattle.cell_core.proofs.MadeLemmas.{made_makes}
-use Rattle.cell_core.proofs.OwnerLemmas.{keeps_number}
 use Rattle.cell_core.proofs.SeatLemmas.{get_within}
 use Rattle.cell_core.proofs.UserLemmas.{last_is_given, owner_is_given}
 use Rattle.cell_core.specs.Cell.{start as cell_start}
 use Rattle.cell_core.specs.Made.{made}
-use Rattle.cell_core.specs.Words.{State, grants, begun, version_in, place_of, found_by, found_last}
-use Rattle.cell_core.specs.WordSteps.{Makes}
+use Rattle.cell_core.specs.Words.{grants, begun, first_slot, version_in, place_of, found_by, found_last}
 use Rattle.cell_core.specs.declared.words.Owner.{Owner}
-use Rattle.cell_core.specs.declared.words.Owner.TheVariants.{Holding, Burying, Freeing, Spent}
+use Rattle.cell_core.specs.declared.words.Owner.TheVariants.{Holding, Twice, Weakly, Both, Burying, Fading, Resetting, Freeing, Spent}
 use Rattle.cell_core.specs.declared.words.Version.{Version}
-use Rattle.cell_core.specs.declared.words.WordEvent.{WordEvent}
 use Rattle.cell_core.specs.declared.words.WordEvent.TheVariants as told
 use Rattle.cell_core.specs.declared.words.WordStep.TheVariants as word
 use Rattle.dns_rdata.specs.Record.{Record}
@@ -32,10 +28,11 @@ use Rattle.update_core.specs.Verdict.{verdict}
 use Rattle.dns_message.specs.declared.query.Parsed.{Parsed}
 use Rattle.dns_message.specs.declared.query.Parsed.TheVariants as parsed
 use Rattle.dns_message.specs.declared.query.Query.{Query as QueryAsked}
-use Rattle.dns_rdata.specs.Numbers.{type_IXFR}
 use Rattle.serve_core.specs.declared.transport.Transport.TheVariants.{Udp, Tcp}
 use Rattle.serve_core.specs.Transfers.{peer_over, is_permitted}
-use Rattle.world_run.specs.World.{version_of, asks_sent, transfer_asked, transfer_said, transfer_start}
+use Rattle.world_run.specs.World.{asks_sent, seek_start, transfer_asked, transfer_said, transfer_of, transfer_start, none_got, is_barred, can_enter, noted_once, started_words}
+use Rattle.world_run.specs.Entries.{most_entries, later}
+use Rattle.world_run.specs.declared.sending.Sending.{Sending}
 use Rattle.world_run.specs.declared.judged.Judged.{Judged}
 use Rattle.world_run.specs.declared.judged.Judged.TheVariants as judgement
 use Rattle.world_run.specs.declared.phase.Phase.{Phase}
@@ -45,148 +42,28 @@ use Rattle.world_run.specs.declared.calls.UnderWay.{UnderWay}
 use Rattle.world_run.specs.declared.start.Start.{Start}
 use Rattle.world_run.specs.declared.start.Start.TheVariants.{Refused, Answers, Takes}
 use Rattle.world_run.specs.declared.step.Call.{Call}
-use Rattle.world_run.specs.declared.step.Call.TheVariants.{Load, Drop, Ask, Transfer, Update}
+use Rattle.world_run.specs.declared.step.Call.TheVariants.{Load, Drop, Copy, Weak, Fade, Up, Ask, Transfer, Update}
 use Rattle.world_run.specs.declared.step.WorldReply.{WorldReply}
 use Rattle.world_run.specs.declared.step.WorldStep.{WorldStep as Line}
 use Rattle.world_run.specs.declared.step.WorldStep.TheVariants.{Whole, Begin, Next}
 use Rattle.world_run.specs.Judgements.{asks_update, judged}
 use Rattle.zone_tree.specs.Version.{Version as Numbered, KnowsChanges}
 use Rattle.world_run.specs.Numbered.{first_version}
-use Rattle.world_run.specs.Phases.{word_step, after, past, oldest_after, updates}
+use Rattle.world_run.specs.Phases.{word_step, after, updates}
 use Rattle.world_laws.specs.InTurn.{LeavesPublished}
-use Rattle.world_laws.specs.UpdateAnswers.{heading_of, KeepsHeading}
-use Rattle.world_run.specs.declared.phase.End.{End}
-use Rattle.world_run.specs.declared.phase.End.TheVariants.{Owned, Told, NoSlot, Kept}
-use Rattle.world_run.specs.declared.phase.Keeping.{Keeping}
-use Rattle.world_run.specs.declared.phase.Phase.TheVariants as phase
-use Rattle.world_run.specs.declared.phase.Purpose.{Purpose}
-use Rattle.world_run.specs.declared.phase.Purpose.TheVariants as purpose
-use Rattle.world_run.specs.declared.step.Answer.{Answer}
-use Rattle.world_run.specs.declared.step.Answer.TheVariants as answer
+use Rattle.world_laws.specs.UpdateAnswers.{heading_of}
 use Rattle.world_run.specs.declared.step.WorldReply.TheVariants.{Answered, Begun, NotEnabled}
 use Rattle.world_laws.proofs.AnswerLemmas.{keeps_head}
-use Rattle.world_laws.proofs.HandSteps.{swapped_for, swapped_in, swapped_at, swaps_now}
+use Rattle.world_laws.proofs.HandSeats.{swapped_in, swapped_at, swaps_now}
 use Rattle.world_laws.specs.Replays.{Sends, IsSentAt, AreSentInTurn}
-use Rattle.world_run.specs.World.{World, loaded_once, started, call_of, without_call, publication_start, update_start, oldest_kept, is_held, start, step_once, steps_up_to, go_on, most_steps, is_full, given_up, all_made, whole, begin, begin_under, stepped, next, turn, onto_replies, play, zone_of, owner_of, is_taken, drop_start, ask_start}
+use Rattle.world_run.specs.World.{World, loaded_once, started, call_of, without_call, publication_start, update_start, oldest_kept, is_held, start, step_once, steps_up_to, go_on, most_steps, is_full, given_up, all_made, whole, begin, begin_under, stepped, next, turn, onto_replies, play, zone_of, owner_of, is_taken, is_taken_weakly, is_used, drop_start, fade_start, copy_start, weak_start, up_start, weak_given_up, ask_start}
 use Rattle.world_laws.specs.Replays.{IsReplayed, IsAnsweredInReplay}
 use Rattle.world_laws.specs.Runs.{IsAnsweredAtLoaded}
 use Rattle.world_run.proofs.JudgeLemmas.{made_by}
 use Rattle.world_laws.proofs.RunLemmas.{answered_at_loaded}
-use Rattle.world_laws.proofs.CallReplays.{Script, script, moved, all_none, coherent_on, no_update, Placed, updates_in, IsFresh, AreInTurn, later_on, fresh_on, all_on, tells_on, IsNext, Zones, Tells, tells_same, Coherent, Behind, behind, AllCoherent, any_update, AtMostOne, others_all, without_coherent, without_one, with_coherent, with_one, found_coherent, found_alone}
-
--- a step of a call, as one of the words
-pub record StepOf (words : Zones) (at : Phase) (progress : Progress) (new : Zones) : Type 0 where
-  pub event : WordEvent
-  pub makes : Makes words (word_step at) event new
-  pub goes : after at event ≡ progress
-
-pub step_by : (words new : Zones) (at : Phase) (progress : Progress) (o : Option (WordEvent × State Numbered)) → made words (word_step at) ≡ o → option_map {U = Progress × State Numbered} (λ t. (after at t.0, t.1)) o ≡ Some (progress, new) → StepOf words at progress new
-step_by words new at progress None e is = absurd (let wrong = is in cc)
-step_by words new at progress (Some t) e is =
-    let pair : (after at t.0, t.1) ≡ (progress, new) = (let i = is in cc) in
-    let same : t.1 ≡ new = ap (λ (p : Progress × State Numbered). p.1) pair in
-    record { event = t.0; makes = subst (λ s. Makes words (word_step at) t.0 s) same (made_makes words t.1 (word_step at) t.0 e); goes = ap (λ (p : Progress × State Numbered). p.0) pair }
-
-behind_once : (S : Script) (first : List Record) (us : List Placed) (words new : Zones) (at : Phase) (progress : Progress) → step_once words at ≡ Some (progress, new) → Tells S first words us → Coherent S first us words at → Behind S first us words new at progress
-behind_once S first us words new at progress e t c =
-    let one = step_by words new at progress (made words (word_step at)) refl e in
-    subst (λ p. Behind S first us words new at p) one.goes (behind S first us words new at one.event one.makes t c)
-
--- whether an update has made its swap, behind a step
-oldest_swapped : (head : Heading) (kept : ℕ) (oldest : Option ℕ) → swapped_at (oldest_after head kept oldest) ≡ 1
-oldest_swapped head kept None = refl
-oldest_swapped head kept (Some owner) = refl
-
-past_swapped : (for : Purpose) (given : Answer) → swapped_at (past for given) ≡ swapped_for for
-past_swapped purpose.Drop given = refl
-past_swapped (purpose.Publish keeping kept) given = oldest_swapped keeping.heading kept keeping.oldest
-past_swapped (purpose.Oldest head kept) given = refl
-
-load_swapped : (name : List ℕ) (event : WordEvent) → swapped_at (after (phase.Load name) event) ≡ 0
-load_swapped name (told.Loaded owner number) = refl
-load_swapped name event = refl
-
-probe_swapped : (version : Numbered) (keeping : Keeping) (event : WordEvent) → swapped_at (after (phase.Probe version keeping) event) ≡ 0
-probe_swapped version keeping told.Taken = refl
-probe_swapped version keeping told.NoSlot = refl
-probe_swapped version keeping event = refl
-
-settle_swapped : (keeping : Keeping) (event : WordEvent) → swapped_at (after (phase.Settle keeping) event) ≡ 1
-settle_swapped keeping (told.Settled owner number) = refl
-settle_swapped keeping event = refl
-
-keep_swapped : (given : ℕ) (keeping : Keeping) (event : WordEvent) → swapped_at (after (phase.Keep given keeping) event) ≡ 1
-keep_swapped given keeping (told.Loaded owner number) = refl
-keep_swapped given keeping event = refl
-
-release_swapped : (owner : ℕ) (for : Purpose) (event : WordEvent) → swapped_at (after (phase.Release owner for) event) ≡ swapped_for for
-release_swapped owner for told.Emptied = refl
-release_swapped owner for event = past_swapped for answer.Left
-
-bury_swapped : (owner : ℕ) (for : Purpose) (event : WordEvent) → swapped_at (after (phase.Bury owner for) event) ≡ swapped_for for
-bury_swapped owner for (told.Buried number) = refl
-bury_swapped owner for event = past_swapped for answer.Left
-
-after_swapped : (at : Phase) (event : WordEvent) → swapped_at (after at event) ≡ swapped_in at + swaps_now at
-after_swapped (phase.Load name) event = load_swapped name event
-after_swapped (phase.Probe version keeping) event = probe_swapped version keeping event
-after_swapped (phase.Prepare version keeping) event = refl
-after_swapped (phase.Swap keeping) event = refl
-after_swapped (phase.Settle keeping) event = settle_swapped keeping event
-after_swapped (phase.Keep given keeping) event = keep_swapped given keeping event
-after_swapped (phase.Release owner for) event = (let e = release_swapped owner for event in omega (arith, e))
-after_swapped (phase.Bury owner for) event = (let e = bury_swapped owner for event in omega (arith, e))
-after_swapped (phase.Free owner number for) event = (let e = past_swapped for (answer.Buried number) in omega (arith, e))
-
-swap_updates : (at : Phase) → swaps_now at ≡ 1 → updates at ≡ true
-swap_updates (phase.Load name) e = absurd (omega (arith, e))
-swap_updates (phase.Probe version keeping) e = refl
-swap_updates (phase.Prepare version keeping) e = refl
-swap_updates (phase.Swap keeping) e = refl
-swap_updates (phase.Settle keeping) e = refl
-swap_updates (phase.Keep given keeping) e = refl
-swap_updates (phase.Release owner for) e = absurd (omega (arith, e))
-swap_updates (phase.Bury owner for) e = absurd (omega (arith, e))
-swap_updates (phase.Free owner number for) e = absurd (omega (arith, e))
-
--- an update goes on, or is at its end, with this header
-abbrev pub HeadEnd : Heading → End → Type 0
-HeadEnd head (Owned name owner number) = ⊥
-HeadEnd head (Told given) = ⊥
-HeadEnd head (NoSlot other) = other ≡ head
-HeadEnd head (Kept other owner) = other ≡ head
-
-abbrev pub HeadAt : Heading → Progress → Type 0
-HeadAt head (On at) = heading_of at ≡ Some head
-HeadAt head (Done end) = HeadEnd head end
-
-keeps_at : (head : Heading) (event : WordEvent) (progress : Progress) → KeepsHeading head event progress → HeadAt head progress
-keeps_at head event (On next) k = k
-keeps_at head event (Done end) k = elim k [
-  | inl none ↦ subst (HeadEnd head) (sym none.0) refl
-  | inr kept ↦ subst (HeadEnd head) (sym kept.1) refl
-]
-
-abbrev pub KeepsAt : Phase → Progress → Type 0
-KeepsAt at progress = (head : Heading) → heading_of at ≡ Some head → HeadAt head progress
-
-none_again : (at : Phase) → swapped_in at ≡ 1 → swaps_now at ≡ 0
-none_again (phase.Load name) e = refl
-none_again (phase.Probe version keeping) e = refl
-none_again (phase.Prepare version keeping) e = refl
-none_again (phase.Swap keeping) e = absurd (omega (arith, e))
-none_again (phase.Settle keeping) e = refl
-none_again (phase.Keep given keeping) e = refl
-none_again (phase.Release owner for) e = refl
-none_again (phase.Bury owner for) e = refl
-none_again (phase.Free owner number for) e = refl
-
--- a step of an update behind its swap, and of one with a header
-pub step_keeps : (words new : Zones) (at : Phase) (progress : Progress) → step_once words at ≡ Some (progress, new) → (swapped_in at ≡ 1 → swapped_at progress ≡ 1) × KeepsAt at progress
-step_keeps words new at progress e =
-    let one = step_by words new at progress (made words (word_step at)) refl e in
-    let swapped : swapped_at progress ≡ swapped_in at + swaps_now at = ap swapped_at (sym one.goes) ∙ after_swapped at one.event in
-    ((λ is. let none = none_again at is in omega (arith, swapped, is, none)), λ head h. subst (HeadAt head) one.goes (keeps_at head one.event (after at one.event) (keeps_head at one.event head h)))
+use Rattle.world_laws.proofs.SwapLemmas.{step_by, behind_once, after_swapped, swap_updates, HeadAt, keeps_at, KeepsAt}
+use Rattle.world_laws.proofs.CallReplays.{Script, script, no_update, Placed, updates_in, IsFresh, AreInTurn, IsNext, Zones, Tells, tells_same, Coherent, Behind, behind}
+use Rattle.world_laws.proofs.OtherCalls.{moved, unbarred, all_none, coherent_on, later_on, fresh_on, all_on, tells_on, AllCoherent, any_update, AtMostOne, others_all, without_coherent, without_one, with_coherent, with_one, found_coherent, found_alone}
 
 -- the steps of a call leave the updates so far, and the versions that are published, as they were
 pub record Leaves (us later : List Placed) (words new : Zones) (at : Phase) (progress : Progress) : Type 0 where
@@ -211,8 +88,8 @@ Comes S us later words new at progress = Leaves us later words new at progress �
 pub comes_by : (S : Script) (first : List Record) (us : List Placed) (words new : Zones) (at : Phase) (progress : Progress) → step_once words at ≡ Some (progress, new) → (b : Behind S first us words new at progress) → Comes S us b.later words new at progress
 comes_by S first us words new at progress e b =
     let one = step_by words new at progress (made words (word_step at)) refl e in
-    let swapped : swapped_at progress ≡ swapped_in at + swaps_now at = ap swapped_at (sym one.goes) ∙ after_swapped at one.event in
-    let headed : KeepsAt at progress = λ head h. subst (HeadAt head) one.goes (keeps_at head one.event (after at one.event) (keeps_head at one.event head h)) in
+    let swapped : swapped_at progress ≡ swapped_in at + swaps_now at = ap swapped_at (sym one.goes) ∙ after_swapped new at one.event in
+    let headed : KeepsAt at progress = λ head h. subst (HeadAt head) one.goes (keeps_at head one.event (after new at one.event) (keeps_head new at one.event head h)) in
     elim b.grown [
       | inl stays ↦ inl (record { same = stays.0; leaves = stays.2; swapped = (let none = stays.1 in omega (arith, swapped, none)); headed = headed })
       | inr adds ↦ inr (record { one = adds.0; added = adds.1; mine = adds.4; update = swap_updates at adds.2; unswapped = adds.3; swapped = (let now = adds.2 in let none = adds.3 in omega (arith, swapped, now, none)); headed = headed })
@@ -308,30 +185,55 @@ ok_if S first us words calls place false one two a b = b refl
 no_true : (false ≡ true) → ⊥
 no_true e = let wrong = e in cc
 
-drop_ok : (S : Script) (first : List Record) (us : List Placed) (words : Zones) (calls : List UnderWay) (place : ℕ) (owner : Option ℕ) → StartOk S first us words calls place (drop_start owner)
+drop_ok : (S : Script) (first : List Record) (us : List Placed) (words : Zones) (calls : List UnderWay) (place : ℕ) (owner : Option ℕ) → StartOk S first us words calls place (drop_start calls owner)
 drop_ok S first us words calls place None = tt
-drop_ok S first us words calls place (Some owner) = (tt, λ e. absurd (no_true e))
+drop_ok S first us words calls place (Some owner) = ok_if S first us words calls place (is_used calls owner) _ _ (λ e. tt) (λ e. (tt, λ is. absurd (no_true is)))
+
+fade_ok : (S : Script) (first : List Record) (us : List Placed) (words : Zones) (calls : List UnderWay) (place : ℕ) (owner : Option ℕ) → StartOk S first us words calls place (fade_start calls owner)
+fade_ok S first us words calls place None = tt
+fade_ok S first us words calls place (Some owner) = ok_if S first us words calls place (is_used calls owner) _ _ (λ e. tt) (λ e. (tt, λ is. absurd (no_true is)))
+
+copy_ok : (S : Script) (first : List Record) (us : List Placed) (words : Zones) (calls : List UnderWay) (place : ℕ) (name : List ℕ) (owner : Option ℕ) → StartOk S first us words calls place (copy_start name owner)
+copy_ok S first us words calls place name None = tt
+copy_ok S first us words calls place name (Some owner) = (tt, λ is. absurd (no_true is))
+
+weak_ok : (S : Script) (first : List Record) (us : List Placed) (words : Zones) (calls : List UnderWay) (place : ℕ) (name : List ℕ) (owner : Option ℕ) → StartOk S first us words calls place (weak_start name owner)
+weak_ok S first us words calls place name None = tt
+weak_ok S first us words calls place name (Some owner) = (tt, λ is. absurd (no_true is))
+
+up_ok : (S : Script) (first : List Record) (us : List Placed) (words : Zones) (calls : List UnderWay) (place : ℕ) (name : List ℕ) (owner : Option ℕ) → StartOk S first us words calls place (up_start calls name owner)
+up_ok S first us words calls place name None = tt
+up_ok S first us words calls place name (Some owner) = ok_if S first us words calls place (is_used calls owner) _ _ (λ e. tt) (λ e. (tt, λ is. absurd (no_true is)))
 
 ask_ok : (S : Script) (first : List Record) (us : List Placed) (words : Zones) (calls : List UnderWay) (place : ℕ) (zone : Option (List Record)) (request : List ℕ) → StartOk S first us words calls place (ask_start zone request)
 ask_ok S first us words calls place None request = tt
 ask_ok S first us words calls place (Some zone) request = ok_if S first us words calls place (asks_update (reads request) || asks_sent Udp zone (reads request)) _ _ (λ e. tt) (λ e. tt)
 
-asked_ok : (S : Script) (first : List Record) (us : List Placed) (words : Zones) (calls : List UnderWay) (place : ℕ) (world : World) (version : Numbered) (query : QueryAsked) → StartOk S first us words calls place (transfer_asked world version query)
-asked_ok S first us words calls place world version query =
-    ok_if S first us words calls place (not (is_permitted version.zone (peer_over Tcp true) query)) _ _ (λ e. tt)
-    (λ e. ok_if S first us words calls place (query.question.rtype.0 == type_IXFR && any_update world.calls) _ _ (λ f. tt) (λ f. tt))
+seek_ok : (S : Script) (first : List Record) (us : List Placed) (words : Zones) (calls : List UnderWay) (place : ℕ) (sending : Sending) (owners : List ℕ) → StartOk S first us words calls place (seek_start words sending owners)
+seek_ok S first us words calls place sending [] = tt
+seek_ok S first us words calls place sending (owner ∷ left) = ok_if S first us words calls place (nat_le (words.granted + length (owner ∷ left)) grants) _ _ (λ e. (tt, λ is. absurd (no_true is))) (λ e. tt)
 
-sent_ok : (S : Script) (first : List Record) (us : List Placed) (words : Zones) (calls : List UnderWay) (place : ℕ) (world : World) (version : Numbered) (said : Parsed) → StartOk S first us words calls place (transfer_said world version said)
-sent_ok S first us words calls place world version parsed.Silent = tt
-sent_ok S first us words calls place world version (parsed.Fault head code) = tt
-sent_ok S first us words calls place world version (parsed.BadOpt head question code dnssec_ok) = tt
-sent_ok S first us words calls place world version (parsed.Query query) = asked_ok S first us words calls place world version query
-sent_ok S first us words calls place world version (parsed.Update update) = tt
-sent_ok S first us words calls place world version (parsed.NoMemory head) = tt
+asked_ok : (S : Script) (first : List Record) (us : List Placed) (place : ℕ) (world : World) (sending : Sending) (query : QueryAsked) → StartOk S first us world.words world.calls place (transfer_asked world sending query)
+asked_ok S first us place world sending query =
+    ok_if S first us world.words world.calls place (not (is_permitted sending.version.zone (peer_over Tcp true) query)) _ _ (λ e. tt)
+    (λ e. ok_if S first us world.words world.calls place (is_some query.serial && is_barred world.calls) _ _ (λ f. tt)
+    (λ f. seek_ok S first us world.words world.calls place sending (later sending.version.number query.serial world.entries)))
 
-transfer_ok : (S : Script) (first : List Record) (us : List Placed) (words : Zones) (calls : List UnderWay) (place : ℕ) (world : World) (version : Option Numbered) (request : List ℕ) → StartOk S first us words calls place (transfer_start world version request)
-transfer_ok S first us words calls place world None request = tt
-transfer_ok S first us words calls place world (Some version) request = sent_ok S first us words calls place world version (reads request)
+sent_ok : (S : Script) (first : List Record) (us : List Placed) (place : ℕ) (world : World) (sending : Sending) (said : Parsed) → StartOk S first us world.words world.calls place (transfer_said world sending said)
+sent_ok S first us place world sending parsed.Silent = tt
+sent_ok S first us place world sending (parsed.Fault head code) = tt
+sent_ok S first us place world sending (parsed.BadOpt head question code dnssec_ok) = tt
+sent_ok S first us place world sending (parsed.Query query) = asked_ok S first us place world sending query
+sent_ok S first us place world sending (parsed.Update update) = tt
+sent_ok S first us place world sending (parsed.NoMemory head) = tt
+
+of_ok : (S : Script) (first : List Record) (us : List Placed) (place : ℕ) (world : World) (owner : ℕ) (request : List ℕ) (version : Option Numbered) → StartOk S first us world.words world.calls place (transfer_of world owner request version)
+of_ok S first us place world owner request None = tt
+of_ok S first us place world owner request (Some version) = sent_ok S first us place world (none_got owner version request) (reads request)
+
+transfer_ok : (S : Script) (first : List Record) (us : List Placed) (place : ℕ) (world : World) (request : List ℕ) (owner : Option ℕ) → StartOk S first us world.words world.calls place (transfer_start world request owner)
+transfer_ok S first us place world request None = tt
+transfer_ok S first us place world request (Some owner) = of_ok S first us place world owner request (found_by world.words owner)
 
 -- the last version is the replay of all updates
 pub last_replay : (S : Script) (first : List Record) (words : Zones) (us : List Placed) (last : Numbered) → Tells S first words us → found_last words ≡ Some last → (last.number ≡ length (updates_in us)) × (last.zone ≡ replay first (updates_in us))
@@ -340,8 +242,9 @@ last_replay S first words us last t found =
     let is = t.replays.versions (length (updates_in us)) last (sym given ∙ found) in
     (is.0, is.1 ∙ ap (replay first) (take_all (length (updates_in us)) (updates_in us) (omega arith)))
 
-publication_ok : (S : Script) (first : List Record) (us : List Placed) (words : Zones) (calls : List UnderWay) (place : ℕ) (head : Heading) (version : Numbered) (oldest : Option ℕ) → any_update calls ≡ false → IsNext (moved S S.top (λ sent other. (sent ≡ place) × (Some head ≡ Some other))) first us version → StartOk S first us words calls place (publication_start words head version oldest)
-publication_ok S first us words calls place head version oldest none n = ok_if S first us words calls place (nat_lt words.granted grants && is_held words oldest) _ _ (λ e. (n, λ is. none)) (λ e. tt)
+publication_ok : (S : Script) (first : List Record) (us : List Placed) (world : World) (place : ℕ) (head : Heading) (version : Numbered) → any_update world.calls ≡ false → IsNext (moved S S.top (λ sent other. (sent ≡ place) × (Some head ≡ Some other))) first us version → StartOk S first us world.words world.calls place (publication_start world head version)
+publication_ok S first us world place head version none n =
+    ok_if S first us world.words world.calls place (nat_lt world.words.granted grants && is_held world.words (oldest_kept world.keep world.kept) && can_enter world.words world.window) _ _ (λ e. (n, λ is. none)) (λ e. tt)
 
 update_ok : (S : Script) (first : List Record) (us : List Placed) (world : World) (request : List ℕ) (place : ℕ) (last : Numbered) (what : Option Judged) → judged last request ≡ what → S.sends place request → IsFresh S us place → any_update world.calls ≡ false → found_last world.words ≡ Some last → Tells S first world.words us → StartOk S first us world.words world.calls place (update_start world what)
 update_ok S first us world request place last None is sent fresh none found t = tt
@@ -349,7 +252,7 @@ update_ok S first us world request place last (Some (judgement.Told head code)) 
 update_ok S first us world request place last (Some (judgement.Makes head version)) is sent fresh none found t =
     let m = made_by last request head version is in
     let l = last_replay S first world.words us last t found in
-    publication_ok S first us world.words world.calls place head version (oldest_kept world.keep world.kept) none (record {
+    publication_ok S first us world place head version none (record {
       place = place;
       fresh = record { played = fresh.played; last = fresh.last };
       makes = record {
@@ -376,10 +279,14 @@ found_ok S first us world request place (Some last) found sent fresh none t = up
 start_ok : (S : Script) (first : List Record) (world : World) (call : Call) (place : ℕ) → ((request : List ℕ) → call ≡ Update request → S.sends place request) → (g : Goes S first world) → IsFresh S g.us place → StartOk S first g.us world.words world.calls place (start world call)
 start_ok S first world (Load name) place sent g fresh = ok_if S first g.us world.words world.calls place (is_taken name world) _ _ (λ e. tt) (λ e. (tt, λ is. absurd (no_true is)))
 start_ok S first world (Drop name) place sent g fresh = drop_ok S first g.us world.words world.calls place (owner_of name world.names)
+start_ok S first world (Copy given name) place sent g fresh = ok_if S first g.us world.words world.calls place (is_taken name world) _ _ (λ e. tt) (λ e. copy_ok S first g.us world.words world.calls place name (owner_of given world.names))
+start_ok S first world (Weak given name) place sent g fresh = ok_if S first g.us world.words world.calls place (is_taken_weakly name world || is_barred world.calls) _ _ (λ e. tt) (λ e. weak_ok S first g.us world.words world.calls place name (owner_of given world.names))
+start_ok S first world (Fade name) place sent g fresh = fade_ok S first g.us world.words world.calls place (owner_of name world.weak_names)
+start_ok S first world (Up weak name) place sent g fresh = ok_if S first g.us world.words world.calls place (is_taken name world) _ _ (λ e. tt) (λ e. up_ok S first g.us world.words world.calls place name (owner_of weak world.weak_names))
 start_ok S first world (Ask name request) place sent g fresh = ask_ok S first g.us world.words world.calls place (zone_of name world) request
-start_ok S first world (Transfer name request) place sent g fresh = transfer_ok S first g.us world.words world.calls place world (version_of name world) request
+start_ok S first world (Transfer name request) place sent g fresh = transfer_ok S first g.us place world request (owner_of name world.names)
 start_ok S first world (Update request) place sent g fresh =
-    ok_if S first g.us world.words world.calls place (any_update world.calls) _ _ (λ e. tt) (λ none. found_ok S first g.us world request place (found_last world.words) refl (sent request refl) fresh none g.tells)
+    ok_if S first g.us world.words world.calls place (is_barred world.calls) _ _ (λ e. tt) (λ none. found_ok S first g.us world request place (found_last world.words) refl (sent request refl) fresh (unbarred world.calls none) g.tells)
 
 -- whichever may have begun the update that is under way behind a line: what may have before it; or the line itself, by the call that it put
 -- under way
@@ -528,9 +435,9 @@ found_new name (x ∷ calls) at e =
     ]
 
 begun_goes : (S : Script) (first : List Record) (world : World) (name : List ℕ) (call : Call) (place : ℕ) (at : Phase) → call_of name world.calls ≡ None → (g : Goes S first world) → StartOk S first g.us world.words world.calls place (Takes at)
-    → Turned S first world g.us (Begin name call) place Begun (record world { names = given_up call world.names; calls = world.calls ++ record { name = name; phase = at } ∷ [] })
+    → Turned S first world g.us (Begin name call) place Begun (record world { names = given_up call world.names; weak_names = weak_given_up call world.weak_names; calls = world.calls ++ record { name = name; phase = at } ∷ [] })
 begun_goes S first world name call place at unused g ok =
-    let after_line : World = record world { names = given_up call world.names; calls = world.calls ++ record { name = name; phase = at } ∷ [] } in
+    let after_line : World = record world { names = given_up call world.names; weak_names = weak_given_up call world.weak_names; calls = world.calls ++ record { name = name; phase = at } ∷ [] } in
     record {
       goes = record {
         us = g.us;
@@ -700,10 +607,17 @@ start_tells S first = record {
         (ap (λ (v : Numbered). v.number) (sym same), ap (λ (v : Numbered). v.zone) (sym same))
     first_is first (suc k) version e = absurd (let wrong = e in cc)
 
+-- the first version is loaded once, and noted where there is a window
+started_tells : (S : Script) (first : List Record) (window : ℕ) (some : Bool) → nat_lt 0 window ≡ some → Tells S first (started_words (first_version first) window) []
+started_tells S first window true e =
+    rw e (tells_same S first (loaded_once (first_version first)) (noted_once (first_version first)) [] (word.Note 0) (told.Noted 1 0) tt (0, 0, first_slot (first_version first), refl, refl, lit< tt, refl, refl)
+    (tells_same S first (begun (first_version first)) (loaded_once (first_version first)) [] word.Load (told.Loaded 0 0) tt (0, refl, lit< tt, refl, refl) (start_tells S first)))
+started_tells S first window false e = rw e (tells_same S first (begun (first_version first)) (loaded_once (first_version first)) [] word.Load (told.Loaded 0 0) tt (0, refl, lit< tt, refl, refl) (start_tells S first))
+
 pub start_goes : (S : Script) (first : List Record) (keep window : ℕ) → Goes S first (started first keep window)
 start_goes S first keep window = record {
   us = [];
-  tells = tells_same S first (begun (first_version first)) (loaded_once (first_version first)) [] word.Load (told.Loaded 0 0) tt (0, refl, lit< tt, refl, refl) (start_tells S first);
+  tells = started_tells S first (min window most_entries) (nat_lt 0 (min window most_entries)) refl;
   coherent = tt;
   one = tt;
 }
@@ -765,6 +679,11 @@ holds_by : (words : Zones) (owner : ℕ) (version : Numbered) (o : Option Owner)
 holds_by words owner version None e found = absurd (let wrong = found in cc)
 holds_by words owner version (Some (Holding number place)) e found = (number, place, e)
 holds_by words owner version (Some (Burying place)) e found = absurd (let wrong = found in cc)
+holds_by words owner version (Some (Twice number place)) e found = absurd (let wrong = found in cc)
+holds_by words owner version (Some (Weakly number place)) e found = absurd (let wrong = found in cc)
+holds_by words owner version (Some (Both number place)) e found = absurd (let wrong = found in cc)
+holds_by words owner version (Some (Fading place)) e found = absurd (let wrong = found in cc)
+holds_by words owner version (Some (Resetting place)) e found = absurd (let wrong = found in cc)
 holds_by words owner version (Some (Freeing place)) e found = absurd (let wrong = found in cc)
 holds_by words owner version (Some Spent) e found = absurd (let wrong = found in cc)
 
@@ -777,7 +696,7 @@ zone_replayed first lines world name zone at r found =
     let here : option_map (λ (v : Numbered). v.zone) (found_by world.words at.owner) ≡ Some zone = ap (λ o. option_map (λ (v : Numbered). v.zone) (option_and_then (found_by world.words) o)) (sym at.owns) ∙ found in
     let v = version_by zone (found_by world.words at.owner) here in
     let held = holds_by world.words at.owner v.0 (slice_get world.words.owners at.owner) refl v.1 in
-    let same : held.0 ≡ at.number = keeps_number (begun (first_version first)) world.words at.run at.place at.owner at.number held.0 held.1 at.runs at.is_load held.2 in
+    let same : held.0 ≡ at.number = at.has held.0 held.1 held.2 in
     let given = owner_is_given world.words r.reached.cell at.owner held.0 held.1 r.reached.shows held.2 in
     let is = r.replays.versions held.0 v.0 (sym given ∙ v.1) in
     sym v.2 ∙ (is.1 ∙ ap (λ n. replay first (take n r.updates)) same)

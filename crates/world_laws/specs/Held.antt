@@ -1,5 +1,5 @@
 -- Which versions are held while lines are played: those of the names in use, and the newest, which are kept (own).
-use Rattle.std.specs.Prelude.{◌≡◌, ◌↔◌, ℕ, ◌+◌, ◌-◌, ◌<◌, min, Bool, ◌==◌, true, false, List, length, drop, count_by, Some}
+use Rattle.std.specs.Prelude.{◌≡◌, ◌↔◌, ℕ, ◌+◌, ◌-◌, ◌<◌, max, min, Bool, ◌==◌, true, false, List, length, drop, count_by, Some}
 use Rattle.std.specs.List.{list_any, slice_get}
 use Rattle.cell_core.specs.Cell.{Cell}
 use Rattle.cell_core.specs.Shows.{Shows, held}
@@ -58,9 +58,9 @@ pub record IsGone (world : World) (number : ℕ) : Type 0 where
   pub unheld : held world.words.owners number ≡ 0
   pub before_last : number + 1 < length cell.published
 
--- exactly the numbers before those of the versions that are kept are buried, and all slots are free but those of the last and of the
--- others that are kept (own)
+-- exactly the numbers before those of the versions that are kept are buried, and all slots are free but those of the versions that are
+-- kept, or that the window has, of which each has one (own)
 pub record IsAtRest (first : List Record) (keep : ℕ) (lines : List WorldStep) (world : World) : Type 0 where
   pub replayed : IsReplayed first lines world
   pub buried : (number : ℕ) → (replayed.reached.cell.buried number ≡ true) ↔ (number < length replayed.updates - keep)
-  pub free : count_by (λ (there : Slot Numbered). there.shares == free_word) world.words.table + min keep (length replayed.updates) ≡ 63
+  pub free : count_by (λ (there : Slot Numbered). there.shares == free_word) world.words.table + max (min keep (length replayed.updates) + 1) (length world.entries) ≡ 64

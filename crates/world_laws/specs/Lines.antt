@@ -21,6 +21,11 @@ name_of word.Settle = step.Settle
 name_of (word.Release owner) = step.Release
 name_of (word.Bury owner) = step.Bury
 name_of (word.Free owner) = step.Free
+name_of (word.Look owner) = step.Look
+name_of (word.Raise owner) = step.Raise
+name_of (word.Note owner) = step.Note
+name_of (word.Fade owner) = step.Fade
+name_of (word.Reset owner) = step.Reset
 
 -- the step that a reply tells; none of a call that has made all its steps, or is under way from then on (own)
 abbrev pub step_told : WorldReply → Option StepName

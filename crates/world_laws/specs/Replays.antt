@@ -60,8 +60,8 @@ pub record IsReplayed (first : List Record) (lines : List WorldStep) (world : Wo
   pub replays : AreReplays (IsSent lines) first reached.cell.published updates
   pub in_turn : AreSentInTurn lines updates
 
--- a name's requests are answered in the replay of the updates up to the number that was in W at the load which gave the name its
--- owner (own)
+-- a name's requests are answered in the replay of the updates up to the number that was in W at the load from which the name's owner
+-- comes (own)
 pub record IsAnsweredInReplay (first : List Record) (lines : List WorldStep) (world : World) (name : List ℕ) (zone : List Record) : Type 0 where
   pub at_loaded : IsAnsweredAtLoaded first world name zone
   pub replayed : IsReplayed first lines world

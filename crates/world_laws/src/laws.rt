@@ -1,7 +1,8 @@
 //! What the definitions say of lines that are played, each the contract of a function that does nothing.
-ghost use Rattle.std.specs.Prelude.{◌≡◌, ℕ, ◌<◌, ◌≤◌, ◌^◌, filter, true, List, [], ◌∷◌, length, codes, Some};
+ghost use Rattle.std.specs.Prelude.{◌≡◌, ℕ, ◌<◌, ◌≤◌, ◌^◌, filter, true, List, [], ◌∷◌, length, codes, Option, Some};
 ghost use Rattle.cell_core.specs.Cell.{Cell};
 ghost use Rattle.cell_core.specs.Shows.{Shows};
+ghost use Rattle.cell_core.specs.Words.{State};
 ghost use Rattle.dns_rdata.specs.Record.{Record};
 ghost use Rattle.dns_message.specs.Request.{reads};
 ghost use Rattle.world_run.specs.Judgements.{judged};
@@ -11,6 +12,7 @@ ghost use Rattle.world_run.specs.Phases.{after};
 ghost use Rattle.world_laws.specs.UpdateAnswers.{heading_of, KeepsHeading, got_alone};
 ghost use Rattle.world_run.specs.declared.judged.Judged.TheVariants.{Told, Makes};
 ghost use Rattle.world_run.specs.declared.phase.End.TheVariants.{NoSlot, Kept};
+ghost use Rattle.world_run.specs.declared.entries.Entry.{Entry};
 ghost use Rattle.world_run.specs.declared.phase.Phase.{Phase};
 ghost use Rattle.cell_core.specs.declared.words.WordEvent.{WordEvent};
 ghost use Rattle.dns_rdata.specs.declared.numbers.Rcode.{Rcode};
@@ -31,8 +33,8 @@ ghost use Rattle.world_laws.specs.Runs.{Run, IsShownBy, IsAnsweredAtLoaded, Show
 ghost use Rattle.world_run.specs.World.{World, started, turn, play, replies_of, zone_of, start, ask_said, code_reply, answer_at};
 ghost use Rattle.world_run.specs.declared.start.Start.TheVariants.{Answers};
 ghost use Rattle.world_run.specs.declared.step.Call.{Call};
-ghost use Rattle.world_run.specs.declared.step.Call.TheVariants.{Load, Drop, Ask, Transfer, Update};
-ghost use Rattle.world_run.specs.declared.step.Answer.TheVariants.{Owner, Left, Buried, Messages};
+ghost use Rattle.world_run.specs.declared.step.Call.TheVariants.{Load, Drop, Copy, Weak, Fade, Up, Ask, Transfer, Update};
+ghost use Rattle.world_run.specs.declared.step.Answer.TheVariants.{Owner, Left, Buried, Faded, Nothing, Messages};
 ghost use Rattle.world_run.specs.declared.step.StepName.TheVariants as StepName;
 ghost use Rattle.world_run.specs.declared.step.WorldStep.TheVariants.{Whole, Begin, Next};
 ghost use Rattle.world_run.specs.declared.step.WorldReply.{WorldReply};
@@ -40,7 +42,7 @@ ghost use Rattle.world_run.specs.declared.step.WorldReply.TheVariants.{Answered,
 ghost use Rattle.world_run.specs.declared.step.WorldStep.{WorldStep};
 
 /// Lines that are played make a run of steps on words, which shows a run of the cell; each name in use is that of an owner
-/// which a load of the run gave.
+/// which comes from a load of the run.
 pub fn plays_are_runs()
     ensures run { (first : List Record) (keep window : ℕ) (lines : List WorldStep) (replies : List WorldReply) (world : World)
         → play (started first keep window) lines ≡ Some (replies, world) → (run : Run) × IsShownBy first run world }
@@ -48,8 +50,8 @@ pub fn plays_are_runs()
         → play (started first keep window) lines ≡ Some (replies, world) → ShowsReached first world.words }
 {}
 
-/// Whatever lines were played, a request of a name in use is answered in the version that was last at the load which gave the
-/// name its owner.
+/// Whatever lines were played, a request of a name in use is answered in the version that was last at the load from which the
+/// name's owner comes.
 pub fn asks_are_answered_at_loaded()
     ensures version { (first : List Record) (keep window : ℕ) (lines : List WorldStep) (replies : List WorldReply) (world : World) (name : List ℕ) (zone : List Record)
         → play (started first keep window) lines ≡ Some (replies, world) → zone_of name world ≡ Some zone → IsAnsweredAtLoaded first world name zone }
@@ -59,7 +61,7 @@ pub fn asks_are_answered_at_loaded()
 
 /// Whatever lines were played, the versions that were published are the first zone and its replays: each further version is what
 /// the next update that a line sent makes of the one before it, let through by each rule there. A request of a name in use is
-/// answered in the replay of as many updates as the number says that was last at the load which gave the name its owner.
+/// answered in the replay of as many updates as the number says that was last at the load from which the name's owner comes.
 pub fn versions_are_replays()
     ensures replay { (first : List Record) (keep window : ℕ) (lines : List WorldStep) (replies : List WorldReply) (world : World)
         → play (started first keep window) lines ≡ Some (replies, world) → IsReplayed first lines world }
@@ -81,18 +83,19 @@ pub fn updates_are_told()
         → got Udp true ForNothing last.zone request ≡ got_alone heading code last.zone }
     ensures made { (last : Numbered) (request : List ℕ) (heading : Heading) (version : Numbered) → judged last request ≡ Some (Makes heading version)
         → got Udp true ForNothing last.zone request ≡ got_alone heading NoError version.zone }
-    ensures under_way { (at : Phase) (event : WordEvent) (heading : Heading) → heading_of at ≡ Some heading → KeepsHeading heading event (after at event) }
-    ensures ends { (heading : Heading) (owner : ℕ) → (answer_at (NoSlot heading) ≡ code_reply heading ServFail) × (answer_at (Kept heading owner) ≡ code_reply heading NoError) }
+    ensures under_way { (words : State Numbered) (at : Phase) (event : WordEvent) (heading : Heading) → heading_of at ≡ Some heading → KeepsHeading heading event (after words at event) }
+    ensures ends { (heading : Heading) (owner : ℕ) (entry : Option Entry) → (answer_at (NoSlot heading) ≡ code_reply heading ServFail) × (answer_at (Kept heading owner entry) ≡ code_reply heading NoError) }
 {}
 
-/// While the numbers of versions fit 64 bits, a line that isn't enabled changes nothing.
+/// Whatever lines were played, and while the numbers of versions fit 64 bits, a line that isn't enabled changes nothing.
 pub fn refused_lines_change_nothing()
-    ensures { (world after : World) (line : WorldStep) (cell : Cell Numbered) → Shows world.words cell → length cell.published < 2 ^ 64
-        → turn world line ≡ Some (NotEnabled, after) → after ≡ world }
+    ensures { (first : List Record) (keep window : ℕ) (lines : List WorldStep) (replies : List WorldReply) (world after : World) (line : WorldStep) (cell : Cell Numbered)
+        → play (started first keep window) lines ≡ Some (replies, world) → Shows world.words cell → length cell.published < 2 ^ 64 → turn world line ≡ Some (NotEnabled, after) → after ≡ world }
 {}
 
 /// Worked examples, of an update that makes the second version: the first outlives it for whom it was loaded, and the last name that
-/// is in use for it buries it; a drop under way takes its steps one at a time, and its name is free at once.
+/// is in use for it buries it; a drop under way takes its steps one at a time, and its name is free at once; and an upgrade between a
+/// release and its bury, which finds an owner then.
 pub fn examples()
     ensures two_versions { (first second : List Record) (heading : Heading) (request : List ℕ)
         → judged (first_version first) request ≡ Some (Makes heading (record { number = 1; zone = second; changes = Some (changes_between first second) }))
@@ -103,9 +106,19 @@ pub fn examples()
     ensures one_step_at_a_time { (first second : List Record) (heading : Heading) (request : List ℕ)
         → judged (first_version first) request ≡ Some (Makes heading (record { number = 1; zone = second; changes = Some (changes_between first second) }))
         → replies_of first 0 0 (Whole (Load (codes "a")) ∷ Whole (Update request) ∷ Begin (codes "x") (Drop (codes "a")) ∷ Next (codes "x")
-        ∷ Whole (Load (codes "a")) ∷ Next (codes "x") ∷ Next (codes "x") ∷ Next (codes "x") ∷ [])
+        ∷ Whole (Load (codes "a")) ∷ Next (codes "x") ∷ Next (codes "x") ∷ Next (codes "x") ∷ Next (codes "x") ∷ Next (codes "x") ∷ [])
         ≡ Some (Answered (Owner (codes "a") 0) ∷ Answered (code_reply heading NoError) ∷ Begun ∷ Step StepName.Release
-        ∷ Answered (Owner (codes "a") 1) ∷ Step StepName.Bury ∷ Last StepName.Free (Buried 0) ∷ NotEnabled ∷ []) }
+        ∷ Answered (Owner (codes "a") 1) ∷ Step StepName.Bury ∷ Step StepName.Fade ∷ Step StepName.Reset ∷ Last StepName.Free (Buried 0) ∷ NotEnabled ∷ []) }
+    ensures weak_lines { (first : List Record) → replies_of first 0 0 (Whole (Load (codes "a")) ∷ Whole (Copy (codes "a") (codes "b")) ∷ Whole (Weak (codes "b") (codes "w"))
+        ∷ Whole (Weak (codes "a") (codes "w")) ∷ Whole (Up (codes "w") (codes "c")) ∷ Whole (Fade (codes "w")) ∷ Whole (Fade (codes "w")) ∷ [])
+        ≡ Some (Answered (Owner (codes "a") 0) ∷ Answered (Owner (codes "b") 0) ∷ Answered (Owner (codes "w") 0) ∷ NotEnabled ∷ Answered (Owner (codes "c") 0)
+        ∷ Answered Faded ∷ NotEnabled ∷ []) }
+    ensures raised { (first second : List Record) (heading : Heading) (request : List ℕ)
+        → judged (first_version first) request ≡ Some (Makes heading (record { number = 1; zone = second; changes = Some (changes_between first second) }))
+        → replies_of first 0 0 (Whole (Load (codes "a")) ∷ Whole (Weak (codes "a") (codes "w")) ∷ Whole (Update request) ∷ Begin (codes "x") (Drop (codes "a"))
+        ∷ Next (codes "x") ∷ Whole (Up (codes "w") (codes "b")) ∷ Next (codes "x") ∷ Whole (Drop (codes "b")) ∷ Whole (Up (codes "w") (codes "e")) ∷ Whole (Fade (codes "w")) ∷ [])
+        ≡ Some (Answered (Owner (codes "a") 0) ∷ Answered (Owner (codes "w") 0) ∷ Answered (code_reply heading NoError) ∷ Begun ∷ Step StepName.Release
+        ∷ Answered (Owner (codes "b") 0) ∷ Last StepName.Bury Left ∷ Answered (Buried 0) ∷ Answered Nothing ∷ Answered Faded ∷ []) }
 {}
 
 /// Whatever lines were played, each name in use holds the version that was published with its number, through any reuse of its slot;
@@ -115,17 +128,15 @@ pub fn versions_are_held()
         → play (started first keep window) lines ≡ Some (replies, world) → HoldVersions first lines world }
 {}
 
-/// When no call is under way and no name is in use, exactly the versions before those that are kept are buried, and all slots are free but
-/// that of the last version and one for each other that is kept.
+/// When no call is under way and no name is in use, for strong owners or weak, exactly the versions before those that are kept are buried, and all slots are free but
+/// one for each version that is kept or in the window.
 pub fn versions_before_the_kept_are_buried()
     ensures { (first : List Record) (keep window : ℕ) (lines : List WorldStep) (replies : List WorldReply) (world : World)
-        → play (started first keep window) lines ≡ Some (replies, world) → world.names ≡ [] → world.calls ≡ [] → IsAtRest first keep lines world }
+        → play (started first keep window) lines ≡ Some (replies, world) → world.names ≡ [] → world.weak_names ≡ [] → world.calls ≡ [] → IsAtRest first keep lines world }
 {}
 
-/// Whatever lines were played from a zone on, an IXFR that is answered gets the SOA alone where its serial isn't less than that of
-/// the version which its name holds; else records that lead from the version of that serial to the one that is held: who holds
-/// the former and takes them, holds the latter; and where what changed isn't told, the version in whole, which leads there from
-/// any version (RFC 1995, 2 and 4; RFC 5936, 2.2).
+/// Whatever lines were played from a zone on, an IXFR that is answered at once gets the SOA alone where its serial isn't less than that of
+/// the version which its name holds; else the version in whole, which leads there from any version (RFC 1995, 2 and 4; RFC 5936, 2.2).
 pub fn transfers_lead_to_the_served()
     ensures { (first : List Record) (keep window : ℕ) (lines : List WorldStep) (replies : List WorldReply) (world : World) (name request : List ℕ) (query : Query) (octets : List (List ℕ))
         → IsZone first → AreOctets lines → play (started first keep window) lines ≡ Some (replies, world) → reads request ≡ Asks query → query.question.rtype.0 ≡ type_IXFR

@@ -1,4 +1,4 @@
+pub mod EntryLemmas
 pub mod JudgeLemmas
-pub mod KeptLemmas
 pub mod PlayLemmas
 pub mod StepLemmas

@@ -5,7 +5,12 @@ use Rattle.std.proofs.lemmas.List.{drop_more, drop_all, append_assoc, append-nil
 use Rattle.dns_rdata.specs.Record.{Record}
 use Rattle.world_run.specs.declared.step.WorldReply.{WorldReply}
 use Rattle.world_run.specs.declared.step.WorldStep.{WorldStep}
-use Rattle.world_run.specs.World.{World, started, turn, onto_replies, play, replies_of}
+use Rattle.cell_core.specs.Words.{State}
+use Rattle.zone_tree.specs.Version.{Version as Numbered}
+use Rattle.world_run.specs.declared.phase.Progress.{Progress}
+use Rattle.world_run.specs.declared.phase.Progress.TheVariants.{On, Done}
+use Rattle.world_run.specs.declared.step.Call.{Call}
+use Rattle.world_run.specs.World.{World, started, turn, onto_replies, play, replies_of, all_made}
 
 -- replies in front of those that follow
 abbrev pub behind : List WorldReply → Option (List WorldReply × World) → Option (List WorldReply × World)
@@ -67,3 +72,8 @@ pub limit_passed : (zone : List Record) (keep window : ℕ) (lines : List WorldS
 limit_passed zone keep window lines i line replies world lt is none so_far =
     ap (option_map (λ played. played.0)) (so_far ∙ ap (λ (l : List WorldStep). behind replies (play world l)) (line_due lines i line lt is)
     ∙ ap (λ t. behind replies (option_and_then (λ told. onto_replies told.0 (play told.1 (drop (i + 1) lines))) t)) none)
+
+-- what a call comes to doesn't go by the words before
+pub all_made_words : (world : World) (call : Call) (came : Progress) (words : State Numbered) → all_made (record world { words = words }) call (came, words) ≡ all_made world call (came, words)
+all_made_words world call (On at) words = refl
+all_made_words world call (Done end) words = refl

@@ -1,5 +1,7 @@
+pub mod Entries
 pub mod Judgements
 pub mod Numbered
 pub mod Phases
 pub mod Told
+pub mod Transfers
 pub mod World

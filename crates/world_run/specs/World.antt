@@ -1,16 +1,14 @@
 -- Zone versions in the words of a cell, the names of their strong owners, the versions that are kept, and the calls under way:
 -- what each line of a script makes of them, and its reply (own).
-use Rattle.std.specs.Prelude.{ℕ, zero, suc, Bool, true, false, not, ◌||◌, ◌&&◌, ◌==◌, is_some, nat_le, nat_lt, List, [], ◌∷◌, ◌++◌, length, bytes_eq, filter, find, remove, take, drop, Option, Some, None, if◌then◌else◌}
-use Rattle.std.specs.List.{list_any, slice_get, flat_map}
+use Rattle.std.specs.Prelude.{ℕ, zero, suc, ◌+◌, min, Bool, true, false, not, ◌||◌, ◌&&◌, is_some, nat_le, nat_lt, List, [], ◌∷◌, ◌++◌, length, bytes_eq, filter, find, remove, Option, Some, None, if◌then◌else◌}
+use Rattle.std.specs.List.{list_any, slice_get, slice_set, flat_map}
 use Rattle.std.specs.Option.{option_and_then, option_map, option_to_list}
-use Rattle.cell_core.specs.Words.{State, grants, word_of, begun, found_by, found_last}
-use Rattle.cell_core.specs.WordSteps.{with_new_owner}
+use Rattle.cell_core.specs.Words.{State, grants, notes, word_of, begun, first_slot, found_by, found_last}
+use Rattle.cell_core.specs.WordSteps.{with_new_owner, with_weak_word}
 use Rattle.cell_core.specs.Made.{made}
-use Rattle.cell_core.specs.declared.words.Owner.TheVariants.{Holding}
+use Rattle.cell_core.specs.declared.words.Owner.TheVariants.{Holding, Weakly}
 use Rattle.dns_rdata.specs.declared.numbers.Rcode.{Rcode}
 use Rattle.dns_rdata.specs.declared.numbers.Rcode.TheVariants.{NoError, ServFail}
-use Rattle.dns_rdata.specs.Numbers.{type_IXFR}
-use Rattle.dns_rdata.specs.declared.numbers.Serial.{Serial}
 use Rattle.dns_rdata.specs.Record.{Record}
 use Rattle.serve_core.specs.declared.heading.Heading.{Heading}
 use Rattle.dns_message.specs.declared.query.Parsed.{Parsed}
@@ -22,15 +20,18 @@ use Rattle.serve_core.specs.declared.transport.Transport.{Transport}
 use Rattle.serve_core.specs.declared.transport.Transport.TheVariants.{Udp, Tcp}
 use Rattle.serve_core.specs.Heading.{coded}
 use Rattle.serve_core.specs.Served.{got_for}
-use Rattle.serve_core.specs.Transfers.{peer_over, is_permitted, messages_to}
+use Rattle.serve_core.specs.Transfers.{peer_over, is_permitted}
 use Rattle.serve_core.specs.Transport.{limit_of}
 use Rattle.world_run.specs.declared.judged.Judged.{Judged}
 use Rattle.world_run.specs.declared.judged.Judged.TheVariants as judgement
+use Rattle.world_run.specs.declared.entries.Entry.{Entry}
+use Rattle.world_run.specs.declared.sending.Sending.{Sending}
+use Rattle.world_run.specs.declared.phase.Keeping.{Keeping}
 use Rattle.world_run.specs.declared.phase.Phase.{Phase}
 use Rattle.world_run.specs.declared.phase.Phase.TheVariants as phase
 use Rattle.world_run.specs.declared.phase.Purpose.TheVariants as purpose
 use Rattle.world_run.specs.declared.phase.End.{End}
-use Rattle.world_run.specs.declared.phase.End.TheVariants.{Owned, Told, NoSlot, Kept}
+use Rattle.world_run.specs.declared.phase.End.TheVariants.{Owned, OwnedWeakly, Told, NoSlot, Kept, Sent}
 use Rattle.world_run.specs.declared.phase.Progress.{Progress}
 use Rattle.world_run.specs.declared.phase.Progress.TheVariants.{On, Done}
 use Rattle.world_run.specs.declared.names.Named.{Named}
@@ -38,48 +39,76 @@ use Rattle.world_run.specs.declared.calls.UnderWay.{UnderWay}
 use Rattle.world_run.specs.declared.start.Start.{Start}
 use Rattle.world_run.specs.declared.start.Start.TheVariants.{Refused, Answers, Takes}
 use Rattle.world_run.specs.declared.step.Answer.{Answer}
-use Rattle.world_run.specs.declared.step.Answer.TheVariants.{Owner, Reply, Silent, Messages}
+use Rattle.world_run.specs.declared.step.Answer.TheVariants.{Owner, Reply, Silent}
 use Rattle.world_run.specs.declared.step.Call.{Call}
-use Rattle.world_run.specs.declared.step.Call.TheVariants.{Load, Drop, Ask, Transfer, Update}
+use Rattle.world_run.specs.declared.step.Call.TheVariants.{Load, Drop, Copy, Weak, Fade, Up, Ask, Transfer, Update}
 use Rattle.world_run.specs.declared.step.WorldReply.{WorldReply}
 use Rattle.world_run.specs.declared.step.WorldReply.TheVariants.{Answered, Begun, Step, Last, NotEnabled}
 use Rattle.world_run.specs.declared.step.WorldStep.{WorldStep}
 use Rattle.world_run.specs.declared.step.WorldStep.TheVariants.{Whole, Begin, Next}
 use Rattle.world_run.specs.Judgements.{asks_update, judged}
-use Rattle.zone_tree.specs.Version.{Version as Numbered}
-use Rattle.zone_tree.specs.Zone.{soa_of}
-use Rattle.transfer_core.specs.Chain.{told}
-use Rattle.transfer_core.specs.Window.{kept_since}
+use Rattle.zone_tree.specs.Version.{Version as Numbered, zone_serial}
+use Rattle.world_run.specs.Entries.{most_entries, leaving_for, entered, enters, later}
 use Rattle.world_run.specs.Numbered.{first_version}
-use Rattle.world_run.specs.Phases.{word_step, step_name, after, reserves, updates}
+use Rattle.world_run.specs.Phases.{word_step, step_name, after, reserves, reserves_weakly, uses, bars}
+use Rattle.world_run.specs.Transfers.{sent_answer}
 
--- the words of a cell of zone versions, the names in use with their owners, and the calls under way; how many versions are kept
--- beside the last, how many entries the window has at most from which changes are sent (RFC 1995, 5), and the owners of the
--- versions that are kept, the oldest first (own)
+-- the words of a cell of zone versions, the names in use with their strong owners, those with weak owners, and the calls under way; how many versions are kept
+-- beside the last, and their owners, the oldest first; how many entries the window has at most from which changes are sent
+-- (RFC 1995, 5), and the entries, the oldest first (own)
 pub record World : Type 0 where
   pub words : State Numbered
   pub names : List Named
+  pub weak_names : List Named
   pub calls : List UnderWay
   pub keep : ℕ
   pub window : ℕ
   pub kept : List ℕ
+  pub entries : List Entry
 
 -- the words in which one version is published, and loaded once (own)
 abbrev pub loaded_once : Numbered → State Numbered
 loaded_once first = with_new_owner (Holding 0 0) (record (begun first) { latest = word_of 0 1; granted = 1 })
 
--- the world in which one version is published and kept, no name is in use, and no call is under way (own)
+-- and in which it is also owned weakly (own)
+abbrev pub noted_once : Numbered → State Numbered
+noted_once first =
+    with_new_owner (Weakly 0 0) (record (loaded_once first) { table = slice_set (loaded_once first).table 0 (with_weak_word 2 (first_slot first)); noted = 1 })
+
+-- the words at the start: the version is owned weakly where there is a window (own)
+abbrev pub started_words : Numbered → ℕ → State Numbered
+started_words first window = if nat_lt 0 window then noted_once first else loaded_once first
+
+-- its entry then (own)
+abbrev pub first_entries : List Record → ℕ → List Entry
+first_entries first window = if nat_lt 0 window then record { number = 0; serial = record { 0 = zone_serial first }; owner = 1 } ∷ [] else []
+
+-- the world in which one version is published and kept, and entered where there is a window, no name is in use, and no call is under
+-- way (own)
+abbrev pub started_within : List Record → ℕ → ℕ → World
+started_within first keep window = record {
+  words = started_words (first_version first) window;
+  names = [];
+  weak_names = [];
+  calls = [];
+  keep = keep;
+  window = window;
+  kept = 0 ∷ [];
+  entries = first_entries first window;
+}
+
+-- with a window of so many entries, or as many as there can be (own)
 abbrev pub started : List Record → ℕ → ℕ → World
-started first keep window = record { words = loaded_once (first_version first); names = []; calls = []; keep = keep; window = window; kept = 0 ∷ [] }
+started first keep window = started_within first keep (min window most_entries)
 
 -- at most so many calls are under way (own)
 abbrev pub most_calls : ℕ
 most_calls = 64
 
--- no call takes more steps: an update has 64 probes, a prepare, a swap, a settle, a load, and a release, a bury and a free of
--- the owner that the publication gives and of the oldest that is kept (own)
+-- no call takes more steps: an update has 64 probes, a prepare, a swap, a settle, a load, a note, a release, a bury, a fade, a reset and
+-- a free of the owner that the publication gives and of the oldest that is kept, and a fade, a reset and a free of each entry (own)
 abbrev pub most_steps : ℕ
-most_steps = 74
+most_steps = 127
 
 -- the owner that a name is in use for; none where it isn't in use (own)
 abbrev pub owner_of : List ℕ → List Named → Option ℕ
@@ -97,10 +126,23 @@ call_of name calls = find (λ call. bytes_eq call.name name) calls
 abbrev pub without_call : List ℕ → List UnderWay → List UnderWay
 without_call name calls = filter (λ call. not (bytes_eq call.name name)) calls
 
--- a name is in use for an owner, or a call under way is to put it into use (own)
+-- a name is in use for a strong owner, or a call under way is to put it into use (own)
 abbrev pub is_taken : List ℕ → World → Bool
 is_taken name world =
     list_any (λ named. bytes_eq named.name name) world.names || list_any (λ call. reserves name call.phase) world.calls
+
+-- the same of a weak owner (own)
+abbrev pub is_taken_weakly : List ℕ → World → Bool
+is_taken_weakly name world =
+    list_any (λ named. bytes_eq named.name name) world.weak_names || list_any (λ call. reserves_weakly name call.phase) world.calls
+
+-- a call under way uses an owner (own)
+abbrev pub is_used : List UnderWay → ℕ → Bool
+is_used calls owner = list_any (λ call. uses owner call.phase) calls
+
+-- the window stays for a call under way as it is (own)
+abbrev pub is_barred : List UnderWay → Bool
+is_barred calls = list_any (λ call. bars call.phase) calls
 
 -- the version that a name's owner has; none where the name isn't in use (own)
 abbrev pub version_of : List ℕ → World → Option Numbered
@@ -124,10 +166,30 @@ abbrev pub answering : Option Answer → Start
 answering None = Refused
 answering (Some answer) = Answers answer
 
--- a name is dropped where it is in use (own)
-abbrev pub drop_start : Option ℕ → Start
-drop_start None = Refused
-drop_start (Some owner) = Takes (phase.Release owner purpose.Drop)
+-- a name is dropped where it is in use, and no call under way uses its owner (own)
+abbrev pub drop_start : List UnderWay → Option ℕ → Start
+drop_start calls None = Refused
+drop_start calls (Some owner) = if is_used calls owner then Refused else Takes (phase.Release owner purpose.Drop)
+
+-- and so is that of a weak owner (own)
+abbrev pub fade_start : List UnderWay → Option ℕ → Start
+fade_start calls None = Refused
+fade_start calls (Some owner) = if is_used calls owner then Refused else Takes (phase.Fade owner None purpose.Drop)
+
+-- another owner of what a name's owner has (own)
+abbrev pub copy_start : List ℕ → Option ℕ → Start
+copy_start name None = Refused
+copy_start name (Some owner) = Takes (phase.Raise name owner)
+
+-- a weak one (own)
+abbrev pub weak_start : List ℕ → Option ℕ → Start
+weak_start name None = Refused
+weak_start name (Some owner) = Takes (phase.Note name owner)
+
+-- a strong owner of what a weak one has, which no other call uses (own)
+abbrev pub up_start : List UnderWay → List ℕ → Option ℕ → Start
+up_start calls name None = Refused
+up_start calls name (Some owner) = if is_used calls owner then Refused else Takes (phase.Look name owner)
 
 -- whether a request over a transport is for a transfer that is sent, where each peer may have it (RFC 5936, 2.2.1)
 abbrev pub asks_sent : Transport → List Record → Parsed → Bool
@@ -144,34 +206,38 @@ abbrev pub ask_start : Option (List Record) → List ℕ → Start
 ask_start None request = Refused
 ask_start (Some zone) request = ask_said zone (reads request)
 
--- what changed up to a version that is served, as so many of the kept versions tell that are numbered up to it, since the one of a
--- serial (RFC 1995, 4)
-abbrev pub changes_among : ℕ → List Numbered → ℕ → Numbered → Serial → Option (List Record)
-changes_among window kept count version serial =
-    option_map (told (soa_of version.zone)) (kept_since window (drop count kept) serial.0 (take count kept))
+-- a transfer begins with the first of the entries to upgrade, where shares are left for all; where there are none, it takes no step (own)
+abbrev pub seek_start : State Numbered → Sending → List ℕ → Start
+seek_start words sending [] = Answers (sent_answer sending)
+seek_start words sending (owner ∷ left) =
+    if nat_le (words.granted + length (owner ∷ left)) grants
+    then Takes (phase.Seek owner (record { sending = sending; left = left; owners = [] }))
+    else Refused
 
--- what changed up to a version that is served, as the versions tell that are kept, since the one of the serial that an asker holds:
--- none where that isn't in the window, or a version after it isn't kept (RFC 1995, 4 and 5; own)
-abbrev pub changes_told : ℕ → List Numbered → Numbered → Option Serial → Option (List Record)
-changes_told window kept version None = None
-changes_told window kept version (Some serial) =
-    changes_among window kept (length (filter (λ other. nat_le other.number version.number) kept)) version serial
+-- a question for a transfer over TCP is answered where it is sent, with the version of an owner as the one that is served; one for what
+-- changed since a serial upgrades the entries after that one, and stands back while the window stays for another call as it is
+-- (RFC 1995, 2; RFC 5936, 2.2; own)
+abbrev pub transfer_asked : World → Sending → QueryAsked → Start
+transfer_asked world sending query =
+    if not (is_permitted sending.version.zone (peer_over Tcp true) query) then Refused
+    else if is_some query.serial && is_barred world.calls then Refused
+    else seek_start world.words sending (later sending.version.number query.serial world.entries)
 
--- a question for a transfer over TCP is answered where it is sent, with this version as the one that is served; what changed since
--- another version is asked of the versions that are kept, and so stands back while an update is under way (RFC 1995, 2; RFC 5936, 2.2; own)
-abbrev pub transfer_asked : World → Numbered → QueryAsked → Start
-transfer_asked world version query =
-    if not (is_permitted version.zone (peer_over Tcp true) query) then Refused
-    else if query.question.rtype.0 == type_IXFR && list_any (λ call. updates call.phase) world.calls then Refused
-    else Answers (Messages (messages_to version.zone (changes_told world.window (kept_versions world) version query.serial) (peer_over Tcp true) query))
+abbrev pub transfer_said : World → Sending → Parsed → Start
+transfer_said world sending (Asks query) = transfer_asked world sending query
+transfer_said world sending said = Refused
 
-abbrev pub transfer_said : World → Numbered → Parsed → Start
-transfer_said world version (Asks query) = transfer_asked world version query
-transfer_said world version said = Refused
+-- a transfer of an owner's version of which nothing is got yet (own)
+abbrev pub none_got : ℕ → Numbered → List ℕ → Sending
+none_got owner version request = record { served = owner; version = version; request = request; whole = false; got = [] }
 
-abbrev pub transfer_start : World → Option Numbered → List ℕ → Start
-transfer_start world None request = Refused
-transfer_start world (Some version) request = transfer_said world version (reads request)
+abbrev pub transfer_of : World → ℕ → List ℕ → Option Numbered → Start
+transfer_of world owner request None = Refused
+transfer_of world owner request (Some version) = transfer_said world (none_got owner version request) (reads request)
+
+abbrev pub transfer_start : World → List ℕ → Option ℕ → Start
+transfer_start world request None = Refused
+transfer_start world request (Some owner) = transfer_of world owner request (found_by world.words owner)
 
 -- the reply to an update: a code, and no record but an OPT (RFC 2136, 3.8; RFC 6891, 6.1.1)
 abbrev pub code_reply : Heading → Rcode → Answer
@@ -186,34 +252,66 @@ abbrev pub is_held : State Numbered → Option ℕ → Bool
 is_held words None = true
 is_held words (Some owner) = is_some (found_by words owner)
 
--- an update that makes a version is enabled where its steps can be made: a share is left to load the version by, and the oldest
--- that it gives up is held (own)
-abbrev pub publication_start : State Numbered → Heading → Numbered → Option ℕ → Start
-publication_start words heading version oldest =
-    if nat_lt words.granted grants && is_held words oldest then Takes (phase.Probe version (record { heading = heading; oldest = oldest }))
+-- a weak owner can be made, where the window is to have one (own)
+abbrev pub can_enter : State Numbered → ℕ → Bool
+can_enter words window = not (nat_lt 0 window) || nat_lt words.noted notes
+
+-- what an update is to do behind its publication: it gives up the oldest version that is kept, where no more are to be kept, and the entries
+-- that leave the window for the new one (own)
+abbrev pub keeping_for : World → Heading → Numbered → Keeping
+keeping_for world heading version = record {
+  heading = heading;
+  oldest = oldest_kept world.keep world.kept;
+  enters = enters world.window (zone_serial version.zone);
+  leaving = leaving_for world.window world.entries (enters world.window (zone_serial version.zone));
+}
+
+-- an update that makes a version is enabled where its steps can be made: a share is left to load the version by, the oldest that it gives
+-- up is held, and the version can be entered (own)
+abbrev pub publication_start : World → Heading → Numbered → Start
+publication_start world heading version =
+    if nat_lt world.words.granted grants && is_held world.words (oldest_kept world.keep world.kept) && can_enter world.words world.window
+    then Takes (phase.Probe version (keeping_for world heading version))
     else Refused
 
 -- an update by what it comes to: it is told a code, or it makes a version (RFC 2136, 3; own)
 abbrev pub update_start : World → Option Judged → Start
 update_start world None = Refused
 update_start world (Some (judgement.Told heading code)) = Answers (code_reply heading code)
-update_start world (Some (judgement.Makes heading version)) = publication_start world.words heading version (oldest_kept world.keep world.kept)
+update_start world (Some (judgement.Makes heading version)) = publication_start world heading version
 
 -- how a call begins: a name that is in use isn't loaded, and one that isn't is neither dropped nor asked; an update is judged in
--- the last version, and while one is under way there is no other, and no question for what changed (own)
+-- the last version, and while one is under way, or entries are upgraded, there is no other, no weak owner, and no question for what
+-- changed (own)
 abbrev pub start : World → Call → Start
 start world (Load name) = if is_taken name world then Refused else Takes (phase.Load name)
-start world (Drop name) = drop_start (owner_of name world.names)
+start world (Drop name) = drop_start world.calls (owner_of name world.names)
+start world (Copy given name) = if is_taken name world then Refused else copy_start name (owner_of given world.names)
+start world (Weak given name) =
+    if is_taken_weakly name world || is_barred world.calls then Refused
+    else weak_start name (owner_of given world.names)
+start world (Fade name) = fade_start world.calls (owner_of name world.weak_names)
+start world (Up weak name) = if is_taken name world then Refused else up_start world.calls name (owner_of weak world.weak_names)
 start world (Ask name request) = ask_start (zone_of name world) request
-start world (Transfer name request) = transfer_start world (version_of name world) request
+start world (Transfer name request) = transfer_start world request (owner_of name world.names)
 start world (Update request) =
-    if list_any (λ call. updates call.phase) world.calls then Refused
+    if is_barred world.calls then Refused
     else update_start world (option_and_then (λ last. judged last request) (found_last world.words))
 
 -- the names in use without the one that a call gives up (own)
 abbrev pub given_up : Call → List Named → List Named
 given_up (Drop name) names = without_name name names
 given_up call names = names
+
+-- the weak owners' names without the one that a call gives up (own)
+abbrev pub weak_given_up : Call → List Named → List Named
+weak_given_up (Fade name) names = without_name name names
+weak_given_up call names = names
+
+-- the weak owners' names at the end of a call (own)
+abbrev pub weak_names_at : End → List Named → List Named
+weak_names_at (OwnedWeakly name owner number) names = names ++ record { name = name; owner = owner } ∷ []
+weak_names_at end names = names
 
 -- the names in use at the end of a call (own)
 abbrev pub names_at : End → List Named → List Named
@@ -223,19 +321,26 @@ names_at end names = names
 -- the owners of the versions that are kept at the end of a call: an update's last one, for which the oldest is given up where no
 -- more are to be kept (own)
 abbrev pub kept_at : ℕ → End → List ℕ → List ℕ
-kept_at keep (Kept heading owner) kept = (if nat_lt keep (length kept) then remove kept 0 else kept) ++ owner ∷ []
+kept_at keep (Kept heading owner entry) kept = (if nat_lt keep (length kept) then remove kept 0 else kept) ++ owner ∷ []
 kept_at keep end kept = kept
 
--- what a call gives at its end: an update is told NOERROR, or SERVFAIL where it found no slot (own)
+-- the window at the end of a call: an update enters its version, where it has an entry (own)
+abbrev pub entries_at : ℕ → End → List Entry → List Entry
+entries_at window (Kept heading owner (Some entry)) entries = entered window entries entry
+entries_at window end entries = entries
+
+-- what a call gives at its end: an update is told NOERROR, or SERVFAIL where it found no slot; a transfer its messages (own)
 abbrev pub answer_at : End → Answer
 answer_at (Owned name owner number) = Owner name number
+answer_at (OwnedWeakly name owner number) = Owner name number
 answer_at (Told answer) = answer
 answer_at (NoSlot heading) = code_reply heading ServFail
-answer_at (Kept heading owner) = code_reply heading NoError
+answer_at (Kept heading owner entry) = code_reply heading NoError
+answer_at (Sent sending) = sent_answer sending
 
 -- the next step of a call on the words, and what follows on it; none where the words have no such step (own)
 abbrev pub step_once : State Numbered → Phase → Option (Progress × State Numbered)
-step_once words phase = option_map (λ told. (after phase told.0, told.1)) (made words (word_step phase))
+step_once words phase = option_map (λ told. (after told.1 phase told.0, told.1)) (made words (word_step phase))
 
 -- the steps of a call on the words up to its end, but no more than so many; where one can't be made, it stays there (own)
 abbrev pub go_on : (State Numbered → Phase → Progress × State Numbered) → State Numbered → Phase → Option (Progress × State Numbered) → Progress × State Numbered
@@ -255,7 +360,7 @@ is_full world = nat_le most_calls (length world.calls)
 abbrev pub all_made : World → Call → Progress × State Numbered → WorldReply × World
 all_made world call (On phase, words) = (NotEnabled, record world { words = words })
 all_made world call (Done end, words) =
-    (Answered (answer_at end), record world { words = words; names = names_at end (given_up call world.names); kept = kept_at world.keep end world.kept })
+    (Answered (answer_at end), record world { words = words; names = names_at end (given_up call world.names); weak_names = weak_names_at end (weak_given_up call world.weak_names); kept = kept_at world.keep end world.kept; entries = entries_at world.window end world.entries })
 
 -- a call at once, by how it begins (own)
 abbrev pub whole : World → Call → Start → Option (WorldReply × World)
@@ -270,7 +375,7 @@ begin world name call Refused = Some (NotEnabled, world)
 begin world name call (Answers answer) = if is_full world then None else Some (Answered answer, world)
 begin world name call (Takes phase) =
     if is_full world then None
-    else Some (Begun, record world { names = given_up call world.names; calls = world.calls ++ record { name = name; phase = phase } ∷ [] })
+    else Some (Begun, record world { names = given_up call world.names; weak_names = weak_given_up call world.weak_names; calls = world.calls ++ record { name = name; phase = phase } ∷ [] })
 
 abbrev pub begin_under : World → List ℕ → Call → Option UnderWay → Option (WorldReply × World)
 begin_under world name call None = begin world name call (start world call)
@@ -282,7 +387,7 @@ stepped world name phase None = (NotEnabled, world)
 stepped world name phase (Some (On next, words)) =
     (Step (step_name phase), record world { words = words; calls = without_call name world.calls ++ record { name = name; phase = next } ∷ [] })
 stepped world name phase (Some (Done end, words)) =
-    (Last (step_name phase) (answer_at end), record world { words = words; names = names_at end world.names; calls = without_call name world.calls; kept = kept_at world.keep end world.kept })
+    (Last (step_name phase) (answer_at end), record world { words = words; names = names_at end world.names; weak_names = weak_names_at end world.weak_names; calls = without_call name world.calls; kept = kept_at world.keep end world.kept; entries = entries_at world.window end world.entries })
 
 abbrev pub next : World → List ℕ → Option UnderWay → WorldReply × World
 next world name None = (NotEnabled, world)

@@ -2,8 +2,8 @@
 ghost use Rattle.std.specs.Prelude.{◌≡◌, ◌++◌, ◌∷◌, [], IfErr, OnOk, filter, not, bytes_eq, find};
 ghost use Rattle.std.specs.List.{list_any};
 ghost use Rattle.std.specs.Option.{option_copied};
-ghost use Rattle.world_run.specs.Phases.{reserves as says_reserves, updates as says_updates};
-ghost use Rattle.world_run.specs.World.{call_of, without_call};
+ghost use Rattle.world_run.specs.Phases.{reserves as says_reserves, reserves_weakly as says_reserves_weakly};
+ghost use Rattle.world_run.specs.World.{call_of, is_used as says_used, is_barred as says_barred, without_call};
 ghost use Rattle.world_run.specs.declared.calls.UnderWay.{UnderWay as UnderWayRow};
 
 use crate::fault::WorldFault;
@@ -40,11 +40,25 @@ pub(crate) fn is_reserved(calls: &[UnderWay<'_>], name: &Handle<'_>) -> bool
     calls.iter().any(|call| call.phase.reserves(name))
 }
 
-/// Whether an update is under way.
-pub(crate) fn is_updating(calls: &[UnderWay<'_>]) -> bool
-    ensures { result ≡ list_any (λ call. says_updates call.phase) calls.now }
+/// Whether a call under way is to put a name into use for a weak owner.
+pub(crate) fn is_reserved_weakly(calls: &[UnderWay<'_>], name: &Handle<'_>) -> bool
+    ensures { result ≡ list_any (λ call. says_reserves_weakly name.now call.phase) calls.now }
 {
-    calls.iter().any(|call| call.phase.updates())
+    calls.iter().any(|call| call.phase.reserves_weakly(name))
+}
+
+/// Whether a call under way uses an owner.
+pub(crate) fn is_used(calls: &[UnderWay<'_>], owner: usize) -> bool
+    ensures { result ≡ says_used calls.now owner }
+{
+    calls.iter().any(|call| call.phase.uses(owner))
+}
+
+/// Whether a call is under way for which the window stays as it is.
+pub(crate) fn is_barred(calls: &[UnderWay<'_>]) -> bool
+    ensures { result ≡ says_barred calls.now }
+{
+    calls.iter().any(|call| call.phase.bars())
 }
 
 /// The call under way of a name.

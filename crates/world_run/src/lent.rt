@@ -70,4 +70,11 @@ impl<'a> Request<'a> {
     {
         self.octets
     }
+
+    /// The same request.
+    pub fn copy(&self) -> Request<'a>
+        ensures { result ≡ self.now }
+    {
+        Request::new(self.octets)
+    }
 }

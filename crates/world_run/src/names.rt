@@ -2,7 +2,7 @@
 ghost use Rattle.std.specs.Prelude.{◌≡◌, ◌++◌, ◌∷◌, [], IfErr, OnOk, filter, not, bytes_eq, find};
 ghost use Rattle.std.specs.List.{list_any};
 ghost use Rattle.std.specs.Option.{option_map};
-ghost use Rattle.world_run.specs.World.{owner_of, without_name, given_up};
+ghost use Rattle.world_run.specs.World.{owner_of, without_name, given_up, weak_given_up};
 ghost use Rattle.world_run.specs.declared.names.Named.{Named as NamedRow};
 
 use crate::fault::WorldFault;
@@ -43,6 +43,15 @@ pub(crate) fn give_up(names: &mut Vec<Named<'_>>, call: &Call<'_>)
     ensures { names.new.items ≡ given_up call.now names.old.items }
 {
     if let Call::Drop(name) = call {
+        remove(names, name);
+    }
+}
+
+/// Takes the weak owner's name out of use that a call gives up.
+pub(crate) fn give_up_weakly(names: &mut Vec<Named<'_>>, call: &Call<'_>)
+    ensures { names.new.items ≡ weak_given_up call.now names.old.items }
+{
+    if let Call::Fade(name) = call {
         remove(names, name);
     }
 }

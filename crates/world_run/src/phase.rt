@@ -1,13 +1,18 @@
 //! How far calls have come: the step that each takes next, and what follows on it.
 ghost use Rattle.std.specs.Prelude.{◌≡◌, IfOk, IfErr};
-ghost use Rattle.world_run.specs.Phases.{word_step, step_name, after, reserves as says_reserves, updates as says_updates};
+ghost use Rattle.world_run.specs.Phases.{word_step, step_name, after, reserves as says_reserves, reserves_weakly as says_reserves_weakly, uses as says_uses, updates as says_updates, seeks as says_seeks, bars as says_bars};
 
+use crate::entries::Entry;
 use crate::fault::WorldFault;
 use crate::lent::Handle;
+use crate::owner_list::OwnerList;
 use crate::published::Published;
+use crate::sending::{Seeking, Sending};
 use crate::step::{Answer, StepName};
-use cell_core::{WordEvent, WordStep};
+use cell_core::{WordEvent, WordMachine, WordStep};
+use dns_rdata::Serial;
 use serve_core::Heading;
+use std::alloc::Global;
 
 /// What an update does behind its publication.
 #[derive(Drop)]
@@ -16,31 +21,44 @@ pub struct Keeping {
     pub heading: Heading,
     /// The owner of the oldest version that is kept, where that is given up for the new one.
     pub oldest: Option<usize>,
+    /// The serial of the new version, where that is entered in the window.
+    pub enters: Option<Serial>,
+    /// The weak owners of the entries that leave the window for it, the oldest first.
+    pub leaving: OwnerList,
 }
 
 impl Keeping {
     /// The same again.
-    fn copy(&self) -> Keeping
-        ensures { result ≡ self.now }
+    ///
+    /// `NoMemory` where a growth was refused.
+    fn copy(&self, alloc: Global) -> Result<Keeping, WorldFault>
+        ensures ok { IfOk result (λ keeping. keeping ≡ self.now) }
+        ensures refused { IfErr result (λ fault. fault ≡ WorldFault.NoMemory) }
     {
-        Keeping {
+        Ok(Keeping {
             heading: self.heading.copy(),
             oldest: self.oldest,
-        }
+            enters: self.enters,
+            leaving: self.leaving.copy(alloc)?,
+        })
     }
 }
 
 /// What an owner is released for.
 #[derive(Drop)]
-pub enum Purpose {
+pub enum Purpose<'a> {
     /// A name is dropped.
     Drop,
-    /// An update has published a version, and has loaded it under this owner: the one before it, which the publication gave,
-    /// is given up.
-    Publish(Keeping, usize),
-    /// The oldest version that is kept is given up, for the one that an update has loaded under this owner, whose reply repeats
-    /// this.
-    Oldest(Heading, usize),
+    /// An update has published a version, and has loaded it under this owner, with this entry where it has one: the version before it, whose
+    /// owner the publication gave, is given up.
+    Publish(Keeping, usize, Option<Entry>),
+    /// The oldest version that is kept is given up, for the one that an update has loaded under this owner, with this entry, whose reply
+    /// repeats this; then these weak owners are.
+    Oldest(Heading, usize, Option<Entry>, OwnerList),
+    /// An entry leaves the window for that version, and then these weak owners are given up.
+    Leaves(Heading, usize, Option<Entry>, OwnerList),
+    /// A transfer gives up an owner that it has got, and then these.
+    Sent(Sending<'a>, OwnerList),
 }
 
 /// How far a call has come, by the step that it takes next.
@@ -48,6 +66,12 @@ pub enum Purpose {
 pub enum Phase<'a> {
     /// A load, under this name.
     Load(Handle<'a>),
+    /// A look at the version of this weak owner, to own it strongly under this name.
+    Look(Handle<'a>, usize),
+    /// A raise of what this owner has, under this name.
+    Raise(Handle<'a>, usize),
+    /// A note of what this owner has, under this name.
+    Note(Handle<'a>, usize),
     /// A probe of the next slot, for this version.
     Probe(Published, Keeping),
     /// A prepare of this version.
@@ -58,12 +82,22 @@ pub enum Phase<'a> {
     Settle(Keeping),
     /// A load of the version that was published. The publication gave this owner.
     Keep(usize, Keeping),
+    /// A note of that version, which is owned by the second owner, to enter it in the window. The publication gave the first one.
+    Enter(usize, usize, Keeping),
+    /// A look at the version of this weak owner, which an entry of the window has, to own it strongly for a transfer.
+    Seek(usize, Seeking<'a>),
+    /// A raise of what it has.
+    Gain(usize, Seeking<'a>),
     /// A release of this owner.
-    Release(usize, Purpose),
+    Release(usize, Purpose<'a>),
     /// A bury by this owner.
-    Bury(usize, Purpose),
-    /// A free by this owner, which has buried the version of this number.
-    Free(usize, u64, Purpose),
+    Bury(usize, Purpose<'a>),
+    /// A fade by this owner: it has buried the version of this number, or it is a weak owner.
+    Fade(usize, Option<u64>, Purpose<'a>),
+    /// A reset by this owner, behind its fade.
+    Reset(usize, Option<u64>, Purpose<'a>),
+    /// A free by this owner, behind its reset.
+    Free(usize, Option<u64>, Purpose<'a>),
 }
 
 /// What a call comes to.
@@ -71,12 +105,16 @@ pub enum Phase<'a> {
 pub enum End<'a> {
     /// The name is in use, for this owner, of the version of this number.
     Owned(Handle<'a>, usize, u64),
+    /// The name is in use, for this weak owner, of the version of this number.
+    OwnedWeakly(Handle<'a>, usize, u64),
     /// It gives this.
     Told(Answer),
     /// An update has found no slot, whose reply repeats this.
     NoSlot(Heading),
-    /// An update has made a version, which is kept under this owner; its reply repeats this.
-    Kept(Heading, usize),
+    /// An update has made a version, which is kept under this owner, with this entry where it has one; its reply repeats this.
+    Kept(Heading, usize, Option<Entry>),
+    /// A transfer has got what it has of what it asks for, and has given it up.
+    Sent(Sending<'a>),
 }
 
 /// What follows on a step.
@@ -98,13 +136,21 @@ impl<'a> Phase<'a> {
     {
         Ok(match self {
             Phase::Load(_) => WordStep::Load,
+            Phase::Look(_, owner) => WordStep::Look(*owner),
+            Phase::Raise(_, owner) => WordStep::Raise(*owner),
+            Phase::Note(_, owner) => WordStep::Note(*owner),
             Phase::Probe(_, _) => WordStep::Probe,
             Phase::Prepare(version, _) => WordStep::Prepare(version.share()?),
             Phase::Swap(_) => WordStep::Swap,
             Phase::Settle(_) => WordStep::Settle,
             Phase::Keep(_, _) => WordStep::Load,
+            Phase::Enter(_, kept, _) => WordStep::Note(*kept),
+            Phase::Seek(owner, _) => WordStep::Look(*owner),
+            Phase::Gain(owner, _) => WordStep::Raise(*owner),
             Phase::Release(owner, _) => WordStep::Release(*owner),
             Phase::Bury(owner, _) => WordStep::Bury(*owner),
+            Phase::Fade(owner, _, _) => WordStep::Fade(*owner),
+            Phase::Reset(owner, _, _) => WordStep::Reset(*owner),
             Phase::Free(owner, _, _) => WordStep::Free(*owner),
         })
     }
@@ -115,94 +161,256 @@ impl<'a> Phase<'a> {
     {
         match self {
             Phase::Load(_) => StepName::Load,
+            Phase::Look(_, _) => StepName::Look,
+            Phase::Raise(_, _) => StepName::Raise,
+            Phase::Note(_, _) => StepName::Note,
             Phase::Probe(_, _) => StepName::Probe,
             Phase::Prepare(_, _) => StepName::Prepare,
             Phase::Swap(_) => StepName::Swap,
             Phase::Settle(_) => StepName::Settle,
             Phase::Keep(_, _) => StepName::Load,
+            Phase::Enter(_, _, _) => StepName::Note,
+            Phase::Seek(_, _) => StepName::Look,
+            Phase::Gain(_, _) => StepName::Raise,
             Phase::Release(_, _) => StepName::Release,
             Phase::Bury(_, _) => StepName::Bury,
+            Phase::Fade(_, _, _) => StepName::Fade,
+            Phase::Reset(_, _, _) => StepName::Reset,
             Phase::Free(_, _, _) => StepName::Free,
         }
     }
 
-    /// What follows on the step, by what it told.
+    /// What follows on the step, by the words behind it and what it told.
     ///
-    /// `NoMemory` where so many hold the version that it goes on with that they can't be counted.
-    pub fn after(&self, event: WordEvent) -> Result<Progress<'a>, WorldFault>
-        ensures ok { IfOk result (λ progress. progress ≡ after self.now event) }
+    /// `NoMemory` where a growth was refused, or so many hold a version that it goes on with that they can't be counted.
+    pub fn after(
+        &self,
+        alloc: Global,
+        machine: &WordMachine<Published>,
+        event: WordEvent,
+    ) -> Result<Progress<'a>, WorldFault>
+        ensures ok { IfOk result (λ progress. progress ≡ after machine.now self.now event) }
         ensures refused { IfErr result (λ fault. fault ≡ WorldFault.NoMemory) }
     {
         match self {
-            Phase::Probe(version, keeping) => after_probe(version, keeping.copy(), event),
             Phase::Load(name) => Ok(after_load(name, event)),
-            Phase::Prepare(_, keeping) => Ok(Progress::On(Phase::Swap(keeping.copy()))),
-            Phase::Swap(keeping) => Ok(Progress::On(Phase::Settle(keeping.copy()))),
-            Phase::Settle(keeping) => Ok(after_settle(keeping.copy(), event)),
-            Phase::Keep(given, keeping) => Ok(after_keep(*given, keeping.copy(), event)),
-            Phase::Release(owner, purpose) => Ok(after_release(*owner, purpose.copy(), event)),
-            Phase::Bury(owner, purpose) => Ok(after_bury(*owner, purpose.copy(), event)),
-            Phase::Free(_, number, purpose) => Ok(purpose.copy().past(Answer::Buried(*number))),
+            Phase::Look(name, owner) => Ok(after_look(name, *owner, event)),
+            Phase::Raise(name, owner) => Ok(after_raise(name, *owner, event)),
+            Phase::Note(name, owner) => Ok(after_note(name, *owner, event)),
+            Phase::Probe(version, keeping) => after_probe(version, keeping.copy(alloc)?, event),
+            Phase::Prepare(_, keeping) => Ok(Progress::On(Phase::Swap(keeping.copy(alloc)?))),
+            Phase::Swap(keeping) => Ok(Progress::On(Phase::Settle(keeping.copy(alloc)?))),
+            Phase::Settle(keeping) => Ok(after_settle(keeping.copy(alloc)?, event)),
+            Phase::Keep(given, keeping) => Ok(after_keep(*given, keeping.copy(alloc)?, event)),
+            Phase::Enter(given, kept, keeping) => {
+                Ok(after_enter(*given, *kept, keeping.copy(alloc)?, event))
+            }
+            Phase::Seek(owner, seeking) => Ok(after_seek(*owner, seeking.copy(alloc)?, event)),
+            Phase::Gain(owner, seeking) => {
+                after_gain(machine, *owner, seeking.copy(alloc)?, event)
+            }
+            Phase::Release(owner, purpose) => {
+                Ok(after_release(*owner, purpose.copy(alloc)?, event))
+            }
+            Phase::Bury(owner, purpose) => Ok(after_bury(*owner, purpose.copy(alloc)?, event)),
+            Phase::Fade(owner, number, purpose) => {
+                Ok(after_fade(*owner, *number, purpose.copy(alloc)?, event))
+            }
+            Phase::Reset(owner, number, purpose) => Ok(Progress::On(Phase::Free(
+                *owner,
+                *number,
+                purpose.copy(alloc)?,
+            ))),
+            Phase::Free(_, number, purpose) => Ok(purpose.copy(alloc)?.past(gone(*number))),
         }
     }
 
-    /// Whether the call is to put this name into use.
+    /// Whether the call is to put this name into use for a strong owner.
     pub fn reserves(&self, name: &Handle<'_>) -> bool
         ensures { result ≡ says_reserves name.now self.now }
     {
         match self {
-            Phase::Load(other) => other.as_slice() == name.as_slice(),
+            Phase::Load(other) | Phase::Look(other, _) | Phase::Raise(other, _) => {
+                other.as_slice() == name.as_slice()
+            }
+            _ => false,
+        }
+    }
+
+    /// Whether the call is to put this name into use for a weak owner.
+    pub fn reserves_weakly(&self, name: &Handle<'_>) -> bool
+        ensures { result ≡ says_reserves_weakly name.now self.now }
+    {
+        match self {
+            Phase::Note(other, _) => other.as_slice() == name.as_slice(),
+            _ => false,
+        }
+    }
+
+    /// Whether the call uses this owner, so that its name can't be given up.
+    pub fn uses(&self, owner: usize) -> bool
+        ensures { result ≡ says_uses owner self.now }
+    {
+        match self {
+            Phase::Look(_, other) | Phase::Raise(_, other) | Phase::Note(_, other) => {
+                *other == owner
+            }
+            Phase::Seek(_, seeking) | Phase::Gain(_, seeking) => seeking.sending.served == owner,
+            Phase::Release(_, purpose)
+            | Phase::Bury(_, purpose)
+            | Phase::Fade(_, _, purpose)
+            | Phase::Reset(_, _, purpose)
+            | Phase::Free(_, _, purpose) => purpose.uses(owner),
             _ => false,
         }
     }
 
     /// Whether the call is an update.
-    pub fn updates(&self) -> bool
+    fn updates(&self) -> bool
         ensures { result ≡ says_updates self.now }
     {
         match self {
-            Phase::Load(_) => false,
-            Phase::Release(_, purpose) | Phase::Bury(_, purpose) | Phase::Free(_, _, purpose) => {
-                !matches!(purpose, Purpose::Drop)
-            }
+            Phase::Load(_) | Phase::Look(_, _) | Phase::Raise(_, _) | Phase::Note(_, _) => false,
+            Phase::Seek(_, _) | Phase::Gain(_, _) => false,
+            Phase::Release(_, purpose)
+            | Phase::Bury(_, purpose)
+            | Phase::Fade(_, _, purpose)
+            | Phase::Reset(_, _, purpose)
+            | Phase::Free(_, _, purpose) => purpose.is_for_update(),
             _ => true,
         }
     }
+
+    /// Whether the call upgrades entries of the window.
+    fn seeks(&self) -> bool
+        ensures { result ≡ says_seeks self.now }
+    {
+        matches!(self, Phase::Seek(_, _) | Phase::Gain(_, _))
+    }
+
+    /// Whether the window stays for the call as it is, which is an update or upgrades entries.
+    pub fn bars(&self) -> bool
+        ensures { result ≡ says_bars self.now }
+    {
+        self.updates() || self.seeks()
+    }
 }
 
-ghost use Rattle.world_run.specs.Phases.{load_after, probe_after, settle_after, keep_after, release_after, bury_after, past as says_past, oldest_after};
+ghost use Rattle.world_run.specs.Phases.{load_after, look_after, raise_after, note_after, probe_after, settle_after, keep_after, enter_after, entry_of as says_entry_of, seek_after, gain_after, gained_after, sent_after, release_after, bury_after, fade_after, gone as says_gone, past as says_past, leaving_after, oldest_after, uses_for, is_for_update};
 
-impl Purpose {
+impl<'a> Purpose<'a> {
     /// The same again.
-    fn copy(&self) -> Purpose
-        ensures { result ≡ self.now }
+    ///
+    /// `NoMemory` where a growth was refused, or so many hold a version that they can't be counted.
+    fn copy(&self, alloc: Global) -> Result<Purpose<'a>, WorldFault>
+        ensures ok { IfOk result (λ purpose. purpose ≡ self.now) }
+        ensures refused { IfErr result (λ fault. fault ≡ WorldFault.NoMemory) }
     {
-        match self {
+        Ok(match self {
             Purpose::Drop => Purpose::Drop,
-            Purpose::Publish(keeping, kept) => Purpose::Publish(keeping.copy(), *kept),
-            Purpose::Oldest(heading, kept) => Purpose::Oldest(heading.copy(), *kept),
-        }
+            Purpose::Publish(keeping, kept, entry) => {
+                Purpose::Publish(keeping.copy(alloc)?, *kept, *entry)
+            }
+            Purpose::Oldest(heading, kept, entry, leaving) => {
+                Purpose::Oldest(heading.copy(), *kept, *entry, leaving.copy(alloc)?)
+            }
+            Purpose::Leaves(heading, kept, entry, leaving) => {
+                Purpose::Leaves(heading.copy(), *kept, *entry, leaving.copy(alloc)?)
+            }
+            Purpose::Sent(sending, owners) => {
+                Purpose::Sent(sending.copy(alloc)?, owners.copy(alloc)?)
+            }
+        })
     }
 
     /// What follows where the owner is gone; a drop gives this.
-    fn past<'a>(self, answer: Answer) -> Progress<'a>
-        ensures { result ≡ says_past self answer }
+    fn past(self, answer: Answer) -> Progress<'a>
+        ensures { result ≡ says_past self.entry answer }
     {
         match self {
             Purpose::Drop => Progress::Done(End::Told(answer)),
-            Purpose::Publish(keeping, kept) => oldest_after(keeping.heading, kept, keeping.oldest),
-            Purpose::Oldest(heading, kept) => Progress::Done(End::Kept(heading, kept)),
+            Purpose::Publish(keeping, kept, entry) => oldest_after(
+                keeping.heading,
+                kept,
+                entry,
+                keeping.leaving,
+                keeping.oldest,
+            ),
+            Purpose::Oldest(heading, kept, entry, leaving) => {
+                leaving_after(heading, kept, entry, leaving)
+            }
+            Purpose::Leaves(heading, kept, entry, leaving) => {
+                leaving_after(heading, kept, entry, leaving)
+            }
+            Purpose::Sent(sending, owners) => sent_after(sending, owners),
         }
+    }
+
+    /// Whether an owner is in use of the version that is served, so that its name can't be given up.
+    fn uses(&self, owner: usize) -> bool
+        ensures { result ≡ uses_for owner self.now }
+    {
+        match self {
+            Purpose::Sent(sending, _) => sending.served == owner,
+            _ => false,
+        }
+    }
+
+    /// Whether an owner is released for an update.
+    fn is_for_update(&self) -> bool
+        ensures { result ≡ is_for_update self.now }
+    {
+        !matches!(self, Purpose::Drop | Purpose::Sent(_, _))
     }
 }
 
 /// What follows where the owner that a publication gave is gone.
-fn oldest_after<'a>(heading: Heading, kept: usize, oldest: Option<usize>) -> Progress<'a>
-    ensures { result ≡ oldest_after heading kept oldest }
+fn oldest_after<'a>(
+    heading: Heading,
+    kept: usize,
+    entry: Option<Entry>,
+    leaving: OwnerList,
+    oldest: Option<usize>,
+) -> Progress<'a>
+    ensures { result ≡ oldest_after heading kept entry leaving oldest }
 {
     match oldest {
-        None => Progress::Done(End::Kept(heading, kept)),
-        Some(owner) => Progress::On(Phase::Release(owner, Purpose::Oldest(heading, kept))),
+        None => leaving_after(heading, kept, entry, leaving),
+        Some(owner) => Progress::On(Phase::Release(
+            owner,
+            Purpose::Oldest(heading, kept, entry, leaving),
+        )),
+    }
+}
+
+/// What follows where the oldest version that was kept is gone, or an entry that left the window.
+fn leaving_after<'a>(
+    heading: Heading,
+    kept: usize,
+    entry: Option<Entry>,
+    leaving: OwnerList,
+) -> Progress<'a>
+    ensures { result ≡ leaving_after heading kept entry leaving }
+{
+    let mut left = leaving;
+    match left.take_first() {
+        None => Progress::Done(End::Kept(heading, kept, entry)),
+        Some(owner) => Progress::On(Phase::Fade(
+            owner,
+            None,
+            Purpose::Leaves(heading, kept, entry, left),
+        )),
+    }
+}
+
+/// What follows where a transfer is to give up the owners that it has got.
+fn sent_after<'a>(sending: Sending<'a>, owners: OwnerList) -> Progress<'a>
+    ensures { result ≡ sent_after sending.entry owners }
+{
+    let mut left = owners;
+    match left.take_first() {
+        None => Progress::Done(End::Sent(sending)),
+        Some(owner) => Progress::On(Phase::Release(owner, Purpose::Sent(sending, left))),
     }
 }
 
@@ -215,6 +423,44 @@ fn after_load<'a>(name: &Handle<'a>, event: WordEvent) -> Progress<'a>
             Progress::Done(End::Owned(name.copy(), owner, number))
         }
         _ => Progress::On(Phase::Load(name.copy())),
+    }
+}
+
+/// What follows on a look.
+fn after_look<'a>(name: &Handle<'a>, owner: usize, event: WordEvent) -> Progress<'a>
+    ensures { result ≡ look_after name.now owner event }
+{
+    match event {
+        WordEvent::Alive => Progress::On(Phase::Raise(name.copy(), owner)),
+        WordEvent::Dead => Progress::Done(End::Told(Answer::Nothing)),
+        _ => Progress::On(Phase::Look(name.copy(), owner)),
+    }
+}
+
+/// What follows on a raise.
+fn after_raise<'a>(name: &Handle<'a>, owner: usize, event: WordEvent) -> Progress<'a>
+    ensures { result ≡ raise_after name.now owner event }
+{
+    match event {
+        WordEvent::Raised {
+            owner: next,
+            number,
+        } => Progress::Done(End::Owned(name.copy(), next, number)),
+        WordEvent::Dead => Progress::Done(End::Told(Answer::Nothing)),
+        _ => Progress::On(Phase::Raise(name.copy(), owner)),
+    }
+}
+
+/// What follows on a note.
+fn after_note<'a>(name: &Handle<'a>, owner: usize, event: WordEvent) -> Progress<'a>
+    ensures { result ≡ note_after name.now owner event }
+{
+    match event {
+        WordEvent::Noted {
+            owner: next,
+            number,
+        } => Progress::Done(End::OwnedWeakly(name.copy(), next, number)),
+        _ => Progress::On(Phase::Note(name.copy(), owner)),
     }
 }
 
@@ -249,16 +495,92 @@ fn after_keep<'a>(given: usize, keeping: Keeping, event: WordEvent) -> Progress<
     ensures { result ≡ keep_after given keeping event }
 {
     match event {
+        WordEvent::Loaded { owner, number: _ } if keeping.enters.is_some() => {
+            Progress::On(Phase::Enter(given, owner, keeping))
+        }
         WordEvent::Loaded { owner, number: _ } => {
-            Progress::On(Phase::Release(given, Purpose::Publish(keeping, owner)))
+            Progress::On(Phase::Release(given, Purpose::Publish(keeping, owner, None)))
         }
         _ => Progress::On(Phase::Keep(given, keeping)),
     }
 }
 
+/// The entry of a version, where it has one.
+fn entry_of(serial: Option<Serial>, number: u64, owner: usize) -> Option<Entry>
+    ensures { result ≡ says_entry_of serial number owner }
+{
+    Some(Entry {
+        number,
+        serial: serial?,
+        owner,
+    })
+}
+
+/// What follows on the note of the version that was published.
+fn after_enter<'a>(given: usize, kept: usize, keeping: Keeping, event: WordEvent) -> Progress<'a>
+    ensures { result ≡ enter_after given kept keeping event }
+{
+    match event {
+        WordEvent::Noted { owner, number } => {
+            let entry = entry_of(keeping.enters, number, owner);
+            Progress::On(Phase::Release(given, Purpose::Publish(keeping, kept, entry)))
+        }
+        _ => Progress::On(Phase::Enter(given, kept, keeping)),
+    }
+}
+
+/// What follows on a look at the version of an entry.
+fn after_seek<'a>(owner: usize, seeking: Seeking<'a>, event: WordEvent) -> Progress<'a>
+    ensures { result ≡ seek_after owner seeking.entry event }
+{
+    match event {
+        WordEvent::Alive => Progress::On(Phase::Gain(owner, seeking)),
+        WordEvent::Dead => sent_after(seeking.sending, seeking.owners),
+        _ => Progress::On(Phase::Seek(owner, seeking)),
+    }
+}
+
+/// What follows on a raise of the version of an entry.
+fn after_gain<'a>(
+    machine: &WordMachine<Published>,
+    owner: usize,
+    seeking: Seeking<'a>,
+    event: WordEvent,
+) -> Result<Progress<'a>, WorldFault>
+    ensures ok { IfOk result (λ progress. progress ≡ gain_after machine.now owner seeking.entry event) }
+    ensures refused { IfErr result (λ fault. fault ≡ WorldFault.NoMemory) }
+{
+    match event {
+        WordEvent::Raised {
+            owner: next,
+            number: _,
+        } => match machine.value(next) {
+            None => Ok(Progress::On(Phase::Gain(owner, seeking))),
+            Some(version) => {
+                let mut further = seeking;
+                further.put_got(next, version.share()?)?;
+                Ok(gained_after(further))
+            }
+        },
+        WordEvent::Dead => Ok(sent_after(seeking.sending, seeking.owners)),
+        _ => Ok(Progress::On(Phase::Gain(owner, seeking))),
+    }
+}
+
+/// What follows where a transfer has got one more owner.
+fn gained_after<'a>(seeking: Seeking<'a>) -> Progress<'a>
+    ensures { result ≡ gained_after seeking.entry seeking.entry.left }
+{
+    let mut further = seeking;
+    match further.left.take_first() {
+        None => sent_after(further.sending.completed(), further.owners),
+        Some(owner) => Progress::On(Phase::Seek(owner, further)),
+    }
+}
+
 /// What follows on a release.
-fn after_release<'a>(owner: usize, purpose: Purpose, event: WordEvent) -> Progress<'a>
-    ensures { result ≡ release_after owner purpose event }
+fn after_release<'a>(owner: usize, purpose: Purpose<'a>, event: WordEvent) -> Progress<'a>
+    ensures { result ≡ release_after owner purpose.entry event }
 {
     match event {
         WordEvent::Emptied => Progress::On(Phase::Bury(owner, purpose)),
@@ -267,11 +589,36 @@ fn after_release<'a>(owner: usize, purpose: Purpose, event: WordEvent) -> Progre
 }
 
 /// What follows on a bury.
-fn after_bury<'a>(owner: usize, purpose: Purpose, event: WordEvent) -> Progress<'a>
-    ensures { result ≡ bury_after owner purpose event }
+fn after_bury<'a>(owner: usize, purpose: Purpose<'a>, event: WordEvent) -> Progress<'a>
+    ensures { result ≡ bury_after owner purpose.entry event }
 {
     match event {
-        WordEvent::Buried(number) => Progress::On(Phase::Free(owner, number, purpose)),
+        WordEvent::Buried(number) => Progress::On(Phase::Fade(owner, Some(number), purpose)),
         _ => purpose.past(Answer::Left),
+    }
+}
+
+/// What a release gives that has buried the version of this number, or that of a weak owner.
+fn gone(number: Option<u64>) -> Answer
+    ensures { result ≡ says_gone number }
+{
+    match number {
+        None => Answer::Faded,
+        Some(number) => Answer::Buried(number),
+    }
+}
+
+/// What follows on a fade.
+fn after_fade<'a>(
+    owner: usize,
+    number: Option<u64>,
+    purpose: Purpose<'a>,
+    event: WordEvent,
+) -> Progress<'a>
+    ensures { result ≡ fade_after owner number purpose.entry event }
+{
+    match event {
+        WordEvent::Closed => Progress::On(Phase::Reset(owner, number, purpose)),
+        _ => purpose.past(gone(number)),
     }
 }

@@ -1,45 +1,49 @@
 //! The zone versions in the words of a cell, the names of their owners, the versions that are kept, and the calls under way, a
 //! line at a time.
-ghost use Rattle.std.specs.Prelude.{◌≡◌, IsTrue, IsFalse, Some, None, IfOk, IfErr, OnOk};
-ghost use Rattle.world_run.specs.World.{World, started, most_steps, call_of, start as says_start, names_at, kept_at, answer_at, steps_up_to, is_full as says_full, all_made as says_all_made, whole as says_whole, begin as says_begin, begin_under, next as says_next, turn as says_turn};
+ghost use Rattle.std.specs.Prelude.{◌≡◌, ◌∷◌, [], nat_lt, if◌then◌else◌, IsTrue, IsFalse, Some, None, IfOk, IfErr, OnOk};
+ghost use Rattle.world_run.specs.declared.entries.Entry.{Entry as EntryRow};
+ghost use Rattle.world_run.specs.World.{World, started, most_steps, call_of, start as says_start, names_at, weak_names_at, kept_at, entries_at, answer_at, steps_up_to, is_full as says_full, all_made as says_all_made, whole as says_whole, begin as says_begin, begin_under, next as says_next, turn as says_turn};
 ghost use Rattle.world_run.specs.declared.start.Start.TheVariants.{Takes};
 ghost use Rattle.world_run.specs.declared.step.WorldReply.TheVariants.{Answered};
 
 use crate::asked::reply_with;
 use crate::calls::{UnderWay, call_under, put_under_way, take_out};
+use crate::entries::{Entry, MOST_ENTRIES, put_entry};
 use crate::fault::WorldFault;
 use crate::kept_owners::put_kept;
 use crate::lent::Handle;
-use crate::names::{Named, give_up, put_name};
+use crate::names::{Named, give_up, give_up_weakly, put_name};
 use crate::options::Options;
 use crate::phase::{End, Phase, Progress};
 use crate::published::Published;
 use crate::start::Start;
 use crate::step::{Answer, Call, Octets, WorldReply, WorldStep};
-use crate::words::{loaded_once, step_once, take_steps};
+use crate::words::{FIRST_OWNER, started_words, step_once, take_steps};
 use cell_core::WordMachine;
-use dns_rdata::Rcode;
+use dns_rdata::{Rcode, Serial};
 use std::alloc::Global;
 use std::marker::Model;
 use zone_tree::{Version, Zone};
 
-/// The owner of the first version that is kept.
-const FIRST_OWNER: usize = 0;
+/// The weak owner of its entry.
+const FIRST_WEAK_OWNER: usize = 1;
 
 /// At most so many calls are under way.
 const MOST_CALLS: usize = 64;
 
-/// The words of a cell of zone versions, the names in use, and the calls under way; how many versions are kept beside the last,
-/// how many entries the window has at most from which changes are sent (RFC 1995, 5), and the owners of the versions that are
-/// kept, the oldest first.
+/// The words of a cell of zone versions, the names in use of strong and of weak owners, and the calls under way; how many versions are kept beside the last,
+/// and their owners, the oldest first; how many entries the window has at most from which changes are sent (RFC 1995, 5), and the
+/// entries, the oldest first.
 #[derive(Drop)]
 pub struct Play<'a> {
     pub(crate) machine: WordMachine<Published>,
     pub(crate) names: Vec<Named<'a>>,
+    pub(crate) weak_names: Vec<Named<'a>>,
     pub(crate) calls: Vec<UnderWay<'a>>,
     pub(crate) keep: usize,
     pub(crate) window: usize,
     pub(crate) kept: Vec<usize>,
+    pub(crate) entries: Vec<Entry>,
 }
 
 impl<'a> Model for Play<'a> {
@@ -47,19 +51,21 @@ impl<'a> Model for Play<'a> {
 
     ghost Value = { World };
 
-    ghost view = { λ a. record { words = a.machine; names = a.names.items; calls = a.calls.items; keep = a.keep; window = a.window; kept = a.kept.items } };
+    ghost view = { λ a. record { words = a.machine; names = a.names.items; weak_names = a.weak_names.items; calls = a.calls.items; keep = a.keep; window = a.window; kept = a.kept.items; entries = a.entries.items } };
 }
 
 impl<'a> Play<'a> {
-    /// One version is published and kept, no name is in use, and no call is under way.
+    /// One version is published and kept, and entered where there is a window, no name is in use, and no call is under way.
     ///
     /// `NoMemory` where a growth was refused.
     pub fn new(alloc: Global, zone: Zone, options: Options) -> Result<Play<'a>, WorldFault>
         ensures made { IfOk result (λ play. play ≡ started zone options.keep options.window) }
         ensures refused { IfErr result (λ fault. fault ≡ WorldFault.NoMemory) }
     {
+        let window = options.window.min(MOST_ENTRIES);
+        let entries = first_entries(alloc, zone.serial(), window)?;
         let first = Published::new(alloc, Version::first(zone))?;
-        let machine = loaded_once(alloc, first)?;
+        let machine = started_words(alloc, first, window)?;
         let mut kept = Vec::new(alloc);
         let Ok(()) = kept.push(FIRST_OWNER) else {
             return Err(WorldFault::NoMemory);
@@ -67,10 +73,12 @@ impl<'a> Play<'a> {
         Ok(Play {
             machine,
             names: Vec::new(alloc),
+            weak_names: Vec::new(alloc),
             calls: Vec::new(alloc),
             keep: options.keep,
-            window: options.window,
+            window,
             kept,
+            entries,
         })
     }
 
@@ -156,6 +164,7 @@ impl<'a> Play<'a> {
     {
         self.room()?;
         give_up(&mut self.names, call);
+        give_up_weakly(&mut self.weak_names, call);
         put_under_way(&mut self.calls, name, phase)?;
         Ok(WorldReply::Begun)
     }
@@ -169,7 +178,7 @@ impl<'a> Play<'a> {
             return Ok(WorldReply::NotEnabled);
         };
         let step = call.phase().step_name();
-        let Some(progress) = step_once(&mut self.machine, call.phase())? else {
+        let Some(progress) = step_once(alloc, &mut self.machine, call.phase())? else {
             return Ok(WorldReply::NotEnabled);
         };
         take_out(&mut self.calls, name);
@@ -206,10 +215,25 @@ impl<'a> Play<'a> {
         ensures ok { IfOk result (λ reply. (reply, self.new) ≡ says_all_made self.old call.now (steps_up_to most_steps self.old.words phase.entry)) }
         ensures refused { IfErr result (λ fault. fault ≡ WorldFault.NoMemory) }
     {
-        match take_steps(&mut self.machine, phase)? {
+        let came = take_steps(alloc, &mut self.machine, phase)?;
+        self.come_to(alloc, call, came)
+    }
+
+    /// What a call gives that has made its steps; where one couldn't be made, it isn't enabled.
+    fn come_to(
+        &mut self,
+        alloc: Global,
+        call: &Call<'a>,
+        came: Progress<'a>,
+    ) -> Result<WorldReply, WorldFault>
+        ensures ok { IfOk result (λ reply. (reply, self.new) ≡ says_all_made self.old call.now (came.entry, self.old.words)) }
+        ensures refused { IfErr result (λ fault. fault ≡ WorldFault.NoMemory) }
+    {
+        match came {
             Progress::On(_) => Ok(WorldReply::NotEnabled),
             Progress::Done(end) => {
                 give_up(&mut self.names, call);
+                give_up_weakly(&mut self.weak_names, call);
                 let answer = self.finish(alloc, end)?;
                 Ok(WorldReply::Answered(answer))
             }
@@ -219,7 +243,7 @@ impl<'a> Play<'a> {
     /// Puts a name into use, or keeps a version, where a call ends with one, and gives what the call gives.
     fn finish(&mut self, alloc: Global, end: End<'a>) -> Result<Answer, WorldFault>
         ensures ok { IfOk result (λ answer. (answer ≡ answer_at end.entry)
-            × (self.new ≡ record self.old { names = names_at end.entry self.old.names; kept = kept_at self.old.keep end.entry self.old.kept })) }
+            × (self.new ≡ record self.old { names = names_at end.entry self.old.names; weak_names = weak_names_at end.entry self.old.weak_names; kept = kept_at self.old.keep end.entry self.old.kept; entries = entries_at self.old.window end.entry self.old.entries })) }
         ensures refused { IfErr result (λ fault. fault ≡ WorldFault.NoMemory) }
     {
         match end {
@@ -231,11 +255,42 @@ impl<'a> Play<'a> {
                 put_name(&mut self.names, name, owner)?;
                 Ok(Answer::Owner(Octets::new(octets), number))
             }
+            End::OwnedWeakly(name, owner, number) => {
+                let Ok(octets) = name.as_slice().to_vec(alloc) else {
+                    return Err(WorldFault::NoMemory);
+                };
+                put_name(&mut self.weak_names, name, owner)?;
+                Ok(Answer::Owner(Octets::new(octets), number))
+            }
             End::NoSlot(heading) => reply_with(alloc, &heading, Rcode::ServFail),
-            End::Kept(heading, owner) => {
+            End::Kept(heading, owner, entry) => {
                 put_kept(&mut self.kept, self.keep, owner)?;
+                if let Some(entry) = entry {
+                    put_entry(alloc, self.window, &mut self.entries, entry)?;
+                }
                 reply_with(alloc, &heading, Rcode::NoError)
             }
+            End::Sent(sending) => sending.answer(alloc),
         }
+    }
+}
+
+/// The entry of a first version, where there is a window.
+fn first_entries(alloc: Global, serial: Serial, window: usize) -> Result<Vec<Entry>, WorldFault>
+    ensures ok { IfOk result (λ entries. entries.items ≡ (if nat_lt 0 window then record { number = 0; serial = serial; owner = 1 } ∷ [] else [])) }
+    ensures refused { IfErr result (λ fault. fault ≡ WorldFault.NoMemory) }
+{
+    let mut entries = Vec::new(alloc);
+    if window == 0 {
+        return Ok(entries);
+    }
+    let entry = Entry {
+        number: 0,
+        serial,
+        owner: FIRST_WEAK_OWNER,
+    };
+    match entries.push(entry) {
+        Ok(()) => Ok(entries),
+        Err(_) => Err(WorldFault::NoMemory),
     }
 }

@@ -1,14 +1,15 @@
 //! How a call begins.
-ghost use Rattle.std.specs.Prelude.{◌≡◌, ◌||◌, Some, IfOk, IfErr};
+ghost use Rattle.std.specs.Prelude.{◌≡◌, ◌||◌, IfOk, IfErr};
 ghost use Rattle.std.specs.Option.{option_copied, option_and_then};
 ghost use Rattle.cell_core.specs.Words.{found_last};
 ghost use Rattle.world_run.specs.Judgements.{judged as says_judged};
-ghost use Rattle.world_run.specs.World.{answering, ask_start, drop_start, is_taken as says_taken, owner_of, start as says_start, transfer_start, update_start, version_of, zone_of};
-ghost use Rattle.world_run.specs.declared.judged.Judged.TheVariants.{Makes};
-ghost use Rattle.world_run.specs.declared.step.Call.TheVariants.{Load};
+ghost use Rattle.world_run.specs.World.{answering, ask_start, drop_start, fade_start, is_taken as says_taken, is_taken_weakly as says_taken_weakly, owner_of, start as says_start, publication_start, keeping_for, can_enter as says_can_enter, transfer_start, update_start, version_of, zone_of};
+ghost use Rattle.zone_tree.specs.Version.{Version as Numbered, zone_serial};
+ghost use Rattle.world_run.specs.declared.step.Call.TheVariants.{Load, Copy, Weak, Up};
 
 use crate::asked::{answer_in, reply_with};
-use crate::calls::{is_reserved, is_updating};
+use crate::calls::{is_barred, is_reserved, is_reserved_weakly, is_used};
+use crate::entries::{enters, leaving_for};
 use crate::fault::WorldFault;
 use crate::judged::{Judged, judge};
 use crate::kept_owners::{is_held, oldest_of};
@@ -18,6 +19,7 @@ use crate::phase::{Keeping, Phase, Purpose};
 use crate::play::Play;
 use crate::published::Published;
 use crate::step::{Answer, Call};
+use dns_rdata::Serial;
 use serve_core::Heading;
 use std::alloc::Global;
 use zone_tree::Version;
@@ -54,9 +56,13 @@ impl<'a> Play<'a> {
         match call {
             Call::Load(name) => Ok(self.load(name)),
             Call::Drop(name) => Ok(self.release(name)),
+            Call::Copy(given, name) => Ok(self.copy(given, name)),
+            Call::Weak(given, name) => Ok(self.weaken(given, name)),
+            Call::Fade(name) => Ok(self.fade(name)),
+            Call::Up(weak, name) => Ok(self.raise(weak, name)),
             Call::Ask(name, request) => self.ask(alloc, name, request),
             Call::Transfer(name, request) => self.ask_transfer(alloc, name, request),
-            Call::Update(_) if is_updating(&self.calls) => Ok(Start::Refused),
+            Call::Update(_) if is_barred(&self.calls) => Ok(Start::Refused),
             Call::Update(request) => self.update(alloc, request),
         }
     }
@@ -73,11 +79,63 @@ impl<'a> Play<'a> {
 
     /// How a drop begins.
     fn release(&self, name: &Handle<'_>) -> Start<'a>
-        ensures { result ≡ drop_start (owner_of name.now self.now.names) }
+        ensures { result ≡ drop_start self.now.calls (owner_of name.now self.now.names) }
     {
         match owner_under(&self.names, name) {
             None => Start::Refused,
+            Some(owner) if is_used(&self.calls, owner) => Start::Refused,
             Some(owner) => Start::Takes(Phase::Release(owner, Purpose::Drop)),
+        }
+    }
+
+    /// How a copy begins.
+    fn copy(&self, given: &Handle<'_>, name: &Handle<'a>) -> Start<'a>
+        ensures { result ≡ says_start self.now (Copy given.now name.now) }
+    {
+        if self.is_taken(name) {
+            return Start::Refused;
+        }
+        match owner_under(&self.names, given) {
+            None => Start::Refused,
+            Some(owner) => Start::Takes(Phase::Raise(name.copy(), owner)),
+        }
+    }
+
+    /// How a weak owner is begun.
+    fn weaken(&self, given: &Handle<'_>, name: &Handle<'a>) -> Start<'a>
+        ensures { result ≡ says_start self.now (Weak given.now name.now) }
+    {
+        if self.is_taken_weakly(name) || is_barred(&self.calls) {
+            return Start::Refused;
+        }
+        match owner_under(&self.names, given) {
+            None => Start::Refused,
+            Some(owner) => Start::Takes(Phase::Note(name.copy(), owner)),
+        }
+    }
+
+    /// How the release of a weak owner begins.
+    fn fade(&self, name: &Handle<'_>) -> Start<'a>
+        ensures { result ≡ fade_start self.now.calls (owner_of name.now self.now.weak_names) }
+    {
+        match owner_under(&self.weak_names, name) {
+            None => Start::Refused,
+            Some(owner) if is_used(&self.calls, owner) => Start::Refused,
+            Some(owner) => Start::Takes(Phase::Fade(owner, None, Purpose::Drop)),
+        }
+    }
+
+    /// How an upgrade begins.
+    fn raise(&self, weak: &Handle<'_>, name: &Handle<'a>) -> Start<'a>
+        ensures { result ≡ says_start self.now (Up weak.now name.now) }
+    {
+        if self.is_taken(name) {
+            return Start::Refused;
+        }
+        match owner_under(&self.weak_names, weak) {
+            None => Start::Refused,
+            Some(owner) if is_used(&self.calls, owner) => Start::Refused,
+            Some(owner) => Start::Takes(Phase::Look(name.copy(), owner)),
         }
     }
 
@@ -102,14 +160,14 @@ impl<'a> Play<'a> {
         &self,
         alloc: Global,
         name: &Handle<'_>,
-        request: &Request<'_>,
+        request: &Request<'a>,
     ) -> Result<Start<'a>, WorldFault>
-        ensures ok { IfOk result (λ how. how ≡ transfer_start self.now (version_of name.now self.now) request.now) }
+        ensures ok { IfOk result (λ how. how ≡ transfer_start self.now request.now (owner_of name.now self.now.names)) }
         ensures refused { IfErr result (λ fault. fault ≡ WorldFault.NoMemory) }
     {
-        match self.version_under(name) {
+        match owner_under(&self.names, name) {
             None => Ok(Start::Refused),
-            Some(version) => Ok(Start::answering(self.transfer(alloc, version, request)?)),
+            Some(owner) => self.transfer(alloc, owner, request),
         }
     }
 
@@ -126,19 +184,52 @@ impl<'a> Play<'a> {
             Some(Judged::Told(heading, code)) => {
                 Ok(Start::Answers(reply_with(alloc, &heading, code)?))
             }
-            Some(Judged::Makes(heading, version)) => Ok(self.publication(heading, version)),
+            Some(Judged::Makes(heading, version)) => self.publication(alloc, heading, version),
         }
     }
 
     /// How an update begins that makes a version.
-    fn publication(&self, heading: Heading, version: Published) -> Start<'a>
-        ensures { result ≡ update_start self.now (Some (Makes heading version)) }
+    fn publication(
+        &self,
+        alloc: Global,
+        heading: Heading,
+        version: Published,
+    ) -> Result<Start<'a>, WorldFault>
+        ensures ok { IfOk result (λ how. how ≡ publication_start self.now heading version) }
+        ensures refused { IfErr result (λ fault. fault ≡ WorldFault.NoMemory) }
     {
-        let oldest = oldest_of(self.keep, &self.kept);
-        if !self.machine.has_shares() || !is_held(&self.machine, oldest) {
-            return Start::Refused;
+        let keeping = self.keeping(alloc, heading, version.version().serial())?;
+        let oldest = keeping.oldest;
+        if !self.machine.has_shares() || !is_held(&self.machine, oldest) || !self.can_enter() {
+            return Ok(Start::Refused);
         }
-        Start::Takes(Phase::Probe(version, Keeping { heading, oldest }))
+        Ok(Start::Takes(Phase::Probe(version, keeping)))
+    }
+
+    /// What an update is to do behind its publication of a version of a serial.
+    fn keeping(
+        &self,
+        alloc: Global,
+        heading: Heading,
+        serial: Serial,
+    ) -> Result<Keeping, WorldFault>
+        ensures ok { IfOk result (λ keeping. (version : Numbered) → zone_serial version.zone ≡ serial.0 → keeping ≡ keeping_for self.now heading version) }
+        ensures refused { IfErr result (λ fault. fault ≡ WorldFault.NoMemory) }
+    {
+        let enters = enters(self.window, serial);
+        Ok(Keeping {
+            heading,
+            oldest: oldest_of(self.keep, &self.kept),
+            enters,
+            leaving: leaving_for(alloc, self.window, &self.entries, enters)?,
+        })
+    }
+
+    /// Whether a weak owner can be made, where the window is to have one.
+    fn can_enter(&self) -> bool
+        ensures { result ≡ says_can_enter self.now.words self.now.window }
+    {
+        self.window == 0 || self.machine.has_notes()
     }
 
     /// Whether a name is in use, or a call under way is to put it into use.
@@ -146,6 +237,13 @@ impl<'a> Play<'a> {
         ensures { result ≡ says_taken name.now self.now }
     {
         is_in_use(&self.names, name) || is_reserved(&self.calls, name)
+    }
+
+    /// Whether a name is in use for a weak owner, or a call under way is to put it into use.
+    fn is_taken_weakly(&self, name: &Handle<'_>) -> bool
+        ensures { result ≡ says_taken_weakly name.now self.now }
+    {
+        is_in_use(&self.weak_names, name) || is_reserved_weakly(&self.calls, name)
     }
 
     /// The version that a name's owner has; none where the name isn't in use.

@@ -14,6 +14,14 @@ pub enum Call<'a> {
     Load(Handle<'a>),
     /// A strong owner is given up.
     Drop(Handle<'a>),
+    /// Another strong owner of the version that the first name's has, under the second name.
+    Copy(Handle<'a>, Handle<'a>),
+    /// A weak owner of the version that the first name's strong owner has, under the second name.
+    Weak(Handle<'a>, Handle<'a>),
+    /// A weak owner is given up.
+    Fade(Handle<'a>),
+    /// A strong owner of the version that the first name's weak owner has, under the second name, or none where it is buried.
+    Up(Handle<'a>, Handle<'a>),
     /// A request over UDP that asks for no update and for no transfer that is sent, answered in the version that a strong owner has.
     Ask(Handle<'a>, Request<'a>),
     /// A question over TCP for a transfer that is sent, with the version that a strong owner has as the one that is served
@@ -51,7 +59,17 @@ pub enum StepName {
     Release,
     /// An owner tries to bury the version that it left without an owner.
     Bury,
-    /// The owner whose bury won gives the slot free.
+    /// It is seen whether a version is buried.
+    Look,
+    /// A share of a version is given out that isn't buried.
+    Raise,
+    /// The publisher makes a weak owner.
+    Note,
+    /// An owner is counted no more among those that keep a slot from being used again.
+    Fade,
+    /// The owner that is the last of them opens the slot again.
+    Reset,
+    /// It gives the slot free.
     Free,
 }
 
@@ -67,6 +85,11 @@ impl fmt::Display for StepName {
             StepName::Settle => write!(f, "settle"),
             StepName::Release => write!(f, "release"),
             StepName::Bury => write!(f, "bury"),
+            StepName::Look => write!(f, "look"),
+            StepName::Raise => write!(f, "raise"),
+            StepName::Note => write!(f, "note"),
+            StepName::Fade => write!(f, "fade"),
+            StepName::Reset => write!(f, "reset"),
             StepName::Free => write!(f, "free"),
         }
     }
@@ -107,12 +130,16 @@ impl Octets {
 /// What a call gave.
 #[derive(Drop)]
 pub enum Answer {
-    /// The name of the strong owner, and the number of the version that it has, from 0 on.
+    /// The name of the strong or weak owner, and the number of the version that it has, from 0 on.
     Owner(Octets, u64),
     /// The strong owner is gone, and the call has buried nothing.
     Left,
     /// The strong owner is gone, and the call has buried the version of this number.
     Buried(u64),
+    /// The weak owner is gone.
+    Faded,
+    /// There is no strong owner, since the version is buried.
+    Nothing,
     /// The reply to a request, as on the wire.
     Reply(Octets),
     /// A request that gets no reply.

@@ -1,96 +1,115 @@
-//! What a question for a transfer gets (RFC 1995, 2 and 4; RFC 5936, 2.2).
-ghost use Rattle.std.specs.Prelude.{◌≡◌, true, Some, IfOk, IfErr};
-ghost use Rattle.serve_core.specs.declared.transport.Transport.TheVariants.{Tcp};
-ghost use Rattle.serve_core.specs.Transfers.{peer_over, is_permitted, messages_to};
-ghost use Rattle.world_run.specs.World.{answering, changes_told, kept_versions, transfer_asked, transfer_start};
-ghost use Rattle.world_run.specs.declared.step.Answer.TheVariants.{Messages};
+//! How a question for a transfer begins (RFC 1995, 2 and 4; RFC 5936, 2.2).
+ghost use Rattle.std.specs.Prelude.{◌≡◌, IfOk, IfErr};
+ghost use Rattle.cell_core.specs.Words.{found_by};
+ghost use Rattle.world_run.specs.World.{none_got as says_none_got, seek_start, transfer_asked, transfer_of};
 
-use crate::calls::is_updating;
+use crate::calls::is_barred;
+use crate::entries::later;
 use crate::fault::WorldFault;
-use crate::kept::{KeptVersions, chain_to};
 use crate::lent::Request;
-use crate::message_list::all_messages;
+use crate::owner_list::OwnerList;
+use crate::phase::Phase;
 use crate::play::Play;
-use crate::step::Answer;
+use crate::published::Published;
+use crate::sending::{GotVersions, Seeking, Sending};
+use crate::start::Start;
 use dns_message::{Parsed, Query, parse};
-use dns_rdata::RType;
-use serve_core::{Peer, Transport, is_permitted, transfer_reply};
 use std::alloc::Global;
-use zone_tree::Version;
+
+/// A transfer of an owner's version of which nothing is got yet.
+fn none_got<'a>(
+    alloc: Global,
+    owner: usize,
+    version: &Published,
+    request: &Request<'a>,
+) -> Result<Sending<'a>, WorldFault>
+    ensures ok { IfOk result (λ sending. sending ≡ says_none_got owner version.now request.now) }
+    ensures refused { IfErr result (λ fault. fault ≡ WorldFault.NoMemory) }
+{
+    Ok(Sending {
+        served: owner,
+        version: version.share()?,
+        request: request.copy(),
+        whole: false,
+        got: GotVersions::new(alloc),
+    })
+}
 
 impl<'a> Play<'a> {
-    /// The versions that are kept.
+    /// How a request over TCP begins that asks for a transfer of the version that an owner has.
     ///
-    /// `NoMemory` where a growth was refused.
-    fn kept_versions(&self, alloc: Global) -> Result<KeptVersions<'_>, WorldFault>
-        ensures ok { IfOk result (λ versions. versions ≡ kept_versions self.now) }
-        ensures refused { IfErr result (λ fault. fault ≡ WorldFault.NoMemory) }
-    {
-        let mut versions = KeptVersions::new(alloc);
-        for owner in &self.kept {
-            if let Some(published) = self.machine.value(*owner) {
-                versions.push(published.version())?;
-            }
-        }
-        Ok(versions)
-    }
-
-    /// What a request over TCP gets that asks for a transfer which is sent, of a version that is served; None of another one.
+    /// `NoMemory` where a growth was refused, or so many hold the version that they can't be counted.
     pub(crate) fn transfer(
         &self,
         alloc: Global,
-        version: &Version,
-        request: &Request<'_>,
-    ) -> Result<Option<Answer>, WorldFault>
-        ensures ok { IfOk result (λ answer. answering answer ≡ transfer_start self.now (Some version.now) request.now) }
+        owner: usize,
+        request: &Request<'a>,
+    ) -> Result<Start<'a>, WorldFault>
+        ensures ok { IfOk result (λ how. how ≡ transfer_of self.now owner request.now (found_by self.now.words owner)) }
         ensures refused { IfErr result (λ fault. fault ≡ WorldFault.NoMemory) }
     {
+        let Some(version) = self.machine.value(owner) else {
+            return Ok(Start::Refused);
+        };
+        let sending = none_got(alloc, owner, version, request)?;
         match parse(alloc, request.as_slice()) {
-            Parsed::Query(query) => self.transfer_of(alloc, version, &query),
-            Parsed::Silent => Ok(None),
-            Parsed::Fault(_, _) => Ok(None),
-            Parsed::BadOpt(_, _, _, _) => Ok(None),
-            Parsed::Update(_update) => Ok(None),
+            Parsed::Query(query) => self.transfer_asked(alloc, sending, &query),
+            Parsed::Silent => Ok(Start::Refused),
+            Parsed::Fault(_, _) => Ok(Start::Refused),
+            Parsed::BadOpt(_, _, _, _) => Ok(Start::Refused),
+            Parsed::Update(_update) => Ok(Start::Refused),
             Parsed::NoMemory(_) => Err(WorldFault::NoMemory),
         }
     }
 
-    /// What a question over TCP gets for a transfer that is sent, of a version that is served; None of another one, and of a
-    /// question for what changed while an update is under way.
-    fn transfer_of(
+    /// How a question over TCP for a transfer that is sent begins; another isn't enabled, and none for what changed while the window stays
+    /// for another call as it is.
+    fn transfer_asked(
         &self,
         alloc: Global,
-        version: &Version,
+        sending: Sending<'a>,
         query: &Query,
-    ) -> Result<Option<Answer>, WorldFault>
-        ensures ok { IfOk result (λ answer. answering answer ≡ transfer_asked self.now version.now query.now) }
+    ) -> Result<Start<'a>, WorldFault>
+        ensures ok { IfOk result (λ how. how ≡ transfer_asked self.now sending.entry query.now) }
         ensures refused { IfErr result (λ fault. fault ≡ WorldFault.NoMemory) }
     {
-        if !is_permitted(version, query, Peer::over(Transport::Tcp, true)) {
-            return Ok(None);
+        if !sending.is_permitted(query) {
+            return Ok(Start::Refused);
         }
-        if query.question.rtype == RType::IXFR && is_updating(&self.calls) {
-            return Ok(None);
+        if query.serial.is_some() && is_barred(&self.calls) {
+            return Ok(Start::Refused);
         }
-        Ok(Some(self.transfer_messages(alloc, version, query)?))
+        let number = sending.version.version().number();
+        let owners = later(alloc, &self.entries, number, query.serial)?;
+        self.seek(alloc, sending, owners)
     }
 
-    /// The messages of a transfer over TCP of a version that is served.
-    fn transfer_messages(
+    /// How a transfer begins that upgrades the entries of these owners.
+    fn seek(
         &self,
         alloc: Global,
-        version: &Version,
-        query: &Query,
-    ) -> Result<Answer, WorldFault>
-        requires { is_permitted version.now.zone (peer_over Tcp true) query.now ≡ true }
-        ensures ok { IfOk result (λ answer. answer
-            ≡ Messages (messages_to version.now.zone (changes_told self.now.window (kept_versions self.now) version.now query.now.serial) (peer_over Tcp true) query.now)) }
+        sending: Sending<'a>,
+        owners: OwnerList,
+    ) -> Result<Start<'a>, WorldFault>
+        ensures ok { IfOk result (λ how. how ≡ seek_start self.now.words sending.entry owners) }
         ensures refused { IfErr result (λ fault. fault ≡ WorldFault.NoMemory) }
     {
-        let kept = self.kept_versions(alloc)?;
-        let chain = chain_to(&kept, version, self.window, query.serial);
-        let peer = Peer::over(Transport::Tcp, true);
-        let messages = all_messages(alloc, transfer_reply(version, &chain, query, peer))?;
-        Ok(Answer::Messages(messages))
+        let has_shares = self.machine.has_shares_for(owners.len());
+        let mut left = owners;
+        let Some(owner) = left.take_first() else {
+            return Ok(Start::Answers(sending.answer(alloc)?));
+        };
+        if !has_shares {
+            return Ok(Start::Refused);
+        }
+        let owners = OwnerList::new(alloc);
+        Ok(Start::Takes(Phase::Seek(
+            owner,
+            Seeking {
+                sending,
+                left,
+                owners,
+            },
+        )))
     }
 }

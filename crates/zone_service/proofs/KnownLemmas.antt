@@ -32,7 +32,7 @@ at_end (y ∷ ys) x = at_end ys x
 
 -- who meets what is published has loaded the last of it
 pub met_loads : (first : List Record) (before : ReaderState Version) (published : List Version) (version : Version) → IsLatest first published version → Begins before.seen published → 0 < before.left
-    → HasLoaded first before (record { cell = before.cell; seen = published; left = before.left - 1 }) version
+    → HasLoaded first before (record { cell = before.cell; seen = published; left = before.left - 1; gone = before.gone }) version
 met_loads first before published version latest begun some = record {
   cell = refl;
   begun = begun;
@@ -42,6 +42,7 @@ met_loads first before published version latest begun some = record {
     ap (λ (l : List Version). slice_get l version.number) latest.ends ∙ ap (slice_get (latest.before ++ version ∷ [])) (sym latest.number) ∙ at_end latest.before version,
   );
   left = omega (arith, some);
+  gone = refl;
 }
 
 -- the versions that are found for a query, once the last of them is loaded

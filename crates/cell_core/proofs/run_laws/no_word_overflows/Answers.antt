@@ -1,5 +1,6 @@
 -- Words that show a cell are small.
-use Rattle.cell_core.proofs.RunLawLemmas.{from_first, latest_little, shares_little, load_adds, settle_has, release_has}
+use Rattle.cell_core.proofs.RunLawLemmas.{from_first, latest_little, shares_little, weak_little, load_adds, settle_has, release_has}
+use Rattle.cell_core.proofs.WeakShows.{to_fade, fade_counts}
 use Rattle.cell_core.proofs.run_laws.no_word_overflows.Goals as goal
 
 pub returns-clause-latest : goal.returns-clause-latest
@@ -20,3 +21,11 @@ pub returns-clause-release : goal.returns-clause-release
 returns-clause-release g c first after run owner number place there r =
     let told = from_first first after run r in
     release_has after told.next owner number place there told.shows
+
+pub returns-clause-weak : goal.returns-clause-weak
+returns-clause-weak g c first after run place there r = let told = from_first first after run r in weak_little after told.next told.shows place there
+
+pub returns-clause-fade : goal.returns-clause-fade
+returns-clause-fade g c first after run owner place there r fades at =
+    let told = from_first first after run r in
+    (fade_counts after told.next told.shows owner place there (to_fade after owner place fades) at).0

@@ -1,6 +1,6 @@
 -- What is buried was told.
 use Rattle.std.proofs.Common.{ap, ◌∙◌, length}
-use Rattle.cell_core.proofs.RestLemmas.{rest_buried, rest_free}
+use Rattle.cell_core.proofs.RestLemmas.{rest_buried, rest_free, rest_weak}
 use Rattle.cell_core.proofs.RunLawLemmas.{from_first, shown_cell}
 use Rattle.cell_core.proofs.run_laws.rest_was_buried.Goals as goal
 
@@ -14,3 +14,8 @@ pub returns-clause-free : goal.returns-clause-free
 returns-clause-free g c first after run from last r is at =
     let told = from_first first after run r in
     rest_free after told.next from last told.shows (ap length told.published ∙ is) at
+
+pub returns-clause-weak_word : goal.returns-clause-weak_word
+returns-clause-weak_word g c first after run from last r is at =
+    let told = from_first first after run r in
+    rest_weak after told.next from last told.shows (ap length told.published ∙ is) at

@@ -6,10 +6,8 @@ use Rattle.counted_handles.proofs.calls.free.Goals as goal
 
 pub store-requires : goal.store-requires
 store-requires g c =
-    let whole = c.requires.whole in
-    (c.requires.fits.1, omega (arith, c.requires.fits.0.0, whole.3), free_allowed g.C.Names.begins g.C.Follows.follows c.args.words.now.key.places.items _ c.args.seat.now.id _ c.args.slot whole.0 whole.1 c.args.seat.now.me c.requires.fits.0.1 (omega arith) whole.2 whole.4 whole.5 whole.6)
+    let due = c.requires.due in
+    (c.requires.fits.1, omega (arith, c.requires.fits.0.0, due.1), free_allowed g.C.Names.begins g.C.Follows.follows c.args.words.now.key.places.items _ c.args.seat.now.id _ c.args.slot c.args.seat.now.me c.requires.fits.0.1 (omega arith) due.0)
 
 pub returns : goal.returns
-returns g c =
-    let whole = c.requires.whole in
-    record { seat = (c.store.ensures.0, c.store.ensures.1, subst (λ (m : Sat g.row.T.Denot). FreeTells m.0 c.store.new.seat.me) whole.2 c.store.ensures.2) }
+returns g c = record { seat = (c.store.ensures.0, c.store.ensures.1, subst (λ (m : Sat g.row.T.Denot). FreeTells m.0 c.store.new.seat.me) c.requires.due.0 c.store.ensures.2) }

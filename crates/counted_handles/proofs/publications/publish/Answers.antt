@@ -53,7 +53,7 @@ own-requires-clause-has g c =
     (swapped.mark, swapped.share_is, swapped.slot_is, swapped.name_is ∙ due.3, subst (λ k. k < slots) swapped.slot_is swapped.within)
 
 pub returns-clause-old : goal.returns-clause-old
-returns-clause-old g c p can =
+returns-clause-old g c =
     let due = c.requires.due in
     let seat = c.into_seat-seat in
     let view = only_one seat.result.me.0 (Publishes due.0) (sym seat.ensures.2 ∙ ap (λ b. b.views) c.replace.ensures.value ∙ due.1.0) in
@@ -61,8 +61,11 @@ returns-clause-old g c p can =
     let lies = c.put.ensures.lies due.0 taken.1 due.3 due.2 in
     let swapping = swapping_of g.C.Names.begins g.C.Follows.follows c.in-Some.slot due.0 c.args.value lies.0 c.put.new.seat.me taken.0 lies.1 due.4 in
     let swapped = c.swap_in-share.ensures.published (put_as due.0 c.in-Some.slot c.args.value lies.0) c.args.value swapping due.1.2 in
-    let own = sym (c.own.ensures swapped.mark swapped.share_is) in
-    subst (λ q. IsOld q c.own.result) (same_publisher due.0 p c.args.badge.now.views due.1.0 can.0) (subst (λ v. IsOld due.0 v) own (swapped.last, swapped.value_is))
+    let owned = c.own.ensures swapped.mark swapped.share_is in
+    let own = sym (ap (λ o. o.version) owned) in (
+      ap (λ o. o.table) owned,
+      λ p can. subst (λ q. IsOld q c.own.result.version) (same_publisher due.0 p c.args.badge.now.views due.1.0 can.0) (subst (λ v. IsOld due.0 v) own (swapped.last, swapped.value_is)),
+    )
 
 pub returns-clause-published : goal.returns-clause-published
 returns-clause-published g c p can =

@@ -1,6 +1,6 @@
 use Rattle.std.proofs.Common.{◌≡◌, sym, ap, ◌∙◌, ◌+◌, List, [], ◌∷◌, ◌++◌, None, vec_len, arith, append-nil}
 use Rattle.counted_handles.specs.Cuts.{lodged}
-use Rattle.snapshot_cell.specs.Tokens.{seen_in, ReaderState}
+use Rattle.snapshot_cell.specs.Tokens.{seen_in, gone_in, ReaderState}
 use Rattle.snapshot_cell.proofs.EndLemmas.{looked, closing_next, host_of, like_again, reader_again, and_so}
 use Rattle.snapshot_cell.proofs.named_ending.+end_named.Goals as goal
 
@@ -69,10 +69,11 @@ returns-in_default-end_named-clause-ended g t c p is =
     let its = ap (λ s. s.cell) c.reader.view_is ∙ c.named.invariant ∙ sym c.requires.named in
     let cell = c.give_back-badge.ensures.badges.2 ∙ c.end_named.ensures.badge.0 ∙ c.take_in.ensures.badge.0 ∙ c.requires.fits.1 in
     let seen = ap seen_in home.1 ∙ sym (ap seen_in r.views_are) in
+    let gone = ap gone_in home.1 ∙ sym (ap gone_in r.views_are) in
     let R : Type 0 = ReaderState g.row.T.Denot in
-    let made : R = record { cell = c.give_back-badge.result.table_id; seen = seen_in c.give_back-badge.result.views; left = inside.left } in
+    let made : R = record { cell = c.give_back-badge.result.table_id; seen = seen_in c.give_back-badge.result.views; left = inside.left; gone = gone_in c.give_back-badge.result.views } in
     let rest : List R = c.pop.new.self.items in
-    let same : made ≡ c.in-Some.named = (λ i. record { cell = (cell ∙ sym its) i; seen = seen i; left = inside.left }) ∙ c.reader.view_is ∙ c.named.view_is in (
+    let same : made ≡ c.in-Some.named = (λ i. record { cell = (cell ∙ sym its) i; seen = seen i; left = inside.left; gone = gone i }) ∙ c.reader.view_is ∙ c.named.view_is in (
       (None, told.0.1, like_again p r.reading (vec_len c.args.readers.now) c.args.badge.now.views c.give_back-badge.new.badge.views told.0.0 told.0.1 is (omega (arith, one)) home.0),
       c.push_reserved.ensures.items ∙ ap (λ (xs : List R). xs ++ made ∷ []) told.1 ∙ ap (λ (x : R). rest ++ x ∷ []) same ∙ sym c.in-Some.ensures.items,
     )

@@ -1,6 +1,6 @@
--- Once a call has taken its first step, each further one can be made.
-use Rattle.world_laws.proofs.EndLemmas.{turn_refusal}
+-- Each call that begins can be carried to its end.
+use Rattle.world_laws.proofs.HandPlay.{played_refusal}
 use Rattle.world_laws.proofs.laws.refused_lines_change_nothing.Goals as goal
 
 pub returns : goal.returns
-returns c = turn_refusal
+returns c = played_refusal

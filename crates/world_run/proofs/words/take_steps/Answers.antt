@@ -3,13 +3,13 @@ use Rattle.world_run.proofs.StepLemmas.{further, stayed, ended, passed}
 use Rattle.world_run.proofs.words.take_steps.Goals as goal
 
 pub loop-preserved : goal.loop-preserved
-loop-preserved c = further c.loop.counter c.args.machine.now c.loop.machine c.step_once.new.machine c.args.first c.loop.phase c.in-On.further c.in_ok-progress.field-0 c.in-Some.progress (omega arith) c.in-Some.is c.in-On.is c.in_ok-progress.ensures.ok c.loop.invariant
+loop-preserved c = further c.loop.counter c.args.machine.now c.loop.machine c.go_further.new.machine c.args.first c.loop.phase c.in-On.further c.in_ok-progress.progress c.in_ok-progress.made (omega arith) c.if-made.true c.in-On.is c.in_ok-progress.ensures.ok c.loop.invariant
 
-pub returns-in_default-clause-ok : goal.returns-in_default-clause-ok
-returns-in_default-clause-ok c = stayed c.loop.counter c.args.machine.now c.loop.machine c.step_once.new.machine c.args.first c.loop.phase c.in_ok-progress.field-0 (omega arith) c.in_default.is c.in_ok-progress.ensures.ok c.loop.invariant
+pub returns-else-made-clause-ok : goal.returns-else-made-clause-ok
+returns-else-made-clause-ok c = stayed c.loop.counter c.args.machine.now c.loop.machine c.go_further.new.machine c.args.first c.loop.phase c.in-On.further c.in_ok-progress.progress c.in_ok-progress.made (omega arith) c.if-made.false c.in-On.is c.in_ok-progress.ensures.ok c.loop.invariant
 
 pub returns-in-Done-clause-ok : goal.returns-in-Done-clause-ok
-returns-in-Done-clause-ok c = ended c.loop.counter c.args.machine.now c.loop.machine c.step_once.new.machine c.args.first c.loop.phase c.in-Done.end c.in_ok-progress.field-0 c.in-Some.progress (omega arith) c.in-Some.is c.in-Done.is c.in_ok-progress.ensures.ok c.loop.invariant
+returns-in-Done-clause-ok c = ended c.loop.counter c.args.machine.now c.loop.machine c.go_further.new.machine c.args.first c.loop.phase c.in-Done.end c.in_ok-progress.progress c.in_ok-progress.made (omega arith) c.in-Done.is c.in_ok-progress.ensures.ok c.loop.invariant
 
 pub returns-clause-ok : goal.returns-clause-ok
 returns-clause-ok c = passed c.loop.counter c.args.machine.now c.loop.machine c.args.first c.loop.phase (omega arith) c.loop.invariant

@@ -1,7 +1,7 @@
 -- Each arm is the method for that step.
 use Rattle.cell_core.proofs.WordMachineLemmas.{exactly}
 use Rattle.cell_core.proofs.StepShows.{shows_as}
-use Rattle.cell_core.specs.declared.words.WordStep.TheVariants.{Load, Probe, Prepare, Swap, Settle, Release, Bury, Free}
+use Rattle.cell_core.specs.declared.words.WordStep.TheVariants.{Load, Probe, Prepare, Swap, Settle, Release, Bury, Free, Look, Raise, Note, Fade, Reset}
 use Rattle.cell_core.proofs.word_machine.WordMachine.step.Goals as goal
 
 pub returns-in-Load-clause-not_enabled : goal.returns-in-Load-clause-not_enabled
@@ -51,3 +51,33 @@ returns-in-Bury-clause-shows g c = rw c.in-Bury.is (shows_as c.args.self.now _ (
 
 pub returns-in-Free-clause-shows : goal.returns-in-Free-clause-shows
 returns-in-Free-clause-shows g c = rw c.in-Free.is (shows_as c.args.self.now _ (Free c.in-Free.owner) _ c.free.ensures.word)
+
+pub returns-in-Look-clause-not_enabled : goal.returns-in-Look-clause-not_enabled
+returns-in-Look-clause-not_enabled g c = rw c.in-Look.is (exactly c.args.self.now (Look c.in-Look.owner) _ _ c.look.ensures.word c.look.ensures.not_enabled (λ e. absurd (c.look.ensures.no_memory e)))
+
+pub returns-in-Raise-clause-not_enabled : goal.returns-in-Raise-clause-not_enabled
+returns-in-Raise-clause-not_enabled g c = rw c.in-Raise.is (exactly c.args.self.now (Raise c.in-Raise.owner) _ _ c.raise.ensures.word c.raise.ensures.not_enabled c.raise.ensures.no_memory)
+
+pub returns-in-Note-clause-not_enabled : goal.returns-in-Note-clause-not_enabled
+returns-in-Note-clause-not_enabled g c = rw c.in-Note.is (exactly c.args.self.now (Note c.in-Note.owner) _ _ c.note.ensures.word c.note.ensures.not_enabled c.note.ensures.no_memory)
+
+pub returns-in-Fade-clause-not_enabled : goal.returns-in-Fade-clause-not_enabled
+returns-in-Fade-clause-not_enabled g c = rw c.in-Fade.is (exactly c.args.self.now (Fade c.in-Fade.owner) _ _ c.fade.ensures.word c.fade.ensures.not_enabled (λ e. absurd (c.fade.ensures.no_memory e)))
+
+pub returns-in-Reset-clause-not_enabled : goal.returns-in-Reset-clause-not_enabled
+returns-in-Reset-clause-not_enabled g c = rw c.in-Reset.is (exactly c.args.self.now (Reset c.in-Reset.owner) _ _ c.reset.ensures.word c.reset.ensures.not_enabled (λ e. absurd (c.reset.ensures.no_memory e)))
+
+pub returns-in-Look-clause-shows : goal.returns-in-Look-clause-shows
+returns-in-Look-clause-shows g c = rw c.in-Look.is (shows_as c.args.self.now _ (Look c.in-Look.owner) _ c.look.ensures.word)
+
+pub returns-in-Raise-clause-shows : goal.returns-in-Raise-clause-shows
+returns-in-Raise-clause-shows g c = rw c.in-Raise.is (shows_as c.args.self.now _ (Raise c.in-Raise.owner) _ c.raise.ensures.word)
+
+pub returns-in-Note-clause-shows : goal.returns-in-Note-clause-shows
+returns-in-Note-clause-shows g c = rw c.in-Note.is (shows_as c.args.self.now _ (Note c.in-Note.owner) _ c.note.ensures.word)
+
+pub returns-in-Fade-clause-shows : goal.returns-in-Fade-clause-shows
+returns-in-Fade-clause-shows g c = rw c.in-Fade.is (shows_as c.args.self.now _ (Fade c.in-Fade.owner) _ c.fade.ensures.word)
+
+pub returns-in-Reset-clause-shows : goal.returns-in-Reset-clause-shows
+returns-in-Reset-clause-shows g c = rw c.in-Reset.is (shows_as c.args.self.now _ (Reset c.in-Reset.owner) _ c.reset.ensures.word)

@@ -1,5 +1,5 @@
 use Rattle.std.proofs.Common.{refl, ◌<◌, ◌-◌, ap, sym, ◌∙◌, subst, arith}
-use Rattle.snapshot_cell.specs.Tokens.{seen_in, published_in}
+use Rattle.snapshot_cell.specs.Tokens.{seen_in, gone_in, published_in}
 use Rattle.counted_handles.specs.Calls.{gave_back}
 use Rattle.counted_handles.specs.Ruled.{Begins}
 use Rattle.snapshot_cell.proofs.TokenLemmas.{publisher_as, same_last}
@@ -21,12 +21,13 @@ returns-clause-newest g c =
     let reads = c.reader.invariant in
     let some : 0 < c.reader.inside.left = omega (arith, c.if-reader-eq0.false) in
     let told = c.newest.ensures.newest inv.publishing reads.reading (inv.views_are, inv.whole, inv.none_left) (reads.views_are, reads.whole, omega (arith, some, reads.left_is)) in
-    let strong = same_last inv.publishing.published c.newest.result before.number before.last.value told.last.0 told.last.1 inv.last inv.value_is in
+    let strong = same_last inv.publishing.published c.newest.result.version before.number before.last.value told.last.0 told.last.1 inv.last inv.value_is in
     let cell = c.newest.ensures.badges.2 ∙ c.self.view_is in
     let seen = ap seen_in told.reader_is ∙ sym (ap published_in inv.views_are) ∙ sym (ap (λ s. s.published) (sym c.publisher.view_is)) in
-    let left = ap (λ s. s.left - 1) c.reader.view_is in (
+    let left = ap (λ s. s.left - 1) c.reader.view_is in
+    let gone = ap gone_in told.reader_is ∙ sym (ap gone_in reads.views_are) ∙ ap (λ s. s.gone) c.reader.view_is in (
       strong ∙ (λ i. record { number = (c.publisher.view_is i).number; value = (c.publisher.view_is i).value }),
-      (λ i. record { cell = cell i; seen = seen i; left = left i }),
+      (λ i. record { cell = cell i; seen = seen i; left = left i; gone = gone i }),
       omega (arith, some, ap (λ s. s.left) (sym c.reader.view_is)),
     )
 

@@ -1,0 +1,252 @@
+//! Transfers of what changed, as far as they have come: the versions that were got of those after the asker's (RFC 1995, 4).
+ghost use Rattle.std.specs.Prelude.{◌≡◌, ◌++◌, ◌∷◌, [], true, IfOk, IfErr, OnOk};
+ghost use Rattle.serve_core.specs.declared.transport.Transport.TheVariants.{Tcp};
+ghost use Rattle.serve_core.specs.Transfers.{peer_over, is_permitted, messages_to};
+ghost use Rattle.transfer_core.specs.Chain.{told_changes};
+ghost use Rattle.zone_tree.specs.Zone.{soa_of};
+ghost use Rattle.world_run.specs.Phases.{completed, with_got};
+ghost use Rattle.world_run.specs.Transfers.{sent_for, sent_answer, messages_answer};
+ghost use Rattle.dns_message.specs.declared.query.Parsed.TheVariants.{Query as Asks};
+
+use crate::fault::WorldFault;
+use crate::lent::Request;
+use crate::message_list::{MessageList, all_messages};
+use crate::owner_list::OwnerList;
+use crate::published::Published;
+use crate::step::Answer;
+use dns_message::{Parsed, Query, parse};
+use serve_core::{Peer, Transport, is_permitted, transfer_reply};
+use std::alloc::Global;
+use std::marker::Model;
+use transfer_core::{ChainView, VersionList};
+use zone_tree::Version;
+
+/// Versions that were got, the oldest first. Contracts see the list of them.
+#[derive(Drop)]
+pub struct GotVersions {
+    items: Vec<Published>,
+}
+
+impl Model for GotVersions {
+    ghost use Rattle.std.specs.Prelude.{List};
+    ghost use Rattle.zone_tree.specs.Version.{Version as Numbered};
+
+    ghost Value = { List Numbered };
+
+    ghost view = { λ a. a.items.items };
+}
+
+impl GotVersions {
+    /// None yet.
+    pub fn new(alloc: Global) -> GotVersions
+        ensures { result ≡ [] }
+    {
+        GotVersions {
+            items: Vec::new(alloc),
+        }
+    }
+
+    /// One more behind them.
+    fn push(&mut self, version: Published) -> Result<(), WorldFault>
+        ensures ok { OnOk result (self.new ≡ self.old ++ version ∷ []) }
+        ensures refused { IfErr result (λ fault. fault ≡ WorldFault.NoMemory) }
+    {
+        match self.items.push(version) {
+            Ok(()) => Ok(()),
+            Err(_) => Err(WorldFault::NoMemory),
+        }
+    }
+
+    /// The same again.
+    fn copy(&self, alloc: Global) -> Result<GotVersions, WorldFault>
+        ensures ok { IfOk result (λ versions. versions ≡ self.now) }
+        ensures refused { IfErr result (λ fault. fault ≡ WorldFault.NoMemory) }
+    {
+        let mut versions = GotVersions::new(alloc);
+        for version in &self.items {
+            versions.push(version.share()?)?;
+        }
+        Ok(versions)
+    }
+}
+
+/// The versions after the asker's, or that they weren't all got.
+struct Chain<'a> {
+    whole: bool,
+    versions: &'a GotVersions,
+}
+
+impl<'a> Drop for Chain<'a> {
+    fn drop(self) {
+        let Chain {
+            whole: _,
+            versions: _,
+        } = self;
+    }
+}
+
+impl<'a> VersionList for Chain<'a> {
+    ghost versions = { λ chain. chain.versions.now };
+
+    fn len(&self) -> usize {
+        let versions = self.versions;
+        versions.items.len()
+    }
+
+    fn version(&self, at: usize) -> Option<&Version> {
+        let versions = self.versions;
+        let published = versions.items.get(at)?;
+        Some(published.version())
+    }
+}
+
+impl<'a> ChainView for Chain<'a> {
+    ghost whole = { λ chain. chain.whole };
+
+    fn is_whole(&self) -> bool {
+        self.whole
+    }
+}
+
+/// A transfer of what changed, as far as it has come.
+#[derive(Drop)]
+pub struct Sending<'a> {
+    /// The owner of the version that is served.
+    pub served: usize,
+    /// That version.
+    pub version: Published,
+    /// The question.
+    pub request: Request<'a>,
+    /// Whether each version after the asker's, up to the served one, was got.
+    pub whole: bool,
+    /// Those that were got, the oldest first.
+    pub got: GotVersions,
+}
+
+impl<'a> Sending<'a> {
+    /// The same again.
+    ///
+    /// `NoMemory` where a growth was refused, or so many hold a version that they can't be counted.
+    pub fn copy(&self, alloc: Global) -> Result<Sending<'a>, WorldFault>
+        ensures ok { IfOk result (λ sending. sending ≡ self.now) }
+        ensures refused { IfErr result (λ fault. fault ≡ WorldFault.NoMemory) }
+    {
+        Ok(Sending {
+            served: self.served,
+            version: self.version.share()?,
+            request: self.request.copy(),
+            whole: self.whole,
+            got: self.got.copy(alloc)?,
+        })
+    }
+
+    /// The same, with each version got that it asks for.
+    pub fn completed(self) -> Sending<'a>
+        ensures { result ≡ completed self.entry }
+    {
+        Sending {
+            served: self.served,
+            version: self.version,
+            request: self.request,
+            whole: true,
+            got: self.got,
+        }
+    }
+
+    /// What the question gets: the messages of the transfer (RFC 5936, 2.2).
+    ///
+    /// `NoMemory` where a growth was refused.
+    pub fn answer(&self, alloc: Global) -> Result<Answer, WorldFault>
+        ensures ok { IfOk result (λ answer. answer ≡ sent_answer self.now) }
+        ensures refused { IfErr result (λ fault. fault ≡ WorldFault.NoMemory) }
+    {
+        match parse(alloc, self.request.as_slice()) {
+            Parsed::Query(query) => self.answer_query(alloc, &query),
+            Parsed::NoMemory(_) => Err(WorldFault::NoMemory),
+            Parsed::Silent => Ok(Answer::Silent),
+            Parsed::Fault(_, _) => Ok(Answer::Silent),
+            Parsed::BadOpt(_, _, _, _) => Ok(Answer::Silent),
+            Parsed::Update(_update) => Ok(Answer::Silent),
+        }
+    }
+
+    /// What a query gets; nothing where it isn't for a transfer that is sent.
+    fn answer_query(&self, alloc: Global, query: &Query) -> Result<Answer, WorldFault>
+        ensures ok { IfOk result (λ answer. answer ≡ messages_answer (sent_for self.now (Asks query.now))) }
+        ensures refused { IfErr result (λ fault. fault ≡ WorldFault.NoMemory) }
+    {
+        if !self.is_permitted(query) {
+            return Ok(Answer::Silent);
+        }
+        Ok(Answer::Messages(self.messages(alloc, query)?))
+    }
+
+    /// Whether a query is for a transfer of the version that is sent.
+    pub fn is_permitted(&self, query: &Query) -> bool
+        ensures { result ≡ is_permitted self.now.version.zone (peer_over Tcp true) query.now }
+    {
+        is_permitted(
+            self.version.version(),
+            query,
+            Peer::over(Transport::Tcp, true),
+        )
+    }
+
+    /// The messages of the transfer: what changed, where each version was got that it asks for (RFC 1995, 4).
+    ///
+    /// `NoMemory` where a growth was refused.
+    fn messages(&self, alloc: Global, query: &Query) -> Result<MessageList, WorldFault>
+        requires { is_permitted self.now.version.zone (peer_over Tcp true) query.now ≡ true }
+        ensures ok { IfOk result (λ messages. messages
+            ≡ messages_to self.now.version.zone (told_changes self.now.whole (soa_of self.now.version.zone) self.now.got) (peer_over Tcp true) query.now) }
+        ensures refused { IfErr result (λ fault. fault ≡ WorldFault.NoMemory) }
+    {
+        let chain = Chain {
+            whole: self.whole,
+            versions: &self.got,
+        };
+        let peer = Peer::over(Transport::Tcp, true);
+        all_messages(
+            alloc,
+            transfer_reply(self.version.version(), &chain, query, peer),
+        )
+    }
+}
+
+/// A transfer of what changed, while entries are upgraded.
+#[derive(Drop)]
+pub struct Seeking<'a> {
+    /// The transfer, as far as it has come.
+    pub sending: Sending<'a>,
+    /// The weak owners of the entries that are to be upgraded behind the one whose turn it is, the oldest first.
+    pub left: OwnerList,
+    /// The owners that were got, the oldest first.
+    pub owners: OwnerList,
+}
+
+impl<'a> Seeking<'a> {
+    /// The same again.
+    ///
+    /// `NoMemory` where a growth was refused, or so many hold a version that they can't be counted.
+    pub fn copy(&self, alloc: Global) -> Result<Seeking<'a>, WorldFault>
+        ensures ok { IfOk result (λ seeking. seeking ≡ self.now) }
+        ensures refused { IfErr result (λ fault. fault ≡ WorldFault.NoMemory) }
+    {
+        Ok(Seeking {
+            sending: self.sending.copy(alloc)?,
+            left: self.left.copy(alloc)?,
+            owners: self.owners.copy(alloc)?,
+        })
+    }
+
+    /// One more owner was got, which finds this version.
+    ///
+    /// `NoMemory` where a growth was refused.
+    pub fn put_got(&mut self, owner: usize, version: Published) -> Result<(), WorldFault>
+        ensures ok { OnOk result (self.new ≡ with_got owner version self.old) }
+        ensures refused { IfErr result (λ fault. fault ≡ WorldFault.NoMemory) }
+    {
+        self.owners.push(owner)?;
+        self.sending.got.push(version)
+    }
+}
