@@ -9,6 +9,7 @@ use Rattle.dns_message.specs.Message.{number_at}
 use Rattle.conversation.specs.Octets.{frames_of}
 use Rattle.conversation.specs.Served.{BeginsWith}
 use Rattle.conversation.specs.Turns.{Turn}
+use Rattle.connections.specs.Kept.{Kept, due}
 
 -- octets are below 256, and so are those at their front
 front_small : (octets : List ℕ) → ((i : ℕ) → get_or octets i 0 < 256) → (i : ℕ) → get_or (take 2 octets) i 0 < 256
@@ -22,16 +23,24 @@ front_small (a ∷ b ∷ octets) small (suc (suc i)) = grind arith
 le_of : (a b : ℕ) → nat_le a b ≡ true → a ≤ b
 le_of a b h = grind (arith, nat_tests)
 
+abbrev first_of : Option (List ℕ × List ℕ) → List ℕ
+first_of None = []
+first_of (Some p) = p.0
+
+abbrev second_of : Option (List ℕ × List ℕ) → List ℕ
+second_of None = []
+second_of (Some p) = p.1
+
 frame_cases : (octets message rest : List ℕ) (b : Bool) → nat_le (2 + number_at octets 0) (length octets) ≡ b → ((i : ℕ) → get_or octets i 0 < 256) → frame_in octets ≡ Some (message, rest)
     → (octets ≡ frame_of message ++ rest) × (2 + length message ≤ length octets) × (rest ≡ drop (2 + length message) octets)
 frame_cases octets message rest false short small found =
-    let e : None ≡ Some (message, rest) = subst (λ (b : Bool). (if b then Some (take (number_at octets 0) (drop 2 octets), drop (2 + number_at octets 0) octets) else None) ≡ Some (message, rest)) short found in
+    let e : None ≡ Some (message, rest) = subst (λ (b : Bool). if◌then◌else◌ {A = Option (List ℕ × List ℕ)} b (Some (take (number_at octets 0) (drop 2 octets), drop (2 + number_at octets 0) octets)) None ≡ Some (message, rest)) short found in
     absurd (let none : ⊥ = cc (e) in none)
 frame_cases octets message rest true long small found =
     let size = number_at octets 0 in
-    let e : Some (take size (drop 2 octets), drop (2 + size) octets) ≡ Some (message, rest) = subst (λ (b : Bool). (if b then Some (take size (drop 2 octets), drop (2 + size) octets) else None) ≡ Some (message, rest)) long found in
-    let first : take size (drop 2 octets) ≡ message = cc (e) in
-    let second : drop (2 + size) octets ≡ rest = cc (e) in
+    let e : Some (take size (drop 2 octets), drop (2 + size) octets) ≡ Some (message, rest) = subst (λ (b : Bool). if◌then◌else◌ {A = Option (List ℕ × List ℕ)} b (Some (take size (drop 2 octets), drop (2 + size) octets)) None ≡ Some (message, rest)) long found in
+    let first : take size (drop 2 octets) ≡ message = ap (λ m. first_of m) e in
+    let second : drop (2 + size) octets ≡ rest = ap (λ m. second_of m) e in
     let fits : 2 + size ≤ length octets = le_of (2 + size) (length octets) long in
     let room : size ≤ length (drop 2 octets) = omega (arith, fits, length-drop 2 octets) in
     let len : length message ≡ size = ap (λ l. length l) (sym first) ∙ length-take-le size (drop 2 octets) room in
@@ -48,25 +57,27 @@ pub frame_taken : (octets message rest : List ℕ) → ((i : ℕ) → get_or oct
     → (octets ≡ frame_of message ++ rest) × (2 + length message ≤ length octets) × (rest ≡ drop (2 + length message) octets)
 frame_taken octets message rest small found = frame_cases octets message rest (nat_le (2 + number_at octets 0) (length octets)) refl small found
 
--- a message's frame is ready behind the others
-pub queued_one : (ready new : List ℕ) (later : List (List ℕ)) (message : List ℕ) → later ≡ [] → new ≡ ready ++ frame_of message → new ++ frames_of later ≡ (ready ++ frames_of later) ++ frames_of (message ∷ [])
-queued_one ready new later message none pushed =
+-- a message's frame is ready behind all that is to be written
+pub queued_one : (old : Kept) (ready new : List ℕ) (later : List (List ℕ)) (message : List ℕ) → ready ≡ old.ready → later ≡ old.later → old.later ≡ [] → new ≡ ready ++ frame_of message → new ++ frames_of later ≡ due old ++ frames_of (message ∷ [])
+queued_one old ready new later message still as_before none pushed =
     let alone : frames_of (message ∷ []) ≡ frame_of message = append-nil (frame_of message) in
-    let before : ready ++ frames_of later ≡ ready = ap (λ l. ready ++ frames_of l) none ∙ append-nil ready in
-    ap (λ l. new ++ frames_of l) none ∙ append-nil new ∙ pushed ∙ ap (λ l. l ++ frame_of message) (sym before) ∙ ap (λ l. (ready ++ frames_of later) ++ l) (sym alone)
+    let before : due old ≡ ready = ap (λ l. old.ready ++ frames_of l) none ∙ append-nil old.ready ∙ sym still in
+    ap (λ l. new ++ frames_of l) (as_before ∙ none) ∙ append-nil new ∙ pushed ∙ ap (λ l. l ++ frame_of message) (sym before) ∙ ap (λ l. due old ++ l) (sym alone)
 
 -- messages are left, behind what is ready
-pub queued_many : (ready : List ℕ) (later messages : List (List ℕ)) → later ≡ [] → ready ++ frames_of messages ≡ (ready ++ frames_of later) ++ frames_of messages
-queued_many ready later messages none = ap (λ l. l ++ frames_of messages) (sym (append-nil ready) ∙ ap (λ l. ready ++ frames_of l) (sym none))
+pub queued_many : (old : Kept) (ready : List ℕ) (messages : List (List ℕ)) → ready ≡ old.ready → old.later ≡ [] → ready ++ frames_of messages ≡ due old ++ frames_of messages
+queued_many old ready messages still none =
+    ap (λ l. l ++ frames_of messages) (still ∙ sym (append-nil old.ready) ∙ ap (λ l. old.ready ++ frames_of l) (sym none))
 
 -- the first message that is left is ready
-pub next_ready : (ready new : List ℕ) (old later : List (List ℕ)) (message : List ℕ) → old ≡ message ∷ later → new ≡ ready ++ frame_of message → new ++ frames_of later ≡ ready ++ frames_of old
-next_ready ready new old later message first pushed =
-    ap (λ l. l ++ frames_of later) pushed ∙ append_assoc ready (frame_of message) (frames_of later) ∙ ap (λ l. ready ++ frames_of l) (sym first)
+pub next_ready : (old mid : Kept) (ready new : List ℕ) (later : List (List ℕ)) (message : List ℕ) → ready ≡ mid.ready → later ≡ mid.later → mid.ready ≡ old.ready → old.later ≡ message ∷ mid.later → new ≡ ready ++ frame_of message → new ++ frames_of later ≡ due old
+next_ready old mid ready new later message still as_before same first pushed =
+    ap (λ l. new ++ frames_of l) as_before ∙ ap (λ l. l ++ frames_of mid.later) (pushed ∙ ap (λ l. l ++ frame_of message) (still ∙ same)) ∙ append_assoc old.ready (frame_of message) (frames_of mid.later)
+    ∙ ap (λ l. old.ready ++ frames_of l) (sym first)
 
 -- none is left, as before
-pub none_ready : (ready : List ℕ) (old later : List (List ℕ)) → old ≡ [] → later ≡ [] → ready ++ frames_of later ≡ ready ++ frames_of old
-none_ready ready old later none still = ap (λ l. ready ++ frames_of l) (still ∙ sym none)
+pub none_ready : (old new : Kept) → new.ready ≡ old.ready → old.later ≡ [] → new.later ≡ [] → due new ≡ due old
+none_ready old new same none still = ap (λ l. l ++ frames_of new.later) same ∙ ap (λ l. old.ready ++ frames_of l) (still ∙ sym none)
 
 -- a frame has octets
 pub some_ready : (ready new message : List ℕ) → new ≡ ready ++ frame_of message → new ≢ []

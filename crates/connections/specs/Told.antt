@@ -20,8 +20,8 @@ abbrev pub EndsTold : StreamEnd → Option (List ℕ × List ℕ) → Option (Li
 EndsTold Clean told new = IfSome told (λ o. (o.0 ≡ []) × (new ≡ Some ([], o.1)))
 EndsTold Torn told new = IfSome told (λ o. IsTorn o.0 × (new ≡ Some ([], o.1)))
 EndsTold Device told new = IfSome told (λ o. (left front back : List ℕ) × (o.1 ≡ front ++ back) × (new ≡ Some (left, front)))
-EndsTold Spent told new = EndsTold Device told new
-EndsTold NoMemory told new = EndsTold Device told new
+EndsTold Spent told new = IfSome told (λ o. (left front back : List ℕ) × (o.1 ≡ front ++ back) × (new ≡ Some (left, front)))
+EndsTold NoMemory told new = IfSome told (λ o. (left front back : List ℕ) × (o.1 ≡ front ++ back) × (new ≡ Some (left, front)))
 
 -- a fault and the count of failures: a stream that would block hasn't failed, and a failure is counted, up to 2^64 - 1 of them
 abbrev pub IsCounted : Fault → ℕ → ℕ → Type 0

@@ -1,6 +1,5 @@
 //! A connection's requests and replies, with no device.
-ghost use Rattle.std.specs.Prelude.{◌≡◌, ◌≢◌, ℕ, ◌+◌, ◌≤◌, [], ◌∷◌, ◌++◌, length, take, drop, true, false, IsTrue, IfSome, IfOk, OnOk, OnErr, MatchOption};
-ghost use Rattle.std.specs.Option.{option_map_or};
+ghost use Rattle.std.specs.Prelude.{◌≡◌, ◌≢◌, ℕ, ◌+◌, ◌≤◌, [], ◌∷◌, ◌++◌, length, take, drop, true, false, IsTrue, None, IfSome, IfOk, OnOk, OnErr};
 ghost use Rattle.dns_message.specs.Frame.{frame_of};
 ghost use Rattle.dns_message.specs.Message.{message_limit};
 ghost use Rattle.conversation.specs.Octets.{frames_of};
@@ -108,15 +107,15 @@ impl<M: Messages> Conversation<M> {
         requires none { self.old.later ≡ [] }
         requires bound { (len : ℕ) → reply ≡ Reply.One len → (len ≤ message_limit) × (len ≤ length out.now) }
         ensures held { OnOk result (self.new.held ≡ self.old.held) }
-        ensures queued { OnOk result (due self.new ≡ due self.old ++ frames_of (messages_of M.left reply.entry out.now)) }
+        ensures queued { OnOk result (due self.new ≡ due self.old ++ frames_of (messages_of M.left reply out.now)) }
         ensures same { OnErr result (self.new ≡ self.old) }
     {
         match reply {
             Reply::Silent => Ok(()),
-            Reply::One(len) => match self.ready.push_frame(&out[..len]) {
-                Ok(()) => Ok(()),
-                Err(fault) => Err(fault),
-            },
+            Reply::One(len) => {
+                self.ready.push_frame(&out[..len])?;
+                Ok(())
+            }
             Reply::Many(messages) => {
                 self.rest = Some(messages);
                 Ok(())
@@ -158,6 +157,27 @@ impl<M: Messages> Conversation<M> {
         Ok(true)
     }
 
+    /// Writes the next message, where any is left, to the front of a buffer, and gives how many octets it has.
+    fn next(&mut self, out: &mut [u8]) -> Option<usize>
+        requires { message_limit ≤ length out.old }
+        ensures held { self.new.held ≡ self.old.held }
+        ensures ready { self.new.ready ≡ self.old.ready }
+        ensures none { result ≡ None → (self.old.later ≡ []) × (self.new.later ≡ []) }
+        ensures first { IfSome result (λ len. self.old.later ≡ take len out.new ∷ self.new.later) }
+        ensures bound { IfSome result (λ len. (len ≤ length out.new) × (len ≤ message_limit)) }
+    {
+        let Some(messages) = &mut self.rest else {
+            return None;
+        };
+        match messages.next_message(out) {
+            Some(len) => Some(len),
+            None => {
+                self.rest = None;
+                None
+            }
+        }
+    }
+
     /// Makes the next message ready to be written where nothing is ready and one is left. Where there is no memory that message is lost.
     pub fn refill(&mut self, out: &mut [u8]) -> Result<(), AllocError>
         requires { message_limit ≤ length out.old }
@@ -168,13 +188,11 @@ impl<M: Messages> Conversation<M> {
         if !self.ready.is_empty() {
             return Ok(());
         }
-        match next_of(&mut self.rest, out) {
-            Some(len) => match self.ready.push_frame(&out[..len]) {
-                Ok(()) => Ok(()),
-                Err(fault) => Err(fault),
-            },
-            None => Ok(()),
-        }
+        let Some(len) = self.next(out) else {
+            return Ok(());
+        };
+        self.ready.push_frame(&out[..len])?;
+        Ok(())
     }
 }
 
@@ -186,22 +204,5 @@ fn first_request(octets: &[u8]) -> Option<&[u8]>
     match take_frame(octets) {
         Some((request, _rest)) => Some(request),
         None => None,
-    }
-}
-
-/// Writes the next message, where any is left, to the front of a buffer, and gives how many octets it has.
-fn next_of<M: Messages>(rest: &mut Option<M>, out: &mut [u8]) -> Option<usize>
-    requires { message_limit ≤ length out.old }
-    ensures { MatchOption result ((option_map_or M.left rest.old [] ≡ []) × (option_map_or M.left rest.new [] ≡ [])) (λ len. (option_map_or M.left rest.old [] ≡ take len out.new ∷ option_map_or M.left rest.new []) × (len ≤ length out.new) × (len ≤ message_limit)) }
-{
-    let Some(messages) = rest else {
-        return None;
-    };
-    match messages.next_message(out) {
-        Some(len) => Some(len),
-        None => {
-            *rest = None;
-            None
-        }
     }
 }
