@@ -39,8 +39,8 @@ frame_cases octets message rest false short small found =
 frame_cases octets message rest true long small found =
     let size = number_at octets 0 in
     let e : Some (take size (drop 2 octets), drop (2 + size) octets) ≡ Some (message, rest) = subst (λ (b : Bool). if◌then◌else◌ {A = Option (List ℕ × List ℕ)} b (Some (take size (drop 2 octets), drop (2 + size) octets)) None ≡ Some (message, rest)) long found in
-    let first : take size (drop 2 octets) ≡ message = ap (λ m. first_of m) e in
-    let second : drop (2 + size) octets ≡ rest = ap (λ m. second_of m) e in
+    let first : take size (drop 2 octets) ≡ message = ap (λ (m : Option (List ℕ × List ℕ)). first_of m) e in
+    let second : drop (2 + size) octets ≡ rest = ap (λ (m : Option (List ℕ × List ℕ)). second_of m) e in
     let fits : 2 + size ≤ length octets = le_of (2 + size) (length octets) long in
     let room : size ≤ length (drop 2 octets) = omega (arith, fits, length-drop 2 octets) in
     let len : length message ≡ size = ap (λ l. length l) (sym first) ∙ length-take-le size (drop 2 octets) room in

@@ -11,7 +11,7 @@ use Rattle.connections.specs.Going.{Known, Goes, Keeps, PartlyTold, Ends, Stops,
 use Rattle.connections.specs.declared.stream_end.StreamEnd.{StreamEnd}
 use Rattle.connections.specs.declared.stream_end.StreamEnd.TheVariants.{Clean, Torn, Device, Spent, NoMemory}
 
-written_of : Option (List ℕ × List ℕ) → List ℕ
+abbrev written_of : Option (List ℕ × List ℕ) → List ℕ
 written_of None = []
 written_of (Some p) = p.1
 
@@ -115,7 +115,7 @@ module _ {T : Type 0} (IsReply : List T → List ℕ → List (List ℕ) → Typ
 
   whole : (start seen : List T) (o : List ℕ × List ℕ) (new : Option (List ℕ × List ℕ)) → Writes (Some o) new → PartlyTold IsReply start o seen new → EndsAs IsReply Device start o seen new
   whole start seen o new writes p =
-      let front : p.front ≡ o.1 ++ writes.1 = ap (λ m. written_of m) (sym p.now ∙ writes.2) in
+      let front : p.front ≡ o.1 ++ writes.1 = ap (λ (m : Option (List ℕ × List ℕ)). written_of m) (sym p.now ∙ writes.2) in
       record {
         left = p.left;
         front = writes.1;

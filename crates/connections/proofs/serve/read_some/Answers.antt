@@ -28,12 +28,12 @@ returns-then-holds-clause-ends g c =
 pub returns-then-holds-clause-written : goal.returns-then-holds-clause-written
 returns-then-holds-clause-written g c = writes_given _ _ (take c.in-Ok.count c.read.new.buf) c.in-Ok.ensures.gives
 
-pub returns-else-holds-clause-ends : goal.returns-else-holds-clause-ends
-returns-else-holds-clause-ends g c =
+pub returns-then-count-eq0-clause-ends : goal.returns-then-count-eq0-clause-ends
+returns-then-count-eq0-clause-ends g c =
     ends_clean c.args.conversation.now c.in-Ok.count c.read.new.buf _ _ c.if-count-eq0.true c.requires.waits (c.holds.ensures.none c.if-holds.false) c.in-Ok.ensures.gives (c.in-Ok.ensures.end c.if-count-eq0.true (search rules))
 
-pub returns-else-holds-clause-written : goal.returns-else-holds-clause-written
-returns-else-holds-clause-written g c = writes_given _ _ (take c.in-Ok.count c.read.new.buf) c.in-Ok.ensures.gives
+pub returns-then-count-eq0-clause-written : goal.returns-then-count-eq0-clause-written
+returns-then-count-eq0-clause-written g c = writes_given _ _ (take c.in-Ok.count c.read.new.buf) c.in-Ok.ensures.gives
 
 pub returns-in-Ok-take-clause-stays : goal.returns-in-Ok-take-clause-stays
 returns-in-Ok-take-clause-stays g c =
@@ -42,8 +42,8 @@ returns-in-Ok-take-clause-stays g c =
 pub returns-in-Ok-take-clause-written : goal.returns-in-Ok-take-clause-written
 returns-in-Ok-take-clause-written g c = writes_given _ _ (take c.in-Ok.count c.read.new.buf) c.in-Ok.ensures.gives
 
-pub returns-in-Err-take-clause-ends : goal.returns-in-Err-take-clause-ends
-returns-in-Err-take-clause-ends g c = ends_read c.args.conversation.now (take c.in-Ok.count c.read.new.buf) _ _ c.in-Ok.ensures.gives
+pub returns-in-Err-clause-ends : goal.returns-in-Err-clause-ends
+returns-in-Err-clause-ends g c = ends_read c.args.conversation.now (take c.in-Ok.count c.read.new.buf) _ _ c.in-Ok.ensures.gives
 
-pub returns-in-Err-take-clause-written : goal.returns-in-Err-take-clause-written
-returns-in-Err-take-clause-written g c = writes_given _ _ (take c.in-Ok.count c.read.new.buf) c.in-Ok.ensures.gives
+pub returns-in-Err-clause-written : goal.returns-in-Err-clause-written
+returns-in-Err-clause-written g c = writes_given _ _ (take c.in-Ok.count c.read.new.buf) c.in-Ok.ensures.gives
