@@ -33,6 +33,7 @@ impl Messages for Both {
 }
 
 /// One who gives each request back; two messages for one of two octets, none for one of none, and [`Spent`] once there were so many.
+#[derive(Drop)]
 pub(crate) struct Echo {
     peer: Peer,
     left: u32,

@@ -2,22 +2,25 @@
 use crate::echo::Echo;
 use crate::pieces::{Behind, Pieces};
 use connections::{StreamEnd, serve_stream};
+use std::alloc::Global;
+use std::sync::Wait;
 use std::test::Fail;
 
 /// Serves a stream of these octets, which come and go by so many, and says how it ends and what is written.
-fn served(
-    rt: &HostRuntime,
+fn served<R: Wait>(
+    rt: &R,
+    alloc: Global,
     octets: &[u8],
     most: usize,
     behind: Behind,
     requests: u32,
 ) -> Result<(StreamEnd, Vec<u8>), Fail> {
-    let mut room = vec![in rt.alloc(); 0; 4_096]?;
-    let mut out = vec![in rt.alloc(); 0; 65_535]?;
+    let mut room = vec![in alloc; 0; 4_096]?;
+    let mut out = vec![in alloc; 0; 65_535]?;
     let mut echo = Echo::new(requests);
-    let mut stream = Pieces::new(rt.alloc(), octets, most, behind)?;
-    let end = serve_stream(rt, rt.alloc(), &mut echo, &mut stream, &mut room, &mut out);
-    Ok((end, stream.written().to_vec(rt.alloc())?))
+    let mut stream = Pieces::new(alloc, octets, most, behind)?;
+    let end = serve_stream(rt, alloc, &mut echo, &mut stream, &mut room, &mut out);
+    Ok((end, stream.written().to_vec(alloc)?))
 }
 
 #[test]
@@ -35,7 +38,7 @@ fn streams_end_in_each_way(rt: HostRuntime) -> Result<(), Fail> {
     ];
     for (len, behind, requests, wanted, written) in cases {
         for most in 1..13usize {
-            let (end, gone) = served(&rt, &sent[..len], most, behind, requests)?;
+            let (end, gone) = served(&rt, rt.alloc(), &sent[..len], most, behind, requests)?;
             assert!(rt; end == wanted, "{len} octets by {most}");
             assert_eq!(rt;
                 gone.as_slice(),
@@ -55,7 +58,7 @@ fn many_requests_that_come_at_once_are_answered_in_order(rt: HostRuntime) -> Res
         sent.extend_from_slice(&number.to_be_bytes())?;
     }
     for most in [1, 7, 4_096, 100_000usize] {
-        let (end, gone) = served(&rt, &sent, most, Behind::End, 10_000)?;
+        let (end, gone) = served(&rt, rt.alloc(), &sent, most, Behind::End, 10_000)?;
         assert!(rt; end == StreamEnd::Clean, "by {most}");
         assert!(rt; gone.as_slice() == sent.as_slice(), "by {most}");
     }

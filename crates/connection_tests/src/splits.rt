@@ -1,14 +1,16 @@
 //! Two frames that come in each pair of pieces, and go in octets.
 use crate::echo::{Both, Echo};
 use connections::Conversation;
+use std::process::Abort;
+use std::sync::Wait;
 use std::test::Fail;
 
 /// The frames of two requests, and so those of their replies.
 const FRAMES: [u8; 8] = [0, 3, b'a', b'b', b'c', 0, 1, b'd'];
 
 /// Octets come to a conversation, and what is then to be written goes, an octet at a time.
-fn feed(
-    rt: &HostRuntime,
+fn feed<R: Wait + Abort>(
+    rt: &R,
     echo: &mut Echo,
     conversation: &mut Conversation<Both>,
     octets: &[u8],
