@@ -1,9 +1,9 @@
 -- The frame that octets begin with, and what is kept once it is answered.
-use Rattle.std.proofs.Common.{◌≡◌, ◌≢◌, refl, ℕ, zero, suc, ◌+◌, ◌-◌, ◌<◌, ◌≤◌, Bool, true, false, List, [], ◌∷◌, ◌++◌, Option, None, Some, sym, ap, ◌∙◌, subst, arith, length, take, drop, get_or, length-append, length-drop, length-take-le, take-append-drop, append_assoc, append-nil, nat_le, if◌then◌else◌}
-use Rattle.std.proofs.lemmas.List.{get_or-take, drop-drop}
+use Rattle.std.proofs.Common.{◌≡◌, ◌≢◌, refl, ℕ, zero, suc, ◌+◌, ◌<◌, ◌≤◌, Bool, true, false, List, [], ◌∷◌, ◌++◌, Option, None, Some, sym, ap, ◌∙◌, subst, arith, length, take, drop, get_or, length-append, length-drop, length-take-le, take-append-drop, append_assoc, append-nil, nat_le, if◌then◌else◌}
+use Rattle.std.proofs.lemmas.List.{drop-drop}
 use Rattle.std.proofs.lemmas.Nat.{be_bytes_2}
 use Rattle.std.proofs.lemmas.Bool.Decides.{nat_tests}
-use Rattle.std.specs.Int.{w16, to_be_bytes, from_be_bytes}
+use Rattle.std.specs.Int.{w16, to_be_bytes}
 use Rattle.dns_message.specs.Frame.{frame_of, frame_in}
 use Rattle.dns_message.specs.Message.{number_at}
 use Rattle.conversation.specs.Octets.{frames_of}

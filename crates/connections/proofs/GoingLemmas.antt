@@ -1,10 +1,10 @@
 -- What was answered still is when a connection goes on, and where it ends.
-use Rattle.std.proofs.Common.{◌≡◌, refl, ℕ, List, [], ◌∷◌, ◌++◌, Option, None, Some, IfSome, sym, ap, ◌∙◌, subst, append_assoc}
+use Rattle.std.proofs.Common.{◌≡◌, refl, ℕ, List, [], ◌++◌, Option, None, Some, IfSome, sym, ap, ◌∙◌, subst, append_assoc}
 use Rattle.dns_message.specs.Frame.{frame_of}
 use Rattle.conversation.specs.Octets.{frames_of}
 use Rattle.conversation.specs.Served.{BeginsWith, Served}
 use Rattle.conversation.specs.Turns.{Turn}
-use Rattle.conversation.proofs.TurnLemmas.{begins_more, begins_itself, served_none, served_more, known_first}
+use Rattle.conversation.proofs.TurnLemmas.{begins_more, served_more, known_first}
 use Rattle.connections.specs.Kept.{Kept, due, told_by}
 use Rattle.connections.specs.Told.{Stays, Writes, EndsTold}
 use Rattle.connections.specs.Going.{Known, Goes, Keeps, PartlyTold, Ends, Stops, EndsAs}

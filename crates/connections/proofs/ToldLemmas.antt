@@ -1,6 +1,5 @@
 -- What stays told when octets move, and what an end leaves.
 use Rattle.std.proofs.Common.{◌≡◌, ◌≢◌, refl, ℕ, List, [], ◌++◌, Option, None, Some, take, drop, sym, ap, ◌∙◌, subst, append_assoc, append-nil, take-append-drop}
-use Rattle.dns_message.specs.Frame.{frame_in}
 use Rattle.conversation.specs.Octets.{Gives, Takes, IsAtEnd, IsTorn, frames_of}
 use Rattle.connections.specs.Kept.{Kept, due, told_by, nothing_kept, IsWaiting}
 use Rattle.connections.specs.Told.{Stays, Writes, EndsTold}

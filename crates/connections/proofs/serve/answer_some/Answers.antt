@@ -3,8 +3,7 @@ use Rattle.std.proofs.Common.{refl, ◌∙◌, subst}
 use Rattle.serve_core.specs.declared.peer.Peer.{Peer}
 use Rattle.conversation.specs.Turns.{Turn}
 use Rattle.conversation.proofs.TurnLemmas.{begins_itself, begins_more}
-use Rattle.connections.specs.Kept.{Kept, due}
-use Rattle.connections.specs.Going.{Keeps}
+use Rattle.connections.specs.Kept.{due}
 use Rattle.connections.proofs.GoingLemmas.{keeps_itself, keeps_more, keeps_turn, keeps_same}
 use Rattle.connections.proofs.serve.answer_some.Goals as goal
 
