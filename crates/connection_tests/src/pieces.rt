@@ -1,4 +1,6 @@
 //! A stream in memory that gives and takes its octets in pieces, and would block before each of them.
+ghost use Rattle.std.specs.Prelude.{◌≡◌, IfOk};
+
 use connections::{Blocking, Fault};
 use std::alloc::{AllocError, Global};
 
@@ -30,7 +32,9 @@ impl Pieces {
         octets: &[u8],
         most: usize,
         behind: Behind,
-    ) -> Result<Pieces, AllocError> {
+    ) -> Result<Pieces, AllocError>
+        ensures { IfOk result (λ pieces. pieces.faults ≡ 0) }
+    {
         let mut held = Vec::new(alloc);
         held.extend_from_slice(octets)?;
         Ok(Pieces {
