@@ -63,6 +63,10 @@ module _ {T : Type 0} (IsReply : List T → List ℕ → List (List ℕ) → Typ
   pub goes_stays : (seen : List T) (a b : Option (List ℕ × List ℕ)) → Stays a b → Goes IsReply seen a seen b
   goes_stays seen a b stays = λ start old known. known_stays start seen old a b stays known
 
+  -- more is known, and nothing else is done
+  pub goes_seen : (seen later : List T) (a : Option (List ℕ × List ℕ)) → BeginsWith later seen → Goes IsReply seen a later a
+  goes_seen seen later a grows = λ start old known. known_seen start seen later old a grows known
+
   pub keeps_itself : (seen : List T) (k : Kept) → Keeps IsReply seen k seen k
   keeps_itself seen k = λ octets start old known. known
 
