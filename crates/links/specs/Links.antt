@@ -1,5 +1,5 @@
 -- What becomes of each connection of a worker (own).
-use Rattle.std.specs.Prelude.{◌≡◌, ℕ, List, Option, None, Some, ⊤, ⊥}
+use Rattle.std.specs.Prelude.{◌≡◌, ℕ, List, Option, None, Some, ⊤}
 use Rattle.serve_core.specs.declared.peer.Peer.{Peer}
 use Rattle.conversation.specs.Served.{BeginsWith}
 use Rattle.connections.specs.Kept.{told_by}
