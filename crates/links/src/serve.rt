@@ -56,6 +56,7 @@ pub fn serve_ready<R: Wait, S: Blocking + Drop, M: Messages, A: Answering<M>>(
     ensures grows { BeginsWith (A.seen answering.new) (A.seen answering.old) }
     ensures own { (key : ℕ) → OwnServed A.is_reply (A.seen answering.old) (option_map (seen_of S.octets) (get links.old key)) (A.seen answering.new) (option_map (seen_of S.octets) (get links.new key)) }
     ensures same { OnErr result (links.new ≡ links.old) }
+    ensures next { BeginsWith next.new.items next.old.items }
 {
     next.reserve(keys.len())?;
     for key in keys {
