@@ -7,6 +7,8 @@ mod echo;
 #[cfg(test)]
 mod pieces;
 #[cfg(test)]
+mod rights;
+#[cfg(test)]
 mod shares;
 #[cfg(test)]
 mod splits;

@@ -11,6 +11,8 @@ pub(crate) enum Behind {
     End,
     /// A failure.
     Failure,
+    /// Nothing yet.
+    Nothing,
 }
 
 /// A stream that gives and takes so many octets at once, and would block before each time.
@@ -68,6 +70,9 @@ impl Blocking for Pieces {
         }
         let left = self.octets.as_slice().get(self.at..).unwrap_or(&[]);
         let count = self.most.min(buf.len().min(left.len()));
+        if left.is_empty() && self.behind == Behind::Nothing {
+            return Err(Fault::Blocked);
+        }
         if left.is_empty() && self.behind == Behind::Failure {
             self.faults = self.faults.saturating_add(1);
             return Err(Fault::Failed);

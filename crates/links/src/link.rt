@@ -36,6 +36,13 @@ impl<S: Drop, M: Messages> Link<S, M> {
             from,
         }
     }
+
+    /// Its stream.
+    pub fn stream(&self) -> &S
+        ensures { result.now ≡ self.now.stream }
+    {
+        &self.stream
+    }
 }
 
 /// Serves a connection by a share, as its peer.
