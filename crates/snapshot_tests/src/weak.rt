@@ -54,9 +54,15 @@ fn upgrades_until_the_last_owner_is_gone(rt: HostRuntime) {
     let mut reader = readers.pop().expect(&rt, "a reader");
     let mut first = draw(&rt, &cell, &mut reader);
     let notes = publisher.left();
-    let mut weak = publisher.downgrade(&mut first).ok().expect(&rt, "a weak owner");
+    let mut weak = publisher
+        .downgrade(&mut first)
+        .ok()
+        .expect(&rt, "a weak owner");
     assert!(rt; weak.number() == 0 && publisher.left().wrapping_add(1) == notes);
-    assert_eq!(rt; publish(&rt, &cell, &mut publisher, 5).release().buried(), None);
+    assert_eq!(rt;
+        publish(&rt, &cell, &mut publisher, 5).release().buried(),
+        None
+    );
     let mut raised = upgrade(&rt, &mut reader, &mut weak).expect(&rt, "an owner");
     reader.alive(&mut first);
     assert_eq!(rt; first.release().buried(), None);
@@ -88,7 +94,10 @@ fn weak_owner_goes_before_the_owners(rt: HostRuntime) {
     assert!(rt; has(&newest, 1, 5) && has(&clone, 1, 5) && weak.number() == 1);
     assert_eq!(rt; reader.left().wrapping_add(2), grants);
     assert_eq!(rt; publisher.left().wrapping_add(1), notes);
-    assert_eq!(rt; publish(&rt, &cell, &mut publisher, 6).release().buried(), None);
+    assert_eq!(rt;
+        publish(&rt, &cell, &mut publisher, 6).release().buried(),
+        None
+    );
     cell.meet(&mut publisher, &mut reader);
     assert!(rt; !weak.release().freed());
     assert_eq!(rt; newest.release().buried(), None);
@@ -141,7 +150,10 @@ fn keep_weakly<'a, R: Abort, N: Naming>(
 ) {
     let mut weaks: WeakOwners<'a, N> = VecDeque::new(alloc);
     let refused = fill_weakly(teller, &mut weaks).expect(rt, "a value");
-    assert_eq!(rt; (refused.number, teller.publisher.last(), weaks.len()), (64, 63, 63));
+    assert_eq!(rt;
+        (refused.number, teller.publisher.last(), weaks.len()),
+        (64, 63, 63)
+    );
     assert!(rt; teller.tally.were_dropped_once(63));
     let eldest = weaks.pop_front().expect(rt, "a weak owner");
     assert!(rt; eldest.number() == 0 && eldest.release().freed());
