@@ -24,4 +24,5 @@ pub mod SeekLemmas
 pub mod SentUpdates
 pub mod SpeltLemmas
 pub mod SwapLemmas
+pub mod TellLemmas
 pub mod WindowRest
