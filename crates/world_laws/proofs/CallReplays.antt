@@ -255,7 +255,7 @@ owner_keeps S first us words new cell step event (phase.Reset owner number for) 
 owner_keeps S first us words new cell step event (phase.Free owner number for) of s m c = c
 
 -- a call that is no update takes such steps
-of_owner : (at : Phase) → updates at ≡ false → OfOwner (word_step at)
+pub of_owner : (at : Phase) → updates at ≡ false → OfOwner (word_step at)
 of_owner (phase.Load name) e = tt
 of_owner (phase.Look name owner) e = tt
 of_owner (phase.Seek owner seeking) e = tt
@@ -274,7 +274,7 @@ of_owner (phase.Fade owner number for) e = tt
 of_owner (phase.Reset owner number for) e = tt
 of_owner (phase.Free owner number for) e = tt
 
-owner_no_swap : (step : WordStep Numbered) → OfOwner step → NoSwap step
+pub owner_no_swap : (step : WordStep Numbered) → OfOwner step → NoSwap step
 owner_no_swap word.Load of = tt
 owner_no_swap word.Probe of = absurd of
 owner_no_swap (word.Prepare version) of = absurd of

@@ -63,7 +63,7 @@ named_holds owners name (x ∷ names) owner fits e =
     ]
 
 -- what is in hand beside the calls under way
-parts_of : (world : World) (h : Hands world) → AllFit world.words.owners (seats_as holds world.names) × AllFit world.words.owners (kept_left h.from world.keep world.kept (any_update world.calls)) × AllFit world.words.owners (entries_left (h.from + length world.kept) world.entries (any_update world.calls))
+pub parts_of : (world : World) (h : Hands world) → AllFit world.words.owners (seats_as holds world.names) × AllFit world.words.owners (kept_left h.from world.keep world.kept (any_update world.calls)) × AllFit world.words.owners (entries_left (h.from + length world.kept) world.entries (any_update world.calls))
 parts_of world h =
     let kept_ones = kept_left h.from world.keep world.kept (any_update world.calls) in
     let window = entries_left (h.from + length world.kept) world.entries (any_update world.calls) in
@@ -100,7 +100,7 @@ kept_is world cell h none s =
     let same = same_length world.words h.cell cell h.shows s in
     kept_are world.words cell h.from world.kept s fits (omega (arith, h.kept_count, h.swapped, swaps, h.counted, same))
 
-held_by_kept : (first : List Record) (lines : List Line) (top : ℕ) (begun_as world : World) → Kept (script (IsSentAt lines) top) first begun_as world → HoldVersions first lines world
+pub held_by_kept : (first : List Record) (lines : List Line) (top : ℕ) (begun_as world : World) → Kept (script (IsSentAt lines) top) first begun_as world → HoldVersions first lines world
 held_by_kept first lines top begun_as world k =
     let r = goes_replayed first lines top world k.goes in
     record {

@@ -737,7 +737,7 @@ pub versions_replayed : (first : List Record) (keep window : ℕ) (lines : List 
 versions_replayed first keep window lines replies world e = (let p = played_goes first keep window lines replies world e in goes_replayed first lines p.0 world p.1)
 
 -- an owner that finds a version holds its number
-holds_by : (words : Zones) (owner : ℕ) (version : Numbered) (o : Option Owner) → slice_get words.owners owner ≡ o
+pub holds_by : (words : Zones) (owner : ℕ) (version : Numbered) (o : Option Owner) → slice_get words.owners owner ≡ o
     → option_map (λ (v : Version Numbered). v.value) (option_and_then (version_in words) (option_and_then place_of o)) ≡ Some version
     → (number : ℕ) × (place : ℕ) × (slice_get words.owners owner ≡ Some (Holding number place))
 holds_by words owner version None e found = absurd (let wrong = found in cc)
