@@ -170,10 +170,11 @@ bury_keeps_swap words new cell owner event s (at, there, seat, found, m) =
     elim (eqb_tells there.shares 0) [
       | inl none ↦ (
           let h = rw none.0 at m in
-          let table_is : new.table ≡ slice_set words.table at (with_shares dead_word (with_version None there)) = ap (λ (w : Zones). w.table) h.3 in
-          ((ap (λ (w : Zones). w.publisher) h.3),
-          λ place publisher. let apart = not_buried words cell place at there s publisher found none.1 in
-          ap (λ t. option_and_then (λ (x : Slot Numbered). x.version) (slice_get t place)) table_is ∙ ap (option_and_then (λ (x : Slot Numbered). x.version)) (get_set_other words.table at place _ apart))
+          let table_is : new.table ≡ slice_set words.table at (with_shares dead_word (with_version None there)) = ap (λ (w : Zones). w.table) h.3 in (
+            (ap (λ (w : Zones). w.publisher) h.3),
+            λ place publisher. let apart = not_buried words cell place at there s publisher found none.1 in
+                ap (λ t. option_and_then (λ (x : Slot Numbered). x.version) (slice_get t place)) table_is ∙ ap (option_and_then (λ (x : Slot Numbered). x.version)) (get_set_other words.table at place _ apart),
+          )
           )
       | inr some ↦ (
           let h = rw some.0 at m in
@@ -234,7 +235,7 @@ owner_keeps_swap words new cell (word.Fade owner) event of s m = fade_keeps_swap
 owner_keeps_swap words new cell (word.Reset owner) event of s (at, there, seat, found, told_is, new_is) =
     ((ap (λ (w : Zones). w.publisher) new_is), λ place publisher. version_stays words new place at there (with_weak_word 1 there) found (ap (λ (w : Zones). w.table) new_is) refl)
 
-owner_keeps : (words new : Zones) (cell : Cell Numbered) (step : WordStep Numbered) (event : WordEvent) (other : Phase) → OfOwner step → Shows words cell → Makes words step event new → Coherent S first us words other → Coherent S first us new other
+owner_keeps : (S : Script) (first : List Record) (us : List Placed) (words new : Zones) (cell : Cell Numbered) (step : WordStep Numbered) (event : WordEvent) (other : Phase) → OfOwner step → Shows words cell → Makes words step event new → Coherent S first us words other → Coherent S first us new other
 unfolding swaps_kept
 owner_keeps S first us words new cell step event (phase.Load name) of s m c = tt
 owner_keeps S first us words new cell step event (phase.Look name owner) of s m c = tt

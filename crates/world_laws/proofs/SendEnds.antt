@@ -97,6 +97,11 @@ changes_lead first ups version request sending query serial reads_so s whole_so 
       taken = ap (λ z. taken_by z (map as_sent (map (spelt name) (told (soa_of version.zone) got)))) here ∙ (taken_spelt zone name (told (soa_of version.zone) got) ∙ (ap (λ l. taken_by zone (map as_sent l)) list ∙ taken));
     }
 
+-- what is told where a call may be begun
+unless_full : (full : Bool) (one two : WorldReply × World) → (if full then None else Some one) ≡ Some two → one ≡ two
+unless_full true one two e = absurd (let wrong = e in cc)
+unless_full false one two e = (let f = e in cc)
+
 -- a transfer's end gives its messages
 end_sends : (first : Zone) (ups : List DynamicUpdate) (owners : List Owner) (version : Numbered) (request : List ℕ) (end : End) (given : Answer) → answer_at end ≡ given → SendsAt first ups owners version request (Done end) → (sending : Sending) × Sends first ups version request sending × (sent_answer sending ≡ given)
 end_sends first ups owners version request (Owned name owner number) given e s = absurd s
@@ -154,20 +159,15 @@ module _ (lines : List Line) (first : Zone) (keep window top : ℕ) (world : Wor
 
   whole_answers : (name request : List ℕ) (query : QueryAsked) (octets : List (List ℕ)) (how : Start) (after : World) → reads request ≡ parsed.Query query → query.question.rtype.0 ≡ type_IXFR → start world (Transfer name request) ≡ how
       → whole world (Transfer name request) how ≡ Some (Answered (Messages octets), after) → AnswerFor first lines world name query octets
-  whole_answers name request query octets Refused after reads_so ixfr how e = absurd (let f : Some (NotEnabled, world) ≡ Some (Answered (Messages octets), after) = e in let pair : (NotEnabled, world) ≡ (Answered (Messages octets), after) = cc in let wrong : NotEnabled ≡ Answered (Messages octets) = ap (λ (p : WorldReply × World). p.0) pair in cc)
-  whole_answers name request query octets (Answers given) after reads_so ixfr how e = by (is_full world) e
-    where
-      by : (full : Bool) → (if full then None else Some (Answered given, world)) ≡ Some (Answered (Messages octets), after) → AnswerFor first lines world name query octets
-      by true f = absurd (let wrong = f in cc)
-      by false f =
-          let pair : (Answered given, world) ≡ (Answered (Messages octets), after) = (let g = f in cc) in
-          let same : given ≡ Messages octets = (let g : Answered given ≡ Answered (Messages octets) = ap (λ (p : WorldReply × World). p.0) pair in cc) in
-          answer_at_once name request query octets reads_so ixfr (how ∙ ap Answers same)
-  whole_answers name request query octets (Takes at) after reads_so ixfr how e = by (is_full world) e
-    where
-      by : (full : Bool) → (if full then None else Some (all_made world (Transfer name request) (steps_up_to most_steps world.words at))) ≡ Some (Answered (Messages octets), after) → AnswerFor first lines world name query octets
-      by true f = absurd (let wrong = f in cc)
-      by false f = takes_answers name request query octets at after reads_so ixfr how (let g = f in cc)
+  whole_answers name request query octets Refused after reads_so ixfr how e =
+      let pair : (NotEnabled, world) ≡ (Answered (Messages octets), after) = (let f = e in cc) in
+      absurd (let wrong : NotEnabled ≡ Answered (Messages octets) = ap (λ (p : WorldReply × World). p.0) pair in cc)
+  whole_answers name request query octets (Answers given) after reads_so ixfr how e =
+      let pair = unless_full (is_full world) (Answered given, world) (Answered (Messages octets), after) e in
+      let same : given ≡ Messages octets = (let g : Answered given ≡ Answered (Messages octets) = ap (λ (p : WorldReply × World). p.0) pair in cc) in
+      answer_at_once name request query octets reads_so ixfr (how ∙ ap Answers same)
+  whole_answers name request query octets (Takes at) after reads_so ixfr how e =
+      takes_answers name request query octets at after reads_so ixfr how (unless_full (is_full world) (all_made world (Transfer name request) (steps_up_to most_steps world.words at)) (Answered (Messages octets), after) e)
 
   pub answer_in_line : (name request : List ℕ) (query : QueryAsked) (octets : List (List ℕ)) (after : World) → reads request ≡ parsed.Query query → query.question.rtype.0 ≡ type_IXFR
       → turn world (Whole (Transfer name request)) ≡ Some (Answered (Messages octets), after) → AnswerFor first lines world name query octets
@@ -180,27 +180,23 @@ record IsBegun (world : World) (begun : List ℕ) (call : Call) (after : World) 
   there : call_of begun after.calls ≡ Some (record { name = begun; phase = at })
 
 begun_if : (world : World) (begun : List ℕ) (call : Call) (after : World) (how : Start) → start world call ≡ how → call_of begun world.calls ≡ None → begin world begun call how ≡ Some (Begun, after) → IsBegun world begun call after
-begun_if world begun call after Refused how none e = absurd (let pair : (NotEnabled, world) ≡ (Begun, after) = (let f = e in cc) in let wrong : NotEnabled ≡ Begun = ap (λ (p : WorldReply × World). p.0) pair in cc)
-begun_if world begun call after (Answers given) how none e = by (is_full world) e
-  where
-    by : (full : Bool) → (if full then None else Some (Answered given, world)) ≡ Some (Begun, after) → IsBegun world begun call after
-    by true f = absurd (let wrong = f in cc)
-    by false f = absurd (let pair : (Answered given, world) ≡ (Begun, after) = (let g = f in cc) in let wrong : Answered given ≡ Begun = ap (λ (p : WorldReply × World). p.0) pair in cc)
-begun_if world begun call after (Takes at) how none e = by (is_full world) e
-  where
-    behind : World
-    behind = record world { names = given_up call world.names; weak_names = weak_given_up call world.weak_names; calls = world.calls ++ record { name = begun; phase = at } ∷ [] }
-
-    by : (full : Bool) → (if full then None else Some (Begun, record world { names = given_up call world.names; weak_names = weak_given_up call world.weak_names; calls = world.calls ++ record { name = begun; phase = at } ∷ [] })) ≡ Some (Begun, after) → IsBegun world begun call after
-    by true f = absurd (let wrong = f in cc)
-    by false f =
-        let pair : (Begun, record world { names = given_up call world.names; weak_names = weak_given_up call world.weak_names; calls = world.calls ++ record { name = begun; phase = at } ∷ [] }) ≡ (Begun, after) = (let g = f in cc) in
-        let calls : world.calls ++ record { name = begun; phase = at } ∷ [] ≡ after.calls = ap (λ (p : WorldReply × World). p.1.calls) pair in
-        record { at = at; how = how; there = ap (call_of begun) (sym calls) ∙ found_new begun world.calls at none }
+begun_if world begun call after Refused how none e =
+    let pair : (NotEnabled, world) ≡ (Begun, after) = (let f = e in cc) in
+    absurd (let wrong : NotEnabled ≡ Begun = ap (λ (p : WorldReply × World). p.0) pair in cc)
+begun_if world begun call after (Answers given) how none e =
+    let pair = unless_full (is_full world) (Answered given, world) (Begun, after) e in
+    absurd (let wrong : Answered given ≡ Begun = ap (λ (p : WorldReply × World). p.0) pair in cc)
+begun_if world begun call after (Takes at) how none e =
+    let behind : World = record world { names = given_up call world.names; weak_names = weak_given_up call world.weak_names; calls = world.calls ++ record { name = begun; phase = at } ∷ [] } in
+    let pair = unless_full (is_full world) (Begun, behind) (Begun, after) e in
+    let calls : world.calls ++ record { name = begun; phase = at } ∷ [] ≡ after.calls = ap (λ (p : WorldReply × World). p.1.calls) pair in
+    record { at = at; how = how; there = ap (call_of begun) (sym calls) ∙ found_new begun world.calls at none }
 
 begun_under : (world : World) (begun : List ℕ) (call : Call) (after : World) (o : Option UnderWay) → call_of begun world.calls ≡ o → begin_under world begun call o ≡ Some (Begun, after) → IsBegun world begun call after
 begun_under world begun call after None none e = begun_if world begun call after (start world call) refl none e
-begun_under world begun call after (Some other) used e = absurd (let pair : (NotEnabled, world) ≡ (Begun, after) = (let f = e in cc) in let wrong : NotEnabled ≡ Begun = ap (λ (p : WorldReply × World). p.0) pair in cc)
+begun_under world begun call after (Some other) used e =
+    let pair : (NotEnabled, world) ≡ (Begun, after) = (let f = e in cc) in
+    absurd (let wrong : NotEnabled ≡ Begun = ap (λ (p : WorldReply × World). p.0) pair in cc)
 
 -- a call that takes its last step
 record IsEnded (world : World) (begun : List ℕ) (call : UnderWay) (given : Answer) : Type 0 where

@@ -340,6 +340,7 @@ module _ (first : Zone) (ups : List DynamicUpdate) (version : Numbered) (request
 
   gain_follows : (S : Script) (us : List Placed) (words new : Zones) (owner : ℕ) (seeking : Seeking) (event : WordEvent) → Makes {T = Numbered} words (word.Raise owner) event new → ups ≡ updates_in us → Tells S first new us → (s : Seeks first ups words.owners version request owner seeking) → Seeks first ups new.owners version request owner seeking
       → SendsAt first ups new.owners version request (after new (phase.Gain owner seeking) event)
+  unfolding goes_by
   gain_follows S us words new owner seeking (told.Raised next number) m is t s later =
       let keeps = raised_keeps words new owner next number (s.asker + length seeking.sending.got + 1) m s.numbered.0 in
       got_follows S us new owner seeking next (found_by new next) refl is t (goes_by words new owner seeking (λ o k. keeps_step words new (word.Raise owner) (told.Raised next number) o k m) s) keeps.1

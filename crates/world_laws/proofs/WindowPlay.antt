@@ -22,10 +22,10 @@ use Rattle.world_laws.proofs.CallReplays.{script, Placed, updates_in, Further}
 use Rattle.world_laws.proofs.ChainLists.{Zone}
 use Rattle.world_laws.proofs.HandPlay.{Kept, turn_hands, turn_same, started_hands, started_less, started_few}
 use Rattle.world_laws.proofs.HandWorld.{Hands}
-use Rattle.world_laws.proofs.HeldLemmas.{held_by_kept}
+use Rattle.world_laws.proofs.HeldLemmas.{held_by_kept, held_us}
 use Rattle.world_laws.proofs.LeadLemmas.{zone_at}
 use Rattle.world_laws.proofs.OtherCalls.{moved}
-use Rattle.world_laws.proofs.ReplayLemmas.{Goes, by_after, turn_comes, goes_as, start_goes, no_updates, goes_replayed}
+use Rattle.world_laws.proofs.ReplayLemmas.{Goes, by_after, turn_comes, goes_as, start_goes, no_updates, goes_replayed, replayed_us}
 use Rattle.world_laws.proofs.WindowSerials.{AreSerials, Serials, serial_at, serials_on, window_fits, window_numbers}
 
 -- a world behind so many of the lines
@@ -54,20 +54,21 @@ rest_more line told given after replies world (Some rest) p e more =
     let m = more rest.0 rest.1 refl (ap (λ (t : List WorldReply × World). t.1) pair) in
     (told ∷ m.0, ap (onto_replies told) m.1)
 
+play_more_by : (lines : List Line) (line : Line) (replies : List WorldReply) (between : World) (given : WorldReply) (after : World) (o : Option (WorldReply × World))
+    → ((told : WorldReply) (world : World) (rest : List WorldReply) (behind : World) → play world lines ≡ Some (rest, behind) → behind ≡ between → (all : List WorldReply) × (play world (lines ++ line ∷ []) ≡ Some (all, after)))
+    → option_and_then (λ told. onto_replies told.0 (play told.1 lines)) o ≡ Some (replies, between) → (all : List WorldReply) × (option_and_then (λ told. onto_replies told.0 (play told.1 (lines ++ line ∷ []))) o ≡ Some (all, after))
+play_more_by lines line replies between given after None more e = absurd (let wrong = e in cc)
+play_more_by lines line replies between given after (Some told) more e =
+    rest_more line told.0 given after replies between (play told.1 lines) (play told.1 (lines ++ line ∷ [])) e (λ rest behind p same. more told.0 told.1 rest behind p same)
+
 play_more : (world : World) (lines : List Line) (line : Line) (replies : List WorldReply) (between : World) (given : WorldReply) (after : World) → play world lines ≡ Some (replies, between) → turn between line ≡ Some (given, after)
     → (all : List WorldReply) × (play world (lines ++ line ∷ []) ≡ Some (all, after))
 play_more world [] line replies between given after e t =
     let pair : ([], world) ≡ (replies, between) = (let i = e in cc) in
     let same : world ≡ between = ap (λ (p : List WorldReply × World). p.1) pair in
     (given ∷ [], ap (option_and_then (λ told. onto_replies told.0 (play told.1 []))) (ap (λ w. turn w line) same ∙ t))
-play_more world (one ∷ lines) line replies between given after e t = by (turn world one) e
-  where
-    by : (o : Option (WorldReply × World)) → option_and_then (λ told. onto_replies told.0 (play told.1 lines)) o ≡ Some (replies, between)
-        → (all : List WorldReply) × (option_and_then (λ told. onto_replies told.0 (play told.1 (lines ++ line ∷ []))) o ≡ Some (all, after))
-    by None f = absurd (let wrong = f in cc)
-    by (Some told) f =
-        rest_more line told.0 given after replies between (play told.1 lines) (play told.1 (lines ++ line ∷ [])) f
-        (λ rest behind p same. play_more told.1 lines line rest behind given after p (ap (λ w. turn w line) same ∙ t))
+play_more world (one ∷ lines) line replies between given after e t =
+    play_more_by lines line replies between given after (turn world one) (λ told w rest behind p same. play_more w lines line rest behind given after p (ap (λ v. turn v line) same ∙ t)) e
 
 taken_more : (lines : List Line) (top : ℕ) (line : Line) → slice_get lines top ≡ Some line → take (top + 1) lines ≡ take top lines ++ line ∷ []
 taken_more lines top line e =
@@ -170,7 +171,7 @@ module _ (lines : List Line) (replies : List WorldReply) (first : Zone) (keep wi
   pub play_on : (rest : List Line) (top : ℕ) → At lines rest top → From rest top
   play_on [] top at_lines world n told behind at so e =
       let pair : ([], world) ≡ (told, behind) = (let i = e in cc) in
-      let here : top ≡ top + length [] = omega arith in
+      let here : top ≡ top + length {A = Line} [] = omega arith in
       subst (λ (w : World). Behind (top + 0) w) (ap (λ (t : List WorldReply × World). t.1) pair) (subst (λ k. Behind k world) here (record { now = n; is = so }))
   play_on (line ∷ rest) top at_lines world n told behind at so e =
       let parts = at_next lines rest line top at_lines in
@@ -185,12 +186,12 @@ played_now lines replies first keep window world e =
 
 -- what is known of the versions
 pub known_replayed : (lines : List Line) (first : Zone) (keep window top : ℕ) (world : World) (n : Now lines first keep window top world) → (r : IsReplayed first lines world) × (r.updates ≡ updates_in n.goes.us)
-unfolding goes_replayed
-known_replayed lines first keep window top world n = (goes_replayed first lines top world n.goes, refl)
+known_replayed lines first keep window top world n = (goes_replayed first lines top world n.goes, (replayed_us first lines top world n.goes).0)
 
 pub known_held : (lines : List Line) (first : Zone) (keep window top : ℕ) (world : World) (n : Now lines first keep window top world) → (h : HoldVersions first lines world) × (h.replayed.updates ≡ updates_in n.goes.us)
-unfolding goes_replayed held_by_kept
-known_held lines first keep window top world n = (held_by_kept first lines top world world (record { goes = n.goes; hands = n.hands; same = (refl, refl, λ less few. few) }), refl)
+known_held lines first keep window top world n =
+    let k : Kept (script (IsSentAt lines) top) first world world = record { goes = n.goes; hands = n.hands; same = (refl, refl, λ less few. few) } in
+    (held_by_kept first lines top world world k, held_us first lines top world world k)
 
 -- whatever lines were played, the window's entries have the serials of their versions
 pub played_serials : (first : Zone) (keep window : ℕ) (lines : List Line) (replies : List WorldReply) (world : World) → play (started first keep window) lines ≡ Some (replies, world) → HaveSerials first lines world

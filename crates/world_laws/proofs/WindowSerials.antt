@@ -2,7 +2,7 @@
 use Rattle.std.proofs.Common.{◌≡◌, refl, sym, ap, ◌∙◌, subst, ℕ, zero, suc, ◌+◌, ◌<◌, ◌≤◌, true, false, inl, inr, List, [], ◌∷◌, ◌++◌, length, drop, take, arith, Some, length-append}
 use Rattle.std.specs.Prelude.{nat_lt}
 use Rattle.std.specs.List.{slice_get}
-use Rattle.std.proofs.lemmas.Bool.{cases_Bool, ltb-true}
+use Rattle.std.proofs.lemmas.Bool.{cases_Bool, ltb-true, ltb-false}
 use Rattle.std.proofs.lemmas.List.{append-nil, map-append, take_all, take-append-le}
 use Rattle.cell_core.proofs.SeatLemmas.{get_push_new}
 use Rattle.cell_core.specs.declared.words.Owner.{Owner}
@@ -66,11 +66,7 @@ serials_with first ups (x ∷ entries) entry all is = (all.0, serials_with first
 
 -- the entries that stay fit with the one that is entered
 entered_one : (size : ℕ) (entry : Entry) → 0 < size → fits size (serials_in (entry ∷ [])) ≡ true
-entered_one size entry some = elim (cases_Bool (nat_lt 0 size)) [ inl yes ↦ rw yes refl | inr no ↦ absurd (none_less size some no) ]
-  where
-    none_less : (n : ℕ) → 0 < n → nat_lt 0 n ≡ false → ⊥
-    none_less zero l e = omega (arith, l)
-    none_less (suc n) l e = let wrong = e in cc
+entered_one size entry some = elim (cases_Bool (nat_lt 0 size)) [ inl fit ↦ rw fit refl | inr not_fit ↦ absurd (let none = ltb-false 0 size not_fit in omega (arith, some, none)) ]
 
 entered_stays : (size : ℕ) (entry x : Entry) (entries : List Entry) → fits size (serials_in (x ∷ entries) ++ entry.serial.0 ∷ []) ≡ true → entered size (x ∷ entries) entry ≡ (x ∷ entries) ++ entry ∷ []
 entered_stays size entry x entries fit = rw fit refl
