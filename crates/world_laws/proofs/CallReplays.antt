@@ -1,25 +1,22 @@
 -- Calls as steps: what each step makes of the versions that a run publishes, and of the calls under way.
-use Rattle.std.proofs.Common.{◌≡◌, ◌≢◌, refl, sym, ap, ◌∙◌, subst, ℕ, zero, suc, ◌+◌, ◌<◌, ◌≤◌, Bool, true, false, ◌⊎◌, inl, inr, List, [], ◌∷◌, ◌++◌, length, map, take, arith, Option, Some, None, length-append}
+use Rattle.std.proofs.Common.{◌≡◌, ◌≢◌, refl, sym, ap, ◌∙◌, subst, ℕ, ◌+◌, Bool, true, false, ◌⊎◌, inl, inr, List, [], ◌∷◌, ◌++◌, arith, Option, Some, None}
 use Rattle.std.specs.Prelude.{◌==◌, is_some, nat_lt, unwrap_or, if◌then◌else◌}
 use Rattle.std.specs.List.{slice_get, slice_set}
 use Rattle.std.specs.Option.{option_and_then}
 use Rattle.std.proofs.lemmas.Bool.{cases_Bool}
 use Rattle.std.proofs.lemmas.Bool.Decides.{eqb_tells}
-use Rattle.std.proofs.lemmas.List.{map-append, take-append-le, take_all}
+use Rattle.std.proofs.lemmas.List.{map-append}
 use Rattle.std.proofs.lemmas.Option.{slice_get_within}
 use Rattle.cell_core.proofs.OwnerLemmas.{Keeps as KeepsNumber, keeps_step}
-use Rattle.cell_core.proofs.RunShows.{step_runs}
 use Rattle.cell_core.proofs.SeatLemmas.{get_set_same, get_set_other}
 use Rattle.cell_core.proofs.StepShows.{step_shows}
-use Rattle.cell_core.proofs.PublishedLemmas.{OfWeak, weak_quiet}
-use Rattle.cell_core.specs.Cell.{Cell, CellStep, Runs, start as cell_start}
-use Rattle.cell_core.specs.Shows.{Shows, ShowsStep, PublisherIs, SlotIs, Phase as SlotPhase}
-use Rattle.cell_core.specs.Words.{State, bulk, free_word, dead_word, fetch_add, fetch_sub, found_by, version_in}
+use Rattle.cell_core.specs.Cell.{Cell}
+use Rattle.cell_core.specs.Shows.{Shows, PublisherIs, SlotIs, Phase as SlotPhase}
+use Rattle.cell_core.specs.Words.{bulk, free_word, dead_word, fetch_add, fetch_sub, found_by, version_in}
 use Rattle.cell_core.specs.WordSteps.{Makes, with_version, with_shares, with_weak_word}
 use Rattle.cell_core.specs.declared.words.Owner.{Owner}
 use Rattle.cell_core.specs.declared.words.Publisher.TheVariants.{Swapping}
 use Rattle.cell_core.specs.declared.words.Slot.{Slot}
-use Rattle.cell_core.specs.declared.words.Version.{Version}
 use Rattle.cell_core.specs.declared.words.WordEvent.{WordEvent}
 use Rattle.cell_core.specs.declared.words.WordEvent.TheVariants as told
 use Rattle.cell_core.specs.declared.words.WordStep.{WordStep}
@@ -28,10 +25,7 @@ use Rattle.dns_rdata.specs.Record.{Record}
 use Rattle.dns_rdata.specs.declared.numbers.Serial.{Serial}
 use Rattle.serve_core.specs.Heading.{heading_of_update}
 use Rattle.serve_core.specs.declared.heading.Heading.{Heading}
-use Rattle.dns_message.specs.declared.query.Parsed.TheVariants as parsed
-use Rattle.dns_message.specs.declared.update.Update.{Update as DynamicUpdate}
-use Rattle.dns_message.specs.Request.{reads}
-use Rattle.update_core.specs.Act.{act, replay}
+use Rattle.update_core.specs.Act.{replay}
 use Rattle.world_run.specs.declared.entries.Entry.{Entry}
 use Rattle.world_run.specs.declared.sending.Seeking.{Seeking}
 use Rattle.world_run.specs.declared.sending.Sending.{Sending}
@@ -46,10 +40,8 @@ use Rattle.world_run.specs.declared.phase.Progress.{Progress}
 use Rattle.world_run.specs.declared.phase.Progress.TheVariants.{On, Done}
 use Rattle.world_run.specs.declared.step.Answer.{Answer}
 use Rattle.world_run.specs.declared.step.Answer.TheVariants as answer
-use Rattle.zone_tree.specs.Version.{Version as Numbered, KnowsChanges, zone_serial}
-use Rattle.world_run.specs.Numbered.{first_version}
+use Rattle.zone_tree.specs.Version.{Version as Numbered, zone_serial}
 use Rattle.world_run.specs.Phases.{word_step, after, past, gone, leaving_after, oldest_after, sent_after, completed, with_got, entry_of, gained_after, got_after, is_for_update, updates}
-use Rattle.world_laws.specs.Replays.{IsAccepted, AreReplays}
 use Rattle.world_laws.specs.InTurn.{LeavesPublished}
 use Rattle.world_run.specs.World.{next}
 use Rattle.world_laws.proofs.HandSeats.{serial_of_entry, swaps_now, swapped_in}

@@ -1,6 +1,6 @@
 -- What a question for what changed gets, and what that leads to.
-use Rattle.std.proofs.Common.{◌≡◌, refl, sym, ap, ◌∙◌, subst, ℕ, ◌<◌, ◌≤◌, ◌⊎◌, All, Bool, true, false, inl, inr, List, [], ◌∷◌, length, map, arith, Option, Some, None}
-use Rattle.std.specs.Prelude.{◌==◌, ◌&&◌, ◌||◌, not, nat_le, is_some, unwrap_or, if◌then◌else◌}
+use Rattle.std.proofs.Common.{◌≡◌, refl, sym, ap, ◌∙◌, subst, ℕ, ◌<◌, ◌≤◌, ◌⊎◌, All, Bool, true, false, inl, inr, List, length, map, Option, Some, None}
+use Rattle.std.specs.Prelude.{◌==◌, ◌&&◌, ◌||◌, not, is_some, unwrap_or, if◌then◌else◌}
 use Rattle.dns_message.specs.Message.{Message}
 use Rattle.dns_message.specs.Request.{reads}
 use Rattle.dns_message.specs.declared.query.Parsed.TheVariants as parsed

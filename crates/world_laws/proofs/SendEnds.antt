@@ -1,5 +1,5 @@
 -- What a transfer gets at its end, whether it is answered at once, in one line, or step by step, leads to the version that is served.
-use Rattle.std.proofs.Common.{◌≡◌, ◌≢◌, refl, sym, ap, ◌∙◌, subst, ℕ, zero, suc, ◌+◌, ◌-◌, ◌<◌, ◌≤◌, Bool, true, false, inl, inr, List, [], ◌∷◌, ◌++◌, length, length-append, map, take, arith, Option, Some, None}
+use Rattle.std.proofs.Common.{◌≡◌, ◌≢◌, refl, sym, ap, ◌∙◌, subst, ℕ, zero, suc, ◌+◌, ◌-◌, ◌<◌, Bool, true, false, inl, inr, List, [], ◌∷◌, ◌++◌, length, length-append, map, take, arith, Option, Some, None}
 use Rattle.std.specs.Prelude.{if◌then◌else◌, Ok}
 use Rattle.cell_core.specs.declared.words.Owner.{Owner}
 use Rattle.std.specs.List.{slice_get}
@@ -10,7 +10,6 @@ use Rattle.dns_message.specs.declared.query.Parsed.TheVariants as parsed
 use Rattle.dns_message.specs.declared.query.Query.{Query as QueryAsked}
 use Rattle.dns_message.specs.declared.update.Update.{Update as DynamicUpdate}
 use Rattle.dns_rdata.specs.Numbers.{type_IXFR}
-use Rattle.dns_rdata.specs.Record.{Record}
 use Rattle.dns_rdata.specs.declared.numbers.Serial.{Serial}
 use Rattle.transfer_core.proofs.VersionLemmas.{list_told, list_taken}
 use Rattle.transfer_core.specs.Chain.{zones_of, told}
@@ -35,23 +34,23 @@ use Rattle.world_run.specs.declared.step.Call.{Call}
 use Rattle.world_run.specs.declared.step.Call.TheVariants.{Transfer}
 use Rattle.world_run.specs.declared.step.StepName.{StepName}
 use Rattle.world_run.specs.declared.step.WorldReply.{WorldReply}
-use Rattle.world_run.specs.declared.step.WorldReply.TheVariants.{Answered, Begun, Step, Last, NotEnabled}
+use Rattle.world_run.specs.declared.step.WorldReply.TheVariants.{Answered, Begun, Last, NotEnabled}
 use Rattle.world_run.specs.declared.step.WorldStep.{WorldStep as Line}
 use Rattle.world_run.specs.declared.step.WorldStep.TheVariants.{Whole, Begin, Next}
 use Rattle.world_run.specs.Transfers.{sent_answer}
 use Rattle.world_laws.specs.InTurn.{IsOpen}
 use Rattle.world_laws.specs.Leads.{AreOctets, zones_behind, LeadFromAsker, AnswerIxfr, AnswerFor, AnswerSince}
 use Rattle.world_laws.specs.Replays.{IsSent, IsSentAt}
-use Rattle.world_laws.proofs.CallReplays.{script, updates_in, Zones, Tells}
+use Rattle.world_laws.proofs.CallReplays.{script, updates_in, Zones}
 use Rattle.world_laws.proofs.ChainLists.{Zone, differs_behind}
 use Rattle.world_laws.proofs.InTurnLemmas.{fate}
 use Rattle.world_laws.proofs.LeadLemmas.{zone_at}
-use Rattle.world_laws.proofs.LeadReplies.{ChangesLead, answer_by}
+use Rattle.world_laws.proofs.LeadReplies.{answer_by}
 use Rattle.world_laws.proofs.ReplayLemmas.{found_new}
 use Rattle.world_laws.proofs.SendStarts.{served, transfer_begins, transfer_answers}
 use Rattle.world_laws.proofs.SendSteps.{Sends, SendsIn, SendsAt, sends_on, once_sends, many_sends, newest_behind}
 use Rattle.world_laws.proofs.SpeltLemmas.{taken_spelt}
-use Rattle.world_laws.proofs.WindowPlay.{Now, After, play_on, at_all, started_now, played_now, known_replayed, known_held}
+use Rattle.world_laws.proofs.WindowPlay.{Now, After, play_on, at_all, started_now, known_replayed, known_held}
 use Rattle.world_laws.proofs.WindowSerials.{zone_more, zones_more}
 
 -- a zone behind one

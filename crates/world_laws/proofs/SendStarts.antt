@@ -1,9 +1,8 @@
 -- How a transfer begins that upgrades entries: with those behind the entry of the serial that is told, whose numbers are in turn.
-use Rattle.std.proofs.Common.{◌≡◌, refl, sym, ap, ◌∙◌, subst, ℕ, zero, suc, ◌+◌, ◌-◌, ◌<◌, ◌≤◌, Bool, true, false, inl, inr, List, [], ◌∷◌, ◌++◌, length, arith, All, Option, Some, None}
+use Rattle.std.proofs.Common.{◌≡◌, refl, sym, ap, ◌∙◌, subst, ℕ, zero, suc, ◌+◌, ◌-◌, ◌<◌, ◌≤◌, Bool, true, false, inl, inr, List, [], ◌∷◌, ◌++◌, length, arith, Option, Some, None}
 use Rattle.std.specs.Prelude.{◌==◌, ◌&&◌, filter, is_some, not, nat_le, if◌then◌else◌}
 use Rattle.std.specs.List.{slice_get}
 use Rattle.std.specs.Option.{option_and_then}
-use Rattle.std.proofs.lemmas.Bool.{cases_Bool}
 use Rattle.std.proofs.lemmas.Bool.Decides.{eqb_tells, leb_tells}
 use Rattle.std.proofs.lemmas.List.{append-nil, length-map, map-append}
 use Rattle.std.proofs.lemmas.Option.{slice_get_within}
@@ -36,14 +35,14 @@ use Rattle.zone_tree.specs.Version.{Version as Numbered, zone_serial}
 use Rattle.zone_tree.specs.Zone.{IsZone}
 use Rattle.world_laws.specs.Held.{HoldVersions}
 use Rattle.world_laws.specs.Leads.{AreOctets, zones_behind}
-use Rattle.world_laws.specs.Replays.{AreReplays, IsSent, IsSentAt}
+use Rattle.world_laws.specs.Replays.{IsSent, IsSentAt}
 use Rattle.world_laws.proofs.CallReplays.{script, updates_in}
 use Rattle.world_laws.proofs.ChainLists.{Zone, are_versions, fits_less, fits_front}
 use Rattle.world_laws.proofs.HandLemmas.{AllFit}
 use Rattle.world_laws.proofs.HandSeats.{window_seats}
 use Rattle.world_laws.proofs.LeadLemmas.{zone_at, chain_from}
 use Rattle.world_laws.proofs.OtherCalls.{unbarred}
-use Rattle.world_laws.proofs.SendSteps.{Asked, AreNumbered, SendsIn, behind_count}
+use Rattle.world_laws.proofs.SendSteps.{AreNumbered, SendsIn, behind_count}
 use Rattle.world_laws.proofs.WindowPlay.{Now, known_held}
 use Rattle.world_laws.proofs.WindowSerials.{AreSerials, window_fits}
 

@@ -1,5 +1,5 @@
 -- What a transfer that upgrades entries has got, step by step: the versions behind that of the asker's serial, in turn.
-use Rattle.std.proofs.Common.{◌≡◌, refl, sym, ap, ◌∙◌, subst, ℕ, zero, suc, ◌+◌, ◌-◌, ◌<◌, ◌≤◌, Bool, true, false, inl, inr, List, [], ◌∷◌, ◌++◌, length, map, arith, Option, Some, None, length-append}
+use Rattle.std.proofs.Common.{◌≡◌, refl, sym, ap, ◌∙◌, subst, ℕ, zero, suc, ◌+◌, ◌-◌, ◌<◌, ◌≤◌, true, false, List, [], ◌∷◌, ◌++◌, length, arith, Option, Some, None, length-append}
 use Rattle.std.specs.List.{slice_get}
 use Rattle.std.specs.Option.{option_and_then}
 use Rattle.std.proofs.lemmas.List.{append_assoc, map-append}
@@ -8,7 +8,6 @@ use Rattle.cell_core.proofs.UserLemmas.{owner_is_given}
 use Rattle.cell_core.specs.Words.{found_by, owned_of}
 use Rattle.cell_core.specs.WordSteps.{Makes}
 use Rattle.cell_core.specs.declared.words.Owner.{Owner}
-use Rattle.cell_core.specs.declared.words.Owner.TheVariants.{Holding}
 use Rattle.cell_core.specs.declared.words.WordEvent.{WordEvent}
 use Rattle.cell_core.specs.declared.words.WordEvent.TheVariants as told
 use Rattle.cell_core.specs.declared.words.WordStep.TheVariants as word
@@ -21,7 +20,6 @@ use Rattle.transfer_core.specs.Chain.{zones_of, AreBehind}
 use Rattle.transfer_core.specs.Lists.{AreVersions, newest}
 use Rattle.world_run.specs.Phases.{word_step, after, past, gone, sent_after, completed, with_got, gained_after, got_after, updates}
 use Rattle.world_run.specs.World.{step_once, steps_up_to, go_on}
-use Rattle.world_run.specs.declared.phase.End.{End}
 use Rattle.world_run.specs.declared.phase.End.TheVariants.{Owned, OwnedWeakly, Told, NoSlot, Kept, Sent}
 use Rattle.world_run.specs.declared.phase.Phase.{Phase}
 use Rattle.world_run.specs.declared.phase.Phase.TheVariants as phase

@@ -1,24 +1,19 @@
 -- What the words show of the versions that were published: they are the replays of the updates that lines sent in turn.
-use Rattle.std.proofs.Common.{◌≡◌, ◌≢◌, refl, sym, ap, ◌∙◌, subst, ℕ, zero, suc, ◌+◌, ◌<◌, ◌≤◌, Bool, true, false, ◌⊎◌, inl, inr, List, [], ◌∷◌, ◌++◌, length, map, take, arith, Option, Some, None, length-append}
-use Rattle.std.specs.Prelude.{◌==◌, is_some, nat_lt, unwrap_or, if◌then◌else◌}
-use Rattle.std.specs.List.{slice_get, slice_set}
-use Rattle.std.specs.Option.{option_and_then}
+use Rattle.std.proofs.Common.{◌≡◌, refl, sym, ap, ◌∙◌, subst, ℕ, zero, suc, ◌+◌, ◌<◌, ◌≤◌, ◌⊎◌, inl, inr, List, [], ◌∷◌, ◌++◌, length, map, take, arith, Option, Some, None, length-append}
+use Rattle.std.specs.Prelude.{◌==◌, unwrap_or}
+use Rattle.std.specs.List.{slice_get}
 use Rattle.std.proofs.lemmas.Bool.{cases_Bool}
-use Rattle.std.proofs.lemmas.Bool.Decides.{eqb_tells}
 use Rattle.std.proofs.lemmas.List.{map-append, take-append-le, take_all}
 use Rattle.std.proofs.lemmas.Option.{slice_get_within}
 use Rattle.cell_core.proofs.RunShows.{step_runs}
-use Rattle.cell_core.proofs.SeatLemmas.{get_set_same, get_set_other}
 use Rattle.cell_core.proofs.StepShows.{step_shows}
 use Rattle.cell_core.proofs.PublishedLemmas.{OfWeak, weak_quiet}
 use Rattle.cell_core.specs.Cell.{Cell, CellStep, Runs, start as cell_start}
-use Rattle.cell_core.specs.Shows.{Shows, ShowsStep, PublisherIs, SlotIs, Phase as SlotPhase}
-use Rattle.cell_core.specs.WordSteps.{Makes, with_version, with_shares, with_weak_word}
+use Rattle.cell_core.specs.Shows.{Shows, ShowsStep}
+use Rattle.cell_core.specs.WordSteps.{Makes}
 use Rattle.cell_core.specs.declared.words.Publisher.TheVariants.{Swapping}
-use Rattle.cell_core.specs.declared.words.Slot.{Slot}
 use Rattle.cell_core.specs.declared.words.Version.{Version}
 use Rattle.cell_core.specs.declared.words.WordEvent.{WordEvent}
-use Rattle.cell_core.specs.declared.words.WordEvent.TheVariants as told
 use Rattle.cell_core.specs.declared.words.WordStep.{WordStep}
 use Rattle.cell_core.specs.declared.words.WordStep.TheVariants as word
 use Rattle.dns_rdata.specs.Record.{Record}
@@ -28,7 +23,7 @@ use Rattle.dns_message.specs.declared.query.Parsed.TheVariants as parsed
 use Rattle.dns_message.specs.declared.update.Update.{Update as DynamicUpdate}
 use Rattle.dns_message.specs.Request.{reads}
 use Rattle.update_core.specs.Act.{act, replay}
-use Rattle.zone_tree.specs.Version.{Version as Numbered, KnowsChanges, zone_serial}
+use Rattle.zone_tree.specs.Version.{Version as Numbered, KnowsChanges}
 use Rattle.world_run.specs.Numbered.{first_version}
 use Rattle.world_laws.specs.Replays.{IsAccepted, AreReplays}
 use Rattle.cell_core.specs.Words.{State, version_in}

@@ -1,20 +1,18 @@
 -- Worlds behind lines, with all that is known of them: the versions are replays, each owner is in one hand, and the window's entries have
 -- the serials of their versions; and what is so from line to line.
-use Rattle.std.proofs.Common.{lit<, ◌≡◌, refl, sym, ap, ◌∙◌, subst, ℕ, zero, suc, ◌+◌, ◌≤◌, Bool, true, false, inl, inr, List, [], ◌∷◌, ◌++◌, length, take, arith, Option, Some, None}
+use Rattle.std.proofs.Common.{◌≡◌, refl, sym, ap, ◌∙◌, subst, ℕ, suc, ◌+◌, ◌≤◌, Bool, true, false, inl, inr, List, [], ◌∷◌, ◌++◌, length, take, arith, Option, Some, None}
 use Rattle.std.specs.Prelude.{min, nat_lt}
 use Rattle.std.specs.List.{slice_get}
 use Rattle.std.specs.Option.{option_and_then}
-use Rattle.std.proofs.lemmas.List.{append-nil, map-append, take_all, take_more}
+use Rattle.std.proofs.lemmas.List.{append-nil, map-append, take_more}
 use Rattle.std.proofs.lemmas.Option.{slice_get_within, get_or_from_slice_get}
-use Rattle.std.proofs.Math.ListN.{get_or}
 use Rattle.cell_core.specs.declared.words.Owner.{Owner}
 use Rattle.dns_message.specs.declared.update.Update.{Update as DynamicUpdate}
-use Rattle.transfer_core.specs.Window.{fits}
 use Rattle.zone_tree.specs.Version.{zone_serial}
 use Rattle.world_run.specs.declared.step.WorldReply.{WorldReply}
 use Rattle.world_run.specs.declared.step.WorldStep.{WorldStep as Line}
-use Rattle.world_run.specs.Entries.{most_entries, serials_in}
-use Rattle.world_run.specs.World.{World, started, started_within, first_entries, turn, onto_replies, play}
+use Rattle.world_run.specs.Entries.{most_entries}
+use Rattle.world_run.specs.World.{World, started, first_entries, turn, onto_replies, play}
 use Rattle.world_laws.specs.Held.{HoldVersions}
 use Rattle.world_laws.specs.Leads.{HaveSerials}
 use Rattle.world_laws.specs.Replays.{IsSentAt, IsReplayed}
@@ -26,7 +24,7 @@ use Rattle.world_laws.proofs.HeldLemmas.{held_by_kept, held_us}
 use Rattle.world_laws.proofs.LeadLemmas.{zone_at}
 use Rattle.world_laws.proofs.OtherCalls.{moved}
 use Rattle.world_laws.proofs.ReplayLemmas.{Goes, by_after, turn_comes, goes_as, start_goes, no_updates, goes_replayed, replayed_us}
-use Rattle.world_laws.proofs.WindowSerials.{AreSerials, Serials, serial_at, serials_on, window_fits, window_numbers}
+use Rattle.world_laws.proofs.WindowSerials.{Serials, serial_at, serials_on, window_fits, window_numbers}
 
 -- a world behind so many of the lines
 pub record Now (lines : List Line) (first : Zone) (keep window top : ℕ) (world : World) : Type 0 where

@@ -3,7 +3,7 @@ use Rattle.std.proofs.Common.{◌≡◌, refl, sym, ap, ◌∙◌, subst, ℕ, z
 use Rattle.std.specs.Prelude.{nat_lt}
 use Rattle.std.specs.List.{slice_get}
 use Rattle.std.proofs.lemmas.Bool.{cases_Bool, ltb-true, ltb-false}
-use Rattle.std.proofs.lemmas.List.{append-nil, map-append, take_all, take-append-le}
+use Rattle.std.proofs.lemmas.List.{map-append, take_all, take-append-le}
 use Rattle.cell_core.proofs.SeatLemmas.{get_push_new}
 use Rattle.cell_core.specs.declared.words.Owner.{Owner}
 use Rattle.dns_message.specs.declared.update.Update.{Update as DynamicUpdate}
@@ -17,13 +17,13 @@ use Rattle.world_laws.specs.Leads.{zones_behind}
 use Rattle.world_laws.proofs.CallReplays.{Script, Placed, updates_in}
 use Rattle.world_laws.proofs.ChainLists.{Zone}
 use Rattle.world_laws.proofs.HandEnds.{no_swaps}
-use Rattle.world_laws.proofs.HandLemmas.{AllFit, fit_back}
+use Rattle.world_laws.proofs.HandLemmas.{AllFit}
 use Rattle.world_laws.proofs.HandSeats.{window_seats}
 use Rattle.world_laws.proofs.HandWorld.{Hands}
 use Rattle.world_laws.proofs.HeldLemmas.{parts_of, same_length}
 use Rattle.world_laws.proofs.LeadLemmas.{zone_at}
 use Rattle.world_laws.proofs.OtherCalls.{any_update}
-use Rattle.world_laws.proofs.ReplayLemmas.{Goes, Enters, WindowComes}
+use Rattle.world_laws.proofs.ReplayLemmas.{Goes, WindowComes}
 
 -- the zones of earlier versions stay where there are more updates
 pub zone_more : (first : Zone) (ups more : List DynamicUpdate) (k : ℕ) → k ≤ length ups → zone_at first (ups ++ more) k ≡ zone_at first ups k
