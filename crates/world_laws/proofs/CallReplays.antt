@@ -1,37 +1,36 @@
 -- Calls as steps: what each step makes of the versions that a run publishes, and of the calls under way.
-use Rattle.std.proofs.Common.{◌≡◌, ◌≢◌, refl, sym, ap, ◌∙◌, subst, ℕ, zero, suc, ◌+◌, ◌<◌, ◌≤◌, Bool, true, false, ◌⊎◌, inl, inr, List, [], ◌∷◌, ◌++◌, length, map, take, arith, Option, Some, None, length-append}
+use Rattle.std.proofs.Common.{◌≡◌, ◌≢◌, refl, sym, ap, ◌∙◌, subst, ℕ, ◌+◌, Bool, true, false, ◌⊎◌, inl, inr, List, [], ◌∷◌, ◌++◌, arith, Option, Some, None}
 use Rattle.std.specs.Prelude.{◌==◌, is_some, nat_lt, unwrap_or, if◌then◌else◌}
 use Rattle.std.specs.List.{slice_get, slice_set}
 use Rattle.std.specs.Option.{option_and_then}
 use Rattle.std.proofs.lemmas.Bool.{cases_Bool}
 use Rattle.std.proofs.lemmas.Bool.Decides.{eqb_tells}
-use Rattle.std.proofs.lemmas.List.{map-append, take-append-le, take_all}
+use Rattle.std.proofs.lemmas.List.{map-append}
 use Rattle.std.proofs.lemmas.Option.{slice_get_within}
-use Rattle.cell_core.proofs.RunShows.{step_runs}
+use Rattle.cell_core.proofs.OwnerLemmas.{Keeps as KeepsNumber, keeps_step}
 use Rattle.cell_core.proofs.SeatLemmas.{get_set_same, get_set_other}
 use Rattle.cell_core.proofs.StepShows.{step_shows}
-use Rattle.cell_core.proofs.PublishedLemmas.{OfWeak, weak_quiet}
-use Rattle.cell_core.specs.Cell.{Cell, CellStep, Runs, start as cell_start}
-use Rattle.cell_core.specs.Shows.{Shows, ShowsStep, PublisherIs, SlotIs, Phase as SlotPhase}
-use Rattle.cell_core.specs.Words.{State, bulk, free_word, dead_word, fetch_add, fetch_sub, found_by, version_in}
+use Rattle.cell_core.specs.Cell.{Cell}
+use Rattle.cell_core.specs.Shows.{Shows, PublisherIs, SlotIs, Phase as SlotPhase}
+use Rattle.cell_core.specs.Words.{bulk, free_word, dead_word, fetch_add, fetch_sub, found_by, version_in}
 use Rattle.cell_core.specs.WordSteps.{Makes, with_version, with_shares, with_weak_word}
+use Rattle.cell_core.specs.declared.words.Owner.{Owner}
 use Rattle.cell_core.specs.declared.words.Publisher.TheVariants.{Swapping}
 use Rattle.cell_core.specs.declared.words.Slot.{Slot}
-use Rattle.cell_core.specs.declared.words.Version.{Version}
 use Rattle.cell_core.specs.declared.words.WordEvent.{WordEvent}
 use Rattle.cell_core.specs.declared.words.WordEvent.TheVariants as told
 use Rattle.cell_core.specs.declared.words.WordStep.{WordStep}
 use Rattle.cell_core.specs.declared.words.WordStep.TheVariants as word
 use Rattle.dns_rdata.specs.Record.{Record}
+use Rattle.dns_rdata.specs.declared.numbers.Serial.{Serial}
 use Rattle.serve_core.specs.Heading.{heading_of_update}
 use Rattle.serve_core.specs.declared.heading.Heading.{Heading}
-use Rattle.dns_message.specs.declared.query.Parsed.TheVariants as parsed
-use Rattle.dns_message.specs.declared.update.Update.{Update as DynamicUpdate}
-use Rattle.dns_message.specs.Request.{reads}
-use Rattle.update_core.specs.Act.{act, replay}
+use Rattle.update_core.specs.Act.{replay}
 use Rattle.world_run.specs.declared.entries.Entry.{Entry}
 use Rattle.world_run.specs.declared.sending.Seeking.{Seeking}
 use Rattle.world_run.specs.declared.sending.Sending.{Sending}
+use Rattle.world_run.specs.declared.phase.End.{End}
+use Rattle.world_run.specs.declared.phase.End.TheVariants.{Owned, OwnedWeakly, Told, NoSlot, Kept, Sent}
 use Rattle.world_run.specs.declared.phase.Keeping.{Keeping}
 use Rattle.world_run.specs.declared.phase.Phase.{Phase}
 use Rattle.world_run.specs.declared.phase.Phase.TheVariants as phase
@@ -41,278 +40,31 @@ use Rattle.world_run.specs.declared.phase.Progress.{Progress}
 use Rattle.world_run.specs.declared.phase.Progress.TheVariants.{On, Done}
 use Rattle.world_run.specs.declared.step.Answer.{Answer}
 use Rattle.world_run.specs.declared.step.Answer.TheVariants as answer
-use Rattle.zone_tree.specs.Version.{Version as Numbered, KnowsChanges}
-use Rattle.world_run.specs.Numbered.{first_version}
-use Rattle.world_run.specs.Phases.{word_step, after, past, gone, leaving_after, oldest_after, sent_after, completed, with_got, gained_after, got_after, updates}
-use Rattle.world_laws.specs.Replays.{IsAccepted, AreReplays}
+use Rattle.zone_tree.specs.Version.{Version as Numbered, zone_serial}
+use Rattle.world_run.specs.Phases.{word_step, after, past, gone, leaving_after, oldest_after, sent_after, completed, with_got, entry_of, gained_after, got_after, is_for_update, updates}
 use Rattle.world_laws.specs.InTurn.{LeavesPublished}
 use Rattle.world_run.specs.World.{next}
-use Rattle.world_laws.proofs.HandSeats.{swaps_now, swapped_in}
+use Rattle.world_laws.proofs.HandSeats.{serial_of_entry, swaps_now, swapped_in}
+pub use Rattle.world_laws.proofs.TellLemmas.{replay_more, MakesNext, Script, scripted, script, Ever, Placed, updates_in, IsFresh, IsNext, placed_next, AreInTurn, Zones, Tells, NoSwap, publishes_nothing, tells_same, SwapsNext, tells_swapped}
 
--- what stands at a place of a list with one more, and where
-placed : {X : Type 0} (xs : List X) (x y : X) (k : ℕ) → slice_get (xs ++ x ∷ []) k ≡ Some y → (slice_get xs k ≡ Some y) ⊎ ((k ≡ length xs) × (x ≡ y))
-placed [] x y zero e = inr (refl, (let f = e in cc))
-placed [] x y (suc k) e = absurd (let wrong = e in cc)
-placed (z ∷ xs) x y zero e = inl e
-placed (z ∷ xs) x y (suc k) e = elim (placed xs x y k e) [ inl old ↦ inl old | inr new ↦ inr (omega (arith, new.0), new.1) ]
+-- where a version is entered, it is with this serial
+abbrev pub EntersAs : Option Serial → ℕ → Type 0
+EntersAs None serial = Unit {0}
+EntersAs (Some entering) serial = entering.0 ≡ serial
 
--- a replay with one update more
-pub replay_more : (zone : List Record) (us : List DynamicUpdate) (u : DynamicUpdate) → replay zone (us ++ u ∷ []) ≡ unwrap_or (act (replay zone us) u) (replay zone us)
-replay_more zone [] u = refl
-replay_more zone (one ∷ us) u = replay_more (unwrap_or (act zone one) zone) us u
+-- the serial of the last version
+abbrev pub last_serial : List Record → List Placed → ℕ
+last_serial first us = zone_serial (replay first (updates_in us))
 
--- what an update is about to make of the versions that there are
-pub record MakesNext (S : List ℕ → Type 0) (first : List Record) (us : List DynamicUpdate) (version : Numbered) : Type 0 where
-  pub update : DynamicUpdate
-  pub accepted : IsAccepted S (replay first us) version.zone update
-  pub number : version.number ≡ length us + 1
-  pub knows : KnowsChanges (replay first us) version
+-- an update behind its swap enters the last version
+abbrev pub CoherentFor : List Record → List Placed → Purpose → Type 0
+CoherentFor first us purpose.Drop = Unit {0}
+CoherentFor first us (purpose.Publish keeping kept entry) = EntersAs (serial_of_entry entry) (last_serial first us)
+CoherentFor first us (purpose.Oldest head kept entry leaving) = EntersAs (serial_of_entry entry) (last_serial first us)
+CoherentFor first us (purpose.Leaves head kept entry leaving) = EntersAs (serial_of_entry entry) (last_serial first us)
+CoherentFor first us (purpose.Sent sending owners) = Unit {0}
 
-taken_less : {X : Type 0} (us : List X) (u : X) (k : ℕ) → k ≤ length us → take k (us ++ u ∷ []) ≡ take k us
-taken_less us u k less = take-append-le k us (u ∷ []) less
-
-replays_more : (S : List ℕ → Type 0) (first : List Record) (published : List Numbered) (us : List DynamicUpdate) (version : Numbered) (n : MakesNext S first us version) → AreReplays S first published us → AreReplays S first (published ++ version ∷ []) (us ++ n.update ∷ [])
-replays_more S first published us version n r = record {
-  counted = omega (arith, r.counted, length-append published (version ∷ []), length-append us (n.update ∷ []));
-  versions = λ k other e. elim (placed published version other k e) [
-    | inl old ↦ (
-        let is = r.versions k other old in
-        let less : k ≤ length us = omega (arith, slice_get_within published k other old, r.counted) in
-        (is.0, is.1 ∙ ap (replay first) (sym (taken_less us n.update k less)))
-        )
-    | inr new ↦ (
-        let at : k ≡ length us + 1 = omega (arith, new.0, r.counted) in
-        let whole : take k (us ++ n.update ∷ []) ≡ us ++ n.update ∷ [] = take_all k (us ++ n.update ∷ []) (omega (arith, at, length-append us (n.update ∷ []))) in
-        let made : replay first (us ++ n.update ∷ []) ≡ version.zone = replay_more first us n.update ∙ ap (λ o. unwrap_or o (replay first us)) n.accepted.made in
-        (ap (λ (v : Numbered). v.number) (sym new.1) ∙ (n.number ∙ sym at), ap (λ (v : Numbered). v.zone) (sym new.1) ∙ sym (ap (replay first) whole ∙ made))
-        )
-  ];
-  changes = λ k other e. elim (placed published version other (k + 1) e) [
-    | inl old ↦ (
-        let less : k ≤ length us = omega (arith, slice_get_within published (k + 1) other old, r.counted) in
-        subst (λ l. KnowsChanges (replay first l) other) (sym (taken_less us n.update k less)) (r.changes k other old)
-        )
-    | inr new ↦ (
-        let same : us ≡ take k (us ++ n.update ∷ []) = sym (taken_less us n.update k (omega (arith, new.0, r.counted)) ∙ take_all k us (omega (arith, new.0, r.counted))) in
-        subst (λ l. KnowsChanges (replay first l) other) same (subst (λ v. KnowsChanges (replay first us) v) new.1 n.knows)
-        )
-  ];
-  accepted = λ k other e. elim (placed us n.update other k e) [
-    | inl old ↦ (
-        let is = r.accepted k other old in
-        let less : k ≤ length us = omega (arith, slice_get_within us k other old) in
-        (is.0, subst (λ l. IsAccepted S (replay first l) is.0 other) (sym (taken_less us n.update k less)) is.1)
-        )
-    | inr new ↦ (
-        let same : us ≡ take k (us ++ n.update ∷ []) = sym (taken_less us n.update k (omega (arith, new.0)) ∙ take_all k us (omega (arith, new.0))) in
-        (version.zone, subst (λ l. IsAccepted S (replay first l) version.zone other) same (subst (λ u. IsAccepted S (replay first us) version.zone u) new.1 n.accepted))
-        )
-  ];
-}
-
--- lines by their places: what each sends as an update, and how many were played; and which of them may have begun the update that is
--- under way, by its header
-pub record Script : Type 1 where
-  pub sends : ℕ → List ℕ → Type 0
-  pub top : ℕ
-  pub by : ℕ → Heading → Type 0
-
-abbrev pub scripted : (ℕ → List ℕ → Type 0) → ℕ → (ℕ → Heading → Type 0) → Script
-scripted sends top by = record { sends = sends; top = top; by = by }
-
--- whichever of them it may be
-abbrev pub script : (ℕ → List ℕ → Type 0) → ℕ → Script
-script sends top = scripted sends top (λ place head. Unit {0})
-
--- one of them sends it
-abbrev pub Ever : Script → List ℕ → Type 0
-Ever S request = (place : ℕ) × S.sends place request
-
--- an update, and the place of the line that sent it
-pub record Placed : Type 0 where
-  pub place : ℕ
-  pub update : DynamicUpdate
-
-abbrev pub updates_in : List Placed → List DynamicUpdate
-updates_in us = map (λ (one : Placed). one.update) us
-
--- a line was played, behind those that sent the updates so far
-pub record IsFresh (S : Script) (us : List Placed) (place : ℕ) : Type 0 where
-  pub played : place < S.top
-  pub last : (k : ℕ) (one : Placed) → slice_get us k ≡ Some one → one.place < place
-
--- what the update of such a line is about to make of the versions that there are
-pub record IsNext (S : Script) (first : List Record) (us : List Placed) (version : Numbered) : Type 0 where
-  pub place : ℕ
-  pub fresh : IsFresh S us place
-  pub makes : MakesNext (S.sends place) first (updates_in us) version
-  pub mine : S.by place (heading_of_update makes.update)
-
-abbrev pub placed_next : (S : Script) (first : List Record) (us : List Placed) (version : Numbered) → IsNext S first us version → Placed
-placed_next S first us version n = record { place = n.place; update = n.makes.update }
-
-ever_makes : (S : Script) (place : ℕ) (first : List Record) (us : List DynamicUpdate) (version : Numbered) → MakesNext (S.sends place) first us version → MakesNext (Ever S) first us version
-ever_makes S place first us version m =
-    let a = m.accepted in
-    record {
-      update = m.update;
-      accepted = record { request = a.request; sent = (place, a.sent); read = a.read; let_through = a.let_through; made = a.made; changes = a.changes };
-      number = m.number;
-      knows = m.knows;
-    }
-
--- a line sends a request that reads as this update
-abbrev pub SendsAs : Script → Placed → Type 0
-SendsAs S one = (request : List ℕ) × S.sends one.place request × (reads request ≡ parsed.Update one.update)
-
--- each update was sent by the line of its place, and the places rise
-pub record AreInTurn (S : Script) (us : List Placed) : Type 0 where
-  pub sends : (k : ℕ) (one : Placed) → slice_get us k ≡ Some one → SendsAs S one
-  pub rises : (k : ℕ) (one next : Placed) → slice_get us k ≡ Some one → slice_get us (k + 1) ≡ Some next → one.place < next.place
-  pub played : (k : ℕ) (one : Placed) → slice_get us k ≡ Some one → one.place < S.top
-
-in_turn_more : (S : Script) (us : List Placed) (x : Placed) → IsFresh S us x.place → SendsAs S x → AreInTurn S us → AreInTurn S (us ++ x ∷ [])
-in_turn_more S us x fresh sent t = record {
-  sends = λ k one e. elim (placed us x one k e) [ inl old ↦ t.sends k one old | inr new ↦ subst (SendsAs S) new.1 sent ];
-  rises = λ k one next e f. elim (placed us x next (k + 1) f) [
-    | inl old ↦ elim (placed us x one k e) [
-      | inl here ↦ t.rises k one next here old
-      | inr there ↦ absurd (let l = slice_get_within us (k + 1) next old in omega (arith, l, there.0))
-    ]
-    | inr new ↦ elim (placed us x one k e) [
-      | inl here ↦ subst (λ (n : Placed). one.place < n.place) new.1 (fresh.last k one here)
-      | inr there ↦ absurd (omega (arith, new.0, there.0))
-    ]
-  ];
-  played = λ k one e. elim (placed us x one k e) [ inl old ↦ t.played k one old | inr new ↦ subst (λ (n : Placed). n.place < S.top) new.1 fresh.played ];
-}
-
-abbrev pub Zones : Type 0
-Zones = State Numbered
-
--- the words show a cell that is reached, whose versions are the replays of updates
-pub record Tells (S : Script) (first : List Record) (words : Zones) (us : List Placed) : Type 0 where
-  pub cell : Cell Numbered
-  pub steps : List (CellStep Numbered × Option ℕ)
-  pub runs : Runs (cell_start (first_version first)) steps cell
-  pub shows : Shows words cell
-  pub replays : AreReplays (Ever S) first cell.published (updates_in us)
-  pub in_turn : AreInTurn S us
-
-runs_on : (one two three : Cell Numbered) (run more : List (CellStep Numbered × Option ℕ)) → Runs one run two → Runs two more three → Runs one (run ++ more) three
-runs_on one two three [] more r s = subst (λ c. Runs c more three) r s
-runs_on one two three ((step, given) ∷ run) more r s = (r.0, r.1, runs_on r.0 two three run more r.2 s)
-
--- a step other than a swap
-abbrev pub NoSwap : WordStep Numbered → Type 0
-NoSwap word.Load = Unit {0}
-NoSwap word.Probe = Unit {0}
-NoSwap (word.Prepare version) = Unit {0}
-NoSwap word.Swap = ⊥
-NoSwap word.Settle = Unit {0}
-NoSwap (word.Release owner) = Unit {0}
-NoSwap (word.Bury owner) = Unit {0}
-NoSwap (word.Free owner) = Unit {0}
-NoSwap (word.Look owner) = Unit {0}
-NoSwap (word.Raise owner) = Unit {0}
-NoSwap (word.Note owner) = Unit {0}
-NoSwap (word.Fade owner) = Unit {0}
-NoSwap (word.Reset owner) = Unit {0}
-
--- it publishes nothing
-load_publishes : (words new : Zones) (event : WordEvent) (cell later : Cell Numbered) → Makes {T = Numbered} words word.Load event new → ShowsStep {T = Numbered} words word.Load event cell later → later.published ≡ cell.published
-load_publishes words new event cell later (number, found, few, told_is, new_is) s =
-    let shown = subst (λ e. ShowsStep {T = Numbered} words word.Load e cell later) told_is s in
-    ap (λ (c : Cell Numbered). c.published) shown.3
-
-bury_publishes : (words new : Zones) (owner : ℕ) (event : WordEvent) (cell later : Cell Numbered) → Makes {T = Numbered} words (word.Bury owner) event new → ShowsStep {T = Numbered} words (word.Bury owner) event cell later → later.published ≡ cell.published
-bury_publishes words new owner event cell later (place, there, seat, found, m) s =
-    elim (cases_Bool (there.shares == 0)) [
-      | inl none ↦ (
-          let h = rw none at m in
-          let shown = subst (λ e. ShowsStep {T = Numbered} words (word.Bury owner) e cell later) h.2 s in
-          ap (λ (c : Cell Numbered). c.published) shown.4
-          )
-      | inr some ↦ (
-          let h = rw some at m in
-          let shown = subst (λ e. ShowsStep {T = Numbered} words (word.Bury owner) e cell later) h.0 s in
-          ap (λ (c : Cell Numbered). c.published) shown
-          )
-    ]
-
-weak_publishes : (words : Zones) (step : WordStep Numbered) (event : WordEvent) (cell later : Cell Numbered) → OfWeak step → ShowsStep words step event cell later → later.published ≡ cell.published
-weak_publishes words step event cell later of s = (weak_quiet words step event cell later of s).0
-
-pub publishes_nothing : (words new : Zones) (step : WordStep Numbered) (event : WordEvent) (cell later : Cell Numbered) → NoSwap step → Makes words step event new → ShowsStep words step event cell later → later.published ≡ cell.published
-publishes_nothing words new word.Load event cell later apart m s = load_publishes words new event cell later m s
-publishes_nothing words new word.Probe event cell later apart m s = ap (λ (c : Cell Numbered). c.published) s
-publishes_nothing words new (word.Prepare version) event cell later apart m s = ap (λ (c : Cell Numbered). c.published) s
-publishes_nothing words new word.Swap event cell later apart m s = absurd apart
-publishes_nothing words new word.Settle event cell later apart m s = ap (λ (c : Cell Numbered). c.published) s
-publishes_nothing words new (word.Release owner) event cell later apart m s = ap (λ (c : Cell Numbered). c.published) s.3.2
-publishes_nothing words new (word.Bury owner) event cell later apart m s = bury_publishes words new owner event cell later m s
-publishes_nothing words new (word.Free owner) event cell later apart m s = ap (λ (c : Cell Numbered). c.published) s
-publishes_nothing words new (word.Look owner) event cell later apart m s = weak_publishes words (word.Look owner) event cell later tt s
-publishes_nothing words new (word.Raise owner) event cell later apart m s = weak_publishes words (word.Raise owner) event cell later tt s
-publishes_nothing words new (word.Note owner) event cell later apart m s = weak_publishes words (word.Note owner) event cell later tt s
-publishes_nothing words new (word.Fade owner) event cell later apart m s = weak_publishes words (word.Fade owner) event cell later tt s
-publishes_nothing words new (word.Reset owner) event cell later apart m s = weak_publishes words (word.Reset owner) event cell later tt s
-
-pub tells_same : (S : Script) (first : List Record) (words new : Zones) (us : List Placed) (step : WordStep Numbered) (event : WordEvent) → NoSwap step → Makes words step event new → Tells S first words us → Tells S first new us
-tells_same S first words new us step event apart m t =
-    let shown = step_shows words new step event t.cell t.shows m in
-    let short = step_runs words step event t.cell shown.0 shown.1 in
-    record {
-      cell = shown.0;
-      steps = t.steps ++ short.steps;
-      runs = runs_on (cell_start (first_version first)) t.cell shown.0 t.steps short.steps t.runs short.runs;
-      shows = shown.2;
-      replays = subst (λ p. AreReplays (Ever S) first p (updates_in us)) (sym (publishes_nothing words new step event t.cell shown.0 apart m shown.1)) t.replays;
-      in_turn = t.in_turn;
-    }
-
--- an update's version lies in the slot that the publisher is to swap in
-pub record SwapsNext (S : Script) (first : List Record) (us : List Placed) (words : Zones) : Type 0 where
-  pub place : ℕ
-  pub number : ℕ
-  pub version : Numbered
-  pub publisher : words.publisher ≡ Swapping place
-  pub there : version_in words place ≡ Some (record { number = number; value = version })
-  pub is_next : IsNext S first us version
-
-same_place : (words : Zones) (one two : ℕ) → words.publisher ≡ Swapping one → words.publisher ≡ Swapping two → one ≡ two
-same_place words one two a b = let e : Swapping one ≡ Swapping two = sym a ∙ b in cc
-
-abbrev value_or : Numbered → Option (Version Numbered) → Numbered
-value_or other None = other
-value_or other (Some version) = version.value
-
-same_value : (words : Zones) (place number other : ℕ) (one two : Numbered) → version_in words place ≡ Some (record { number = number; value = one }) → version_in words place ≡ Some (record { number = other; value = two }) → one ≡ two
-same_value words place number other one two a b =
-    ap (value_or one) (sym a ∙ b)
-
-tells_swapped : (S : Script) (first : List Record) (words new : Zones) (us : List Placed) (event : WordEvent) → (n : SwapsNext S first us words) → Makes {T = Numbered} words word.Swap event new → Tells S first words us → Tells S first new (us ++ placed_next S first us n.version n.is_next ∷ [])
-unfolding ever_makes
-tells_swapped S first words new us event n m t =
-    let shown = step_shows words new word.Swap event t.cell t.shows m in
-    let short = step_runs {T = Numbered} words word.Swap event t.cell shown.0 shown.1 in
-    let (place, last, is, within, number, told_is, new_is) = m in
-    let s = subst (λ e. ShowsStep {T = Numbered} words word.Swap e t.cell shown.0) told_is shown.1 in
-    let here : s.1.0 ≡ n.place = same_place words s.1.0 n.place s.1.2 n.publisher in
-    let value : n.version ≡ s.0 = same_value words n.place n.number s.1.1 n.version s.0 n.there (ap (version_in words) (sym here) ∙ s.1.3) in
-    let published : shown.0.published ≡ t.cell.published ++ n.version ∷ [] = ap (λ (c : Cell Numbered). c.published) s.2.3 ∙ ap (λ v. t.cell.published ++ v ∷ []) (sym value) in
-    record {
-      cell = shown.0;
-      steps = t.steps ++ short.steps;
-      runs = runs_on (cell_start (first_version first)) t.cell shown.0 t.steps short.steps t.runs short.runs;
-      shows = shown.2;
-      replays = subst (λ p. AreReplays (Ever S) first p (updates_in (us ++ placed_next S first us n.version n.is_next ∷ []))) (sym published)
-          (subst (λ l. AreReplays (Ever S) first (t.cell.published ++ n.version ∷ []) l) (sym (map-append (λ (one : Placed). one.update) us (placed_next S first us n.version n.is_next ∷ [])))
-          (replays_more (Ever S) first t.cell.published (updates_in us) n.version (ever_makes S n.is_next.place first (updates_in us) n.version n.is_next.makes) t.replays));
-      in_turn = (let a = n.is_next.makes.accepted in in_turn_more S us (placed_next S first us n.version n.is_next) n.is_next.fresh (a.request, a.sent, a.read) t.in_turn);
-    }
-
--- what a call under way is about to publish
+-- what a call under way is about to publish, and with which serial it enters that
 abbrev pub Coherent : Script → List Record → List Placed → Zones → Phase → Type 0
 Coherent S first us words (phase.Load name) = Unit {0}
 Coherent S first us words (phase.Look name owner) = Unit {0}
@@ -320,19 +72,26 @@ Coherent S first us words (phase.Seek owner seeking) = Unit {0}
 Coherent S first us words (phase.Gain owner seeking) = Unit {0}
 Coherent S first us words (phase.Raise name owner) = Unit {0}
 Coherent S first us words (phase.Note name owner) = Unit {0}
-Coherent S first us words (phase.Probe version keeping) = IsNext S first us version
-Coherent S first us words (phase.Prepare version keeping) = IsNext S first us version
-Coherent S first us words (phase.Swap keeping) = SwapsNext S first us words
-Coherent S first us words (phase.Settle keeping) = Unit {0}
-Coherent S first us words (phase.Keep given keeping) = Unit {0}
-Coherent S first us words (phase.Enter given kept keeping) = Unit {0}
-Coherent S first us words (phase.Release owner for) = Unit {0}
-Coherent S first us words (phase.Bury owner for) = Unit {0}
-Coherent S first us words (phase.Fade owner number for) = Unit {0}
-Coherent S first us words (phase.Reset owner number for) = Unit {0}
-Coherent S first us words (phase.Free owner number for) = Unit {0}
+Coherent S first us words (phase.Probe version keeping) = IsNext S first us version × EntersAs keeping.enters (zone_serial version.zone)
+Coherent S first us words (phase.Prepare version keeping) = IsNext S first us version × EntersAs keeping.enters (zone_serial version.zone)
+Coherent S first us words (phase.Swap keeping) = (n : SwapsNext S first us words) × EntersAs keeping.enters (zone_serial n.version.zone)
+Coherent S first us words (phase.Settle keeping) = EntersAs keeping.enters (last_serial first us)
+Coherent S first us words (phase.Keep given keeping) = EntersAs keeping.enters (last_serial first us)
+Coherent S first us words (phase.Enter given kept keeping) = EntersAs keeping.enters (last_serial first us)
+Coherent S first us words (phase.Release owner for) = CoherentFor first us for
+Coherent S first us words (phase.Bury owner for) = CoherentFor first us for
+Coherent S first us words (phase.Fade owner number for) = CoherentFor first us for
+Coherent S first us words (phase.Reset owner number for) = CoherentFor first us for
+Coherent S first us words (phase.Free owner number for) = CoherentFor first us for
 
 -- a call that is no update is about to publish nothing
+no_update_for : (first : List Record) (us : List Placed) (for : Purpose) → is_for_update for ≡ false → CoherentFor first us for
+no_update_for first us purpose.Drop e = tt
+no_update_for first us (purpose.Publish keeping kept entry) e = absurd (let wrong = e in cc)
+no_update_for first us (purpose.Oldest head kept entry leaving) e = absurd (let wrong = e in cc)
+no_update_for first us (purpose.Leaves head kept entry leaving) e = absurd (let wrong = e in cc)
+no_update_for first us (purpose.Sent sending owners) e = tt
+
 pub no_update : (S : Script) (first : List Record) (us : List Placed) (words : Zones) (at : Phase) → updates at ≡ false → Coherent S first us words at
 no_update S first us words (phase.Load name) e = tt
 no_update S first us words (phase.Look name owner) e = tt
@@ -343,14 +102,14 @@ no_update S first us words (phase.Note name owner) e = tt
 no_update S first us words (phase.Probe version keeping) e = absurd (let wrong = e in cc)
 no_update S first us words (phase.Prepare version keeping) e = absurd (let wrong = e in cc)
 no_update S first us words (phase.Swap keeping) e = absurd (let wrong = e in cc)
-no_update S first us words (phase.Settle keeping) e = tt
-no_update S first us words (phase.Keep given keeping) e = tt
-no_update S first us words (phase.Enter given kept keeping) e = tt
-no_update S first us words (phase.Release owner for) e = tt
-no_update S first us words (phase.Bury owner for) e = tt
-no_update S first us words (phase.Fade owner number for) e = tt
-no_update S first us words (phase.Reset owner number for) e = tt
-no_update S first us words (phase.Free owner number for) e = tt
+no_update S first us words (phase.Settle keeping) e = absurd (let wrong = e in cc)
+no_update S first us words (phase.Keep given keeping) e = absurd (let wrong = e in cc)
+no_update S first us words (phase.Enter given kept keeping) e = absurd (let wrong = e in cc)
+no_update S first us words (phase.Release owner for) e = no_update_for first us for e
+no_update S first us words (phase.Bury owner for) e = no_update_for first us for e
+no_update S first us words (phase.Fade owner number for) e = no_update_for first us for e
+no_update S first us words (phase.Reset owner number for) e = no_update_for first us for e
+no_update S first us words (phase.Free owner number for) e = no_update_for first us for e
 
 -- an owner's step, or a load
 abbrev pub OfOwner : WordStep Numbered → Type 0
@@ -394,76 +153,82 @@ not_buried words cell place at there s publisher found none e =
 swaps_kept : (S : Script) (first : List Record) (us : List Placed) (words new : Zones) → new.publisher ≡ words.publisher → ((place : ℕ) → words.publisher ≡ Swapping place → version_in new place ≡ version_in words place) → SwapsNext S first us words → SwapsNext S first us new
 swaps_kept S first us words new same there n = record { place = n.place; number = n.number; version = n.version; publisher = same ∙ n.publisher; there = there n.place n.publisher ∙ n.there; is_next = n.is_next }
 
-bury_keeps_swap : (S : Script) (first : List Record) (us : List Placed) (words new : Zones) (cell : Cell Numbered) (owner : ℕ) (event : WordEvent) → Shows words cell → Makes {T = Numbered} words (word.Bury owner) event new → SwapsNext S first us words → SwapsNext S first us new
-bury_keeps_swap S first us words new cell owner event s (at, there, seat, found, m) n =
+-- the publisher has come no further, and what it is to swap in lies there still
+abbrev StillThere : Zones → Zones → Type 0
+StillThere words new = (new.publisher ≡ words.publisher) × ((place : ℕ) → words.publisher ≡ Swapping place → version_in new place ≡ version_in words place)
+
+bury_keeps_swap : (words new : Zones) (cell : Cell Numbered) (owner : ℕ) (event : WordEvent) → Shows words cell → Makes {T = Numbered} words (word.Bury owner) event new → StillThere words new
+bury_keeps_swap words new cell owner event s (at, there, seat, found, m) =
     elim (eqb_tells there.shares 0) [
       | inl none ↦ (
           let h = rw none.0 at m in
-          let table_is : new.table ≡ slice_set words.table at (with_shares dead_word (with_version None there)) = ap (λ (w : Zones). w.table) h.3 in
-          swaps_kept S first us words new (ap (λ (w : Zones). w.publisher) h.3)
-          (λ place publisher. let apart = not_buried words cell place at there s publisher found none.1 in
-          ap (λ t. option_and_then (λ (x : Slot Numbered). x.version) (slice_get t place)) table_is ∙ ap (option_and_then (λ (x : Slot Numbered). x.version)) (get_set_other words.table at place _ apart)) n
+          let table_is : new.table ≡ slice_set words.table at (with_shares dead_word (with_version None there)) = ap (λ (w : Zones). w.table) h.3 in (
+            (ap (λ (w : Zones). w.publisher) h.3),
+            λ place publisher. let apart = not_buried words cell place at there s publisher found none.1 in
+                ap (λ t. option_and_then (λ (x : Slot Numbered). x.version) (slice_get t place)) table_is ∙ ap (option_and_then (λ (x : Slot Numbered). x.version)) (get_set_other words.table at place _ apart),
+          )
           )
       | inr some ↦ (
           let h = rw some.0 at m in
-          swaps_kept S first us words new (ap (λ (w : Zones). w.publisher) h.1) (λ place publisher. ap (λ (w : Zones). version_in w place) h.1) n
+          ((ap (λ (w : Zones). w.publisher) h.1), λ place publisher. ap (λ (w : Zones). version_in w place) h.1)
           )
     ]
 
-release_keeps_swap : (S : Script) (first : List Record) (us : List Placed) (words new : Zones) (owner : ℕ) (event : WordEvent) → Makes {T = Numbered} words (word.Release owner) event new → SwapsNext S first us words → SwapsNext S first us new
-release_keeps_swap S first us words new owner event (number, at, there, seat, found, m) n =
+release_keeps_swap : (words new : Zones) (owner : ℕ) (event : WordEvent) → Makes {T = Numbered} words (word.Release owner) event new → StillThere words new
+release_keeps_swap words new owner event (number, at, there, seat, found, m) =
     elim (cases_Bool (fetch_sub there.shares 1 == 0)) [
       | inl none ↦ (
           let h = rw none at m in
-          swaps_kept S first us words new (ap (λ (w : Zones). w.publisher) h.1) (λ place publisher. version_stays words new place at there (with_shares 0 there) found (ap (λ (w : Zones). w.table) h.1) refl) n
+          ((ap (λ (w : Zones). w.publisher) h.1), λ place publisher. version_stays words new place at there (with_shares 0 there) found (ap (λ (w : Zones). w.table) h.1) refl)
           )
       | inr some ↦ (
           let h = rw some at m in
-          swaps_kept S first us words new (ap (λ (w : Zones). w.publisher) h.1) (λ place publisher. version_stays words new place at there (with_shares (fetch_sub there.shares 1) there) found (ap (λ (w : Zones). w.table) h.1) refl) n
+          ((ap (λ (w : Zones). w.publisher) h.1), λ place publisher. version_stays words new place at there (with_shares (fetch_sub there.shares 1) there) found (ap (λ (w : Zones). w.table) h.1) refl)
           )
     ]
 
-look_keeps_swap : (S : Script) (first : List Record) (us : List Placed) (words new : Zones) (owner : ℕ) (event : WordEvent) → Makes {T = Numbered} words (word.Look owner) event new → SwapsNext S first us words → SwapsNext S first us new
-look_keeps_swap S first us words new owner event (number, at, there, own, found, m) n =
+look_keeps_swap : (words new : Zones) (owner : ℕ) (event : WordEvent) → Makes {T = Numbered} words (word.Look owner) event new → StillThere words new
+look_keeps_swap words new owner event (number, at, there, own, found, m) =
     elim (cases_Bool (nat_lt there.shares dead_word)) [
-      | inl little ↦ (let h = rw little at m in swaps_kept S first us words new (ap (λ (w : Zones). w.publisher) h.1) (λ place publisher. ap (λ (w : Zones). version_in w place) h.1) n)
-      | inr great ↦ (let h = rw great at m in swaps_kept S first us words new (ap (λ (w : Zones). w.publisher) h.1) (λ place publisher. ap (λ (w : Zones). version_in w place) h.1) n)
+      | inl little ↦ (let h = rw little at m in ((ap (λ (w : Zones). w.publisher) h.1), (λ place publisher. ap (λ (w : Zones). version_in w place) h.1)))
+      | inr great ↦ (let h = rw great at m in ((ap (λ (w : Zones). w.publisher) h.1), (λ place publisher. ap (λ (w : Zones). version_in w place) h.1)))
     ]
 
-raise_keeps_swap : (S : Script) (first : List Record) (us : List Placed) (words new : Zones) (owner : ℕ) (event : WordEvent) → Makes {T = Numbered} words (word.Raise owner) event new → SwapsNext S first us words → SwapsNext S first us new
-raise_keeps_swap S first us words new owner event (number, at, there, own, found, room, m) n =
+raise_keeps_swap : (words new : Zones) (owner : ℕ) (event : WordEvent) → Makes {T = Numbered} words (word.Raise owner) event new → StillThere words new
+raise_keeps_swap words new owner event (number, at, there, own, found, room, m) =
     elim (cases_Bool (nat_lt there.shares dead_word)) [
-      | inl little ↦ (let h = rw little at m in swaps_kept S first us words new (ap (λ (w : Zones). w.publisher) h.1) (λ place publisher. version_stays words new place at there (with_shares (fetch_add there.shares 1) there) found (ap (λ (w : Zones). w.table) h.1) refl) n)
-      | inr great ↦ (let h = rw great at m in swaps_kept S first us words new (ap (λ (w : Zones). w.publisher) h.1) (λ place publisher. version_stays words new place at there (with_shares (fetch_add there.shares 1) there) found (ap (λ (w : Zones). w.table) h.1) refl) n)
+      | inl little ↦ (let h = rw little at m in ((ap (λ (w : Zones). w.publisher) h.1), (λ place publisher. version_stays words new place at there (with_shares (fetch_add there.shares 1) there) found (ap (λ (w : Zones). w.table) h.1) refl)))
+      | inr great ↦ (let h = rw great at m in ((ap (λ (w : Zones). w.publisher) h.1), (λ place publisher. version_stays words new place at there (with_shares (fetch_add there.shares 1) there) found (ap (λ (w : Zones). w.table) h.1) refl)))
     ]
 
-fade_keeps_swap : (S : Script) (first : List Record) (us : List Placed) (words new : Zones) (owner : ℕ) (event : WordEvent) → Makes {T = Numbered} words (word.Fade owner) event new → SwapsNext S first us words → SwapsNext S first us new
-fade_keeps_swap S first us words new owner event (at, there, fades, found, m) n =
+fade_keeps_swap : (words new : Zones) (owner : ℕ) (event : WordEvent) → Makes {T = Numbered} words (word.Fade owner) event new → StillThere words new
+fade_keeps_swap words new owner event (at, there, fades, found, m) =
     elim (cases_Bool (fetch_sub there.weak 1 == 0)) [
-      | inl none ↦ (let h = rw none at m in swaps_kept S first us words new (ap (λ (w : Zones). w.publisher) h.1) (λ place publisher. version_stays words new place at there (with_weak_word 0 there) found (ap (λ (w : Zones). w.table) h.1) refl) n)
-      | inr some ↦ (let h = rw some at m in swaps_kept S first us words new (ap (λ (w : Zones). w.publisher) h.1) (λ place publisher. version_stays words new place at there (with_weak_word (fetch_sub there.weak 1) there) found (ap (λ (w : Zones). w.table) h.1) refl) n)
+      | inl none ↦ (let h = rw none at m in ((ap (λ (w : Zones). w.publisher) h.1), (λ place publisher. version_stays words new place at there (with_weak_word 0 there) found (ap (λ (w : Zones). w.table) h.1) refl)))
+      | inr some ↦ (let h = rw some at m in ((ap (λ (w : Zones). w.publisher) h.1), (λ place publisher. version_stays words new place at there (with_weak_word (fetch_sub there.weak 1) there) found (ap (λ (w : Zones). w.table) h.1) refl)))
     ]
 
-owner_keeps_swap : (S : Script) (first : List Record) (us : List Placed) (words new : Zones) (cell : Cell Numbered) (step : WordStep Numbered) (event : WordEvent) → OfOwner step → Shows words cell → Makes words step event new → SwapsNext S first us words → SwapsNext S first us new
-owner_keeps_swap S first us words new cell word.Load event of s (number, found, few, told_is, new_is) n =
-    swaps_kept S first us words new (ap (λ (w : Zones). w.publisher) new_is) (λ place publisher. ap (λ (w : Zones). version_in w place) new_is) n
-owner_keeps_swap S first us words new cell word.Probe event of s m n = absurd of
-owner_keeps_swap S first us words new cell (word.Prepare version) event of s m n = absurd of
-owner_keeps_swap S first us words new cell word.Swap event of s m n = absurd of
-owner_keeps_swap S first us words new cell word.Settle event of s m n = absurd of
-owner_keeps_swap S first us words new cell (word.Release owner) event of s m n = release_keeps_swap S first us words new owner event m n
-owner_keeps_swap S first us words new cell (word.Bury owner) event of s m n = bury_keeps_swap S first us words new cell owner event s m n
-owner_keeps_swap S first us words new cell (word.Free owner) event of s (at, there, seat, found, told_is, new_is) n =
-    swaps_kept S first us words new (ap (λ (w : Zones). w.publisher) new_is) (λ place publisher. version_stays words new place at there (with_shares free_word there) found (ap (λ (w : Zones). w.table) new_is) refl) n
-owner_keeps_swap S first us words new cell (word.Look owner) event of s m n = look_keeps_swap S first us words new owner event m n
-owner_keeps_swap S first us words new cell (word.Raise owner) event of s m n = raise_keeps_swap S first us words new owner event m n
-owner_keeps_swap S first us words new cell (word.Note owner) event of s (number, at, there, seat, found, room, told_is, new_is) n =
-    swaps_kept S first us words new (ap (λ (w : Zones). w.publisher) new_is) (λ place publisher. version_stays words new place at there (with_weak_word (fetch_add there.weak 1) there) found (ap (λ (w : Zones). w.table) new_is) refl) n
-owner_keeps_swap S first us words new cell (word.Fade owner) event of s m n = fade_keeps_swap S first us words new owner event m n
-owner_keeps_swap S first us words new cell (word.Reset owner) event of s (at, there, seat, found, told_is, new_is) n =
-    swaps_kept S first us words new (ap (λ (w : Zones). w.publisher) new_is) (λ place publisher. version_stays words new place at there (with_weak_word 1 there) found (ap (λ (w : Zones). w.table) new_is) refl) n
+owner_keeps_swap : (words new : Zones) (cell : Cell Numbered) (step : WordStep Numbered) (event : WordEvent) → OfOwner step → Shows words cell → Makes words step event new → StillThere words new
+owner_keeps_swap words new cell word.Load event of s (number, found, few, told_is, new_is) =
+    ((ap (λ (w : Zones). w.publisher) new_is), λ place publisher. ap (λ (w : Zones). version_in w place) new_is)
+owner_keeps_swap words new cell word.Probe event of s m = absurd of
+owner_keeps_swap words new cell (word.Prepare version) event of s m = absurd of
+owner_keeps_swap words new cell word.Swap event of s m = absurd of
+owner_keeps_swap words new cell word.Settle event of s m = absurd of
+owner_keeps_swap words new cell (word.Release owner) event of s m = release_keeps_swap words new owner event m
+owner_keeps_swap words new cell (word.Bury owner) event of s m = bury_keeps_swap words new cell owner event s m
+owner_keeps_swap words new cell (word.Free owner) event of s (at, there, seat, found, told_is, new_is) =
+    ((ap (λ (w : Zones). w.publisher) new_is), λ place publisher. version_stays words new place at there (with_shares free_word there) found (ap (λ (w : Zones). w.table) new_is) refl)
+owner_keeps_swap words new cell (word.Look owner) event of s m = look_keeps_swap words new owner event m
+owner_keeps_swap words new cell (word.Raise owner) event of s m = raise_keeps_swap words new owner event m
+owner_keeps_swap words new cell (word.Note owner) event of s (number, at, there, seat, found, room, told_is, new_is) =
+    ((ap (λ (w : Zones). w.publisher) new_is), λ place publisher. version_stays words new place at there (with_weak_word (fetch_add there.weak 1) there) found (ap (λ (w : Zones). w.table) new_is) refl)
+owner_keeps_swap words new cell (word.Fade owner) event of s m = fade_keeps_swap words new owner event m
+owner_keeps_swap words new cell (word.Reset owner) event of s (at, there, seat, found, told_is, new_is) =
+    ((ap (λ (w : Zones). w.publisher) new_is), λ place publisher. version_stays words new place at there (with_weak_word 1 there) found (ap (λ (w : Zones). w.table) new_is) refl)
 
 owner_keeps : (S : Script) (first : List Record) (us : List Placed) (words new : Zones) (cell : Cell Numbered) (step : WordStep Numbered) (event : WordEvent) (other : Phase) → OfOwner step → Shows words cell → Makes words step event new → Coherent S first us words other → Coherent S first us new other
+unfolding swaps_kept
 owner_keeps S first us words new cell step event (phase.Load name) of s m c = tt
 owner_keeps S first us words new cell step event (phase.Look name owner) of s m c = tt
 owner_keeps S first us words new cell step event (phase.Seek owner seeking) of s m c = tt
@@ -472,18 +237,18 @@ owner_keeps S first us words new cell step event (phase.Raise name owner) of s m
 owner_keeps S first us words new cell step event (phase.Note name owner) of s m c = tt
 owner_keeps S first us words new cell step event (phase.Probe version keeping) of s m c = c
 owner_keeps S first us words new cell step event (phase.Prepare version keeping) of s m c = c
-owner_keeps S first us words new cell step event (phase.Swap keeping) of s m c = owner_keeps_swap S first us words new cell step event of s m c
-owner_keeps S first us words new cell step event (phase.Settle keeping) of s m c = tt
-owner_keeps S first us words new cell step event (phase.Keep given keeping) of s m c = tt
-owner_keeps S first us words new cell step event (phase.Enter given kept keeping) of s m c = tt
-owner_keeps S first us words new cell step event (phase.Release owner for) of s m c = tt
-owner_keeps S first us words new cell step event (phase.Bury owner for) of s m c = tt
-owner_keeps S first us words new cell step event (phase.Fade owner number for) of s m c = tt
-owner_keeps S first us words new cell step event (phase.Reset owner number for) of s m c = tt
-owner_keeps S first us words new cell step event (phase.Free owner number for) of s m c = tt
+owner_keeps S first us words new cell step event (phase.Swap keeping) of s m c = (let k = owner_keeps_swap words new cell step event of s m in (swaps_kept S first us words new k.0 k.1 c.0, c.1))
+owner_keeps S first us words new cell step event (phase.Settle keeping) of s m c = c
+owner_keeps S first us words new cell step event (phase.Keep given keeping) of s m c = c
+owner_keeps S first us words new cell step event (phase.Enter given kept keeping) of s m c = c
+owner_keeps S first us words new cell step event (phase.Release owner for) of s m c = c
+owner_keeps S first us words new cell step event (phase.Bury owner for) of s m c = c
+owner_keeps S first us words new cell step event (phase.Fade owner number for) of s m c = c
+owner_keeps S first us words new cell step event (phase.Reset owner number for) of s m c = c
+owner_keeps S first us words new cell step event (phase.Free owner number for) of s m c = c
 
 -- a call that is no update takes such steps
-of_owner : (at : Phase) → updates at ≡ false → OfOwner (word_step at)
+pub of_owner : (at : Phase) → updates at ≡ false → OfOwner (word_step at)
 of_owner (phase.Load name) e = tt
 of_owner (phase.Look name owner) e = tt
 of_owner (phase.Seek owner seeking) e = tt
@@ -502,7 +267,7 @@ of_owner (phase.Fade owner number for) e = tt
 of_owner (phase.Reset owner number for) e = tt
 of_owner (phase.Free owner number for) e = tt
 
-owner_no_swap : (step : WordStep Numbered) → OfOwner step → NoSwap step
+pub owner_no_swap : (step : WordStep Numbered) → OfOwner step → NoSwap step
 owner_no_swap word.Load of = tt
 owner_no_swap word.Probe of = absurd of
 owner_no_swap (word.Prepare version) of = absurd of
@@ -518,28 +283,36 @@ owner_no_swap (word.Fade owner) of = tt
 owner_no_swap (word.Reset owner) of = tt
 
 -- what follows on a step of a call is of the same kind, and about to publish the same
+abbrev pub EndsAs : List Record → List Placed → End → Type 0
+EndsAs first us (Owned name owner number) = Unit {0}
+EndsAs first us (OwnedWeakly name owner number) = Unit {0}
+EndsAs first us (Told given) = Unit {0}
+EndsAs first us (NoSlot head) = Unit {0}
+EndsAs first us (Kept head owner entry) = EntersAs (serial_of_entry entry) (last_serial first us)
+EndsAs first us (Sent sending) = Unit {0}
+
 abbrev pub Follows : Script → List Record → List Placed → Zones → Bool → Progress → Type 0
 Follows S first us words kind (On next) = Coherent S first us words next × (updates next ≡ kind)
-Follows S first us words kind (Done end) = Unit {0}
+Follows S first us words kind (Done end) = EndsAs first us end
 
-leaving_follows : (S : Script) (first : List Record) (us : List Placed) (words : Zones) (head : Heading) (kept : ℕ) (entry : Option Entry) (leaving : List ℕ) → Follows S first us words true (leaving_after head kept entry leaving)
-leaving_follows S first us words head kept entry [] = tt
-leaving_follows S first us words head kept entry (owner ∷ leaving) = (tt, refl)
+leaving_follows : (S : Script) (first : List Record) (us : List Placed) (words : Zones) (head : Heading) (kept : ℕ) (entry : Option Entry) (leaving : List ℕ) → EntersAs (serial_of_entry entry) (last_serial first us) → Follows S first us words true (leaving_after head kept entry leaving)
+leaving_follows S first us words head kept entry [] c = c
+leaving_follows S first us words head kept entry (owner ∷ leaving) c = (c, refl)
 
-oldest_follows : (S : Script) (first : List Record) (us : List Placed) (words : Zones) (head : Heading) (kept : ℕ) (entry : Option Entry) (leaving : List ℕ) (oldest : Option ℕ) → Follows S first us words true (oldest_after head kept entry leaving oldest)
-oldest_follows S first us words head kept entry leaving None = leaving_follows S first us words head kept entry leaving
-oldest_follows S first us words head kept entry leaving (Some owner) = (tt, refl)
+oldest_follows : (S : Script) (first : List Record) (us : List Placed) (words : Zones) (head : Heading) (kept : ℕ) (entry : Option Entry) (leaving : List ℕ) (oldest : Option ℕ) → EntersAs (serial_of_entry entry) (last_serial first us) → Follows S first us words true (oldest_after head kept entry leaving oldest)
+oldest_follows S first us words head kept entry leaving None c = leaving_follows S first us words head kept entry leaving c
+oldest_follows S first us words head kept entry leaving (Some owner) c = (c, refl)
 
 sent_follows : (S : Script) (first : List Record) (us : List Placed) (words : Zones) (sending : Sending) (got : List ℕ) → Follows S first us words false (sent_after sending got)
 sent_follows S first us words sending [] = tt
 sent_follows S first us words sending (owner ∷ got) = (tt, refl)
 
-past_follows : (S : Script) (first : List Record) (us : List Placed) (words : Zones) (owner : ℕ) (for : Purpose) (given : Answer) → Follows S first us words (updates (phase.Release owner for)) (past for given)
-past_follows S first us words owner purpose.Drop given = tt
-past_follows S first us words owner (purpose.Publish keeping kept entry) given = oldest_follows S first us words keeping.heading kept entry keeping.leaving keeping.oldest
-past_follows S first us words owner (purpose.Oldest head kept entry leaving) given = leaving_follows S first us words head kept entry leaving
-past_follows S first us words owner (purpose.Leaves head kept entry leaving) given = leaving_follows S first us words head kept entry leaving
-past_follows S first us words owner (purpose.Sent sending got) given = sent_follows S first us words sending got
+past_follows : (S : Script) (first : List Record) (us : List Placed) (words : Zones) (owner : ℕ) (for : Purpose) (given : Answer) → CoherentFor first us for → Follows S first us words (updates (phase.Release owner for)) (past for given)
+past_follows S first us words owner purpose.Drop given c = tt
+past_follows S first us words owner (purpose.Publish keeping kept entry) given c = oldest_follows S first us words keeping.heading kept entry keeping.leaving keeping.oldest c
+past_follows S first us words owner (purpose.Oldest head kept entry leaving) given c = leaving_follows S first us words head kept entry leaving c
+past_follows S first us words owner (purpose.Leaves head kept entry leaving) given c = leaving_follows S first us words head kept entry leaving c
+past_follows S first us words owner (purpose.Sent sending got) given c = sent_follows S first us words sending got
 
 load_follows : (S : Script) (first : List Record) (us : List Placed) (words : Zones) (name : List ℕ) (event : WordEvent) → Follows S first us words false (after words (phase.Load name) event)
 load_follows S first us words name (told.Loaded owner number) = tt
@@ -576,7 +349,7 @@ note_follows : (S : Script) (first : List Record) (us : List Placed) (words : Zo
 note_follows S first us words name owner (told.Noted next number) = tt
 note_follows S first us words name owner event = (tt, refl)
 
-probe_follows : (S : Script) (first : List Record) (us : List Placed) (words : Zones) (version : Numbered) (keeping : Keeping) → IsNext S first us version → (event : WordEvent) → Follows S first us words true (after words (phase.Probe version keeping) event)
+probe_follows : (S : Script) (first : List Record) (us : List Placed) (words : Zones) (version : Numbered) (keeping : Keeping) → IsNext S first us version × EntersAs keeping.enters (zone_serial version.zone) → (event : WordEvent) → Follows S first us words true (after words (phase.Probe version keeping) event)
 probe_follows S first us words version keeping n (told.Loaded owner number) = (n, refl)
 probe_follows S first us words version keeping n told.Passed = (n, refl)
 probe_follows S first us words version keeping n told.Taken = (n, refl)
@@ -597,39 +370,43 @@ probe_follows S first us words version keeping n told.Faded = (n, refl)
 probe_follows S first us words version keeping n told.Closed = (n, refl)
 probe_follows S first us words version keeping n told.Restored = (n, refl)
 
-settle_follows : (S : Script) (first : List Record) (us : List Placed) (words : Zones) (keeping : Keeping) (event : WordEvent) → Follows S first us words true (after words (phase.Settle keeping) event)
-settle_follows S first us words keeping (told.Loaded owner number) = (tt, refl)
-settle_follows S first us words keeping told.Passed = (tt, refl)
-settle_follows S first us words keeping told.Taken = (tt, refl)
-settle_follows S first us words keeping told.NoSlot = (tt, refl)
-settle_follows S first us words keeping told.Prepared = (tt, refl)
-settle_follows S first us words keeping (told.Swapped number) = (tt, refl)
-settle_follows S first us words keeping (told.Settled owner number) = (tt, refl)
-settle_follows S first us words keeping told.Left = (tt, refl)
-settle_follows S first us words keeping told.Emptied = (tt, refl)
-settle_follows S first us words keeping (told.Buried number) = (tt, refl)
-settle_follows S first us words keeping told.Kept = (tt, refl)
-settle_follows S first us words keeping told.Freed = (tt, refl)
-settle_follows S first us words keeping told.Alive = (tt, refl)
-settle_follows S first us words keeping told.Dead = (tt, refl)
-settle_follows S first us words keeping (told.Raised owner number) = (tt, refl)
-settle_follows S first us words keeping (told.Noted owner number) = (tt, refl)
-settle_follows S first us words keeping told.Faded = (tt, refl)
-settle_follows S first us words keeping told.Closed = (tt, refl)
-settle_follows S first us words keeping told.Restored = (tt, refl)
+settle_follows : (S : Script) (first : List Record) (us : List Placed) (words : Zones) (keeping : Keeping) → EntersAs keeping.enters (last_serial first us) → (event : WordEvent) → Follows S first us words true (after words (phase.Settle keeping) event)
+settle_follows S first us words keeping c (told.Loaded owner number) = (c, refl)
+settle_follows S first us words keeping c told.Passed = (c, refl)
+settle_follows S first us words keeping c told.Taken = (c, refl)
+settle_follows S first us words keeping c told.NoSlot = (c, refl)
+settle_follows S first us words keeping c told.Prepared = (c, refl)
+settle_follows S first us words keeping c (told.Swapped number) = (c, refl)
+settle_follows S first us words keeping c (told.Settled owner number) = (c, refl)
+settle_follows S first us words keeping c told.Left = (c, refl)
+settle_follows S first us words keeping c told.Emptied = (c, refl)
+settle_follows S first us words keeping c (told.Buried number) = (c, refl)
+settle_follows S first us words keeping c told.Kept = (c, refl)
+settle_follows S first us words keeping c told.Freed = (c, refl)
+settle_follows S first us words keeping c told.Alive = (c, refl)
+settle_follows S first us words keeping c told.Dead = (c, refl)
+settle_follows S first us words keeping c (told.Raised owner number) = (c, refl)
+settle_follows S first us words keeping c (told.Noted owner number) = (c, refl)
+settle_follows S first us words keeping c told.Faded = (c, refl)
+settle_follows S first us words keeping c told.Closed = (c, refl)
+settle_follows S first us words keeping c told.Restored = (c, refl)
 
-entered_follows : (S : Script) (first : List Record) (us : List Placed) (words : Zones) (given : ℕ) (keeping : Keeping) (owner : ℕ) (enters : Bool)
+entered_follows : (S : Script) (first : List Record) (us : List Placed) (words : Zones) (given : ℕ) (keeping : Keeping) (owner : ℕ) (enters : Bool) → EntersAs keeping.enters (last_serial first us)
     → Follows S first us words true (if enters then On (phase.Enter given owner keeping) else On (phase.Release given (purpose.Publish keeping owner None)))
-entered_follows S first us words given keeping owner true = (tt, refl)
-entered_follows S first us words given keeping owner false = (tt, refl)
+entered_follows S first us words given keeping owner true c = (c, refl)
+entered_follows S first us words given keeping owner false c = (tt, refl)
 
-keep_follows : (S : Script) (first : List Record) (us : List Placed) (words : Zones) (given : ℕ) (keeping : Keeping) (event : WordEvent) → Follows S first us words true (after words (phase.Keep given keeping) event)
-keep_follows S first us words given keeping (told.Loaded owner number) = entered_follows S first us words given keeping owner (is_some keeping.enters)
-keep_follows S first us words given keeping event = (tt, refl)
+keep_follows : (S : Script) (first : List Record) (us : List Placed) (words : Zones) (given : ℕ) (keeping : Keeping) → EntersAs keeping.enters (last_serial first us) → (event : WordEvent) → Follows S first us words true (after words (phase.Keep given keeping) event)
+keep_follows S first us words given keeping c (told.Loaded owner number) = entered_follows S first us words given keeping owner (is_some keeping.enters) c
+keep_follows S first us words given keeping c event = (c, refl)
 
-enter_follows : (S : Script) (first : List Record) (us : List Placed) (words : Zones) (given kept : ℕ) (keeping : Keeping) (event : WordEvent) → Follows S first us words true (after words (phase.Enter given kept keeping) event)
-enter_follows S first us words given kept keeping (told.Noted owner number) = (tt, refl)
-enter_follows S first us words given kept keeping event = (tt, refl)
+entry_enters : (number owner serial : ℕ) (o : Option Serial) → EntersAs o serial → EntersAs (serial_of_entry (entry_of o number owner)) serial
+entry_enters number owner serial None c = tt
+entry_enters number owner serial (Some entering) c = c
+
+enter_follows : (S : Script) (first : List Record) (us : List Placed) (words : Zones) (given kept : ℕ) (keeping : Keeping) → EntersAs keeping.enters (last_serial first us) → (event : WordEvent) → Follows S first us words true (after words (phase.Enter given kept keeping) event)
+enter_follows S first us words given kept keeping c (told.Noted owner number) = (entry_enters number owner (last_serial first us) keeping.enters c, refl)
+enter_follows S first us words given kept keeping c event = (c, refl)
 
 seek_follows : (S : Script) (first : List Record) (us : List Placed) (words : Zones) (owner : ℕ) (seeking : Seeking) (event : WordEvent) → Follows S first us words false (after words (phase.Seek owner seeking) event)
 seek_follows S first us words owner seeking told.Alive = (tt, refl)
@@ -649,51 +426,51 @@ gain_follows S first us words owner seeking (told.Raised next number) = got_foll
 gain_follows S first us words owner seeking told.Dead = sent_follows S first us words seeking.sending seeking.owners
 gain_follows S first us words owner seeking event = (tt, refl)
 
-release_follows : (S : Script) (first : List Record) (us : List Placed) (words : Zones) (at : ℕ) (for : Purpose) (event : WordEvent) → Follows S first us words (updates (phase.Release at for)) (after words (phase.Release at for) event)
-release_follows S first us words at for (told.Loaded owner number) = past_follows S first us words at for answer.Left
-release_follows S first us words at for told.Passed = past_follows S first us words at for answer.Left
-release_follows S first us words at for told.Taken = past_follows S first us words at for answer.Left
-release_follows S first us words at for told.NoSlot = past_follows S first us words at for answer.Left
-release_follows S first us words at for told.Prepared = past_follows S first us words at for answer.Left
-release_follows S first us words at for (told.Swapped number) = past_follows S first us words at for answer.Left
-release_follows S first us words at for (told.Settled owner number) = past_follows S first us words at for answer.Left
-release_follows S first us words at for told.Left = past_follows S first us words at for answer.Left
-release_follows S first us words at for told.Emptied = (tt, refl)
-release_follows S first us words at for (told.Buried number) = past_follows S first us words at for answer.Left
-release_follows S first us words at for told.Kept = past_follows S first us words at for answer.Left
-release_follows S first us words at for told.Freed = past_follows S first us words at for answer.Left
-release_follows S first us words at for told.Alive = past_follows S first us words at for answer.Left
-release_follows S first us words at for told.Dead = past_follows S first us words at for answer.Left
-release_follows S first us words at for (told.Raised owner number) = past_follows S first us words at for answer.Left
-release_follows S first us words at for (told.Noted owner number) = past_follows S first us words at for answer.Left
-release_follows S first us words at for told.Faded = past_follows S first us words at for answer.Left
-release_follows S first us words at for told.Closed = past_follows S first us words at for answer.Left
-release_follows S first us words at for told.Restored = past_follows S first us words at for answer.Left
+release_follows : (S : Script) (first : List Record) (us : List Placed) (words : Zones) (at : ℕ) (for : Purpose) → CoherentFor first us for → (event : WordEvent) → Follows S first us words (updates (phase.Release at for)) (after words (phase.Release at for) event)
+release_follows S first us words at for c (told.Loaded owner number) = past_follows S first us words at for answer.Left c
+release_follows S first us words at for c told.Passed = past_follows S first us words at for answer.Left c
+release_follows S first us words at for c told.Taken = past_follows S first us words at for answer.Left c
+release_follows S first us words at for c told.NoSlot = past_follows S first us words at for answer.Left c
+release_follows S first us words at for c told.Prepared = past_follows S first us words at for answer.Left c
+release_follows S first us words at for c (told.Swapped number) = past_follows S first us words at for answer.Left c
+release_follows S first us words at for c (told.Settled owner number) = past_follows S first us words at for answer.Left c
+release_follows S first us words at for c told.Left = past_follows S first us words at for answer.Left c
+release_follows S first us words at for c told.Emptied = (c, refl)
+release_follows S first us words at for c (told.Buried number) = past_follows S first us words at for answer.Left c
+release_follows S first us words at for c told.Kept = past_follows S first us words at for answer.Left c
+release_follows S first us words at for c told.Freed = past_follows S first us words at for answer.Left c
+release_follows S first us words at for c told.Alive = past_follows S first us words at for answer.Left c
+release_follows S first us words at for c told.Dead = past_follows S first us words at for answer.Left c
+release_follows S first us words at for c (told.Raised owner number) = past_follows S first us words at for answer.Left c
+release_follows S first us words at for c (told.Noted owner number) = past_follows S first us words at for answer.Left c
+release_follows S first us words at for c told.Faded = past_follows S first us words at for answer.Left c
+release_follows S first us words at for c told.Closed = past_follows S first us words at for answer.Left c
+release_follows S first us words at for c told.Restored = past_follows S first us words at for answer.Left c
 
-bury_follows : (S : Script) (first : List Record) (us : List Placed) (words : Zones) (at : ℕ) (for : Purpose) (event : WordEvent) → Follows S first us words (updates (phase.Bury at for)) (after words (phase.Bury at for) event)
-bury_follows S first us words at for (told.Loaded owner number) = past_follows S first us words at for answer.Left
-bury_follows S first us words at for told.Passed = past_follows S first us words at for answer.Left
-bury_follows S first us words at for told.Taken = past_follows S first us words at for answer.Left
-bury_follows S first us words at for told.NoSlot = past_follows S first us words at for answer.Left
-bury_follows S first us words at for told.Prepared = past_follows S first us words at for answer.Left
-bury_follows S first us words at for (told.Swapped number) = past_follows S first us words at for answer.Left
-bury_follows S first us words at for (told.Settled owner number) = past_follows S first us words at for answer.Left
-bury_follows S first us words at for told.Left = past_follows S first us words at for answer.Left
-bury_follows S first us words at for told.Emptied = past_follows S first us words at for answer.Left
-bury_follows S first us words at for (told.Buried number) = (tt, refl)
-bury_follows S first us words at for told.Kept = past_follows S first us words at for answer.Left
-bury_follows S first us words at for told.Freed = past_follows S first us words at for answer.Left
-bury_follows S first us words at for told.Alive = past_follows S first us words at for answer.Left
-bury_follows S first us words at for told.Dead = past_follows S first us words at for answer.Left
-bury_follows S first us words at for (told.Raised owner number) = past_follows S first us words at for answer.Left
-bury_follows S first us words at for (told.Noted owner number) = past_follows S first us words at for answer.Left
-bury_follows S first us words at for told.Faded = past_follows S first us words at for answer.Left
-bury_follows S first us words at for told.Closed = past_follows S first us words at for answer.Left
-bury_follows S first us words at for told.Restored = past_follows S first us words at for answer.Left
+bury_follows : (S : Script) (first : List Record) (us : List Placed) (words : Zones) (at : ℕ) (for : Purpose) → CoherentFor first us for → (event : WordEvent) → Follows S first us words (updates (phase.Bury at for)) (after words (phase.Bury at for) event)
+bury_follows S first us words at for c (told.Loaded owner number) = past_follows S first us words at for answer.Left c
+bury_follows S first us words at for c told.Passed = past_follows S first us words at for answer.Left c
+bury_follows S first us words at for c told.Taken = past_follows S first us words at for answer.Left c
+bury_follows S first us words at for c told.NoSlot = past_follows S first us words at for answer.Left c
+bury_follows S first us words at for c told.Prepared = past_follows S first us words at for answer.Left c
+bury_follows S first us words at for c (told.Swapped number) = past_follows S first us words at for answer.Left c
+bury_follows S first us words at for c (told.Settled owner number) = past_follows S first us words at for answer.Left c
+bury_follows S first us words at for c told.Left = past_follows S first us words at for answer.Left c
+bury_follows S first us words at for c told.Emptied = past_follows S first us words at for answer.Left c
+bury_follows S first us words at for c (told.Buried number) = (c, refl)
+bury_follows S first us words at for c told.Kept = past_follows S first us words at for answer.Left c
+bury_follows S first us words at for c told.Freed = past_follows S first us words at for answer.Left c
+bury_follows S first us words at for c told.Alive = past_follows S first us words at for answer.Left c
+bury_follows S first us words at for c told.Dead = past_follows S first us words at for answer.Left c
+bury_follows S first us words at for c (told.Raised owner number) = past_follows S first us words at for answer.Left c
+bury_follows S first us words at for c (told.Noted owner number) = past_follows S first us words at for answer.Left c
+bury_follows S first us words at for c told.Faded = past_follows S first us words at for answer.Left c
+bury_follows S first us words at for c told.Closed = past_follows S first us words at for answer.Left c
+bury_follows S first us words at for c told.Restored = past_follows S first us words at for answer.Left c
 
-fade_follows : (S : Script) (first : List Record) (us : List Placed) (words : Zones) (at : ℕ) (number : Option ℕ) (for : Purpose) (event : WordEvent) → Follows S first us words (updates (phase.Fade at number for)) (after words (phase.Fade at number for) event)
-fade_follows S first us words at number for told.Closed = (tt, refl)
-fade_follows S first us words at number for event = past_follows S first us words at for (gone number)
+fade_follows : (S : Script) (first : List Record) (us : List Placed) (words : Zones) (at : ℕ) (number : Option ℕ) (for : Purpose) → CoherentFor first us for → (event : WordEvent) → Follows S first us words (updates (phase.Fade at number for)) (after words (phase.Fade at number for) event)
+fade_follows S first us words at number for c told.Closed = (c, refl)
+fade_follows S first us words at number for c event = past_follows S first us words at for (gone number) c
 
 -- a step leaves the updates so far, and the versions that are published, as they were; or it is the swap of an update, which is the next
 abbrev pub Grown : Script → List Placed → List Placed → Zones → Zones → Phase → Type 0
@@ -725,6 +502,10 @@ none_now (phase.Fade owner number for) apart = refl
 none_now (phase.Reset owner number for) apart = refl
 none_now (phase.Free owner number for) apart = refl
 
+-- each owner has the number that it had
+abbrev pub Further : List Owner → List Owner → Type 0
+Further owners later = (owner number : ℕ) → KeepsNumber owners owner number → KeepsNumber later owner number
+
 -- the words and the updates behind a step of a call, with what the call is about to publish
 pub record Behind (S : Script) (first : List Record) (us : List Placed) (words new : Zones) (at : Phase) (progress : Progress) : Type 0 where
   pub later : List Placed
@@ -732,6 +513,7 @@ pub record Behind (S : Script) (first : List Record) (us : List Placed) (words n
   pub follows : Follows S first later new (updates at) progress
   pub others : (other : Phase) → (updates at ≡ true → updates other ≡ false) → Coherent S first us words other → Coherent S first later new other
   pub grown : Grown S us later words new at
+  pub further : Further words.owners new.owners
 
 -- a step of an update leaves what is no update
 others_none : (S : Script) (first : List Record) (us later : List Placed) (words new : Zones) (other : Phase) → updates other ≡ false → Coherent S first us words other → Coherent S first later new other
@@ -744,20 +526,40 @@ prepared_next S first us words new version event n (place, there, last, is, foun
     let here : slice_get new.table place ≡ Some put = ap (λ (w : Zones). slice_get w.table place) new_is ∙ get_set_same words.table place put within in
     record { place = place; number = last + 1; version = version; publisher = ap (λ (w : Zones). w.publisher) new_is; there = ap (option_and_then (λ (s : Slot Numbered). s.version)) here; is_next = n }
 
+prepared : (S : Script) (first : List Record) (us : List Placed) (words new : Zones) (version : Numbered) (keeping : Keeping) (event : WordEvent) → IsNext S first us version × EntersAs keeping.enters (zone_serial version.zone) → Makes {T = Numbered} words (word.Prepare version) event new → Coherent S first us new (phase.Swap keeping)
+unfolding prepared_next
+prepared S first us words new version keeping event c m = (prepared_next S first us words new version event c.0 m, c.1)
+
 -- a step that is no swap, of an update
 behind_update : (S : Script) (first : List Record) (us : List Placed) (words new : Zones) (at : Phase) (event : WordEvent) → NoSwap (word_step at) → updates at ≡ true → Makes words (word_step at) event new → Tells S first words us → Follows S first us new (updates at) (after new at event)
     → Behind S first us words new at (after new at event)
-behind_update S first us words new at event apart is m t follows = record { later = us; tells = tells_same S first words new us (word_step at) event apart m t; follows = follows; others = λ other alone c. others_none S first us us words new other (alone is) c; grown = inl (refl, none_now at apart, leaves_step words new (word_step at) event apart m) }
+behind_update S first us words new at event apart is m t follows = record { later = us; tells = tells_same S first words new us (word_step at) event apart m t; follows = follows; others = λ other alone c. others_none S first us us words new other (alone is) c; grown = inl (refl, none_now at apart, leaves_step words new (word_step at) event apart m); further = λ owner number k. keeps_step words new (word_step at) event owner number m k }
 
 -- a step that is no update's
 behind_owner : (S : Script) (first : List Record) (us : List Placed) (words new : Zones) (at : Phase) (event : WordEvent) → OfOwner (word_step at) → Makes words (word_step at) event new → Tells S first words us → Follows S first us new (updates at) (after new at event)
     → Behind S first us words new at (after new at event)
 behind_owner S first us words new at event of m t follows =
-    record { later = us; tells = tells_same S first words new us (word_step at) event (owner_no_swap (word_step at) of) m t; follows = follows; others = λ other alone c. owner_keeps S first us words new t.cell (word_step at) event other of t.shows m c; grown = inl (refl, none_now at (owner_no_swap (word_step at) of), leaves_step words new (word_step at) event (owner_no_swap (word_step at) of) m) }
+    record { later = us; tells = tells_same S first words new us (word_step at) event (owner_no_swap (word_step at) of) m t; follows = follows; others = λ other alone c. owner_keeps S first us words new t.cell (word_step at) event other of t.shows m c; grown = inl (refl, none_now at (owner_no_swap (word_step at) of), leaves_step words new (word_step at) event (owner_no_swap (word_step at) of) m); further = λ owner number k. keeps_step words new (word_step at) event owner number m k }
 
-behind_swap : (S : Script) (first : List Record) (us : List Placed) (words new : Zones) (keeping : Keeping) (event : WordEvent) → SwapsNext S first us words → Makes {T = Numbered} words word.Swap event new → Tells S first words us → Behind S first us words new (phase.Swap keeping) (after new (phase.Swap keeping) event)
-behind_swap S first us words new keeping event n m t =
-    record { later = us ++ placed_next S first us n.version n.is_next ∷ []; tells = tells_swapped S first words new us event n m t; follows = (tt, refl); others = λ other alone c. others_none S first us (us ++ placed_next S first us n.version n.is_next ∷ []) words new other (alone refl) c; grown = inr (placed_next S first us n.version n.is_next, refl, refl, refl, n.is_next.mine) }
+-- the version that is swapped in is the last then
+last_swapped : (S : Script) (first : List Record) (us : List Placed) (version : Numbered) (n : IsNext S first us version) → zone_serial version.zone ≡ last_serial first (us ++ placed_next S first us version n ∷ [])
+last_swapped S first us version n =
+    let all = map-append (λ (one : Placed). one.update) us (placed_next S first us version n ∷ []) in
+    let made : replay first (updates_in us ++ n.makes.update ∷ []) ≡ version.zone = replay_more first (updates_in us) n.makes.update ∙ ap (λ o. unwrap_or o (replay first (updates_in us))) n.makes.accepted.made in
+    ap zone_serial (sym (ap (replay first) all ∙ made))
+
+behind_swap : (S : Script) (first : List Record) (us : List Placed) (words new : Zones) (keeping : Keeping) (event : WordEvent) → (n : SwapsNext S first us words) → EntersAs keeping.enters (zone_serial n.version.zone) → Makes {T = Numbered} words word.Swap event new → Tells S first words us
+    → Behind S first us words new (phase.Swap keeping) (after new (phase.Swap keeping) event)
+behind_swap S first us words new keeping event n enters m t =
+    let later = us ++ placed_next S first us n.version n.is_next ∷ [] in
+    record {
+      later = later;
+      tells = tells_swapped S first words new us event n m t;
+      follows = (subst (EntersAs keeping.enters) (last_swapped S first us n.version n.is_next) enters, refl);
+      others = λ other alone c. others_none S first us later words new other (alone refl) c;
+      grown = inr (placed_next S first us n.version n.is_next, refl, refl, refl, n.is_next.mine);
+      further = λ owner number k. keeps_step words new word.Swap event owner number m k;
+    }
 
 pub behind : (S : Script) (first : List Record) (us : List Placed) (words new : Zones) (at : Phase) (event : WordEvent) → Makes words (word_step at) event new → Tells S first words us → Coherent S first us words at → Behind S first us words new at (after new at event)
 behind S first us words new (phase.Load name) event m t c = behind_owner S first us words new (phase.Load name) event tt m t (load_follows S first us new name event)
@@ -767,13 +569,13 @@ behind S first us words new (phase.Gain owner seeking) event m t c = behind_owne
 behind S first us words new (phase.Raise name owner) event m t c = behind_owner S first us words new (phase.Raise name owner) event tt m t (raise_follows S first us new name owner event)
 behind S first us words new (phase.Note name owner) event m t c = behind_owner S first us words new (phase.Note name owner) event tt m t (note_follows S first us new name owner event)
 behind S first us words new (phase.Probe version keeping) event m t c = behind_update S first us words new (phase.Probe version keeping) event tt refl m t (probe_follows S first us new version keeping c event)
-behind S first us words new (phase.Prepare version keeping) event m t c = behind_update S first us words new (phase.Prepare version keeping) event tt refl m t (prepared_next S first us words new version event c m, refl)
-behind S first us words new (phase.Swap keeping) event m t c = behind_swap S first us words new keeping event c m t
-behind S first us words new (phase.Settle keeping) event m t c = behind_update S first us words new (phase.Settle keeping) event tt refl m t (settle_follows S first us new keeping event)
-behind S first us words new (phase.Keep given keeping) event m t c = behind_update S first us words new (phase.Keep given keeping) event tt refl m t (keep_follows S first us new given keeping event)
-behind S first us words new (phase.Enter given kept keeping) event m t c = behind_update S first us words new (phase.Enter given kept keeping) event tt refl m t (enter_follows S first us new given kept keeping event)
-behind S first us words new (phase.Release at for) event m t c = behind_owner S first us words new (phase.Release at for) event tt m t (release_follows S first us new at for event)
-behind S first us words new (phase.Bury at for) event m t c = behind_owner S first us words new (phase.Bury at for) event tt m t (bury_follows S first us new at for event)
-behind S first us words new (phase.Fade at number for) event m t c = behind_owner S first us words new (phase.Fade at number for) event tt m t (fade_follows S first us new at number for event)
-behind S first us words new (phase.Reset at number for) event m t c = behind_owner S first us words new (phase.Reset at number for) event tt m t (tt, refl)
-behind S first us words new (phase.Free at number for) event m t c = behind_owner S first us words new (phase.Free at number for) event tt m t (past_follows S first us new at for (gone number))
+behind S first us words new (phase.Prepare version keeping) event m t c = behind_update S first us words new (phase.Prepare version keeping) event tt refl m t (prepared S first us words new version keeping event c m, refl)
+behind S first us words new (phase.Swap keeping) event m t c = behind_swap S first us words new keeping event c.0 c.1 m t
+behind S first us words new (phase.Settle keeping) event m t c = behind_update S first us words new (phase.Settle keeping) event tt refl m t (settle_follows S first us new keeping c event)
+behind S first us words new (phase.Keep given keeping) event m t c = behind_update S first us words new (phase.Keep given keeping) event tt refl m t (keep_follows S first us new given keeping c event)
+behind S first us words new (phase.Enter given kept keeping) event m t c = behind_update S first us words new (phase.Enter given kept keeping) event tt refl m t (enter_follows S first us new given kept keeping c event)
+behind S first us words new (phase.Release at for) event m t c = behind_owner S first us words new (phase.Release at for) event tt m t (release_follows S first us new at for c event)
+behind S first us words new (phase.Bury at for) event m t c = behind_owner S first us words new (phase.Bury at for) event tt m t (bury_follows S first us new at for c event)
+behind S first us words new (phase.Fade at number for) event m t c = behind_owner S first us words new (phase.Fade at number for) event tt m t (fade_follows S first us new at number for c event)
+behind S first us words new (phase.Reset at number for) event m t c = behind_owner S first us words new (phase.Reset at number for) event tt m t (c, refl)
+behind S first us words new (phase.Free at number for) event m t c = behind_owner S first us words new (phase.Free at number for) event tt m t (past_follows S first us new at for (gone number) c)

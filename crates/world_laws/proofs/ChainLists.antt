@@ -68,7 +68,7 @@ zones_differ zones differ i j d before within e =
 shorter : (size s t : ℕ) (r : List ℕ) → fits size (s ∷ t ∷ r) ≡ true → fits size (t ∷ r) ≡ true
 shorter size s t r e = grind (arith, nat_tests)
 
-fits_less : (size s : ℕ) (r : List ℕ) → fits size (s ∷ r) ≡ true → fits size r ≡ true
+pub fits_less : (size s : ℕ) (r : List ℕ) → fits size (s ∷ r) ≡ true → fits size r ≡ true
 fits_less size s [] e = refl
 fits_less size s (t ∷ r) e = shorter size s t r e
 
@@ -83,11 +83,19 @@ span_front s (x ∷ xs) more = let rest = span_front x xs more in omega (arith, 
 fits_by : (size a b c d : ℕ) → a ≤ b → c ≤ d → (nat_lt b size && nat_lt d (2 ^ 31)) ≡ true → (nat_lt a size && nat_lt c (2 ^ 31)) ≡ true
 fits_by size a b c d l m e = grind (arith, nat_tests)
 
-fits_front : (size : ℕ) (xs more : List ℕ) → fits size (xs ++ more) ≡ true → fits size xs ≡ true
+pub fits_front : (size : ℕ) (xs more : List ℕ) → fits size (xs ++ more) ≡ true → fits size xs ≡ true
 fits_front size [] more e = refl
 fits_front size (s ∷ xs) more e =
     let n = length-append xs more in
     fits_by size (length xs) (length (xs ++ more)) (span s xs) (span s (xs ++ more)) (omega (arith, n)) (span_front s xs more) e
+
+-- zones one behind the other that fit are versions of one apex, whose serials differ
+pub are_versions : (size : ℕ) (zone : Zone) (behind : List Zone) → IsChain zone behind → fits size (serials_of (zone ∷ behind)) ≡ true → AreVersions zone behind
+are_versions size zone behind c fit = record {
+  each = chain_zones zone behind c;
+  apex = chain_apex zone zone behind refl c;
+  serials = zones_differ (zone ∷ behind) (all_differ size (zone_serial zone) (serials_of behind) (chain_rises zone behind c) fit);
+}
 
 -- the zone of a serial, with those behind it
 record Found (serial : ℕ) (run : List Zone) (zone : Zone) (behind : List Zone) : Type 0 where
@@ -148,7 +156,7 @@ behind_at (x ∷ front) zone behind (suc k) l =
     let e : k - (length front + 1) ≡ suc k - (length (x ∷ front) + 1) = omega arith in
     behind_at front zone behind k (omega (arith, l)) ∙ ap (slice_get behind) e
 
-differs_behind : (serial : ℕ) (zone : Zone) (behind : List Zone) (j : ℕ) (other : Zone) → zone_serial zone ≡ serial → AllPairs (λ older newer. zone_serial older ≢ zone_serial newer) (zone ∷ behind) → slice_get behind j ≡ Some other → zone_serial other ≢ serial
+pub differs_behind : (serial : ℕ) (zone : Zone) (behind : List Zone) (j : ℕ) (other : Zone) → zone_serial zone ≡ serial → AllPairs (λ older newer. zone_serial older ≢ zone_serial newer) (zone ∷ behind) → slice_get behind j ≡ Some other → zone_serial other ≢ serial
 differs_behind serial zone behind j other is differ e same =
     let w = slice_get_within behind j other e in
     differ 0 (suc j) other (omega arith) (omega (arith, w)) (is ∙ (sym same ∙ sym (ap zone_serial (get_or_from_slice_get behind j other other e))))
@@ -173,11 +181,7 @@ list_taken size serial newer zones run zone behind older split fit chain f =
     let sum = length-append (serials_of behind) (serials_of newer) in
     let behind_n = length-map behind zone_serial in
     let newer_n = length-map newer zone_serial in
-    let versions : AreVersions zone behind = record {
-      each = chain_zones zone behind c;
-      apex = chain_apex zone zone behind refl c;
-      serials = zones_differ (zone ∷ behind) (all_differ size (zone_serial zone) (serials_of behind) (chain_rises zone behind c) fits_so);
-    } in
+    let versions = are_versions size zone behind c fits_so in
     record {
       front = older ++ f.front;
       zone = zone;

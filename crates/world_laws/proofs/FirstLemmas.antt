@@ -38,7 +38,6 @@ use Rattle.world_run.specs.declared.calls.UnderWay.{UnderWay}
 use Rattle.world_run.specs.declared.start.Start.{Start}
 use Rattle.world_run.specs.declared.start.Start.TheVariants.{Refused, Answers, Takes}
 use Rattle.world_run.specs.declared.step.Answer.{Answer}
-use Rattle.world_run.specs.declared.step.Answer.TheVariants as answer
 use Rattle.world_run.specs.declared.step.Call.{Call}
 use Rattle.world_run.specs.declared.step.Call.TheVariants.{Load, Drop, Copy, Weak, Fade, Up, Ask, Transfer, Update}
 use Rattle.world_run.specs.declared.step.WorldReply.{WorldReply}

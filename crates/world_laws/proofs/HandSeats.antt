@@ -16,7 +16,6 @@ use Rattle.dns_rdata.specs.declared.numbers.Serial.{Serial}
 use Rattle.world_run.specs.Entries.{leaving, leaving_for}
 use Rattle.world_run.specs.declared.phase.Progress.{Progress}
 use Rattle.world_run.specs.declared.phase.Progress.TheVariants.{On, Done}
-use Rattle.world_run.specs.declared.step.Answer.TheVariants as answer
 use Rattle.zone_tree.specs.Version.{Version as Numbered}
 use Rattle.world_run.specs.Phases.{reserves, reserves_weakly, updates}
 use Rattle.world_laws.proofs.HandLemmas.{Hand, Seat, Seated}

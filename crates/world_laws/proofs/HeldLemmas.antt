@@ -24,7 +24,7 @@ use Rattle.world_run.specs.declared.step.WorldStep.{WorldStep as Line}
 use Rattle.world_laws.specs.Held.{HoldsVersion, HoldVersions, IsAtRest}
 use Rattle.world_laws.specs.Replays.{IsSentAt}
 use Rattle.world_run.specs.World.{World, started, owner_of, kept_versions, play}
-use Rattle.world_laws.proofs.CallReplays.{script}
+use Rattle.world_laws.proofs.CallReplays.{script, updates_in}
 use Rattle.world_laws.proofs.OtherCalls.{any_update}
 use Rattle.world_laws.proofs.HandEnds.{no_swaps}
 use Rattle.world_laws.proofs.HandLemmas.{HandIs, AllFit, times, times_append, fit_front, fit_back, lives}
@@ -35,7 +35,7 @@ use Rattle.world_laws.proofs.WindowRest.{Rests, Noted, window_buried, window_fre
 use Rattle.world_run.specs.declared.entries.Entry.{Entry}
 use Rattle.world_laws.proofs.HandTurns.{times_four, fits_four}
 use Rattle.world_laws.proofs.HandWorld.{store_of, stays_of, seats_as, both_seats, kept_seats, kept_left, entries_left, call_seats, any_publishes, Hands}
-use Rattle.world_laws.proofs.ReplayLemmas.{goes_replayed}
+use Rattle.world_laws.proofs.ReplayLemmas.{goes_replayed, replayed_us}
 
 -- the number in W is the last
 latest_has : (words : Zones) (cell : Cell Numbered) (s : Shows words cell) → number_in words (slot_of words.latest) ≡ Some s.plan.last
@@ -63,7 +63,7 @@ named_holds owners name (x ∷ names) owner fits e =
     ]
 
 -- what is in hand beside the calls under way
-parts_of : (world : World) (h : Hands world) → AllFit world.words.owners (seats_as holds world.names) × AllFit world.words.owners (kept_left h.from world.keep world.kept (any_update world.calls)) × AllFit world.words.owners (entries_left (h.from + length world.kept) world.entries (any_update world.calls))
+pub parts_of : (world : World) (h : Hands world) → AllFit world.words.owners (seats_as holds world.names) × AllFit world.words.owners (kept_left h.from world.keep world.kept (any_update world.calls)) × AllFit world.words.owners (entries_left (h.from + length world.kept) world.entries (any_update world.calls))
 parts_of world h =
     let kept_ones = kept_left h.from world.keep world.kept (any_update world.calls) in
     let window = entries_left (h.from + length world.kept) world.entries (any_update world.calls) in
@@ -100,7 +100,7 @@ kept_is world cell h none s =
     let same = same_length world.words h.cell cell h.shows s in
     kept_are world.words cell h.from world.kept s fits (omega (arith, h.kept_count, h.swapped, swaps, h.counted, same))
 
-held_by_kept : (first : List Record) (lines : List Line) (top : ℕ) (begun_as world : World) → Kept (script (IsSentAt lines) top) first begun_as world → HoldVersions first lines world
+pub held_by_kept : (first : List Record) (lines : List Line) (top : ℕ) (begun_as world : World) → Kept (script (IsSentAt lines) top) first begun_as world → HoldVersions first lines world
 held_by_kept first lines top begun_as world k =
     let r = goes_replayed first lines top world k.goes in
     record {
@@ -113,6 +113,10 @@ held_by_kept first lines top begun_as world k =
           kept_is world r.reached.cell k.hands none r.reached.shows ∙ ap (λ n. drop n r.reached.cell.published) e
           );
     }
+
+pub held_us : (first : List Record) (lines : List Line) (top : ℕ) (begun_as world : World) (k : Kept (script (IsSentAt lines) top) first begun_as world) → (held_by_kept first lines top begun_as world k).replayed.updates ≡ updates_in k.goes.us
+unfolding held_by_kept
+held_us first lines top begun_as world k = (replayed_us first lines top world k.goes).0
 
 -- whatever lines were played, versions are held
 pub played_held : (first : List Record) (keep window : ℕ) (lines : List Line) (replies : List WorldReply) (world : World) → play (started first keep window) lines ≡ Some (replies, world) → HoldVersions first lines world

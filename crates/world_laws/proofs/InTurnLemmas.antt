@@ -181,7 +181,7 @@ open_on lines replies sent top name goes_on o = record {
 }
 
 -- a line of another kind, or of another call, and one that isn't a call's last, end none
-abbrev Tells : List Line → List WorldReply → ℕ → Line → WorldReply → Type 0
+abbrev pub Tells : List Line → List WorldReply → ℕ → Line → WorldReply → Type 0
 Tells lines replies top line given = (slice_get lines top ≡ Some line) × (slice_get replies top ≡ Some given)
 
 whole_ends_none : (lines : List Line) (replies : List WorldReply) (top : ℕ) (call : Call) (name : List ℕ) (given : Answer) → slice_get lines top ≡ Some (Whole call) → EndsUnder lines replies top name given → ⊥
@@ -202,10 +202,10 @@ step_ends_none : (lines : List Line) (replies : List WorldReply) (top : ℕ) (na
 step_ends_none lines replies top name step given here ends = let wrong : Some (Step step) ≡ Some (Last ends.1 given) = sym here ∙ ends.2 in cc
 
 -- what becomes of a call under way behind a line: it is there still and isn't ended; or the line takes its next step, and it goes on, or ends
-abbrev Fate : List Line → List WorldReply → ℕ → World → Line → WorldReply → World → List ℕ → UnderWay → Type 0
+abbrev pub Fate : List Line → List WorldReply → ℕ → World → Line → WorldReply → World → List ℕ → UnderWay → Type 0
 Fate lines replies top before line given after name call =
     ((call_of name after.calls ≡ Some call) × ((answer : Answer) → EndsUnder lines replies top name answer → ⊥))
-    ⊎ (((further : Phase) × (words : Zones) × (step_once before.words call.phase ≡ Some (On further, words)) × (call_of name after.calls ≡ Some (record { name = name; phase = further })) × ((answer : Answer) → EndsUnder lines replies top name answer → ⊥))
+    ⊎ (((further : Phase) × (words : Zones) × (step_once before.words call.phase ≡ Some (On further, words)) × (call_of name after.calls ≡ Some (record { name = name; phase = further })) × ((answer : Answer) → EndsUnder lines replies top name answer → ⊥) × (after.words ≡ words))
     ⊎ ((end : End) × (words : Zones) × (step_once before.words call.phase ≡ Some (Done end, words)) × (after.calls ≡ without_call name before.calls) × EndsUnder lines replies top name (answer_at end)))
 
 abbrev FateBehind : List Line → List WorldReply → ℕ → World → Line → List ℕ → UnderWay → Option (WorldReply × World) → Type 0
@@ -259,7 +259,7 @@ own_fate : (lines : List Line) (replies : List WorldReply) (top : ℕ) (world : 
     → slice_get replies top ≡ Some (stepped world name call.phase o).0 → Fate lines replies top world (Next name) (stepped world name call.phase o).0 (stepped world name call.phase o).1 name call
 own_fate lines replies top world name call None here found is told = inl (found, λ answer. refused_ends_none lines replies top name answer told)
 own_fate lines replies top world name call (Some (On further, words)) here found is told =
-    inr (inl (further, words, is, found_new name (without_call name world.calls) further (none_without name world.calls), λ answer. step_ends_none lines replies top name (step_name call.phase) answer told))
+    inr (inl (further, words, is, found_new name (without_call name world.calls) further (none_without name world.calls), λ answer. step_ends_none lines replies top name (step_name call.phase) answer told, refl))
 own_fate lines replies top world name call (Some (Done end, words)) here found is told = inr (inr (end, words, is, refl, (here, step_name call.phase, told)))
 
 -- and one of another name
@@ -286,7 +286,7 @@ next_fate lines replies top world other (Some stepping) name call here e found t
       | inr apart ↦ beside_fate lines replies top world other stepping (step_once world.words stepping.phase) name call here apart found
     ]
 
-fate : (lines : List Line) (replies : List WorldReply) (top : ℕ) (world : World) (line : Line) (given : WorldReply) (after : World) (name : List ℕ) (call : UnderWay) → turn world line ≡ Some (given, after) → Tells lines replies top line given → call_of name world.calls ≡ Some call
+pub fate : (lines : List Line) (replies : List WorldReply) (top : ℕ) (world : World) (line : Line) (given : WorldReply) (after : World) (name : List ℕ) (call : UnderWay) → turn world line ≡ Some (given, after) → Tells lines replies top line given → call_of name world.calls ≡ Some call
     → Fate lines replies top world line given after name call
 fate lines replies top world (Whole made) given after name call e told found = whole_fate lines replies top world made (start world made) name call told.0 found given after e told.1
 fate lines replies top world (Begin begun made) given after name call e told found = under_fate lines replies top world begun made (call_of begun world.calls) name call told.0 found given after e told.1

@@ -86,7 +86,7 @@ module _ (S : List ℕ → Type 0) (first : Zone) (published : List Numbered) (u
         | inr less ↦ subst (λ z. serial_less (zone_serial (zone_at first updates k)) (zone_serial z) ≡ true) (sym e) less
       ]
 
-  chain_from : (zone : Zone) (zones : List Zone) (k : ℕ) → zone ≡ zone_at first updates k → ((j : ℕ) (z : Zone) → slice_get zones j ≡ Some z → z ≡ zone_at first updates (k + 1 + j)) → k + length zones ≤ length updates → IsChain zone zones
+  pub chain_from : (zone : Zone) (zones : List Zone) (k : ℕ) → zone ≡ zone_at first updates k → ((j : ℕ) (z : Zone) → slice_get zones j ≡ Some z → z ≡ zone_at first updates (k + 1 + j)) → k + length zones ≤ length updates → IsChain zone zones
   chain_from zone [] k e each within =
       let z = zone_is k (omega (arith, within)) in
       let here = subst IsZone (sym e) z.0 in (here, small_serial zone here)

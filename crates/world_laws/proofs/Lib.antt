@@ -21,7 +21,13 @@ pub mod OtherCalls
 pub mod ReplayLemmas
 pub mod RunLemmas
 pub mod SeekLemmas
+pub mod SendEnds
+pub mod SendStarts
+pub mod SendSteps
 pub mod SentUpdates
 pub mod SpeltLemmas
 pub mod SwapLemmas
+pub mod TellLemmas
+pub mod WindowPlay
 pub mod WindowRest
+pub mod WindowSerials

@@ -142,17 +142,17 @@ coherent_on S top by first us words (phase.Seek owner seeking) more map c = tt
 coherent_on S top by first us words (phase.Gain owner seeking) more map c = tt
 coherent_on S top by first us words (phase.Raise name owner) more map c = tt
 coherent_on S top by first us words (phase.Note name owner) more map c = tt
-coherent_on S top by first us words (phase.Probe version keeping) more map c = next_on S top by first us version more map c
-coherent_on S top by first us words (phase.Prepare version keeping) more map c = next_on S top by first us version more map c
-coherent_on S top by first us words (phase.Swap keeping) more map c = record { place = c.place; number = c.number; version = c.version; publisher = c.publisher; there = c.there; is_next = next_on S top by first us c.version more map c.is_next }
-coherent_on S top by first us words (phase.Settle keeping) more map c = tt
-coherent_on S top by first us words (phase.Keep given keeping) more map c = tt
-coherent_on S top by first us words (phase.Enter given kept keeping) more map c = tt
-coherent_on S top by first us words (phase.Release owner for) more map c = tt
-coherent_on S top by first us words (phase.Bury owner for) more map c = tt
-coherent_on S top by first us words (phase.Fade owner number for) more map c = tt
-coherent_on S top by first us words (phase.Reset owner number for) more map c = tt
-coherent_on S top by first us words (phase.Free owner number for) more map c = tt
+coherent_on S top by first us words (phase.Probe version keeping) more map c = (next_on S top by first us version more map c.0, c.1)
+coherent_on S top by first us words (phase.Prepare version keeping) more map c = (next_on S top by first us version more map c.0, c.1)
+coherent_on S top by first us words (phase.Swap keeping) more map c = (let n = c.0 in (record { place = n.place; number = n.number; version = n.version; publisher = n.publisher; there = n.there; is_next = next_on S top by first us n.version more map n.is_next }, c.1))
+coherent_on S top by first us words (phase.Settle keeping) more map c = c
+coherent_on S top by first us words (phase.Keep given keeping) more map c = c
+coherent_on S top by first us words (phase.Enter given kept keeping) more map c = c
+coherent_on S top by first us words (phase.Release owner for) more map c = c
+coherent_on S top by first us words (phase.Bury owner for) more map c = c
+coherent_on S top by first us words (phase.Fade owner number for) more map c = c
+coherent_on S top by first us words (phase.Reset owner number for) more map c = c
+coherent_on S top by first us words (phase.Free owner number for) more map c = c
 
 pub all_on : (S : Script) (top : ℕ) (by : ℕ → Heading → Type 0) (first : List Record) (us : List Placed) (words : Zones) (calls : List UnderWay) → S.top ≤ top → ((place : ℕ) (head : Heading) → S.by place head → by place head) → AllCoherent S first us words calls → AllCoherent (moved S top by) first us words calls
 all_on S top by first us words [] more map c = tt

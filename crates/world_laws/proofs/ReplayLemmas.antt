@@ -31,7 +31,10 @@ use Rattle.dns_message.specs.declared.query.Query.{Query as QueryAsked}
 use Rattle.serve_core.specs.declared.transport.Transport.TheVariants.{Udp, Tcp}
 use Rattle.serve_core.specs.Transfers.{peer_over, is_permitted}
 use Rattle.world_run.specs.World.{asks_sent, seek_start, transfer_asked, transfer_said, transfer_of, transfer_start, none_got, is_barred, can_enter, noted_once, started_words}
-use Rattle.world_run.specs.Entries.{most_entries, later}
+use Rattle.world_run.specs.Entries.{most_entries, entered, enters, later}
+use Rattle.world_run.specs.declared.entries.Entry.{Entry}
+use Rattle.world_run.specs.declared.phase.End.{End}
+use Rattle.world_run.specs.declared.phase.End.TheVariants.{Owned, OwnedWeakly, Told, NoSlot, Kept, Sent}
 use Rattle.world_run.specs.declared.sending.Sending.{Sending}
 use Rattle.world_run.specs.declared.judged.Judged.{Judged}
 use Rattle.world_run.specs.declared.judged.Judged.TheVariants as judgement
@@ -47,7 +50,7 @@ use Rattle.world_run.specs.declared.step.WorldReply.{WorldReply}
 use Rattle.world_run.specs.declared.step.WorldStep.{WorldStep as Line}
 use Rattle.world_run.specs.declared.step.WorldStep.TheVariants.{Whole, Begin, Next}
 use Rattle.world_run.specs.Judgements.{asks_update, judged}
-use Rattle.zone_tree.specs.Version.{Version as Numbered, KnowsChanges}
+use Rattle.zone_tree.specs.Version.{Version as Numbered, KnowsChanges, zone_serial}
 use Rattle.world_run.specs.Numbered.{first_version}
 use Rattle.world_run.specs.Phases.{word_step, after, updates}
 use Rattle.world_laws.specs.InTurn.{LeavesPublished}
@@ -56,13 +59,13 @@ use Rattle.world_run.specs.declared.step.WorldReply.TheVariants.{Answered, Begun
 use Rattle.world_laws.proofs.AnswerLemmas.{keeps_head}
 use Rattle.world_laws.proofs.HandSeats.{swapped_in, swapped_at, swaps_now}
 use Rattle.world_laws.specs.Replays.{Sends, IsSentAt, AreSentInTurn}
-use Rattle.world_run.specs.World.{World, loaded_once, started, call_of, without_call, publication_start, update_start, oldest_kept, is_held, start, step_once, steps_up_to, go_on, most_steps, is_full, given_up, all_made, whole, begin, begin_under, stepped, next, turn, onto_replies, play, zone_of, owner_of, is_taken, is_taken_weakly, is_used, drop_start, fade_start, copy_start, weak_start, up_start, weak_given_up, ask_start}
+use Rattle.world_run.specs.World.{World, loaded_once, started, call_of, without_call, publication_start, update_start, oldest_kept, is_held, start, step_once, steps_up_to, go_on, most_steps, is_full, given_up, all_made, whole, begin, begin_under, stepped, next, turn, onto_replies, play, entries_at, zone_of, owner_of, is_taken, is_taken_weakly, is_used, drop_start, fade_start, copy_start, weak_start, up_start, weak_given_up, ask_start}
 use Rattle.world_laws.specs.Replays.{IsReplayed, IsAnsweredInReplay}
 use Rattle.world_laws.specs.Runs.{IsAnsweredAtLoaded}
 use Rattle.world_run.proofs.JudgeLemmas.{made_by}
 use Rattle.world_laws.proofs.RunLemmas.{answered_at_loaded}
-use Rattle.world_laws.proofs.SwapLemmas.{step_by, behind_once, after_swapped, swap_updates, HeadAt, keeps_at, KeepsAt}
-use Rattle.world_laws.proofs.CallReplays.{Script, script, no_update, Placed, updates_in, IsFresh, AreInTurn, IsNext, Zones, Tells, tells_same, Coherent, Behind, behind}
+use Rattle.world_laws.proofs.SwapLemmas.{step_by, behind_once, after_swapped, swap_updates, swapped_updates, HeadAt, keeps_at, KeepsAt}
+use Rattle.world_laws.proofs.CallReplays.{Script, script, no_update, Placed, updates_in, IsFresh, AreInTurn, IsNext, Zones, Tells, tells_same, EntersAs, last_serial, Coherent, EndsAs, Further, Behind, behind}
 use Rattle.world_laws.proofs.OtherCalls.{moved, unbarred, all_none, coherent_on, later_on, fresh_on, all_on, tells_on, AllCoherent, any_update, AtMostOne, others_all, without_coherent, without_one, with_coherent, with_one, found_coherent, found_alone}
 
 -- the steps of a call leave the updates so far, and the versions that are published, as they were
@@ -129,12 +132,19 @@ comes_on S us mid later words between new at next progress kind one more =
       ]
     ]
 
+-- what an update enters at its end
+abbrev pub EndsSo : List Record → List Placed → Progress → Type 0
+EndsSo first us (On next) = Unit {0}
+EndsSo first us (Done end) = EndsAs first us end
+
 -- the words behind some of a call's steps, and the other calls
 pub record EndsAt (S : Script) (first : List Record) (us : List Placed) (words : Zones) (calls : List UnderWay) (at : Phase) (came : Progress × Zones) : Type 0 where
   pub later : List Placed
   pub tells : Tells S first came.1 later
   pub coherent : AllCoherent S first later came.1 calls
   pub comes : Comes S us later words came.1 at came.0
+  pub ends : EndsSo first later came.0
+  pub further : Further words.owners came.1.owners
 
 none_come : (us : List Placed) (words : Zones) (at : Phase) → Leaves us us words words at (On at)
 none_come us words at = record { same = refl; leaves = λ cell s. (cell, s, refl); swapped = refl; headed = λ head h. h }
@@ -142,7 +152,7 @@ none_come us words at = record { same = refl; leaves = λ cell s. (cell, s, refl
 many_by : (S : Script) (first : List Record) (us : List Placed) (words : Zones) (calls : List UnderWay) (at : Phase) (more : Zones → Phase → Progress × Zones) (o : Option (Progress × Zones))
     → ((us : List Placed) (words : Zones) (at : Phase) → Tells S first words us → AllCoherent S first us words calls → Coherent S first us words at → (updates at ≡ true → any_update calls ≡ false) → EndsAt S first us words calls at (more words at))
     → Tells S first words us → AllCoherent S first us words calls → Coherent S first us words at → (updates at ≡ true → any_update calls ≡ false) → step_once words at ≡ o → EndsAt S first us words calls at (go_on more words at o)
-many_by S first us words calls at more None all t others c alone e = record { later = us; tells = t; coherent = others; comes = inl (none_come us words at) }
+many_by S first us words calls at more None all t others c alone e = record { later = us; tells = t; coherent = others; comes = inl (none_come us words at); ends = tt; further = λ owner number k. k }
 many_by S first us words calls at more (Some (On next, between)) all t others c alone e =
     let b = behind_once S first us words between at (On next) e t c in
     let rest = all b.later between next b.tells (others_all S first us words between at (On next) b calls alone others) b.follows.0 (λ is. alone (sym b.follows.1 ∙ is)) in
@@ -151,14 +161,16 @@ many_by S first us words calls at more (Some (On next, between)) all t others c 
       tells = rest.tells;
       coherent = rest.coherent;
       comes = comes_on S us b.later rest.later words between (more between next).1 at next (more between next).0 b.follows.1 (comes_by S first us words between at (On next) e b) rest.comes;
+      ends = rest.ends;
+      further = λ owner number k. rest.further owner number (b.further owner number k);
     }
 many_by S first us words calls at more (Some (Done end, between)) all t others c alone e =
     let b = behind_once S first us words between at (Done end) e t c in
-    record { later = b.later; tells = b.tells; coherent = others_all S first us words between at (Done end) b calls alone others; comes = comes_by S first us words between at (Done end) e b }
+    record { later = b.later; tells = b.tells; coherent = others_all S first us words between at (Done end) b calls alone others; comes = comes_by S first us words between at (Done end) e b; ends = b.follows; further = b.further }
 
 many : (left : ℕ) (S : Script) (first : List Record) (us : List Placed) (words : Zones) (calls : List UnderWay) (at : Phase) → Tells S first words us → AllCoherent S first us words calls → Coherent S first us words at → (updates at ≡ true → any_update calls ≡ false) → EndsAt S first us words calls at (steps_up_to left words at)
 unfolding steps_up_to
-many zero S first us words calls at t others c alone = record { later = us; tells = t; coherent = others; comes = inl (none_come us words at) }
+many zero S first us words calls at t others c alone = record { later = us; tells = t; coherent = others; comes = inl (none_come us words at); ends = tt; further = λ owner number k. k }
 many (suc left) S first us words calls at t others c alone =
     many_by S first us words calls at (steps_up_to left) (step_once words at) (λ us words at t others c alone. many left S first us words calls at t others c alone) t others c alone refl
 
@@ -242,9 +254,13 @@ last_replay S first words us last t found =
     let is = t.replays.versions (length (updates_in us)) last (sym given ∙ found) in
     (is.0, is.1 ∙ ap (replay first) (take_all (length (updates_in us)) (updates_in us) (omega arith)))
 
+-- a version is entered with its serial
+enters_as : (size serial : ℕ) → EntersAs (enters size serial) serial
+enters_as size serial = elim (cases_Bool (nat_lt 0 size)) [ inl some ↦ rw some refl | inr none ↦ rw none tt ]
+
 publication_ok : (S : Script) (first : List Record) (us : List Placed) (world : World) (place : ℕ) (head : Heading) (version : Numbered) → any_update world.calls ≡ false → IsNext (moved S S.top (λ sent other. (sent ≡ place) × (Some head ≡ Some other))) first us version → StartOk S first us world.words world.calls place (publication_start world head version)
 publication_ok S first us world place head version none n =
-    ok_if S first us world.words world.calls place (nat_lt world.words.granted grants && is_held world.words (oldest_kept world.keep world.kept) && can_enter world.words world.window) _ _ (λ e. (n, λ is. none)) (λ e. tt)
+    ok_if S first us world.words world.calls place (nat_lt world.words.granted grants && is_held world.words (oldest_kept world.keep world.kept) && can_enter world.words world.window) _ _ (λ e. ((n, enters_as world.window (zone_serial version.zone)), λ is. none)) (λ e. tt)
 
 update_ok : (S : Script) (first : List Record) (us : List Placed) (world : World) (request : List ℕ) (place : ℕ) (last : Numbered) (what : Option Judged) → judged last request ≡ what → S.sends place request → IsFresh S us place → any_update world.calls ≡ false → found_last world.words ≡ Some last → Tells S first world.words us → StartOk S first us world.words world.calls place (update_start world what)
 update_ok S first us world request place last None is sent fresh none found t = tt
@@ -311,10 +327,40 @@ abbrev pub LineComes : Script → World → List Placed → Line → ℕ → Lis
 LineComes S before us line place later after =
     ((later ≡ us) × LeavesPublished before.words after.words) ⊎ ((one : Placed) × (later ≡ us ++ one ∷ []) × AddedBy S before line place one)
 
+-- a line leaves the window, or enters the last version, and then no update is under way
+pub record Enters (first : List Record) (before : World) (us : List Placed) (after : World) : Type 0 where
+  pub entry : Entry
+  pub entered_so : after.entries ≡ entered before.window before.entries entry
+  pub serial : entry.serial.0 ≡ last_serial first us
+  pub ended : any_update after.calls ≡ false
+
+abbrev pub WindowComes : List Record → World → List Placed → World → Type 0
+WindowComes first before us after = (after.entries ≡ before.entries) ⊎ Enters first before us after
+
+-- an update has made its swap
+kept_updates : (S : Script) (us later : List Placed) (words new : Zones) (at : Phase) (progress : Progress) → swapped_at progress ≡ 1 → Comes S us later words new at progress → updates at ≡ true
+kept_updates S us later words new at progress one comes =
+    elim comes [
+      | inl l ↦ swapped_updates at (sym l.swapped ∙ one)
+      | inr a ↦ a.update
+    ]
+
+-- what the end of a call makes of the window
+window_at : (first : List Record) (before after : World) (us : List Placed) (end : End) → after.entries ≡ entries_at before.window end before.entries → EndsAs first us end → (swapped_at (Done end) ≡ 1 → any_update after.calls ≡ false) → WindowComes first before us after
+window_at first before after us (Owned name owner number) is ends none = inl is
+window_at first before after us (OwnedWeakly name owner number) is ends none = inl is
+window_at first before after us (Told given) is ends none = inl is
+window_at first before after us (NoSlot head) is ends none = inl is
+window_at first before after us (Kept head owner None) is ends none = inl is
+window_at first before after us (Kept head owner (Some entry)) is ends none = inr (record { entry = entry; entered_so = is; serial = ends; ended = none refl })
+window_at first before after us (Sent sending) is ends none = inl is
+
 -- a world behind a line, where that is played
 pub record Turned (S : Script) (first : List Record) (before : World) (us : List Placed) (line : Line) (place : ℕ) (given : WorldReply) (after : World) : Type 0 where
   pub goes : Goes (moved S S.top (by_after S place line given after)) first after
   pub comes : LineComes S before us line place goes.us after
+  pub window : WindowComes first before goes.us after
+  pub further : Further before.words.owners after.words.owners
 
 abbrev pub TurnedBehind : Script → List Record → World → List Placed → Line → ℕ → Option (WorldReply × World) → Type 0
 TurnedBehind S first before us line place o = (given : WorldReply) (after : World) → o ≡ Some (given, after) → Turned S first before us line place given after
@@ -345,6 +391,8 @@ itself S first world g line place given = record {
     one = g.one;
   };
   comes = inl (refl, leaves_words world.words);
+  window = inl refl;
+  further = λ owner number k. k;
 }
 
 -- the steps of a whole call
@@ -353,6 +401,8 @@ pub record Came (S : Script) (first : List Record) (us : List Placed) (words : Z
   pub tells : Tells S first came.1 later
   pub coherent : AllCoherent S first later came.1 calls
   pub comes : Comes (moved S S.top (begun_by place at)) us later words came.1 at came.0
+  pub ends : EndsSo first later came.0
+  pub further : Further words.owners came.1.owners
 
 came_whole : (S : Script) (first : List Record) (us : List Placed) (words : Zones) (calls : List UnderWay) (place : ℕ) (at : Phase) → Tells S first words us → AllCoherent S first us words calls → StartOk S first us words calls place (Takes at) → Came S first us words calls place at (steps_up_to most_steps words at)
 came_whole S first us words calls place at t others ok =
@@ -365,6 +415,8 @@ came_whole S first us words calls place at t others ok =
             tells = tells_on (moved S S.top (begun_by place at)) S.top S.by first (steps_up_to most_steps words at).1 e.later (omega arith) e.tells;
             coherent = all_none S first e.later (steps_up_to most_steps words at).1 calls none;
             comes = e.comes;
+            ends = e.ends;
+            further = e.further;
           }
           )
       | inr isnt ↦ (
@@ -377,6 +429,8 @@ came_whole S first us words calls place at t others ok =
               | inl leaves ↦ inl leaves
               | inr adds ↦ absurd (let wrong : true ≡ false = sym adds.update ∙ isnt in cc)
             ];
+            ends = e.ends;
+            further = e.further;
           }
           )
     ]
@@ -389,9 +443,9 @@ whole_comes S world us call place at came later after_line same how is comes =
       | inr a ↦ inr (a.one, a.added, (a.mine.0, at, how, ap (λ (c : Progress × Zones). swapped_at c.0) is ∙ a.swapped, subst (λ (c : Progress × Zones). HeadAt (heading_of_update a.one.update) c.0) (sym is) (a.headed (heading_of_update a.one.update) a.mine.1)))
     ]
 
-made_goes : (S : Script) (first : List Record) (world : World) (us : List Placed) (call : Call) (place : ℕ) (at : Phase) (came : Progress × Zones) → start world call ≡ Takes at → steps_up_to most_steps world.words at ≡ came → AtMostOne world.calls → Came S first us world.words world.calls place at came
+made_goes : (S : Script) (first : List Record) (world : World) (us : List Placed) (call : Call) (place : ℕ) (at : Phase) (came : Progress × Zones) → start world call ≡ Takes at → steps_up_to most_steps world.words at ≡ came → AtMostOne world.calls → (updates at ≡ true → any_update world.calls ≡ false) → Came S first us world.words world.calls place at came
     → Turned S first world us (Whole call) place (all_made world call came).0 (all_made world call came).1
-made_goes S first world us call place at (On next, words) how is one e = record {
+made_goes S first world us call place at (On next, words) how is one alone e = record {
   goes = record {
     us = e.later;
     tells = tells_on S S.top (by_after S place (Whole call) NotEnabled (record world { words = words })) first words e.later (omega arith) e.tells;
@@ -399,8 +453,10 @@ made_goes S first world us call place at (On next, words) how is one e = record 
     one = one;
   };
   comes = whole_comes S world us call place at (On next, words) e.later (record world { words = words }) refl how is e.comes;
+  window = inl refl;
+  further = e.further;
 }
-made_goes S first world us call place at (Done end, words) how is one e = record {
+made_goes S first world us call place at (Done end, words) how is one alone e = record {
   goes = record {
     us = e.later;
     tells = tells_on S S.top (by_after S place (Whole call) (all_made world call (Done end, words)).0 (all_made world call (Done end, words)).1) first words e.later (omega arith) e.tells;
@@ -408,6 +464,8 @@ made_goes S first world us call place at (Done end, words) how is one e = record
     one = one;
   };
   comes = whole_comes S world us call place at (Done end, words) e.later (all_made world call (Done end, words)).1 refl how is e.comes;
+  window = window_at first world (all_made world call (Done end, words)).1 e.later end refl e.ends (λ kept. alone (kept_updates (moved S S.top (begun_by place at)) us e.later world.words words at (Done end) kept e.comes));
+  further = e.further;
 }
 
 whole_goes : (S : Script) (first : List Record) (world : World) (call : Call) (place : ℕ) (how : Start) → start world call ≡ how → (g : Goes S first world) → StartOk S first g.us world.words world.calls place how → TurnedBehind S first world g.us (Whole call) place (whole world call how)
@@ -417,7 +475,7 @@ whole_goes S first world call place (Answers given) how g ok =
 whole_goes S first world call place (Takes at) how g ok =
     to_if S first world g.us (Whole call) place (is_full world) _ _ (to_none S first world g.us (Whole call) place)
     (to_some S first world g.us (Whole call) place _
-    (made_goes S first world g.us call place at (steps_up_to most_steps world.words at) how refl g.one (came_whole S first g.us world.words world.calls place at g.tells g.coherent ok)))
+    (made_goes S first world g.us call place at (steps_up_to most_steps world.words at) how refl g.one ok.1 (came_whole S first g.us world.words world.calls place at g.tells g.coherent ok)))
 
 -- a call that is put under way
 pub found_here : (name : List ℕ) (x : UnderWay) (calls : List UnderWay) → bytes_eq x.name name ≡ true → call_of name (x ∷ calls) ≡ Some x
@@ -449,6 +507,8 @@ begun_goes S first world name call place at unused g ok =
         one = with_one world.calls (record { name = name; phase = at }) g.one ok.1;
       };
       comes = inl (refl, leaves_words world.words);
+      window = inl refl;
+      further = λ owner number k. k;
     }
 
 begin_goes : (S : Script) (first : List Record) (world : World) (name : List ℕ) (call : Call) (place : ℕ) (how : Start) → call_of name world.calls ≡ None → (g : Goes S first world) → StartOk S first g.us world.words world.calls place how → TurnedBehind S first world g.us (Begin name call) place (begin world name call how)
@@ -490,6 +550,8 @@ stepped_goes S first world name place call (Some (On further, words)) found is g
         one = with_one (without_call name world.calls) (record { name = name; phase = further }) (without_one name world.calls g.one) (λ t. alone (sym b.follows.1 ∙ t));
       };
       comes = step_comes S world (stepped world name call.phase (Some (On further, words))).1 g.us b.later name place call (On further) words found is refl (comes_by S first g.us world.words words call.phase (On further) is b);
+      window = inl refl;
+      further = b.further;
     }
 stepped_goes S first world name place call (Some (Done end, words)) found is g =
     let b = behind_once S first g.us world.words words call.phase (Done end) is g.tells (found_coherent S first g.us world.words name world.calls call found g.coherent) in
@@ -504,6 +566,8 @@ stepped_goes S first world name place call (Some (Done end, words)) found is g =
         one = without_one name world.calls g.one;
       };
       comes = step_comes S world (stepped world name call.phase (Some (Done end, words))).1 g.us b.later name place call (Done end) words found is refl (comes_by S first g.us world.words words call.phase (Done end) is b);
+      window = window_at first world (stepped world name call.phase (Some (Done end, words))).1 b.later end refl b.follows (λ kept. alone (kept_updates S g.us b.later world.words words call.phase (Done end) kept (comes_by S first g.us world.words words call.phase (Done end) is b)));
+      further = b.further;
     }
 
 next_goes : (S : Script) (first : List Record) (world : World) (name : List ℕ) (place : ℕ) (o : Option UnderWay) → call_of name world.calls ≡ o → (g : Goes S first world) → Turned S first world g.us (Next name) place (next world name o).0 (next world name o).1
@@ -673,7 +737,7 @@ pub versions_replayed : (first : List Record) (keep window : ℕ) (lines : List 
 versions_replayed first keep window lines replies world e = (let p = played_goes first keep window lines replies world e in goes_replayed first lines p.0 world p.1)
 
 -- an owner that finds a version holds its number
-holds_by : (words : Zones) (owner : ℕ) (version : Numbered) (o : Option Owner) → slice_get words.owners owner ≡ o
+pub holds_by : (words : Zones) (owner : ℕ) (version : Numbered) (o : Option Owner) → slice_get words.owners owner ≡ o
     → option_map (λ (v : Version Numbered). v.value) (option_and_then (version_in words) (option_and_then place_of o)) ≡ Some version
     → (number : ℕ) × (place : ℕ) × (slice_get words.owners owner ≡ Some (Holding number place))
 holds_by words owner version None e found = absurd (let wrong = found in cc)

@@ -14,7 +14,7 @@ use Rattle.world_run.specs.declared.phase.Phase.{Phase}
 use Rattle.world_run.specs.declared.phase.Progress.{Progress}
 use Rattle.world_run.specs.declared.phase.Progress.TheVariants.{On, Done}
 use Rattle.zone_tree.specs.Version.{Version as Numbered}
-use Rattle.world_run.specs.Phases.{word_step, after, past, leaving_after, oldest_after, sent_after, completed, with_got, gained_after, got_after, updates, gone}
+use Rattle.world_run.specs.Phases.{word_step, after, past, leaving_after, oldest_after, sent_after, completed, with_got, gained_after, got_after, is_for_update, updates, gone}
 use Rattle.world_laws.specs.UpdateAnswers.{heading_of, KeepsHeading}
 use Rattle.world_run.specs.declared.phase.End.{End}
 use Rattle.world_run.specs.declared.phase.End.TheVariants.{Owned, OwnedWeakly, Told, NoSlot, Kept, Sent}
@@ -157,6 +157,33 @@ after_swapped words (phase.Bury owner for) event = (let e = bury_swapped words o
 after_swapped words (phase.Fade owner number for) event = (let e = fade_swapped words owner number for event in omega (arith, e))
 after_swapped words (phase.Reset owner number for) event = omega arith
 after_swapped words (phase.Free owner number for) event = (let e = past_swapped for (gone number) in omega (arith, e))
+
+-- what has made its swap is an update
+swapped_updates_for : (for : Purpose) → swapped_for for ≡ 1 → is_for_update for ≡ true
+swapped_updates_for purpose.Drop e = absurd (omega (arith, e))
+swapped_updates_for (purpose.Publish keeping kept entry) e = refl
+swapped_updates_for (purpose.Oldest head kept entry leaving) e = refl
+swapped_updates_for (purpose.Leaves head kept entry leaving) e = refl
+swapped_updates_for (purpose.Sent sending owners) e = absurd (omega (arith, e))
+
+pub swapped_updates : (at : Phase) → swapped_in at ≡ 1 → updates at ≡ true
+swapped_updates (phase.Load name) e = absurd (omega (arith, e))
+swapped_updates (phase.Look name owner) e = absurd (omega (arith, e))
+swapped_updates (phase.Seek owner seeking) e = absurd (omega (arith, e))
+swapped_updates (phase.Gain owner seeking) e = absurd (omega (arith, e))
+swapped_updates (phase.Raise name owner) e = absurd (omega (arith, e))
+swapped_updates (phase.Note name owner) e = absurd (omega (arith, e))
+swapped_updates (phase.Probe version keeping) e = refl
+swapped_updates (phase.Prepare version keeping) e = refl
+swapped_updates (phase.Swap keeping) e = refl
+swapped_updates (phase.Settle keeping) e = refl
+swapped_updates (phase.Keep given keeping) e = refl
+swapped_updates (phase.Enter given kept keeping) e = refl
+swapped_updates (phase.Release owner for) e = swapped_updates_for for e
+swapped_updates (phase.Bury owner for) e = swapped_updates_for for e
+swapped_updates (phase.Fade owner number for) e = swapped_updates_for for e
+swapped_updates (phase.Reset owner number for) e = swapped_updates_for for e
+swapped_updates (phase.Free owner number for) e = swapped_updates_for for e
 
 pub swap_updates : (at : Phase) → swaps_now at ≡ 1 → updates at ≡ true
 swap_updates (phase.Load name) e = absurd (omega (arith, e))

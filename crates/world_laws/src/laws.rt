@@ -1,5 +1,6 @@
 //! What the definitions say of lines that are played, each the contract of a function that does nothing.
 ghost use Rattle.std.specs.Prelude.{◌≡◌, ℕ, ◌<◌, ◌≤◌, ◌^◌, filter, true, List, [], ◌∷◌, length, codes, Option, Some};
+ghost use Rattle.std.specs.List.{slice_get};
 ghost use Rattle.cell_core.specs.Cell.{Cell};
 ghost use Rattle.cell_core.specs.Shows.{Shows};
 ghost use Rattle.cell_core.specs.Words.{State};
@@ -25,8 +26,8 @@ ghost use Rattle.zone_tree.specs.Zone.{IsZone};
 ghost use Rattle.serve_core.specs.Served.{ForNothing, got};
 ghost use Rattle.serve_core.specs.declared.transport.Transport.TheVariants.{Udp};
 ghost use Rattle.world_laws.specs.Held.{HoldVersions, IsGone, IsAtRest, tells_buried};
-ghost use Rattle.world_laws.specs.InTurn.{AreToldInTurn};
-ghost use Rattle.world_laws.specs.Leads.{AreOctets, AnswerIxfr};
+ghost use Rattle.world_laws.specs.InTurn.{IsOpen, AreToldInTurn};
+ghost use Rattle.world_laws.specs.Leads.{AreOctets, HaveSerials, AnswerFor, AnswerSince};
 ghost use Rattle.world_laws.specs.Lines.{TakesOneStep};
 ghost use Rattle.world_laws.specs.Replays.{IsReplayed, IsAnsweredInReplay};
 ghost use Rattle.world_laws.specs.Runs.{Run, IsShownBy, IsAnsweredAtLoaded, ShowsReached};
@@ -35,7 +36,8 @@ ghost use Rattle.world_run.specs.declared.start.Start.TheVariants.{Answers};
 ghost use Rattle.world_run.specs.declared.step.Call.{Call};
 ghost use Rattle.world_run.specs.declared.step.Call.TheVariants.{Load, Drop, Copy, Weak, Fade, Up, Ask, Transfer, Update};
 ghost use Rattle.world_run.specs.declared.step.Answer.TheVariants.{Owner, Left, Buried, Faded, Nothing, Messages};
-ghost use Rattle.world_run.specs.declared.step.StepName.TheVariants as StepName;
+ghost use Rattle.world_run.specs.declared.step.StepName.{StepName};
+ghost use Rattle.world_run.specs.declared.step.StepName.TheVariants as step_name;
 ghost use Rattle.world_run.specs.declared.step.WorldStep.TheVariants.{Whole, Begin, Next};
 ghost use Rattle.world_run.specs.declared.step.WorldReply.{WorldReply};
 ghost use Rattle.world_run.specs.declared.step.WorldReply.TheVariants.{Answered, Begun, Step, Last, NotEnabled};
@@ -107,8 +109,8 @@ pub fn examples()
         → judged (first_version first) request ≡ Some (Makes heading (record { number = 1; zone = second; changes = Some (changes_between first second) }))
         → replies_of first 0 0 (Whole (Load (codes "a")) ∷ Whole (Update request) ∷ Begin (codes "x") (Drop (codes "a")) ∷ Next (codes "x")
         ∷ Whole (Load (codes "a")) ∷ Next (codes "x") ∷ Next (codes "x") ∷ Next (codes "x") ∷ Next (codes "x") ∷ Next (codes "x") ∷ [])
-        ≡ Some (Answered (Owner (codes "a") 0) ∷ Answered (code_reply heading NoError) ∷ Begun ∷ Step StepName.Release
-        ∷ Answered (Owner (codes "a") 1) ∷ Step StepName.Bury ∷ Step StepName.Fade ∷ Step StepName.Reset ∷ Last StepName.Free (Buried 0) ∷ NotEnabled ∷ []) }
+        ≡ Some (Answered (Owner (codes "a") 0) ∷ Answered (code_reply heading NoError) ∷ Begun ∷ Step step_name.Release
+        ∷ Answered (Owner (codes "a") 1) ∷ Step step_name.Bury ∷ Step step_name.Fade ∷ Step step_name.Reset ∷ Last step_name.Free (Buried 0) ∷ NotEnabled ∷ []) }
     ensures weak_lines { (first : List Record) → replies_of first 0 0 (Whole (Load (codes "a")) ∷ Whole (Copy (codes "a") (codes "b")) ∷ Whole (Weak (codes "b") (codes "w"))
         ∷ Whole (Weak (codes "a") (codes "w")) ∷ Whole (Up (codes "w") (codes "c")) ∷ Whole (Fade (codes "w")) ∷ Whole (Fade (codes "w")) ∷ [])
         ≡ Some (Answered (Owner (codes "a") 0) ∷ Answered (Owner (codes "b") 0) ∷ Answered (Owner (codes "w") 0) ∷ NotEnabled ∷ Answered (Owner (codes "c") 0)
@@ -117,8 +119,8 @@ pub fn examples()
         → judged (first_version first) request ≡ Some (Makes heading (record { number = 1; zone = second; changes = Some (changes_between first second) }))
         → replies_of first 0 0 (Whole (Load (codes "a")) ∷ Whole (Weak (codes "a") (codes "w")) ∷ Whole (Update request) ∷ Begin (codes "x") (Drop (codes "a"))
         ∷ Next (codes "x") ∷ Whole (Up (codes "w") (codes "b")) ∷ Next (codes "x") ∷ Whole (Drop (codes "b")) ∷ Whole (Up (codes "w") (codes "e")) ∷ Whole (Fade (codes "w")) ∷ [])
-        ≡ Some (Answered (Owner (codes "a") 0) ∷ Answered (Owner (codes "w") 0) ∷ Answered (code_reply heading NoError) ∷ Begun ∷ Step StepName.Release
-        ∷ Answered (Owner (codes "b") 0) ∷ Last StepName.Bury Left ∷ Answered (Buried 0) ∷ Answered Nothing ∷ Answered Faded ∷ []) }
+        ≡ Some (Answered (Owner (codes "a") 0) ∷ Answered (Owner (codes "w") 0) ∷ Answered (code_reply heading NoError) ∷ Begun ∷ Step step_name.Release
+        ∷ Answered (Owner (codes "b") 0) ∷ Last step_name.Bury Left ∷ Answered (Buried 0) ∷ Answered Nothing ∷ Answered Faded ∷ []) }
 {}
 
 /// Whatever lines were played, each name in use holds the version that was published with its number, through any reuse of its slot;
@@ -135,12 +137,23 @@ pub fn versions_before_the_kept_are_buried()
         → play (started first keep window) lines ≡ Some (replies, world) → world.names ≡ [] → world.weak_names ≡ [] → world.calls ≡ [] → IsAtRest first keep lines world }
 {}
 
-/// Whatever lines were played from a zone on, an IXFR that is answered at once gets the SOA alone where its serial isn't less than that of
-/// the version which its name holds; else the version in whole, which leads there from any version (RFC 1995, 2 and 4; RFC 5936, 2.2).
+/// Whatever lines were played from a zone on, an IXFR gets the SOA alone where its serial isn't less than that of the version which its
+/// name holds, or held where it was begun; else the version in whole, which leads there from any version, or what changed since the
+/// version whose serial it tells, which leads there from that one. So it is where it is answered at once, in one line, or step by step. The
+/// window's entries have the serials of their versions (RFC 1995, 2 to 5; RFC 5936, 2.2).
 pub fn transfers_lead_to_the_served()
-    ensures { (first : List Record) (keep window : ℕ) (lines : List WorldStep) (replies : List WorldReply) (world : World) (name request : List ℕ) (query : Query) (octets : List (List ℕ))
+    ensures window { (first : List Record) (keep window : ℕ) (lines : List WorldStep) (replies : List WorldReply) (world : World)
+        → play (started first keep window) lines ≡ Some (replies, world) → HaveSerials first lines world }
+    ensures at_once { (first : List Record) (keep window : ℕ) (lines : List WorldStep) (replies : List WorldReply) (world : World) (name request : List ℕ) (query : Query) (octets : List (List ℕ))
         → IsZone first → AreOctets lines → play (started first keep window) lines ≡ Some (replies, world) → reads request ≡ Asks query → query.question.rtype.0 ≡ type_IXFR
-        → start world (Transfer name request) ≡ Answers (Messages octets) → AnswerIxfr first lines world name query octets }
+        → start world (Transfer name request) ≡ Answers (Messages octets) → AnswerFor first lines world name query octets }
+    ensures in_one_line { (first : List Record) (keep window : ℕ) (lines : List WorldStep) (replies : List WorldReply) (world after : World) (name request : List ℕ) (query : Query) (octets : List (List ℕ))
+        → IsZone first → AreOctets lines → play (started first keep window) lines ≡ Some (replies, world) → reads request ≡ Asks query → query.question.rtype.0 ≡ type_IXFR
+        → turn world (Whole (Transfer name request)) ≡ Some (Answered (Messages octets), after) → AnswerFor first lines world name query octets }
+    ensures in_steps { (first : List Record) (keep window : ℕ) (lines : List WorldStep) (replies : List WorldReply) (world after : World) (place : ℕ) (begun name request : List ℕ) (query : Query) (step : StepName) (octets : List (List ℕ))
+        → IsZone first → AreOctets lines → play (started first keep window) lines ≡ Some (replies, world) → reads request ≡ Asks query → query.question.rtype.0 ≡ type_IXFR
+        → slice_get lines place ≡ Some (Begin begun (Transfer name request)) → IsOpen lines replies place (length lines) begun
+        → turn world (Next begun) ≡ Some (Last step (Messages octets), after) → AnswerSince first keep window lines world place name query octets }
 {}
 
 /// Whatever lines were played, at most one of them is told that it has buried a number; nobody owns that number then, and it isn't the
