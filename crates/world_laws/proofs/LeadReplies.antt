@@ -96,13 +96,13 @@ module _ (S : List ℕ → Type 0) (first : Zone) (published : List Numbered) (u
   abbrev Leads : Serial → QueryAsked → List Message → Type 0
   Leads serial query messages =
       ((serial_less serial.0 (zone_serial version.zone) ≡ false) × (records_of messages ≡ map as_sent (map (spelt query.question.name) (soa_of version.zone))))
-      ⊎ (((records_of messages ≡ map as_sent (map (spelt query.question.name) (full version.zone))) × LeadFromAny first ups version (records_of messages) × IsUntold first ups entries words version serial)
+      ⊎ (((records_of messages ≡ map as_sent (map (spelt query.question.name) (full version.zone))) × LeadFromAny first ups version (records_of messages) × IsUntold entries words version serial)
       ⊎ LeadFromAsker first ups version serial query.question.name (records_of messages))
 
   abbrev pub ChangesLead : QueryAsked → List Numbered → Type 0
   ChangesLead query got = (serial : Serial) → query.serial ≡ Some serial → LeadFromAsker first ups version serial query.question.name (map as_sent (map (spelt query.question.name) (told (soa_of version.zone) got)))
 
-  leads_by : (serial : Serial) (query : QueryAsked) (less whole : Bool) (got : List Numbered) → query.serial ≡ Some serial → serial_less serial.0 (zone_serial version.zone) ≡ less → (whole ≡ false → IsUntold first ups entries words version serial) → (whole ≡ true → ChangesLead query got)
+  leads_by : (serial : Serial) (query : QueryAsked) (less whole : Bool) (got : List Numbered) → query.serial ≡ Some serial → serial_less serial.0 (zone_serial version.zone) ≡ less → (whole ≡ false → IsUntold entries words version serial) → (whole ≡ true → ChangesLead query got)
       → Leads serial query (packed query.head query.question (reply_opt query.edns) (if not less then soa_of version.zone else unwrap_or (told_changes whole (soa_of version.zone) got) (full version.zone)))
   leads_by serial query false whole got asks e untold changes = inl (e, records_so query (soa_of version.zone))
   leads_by serial query true false got asks e untold changes =
@@ -117,7 +117,7 @@ module _ (S : List ℕ → Type 0) (first : Zone) (published : List Numbered) (u
   sent_by sending query true octets p e = (p, (let m = e in cc))
   sent_by sending query false octets p e = absurd (let wrong = e in cc)
 
-  pub answer_by : (sending : Sending) (query : QueryAsked) (octets : List (List ℕ)) → sending.version ≡ version → reads sending.request ≡ parsed.Query query → query.question.rtype.0 ≡ type_IXFR → ((serial : Serial) → query.serial ≡ Some serial → sending.whole ≡ false → IsUntold first ups entries words version serial) → (sending.whole ≡ true → ChangesLead query sending.got)
+  pub answer_by : (sending : Sending) (query : QueryAsked) (octets : List (List ℕ)) → sending.version ≡ version → reads sending.request ≡ parsed.Query query → query.question.rtype.0 ≡ type_IXFR → ((serial : Serial) → query.serial ≡ Some serial → sending.whole ≡ false → IsUntold entries words version serial) → (sending.whole ≡ true → ChangesLead query sending.got)
       → sent_answer sending ≡ Messages octets → AnswerIxfr first ups entries words version query octets
   answer_by sending query octets same reads_so ixfr untold changes e =
       let peer : Peer = peer_over Tcp true in

@@ -60,8 +60,8 @@ behind_get first ups k (suc n) zero l = (let at : k + 1 ≡ k + 1 + 0 = omega ar
 behind_get first ups k (suc n) (suc j) l = (let at : k + 1 + 1 + j ≡ k + 1 + suc j = omega arith in behind_get first ups (k + 1) n j (omega (arith, l)) ∙ ap (λ i. Some (zone_at first ups i)) at)
 
 -- the asker's version has the serial that is told
-asker_serial : (first : Zone) (ups : List DynamicUpdate) (words : Zones) (version : Numbered) (request : List ℕ) (sending : Sending) (query : QueryAsked) (serial : Serial) → reads request ≡ parsed.Query query → (s : Sends first ups words version request sending) → query.serial ≡ Some serial → zone_serial (zone_at first ups s.asker) ≡ serial.0
-asker_serial first ups words version request sending query serial reads_so s asks =
+asker_serial : (first : Zone) (ups : List DynamicUpdate) (words : Zones) (entries : List Entry) (version : Numbered) (request : List ℕ) (sending : Sending) (query : QueryAsked) (serial : Serial) → reads request ≡ parsed.Query query → (s : Sends first ups words entries version request sending) → query.serial ≡ Some serial → zone_serial (zone_at first ups s.asker) ≡ serial.0
+asker_serial first ups words entries version request sending query serial reads_so s asks =
     let a = s.asked in
     let before = a.before in
     let within = a.within in
@@ -71,9 +71,9 @@ asker_serial first ups words version request sending query serial reads_so s ask
     ap zone_serial here ∙ (a.serial_is ∙ ap (λ (x : Serial). x.0) same_serial)
 
 -- where each version behind the asker's was got, what changed leads from there
-changes_lead : (first : Zone) (ups : List DynamicUpdate) (words : Zones) (version : Numbered) (request : List ℕ) (sending : Sending) (query : QueryAsked) (serial : Serial) → reads request ≡ parsed.Query query → (s : Sends first ups words version request sending) → sending.whole ≡ true → query.serial ≡ Some serial
+changes_lead : (first : Zone) (ups : List DynamicUpdate) (words : Zones) (entries : List Entry) (version : Numbered) (request : List ℕ) (sending : Sending) (query : QueryAsked) (serial : Serial) → reads request ≡ parsed.Query query → (s : Sends first ups words entries version request sending) → sending.whole ≡ true → query.serial ≡ Some serial
     → LeadFromAsker first ups version serial query.question.name (map as_sent (map (spelt query.question.name) (told (soa_of version.zone) sending.got)))
-changes_lead first ups words version request sending query serial reads_so s whole_so asks =
+changes_lead first ups words entries version request sending query serial reads_so s whole_so asks =
     let a = s.asked in
     let got = sending.got in
     let name = query.question.name in
@@ -82,7 +82,7 @@ changes_lead first ups words version request sending query serial reads_so s who
     let before = a.before in
     let within = a.within in
     let n : version.number - s.asker ≡ length got = omega (arith, count) in
-    let serial_is = asker_serial first ups words version request sending query serial reads_so s asks in
+    let serial_is = asker_serial first ups words entries version request sending query serial reads_so s asks in
     let zones : zones_of got ≡ zones_behind first s.seen s.asker (version.number - s.asker) = s.got.zones ∙ ap (zones_behind first s.seen s.asker) (sym n) in
     let last : newest zone (zones_of got) ≡ version.zone = ap (newest zone) s.got.zones ∙ (newest_behind first s.seen s.asker (length got) zone refl ∙ (ap (zone_at first s.seen) count ∙ sym a.served)) in
     let list : told (soa_of version.zone) got ≡ incremental zone (zones_of got) = list_told zone got version.zone s.got.behind last in
@@ -112,17 +112,17 @@ unless_full true one two e = absurd (let wrong = e in cc)
 unless_full false one two e = (let f = e in cc)
 
 -- a transfer's end gives its messages
-end_sends : (first : Zone) (ups : List DynamicUpdate) (words : Zones) (version : Numbered) (request : List ℕ) (end : End) (given : Answer) → answer_at end ≡ given → SendsAt first ups words version request (Done end) → (sending : Sending) × Sends first ups words version request sending × (sent_answer sending ≡ given)
-end_sends first ups words version request (Owned name owner number) given e s = absurd s
-end_sends first ups words version request (OwnedWeakly name owner number) given e s = absurd s
-end_sends first ups words version request (Told told_answer) given e s = absurd s
-end_sends first ups words version request (NoSlot head) given e s = absurd s
-end_sends first ups words version request (Kept head owner entry) given e s = absurd s
-end_sends first ups words version request (Sent sending) given e s = (sending, s, e)
+end_sends : (first : Zone) (ups : List DynamicUpdate) (words : Zones) (entries : List Entry) (version : Numbered) (request : List ℕ) (end : End) (given : Answer) → answer_at end ≡ given → SendsAt first ups words entries version request (Done end) → (sending : Sending) × Sends first ups words entries version request sending × (sent_answer sending ≡ given)
+end_sends first ups words entries version request (Owned name owner number) given e s = absurd s
+end_sends first ups words entries version request (OwnedWeakly name owner number) given e s = absurd s
+end_sends first ups words entries version request (Told told_answer) given e s = absurd s
+end_sends first ups words entries version request (NoSlot head) given e s = absurd s
+end_sends first ups words entries version request (Kept head owner entry) given e s = absurd s
+end_sends first ups words entries version request (Sent sending) given e s = (sending, s, e)
 
 module _ (lines : List Line) (first : Zone) (keep window top : ℕ) (world : World) (n : Now lines first keep window top world) (is : IsZone first) (octets_sent : AreOctets lines) where
   -- by what was got
-  answer_sent : (entries : List Entry) (words : Zones) (version : Numbered) (request : List ℕ) (sending : Sending) (query : QueryAsked) (octets : List (List ℕ)) → reads request ≡ parsed.Query query → query.question.rtype.0 ≡ type_IXFR → Sends first (updates_in n.goes.us) words version request sending → sent_answer sending ≡ Messages octets
+  answer_sent : (entries : List Entry) (words : Zones) (version : Numbered) (request : List ℕ) (sending : Sending) (query : QueryAsked) (octets : List (List ℕ)) → reads request ≡ parsed.Query query → query.question.rtype.0 ≡ type_IXFR → Sends first (updates_in n.goes.us) words entries version request sending → sent_answer sending ≡ Messages octets
       → AnswerIxfr first (updates_in n.goes.us) entries words version query octets
   answer_sent entries words version request sending query octets reads_so ixfr s e =
       let ups = updates_in n.goes.us in
@@ -132,8 +132,14 @@ module _ (lines : List Line) (first : Zone) (keep window top : ℕ) (world : Wor
       let within = a.within in
       let zone : version.zone ≡ zone_at first ups version.number = a.served ∙ sym (ap (λ u. zone_at first u version.number) s.grown ∙ zone_more first s.seen s.more version.number within) in
       answer_by (IsSent lines) first n.goes.tells.cell.published ups n.goes.tells.replays octets_sent is version (omega (arith, more, m, within)) zone entries words sending query octets s.got.version_is (ap reads s.got.request_is ∙ reads_so) ixfr
-      (λ serial asks whole_not. (let u = s.untold whole_not in inr (s.asker, u.0, asker_serial first ups words version request sending query serial reads_so s asks, u.1, u.2, u.3)))
-      (λ whole_so serial asks. changes_lead first ups words version request sending query serial reads_so s whole_so asks) e
+      (λ serial asks whole_not. (
+      let u = s.untold whole_not in
+      let same_query : a.query ≡ query = (let f : parsed.Query a.query ≡ parsed.Query query = sym a.reads_so ∙ reads_so in cc) in
+      let same_serial : a.serial ≡ serial = (let f : Some a.serial ≡ Some serial = sym a.asks ∙ (ap (λ (q : QueryAsked). q.serial) same_query ∙ asks) in cc) in
+      let l : a.entry.number < u.0 = subst (λ k. k < u.0) (sym a.entry_is) u.1 in
+      inr (a.place, a.entry, u.0, a.entry_at, a.entry_serial ∙ ap (λ (x : Serial). x.0) same_serial, l, u.2, u.3)
+      ))
+      (λ whole_so serial asks. changes_lead first ups words entries version request sending query serial reads_so s whole_so asks) e
 
   -- or where nothing was
   pub answer_at_once : (name request : List ℕ) (query : QueryAsked) (octets : List (List ℕ)) → reads request ≡ parsed.Query query → query.question.rtype.0 ≡ type_IXFR → start world (Transfer name request) ≡ Answers (Messages octets) → AnswerFor first lines world world name query octets
@@ -155,10 +161,10 @@ module _ (lines : List Line) (first : Zone) (keep window top : ℕ) (world : Wor
       let b = transfer_begins lines first keep window top world n name request query at is octets_sent reads_so how in
       let ups = updates_in n.goes.us in
       let came = steps_up_to most_steps world.words at in
-      let s = many_sends first ups b.version request most_steps (script (IsSentAt lines) top) n.goes.us world.words at refl n.goes.tells b.sends in
+      let s = many_sends first ups world.entries b.version request most_steps (script (IsSentAt lines) top) n.goes.us world.words at refl n.goes.tells b.sends in
       let a = all_answers (Transfer name request) came (Messages octets) after e in
-      let ended : SendsAt first ups came.1 b.version request (Done a.0) = subst (SendsAt first ups came.1 b.version request) a.1 s in
-      let sent = end_sends first ups came.1 b.version request a.0 (Messages octets) a.2 ended in
+      let ended : SendsAt first ups came.1 world.entries b.version request (Done a.0) = subst (SendsAt first ups came.1 world.entries b.version request) a.1 s in
+      let sent = end_sends first ups came.1 world.entries b.version request a.0 (Messages octets) a.2 ended in
       let h = known_held lines first keep window top world n in
       record {
         held = h.0;
@@ -234,7 +240,7 @@ module _ (lines : List Line) (replies : List WorldReply) (first : Zone) (keep wi
     has : version_of name before ≡ Some version
     call : UnderWay
     there : call_of begun world.calls ≡ Some call
-    sends : SendsIn first (updates_in n.goes.us) world.words version request call.phase
+    sends : SendsIn first (updates_in n.goes.us) world.words before.entries version request call.phase
 
   abbrev Track : (top : ℕ) (world : World) → Now lines first keep window top world → Type 0
   Track top world n = place < top → Under top world n
@@ -256,7 +262,7 @@ module _ (lines : List Line) (replies : List WorldReply) (first : Zone) (keep wi
         has = s.has;
         call = record { name = begun; phase = b.at };
         there = b.there;
-        sends = subst (λ u. SendsIn first u after.words s.version request b.at) (sym a.grown) (sends_on first (updates_in n.goes.us) s.version request world.words after.words a.more b.at a.further s.sends);
+        sends = subst (λ u. SendsIn first u after.words world.entries s.version request b.at) (sym a.grown) (sends_on first (updates_in n.goes.us) world.entries s.version request world.words after.words a.more b.at a.further s.sends);
       }
 
   -- at a further one
@@ -272,11 +278,11 @@ module _ (lines : List Line) (replies : List WorldReply) (first : Zone) (keep wi
           has = u.has;
           call = u.call;
           there = stays.0;
-          sends = subst (λ us. SendsIn first us after.words u.version request u.call.phase) (sym a.grown) (sends_on first (updates_in n.goes.us) u.version request world.words after.words a.more u.call.phase a.further u.sends);
+          sends = subst (λ us. SendsIn first us after.words u.before.entries u.version request u.call.phase) (sym a.grown) (sends_on first (updates_in n.goes.us) u.before.entries u.version request world.words after.words a.more u.call.phase a.further u.sends);
         }
         | inr goes ↦ elim goes [
           | inl steps ↦ (
-              let once = once_sends first (updates_in n.goes.us) u.version request (script (IsSentAt lines) top) n.goes.us world.words steps.1 u.call.phase (On steps.0) steps.2 refl n.goes.tells u.sends in
+              let once = once_sends first (updates_in n.goes.us) u.before.entries u.version request (script (IsSentAt lines) top) n.goes.us world.words steps.1 u.call.phase (On steps.0) steps.2 refl n.goes.tells u.sends in
               record {
                 earlier = u.earlier;
                 before = u.before;
@@ -285,8 +291,8 @@ module _ (lines : List Line) (replies : List WorldReply) (first : Zone) (keep wi
                 has = u.has;
                 call = record { name = begun; phase = steps.0 };
                 there = steps.3;
-                sends = subst (λ us. SendsIn first us after.words u.version request steps.0) (sym a.grown)
-                    (subst (λ w. SendsIn first (updates_in n.goes.us ++ a.more) w u.version request steps.0) (sym steps.5) (sends_on first (updates_in n.goes.us) u.version request steps.1 steps.1 a.more steps.0 (further_none steps.1) once.sends));
+                sends = subst (λ us. SendsIn first us after.words u.before.entries u.version request steps.0) (sym a.grown)
+                    (subst (λ w. SendsIn first (updates_in n.goes.us ++ a.more) w u.before.entries u.version request steps.0) (sym steps.5) (sends_on first (updates_in n.goes.us) u.before.entries u.version request steps.1 steps.1 a.more steps.0 (further_none steps.1) once.sends));
               }
               )
           | inr ends ↦ absurd (open_so.unended top (answer_at ends.0) behind_it (slice_get_within lines top line here) ends.4)
@@ -310,8 +316,8 @@ module _ (lines : List Line) (replies : List WorldReply) (first : Zone) (keep wi
       let n = b.now in
       let t : next world begun (call_of begun world.calls) ≡ (Last step (Messages octets), after) = (let f = e in cc) in
       let ended = ended_by world begun u.call step (Messages octets) after (step_once world.words u.call.phase) refl (ap (next world begun) (sym u.there) ∙ t) in
-      let once = once_sends first (updates_in n.goes.us) u.version request (script (IsSentAt lines) top) n.goes.us world.words ended.words u.call.phase (Done ended.end) ended.steps refl n.goes.tells u.sends in
-      let sent = end_sends first (updates_in n.goes.us) ended.words u.version request ended.end (Messages octets) ended.gives once.sends in
+      let once = once_sends first (updates_in n.goes.us) u.before.entries u.version request (script (IsSentAt lines) top) n.goes.us world.words ended.words u.call.phase (Done ended.end) ended.steps refl n.goes.tells u.sends in
+      let sent = end_sends first (updates_in n.goes.us) ended.words u.before.entries u.version request ended.end (Messages octets) ended.gives once.sends in
       let r = known_replayed lines first keep window top world n in
       record {
         replayed = r.0;

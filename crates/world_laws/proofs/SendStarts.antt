@@ -126,15 +126,20 @@ all_up owners first ups total asker number (x ∷ entries) fit serials count wit
     ]
 
 -- what is behind the entry of a serial
-record Found (owners : List Owner) (first : Zone) (ups : List DynamicUpdate) (size number serial : ℕ) (os : List ℕ) : Type 0 where
+record Found (owners : List Owner) (first : Zone) (ups : List DynamicUpdate) (size number serial : ℕ) (all : List Entry) (os : List ℕ) : Type 0 where
   asker : ℕ
+  place : ℕ
+  entry : Entry
+  entry_at : slice_get all place ≡ Some entry
+  entry_is : entry.number ≡ asker
+  entry_serial : entry.serial.0 ≡ serial
   serial_is : zone_serial (zone_at first ups asker) ≡ serial
   numbered : AreNumbered owners (asker + 1) os
   count : asker + length os ≡ number
   fit : fits size (serials_of (zone_at first ups asker ∷ zones_behind first ups asker (length os))) ≡ true
 
 found_met : (owners : List Owner) (first : Zone) (ups : List DynamicUpdate) (size total number serial : ℕ) (x : Entry) (entries : List Entry) (os : List ℕ) → AllFit owners (window_seats total (x ∷ entries)) → AreSerials first ups (x ∷ entries) → number + 1 ≤ total → x.number ≤ number → fits size (serials_in (x ∷ entries)) ≡ true → x.serial.0 ≡ serial
-    → owners_in (up_to number entries) ≡ os → Found owners first ups size number serial os
+    → owners_in (up_to number entries) ≡ os → Found owners first ups size number serial (x ∷ entries) os
 found_met owners first ups size total number serial x entries os fit serials within under short same is =
     let said = fit.0.0 in
     let u = all_up owners first ups total x.number number entries fit.1 serials.1 (omega (arith, said)) within under in
@@ -148,6 +153,11 @@ found_met owners first ups size total number serial x entries os fit serials wit
     let serials_are : serials_in (x ∷ u.front) ≡ serials_of (zone_at first ups x.number ∷ zones_behind first ups x.number (length u.front)) = ap (λ s. s ∷ serials_in u.front) serials.0.1 ∙ ap (λ ss. zone_serial (zone_at first ups x.number) ∷ ss) u.serials in
     record {
       asker = x.number;
+      place = 0;
+      entry = x;
+      entry_at = refl;
+      entry_is = refl;
+      entry_serial = same;
       serial_is = sym serials.0.1 ∙ same;
       numbered = subst (AreNumbered owners (x.number + 1)) all u.numbered;
       count = omega (arith, count, k);
@@ -160,11 +170,25 @@ met_here serial x entries e = rw e refl
 missed_here : (serial : ℕ) (x : Entry) (entries : List Entry) → (x.serial.0 == serial) ≡ false → behind serial (x ∷ entries) ≡ behind serial entries
 missed_here serial x entries e = rw e refl
 
+found_further : (owners : List Owner) (first : Zone) (ups : List DynamicUpdate) (size number serial : ℕ) (x : Entry) (entries : List Entry) (os : List ℕ) → Found owners first ups size number serial entries os → Found owners first ups size number serial (x ∷ entries) os
+found_further owners first ups size number serial x entries os f = record {
+  asker = f.asker;
+  place = suc f.place;
+  entry = f.entry;
+  entry_at = f.entry_at;
+  entry_is = f.entry_is;
+  entry_serial = f.entry_serial;
+  serial_is = f.serial_is;
+  numbered = f.numbered;
+  count = f.count;
+  fit = f.fit;
+}
+
 found_entries : (owners : List Owner) (first : Zone) (ups : List DynamicUpdate) (size total number serial : ℕ) (entries : List Entry) (owner : ℕ) (left : List ℕ) → AllFit owners (window_seats total entries) → AreSerials first ups entries → number + 1 ≤ total → fits size (serials_in entries) ≡ true
-    → behind serial (up_to number entries) ≡ owner ∷ left → Found owners first ups size number serial (owner ∷ left)
+    → behind serial (up_to number entries) ≡ owner ∷ left → Found owners first ups size number serial entries (owner ∷ left)
 found_entries owners first ups size total number serial [] owner left fit serials within short e = absurd (let wrong = e in cc)
 found_entries owners first ups size total number serial (x ∷ entries) owner left fit serials within short e =
-    let rest = found_entries owners first ups size total number serial entries owner left fit.1 serials.1 within (fits_less size x.serial.0 (serials_in entries) short) in
+    let rest = λ (none : behind serial (up_to number entries) ≡ owner ∷ left). found_further owners first ups size number serial x entries (owner ∷ left) (found_entries owners first ups size total number serial entries owner left fit.1 serials.1 within (fits_less size x.serial.0 (serials_in entries) short) none) in
     elim (leb_tells x.number number) [
       | inl under ↦ (
           let here : behind serial (x ∷ up_to number entries) ≡ owner ∷ left = ap (behind serial) (sym (up_to_kept number x entries under.0)) ∙ e in
@@ -286,10 +310,10 @@ module _ (lines : List Line) (first : Zone) (keep window top : ℕ) (world : Wor
   pub record Begins (name request : List ℕ) (at : Phase) : Type 0 where
     pub version : Numbered
     pub has : version_of name world ≡ Some version
-    pub sends : SendsIn first (updates_in n.goes.us) world.words version request at
+    pub sends : SendsIn first (updates_in n.goes.us) world.words world.entries version request at
 
   asked_begins : (name request : List ℕ) (owner : ℕ) (version : Numbered) (query : QueryAsked) (o : Option Serial) (at : Phase) → IsZone first → AreOctets lines → version_of name world ≡ Some version → reads request ≡ parsed.Query query → query.serial ≡ o → (is_some o && is_barred world.calls) ≡ false
-      → SeekIs (none_got owner version request) (later version.number o world.entries) at → SendsIn first (updates_in n.goes.us) world.words version request at
+      → SeekIs (none_got owner version request) (later version.number o world.entries) at → SendsIn first (updates_in n.goes.us) world.words world.entries version request at
   asked_begins name request owner version query None at is sent has reads_so asks barred seek = absurd (let wrong = seek.owners_are in cc)
   asked_begins name request owner version query (Some serial) at is sent has reads_so asks barred seek =
       let ups = updates_in n.goes.us in
@@ -303,7 +327,7 @@ module _ (lines : List Line) (first : Zone) (keep window top : ℕ) (world : Wor
       let number = behind_count first ups f.asker (length (seek.owner ∷ seek.left)) in
       let chain = chain_from (IsSent lines) first n.goes.tells.cell.published ups n.goes.tells.replays sent is (zone_at first ups f.asker) zones f.asker refl (λ j zone e. behind_at first ups f.asker (length (seek.owner ∷ seek.left)) j zone e) (omega (arith, l, count, number)) in
       let versions : AreVersions (zone_at first ups f.asker) zones = are_versions world.window (zone_at first ups f.asker) zones chain f.fit in
-      subst (SendsIn first ups world.words version request) seek.is (record {
+      subst (SendsIn first ups world.words world.entries version request) seek.is (record {
         seen = ups;
         more = [];
         grown = sym (append-nil ups);
@@ -316,6 +340,11 @@ module _ (lines : List Line) (first : Zone) (keep window top : ℕ) (world : Wor
           serial = serial;
           asks = asks;
           before = omega (arith, count);
+          place = f.place;
+          entry = f.entry;
+          entry_at = f.entry_at;
+          entry_is = f.entry_is;
+          entry_serial = f.entry_serial;
           serial_is = f.serial_is;
           versions = subst (λ m. AreVersions (zone_at first ups f.asker) (zones_behind first ups f.asker m)) (sym all) versions;
         };
@@ -349,9 +378,9 @@ module _ (lines : List Line) (first : Zone) (keep window top : ℕ) (world : Wor
     pub version : Numbered
     pub has : version_of name world ≡ Some version
     pub gives : sent_answer (none_got owner version request) ≡ given
-    pub untold : (serial : Serial) → query.serial ≡ Some serial → IsUntold first (updates_in n.goes.us) world.entries world.words version serial
+    pub untold : (serial : Serial) → query.serial ≡ Some serial → IsUntold world.entries world.words version serial
 
-  untold_by : (version : Numbered) (o : Option Serial) (serial : Serial) → Served version → o ≡ Some serial → (is_some o && is_barred world.calls) ≡ false → later version.number o world.entries ≡ [] → IsUntold first (updates_in n.goes.us) world.entries world.words version serial
+  untold_by : (version : Numbered) (o : Option Serial) (serial : Serial) → Served version → o ≡ Some serial → (is_some o && is_barred world.calls) ≡ false → later version.number o world.entries ≡ [] → IsUntold world.entries world.words version serial
   untold_by version None serial s e barred none = absurd (let wrong = e in cc)
   untold_by version (Some other) serial s e barred none =
       let ups = updates_in n.goes.us in

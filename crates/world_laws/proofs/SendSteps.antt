@@ -25,6 +25,7 @@ use Rattle.transfer_core.specs.Chain.{zones_of, AreBehind}
 use Rattle.transfer_core.specs.Lists.{AreVersions, newest}
 use Rattle.world_run.specs.Phases.{word_step, after, past, gone, sent_after, completed, with_got, gained_after, got_after, updates}
 use Rattle.world_run.specs.World.{step_once, steps_up_to, go_on}
+use Rattle.world_run.specs.declared.entries.Entry.{Entry}
 use Rattle.world_run.specs.declared.phase.End.TheVariants.{Owned, OwnedWeakly, Told, NoSlot, Kept, Sent}
 use Rattle.world_run.specs.declared.phase.Phase.{Phase}
 use Rattle.world_run.specs.declared.phase.Phase.TheVariants as phase
@@ -73,8 +74,9 @@ behind_more : (zone : Zone) (versions : List Numbered) (version : Numbered) → 
 behind_more zone [] version behind knows = (knows, tt)
 behind_more zone (v ∷ versions) version behind knows = (behind.0, behind_more v.zone versions version behind.1 knows)
 
--- what a transfer of a version asks for: what changed since that of a number, which has the serial that it tells
-pub record Asked (first : Zone) (seen : List DynamicUpdate) (version : Numbered) (request : List ℕ) (asker : ℕ) : Type 0 where
+-- what a transfer of a version asks for: what changed since that of a number, of which an entry of the window is, and which has the serial that
+-- it tells
+pub record Asked (first : Zone) (seen : List DynamicUpdate) (entries : List Entry) (version : Numbered) (request : List ℕ) (asker : ℕ) : Type 0 where
   pub served : version.zone ≡ zone_at first seen version.number
   pub within : version.number ≤ length seen
   pub query : QueryAsked
@@ -82,11 +84,16 @@ pub record Asked (first : Zone) (seen : List DynamicUpdate) (version : Numbered)
   pub serial : Serial
   pub asks : query.serial ≡ Some serial
   pub before : asker < version.number
+  pub place : ℕ
+  pub entry : Entry
+  pub entry_at : slice_get entries place ≡ Some entry
+  pub entry_is : entry.number ≡ asker
+  pub entry_serial : entry.serial.0 ≡ serial.0
   pub serial_is : zone_serial (zone_at first seen asker) ≡ serial.0
   pub versions : AreVersions (zone_at first seen asker) (zones_behind first seen asker (version.number - asker))
 
 -- it has got the first of the versions behind that
-pub record HasGot (first : Zone) (seen : List DynamicUpdate) (version : Numbered) (request : List ℕ) (asker : ℕ) (sending : Sending) : Type 0 where
+pub record HasGot (first : Zone) (seen : List DynamicUpdate) (entries : List Entry) (version : Numbered) (request : List ℕ) (asker : ℕ) (sending : Sending) : Type 0 where
   pub version_is : sending.version ≡ version
   pub request_is : sending.request ≡ request
   pub behind : AreBehind (zone_at first seen asker) sending.got
@@ -98,70 +105,70 @@ AreNumbered owners number [] = Unit {0}
 AreNumbered owners number (o ∷ os) = KeepsNumber owners o number × AreNumbered owners (number + 1) os
 
 -- while it upgrades entries
-pub record Seeks (first : Zone) (ups : List DynamicUpdate) (words : Zones) (version : Numbered) (request : List ℕ) (owner : ℕ) (seeking : Seeking) : Type 0 where
+pub record Seeks (first : Zone) (ups : List DynamicUpdate) (words : Zones) (entries : List Entry) (version : Numbered) (request : List ℕ) (owner : ℕ) (seeking : Seeking) : Type 0 where
   pub seen : List DynamicUpdate
   pub more : List DynamicUpdate
   pub grown : ups ≡ seen ++ more
   pub asker : ℕ
-  pub asked : Asked first seen version request asker
-  pub got : HasGot first seen version request asker seeking.sending
+  pub asked : Asked first seen entries version request asker
+  pub got : HasGot first seen entries version request asker seeking.sending
   pub unfinished : seeking.sending.whole ≡ false
   pub numbered : AreNumbered words.owners (asker + length seeking.sending.got + 1) (owner ∷ seeking.left)
   pub count : asker + length seeking.sending.got + length (owner ∷ seeking.left) ≡ version.number
 
 -- and behind that
-pub record Sends (first : Zone) (ups : List DynamicUpdate) (words : Zones) (version : Numbered) (request : List ℕ) (sending : Sending) : Type 0 where
+pub record Sends (first : Zone) (ups : List DynamicUpdate) (words : Zones) (entries : List Entry) (version : Numbered) (request : List ℕ) (sending : Sending) : Type 0 where
   pub seen : List DynamicUpdate
   pub more : List DynamicUpdate
   pub grown : ups ≡ seen ++ more
   pub asker : ℕ
-  pub asked : Asked first seen version request asker
-  pub got : HasGot first seen version request asker sending
+  pub asked : Asked first seen entries version request asker
+  pub got : HasGot first seen entries version request asker sending
   pub all : sending.whole ≡ true → asker + length sending.got ≡ version.number
   pub untold : sending.whole ≡ false → (number : ℕ) × (asker < number) × (number ≤ version.number) × IsBuriedIn words number
 
-abbrev pub SendsFor : Zone → List DynamicUpdate → Zones → Numbered → List ℕ → Purpose → Type 0
-SendsFor first ups words version request purpose.Drop = ⊥
-SendsFor first ups words version request (purpose.Publish keeping kept entry) = ⊥
-SendsFor first ups words version request (purpose.Oldest head kept entry leaving) = ⊥
-SendsFor first ups words version request (purpose.Leaves head kept entry leaving) = ⊥
-SendsFor first ups words version request (purpose.Sent sending owners) = Sends first ups words version request sending
+abbrev pub SendsFor : Zone → List DynamicUpdate → Zones → List Entry → Numbered → List ℕ → Purpose → Type 0
+SendsFor first ups words entries version request purpose.Drop = ⊥
+SendsFor first ups words entries version request (purpose.Publish keeping kept entry) = ⊥
+SendsFor first ups words entries version request (purpose.Oldest head kept entry leaving) = ⊥
+SendsFor first ups words entries version request (purpose.Leaves head kept entry leaving) = ⊥
+SendsFor first ups words entries version request (purpose.Sent sending owners) = Sends first ups words entries version request sending
 
-abbrev pub SendsIn : Zone → List DynamicUpdate → Zones → Numbered → List ℕ → Phase → Type 0
-SendsIn first ups words version request (phase.Load name) = ⊥
-SendsIn first ups words version request (phase.Look name owner) = ⊥
-SendsIn first ups words version request (phase.Raise name owner) = ⊥
-SendsIn first ups words version request (phase.Note name owner) = ⊥
-SendsIn first ups words version request (phase.Seek owner seeking) = Seeks first ups words version request owner seeking
-SendsIn first ups words version request (phase.Gain owner seeking) = Seeks first ups words version request owner seeking
-SendsIn first ups words version request (phase.Probe published keeping) = ⊥
-SendsIn first ups words version request (phase.Prepare published keeping) = ⊥
-SendsIn first ups words version request (phase.Swap keeping) = ⊥
-SendsIn first ups words version request (phase.Settle keeping) = ⊥
-SendsIn first ups words version request (phase.Keep given keeping) = ⊥
-SendsIn first ups words version request (phase.Enter given kept keeping) = ⊥
-SendsIn first ups words version request (phase.Release owner for) = SendsFor first ups words version request for
-SendsIn first ups words version request (phase.Bury owner for) = SendsFor first ups words version request for
-SendsIn first ups words version request (phase.Fade owner number for) = SendsFor first ups words version request for
-SendsIn first ups words version request (phase.Reset owner number for) = SendsFor first ups words version request for
-SendsIn first ups words version request (phase.Free owner number for) = SendsFor first ups words version request for
+abbrev pub SendsIn : Zone → List DynamicUpdate → Zones → List Entry → Numbered → List ℕ → Phase → Type 0
+SendsIn first ups words entries version request (phase.Load name) = ⊥
+SendsIn first ups words entries version request (phase.Look name owner) = ⊥
+SendsIn first ups words entries version request (phase.Raise name owner) = ⊥
+SendsIn first ups words entries version request (phase.Note name owner) = ⊥
+SendsIn first ups words entries version request (phase.Seek owner seeking) = Seeks first ups words entries version request owner seeking
+SendsIn first ups words entries version request (phase.Gain owner seeking) = Seeks first ups words entries version request owner seeking
+SendsIn first ups words entries version request (phase.Probe published keeping) = ⊥
+SendsIn first ups words entries version request (phase.Prepare published keeping) = ⊥
+SendsIn first ups words entries version request (phase.Swap keeping) = ⊥
+SendsIn first ups words entries version request (phase.Settle keeping) = ⊥
+SendsIn first ups words entries version request (phase.Keep given keeping) = ⊥
+SendsIn first ups words entries version request (phase.Enter given kept keeping) = ⊥
+SendsIn first ups words entries version request (phase.Release owner for) = SendsFor first ups words entries version request for
+SendsIn first ups words entries version request (phase.Bury owner for) = SendsFor first ups words entries version request for
+SendsIn first ups words entries version request (phase.Fade owner number for) = SendsFor first ups words entries version request for
+SendsIn first ups words entries version request (phase.Reset owner number for) = SendsFor first ups words entries version request for
+SendsIn first ups words entries version request (phase.Free owner number for) = SendsFor first ups words entries version request for
 
-abbrev pub SendsAt : Zone → List DynamicUpdate → Zones → Numbered → List ℕ → Progress → Type 0
-SendsAt first ups words version request (On at) = SendsIn first ups words version request at
-SendsAt first ups words version request (Done (Owned name owner number)) = ⊥
-SendsAt first ups words version request (Done (OwnedWeakly name owner number)) = ⊥
-SendsAt first ups words version request (Done (Told given)) = ⊥
-SendsAt first ups words version request (Done (NoSlot head)) = ⊥
-SendsAt first ups words version request (Done (Kept head owner entry)) = ⊥
-SendsAt first ups words version request (Done (Sent sending)) = Sends first ups words version request sending
+abbrev pub SendsAt : Zone → List DynamicUpdate → Zones → List Entry → Numbered → List ℕ → Progress → Type 0
+SendsAt first ups words entries version request (On at) = SendsIn first ups words entries version request at
+SendsAt first ups words entries version request (Done (Owned name owner number)) = ⊥
+SendsAt first ups words entries version request (Done (OwnedWeakly name owner number)) = ⊥
+SendsAt first ups words entries version request (Done (Told given)) = ⊥
+SendsAt first ups words entries version request (Done (NoSlot head)) = ⊥
+SendsAt first ups words entries version request (Done (Kept head owner entry)) = ⊥
+SendsAt first ups words entries version request (Done (Sent sending)) = Sends first ups words entries version request sending
 
 -- where more updates are published, and others have taken steps
 numbered_on : (words later : Zones) (number : ℕ) (os : List ℕ) → Further words later → AreNumbered words.owners number os → AreNumbered later.owners number os
 numbered_on words later number [] further all = tt
 numbered_on words later number (o ∷ os) further all = (further.numbers o number all.0, numbered_on words later (number + 1) os further all.1)
 
-module _ (first : Zone) (ups : List DynamicUpdate) (version : Numbered) (request : List ℕ) where
-  seeks_on : (words later : Zones) (more : List DynamicUpdate) (owner : ℕ) (seeking : Seeking) → Further words later → Seeks first ups words version request owner seeking → Seeks first (ups ++ more) later version request owner seeking
+module _ (first : Zone) (ups : List DynamicUpdate) (entries : List Entry) (version : Numbered) (request : List ℕ) where
+  seeks_on : (words later : Zones) (more : List DynamicUpdate) (owner : ℕ) (seeking : Seeking) → Further words later → Seeks first ups words entries version request owner seeking → Seeks first (ups ++ more) later entries version request owner seeking
   seeks_on words later more owner seeking further s = record {
     seen = s.seen;
     more = s.more ++ more;
@@ -177,7 +184,7 @@ module _ (first : Zone) (ups : List DynamicUpdate) (version : Numbered) (request
   still_untold : (words later : Zones) (asker : ℕ) → Further words later → (number : ℕ) × (asker < number) × (number ≤ version.number) × IsBuriedIn words number → (number : ℕ) × (asker < number) × (number ≤ version.number) × IsBuriedIn later number
   still_untold words later asker further u = (u.0, u.1, u.2, further.buried u.0 u.3)
 
-  for_on : (words later : Zones) (more : List DynamicUpdate) (for : Purpose) → Further words later → SendsFor first ups words version request for → SendsFor first (ups ++ more) later version request for
+  for_on : (words later : Zones) (more : List DynamicUpdate) (for : Purpose) → Further words later → SendsFor first ups words entries version request for → SendsFor first (ups ++ more) later entries version request for
   for_on words later more purpose.Drop further s = absurd s
   for_on words later more (purpose.Publish keeping kept entry) further s = absurd s
   for_on words later more (purpose.Oldest head kept entry leaving) further s = absurd s
@@ -193,7 +200,7 @@ module _ (first : Zone) (ups : List DynamicUpdate) (version : Numbered) (request
     untold = λ e. still_untold words later s.asker further (s.untold e);
   }
 
-  pub sends_on : (words later : Zones) (more : List DynamicUpdate) (at : Phase) → Further words later → SendsIn first ups words version request at → SendsIn first (ups ++ more) later version request at
+  pub sends_on : (words later : Zones) (more : List DynamicUpdate) (at : Phase) → Further words later → SendsIn first ups words entries version request at → SendsIn first (ups ++ more) later entries version request at
   sends_on words later more (phase.Load name) further s = absurd s
   sends_on words later more (phase.Look name owner) further s = absurd s
   sends_on words later more (phase.Raise name owner) further s = absurd s
@@ -213,14 +220,14 @@ module _ (first : Zone) (ups : List DynamicUpdate) (version : Numbered) (request
   sends_on words later more (phase.Free owner number for) further s = for_on words later more for further s
 
   -- it is no update
-  sends_no_update_for : (words : Zones) (for : Purpose) (owner : ℕ) → SendsFor first ups words version request for → updates (phase.Release owner for) ≡ false
+  sends_no_update_for : (words : Zones) (for : Purpose) (owner : ℕ) → SendsFor first ups words entries version request for → updates (phase.Release owner for) ≡ false
   sends_no_update_for words purpose.Drop owner s = refl
   sends_no_update_for words (purpose.Publish keeping kept entry) owner s = absurd s
   sends_no_update_for words (purpose.Oldest head kept entry leaving) owner s = absurd s
   sends_no_update_for words (purpose.Leaves head kept entry leaving) owner s = absurd s
   sends_no_update_for words (purpose.Sent sending owners) owner s = refl
 
-  sends_no_update : (words : Zones) (at : Phase) → SendsIn first ups words version request at → updates at ≡ false
+  sends_no_update : (words : Zones) (at : Phase) → SendsIn first ups words entries version request at → updates at ≡ false
   sends_no_update words (phase.Load name) s = refl
   sends_no_update words (phase.Look name owner) s = refl
   sends_no_update words (phase.Raise name owner) s = refl
@@ -240,31 +247,31 @@ module _ (first : Zone) (ups : List DynamicUpdate) (version : Numbered) (request
   sends_no_update words (phase.Free owner number for) s = sends_no_update_for words for owner s
 
   -- what follows on its steps: the owners that were got are given up
-  sent_follows : (words : Zones) (sending : Sending) (got : List ℕ) → Sends first ups words version request sending → SendsAt first ups words version request (sent_after sending got)
+  sent_follows : (words : Zones) (sending : Sending) (got : List ℕ) → Sends first ups words entries version request sending → SendsAt first ups words entries version request (sent_after sending got)
   sent_follows words sending [] s = s
   sent_follows words sending (owner ∷ got) s = s
 
-  past_follows : (words : Zones) (for : Purpose) (given : Answer) → SendsFor first ups words version request for → SendsAt first ups words version request (past for given)
+  past_follows : (words : Zones) (for : Purpose) (given : Answer) → SendsFor first ups words entries version request for → SendsAt first ups words entries version request (past for given)
   past_follows words purpose.Drop given s = absurd s
   past_follows words (purpose.Publish keeping kept entry) given s = absurd s
   past_follows words (purpose.Oldest head kept entry leaving) given s = absurd s
   past_follows words (purpose.Leaves head kept entry leaving) given s = absurd s
   past_follows words (purpose.Sent sending got) given s = sent_follows words sending got s
 
-  release_follows : (words : Zones) (at : ℕ) (for : Purpose) → SendsFor first ups words version request for → (event : WordEvent) → SendsAt first ups words version request (after words (phase.Release at for) event)
+  release_follows : (words : Zones) (at : ℕ) (for : Purpose) → SendsFor first ups words entries version request for → (event : WordEvent) → SendsAt first ups words entries version request (after words (phase.Release at for) event)
   release_follows words at for s told.Emptied = s
   release_follows words at for s event = past_follows words for answer.Left s
 
-  bury_follows : (words : Zones) (at : ℕ) (for : Purpose) → SendsFor first ups words version request for → (event : WordEvent) → SendsAt first ups words version request (after words (phase.Bury at for) event)
+  bury_follows : (words : Zones) (at : ℕ) (for : Purpose) → SendsFor first ups words entries version request for → (event : WordEvent) → SendsAt first ups words entries version request (after words (phase.Bury at for) event)
   bury_follows words at for s (told.Buried number) = s
   bury_follows words at for s event = past_follows words for answer.Left s
 
-  fade_follows : (words : Zones) (at : ℕ) (number : Option ℕ) (for : Purpose) → SendsFor first ups words version request for → (event : WordEvent) → SendsAt first ups words version request (after words (phase.Fade at number for) event)
+  fade_follows : (words : Zones) (at : ℕ) (number : Option ℕ) (for : Purpose) → SendsFor first ups words entries version request for → (event : WordEvent) → SendsAt first ups words entries version request (after words (phase.Fade at number for) event)
   fade_follows words at number for s told.Closed = s
   fade_follows words at number for s event = past_follows words for (gone number) s
 
   -- no further version is got where the next one is buried
-  ends_here : (words : Zones) (owner : ℕ) (seeking : Seeking) (s : Seeks first ups words version request owner seeking) → IsBuriedIn words (s.asker + length seeking.sending.got + 1) → Sends first ups words version request seeking.sending
+  ends_here : (words : Zones) (owner : ℕ) (seeking : Seeking) (s : Seeks first ups words entries version request owner seeking) → IsBuriedIn words (s.asker + length seeking.sending.got + 1) → Sends first ups words entries version request seeking.sending
   ends_here words owner seeking s buried = record {
     seen = s.seen;
     more = s.more;
@@ -277,7 +284,7 @@ module _ (first : Zone) (ups : List DynamicUpdate) (version : Numbered) (request
   }
 
   -- the same, behind its step
-  goes_by : (words new : Zones) (owner : ℕ) (seeking : Seeking) → Further words new → Seeks first ups words version request owner seeking → Seeks first ups new version request owner seeking
+  goes_by : (words new : Zones) (owner : ℕ) (seeking : Seeking) → Further words new → Seeks first ups words entries version request owner seeking → Seeks first ups new entries version request owner seeking
   goes_by words new owner seeking further s = record {
     seen = s.seen;
     more = s.more;
@@ -290,7 +297,7 @@ module _ (first : Zone) (ups : List DynamicUpdate) (version : Numbered) (request
     count = s.count;
   }
 
-  for_by : (words new : Zones) (for : Purpose) → Further words new → SendsFor first ups words version request for → SendsFor first ups new version request for
+  for_by : (words new : Zones) (for : Purpose) → Further words new → SendsFor first ups words entries version request for → SendsFor first ups new entries version request for
   for_by words new purpose.Drop further s = absurd s
   for_by words new (purpose.Publish keeping kept entry) further s = absurd s
   for_by words new (purpose.Oldest head kept entry leaving) further s = absurd s
@@ -316,8 +323,8 @@ module _ (first : Zone) (ups : List DynamicUpdate) (version : Numbered) (request
   raise_dead : (words new : Zones) (owner number : ℕ) (cell : Cell Numbered) → Shows words cell → Makes {T = Numbered} words (word.Raise owner) told.Dead new → KeepsNumber words.owners owner number → IsBuriedIn new number
   raise_dead words new owner number cell shows m keeps = (let shown = step_shows {T = Numbered} words new (word.Raise owner) told.Dead cell shows m in dead_buried words new owner number cell shown.0 shown.2 shown.1 keeps)
 
-  seek_follows : (words new : Zones) (cell : Cell Numbered) (owner : ℕ) (seeking : Seeking) → Shows words cell → (s : Seeks first ups words version request owner seeking) → (event : WordEvent) → Makes {T = Numbered} words (word.Look owner) event new → Seeks first ups new version request owner seeking
-      → SendsAt first ups new version request (after new (phase.Seek owner seeking) event)
+  seek_follows : (words new : Zones) (cell : Cell Numbered) (owner : ℕ) (seeking : Seeking) → Shows words cell → (s : Seeks first ups words entries version request owner seeking) → (event : WordEvent) → Makes {T = Numbered} words (word.Look owner) event new → Seeks first ups new entries version request owner seeking
+      → SendsAt first ups new entries version request (after new (phase.Seek owner seeking) event)
   unfolding goes_by
   seek_follows words new cell owner seeking shows s told.Alive m later = later
   seek_follows words new cell owner seeking shows s told.Dead m later =
@@ -326,8 +333,8 @@ module _ (first : Zone) (ups : List DynamicUpdate) (version : Numbered) (request
   seek_follows words new cell owner seeking shows s event m later = later
 
   -- one more was got
-  one_more : (words : Zones) (next : ℕ) (found : Numbered) (owner : ℕ) (seeking : Seeking) (s : Seeks first ups words version request owner seeking) → found.zone ≡ zone_at first s.seen (s.asker + length seeking.sending.got + 1)
-      → KnowsChanges (zone_at first s.seen (s.asker + length seeking.sending.got)) found → HasGot first s.seen version request s.asker (with_got next found seeking).sending
+  one_more : (words : Zones) (next : ℕ) (found : Numbered) (owner : ℕ) (seeking : Seeking) (s : Seeks first ups words entries version request owner seeking) → found.zone ≡ zone_at first s.seen (s.asker + length seeking.sending.got + 1)
+      → KnowsChanges (zone_at first s.seen (s.asker + length seeking.sending.got)) found → HasGot first s.seen entries version request s.asker (with_got next found seeking).sending
   one_more words next found owner seeking s zone knows =
       let got = seeking.sending.got in
       let n = length-append got (found ∷ []) in
@@ -341,8 +348,8 @@ module _ (first : Zone) (ups : List DynamicUpdate) (version : Numbered) (request
             ∙ (behind_push first s.seen s.asker (length got) ∙ ap (zones_behind first s.seen s.asker) (sym n))));
       }
 
-  gained_follows : (words : Zones) (next : ℕ) (found : Numbered) (owner : ℕ) (seeking : Seeking) (left : List ℕ) (s : Seeks first ups words version request owner seeking) → left ≡ seeking.left → HasGot first s.seen version request s.asker (with_got next found seeking).sending
-      → SendsAt first ups words version request (gained_after (with_got next found seeking) left)
+  gained_follows : (words : Zones) (next : ℕ) (found : Numbered) (owner : ℕ) (seeking : Seeking) (left : List ℕ) (s : Seeks first ups words entries version request owner seeking) → left ≡ seeking.left → HasGot first s.seen entries version request s.asker (with_got next found seeking).sending
+      → SendsAt first ups words entries version request (gained_after (with_got next found seeking) left)
   gained_follows words next found owner seeking [] s is got =
       let n = length-append seeking.sending.got (found ∷ []) in
       let none : length seeking.left ≡ 0 = ap length (sym is) in
@@ -382,8 +389,8 @@ module _ (first : Zone) (ups : List DynamicUpdate) (version : Numbered) (request
       let there : slice_get t.cell.published (number + 1) ≡ Some found = ap (slice_get t.cell.published) (sym which) ∙ (sym (owner_is_given new t.cell next held.0 held.1 t.shows held.2) ∙ e) in
       ((t.replays.versions (number + 1) found there).1 ∙ ap (λ u. zone_at first u (number + 1)) (sym is), subst (λ u. KnowsChanges (zone_at first u number) found) (sym is) (t.replays.changes number found there))
 
-  got_follows : (S : Script) (us : List Placed) (new : Zones) (owner : ℕ) (seeking : Seeking) (next : ℕ) (o : Option Numbered) → found_by new next ≡ o → ups ≡ updates_in us → Tells S first new us → (s : Seeks first ups new version request owner seeking) → KeepsNumber new.owners next (s.asker + length seeking.sending.got + 1)
-      → SendsAt first ups new version request (got_after owner seeking next o)
+  got_follows : (S : Script) (us : List Placed) (new : Zones) (owner : ℕ) (seeking : Seeking) (next : ℕ) (o : Option Numbered) → found_by new next ≡ o → ups ≡ updates_in us → Tells S first new us → (s : Seeks first ups new entries version request owner seeking) → KeepsNumber new.owners next (s.asker + length seeking.sending.got + 1)
+      → SendsAt first ups new entries version request (got_after owner seeking next o)
   got_follows S us new owner seeking next None e is t s keeps = s
   got_follows S us new owner seeking next (Some found) e is t s keeps =
       let k = s.asker + length seeking.sending.got in
@@ -394,8 +401,8 @@ module _ (first : Zone) (ups : List DynamicUpdate) (version : Numbered) (request
       let two : zone_at first ups k ≡ zone_at first s.seen k = ap (λ u. zone_at first u k) s.grown ∙ zone_more first s.seen s.more k (omega (arith, count, within)) in
       gained_follows new next found owner seeking seeking.left s refl (one_more new next found owner seeking s (f.0 ∙ one) (subst (λ z. KnowsChanges z found) two f.1))
 
-  gain_follows : (S : Script) (us : List Placed) (words new : Zones) (cell : Cell Numbered) (owner : ℕ) (seeking : Seeking) → Shows words cell → (s : Seeks first ups words version request owner seeking) → (event : WordEvent) → Makes {T = Numbered} words (word.Raise owner) event new → ups ≡ updates_in us → Tells S first new us
-      → Seeks first ups new version request owner seeking → SendsAt first ups new version request (after new (phase.Gain owner seeking) event)
+  gain_follows : (S : Script) (us : List Placed) (words new : Zones) (cell : Cell Numbered) (owner : ℕ) (seeking : Seeking) → Shows words cell → (s : Seeks first ups words entries version request owner seeking) → (event : WordEvent) → Makes {T = Numbered} words (word.Raise owner) event new → ups ≡ updates_in us → Tells S first new us
+      → Seeks first ups new entries version request owner seeking → SendsAt first ups new entries version request (after new (phase.Gain owner seeking) event)
   unfolding goes_by
   gain_follows S us words new cell owner seeking shows s (told.Raised next number) m is t later =
       let keeps = raised_keeps words new owner next number (s.asker + length seeking.sending.got + 1) m s.numbered.0 in
@@ -406,7 +413,7 @@ module _ (first : Zone) (ups : List DynamicUpdate) (version : Numbered) (request
   gain_follows S us words new cell owner seeking shows s event m is t later = later
 
   -- each step keeps it
-  pub step_sends : (S : Script) (us : List Placed) (words new : Zones) (cell : Cell Numbered) (at : Phase) (event : WordEvent) → Shows words cell → Makes words (word_step at) event new → ups ≡ updates_in us → Tells S first new us → SendsIn first ups words version request at → SendsAt first ups new version request (after new at event)
+  pub step_sends : (S : Script) (us : List Placed) (words new : Zones) (cell : Cell Numbered) (at : Phase) (event : WordEvent) → Shows words cell → Makes words (word_step at) event new → ups ≡ updates_in us → Tells S first new us → SendsIn first ups words entries version request at → SendsAt first ups new entries version request (after new at event)
   step_sends S us words new cell (phase.Load name) event shows m is t s = absurd s
   step_sends S us words new cell (phase.Look name owner) event shows m is t s = absurd s
   step_sends S us words new cell (phase.Raise name owner) event shows m is t s = absurd s
@@ -428,22 +435,22 @@ module _ (first : Zone) (ups : List DynamicUpdate) (version : Numbered) (request
   -- its step leaves the updates so far
   pub record SentOnce (S : Script) (us : List Placed) (new : Zones) (progress : Progress) : Type 0 where
     pub tells : Tells S first new us
-    pub sends : SendsAt first ups new version request progress
+    pub sends : SendsAt first ups new entries version request progress
 
-  pub once_sends : (S : Script) (us : List Placed) (words new : Zones) (at : Phase) (progress : Progress) → step_once words at ≡ Some (progress, new) → ups ≡ updates_in us → Tells S first words us → SendsIn first ups words version request at → SentOnce S us new progress
+  pub once_sends : (S : Script) (us : List Placed) (words new : Zones) (at : Phase) (progress : Progress) → step_once words at ≡ Some (progress, new) → ups ≡ updates_in us → Tells S first words us → SendsIn first ups words entries version request at → SentOnce S us new progress
   once_sends S us words new at progress e is t s =
       let one = step_by words new at progress (made words (word_step at)) refl e in
       let later = tells_same S first words new us (word_step at) one.event (owner_no_swap (word_step at) (of_owner at (sends_no_update words at s))) one.makes t in
-      record { tells = later; sends = subst (SendsAt first ups new version request) one.goes (step_sends S us words new t.cell at one.event t.shows one.makes is later s) }
+      record { tells = later; sends = subst (SendsAt first ups new entries version request) one.goes (step_sends S us words new t.cell at one.event t.shows one.makes is later s) }
 
   many_by : (S : Script) (us : List Placed) (words : Zones) (at : Phase) (more : Zones → Phase → Progress × Zones) (o : Option (Progress × Zones)) → ups ≡ updates_in us
-      → ((words : Zones) (at : Phase) → Tells S first words us → SendsIn first ups words version request at → SendsAt first ups (more words at).1 version request (more words at).0)
-      → Tells S first words us → SendsIn first ups words version request at → step_once words at ≡ o → SendsAt first ups (go_on more words at o).1 version request (go_on more words at o).0
+      → ((words : Zones) (at : Phase) → Tells S first words us → SendsIn first ups words entries version request at → SendsAt first ups (more words at).1 entries version request (more words at).0)
+      → Tells S first words us → SendsIn first ups words entries version request at → step_once words at ≡ o → SendsAt first ups (go_on more words at o).1 entries version request (go_on more words at o).0
   many_by S us words at more None is all t s e = s
   many_by S us words at more (Some (On next, between)) is all t s e = (let b = once_sends S us words between at (On next) e is t s in all between next b.tells b.sends)
   many_by S us words at more (Some (Done end, between)) is all t s e = (once_sends S us words between at (Done end) e is t s).sends
 
-  pub many_sends : (left : ℕ) (S : Script) (us : List Placed) (words : Zones) (at : Phase) → ups ≡ updates_in us → Tells S first words us → SendsIn first ups words version request at → SendsAt first ups (steps_up_to left words at).1 version request (steps_up_to left words at).0
+  pub many_sends : (left : ℕ) (S : Script) (us : List Placed) (words : Zones) (at : Phase) → ups ≡ updates_in us → Tells S first words us → SendsIn first ups words entries version request at → SendsAt first ups (steps_up_to left words at).1 entries version request (steps_up_to left words at).0
   unfolding steps_up_to
   many_sends zero S us words at is t s = s
   many_sends (suc left) S us words at is t s = many_by S us words at (steps_up_to left) (step_once words at) is (λ words at t s. many_sends left S us words at is t s) t s refl

@@ -67,11 +67,11 @@ abbrev pub IsBuriedIn : State Numbered → ℕ → Type 0
 IsBuriedIn words number = (cell : Cell Numbered) × Shows words cell × (cell.buried number ≡ true)
 
 -- what changed since a serial up to a version isn't told: no entry of the window in front of that version has the serial, or one of the
--- versions behind such an entry's, up to that version, is buried (RFC 1995, 4; own)
-abbrev pub IsUntold : List Record → List DynamicUpdate → List Entry → State Numbered → Numbered → Serial → Type 0
-IsUntold first updates entries words version serial =
+-- versions behind that of an entry with the serial, up to that version, is buried (RFC 1995, 4; own)
+abbrev pub IsUntold : List Entry → State Numbered → Numbered → Serial → Type 0
+IsUntold entries words version serial =
     ((place : ℕ) (entry : Entry) → slice_get entries place ≡ Some entry → entry.number < version.number → entry.serial.0 ≢ serial.0)
-    ⊎ ((asker : ℕ) × (number : ℕ) × (zone_serial (replay first (take asker updates)) ≡ serial.0) × (asker < number) × (number ≤ version.number) × IsBuriedIn words number)
+    ⊎ ((place : ℕ) × (entry : Entry) × (number : ℕ) × (slice_get entries place ≡ Some entry) × (entry.serial.0 ≡ serial.0) × (entry.number < number) × (number ≤ version.number) × IsBuriedIn words number)
 
 -- the messages of an IXFR of a version: where the serial that it tells isn't less than that version's, its SOA alone; else what changed since
 -- the version that is told, which leads there from that one; or, where that isn't told, by the window's entries and the words behind, the
@@ -83,7 +83,7 @@ pub record AnswerIxfr (first : List Record) (updates : List DynamicUpdate) (entr
   pub messages : List Message
   pub sent : octets ≡ octets_of messages
   pub leads : ((serial_less serial.0 (zone_serial version.zone) ≡ false) × (records_of messages ≡ map as_sent (map (spelt query.question.name) (soa_of version.zone))))
-      ⊎ (((records_of messages ≡ map as_sent (map (spelt query.question.name) (full version.zone))) × LeadFromAny first updates version (records_of messages) × IsUntold first updates entries words version serial)
+      ⊎ (((records_of messages ≡ map as_sent (map (spelt query.question.name) (full version.zone))) × LeadFromAny first updates version (records_of messages) × IsUntold entries words version serial)
       ⊎ LeadFromAsker first updates version serial query.question.name (records_of messages))
 
 -- an IXFR gets this of the version that a name holds, by the window then and the world behind its line (own)
