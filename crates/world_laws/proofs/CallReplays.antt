@@ -7,14 +7,15 @@ use Rattle.std.proofs.lemmas.Bool.{cases_Bool}
 use Rattle.std.proofs.lemmas.Bool.Decides.{eqb_tells}
 use Rattle.std.proofs.lemmas.List.{map-append}
 use Rattle.std.proofs.lemmas.Option.{slice_get_within}
+use Rattle.cell_core.proofs.LawLemmas.{run_grows}
 use Rattle.cell_core.proofs.OwnerLemmas.{Keeps as KeepsNumber, keeps_step}
+use Rattle.cell_core.proofs.RunShows.{step_runs}
 use Rattle.cell_core.proofs.SeatLemmas.{get_set_same, get_set_other}
 use Rattle.cell_core.proofs.StepShows.{step_shows}
 use Rattle.cell_core.specs.Cell.{Cell}
 use Rattle.cell_core.specs.Shows.{Shows, PublisherIs, SlotIs, Phase as SlotPhase}
 use Rattle.cell_core.specs.Words.{bulk, free_word, dead_word, fetch_add, fetch_sub, found_by, version_in}
 use Rattle.cell_core.specs.WordSteps.{Makes, with_version, with_shares, with_weak_word}
-use Rattle.cell_core.specs.declared.words.Owner.{Owner}
 use Rattle.cell_core.specs.declared.words.Publisher.TheVariants.{Swapping}
 use Rattle.cell_core.specs.declared.words.Slot.{Slot}
 use Rattle.cell_core.specs.declared.words.WordEvent.{WordEvent}
@@ -43,6 +44,7 @@ use Rattle.world_run.specs.declared.step.Answer.TheVariants as answer
 use Rattle.zone_tree.specs.Version.{Version as Numbered, zone_serial}
 use Rattle.world_run.specs.Phases.{word_step, after, past, gone, leaving_after, oldest_after, sent_after, completed, with_got, entry_of, gained_after, got_after, is_for_update, updates}
 use Rattle.world_laws.specs.InTurn.{LeavesPublished}
+use Rattle.world_laws.specs.Leads.{IsBuriedIn}
 use Rattle.world_run.specs.World.{next}
 use Rattle.world_laws.proofs.HandSeats.{serial_of_entry, swaps_now, swapped_in}
 pub use Rattle.world_laws.proofs.TellLemmas.{replay_more, MakesNext, Script, scripted, script, Ever, Placed, updates_in, IsFresh, IsNext, placed_next, AreInTurn, Zones, Tells, NoSwap, publishes_nothing, tells_same, SwapsNext, tells_swapped}
@@ -502,9 +504,26 @@ none_now (phase.Fade owner number for) apart = refl
 none_now (phase.Reset owner number for) apart = refl
 none_now (phase.Free owner number for) apart = refl
 
--- each owner has the number that it had
-abbrev pub Further : List Owner → List Owner → Type 0
-Further owners later = (owner number : ℕ) → KeepsNumber owners owner number → KeepsNumber later owner number
+-- each owner has the number that it had, and what is buried stays so
+pub record Further (words later : Zones) : Type 0 where
+  pub numbers : (owner number : ℕ) → KeepsNumber words.owners owner number → KeepsNumber later.owners owner number
+  pub buried : (number : ℕ) → IsBuriedIn words number → IsBuriedIn later number
+
+pub further_none : (words : Zones) → Further words words
+further_none words = record { numbers = λ owner number k. k; buried = λ number b. b }
+
+pub further_on : (words between later : Zones) → Further words between → Further between later → Further words later
+further_on words between later one two = record { numbers = λ owner number k. two.numbers owner number (one.numbers owner number k); buried = λ number b. two.buried number (one.buried number b) }
+
+pub further_step : (words new : Zones) (step : WordStep Numbered) (event : WordEvent) → Makes words step event new → Further words new
+further_step words new step event m = record {
+  numbers = λ owner number k. keeps_step words new step event owner number m k;
+  buried = λ number b. (
+      let shown = step_shows words new step event b.0 b.1 m in
+      let short = step_runs words step event b.0 shown.0 shown.1 in
+      (shown.0, shown.2, (run_grows b.0 shown.0 short.steps short.runs).buried number b.2)
+      );
+}
 
 -- the words and the updates behind a step of a call, with what the call is about to publish
 pub record Behind (S : Script) (first : List Record) (us : List Placed) (words new : Zones) (at : Phase) (progress : Progress) : Type 0 where
@@ -513,7 +532,7 @@ pub record Behind (S : Script) (first : List Record) (us : List Placed) (words n
   pub follows : Follows S first later new (updates at) progress
   pub others : (other : Phase) → (updates at ≡ true → updates other ≡ false) → Coherent S first us words other → Coherent S first later new other
   pub grown : Grown S us later words new at
-  pub further : Further words.owners new.owners
+  pub further : Further words new
 
 -- a step of an update leaves what is no update
 others_none : (S : Script) (first : List Record) (us later : List Placed) (words new : Zones) (other : Phase) → updates other ≡ false → Coherent S first us words other → Coherent S first later new other
@@ -533,13 +552,13 @@ prepared S first us words new version keeping event c m = (prepared_next S first
 -- a step that is no swap, of an update
 behind_update : (S : Script) (first : List Record) (us : List Placed) (words new : Zones) (at : Phase) (event : WordEvent) → NoSwap (word_step at) → updates at ≡ true → Makes words (word_step at) event new → Tells S first words us → Follows S first us new (updates at) (after new at event)
     → Behind S first us words new at (after new at event)
-behind_update S first us words new at event apart is m t follows = record { later = us; tells = tells_same S first words new us (word_step at) event apart m t; follows = follows; others = λ other alone c. others_none S first us us words new other (alone is) c; grown = inl (refl, none_now at apart, leaves_step words new (word_step at) event apart m); further = λ owner number k. keeps_step words new (word_step at) event owner number m k }
+behind_update S first us words new at event apart is m t follows = record { later = us; tells = tells_same S first words new us (word_step at) event apart m t; follows = follows; others = λ other alone c. others_none S first us us words new other (alone is) c; grown = inl (refl, none_now at apart, leaves_step words new (word_step at) event apart m); further = further_step words new (word_step at) event m }
 
 -- a step that is no update's
 behind_owner : (S : Script) (first : List Record) (us : List Placed) (words new : Zones) (at : Phase) (event : WordEvent) → OfOwner (word_step at) → Makes words (word_step at) event new → Tells S first words us → Follows S first us new (updates at) (after new at event)
     → Behind S first us words new at (after new at event)
 behind_owner S first us words new at event of m t follows =
-    record { later = us; tells = tells_same S first words new us (word_step at) event (owner_no_swap (word_step at) of) m t; follows = follows; others = λ other alone c. owner_keeps S first us words new t.cell (word_step at) event other of t.shows m c; grown = inl (refl, none_now at (owner_no_swap (word_step at) of), leaves_step words new (word_step at) event (owner_no_swap (word_step at) of) m); further = λ owner number k. keeps_step words new (word_step at) event owner number m k }
+    record { later = us; tells = tells_same S first words new us (word_step at) event (owner_no_swap (word_step at) of) m t; follows = follows; others = λ other alone c. owner_keeps S first us words new t.cell (word_step at) event other of t.shows m c; grown = inl (refl, none_now at (owner_no_swap (word_step at) of), leaves_step words new (word_step at) event (owner_no_swap (word_step at) of) m); further = further_step words new (word_step at) event m }
 
 -- the version that is swapped in is the last then
 last_swapped : (S : Script) (first : List Record) (us : List Placed) (version : Numbered) (n : IsNext S first us version) → zone_serial version.zone ≡ last_serial first (us ++ placed_next S first us version n ∷ [])
@@ -558,7 +577,7 @@ behind_swap S first us words new keeping event n enters m t =
       follows = (subst (EntersAs keeping.enters) (last_swapped S first us n.version n.is_next) enters, refl);
       others = λ other alone c. others_none S first us later words new other (alone refl) c;
       grown = inr (placed_next S first us n.version n.is_next, refl, refl, refl, n.is_next.mine);
-      further = λ owner number k. keeps_step words new word.Swap event owner number m k;
+      further = further_step words new word.Swap event m;
     }
 
 pub behind : (S : Script) (first : List Record) (us : List Placed) (words new : Zones) (at : Phase) (event : WordEvent) → Makes words (word_step at) event new → Tells S first words us → Coherent S first us words at → Behind S first us words new at (after new at event)

@@ -1,6 +1,7 @@
 -- What a question for what changed gets, and what that leads to.
 use Rattle.std.proofs.Common.{◌≡◌, refl, sym, ap, ◌∙◌, subst, ℕ, ◌<◌, ◌≤◌, ◌⊎◌, All, Bool, true, false, inl, inr, List, length, map, Option, Some, None}
 use Rattle.std.specs.Prelude.{◌==◌, ◌&&◌, ◌||◌, not, is_some, unwrap_or, if◌then◌else◌}
+use Rattle.cell_core.specs.Words.{State}
 use Rattle.dns_message.specs.Message.{Message}
 use Rattle.dns_message.specs.Request.{reads}
 use Rattle.dns_message.specs.declared.query.Parsed.TheVariants as parsed
@@ -26,9 +27,10 @@ use Rattle.transfer_core.specs.Take.{take as taken_by}
 use Rattle.zone_tree.specs.Version.{Version as Numbered, zone_serial}
 use Rattle.zone_tree.specs.Zone.{IsZone, apex_of, soa_of}
 use Rattle.world_run.specs.declared.step.Answer.TheVariants.{Messages}
-use Rattle.world_laws.specs.Leads.{records_of, LeadFromAny, LeadFromAsker, AnswerIxfr}
+use Rattle.world_laws.specs.Leads.{records_of, LeadFromAny, LeadFromAsker, IsUntold, AnswerIxfr}
 use Rattle.world_laws.specs.Replays.{AreReplays}
 use Rattle.world_run.specs.Transfers.{sent_for, sent_answer, messages_answer}
+use Rattle.world_run.specs.declared.entries.Entry.{Entry}
 use Rattle.world_run.specs.declared.sending.Sending.{Sending}
 use Rattle.world_laws.proofs.ChainLists.{Zone}
 use Rattle.world_laws.proofs.LeadLemmas.{zone_at, zone_is}
@@ -81,7 +83,7 @@ records_so query list = ap (map as_sent) (all_records query.head (Some query.que
 
 -- what a transfer gets of a version that was published, by what was got of those behind the asker's
 module _ (S : List ℕ → Type 0) (first : Zone) (published : List Numbered) (ups : List DynamicUpdate) (r : AreReplays S first published ups)
-    (octets_sent : (request : List ℕ) → S request → All (λ octet. octet < 256) request) (is : IsZone first) (version : Numbered) (within : version.number ≤ length ups) (served : version.zone ≡ zone_at first ups version.number) where
+    (octets_sent : (request : List ℕ) → S request → All (λ octet. octet < 256) request) (is : IsZone first) (version : Numbered) (within : version.number ≤ length ups) (served : version.zone ≡ zone_at first ups version.number) (entries : List Entry) (words : State Numbered) where
   -- the version in whole
   whole_so : (name : Name) → LeadFromAny first ups version (map as_sent (map (spelt name) (full version.zone)))
   whole_so name asker known =
@@ -94,18 +96,18 @@ module _ (S : List ℕ → Type 0) (first : Zone) (published : List Numbered) (u
   abbrev Leads : Serial → QueryAsked → List Message → Type 0
   Leads serial query messages =
       ((serial_less serial.0 (zone_serial version.zone) ≡ false) × (records_of messages ≡ map as_sent (map (spelt query.question.name) (soa_of version.zone))))
-      ⊎ (((records_of messages ≡ map as_sent (map (spelt query.question.name) (full version.zone))) × LeadFromAny first ups version (records_of messages))
+      ⊎ (((records_of messages ≡ map as_sent (map (spelt query.question.name) (full version.zone))) × LeadFromAny first ups version (records_of messages) × IsUntold entries words version serial)
       ⊎ LeadFromAsker first ups version serial query.question.name (records_of messages))
 
   abbrev pub ChangesLead : QueryAsked → List Numbered → Type 0
   ChangesLead query got = (serial : Serial) → query.serial ≡ Some serial → LeadFromAsker first ups version serial query.question.name (map as_sent (map (spelt query.question.name) (told (soa_of version.zone) got)))
 
-  leads_by : (serial : Serial) (query : QueryAsked) (less whole : Bool) (got : List Numbered) → query.serial ≡ Some serial → serial_less serial.0 (zone_serial version.zone) ≡ less → (whole ≡ true → ChangesLead query got)
+  leads_by : (serial : Serial) (query : QueryAsked) (less whole : Bool) (got : List Numbered) → query.serial ≡ Some serial → serial_less serial.0 (zone_serial version.zone) ≡ less → (whole ≡ false → IsUntold entries words version serial) → (whole ≡ true → ChangesLead query got)
       → Leads serial query (packed query.head query.question (reply_opt query.edns) (if not less then soa_of version.zone else unwrap_or (told_changes whole (soa_of version.zone) got) (full version.zone)))
-  leads_by serial query false whole got asks e changes = inl (e, records_so query (soa_of version.zone))
-  leads_by serial query true false got asks e changes =
-      inr (inl (records_so query (full version.zone), λ asker known. ap (taken_by (zone_at first ups asker)) (records_so query (full version.zone)) ∙ whole_so query.question.name asker known))
-  leads_by serial query true true got asks e changes =
+  leads_by serial query false whole got asks e untold changes = inl (e, records_so query (soa_of version.zone))
+  leads_by serial query true false got asks e untold changes =
+      inr (inl (records_so query (full version.zone), λ asker known. ap (taken_by (zone_at first ups asker)) (records_so query (full version.zone)) ∙ whole_so query.question.name asker known, untold refl))
+  leads_by serial query true true got asks e untold changes =
       inr (inr (subst (LeadFromAsker first ups version serial query.question.name) (sym (records_so query (told (soa_of version.zone) got))) (changes refl serial asks)))
 
   -- the messages that it gets
@@ -115,9 +117,9 @@ module _ (S : List ℕ → Type 0) (first : Zone) (published : List Numbered) (u
   sent_by sending query true octets p e = (p, (let m = e in cc))
   sent_by sending query false octets p e = absurd (let wrong = e in cc)
 
-  pub answer_by : (sending : Sending) (query : QueryAsked) (octets : List (List ℕ)) → sending.version ≡ version → reads sending.request ≡ parsed.Query query → query.question.rtype.0 ≡ type_IXFR → (sending.whole ≡ true → ChangesLead query sending.got)
-      → sent_answer sending ≡ Messages octets → AnswerIxfr first ups version query octets
-  answer_by sending query octets same reads_so ixfr changes e =
+  pub answer_by : (sending : Sending) (query : QueryAsked) (octets : List (List ℕ)) → sending.version ≡ version → reads sending.request ≡ parsed.Query query → query.question.rtype.0 ≡ type_IXFR → ((serial : Serial) → query.serial ≡ Some serial → sending.whole ≡ false → IsUntold entries words version serial) → (sending.whole ≡ true → ChangesLead query sending.got)
+      → sent_answer sending ≡ Messages octets → AnswerIxfr first ups entries words version query octets
+  answer_by sending query octets same reads_so ixfr untold changes e =
       let peer : Peer = peer_over Tcp true in
       let said : messages_answer (sent_for sending (parsed.Query query)) ≡ Messages octets = ap (λ said. messages_answer (sent_for sending said)) (sym reads_so) ∙ e in
       let a = sent_by sending query (is_permitted sending.version.zone peer query) octets refl said in
@@ -133,5 +135,5 @@ module _ (S : List ℕ → Type 0) (first : Zone) (published : List Numbered) (u
         asks = asks.1;
         messages = packed query.head query.question (reply_opt query.edns) (if not (serial_less serial.0 (zone_serial version.zone)) then soa_of version.zone else unwrap_or (told_changes sending.whole (soa_of version.zone) sending.got) (full version.zone));
         sent = sym a.1 ∙ ap (λ l. octets_of (packed query.head query.question (reply_opt query.edns) l)) list;
-        leads = leads_by serial query (serial_less serial.0 (zone_serial version.zone)) sending.whole sending.got asks.1 refl changes;
+        leads = leads_by serial query (serial_less serial.0 (zone_serial version.zone)) sending.whole sending.got asks.1 refl (untold serial asks.1) changes;
       }

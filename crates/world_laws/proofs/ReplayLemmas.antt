@@ -65,7 +65,7 @@ use Rattle.world_laws.specs.Runs.{IsAnsweredAtLoaded}
 use Rattle.world_run.proofs.JudgeLemmas.{made_by}
 use Rattle.world_laws.proofs.RunLemmas.{answered_at_loaded}
 use Rattle.world_laws.proofs.SwapLemmas.{step_by, behind_once, after_swapped, swap_updates, swapped_updates, HeadAt, keeps_at, KeepsAt}
-use Rattle.world_laws.proofs.CallReplays.{Script, script, no_update, Placed, updates_in, IsFresh, AreInTurn, IsNext, Zones, Tells, tells_same, EntersAs, last_serial, Coherent, EndsAs, Further, Behind, behind}
+use Rattle.world_laws.proofs.CallReplays.{Script, script, no_update, Placed, updates_in, IsFresh, AreInTurn, IsNext, Zones, Tells, tells_same, EntersAs, last_serial, Coherent, EndsAs, Further, further_none, further_on, Behind, behind}
 use Rattle.world_laws.proofs.OtherCalls.{moved, unbarred, all_none, coherent_on, later_on, fresh_on, all_on, tells_on, AllCoherent, any_update, AtMostOne, others_all, without_coherent, without_one, with_coherent, with_one, found_coherent, found_alone}
 
 -- the steps of a call leave the updates so far, and the versions that are published, as they were
@@ -144,7 +144,7 @@ pub record EndsAt (S : Script) (first : List Record) (us : List Placed) (words :
   pub coherent : AllCoherent S first later came.1 calls
   pub comes : Comes S us later words came.1 at came.0
   pub ends : EndsSo first later came.0
-  pub further : Further words.owners came.1.owners
+  pub further : Further words came.1
 
 none_come : (us : List Placed) (words : Zones) (at : Phase) → Leaves us us words words at (On at)
 none_come us words at = record { same = refl; leaves = λ cell s. (cell, s, refl); swapped = refl; headed = λ head h. h }
@@ -152,7 +152,7 @@ none_come us words at = record { same = refl; leaves = λ cell s. (cell, s, refl
 many_by : (S : Script) (first : List Record) (us : List Placed) (words : Zones) (calls : List UnderWay) (at : Phase) (more : Zones → Phase → Progress × Zones) (o : Option (Progress × Zones))
     → ((us : List Placed) (words : Zones) (at : Phase) → Tells S first words us → AllCoherent S first us words calls → Coherent S first us words at → (updates at ≡ true → any_update calls ≡ false) → EndsAt S first us words calls at (more words at))
     → Tells S first words us → AllCoherent S first us words calls → Coherent S first us words at → (updates at ≡ true → any_update calls ≡ false) → step_once words at ≡ o → EndsAt S first us words calls at (go_on more words at o)
-many_by S first us words calls at more None all t others c alone e = record { later = us; tells = t; coherent = others; comes = inl (none_come us words at); ends = tt; further = λ owner number k. k }
+many_by S first us words calls at more None all t others c alone e = record { later = us; tells = t; coherent = others; comes = inl (none_come us words at); ends = tt; further = further_none words }
 many_by S first us words calls at more (Some (On next, between)) all t others c alone e =
     let b = behind_once S first us words between at (On next) e t c in
     let rest = all b.later between next b.tells (others_all S first us words between at (On next) b calls alone others) b.follows.0 (λ is. alone (sym b.follows.1 ∙ is)) in
@@ -162,7 +162,7 @@ many_by S first us words calls at more (Some (On next, between)) all t others c 
       coherent = rest.coherent;
       comes = comes_on S us b.later rest.later words between (more between next).1 at next (more between next).0 b.follows.1 (comes_by S first us words between at (On next) e b) rest.comes;
       ends = rest.ends;
-      further = λ owner number k. rest.further owner number (b.further owner number k);
+      further = further_on words between (more between next).1 b.further rest.further;
     }
 many_by S first us words calls at more (Some (Done end, between)) all t others c alone e =
     let b = behind_once S first us words between at (Done end) e t c in
@@ -170,7 +170,7 @@ many_by S first us words calls at more (Some (Done end, between)) all t others c
 
 many : (left : ℕ) (S : Script) (first : List Record) (us : List Placed) (words : Zones) (calls : List UnderWay) (at : Phase) → Tells S first words us → AllCoherent S first us words calls → Coherent S first us words at → (updates at ≡ true → any_update calls ≡ false) → EndsAt S first us words calls at (steps_up_to left words at)
 unfolding steps_up_to
-many zero S first us words calls at t others c alone = record { later = us; tells = t; coherent = others; comes = inl (none_come us words at); ends = tt; further = λ owner number k. k }
+many zero S first us words calls at t others c alone = record { later = us; tells = t; coherent = others; comes = inl (none_come us words at); ends = tt; further = further_none words }
 many (suc left) S first us words calls at t others c alone =
     many_by S first us words calls at (steps_up_to left) (step_once words at) (λ us words at t others c alone. many left S first us words calls at t others c alone) t others c alone refl
 
@@ -360,7 +360,7 @@ pub record Turned (S : Script) (first : List Record) (before : World) (us : List
   pub goes : Goes (moved S S.top (by_after S place line given after)) first after
   pub comes : LineComes S before us line place goes.us after
   pub window : WindowComes first before goes.us after
-  pub further : Further before.words.owners after.words.owners
+  pub further : Further before.words after.words
 
 abbrev pub TurnedBehind : Script → List Record → World → List Placed → Line → ℕ → Option (WorldReply × World) → Type 0
 TurnedBehind S first before us line place o = (given : WorldReply) (after : World) → o ≡ Some (given, after) → Turned S first before us line place given after
@@ -392,7 +392,7 @@ itself S first world g line place given = record {
   };
   comes = inl (refl, leaves_words world.words);
   window = inl refl;
-  further = λ owner number k. k;
+  further = further_none world.words;
 }
 
 -- the steps of a whole call
@@ -402,7 +402,7 @@ pub record Came (S : Script) (first : List Record) (us : List Placed) (words : Z
   pub coherent : AllCoherent S first later came.1 calls
   pub comes : Comes (moved S S.top (begun_by place at)) us later words came.1 at came.0
   pub ends : EndsSo first later came.0
-  pub further : Further words.owners came.1.owners
+  pub further : Further words came.1
 
 came_whole : (S : Script) (first : List Record) (us : List Placed) (words : Zones) (calls : List UnderWay) (place : ℕ) (at : Phase) → Tells S first words us → AllCoherent S first us words calls → StartOk S first us words calls place (Takes at) → Came S first us words calls place at (steps_up_to most_steps words at)
 came_whole S first us words calls place at t others ok =
@@ -508,7 +508,7 @@ begun_goes S first world name call place at unused g ok =
       };
       comes = inl (refl, leaves_words world.words);
       window = inl refl;
-      further = λ owner number k. k;
+      further = further_none world.words;
     }
 
 begin_goes : (S : Script) (first : List Record) (world : World) (name : List ℕ) (call : Call) (place : ℕ) (how : Start) → call_of name world.calls ≡ None → (g : Goes S first world) → StartOk S first g.us world.words world.calls place how → TurnedBehind S first world g.us (Begin name call) place (begin world name call how)

@@ -1,7 +1,6 @@
 -- What a transfer gets at its end, whether it is answered at once, in one line, or step by step, leads to the version that is served.
 use Rattle.std.proofs.Common.{◌≡◌, ◌≢◌, refl, sym, ap, ◌∙◌, subst, ℕ, zero, suc, ◌+◌, ◌-◌, ◌<◌, Bool, true, false, inl, inr, List, [], ◌∷◌, ◌++◌, length, length-append, map, take, arith, Option, Some, None}
 use Rattle.std.specs.Prelude.{if◌then◌else◌, Ok}
-use Rattle.cell_core.specs.declared.words.Owner.{Owner}
 use Rattle.std.specs.List.{slice_get}
 use Rattle.std.proofs.lemmas.Bool.Decides.{eqb_tells}
 use Rattle.std.proofs.lemmas.Option.{slice_get_within}
@@ -20,6 +19,7 @@ use Rattle.zone_tree.specs.Version.{Version as Numbered, zone_serial}
 use Rattle.zone_tree.specs.Zone.{IsZone, soa_of}
 use Rattle.world_run.specs.World.{World, started, version_of, call_of, none_got, answer_at, step_once, steps_up_to, most_steps, is_full, all_made, whole, begin, begin_under, stepped, next, start, turn, play, given_up, weak_given_up}
 use Rattle.world_run.specs.declared.calls.UnderWay.{UnderWay}
+use Rattle.world_run.specs.declared.entries.Entry.{Entry}
 use Rattle.world_run.specs.declared.phase.End.{End}
 use Rattle.world_run.specs.declared.phase.End.TheVariants.{Owned, OwnedWeakly, Told, NoSlot, Kept, Sent}
 use Rattle.world_run.specs.declared.phase.Phase.{Phase}
@@ -41,7 +41,7 @@ use Rattle.world_run.specs.Transfers.{sent_answer}
 use Rattle.world_laws.specs.InTurn.{IsOpen}
 use Rattle.world_laws.specs.Leads.{AreOctets, zones_behind, LeadFromAsker, AnswerIxfr, AnswerFor, AnswerSince}
 use Rattle.world_laws.specs.Replays.{IsSent, IsSentAt}
-use Rattle.world_laws.proofs.CallReplays.{script, updates_in, Zones}
+use Rattle.world_laws.proofs.CallReplays.{script, updates_in, Zones, further_none}
 use Rattle.world_laws.proofs.ChainLists.{Zone, differs_behind}
 use Rattle.world_laws.proofs.InTurnLemmas.{fate}
 use Rattle.world_laws.proofs.LeadLemmas.{zone_at}
@@ -59,10 +59,21 @@ behind_get first ups k zero j l = absurd (omega (arith, l))
 behind_get first ups k (suc n) zero l = (let at : k + 1 ≡ k + 1 + 0 = omega arith in ap (λ i. Some (zone_at first ups i)) at)
 behind_get first ups k (suc n) (suc j) l = (let at : k + 1 + 1 + j ≡ k + 1 + suc j = omega arith in behind_get first ups (k + 1) n j (omega (arith, l)) ∙ ap (λ i. Some (zone_at first ups i)) at)
 
+-- the asker's version has the serial that is told
+asker_serial : (first : Zone) (ups : List DynamicUpdate) (words : Zones) (entries : List Entry) (version : Numbered) (request : List ℕ) (sending : Sending) (query : QueryAsked) (serial : Serial) → reads request ≡ parsed.Query query → (s : Sends first ups words entries version request sending) → query.serial ≡ Some serial → zone_serial (zone_at first ups s.asker) ≡ serial.0
+asker_serial first ups words entries version request sending query serial reads_so s asks =
+    let a = s.asked in
+    let before = a.before in
+    let within = a.within in
+    let same_query : a.query ≡ query = (let e : parsed.Query a.query ≡ parsed.Query query = sym a.reads_so ∙ reads_so in cc) in
+    let same_serial : a.serial ≡ serial = (let e : Some a.serial ≡ Some serial = sym a.asks ∙ (ap (λ (q : QueryAsked). q.serial) same_query ∙ asks) in cc) in
+    let here : zone_at first ups s.asker ≡ zone_at first s.seen s.asker = ap (λ u. zone_at first u s.asker) s.grown ∙ zone_more first s.seen s.more s.asker (omega (arith, before, within)) in
+    ap zone_serial here ∙ (a.serial_is ∙ ap (λ (x : Serial). x.0) same_serial)
+
 -- where each version behind the asker's was got, what changed leads from there
-changes_lead : (first : Zone) (ups : List DynamicUpdate) (version : Numbered) (request : List ℕ) (sending : Sending) (query : QueryAsked) (serial : Serial) → reads request ≡ parsed.Query query → (s : Sends first ups version request sending) → sending.whole ≡ true → query.serial ≡ Some serial
+changes_lead : (first : Zone) (ups : List DynamicUpdate) (words : Zones) (entries : List Entry) (version : Numbered) (request : List ℕ) (sending : Sending) (query : QueryAsked) (serial : Serial) → reads request ≡ parsed.Query query → (s : Sends first ups words entries version request sending) → sending.whole ≡ true → query.serial ≡ Some serial
     → LeadFromAsker first ups version serial query.question.name (map as_sent (map (spelt query.question.name) (told (soa_of version.zone) sending.got)))
-changes_lead first ups version request sending query serial reads_so s whole_so asks =
+changes_lead first ups words entries version request sending query serial reads_so s whole_so asks =
     let a = s.asked in
     let got = sending.got in
     let name = query.question.name in
@@ -71,8 +82,7 @@ changes_lead first ups version request sending query serial reads_so s whole_so 
     let before = a.before in
     let within = a.within in
     let n : version.number - s.asker ≡ length got = omega (arith, count) in
-    let same_query : a.query ≡ query = (let e : parsed.Query a.query ≡ parsed.Query query = sym a.reads_so ∙ reads_so in cc) in
-    let same_serial : a.serial ≡ serial = (let e : Some a.serial ≡ Some serial = sym a.asks ∙ (ap (λ (q : QueryAsked). q.serial) same_query ∙ asks) in cc) in
+    let serial_is = asker_serial first ups words entries version request sending query serial reads_so s asks in
     let zones : zones_of got ≡ zones_behind first s.seen s.asker (version.number - s.asker) = s.got.zones ∙ ap (zones_behind first s.seen s.asker) (sym n) in
     let last : newest zone (zones_of got) ≡ version.zone = ap (newest zone) s.got.zones ∙ (newest_behind first s.seen s.asker (length got) zone refl ∙ (ap (zone_at first s.seen) count ∙ sym a.served)) in
     let list : told (soa_of version.zone) got ≡ incremental zone (zones_of got) = list_told zone got version.zone s.got.behind last in
@@ -84,13 +94,13 @@ changes_lead first ups version request sending query serial reads_so s whole_so 
     record {
       asker = s.asker;
       before = a.before;
-      serial_is = ap zone_serial here ∙ (a.serial_is ∙ ap (λ (x : Serial). x.0) same_serial);
+      serial_is = serial_is;
       newest = λ number l m e. (
           let j : s.asker + 1 + (number - (s.asker + 1)) ≡ number = omega (arith, l) in
           let there : slice_get (zones_behind first s.seen s.asker (version.number - s.asker)) (number - (s.asker + 1)) ≡ Some (zone_at first s.seen number) =
           behind_get first s.seen s.asker (version.number - s.asker) (number - (s.asker + 1)) (omega (arith, l, m)) ∙ ap (λ i. Some (zone_at first s.seen i)) j in
           let now : zone_at first ups number ≡ zone_at first s.seen number = ap (λ u. zone_at first u number) s.grown ∙ zone_more first s.seen s.more number (omega (arith, m, within)) in
-          differs_behind serial.0 zone (zones_behind first s.seen s.asker (version.number - s.asker)) (number - (s.asker + 1)) (zone_at first s.seen number) (a.serial_is ∙ ap (λ (x : Serial). x.0) same_serial) a.versions.serials there (ap zone_serial (sym now) ∙ e)
+          differs_behind serial.0 zone (zones_behind first s.seen s.asker (version.number - s.asker)) (number - (s.asker + 1)) (zone_at first s.seen number) (ap zone_serial (sym here) ∙ serial_is) a.versions.serials there (ap zone_serial (sym now) ∙ e)
           );
       changes = ap (λ l. map as_sent (map (spelt name) l)) (list ∙ (ap (λ z. incremental z (zones_of got)) (sym here) ∙ ap (incremental (zone_at first ups s.asker)) (sym all)));
       taken = ap (λ z. taken_by z (map as_sent (map (spelt name) (told (soa_of version.zone) got)))) here ∙ (taken_spelt zone name (told (soa_of version.zone) got) ∙ (ap (λ l. taken_by zone (map as_sent l)) list ∙ taken));
@@ -102,74 +112,83 @@ unless_full true one two e = absurd (let wrong = e in cc)
 unless_full false one two e = (let f = e in cc)
 
 -- a transfer's end gives its messages
-end_sends : (first : Zone) (ups : List DynamicUpdate) (owners : List Owner) (version : Numbered) (request : List ℕ) (end : End) (given : Answer) → answer_at end ≡ given → SendsAt first ups owners version request (Done end) → (sending : Sending) × Sends first ups version request sending × (sent_answer sending ≡ given)
-end_sends first ups owners version request (Owned name owner number) given e s = absurd s
-end_sends first ups owners version request (OwnedWeakly name owner number) given e s = absurd s
-end_sends first ups owners version request (Told told_answer) given e s = absurd s
-end_sends first ups owners version request (NoSlot head) given e s = absurd s
-end_sends first ups owners version request (Kept head owner entry) given e s = absurd s
-end_sends first ups owners version request (Sent sending) given e s = (sending, s, e)
+end_sends : (first : Zone) (ups : List DynamicUpdate) (words : Zones) (entries : List Entry) (version : Numbered) (request : List ℕ) (end : End) (given : Answer) → answer_at end ≡ given → SendsAt first ups words entries version request (Done end) → (sending : Sending) × Sends first ups words entries version request sending × (sent_answer sending ≡ given)
+end_sends first ups words entries version request (Owned name owner number) given e s = absurd s
+end_sends first ups words entries version request (OwnedWeakly name owner number) given e s = absurd s
+end_sends first ups words entries version request (Told told_answer) given e s = absurd s
+end_sends first ups words entries version request (NoSlot head) given e s = absurd s
+end_sends first ups words entries version request (Kept head owner entry) given e s = absurd s
+end_sends first ups words entries version request (Sent sending) given e s = (sending, s, e)
 
 module _ (lines : List Line) (first : Zone) (keep window top : ℕ) (world : World) (n : Now lines first keep window top world) (is : IsZone first) (octets_sent : AreOctets lines) where
   -- by what was got
-  answer_sent : (version : Numbered) (request : List ℕ) (sending : Sending) (query : QueryAsked) (octets : List (List ℕ)) → reads request ≡ parsed.Query query → query.question.rtype.0 ≡ type_IXFR → Sends first (updates_in n.goes.us) version request sending → sent_answer sending ≡ Messages octets
-      → AnswerIxfr first (updates_in n.goes.us) version query octets
-  answer_sent version request sending query octets reads_so ixfr s e =
+  answer_sent : (entries : List Entry) (words : Zones) (version : Numbered) (request : List ℕ) (sending : Sending) (query : QueryAsked) (octets : List (List ℕ)) → reads request ≡ parsed.Query query → query.question.rtype.0 ≡ type_IXFR → Sends first (updates_in n.goes.us) words entries version request sending → sent_answer sending ≡ Messages octets
+      → AnswerIxfr first (updates_in n.goes.us) entries words version query octets
+  answer_sent entries words version request sending query octets reads_so ixfr s e =
       let ups = updates_in n.goes.us in
       let a = s.asked in
       let more : length ups ≡ length (s.seen ++ s.more) = ap length s.grown in
       let m = length-append s.seen s.more in
       let within = a.within in
       let zone : version.zone ≡ zone_at first ups version.number = a.served ∙ sym (ap (λ u. zone_at first u version.number) s.grown ∙ zone_more first s.seen s.more version.number within) in
-      answer_by (IsSent lines) first n.goes.tells.cell.published ups n.goes.tells.replays octets_sent is version (omega (arith, more, m, within)) zone sending query octets s.got.version_is (ap reads s.got.request_is ∙ reads_so) ixfr
-      (λ whole_so serial asks. changes_lead first ups version request sending query serial reads_so s whole_so asks) e
+      answer_by (IsSent lines) first n.goes.tells.cell.published ups n.goes.tells.replays octets_sent is version (omega (arith, more, m, within)) zone entries words sending query octets s.got.version_is (ap reads s.got.request_is ∙ reads_so) ixfr
+      (λ serial asks whole_not. (
+      let u = s.untold whole_not in
+      let same_query : a.query ≡ query = (let f : parsed.Query a.query ≡ parsed.Query query = sym a.reads_so ∙ reads_so in cc) in
+      let same_serial : a.serial ≡ serial = (let f : Some a.serial ≡ Some serial = sym a.asks ∙ (ap (λ (q : QueryAsked). q.serial) same_query ∙ asks) in cc) in
+      let l : a.entry.number < u.0 = subst (λ k. k < u.0) (sym a.entry_is) u.1 in
+      inr (a.place, a.entry, u.0, a.entry_at, a.entry_serial ∙ ap (λ (x : Serial). x.0) same_serial, l, u.2, u.3)
+      ))
+      (λ whole_so serial asks. changes_lead first ups words entries version request sending query serial reads_so s whole_so asks) e
 
   -- or where nothing was
-  pub answer_at_once : (name request : List ℕ) (query : QueryAsked) (octets : List (List ℕ)) → reads request ≡ parsed.Query query → query.question.rtype.0 ≡ type_IXFR → start world (Transfer name request) ≡ Answers (Messages octets) → AnswerFor first lines world name query octets
+  pub answer_at_once : (name request : List ℕ) (query : QueryAsked) (octets : List (List ℕ)) → reads request ≡ parsed.Query query → query.question.rtype.0 ≡ type_IXFR → start world (Transfer name request) ≡ Answers (Messages octets) → AnswerFor first lines world world name query octets
   answer_at_once name request query octets reads_so ixfr e =
       let a = transfer_answers lines first keep window top world n name request query (Messages octets) reads_so e in
       let s = served lines first keep window top world n name a.version a.has in
       let h = known_held lines first keep window top world n in
-      let is_answer = answer_by (IsSent lines) first n.goes.tells.cell.published (updates_in n.goes.us) n.goes.tells.replays octets_sent is a.version s.within s.zone (none_got a.owner a.version request) query octets refl reads_so ixfr (λ whole_so. absurd (let wrong = whole_so in cc)) a.gives in
-      record { held = h.0; version = a.version; has = a.has; answer = subst (λ u. AnswerIxfr first u a.version query octets) (sym h.1) is_answer }
+      let is_answer = answer_by (IsSent lines) first n.goes.tells.cell.published (updates_in n.goes.us) n.goes.tells.replays octets_sent is a.version s.within s.zone world.entries world.words (none_got a.owner a.version request) query octets refl reads_so ixfr (λ serial asks whole_not. a.untold serial asks) (λ whole_so. absurd (let wrong = whole_so in cc)) a.gives in
+      record { held = h.0; version = a.version; has = a.has; answer = subst (λ u. AnswerIxfr first u world.entries world.words a.version query octets) (sym h.1) is_answer }
 
   -- a call in one line
-  all_answers : (call : Call) (came : Progress × Zones) (given : Answer) (after : World) → all_made world call came ≡ (Answered given, after) → (end : End) × (came.0 ≡ Done end) × (answer_at end ≡ given)
+  all_answers : (call : Call) (came : Progress × Zones) (given : Answer) (after : World) → all_made world call came ≡ (Answered given, after) → (end : End) × (came.0 ≡ Done end) × (answer_at end ≡ given) × (came.1 ≡ after.words)
   all_answers call (On at, words) given after e = absurd (let wrong : NotEnabled ≡ Answered given = ap (λ (p : WorldReply × World). p.0) e in cc)
-  all_answers call (Done end, words) given after e = (end, refl, (let f : Answered (answer_at end) ≡ Answered given = ap (λ (p : WorldReply × World). p.0) e in cc))
+  all_answers call (Done end, words) given after e = (end, refl, (let f : Answered (answer_at end) ≡ Answered given = ap (λ (p : WorldReply × World). p.0) e in cc), ap (λ (p : WorldReply × World). p.1.words) e)
 
   takes_answers : (name request : List ℕ) (query : QueryAsked) (octets : List (List ℕ)) (at : Phase) (after : World) → reads request ≡ parsed.Query query → query.question.rtype.0 ≡ type_IXFR → start world (Transfer name request) ≡ Takes at
-      → all_made world (Transfer name request) (steps_up_to most_steps world.words at) ≡ (Answered (Messages octets), after) → AnswerFor first lines world name query octets
+      → all_made world (Transfer name request) (steps_up_to most_steps world.words at) ≡ (Answered (Messages octets), after) → AnswerFor first lines world after name query octets
   takes_answers name request query octets at after reads_so ixfr how e =
       let b = transfer_begins lines first keep window top world n name request query at is octets_sent reads_so how in
       let ups = updates_in n.goes.us in
       let came = steps_up_to most_steps world.words at in
-      let s = many_sends first ups b.version request most_steps (script (IsSentAt lines) top) n.goes.us world.words at refl n.goes.tells b.sends in
+      let s = many_sends first ups world.entries b.version request most_steps (script (IsSentAt lines) top) n.goes.us world.words at refl n.goes.tells b.sends in
       let a = all_answers (Transfer name request) came (Messages octets) after e in
-      let ended : SendsAt first ups came.1.owners b.version request (Done a.0) = subst (SendsAt first ups came.1.owners b.version request) a.1 s in
-      let sent = end_sends first ups came.1.owners b.version request a.0 (Messages octets) a.2 ended in
+      let ended : SendsAt first ups came.1 world.entries b.version request (Done a.0) = subst (SendsAt first ups came.1 world.entries b.version request) a.1 s in
+      let sent = end_sends first ups came.1 world.entries b.version request a.0 (Messages octets) a.2 ended in
       let h = known_held lines first keep window top world n in
       record {
         held = h.0;
         version = b.version;
         has = b.has;
-        answer = subst (λ u. AnswerIxfr first u b.version query octets) (sym h.1) (answer_sent b.version request sent.0 query octets reads_so ixfr sent.1 sent.2);
+        answer = subst (λ w. AnswerIxfr first h.0.replayed.updates world.entries w b.version query octets) a.3
+            (subst (λ u. AnswerIxfr first u world.entries came.1 b.version query octets) (sym h.1) (answer_sent world.entries came.1 b.version request sent.0 query octets reads_so ixfr sent.1 sent.2));
       }
 
   whole_answers : (name request : List ℕ) (query : QueryAsked) (octets : List (List ℕ)) (how : Start) (after : World) → reads request ≡ parsed.Query query → query.question.rtype.0 ≡ type_IXFR → start world (Transfer name request) ≡ how
-      → whole world (Transfer name request) how ≡ Some (Answered (Messages octets), after) → AnswerFor first lines world name query octets
+      → whole world (Transfer name request) how ≡ Some (Answered (Messages octets), after) → AnswerFor first lines world after name query octets
   whole_answers name request query octets Refused after reads_so ixfr how e =
       let pair : (NotEnabled, world) ≡ (Answered (Messages octets), after) = (let f = e in cc) in
       absurd (let wrong : NotEnabled ≡ Answered (Messages octets) = ap (λ (p : WorldReply × World). p.0) pair in cc)
   whole_answers name request query octets (Answers given) after reads_so ixfr how e =
       let pair = unless_full (is_full world) (Answered given, world) (Answered (Messages octets), after) e in
       let same : given ≡ Messages octets = (let g : Answered given ≡ Answered (Messages octets) = ap (λ (p : WorldReply × World). p.0) pair in cc) in
-      answer_at_once name request query octets reads_so ixfr (how ∙ ap Answers same)
+      let there : world ≡ after = ap (λ (p : WorldReply × World). p.1) pair in
+      subst (λ w. AnswerFor first lines world w name query octets) there (answer_at_once name request query octets reads_so ixfr (how ∙ ap Answers same))
   whole_answers name request query octets (Takes at) after reads_so ixfr how e =
       takes_answers name request query octets at after reads_so ixfr how (unless_full (is_full world) (all_made world (Transfer name request) (steps_up_to most_steps world.words at)) (Answered (Messages octets), after) e)
 
   pub answer_in_line : (name request : List ℕ) (query : QueryAsked) (octets : List (List ℕ)) (after : World) → reads request ≡ parsed.Query query → query.question.rtype.0 ≡ type_IXFR
-      → turn world (Whole (Transfer name request)) ≡ Some (Answered (Messages octets), after) → AnswerFor first lines world name query octets
+      → turn world (Whole (Transfer name request)) ≡ Some (Answered (Messages octets), after) → AnswerFor first lines world after name query octets
   answer_in_line name request query octets after reads_so ixfr e = whole_answers name request query octets (start world (Transfer name request)) after reads_so ixfr refl e
 
 -- a call that is put under way
@@ -198,16 +217,17 @@ begun_under world begun call after (Some other) used e =
     absurd (let wrong : NotEnabled ≡ Begun = ap (λ (p : WorldReply × World). p.0) pair in cc)
 
 -- a call that takes its last step
-record IsEnded (world : World) (begun : List ℕ) (call : UnderWay) (given : Answer) : Type 0 where
+record IsEnded (world : World) (begun : List ℕ) (call : UnderWay) (given : Answer) (after : World) : Type 0 where
   end : End
   words : Zones
   steps : step_once world.words call.phase ≡ Some (Done end, words)
   gives : answer_at end ≡ given
+  behind : words ≡ after.words
 
-ended_by : (world : World) (begun : List ℕ) (call : UnderWay) (step : StepName) (given : Answer) (after : World) (o : Option (Progress × Zones)) → step_once world.words call.phase ≡ o → stepped world begun call.phase o ≡ (Last step given, after) → IsEnded world begun call given
+ended_by : (world : World) (begun : List ℕ) (call : UnderWay) (step : StepName) (given : Answer) (after : World) (o : Option (Progress × Zones)) → step_once world.words call.phase ≡ o → stepped world begun call.phase o ≡ (Last step given, after) → IsEnded world begun call given after
 ended_by world begun call step given after None is e = absurd (let wrong : NotEnabled ≡ Last step given = ap (λ (p : WorldReply × World). p.0) e in cc)
 ended_by world begun call step given after (Some (On further, words)) is e = absurd (let f = ap (λ (p : WorldReply × World). p.0) e in let wrong = f in cc)
-ended_by world begun call step given after (Some (Done end, words)) is e = record { end = end; words = words; steps = is; gives = (let f = ap (λ (p : WorldReply × World). p.0) e in cc) }
+ended_by world begun call step given after (Some (Done end, words)) is e = record { end = end; words = words; steps = is; gives = (let f = ap (λ (p : WorldReply × World). p.0) e in cc); behind = ap (λ (p : WorldReply × World). p.1.words) e }
 
 module _ (lines : List Line) (replies : List WorldReply) (first : Zone) (keep window place : ℕ) (begun name request : List ℕ) (query : QueryAsked) (is : IsZone first) (octets_sent : AreOctets lines) (reads_so : reads request ≡ parsed.Query query)
     (line_is : slice_get lines place ≡ Some (Begin begun (Transfer name request))) (open_so : IsOpen lines replies place (length lines) begun) where
@@ -220,14 +240,14 @@ module _ (lines : List Line) (replies : List WorldReply) (first : Zone) (keep wi
     has : version_of name before ≡ Some version
     call : UnderWay
     there : call_of begun world.calls ≡ Some call
-    sends : SendsIn first (updates_in n.goes.us) world.words.owners version request call.phase
+    sends : SendsIn first (updates_in n.goes.us) world.words before.entries version request call.phase
 
   abbrev Track : (top : ℕ) (world : World) → Now lines first keep window top world → Type 0
   Track top world n = place < top → Under top world n
 
   -- at its line
   begins_under : (top : ℕ) (world : World) (line : Line) (given : WorldReply) (after : World) → place ≡ top → slice_get lines top ≡ Some line → slice_get replies top ≡ Some given → turn world line ≡ Some (given, after) → (n : Now lines first keep window top world)
-      → (a : After lines first keep window top (updates_in n.goes.us) world.words.owners after) → Under (top + 1) after a.now
+      → (a : After lines first keep window top (updates_in n.goes.us) world.words after) → Under (top + 1) after a.now
   begins_under top world line given after at here told_so e n a =
       let line_so : line ≡ Begin begun (Transfer name request) = (let f : Some line ≡ Some (Begin begun (Transfer name request)) = sym here ∙ (ap (slice_get lines) (sym at) ∙ line_is) in cc) in
       let given_so : given ≡ Begun = (let f : Some given ≡ Some Begun = sym told_so ∙ (ap (slice_get replies) (sym at) ∙ open_so.reply) in cc) in
@@ -242,12 +262,12 @@ module _ (lines : List Line) (replies : List WorldReply) (first : Zone) (keep wi
         has = s.has;
         call = record { name = begun; phase = b.at };
         there = b.there;
-        sends = subst (λ u. SendsIn first u after.words.owners s.version request b.at) (sym a.grown) (sends_on first (updates_in n.goes.us) s.version request world.words.owners after.words.owners a.more b.at a.further s.sends);
+        sends = subst (λ u. SendsIn first u after.words world.entries s.version request b.at) (sym a.grown) (sends_on first (updates_in n.goes.us) world.entries s.version request world.words after.words a.more b.at a.further s.sends);
       }
 
   -- at a further one
   goes_under : (top : ℕ) (world : World) (line : Line) (given : WorldReply) (after : World) → place < top → slice_get lines top ≡ Some line → slice_get replies top ≡ Some given → turn world line ≡ Some (given, after) → (n : Now lines first keep window top world)
-      → (a : After lines first keep window top (updates_in n.goes.us) world.words.owners after) → Under top world n → Under (top + 1) after a.now
+      → (a : After lines first keep window top (updates_in n.goes.us) world.words after) → Under top world n → Under (top + 1) after a.now
   goes_under top world line given after behind_it here told_so e n a u =
       elim (fate lines replies top world line given after begun u.call e (here, told_so) u.there) [
         | inl stays ↦ record {
@@ -258,12 +278,11 @@ module _ (lines : List Line) (replies : List WorldReply) (first : Zone) (keep wi
           has = u.has;
           call = u.call;
           there = stays.0;
-          sends = subst (λ us. SendsIn first us after.words.owners u.version request u.call.phase) (sym a.grown) (sends_on first (updates_in n.goes.us) u.version request world.words.owners after.words.owners a.more u.call.phase a.further u.sends);
+          sends = subst (λ us. SendsIn first us after.words u.before.entries u.version request u.call.phase) (sym a.grown) (sends_on first (updates_in n.goes.us) u.before.entries u.version request world.words after.words a.more u.call.phase a.further u.sends);
         }
         | inr goes ↦ elim goes [
           | inl steps ↦ (
-              let once = once_sends first (updates_in n.goes.us) u.version request (script (IsSentAt lines) top) n.goes.us world.words steps.1 u.call.phase (On steps.0) steps.2 refl n.goes.tells u.sends in
-              let same : steps.1.owners ≡ after.words.owners = ap (λ (w : Zones). w.owners) (sym steps.5) in
+              let once = once_sends first (updates_in n.goes.us) u.before.entries u.version request (script (IsSentAt lines) top) n.goes.us world.words steps.1 u.call.phase (On steps.0) steps.2 refl n.goes.tells u.sends in
               record {
                 earlier = u.earlier;
                 before = u.before;
@@ -272,8 +291,8 @@ module _ (lines : List Line) (replies : List WorldReply) (first : Zone) (keep wi
                 has = u.has;
                 call = record { name = begun; phase = steps.0 };
                 there = steps.3;
-                sends = subst (λ us. SendsIn first us after.words.owners u.version request steps.0) (sym a.grown)
-                    (subst (λ owners. SendsIn first (updates_in n.goes.us ++ a.more) owners u.version request steps.0) same (sends_on first (updates_in n.goes.us) u.version request steps.1.owners steps.1.owners a.more steps.0 (λ owner number k. k) once.sends));
+                sends = subst (λ us. SendsIn first us after.words u.before.entries u.version request steps.0) (sym a.grown)
+                    (subst (λ w. SendsIn first (updates_in n.goes.us ++ a.more) w u.before.entries u.version request steps.0) (sym steps.5) (sends_on first (updates_in n.goes.us) u.before.entries u.version request steps.1 steps.1 a.more steps.0 (further_none steps.1) once.sends));
               }
               )
           | inr ends ↦ absurd (open_so.unended top (answer_at ends.0) behind_it (slice_get_within lines top line here) ends.4)
@@ -281,14 +300,14 @@ module _ (lines : List Line) (replies : List WorldReply) (first : Zone) (keep wi
       ]
 
   on : (top : ℕ) (world : World) (line : Line) (given : WorldReply) (after : World) → slice_get lines top ≡ Some line → slice_get replies top ≡ Some given → turn world line ≡ Some (given, after) → (n : Now lines first keep window top world)
-      → (a : After lines first keep window top (updates_in n.goes.us) world.words.owners after) → Track top world n → Track (top + 1) after a.now
+      → (a : After lines first keep window top (updates_in n.goes.us) world.words after) → Track top world n → Track (top + 1) after a.now
   on top world line given after here told_so e n a so less =
       elim (eqb_tells place top) [
         | inl same ↦ begins_under top world line given after same.1 here told_so e n a
         | inr apart ↦ (let l : place < top = (let other = apart.1 in omega (arith, less, other)) in goes_under top world line given after l here told_so e n a (so l))
       ]
 
-  pub answer_in_steps : (world after : World) (step : StepName) (octets : List (List ℕ)) → play (started first keep window) lines ≡ Some (replies, world) → query.question.rtype.0 ≡ type_IXFR → turn world (Next begun) ≡ Some (Last step (Messages octets), after) → AnswerSince first keep window lines world place name query octets
+  pub answer_in_steps : (world after : World) (step : StepName) (octets : List (List ℕ)) → play (started first keep window) lines ≡ Some (replies, world) → query.question.rtype.0 ≡ type_IXFR → turn world (Next begun) ≡ Some (Last step (Messages octets), after) → AnswerSince first keep window lines world after place name query octets
   answer_in_steps world after step octets played ixfr e =
       let b = play_on lines replies first keep window Track on lines 0 (at_all lines) (started first keep window) (started_now lines first keep window) replies world (at_all replies) (λ less. absurd (omega (arith, less))) played in
       let top = 0 + length lines in
@@ -297,8 +316,8 @@ module _ (lines : List Line) (replies : List WorldReply) (first : Zone) (keep wi
       let n = b.now in
       let t : next world begun (call_of begun world.calls) ≡ (Last step (Messages octets), after) = (let f = e in cc) in
       let ended = ended_by world begun u.call step (Messages octets) after (step_once world.words u.call.phase) refl (ap (next world begun) (sym u.there) ∙ t) in
-      let once = once_sends first (updates_in n.goes.us) u.version request (script (IsSentAt lines) top) n.goes.us world.words ended.words u.call.phase (Done ended.end) ended.steps refl n.goes.tells u.sends in
-      let sent = end_sends first (updates_in n.goes.us) ended.words.owners u.version request ended.end (Messages octets) ended.gives once.sends in
+      let once = once_sends first (updates_in n.goes.us) u.before.entries u.version request (script (IsSentAt lines) top) n.goes.us world.words ended.words u.call.phase (Done ended.end) ended.steps refl n.goes.tells u.sends in
+      let sent = end_sends first (updates_in n.goes.us) ended.words u.before.entries u.version request ended.end (Messages octets) ended.gives once.sends in
       let r = known_replayed lines first keep window top world n in
       record {
         replayed = r.0;
@@ -307,5 +326,6 @@ module _ (lines : List Line) (replies : List WorldReply) (first : Zone) (keep wi
         reached = u.reached;
         version = u.version;
         has = u.has;
-        answer = subst (λ us. AnswerIxfr first us u.version query octets) (sym r.1) (answer_sent lines first keep window top world n is octets_sent u.version request sent.0 query octets reads_so ixfr sent.1 sent.2);
+        answer = subst (λ w. AnswerIxfr first r.0.updates u.before.entries w u.version query octets) ended.behind
+            (subst (λ us. AnswerIxfr first us u.before.entries ended.words u.version query octets) (sym r.1) (answer_sent lines first keep window top world n is octets_sent u.before.entries ended.words u.version request sent.0 query octets reads_so ixfr sent.1 sent.2));
       }

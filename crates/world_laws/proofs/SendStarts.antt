@@ -1,5 +1,5 @@
 -- How a transfer begins that upgrades entries: with those behind the entry of the serial that is told, whose numbers are in turn.
-use Rattle.std.proofs.Common.{◌≡◌, refl, sym, ap, ◌∙◌, subst, ℕ, zero, suc, ◌+◌, ◌-◌, ◌<◌, ◌≤◌, Bool, true, false, inl, inr, List, [], ◌∷◌, ◌++◌, length, arith, Option, Some, None}
+use Rattle.std.proofs.Common.{◌≡◌, ◌≢◌, refl, sym, ap, ◌∙◌, subst, ℕ, zero, suc, ◌+◌, ◌-◌, ◌<◌, ◌≤◌, Bool, true, false, inl, inr, List, [], ◌∷◌, ◌++◌, length, arith, Option, Some, None}
 use Rattle.std.specs.Prelude.{◌==◌, ◌&&◌, filter, is_some, not, nat_le, if◌then◌else◌}
 use Rattle.std.specs.List.{slice_get}
 use Rattle.std.specs.Option.{option_and_then}
@@ -34,7 +34,7 @@ use Rattle.world_run.specs.Transfers.{sent_answer}
 use Rattle.zone_tree.specs.Version.{Version as Numbered, zone_serial}
 use Rattle.zone_tree.specs.Zone.{IsZone}
 use Rattle.world_laws.specs.Held.{HoldVersions}
-use Rattle.world_laws.specs.Leads.{AreOctets, zones_behind}
+use Rattle.world_laws.specs.Leads.{AreOctets, IsUntold, zones_behind}
 use Rattle.world_laws.specs.Replays.{IsSent, IsSentAt}
 use Rattle.world_laws.proofs.CallReplays.{script, updates_in}
 use Rattle.world_laws.proofs.ChainLists.{Zone, are_versions, fits_less, fits_front}
@@ -44,7 +44,7 @@ use Rattle.world_laws.proofs.LeadLemmas.{zone_at, chain_from}
 use Rattle.world_laws.proofs.OtherCalls.{unbarred}
 use Rattle.world_laws.proofs.SendSteps.{AreNumbered, SendsIn, behind_count}
 use Rattle.world_laws.proofs.WindowPlay.{Now, known_held}
-use Rattle.world_laws.proofs.WindowSerials.{AreSerials, window_fits}
+use Rattle.world_laws.proofs.WindowSerials.{AreSerials, window_fits, window_numbers}
 
 -- a zone behind one, by its place
 pub behind_at : (first : Zone) (ups : List DynamicUpdate) (k n j : ℕ) (zone : Zone) → slice_get (zones_behind first ups k n) j ≡ Some zone → zone ≡ zone_at first ups (k + 1 + j)
@@ -126,15 +126,20 @@ all_up owners first ups total asker number (x ∷ entries) fit serials count wit
     ]
 
 -- what is behind the entry of a serial
-record Found (owners : List Owner) (first : Zone) (ups : List DynamicUpdate) (size number serial : ℕ) (os : List ℕ) : Type 0 where
+record Found (owners : List Owner) (first : Zone) (ups : List DynamicUpdate) (size number serial : ℕ) (all : List Entry) (os : List ℕ) : Type 0 where
   asker : ℕ
+  place : ℕ
+  entry : Entry
+  entry_at : slice_get all place ≡ Some entry
+  entry_is : entry.number ≡ asker
+  entry_serial : entry.serial.0 ≡ serial
   serial_is : zone_serial (zone_at first ups asker) ≡ serial
   numbered : AreNumbered owners (asker + 1) os
   count : asker + length os ≡ number
   fit : fits size (serials_of (zone_at first ups asker ∷ zones_behind first ups asker (length os))) ≡ true
 
 found_met : (owners : List Owner) (first : Zone) (ups : List DynamicUpdate) (size total number serial : ℕ) (x : Entry) (entries : List Entry) (os : List ℕ) → AllFit owners (window_seats total (x ∷ entries)) → AreSerials first ups (x ∷ entries) → number + 1 ≤ total → x.number ≤ number → fits size (serials_in (x ∷ entries)) ≡ true → x.serial.0 ≡ serial
-    → owners_in (up_to number entries) ≡ os → Found owners first ups size number serial os
+    → owners_in (up_to number entries) ≡ os → Found owners first ups size number serial (x ∷ entries) os
 found_met owners first ups size total number serial x entries os fit serials within under short same is =
     let said = fit.0.0 in
     let u = all_up owners first ups total x.number number entries fit.1 serials.1 (omega (arith, said)) within under in
@@ -148,6 +153,11 @@ found_met owners first ups size total number serial x entries os fit serials wit
     let serials_are : serials_in (x ∷ u.front) ≡ serials_of (zone_at first ups x.number ∷ zones_behind first ups x.number (length u.front)) = ap (λ s. s ∷ serials_in u.front) serials.0.1 ∙ ap (λ ss. zone_serial (zone_at first ups x.number) ∷ ss) u.serials in
     record {
       asker = x.number;
+      place = 0;
+      entry = x;
+      entry_at = refl;
+      entry_is = refl;
+      entry_serial = same;
       serial_is = sym serials.0.1 ∙ same;
       numbered = subst (AreNumbered owners (x.number + 1)) all u.numbered;
       count = omega (arith, count, k);
@@ -160,11 +170,25 @@ met_here serial x entries e = rw e refl
 missed_here : (serial : ℕ) (x : Entry) (entries : List Entry) → (x.serial.0 == serial) ≡ false → behind serial (x ∷ entries) ≡ behind serial entries
 missed_here serial x entries e = rw e refl
 
+found_further : (owners : List Owner) (first : Zone) (ups : List DynamicUpdate) (size number serial : ℕ) (x : Entry) (entries : List Entry) (os : List ℕ) → Found owners first ups size number serial entries os → Found owners first ups size number serial (x ∷ entries) os
+found_further owners first ups size number serial x entries os f = record {
+  asker = f.asker;
+  place = suc f.place;
+  entry = f.entry;
+  entry_at = f.entry_at;
+  entry_is = f.entry_is;
+  entry_serial = f.entry_serial;
+  serial_is = f.serial_is;
+  numbered = f.numbered;
+  count = f.count;
+  fit = f.fit;
+}
+
 found_entries : (owners : List Owner) (first : Zone) (ups : List DynamicUpdate) (size total number serial : ℕ) (entries : List Entry) (owner : ℕ) (left : List ℕ) → AllFit owners (window_seats total entries) → AreSerials first ups entries → number + 1 ≤ total → fits size (serials_in entries) ≡ true
-    → behind serial (up_to number entries) ≡ owner ∷ left → Found owners first ups size number serial (owner ∷ left)
+    → behind serial (up_to number entries) ≡ owner ∷ left → Found owners first ups size number serial entries (owner ∷ left)
 found_entries owners first ups size total number serial [] owner left fit serials within short e = absurd (let wrong = e in cc)
 found_entries owners first ups size total number serial (x ∷ entries) owner left fit serials within short e =
-    let rest = found_entries owners first ups size total number serial entries owner left fit.1 serials.1 within (fits_less size x.serial.0 (serials_in entries) short) in
+    let rest = λ (none : behind serial (up_to number entries) ≡ owner ∷ left). found_further owners first ups size number serial x entries (owner ∷ left) (found_entries owners first ups size total number serial entries owner left fit.1 serials.1 within (fits_less size x.serial.0 (serials_in entries) short) none) in
     elim (leb_tells x.number number) [
       | inl under ↦ (
           let here : behind serial (x ∷ up_to number entries) ≡ owner ∷ left = ap (behind serial) (sym (up_to_kept number x entries under.0)) ∙ e in
@@ -174,6 +198,50 @@ found_entries owners first ups size total number serial (x ∷ entries) owner le
           ]
           )
       | inr over ↦ rest (ap (behind serial) (sym (up_to_gone number x entries over.0)) ∙ e)
+    ]
+
+-- where none is to be upgraded, no entry of a version in front of the number has the serial
+none_there : (owners : List Owner) (first : Zone) (ups : List DynamicUpdate) (total number : ℕ) (x : Entry) (entries : List Entry) → AllFit owners (window_seats total (x ∷ entries)) → AreSerials first ups (x ∷ entries) → number + 1 ≤ total → x.number ≤ number → owners_in (up_to number entries) ≡ [] → x.number ≡ number
+none_there owners first ups total number x entries fit serials within under none =
+    let said = fit.0.0 in
+    let u = all_up owners first ups total x.number number entries fit.1 serials.1 (omega (arith, said)) within under in
+    let all : owners_in u.front ≡ [] = ap owners_in (sym u.is) ∙ none in
+    let n : length (owners_in u.front) ≡ length u.front = length-map u.front (λ (e : Entry). e.owner) in
+    let m : length (owners_in u.front) ≡ 0 = ap length all in
+    let count = u.count in
+    omega (arith, count, n, m)
+
+none_before : (owners : List Owner) (first : Zone) (ups : List DynamicUpdate) (total number serial : ℕ) (entries : List Entry) (place : ℕ) (entry : Entry) → AllFit owners (window_seats total entries) → AreSerials first ups entries → number + 1 ≤ total → behind serial (up_to number entries) ≡ []
+    → slice_get entries place ≡ Some entry → entry.number < number → entry.serial.0 ≢ serial
+none_before owners first ups total number serial [] place entry fit serials within none at less same = let wrong = at in cc
+none_before owners first ups total number serial (x ∷ entries) zero entry fit serials within none at less same =
+    let is : x ≡ entry = (let f = at in cc) in
+    let l : x.number < number = subst (λ (e : Entry). e.number < number) (sym is) less in
+    elim (leb_tells x.number number) [
+      | inl under ↦ (
+          let here : behind serial (x ∷ up_to number entries) ≡ [] = ap (behind serial) (sym (up_to_kept number x entries under.0)) ∙ none in
+          elim (eqb_tells x.serial.0 serial) [
+            | inl met ↦ (let n = none_there owners first ups total number x entries fit serials within under.1 (sym (met_here serial x (up_to number entries) met.0) ∙ here) in omega (arith, n, l))
+            | inr other ↦ other.1 (ap (λ (e : Entry). e.serial.0) is ∙ same)
+          ]
+          )
+      | inr over ↦ (let o = over.1 in omega (arith, o, l))
+    ]
+none_before owners first ups total number serial (x ∷ entries) (suc place) entry fit serials within none at less same =
+    elim (leb_tells x.number number) [
+      | inl under ↦ (
+          let here : behind serial (x ∷ up_to number entries) ≡ [] = ap (behind serial) (sym (up_to_kept number x entries under.0)) ∙ none in
+          elim (eqb_tells x.serial.0 serial) [
+            | inl met ↦ (
+                let n = none_there owners first ups total number x entries fit serials within under.1 (sym (met_here serial x (up_to number entries) met.0) ∙ here) in
+                let said = fit.0.0 in
+                let later_one = window_numbers owners total entries place entry fit.1 at in
+                omega (arith, n, said, later_one, less)
+                )
+            | inr other ↦ none_before owners first ups total number serial entries place entry fit.1 serials.1 within (sym (missed_here serial x (up_to number entries) other.0) ∙ here) at less same
+          ]
+          )
+      | inr over ↦ none_before owners first ups total number serial entries place entry fit.1 serials.1 within (ap (behind serial) (sym (up_to_gone number x entries over.0)) ∙ none) at less same
     ]
 
 -- what takes steps has entries to upgrade
@@ -197,16 +265,16 @@ asked_takes true true how at e = absurd (let wrong = e in cc)
 asked_takes false barred how at e = absurd (let wrong = e in cc)
 
 -- it is answered at once where no entry is to be upgraded
-seek_answers : (words : State Numbered) (sending : Sending) (owners : List ℕ) (given : Answer) → seek_start words sending owners ≡ Answers given → sent_answer sending ≡ given
-seek_answers words sending [] given e = (let f = e in cc)
+seek_answers : (words : State Numbered) (sending : Sending) (owners : List ℕ) (given : Answer) → seek_start words sending owners ≡ Answers given → (owners ≡ []) × (sent_answer sending ≡ given)
+seek_answers words sending [] given e = (refl, (let f = e in cc))
 seek_answers words sending (owner ∷ left) given e = by (nat_le (words.granted + length (owner ∷ left)) grants) e
   where
-    by : (test : Bool) → (if test then Takes (phase.Seek owner (record { sending = sending; left = left; owners = [] })) else Refused) ≡ Answers given → sent_answer sending ≡ given
+    by : (test : Bool) → (if test then Takes (phase.Seek owner (record { sending = sending; left = left; owners = [] })) else Refused) ≡ Answers given → (owner ∷ left ≡ []) × (sent_answer sending ≡ given)
     by true f = absurd (let wrong = f in cc)
     by false f = absurd (let wrong = f in cc)
 
-asked_answers : (permitted barred : Bool) (how : Start) (given : Answer) → (if not permitted then Refused else if barred then Refused else how) ≡ Answers given → how ≡ Answers given
-asked_answers true false how given e = e
+asked_answers : (permitted barred : Bool) (how : Start) (given : Answer) → (if not permitted then Refused else if barred then Refused else how) ≡ Answers given → (barred ≡ false) × (how ≡ Answers given)
+asked_answers true false how given e = (refl, e)
 asked_answers true true how given e = absurd (let wrong = e in cc)
 asked_answers false barred how given e = absurd (let wrong = e in cc)
 
@@ -242,10 +310,10 @@ module _ (lines : List Line) (first : Zone) (keep window top : ℕ) (world : Wor
   pub record Begins (name request : List ℕ) (at : Phase) : Type 0 where
     pub version : Numbered
     pub has : version_of name world ≡ Some version
-    pub sends : SendsIn first (updates_in n.goes.us) world.words.owners version request at
+    pub sends : SendsIn first (updates_in n.goes.us) world.words world.entries version request at
 
   asked_begins : (name request : List ℕ) (owner : ℕ) (version : Numbered) (query : QueryAsked) (o : Option Serial) (at : Phase) → IsZone first → AreOctets lines → version_of name world ≡ Some version → reads request ≡ parsed.Query query → query.serial ≡ o → (is_some o && is_barred world.calls) ≡ false
-      → SeekIs (none_got owner version request) (later version.number o world.entries) at → SendsIn first (updates_in n.goes.us) world.words.owners version request at
+      → SeekIs (none_got owner version request) (later version.number o world.entries) at → SendsIn first (updates_in n.goes.us) world.words world.entries version request at
   asked_begins name request owner version query None at is sent has reads_so asks barred seek = absurd (let wrong = seek.owners_are in cc)
   asked_begins name request owner version query (Some serial) at is sent has reads_so asks barred seek =
       let ups = updates_in n.goes.us in
@@ -259,7 +327,7 @@ module _ (lines : List Line) (first : Zone) (keep window top : ℕ) (world : Wor
       let number = behind_count first ups f.asker (length (seek.owner ∷ seek.left)) in
       let chain = chain_from (IsSent lines) first n.goes.tells.cell.published ups n.goes.tells.replays sent is (zone_at first ups f.asker) zones f.asker refl (λ j zone e. behind_at first ups f.asker (length (seek.owner ∷ seek.left)) j zone e) (omega (arith, l, count, number)) in
       let versions : AreVersions (zone_at first ups f.asker) zones = are_versions world.window (zone_at first ups f.asker) zones chain f.fit in
-      subst (SendsIn first ups world.words.owners version request) seek.is (record {
+      subst (SendsIn first ups world.words world.entries version request) seek.is (record {
         seen = ups;
         more = [];
         grown = sym (append-nil ups);
@@ -272,6 +340,11 @@ module _ (lines : List Line) (first : Zone) (keep window top : ℕ) (world : Wor
           serial = serial;
           asks = asks;
           before = omega (arith, count);
+          place = f.place;
+          entry = f.entry;
+          entry_at = f.entry_at;
+          entry_is = f.entry_is;
+          entry_serial = f.entry_serial;
           serial_is = f.serial_is;
           versions = subst (λ m. AreVersions (zone_at first ups f.asker) (zones_behind first ups f.asker m)) (sym all) versions;
         };
@@ -299,23 +372,34 @@ module _ (lines : List Line) (first : Zone) (keep window top : ℕ) (world : Wor
   pub transfer_begins : (name request : List ℕ) (query : QueryAsked) (at : Phase) → IsZone first → AreOctets lines → reads request ≡ parsed.Query query → start world (Transfer name request) ≡ Takes at → Begins name request at
   transfer_begins name request query at is sent reads_so e = start_begins name request (owner_of name world.names) query at is sent refl reads_so e
 
-  -- where it is answered at once, nothing was got
-  pub record AtOnce (name request : List ℕ) (given : Answer) : Type 0 where
+  -- where it is answered at once, nothing was got, and no entry tells of the serial
+  pub record AtOnce (name request : List ℕ) (query : QueryAsked) (given : Answer) : Type 0 where
     pub owner : ℕ
     pub version : Numbered
     pub has : version_of name world ≡ Some version
     pub gives : sent_answer (none_got owner version request) ≡ given
+    pub untold : (serial : Serial) → query.serial ≡ Some serial → IsUntold world.entries world.words version serial
 
-  of_answers : (name request : List ℕ) (owner : ℕ) (o : Option Numbered) (query : QueryAsked) (given : Answer) → version_of name world ≡ o → reads request ≡ parsed.Query query → transfer_of world owner request o ≡ Answers given → AtOnce name request given
+  untold_by : (version : Numbered) (o : Option Serial) (serial : Serial) → Served version → o ≡ Some serial → (is_some o && is_barred world.calls) ≡ false → later version.number o world.entries ≡ [] → IsUntold world.entries world.words version serial
+  untold_by version None serial s e barred none = absurd (let wrong = e in cc)
+  untold_by version (Some other) serial s e barred none =
+      let ups = updates_in n.goes.us in
+      let same : other ≡ serial = (let f = e in cc) in
+      let l = s.within in
+      let fit = window_fits (script (IsSentAt lines) top) first world n.goes n.hands (unbarred world.calls barred) in
+      inl (λ place entry at less is. none_before world.words.owners first ups (length ups + 1) version.number other.0 world.entries place entry fit n.serials.each (omega (arith, l)) none at less (is ∙ ap (λ (x : Serial). x.0) (sym same)))
+
+  of_answers : (name request : List ℕ) (owner : ℕ) (o : Option Numbered) (query : QueryAsked) (given : Answer) → version_of name world ≡ o → reads request ≡ parsed.Query query → transfer_of world owner request o ≡ Answers given → AtOnce name request query given
   of_answers name request owner None query given has reads_so e = absurd (let wrong = e in cc)
   of_answers name request owner (Some version) query given has reads_so e =
       let asked : transfer_asked world (none_got owner version request) query ≡ Answers given = ap (transfer_said world (none_got owner version request)) (sym reads_so) ∙ e in
       let a = asked_answers (is_permitted version.zone (peer_over Tcp true) query) (is_some query.serial && is_barred world.calls) (seek_start world.words (none_got owner version request) (later version.number query.serial world.entries)) given asked in
-      record { owner = owner; version = version; has = has; gives = seek_answers world.words (none_got owner version request) (later version.number query.serial world.entries) given a }
+      let g = seek_answers world.words (none_got owner version request) (later version.number query.serial world.entries) given a.1 in
+      record { owner = owner; version = version; has = has; gives = g.1; untold = λ serial asks. untold_by version query.serial serial (served name version has) asks a.0 g.0 }
 
-  start_answers : (name request : List ℕ) (o : Option ℕ) (query : QueryAsked) (given : Answer) → owner_of name world.names ≡ o → reads request ≡ parsed.Query query → transfer_start world request o ≡ Answers given → AtOnce name request given
+  start_answers : (name request : List ℕ) (o : Option ℕ) (query : QueryAsked) (given : Answer) → owner_of name world.names ≡ o → reads request ≡ parsed.Query query → transfer_start world request o ≡ Answers given → AtOnce name request query given
   start_answers name request None query given e reads_so answers = absurd (let wrong = answers in cc)
   start_answers name request (Some owner) query given e reads_so answers = of_answers name request owner (found_by world.words owner) query given (ap (option_and_then (found_by world.words)) e) reads_so answers
 
-  pub transfer_answers : (name request : List ℕ) (query : QueryAsked) (given : Answer) → reads request ≡ parsed.Query query → start world (Transfer name request) ≡ Answers given → AtOnce name request given
+  pub transfer_answers : (name request : List ℕ) (query : QueryAsked) (given : Answer) → reads request ≡ parsed.Query query → start world (Transfer name request) ≡ Answers given → AtOnce name request query given
   transfer_answers name request query given reads_so e = start_answers name request (owner_of name world.names) query given refl reads_so e

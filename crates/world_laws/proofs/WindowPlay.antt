@@ -6,7 +6,6 @@ use Rattle.std.specs.List.{slice_get}
 use Rattle.std.specs.Option.{option_and_then}
 use Rattle.std.proofs.lemmas.List.{append-nil, map-append, take_more}
 use Rattle.std.proofs.lemmas.Option.{slice_get_within, get_or_from_slice_get}
-use Rattle.cell_core.specs.declared.words.Owner.{Owner}
 use Rattle.dns_message.specs.declared.update.Update.{Update as DynamicUpdate}
 use Rattle.zone_tree.specs.Version.{zone_serial}
 use Rattle.world_run.specs.declared.step.WorldReply.{WorldReply}
@@ -16,7 +15,7 @@ use Rattle.world_run.specs.World.{World, started, first_entries, turn, onto_repl
 use Rattle.world_laws.specs.Held.{HoldVersions}
 use Rattle.world_laws.specs.Leads.{HaveSerials}
 use Rattle.world_laws.specs.Replays.{IsSentAt, IsReplayed}
-use Rattle.world_laws.proofs.CallReplays.{script, Placed, updates_in, Further}
+use Rattle.world_laws.proofs.CallReplays.{script, Placed, updates_in, Zones, Further}
 use Rattle.world_laws.proofs.ChainLists.{Zone}
 use Rattle.world_laws.proofs.HandPlay.{Kept, turn_hands, turn_same, started_hands, started_less, started_few}
 use Rattle.world_laws.proofs.HandWorld.{Hands}
@@ -37,11 +36,11 @@ pub record Now (lines : List Line) (first : Zone) (keep window top : ℕ) (world
   pub reached : play (started first keep window) (take top lines) ≡ Some (earlier, world)
 
 -- and behind the next of them
-pub record After (lines : List Line) (first : Zone) (keep window top : ℕ) (ups : List DynamicUpdate) (owners : List Owner) (after : World) : Type 0 where
+pub record After (lines : List Line) (first : Zone) (keep window top : ℕ) (ups : List DynamicUpdate) (words : Zones) (after : World) : Type 0 where
   pub now : Now lines first keep window (top + 1) after
   pub more : List DynamicUpdate
   pub grown : updates_in now.goes.us ≡ ups ++ more
-  pub further : Further owners after.words.owners
+  pub further : Further words after.words
 
 -- one line more
 rest_more : (line : Line) (told given : WorldReply) (after : World) (replies : List WorldReply) (world : World) (o p : Option (List WorldReply × World)) → onto_replies told o ≡ Some (replies, world)
@@ -73,7 +72,7 @@ taken_more lines top line e =
     take_more lines top line (slice_get_within lines top line e) ∙ ap (λ l. take top lines ++ l ∷ []) (get_or_from_slice_get lines top line line e)
 
 pub line_now : (lines : List Line) (first : Zone) (keep window top : ℕ) (world : World) (line : Line) (given : WorldReply) (after : World) → slice_get lines top ≡ Some line → turn world line ≡ Some (given, after) → (n : Now lines first keep window top world)
-    → After lines first keep window top (updates_in n.goes.us) world.words.owners after
+    → After lines first keep window top (updates_in n.goes.us) world.words after
 line_now lines first keep window top world line given after here e n =
     let t = turn_comes (script (IsSentAt lines) top) first world line (λ request sends. (line, here, sends)) n.goes given after e in
     let goes = goes_as (moved (script (IsSentAt lines) (top + 1)) (top + 1) (by_after (script (IsSentAt lines) (top + 1)) top line given after)) (top + 1) (λ place head. Unit {0}) first after (omega arith) (λ some place head by. tt) t.goes in
@@ -140,7 +139,7 @@ at_all {X} all = λ place x f. (let here : 0 + place ≡ place = omega arith in 
 -- what goes on with each line is so behind all of them
 module _ (lines : List Line) (replies : List WorldReply) (first : Zone) (keep window : ℕ) (track : (top : ℕ) (world : World) → Now lines first keep window top world → Type 0)
     (on : (top : ℕ) (world : World) (line : Line) (given : WorldReply) (after : World) → slice_get lines top ≡ Some line → slice_get replies top ≡ Some given → turn world line ≡ Some (given, after) → (n : Now lines first keep window top world)
-    → (a : After lines first keep window top (updates_in n.goes.us) world.words.owners after) → track top world n → track (top + 1) after a.now) where
+    → (a : After lines first keep window top (updates_in n.goes.us) world.words after) → track top world n → track (top + 1) after a.now) where
   pub record Behind (top : ℕ) (behind : World) : Type 0 where
     pub now : Now lines first keep window top behind
     pub is : track top behind now

@@ -1,7 +1,10 @@
 -- What a transfer that a line asks for leads to: whoever holds the version that is told, and takes its records, holds the version
 -- that is served (RFC 1995, 4; RFC 5936, 2.2).
-use Rattle.std.specs.Prelude.{◌≡◌, ◌≢◌, ℕ, zero, suc, ◌+◌, ◌-◌, ◌<◌, ◌≤◌, ◌⊎◌, false, List, [], ◌∷◌, length, map, take, All, Some, Ok}
+use Rattle.std.specs.Prelude.{◌≡◌, ◌≢◌, ℕ, zero, suc, ◌+◌, ◌-◌, ◌<◌, ◌≤◌, ◌⊎◌, true, false, List, [], ◌∷◌, length, map, take, All, Some, Ok}
 use Rattle.std.specs.List.{slice_get, flat_map}
+use Rattle.cell_core.specs.Cell.{Cell}
+use Rattle.cell_core.specs.Shows.{Shows}
+use Rattle.cell_core.specs.Words.{State}
 use Rattle.dns_message.specs.declared.query.Query.{Query as QueryAsked}
 use Rattle.dns_message.specs.declared.update.Update.{Update as DynamicUpdate}
 use Rattle.dns_message.specs.Message.{Message}
@@ -59,31 +62,43 @@ pub record LeadFromAsker (first : List Record) (updates : List DynamicUpdate) (v
   pub changes : records ≡ map as_sent (map (spelt name) (incremental (replay first (take asker updates)) (zones_behind first updates asker (version.number - asker))))
   pub taken : taken_by (replay first (take asker updates)) records ≡ Ok version.zone
 
--- the messages of an IXFR of a version: where the serial that it tells isn't less than that version's, its SOA alone; else the version in
--- whole, which leads there from any, or what changed since the one that is told, which leads there from that (RFC 1995, 2 and 4)
-pub record AnswerIxfr (first : List Record) (updates : List DynamicUpdate) (version : Numbered) (query : QueryAsked) (octets : List (List ℕ)) : Type 0 where
+-- the words show a cell in which a number is buried (own)
+abbrev pub IsBuriedIn : State Numbered → ℕ → Type 0
+IsBuriedIn words number = (cell : Cell Numbered) × Shows words cell × (cell.buried number ≡ true)
+
+-- what changed since a serial up to a version isn't told: no entry of the window in front of that version has the serial, or one of the
+-- versions behind that of an entry with the serial, up to that version, is buried (RFC 1995, 4; own)
+abbrev pub IsUntold : List Entry → State Numbered → Numbered → Serial → Type 0
+IsUntold entries words version serial =
+    ((place : ℕ) (entry : Entry) → slice_get entries place ≡ Some entry → entry.number < version.number → entry.serial.0 ≢ serial.0)
+    ⊎ ((place : ℕ) × (entry : Entry) × (number : ℕ) × (slice_get entries place ≡ Some entry) × (entry.serial.0 ≡ serial.0) × (entry.number < number) × (number ≤ version.number) × IsBuriedIn words number)
+
+-- the messages of an IXFR of a version: where the serial that it tells isn't less than that version's, its SOA alone; else what changed since
+-- the version that is told, which leads there from that one; or, where that isn't told, by the window's entries and the words behind, the
+-- version in whole, which leads there from any (RFC 1995, 2 and 4)
+pub record AnswerIxfr (first : List Record) (updates : List DynamicUpdate) (entries : List Entry) (words : State Numbered) (version : Numbered) (query : QueryAsked) (octets : List (List ℕ)) : Type 0 where
   pub served : version.zone ≡ replay first (take version.number updates)
   pub serial : Serial
   pub asks : query.serial ≡ Some serial
   pub messages : List Message
   pub sent : octets ≡ octets_of messages
   pub leads : ((serial_less serial.0 (zone_serial version.zone) ≡ false) × (records_of messages ≡ map as_sent (map (spelt query.question.name) (soa_of version.zone))))
-      ⊎ (((records_of messages ≡ map as_sent (map (spelt query.question.name) (full version.zone))) × LeadFromAny first updates version (records_of messages))
+      ⊎ (((records_of messages ≡ map as_sent (map (spelt query.question.name) (full version.zone))) × LeadFromAny first updates version (records_of messages) × IsUntold entries words version serial)
       ⊎ LeadFromAsker first updates version serial query.question.name (records_of messages))
 
--- an IXFR gets this of the version that a name holds (own)
-pub record AnswerFor (first : List Record) (lines : List WorldStep) (world : World) (name : List ℕ) (query : QueryAsked) (octets : List (List ℕ)) : Type 0 where
+-- an IXFR gets this of the version that a name holds, by the window then and the world behind its line (own)
+pub record AnswerFor (first : List Record) (lines : List WorldStep) (world after : World) (name : List ℕ) (query : QueryAsked) (octets : List (List ℕ)) : Type 0 where
   pub held : HoldVersions first lines world
   pub version : Numbered
   pub has : version_of name world ≡ Some version
-  pub answer : AnswerIxfr first held.replayed.updates version query octets
+  pub answer : AnswerIxfr first held.replayed.updates world.entries after.words version query octets
 
--- or that the name held in front of the line at a place (own)
-pub record AnswerSince (first : List Record) (keep window : ℕ) (lines : List WorldStep) (world : World) (place : ℕ) (name : List ℕ) (query : QueryAsked) (octets : List (List ℕ)) : Type 0 where
+-- or of the version that the name held in front of the line at a place, by the window then (own)
+pub record AnswerSince (first : List Record) (keep window : ℕ) (lines : List WorldStep) (world after : World) (place : ℕ) (name : List ℕ) (query : QueryAsked) (octets : List (List ℕ)) : Type 0 where
   pub replayed : IsReplayed first lines world
   pub earlier : List WorldReply
   pub before : World
   pub reached : play (started first keep window) (take place lines) ≡ Some (earlier, before)
   pub version : Numbered
   pub has : version_of name before ≡ Some version
-  pub answer : AnswerIxfr first replayed.updates version query octets
+  pub answer : AnswerIxfr first replayed.updates before.entries after.words version query octets

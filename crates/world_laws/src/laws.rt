@@ -138,22 +138,23 @@ pub fn versions_before_the_kept_are_buried()
 {}
 
 /// Whatever lines were played from a zone on, an IXFR gets the SOA alone where its serial isn't less than that of the version which its
-/// name holds, or held where it was begun; else the version in whole, which leads there from any version, or what changed since the
-/// version whose serial it tells, which leads there from that one. So it is where it is answered at once, in one line, or step by step. The
-/// window's entries have the serials of their versions (RFC 1995, 2 to 5; RFC 5936, 2.2).
+/// name holds, or held where it was begun; else what changed since the version whose serial it tells, which leads there from that one; or,
+/// where no entry of the window tells of that serial, or a version behind it is buried, the version in whole, which leads there from any. So
+/// it is where it is answered at once, in one line, or step by step. The window's entries have the serials of their versions (RFC 1995, 2
+/// to 5; RFC 5936, 2.2).
 pub fn transfers_lead_to_the_served()
     ensures window { (first : List Record) (keep window : ℕ) (lines : List WorldStep) (replies : List WorldReply) (world : World)
         → play (started first keep window) lines ≡ Some (replies, world) → HaveSerials first lines world }
     ensures at_once { (first : List Record) (keep window : ℕ) (lines : List WorldStep) (replies : List WorldReply) (world : World) (name request : List ℕ) (query : Query) (octets : List (List ℕ))
         → IsZone first → AreOctets lines → play (started first keep window) lines ≡ Some (replies, world) → reads request ≡ Asks query → query.question.rtype.0 ≡ type_IXFR
-        → start world (Transfer name request) ≡ Answers (Messages octets) → AnswerFor first lines world name query octets }
+        → start world (Transfer name request) ≡ Answers (Messages octets) → AnswerFor first lines world world name query octets }
     ensures in_one_line { (first : List Record) (keep window : ℕ) (lines : List WorldStep) (replies : List WorldReply) (world after : World) (name request : List ℕ) (query : Query) (octets : List (List ℕ))
         → IsZone first → AreOctets lines → play (started first keep window) lines ≡ Some (replies, world) → reads request ≡ Asks query → query.question.rtype.0 ≡ type_IXFR
-        → turn world (Whole (Transfer name request)) ≡ Some (Answered (Messages octets), after) → AnswerFor first lines world name query octets }
+        → turn world (Whole (Transfer name request)) ≡ Some (Answered (Messages octets), after) → AnswerFor first lines world after name query octets }
     ensures in_steps { (first : List Record) (keep window : ℕ) (lines : List WorldStep) (replies : List WorldReply) (world after : World) (place : ℕ) (begun name request : List ℕ) (query : Query) (step : StepName) (octets : List (List ℕ))
         → IsZone first → AreOctets lines → play (started first keep window) lines ≡ Some (replies, world) → reads request ≡ Asks query → query.question.rtype.0 ≡ type_IXFR
         → slice_get lines place ≡ Some (Begin begun (Transfer name request)) → IsOpen lines replies place (length lines) begun
-        → turn world (Next begun) ≡ Some (Last step (Messages octets), after) → AnswerSince first keep window lines world place name query octets }
+        → turn world (Next begun) ≡ Some (Last step (Messages octets), after) → AnswerSince first keep window lines world after place name query octets }
 {}
 
 /// Whatever lines were played, at most one of them is told that it has buried a number; nobody owns that number then, and it isn't the
