@@ -1,0 +1,3 @@
+pub mod PlaceLemmas
+pub mod HistoryLemmas
+pub mod ChainLemmas
