@@ -5,6 +5,8 @@ use Rattle.std.specs.List.{slice_get}
 use Rattle.std.specs.Option.{option_map, option_or}
 use Rattle.std.proofs.lemmas.List.{length_push, drop_all}
 use Rattle.std.proofs.Common.{length-drop, length-append}
+use Rattle.std.proofs.Math.Seq.{drop-nil}
+use Rattle.transfer_core.proofs.VersionLemmas.{drop_here}
 use Rattle.cell_core.specs.declared.words.Version.{Version}
 use Rattle.snapshot_cell.specs.Tokens.{ReaderState, IsUpgraded}
 use Rattle.weak_history.specs.History.{Entered, versions_in, numbered_to, after_serial, later_entries}
@@ -14,9 +16,7 @@ use Rattle.weak_history.specs.declared.chain.Lost.TheVariants.{Gone, Spent}
 
 -- the entries from a place on, by the one there
 pub entries_from : {X : Type 0} (entries : List X) (at : ℕ) (entry : X) → slice_get entries at ≡ Some entry → drop at entries ≡ entry ∷ drop (at + 1) entries
-entries_from [] at entry is = absurd (cc)
-entries_from (first ∷ entries) zero entry is = let same : first ≡ entry = cc in ap (λ e. e ∷ entries) same
-entries_from (first ∷ entries) (suc at) entry is = entries_from entries at entry is
+entries_from entries at entry is = drop_here entries at entry (sym is)
 
 -- there is one where there are more
 pub some_at : {X : Type 0} (entries : List X) (at : ℕ) → at < length entries → (entry : X) × (slice_get entries at ≡ Some entry)
@@ -46,7 +46,7 @@ module _ {T : Type 0} (serial number : ℕ) where
       by false beyond = ap (after_serial serial) (without_one number entry entries beyond) ∙ met
 
   pub met_from : (entries : List (Entered T)) (at : ℕ) (later : List (Entered T)) → later_entries serial number (drop at entries) ≡ Some later → later_entries serial number entries ≡ Some later
-  met_from [] at later met = met
+  met_from [] at later met = ap (later_entries serial number) (sym (drop-nil at)) ∙ met
   met_from (entry ∷ entries) zero later met = met
   met_from (entry ∷ entries) (suc at) later met = met_before entry entries later (met_from entries at later met)
 

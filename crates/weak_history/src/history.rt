@@ -4,6 +4,8 @@ ghost use Rattle.std.specs.List.{slice_get};
 ghost use Rattle.std.specs.Option.{option_map, option_copied};
 ghost use Rattle.transfer_core.specs.Window.{fits};
 ghost use Rattle.weak_history.specs.History.{Entered, serials_in, span_in, longest_run, numbered_to, later_entries};
+ghost use Rattle.snapshot_cell.specs.Tokens.{IsUpgraded};
+ghost use Rattle.weak_history.specs.Places.{placed, IsFull};
 ghost use Rattle.weak_history.specs.Owned.{AreOwned, IsOwnedAt, IsLost, IsLostAt, IsChain};
 
 use crate::chain::{Chain, Lost};
@@ -199,16 +201,49 @@ impl<'a, T: Drop, C: Names<T>, N: Naming> History<'a, T, C, N> {
         ensures owned { IfOk result (λ found. (entry : Entered T) → slice_get self.old.entries at ≡ Some entry → IsOwnedAt entry upto reader.old reader.new found) }
         ensures lost { IfErr result (λ lost. (entry : Entered T) → slice_get self.old.entries at ≡ Some entry → IsLostAt entry upto reader.old reader.new lost) }
     {
-        let Some(Some(entry)) = self.places.get_mut(at) else {
+        let Some(entry) = self.entry(at) else {
             unreachable!()
         };
-        if entry.number() > upto {
+        let number = entry.number();
+        if number > upto {
             return Ok(None);
         }
-        match entry.upgrade(reader) {
+        match self.upgrade_at(at, reader) {
             Ok(Some(owner)) => Ok(Some(owner)),
-            Ok(None) => Err(Lost::Gone(entry.number())),
+            Ok(None) => Err(Lost::Gone(number)),
             Err(Spent) => Err(Lost::Spent),
         }
+    }
+
+    /// An owner of the version at a place, for a grant of the reader; None where it is buried.
+    fn upgrade_at(
+        &mut self,
+        at: usize,
+        reader: &mut NamedReader<T, N>,
+    ) -> Result<Option<NamedStrong<'a, T, C, N>>, Spent>
+        requires { at < length self.old.entries }
+        ensures same { self.new ≡ self.old }
+        ensures upgraded { IfOk result (λ found. (entry : Entered T) → slice_get self.old.entries at ≡ Some entry → IsUpgraded reader.old reader.new entry.version found × (0 < reader.old.left)) }
+        ensures spent { IfErr result (λ _. (reader.old.left ≡ 0) × (reader.new ≡ reader.old)) }
+    {
+        upgrade_in(self.places.as_mut_slice(), at, reader)
+    }
+}
+
+/// An owner of the version at one of full places, for a grant of the reader; None where it is buried.
+fn upgrade_in<'a, T: Drop, C: Names<T>, N: Naming>(
+    places: &mut [Option<Entry<'a, T, C, N>>],
+    at: usize,
+    reader: &mut NamedReader<T, N>,
+) -> Result<Option<NamedStrong<'a, T, C, N>>, Spent>
+    requires within { at < length places.old }
+    requires full { IsFull places.old }
+    ensures same { places.new ≡ places.old }
+    ensures upgraded { IfOk result (λ found. (entry : Entered T) → slice_get (placed places.old) at ≡ Some entry → IsUpgraded reader.old reader.new entry.version found × (0 < reader.old.left)) }
+    ensures spent { IfErr result (λ _. (reader.old.left ≡ 0) × (reader.new ≡ reader.old)) }
+{
+    match &mut places[at] {
+        Some(entry) => entry.upgrade(reader),
+        None => unreachable!(),
     }
 }
