@@ -15,7 +15,8 @@ use crate::tokens::{LOADS, NOTES, Publisher, READERS, Reader};
 use atomic_table::{Badge, Table};
 use cell_core::Version;
 use counted_handles::{
-    Made, Names, NoSlot, Room, Rule, Spots, Strong, View, Weak, Words, deal, deal_rest, make, unmake,
+    Made, Names, NoSlot, Room, Rule, Spots, Strong, View, Weak, Words, deal, deal_rest, make,
+    unmake,
 };
 use raw_slots::Bare;
 use std::alloc::Global;

@@ -55,7 +55,8 @@ pub(crate) fn draw<'a, R: Abort, T: Drop, C: Names<T>>(
     reader: &mut Reader<T>,
 ) -> Strong<'a, T, C>
     requires { reader.old.cell ≡ cell.now }
-    ensures { reader.new.cell ≡ reader.old.cell }
+    ensures reader { reader.new.cell ≡ reader.old.cell }
+    ensures owner { result.table ≡ cell.now }
 {
     match cell.load(reader) {
         Ok(owner) => owner,
