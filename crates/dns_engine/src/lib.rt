@@ -24,5 +24,5 @@ pub use shared::SharedVersion;
 pub use snapshot_cell::{Naming, Spent};
 pub use transfer_core::KEPT;
 pub use versions::{
-    FirstZone, VersionCell, VersionOwner, VersionPublisher, VersionReader, ZoneVersions,
+    FirstZone, ToldChain, VersionCell, VersionOwner, VersionPublisher, VersionReader, ZoneVersions,
 };

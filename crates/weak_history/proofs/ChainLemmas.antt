@@ -1,11 +1,15 @@
 -- Entries that are owned one after the other.
-use Rattle.std.proofs.Common.{◌≡◌, refl, ℕ, suc, zero, ◌+◌, ◌-◌, ◌≤◌, ◌<◌, Bool, true, false, List, [], ◌∷◌, ◌++◌, length, map, filter, drop, Option, None, Some, Result, Ok, Err, nat_le, arith, sym, ap, ◌∙◌, subst, append_assoc, append-nil}
+use Rattle.std.proofs.Common.{◌≡◌, refl, ℕ, suc, zero, ◌+◌, ◌-◌, ◌≤◌, ◌<◌, Bool, true, false, List, [], ◌∷◌, ◌++◌, length, map, filter, drop, Option, None, Some, Result, Ok, Err, IfOk, nat_le, arith, sym, ap, ◌∙◌, subst, append_assoc, append-nil}
 use Rattle.std.specs.Prelude.{◌==◌, ◌&&◌, if◌then◌else◌}
 use Rattle.std.specs.List.{slice_get}
 use Rattle.std.specs.Option.{option_map, option_or}
 use Rattle.std.proofs.lemmas.List.{length_push, drop_all}
 use Rattle.std.proofs.Common.{length-drop, length-append}
+use Rattle.std.proofs.lemmas.Option.{slice_get-get_or}
+use Rattle.std.proofs.Math.ListN.{get_or}
 use Rattle.std.proofs.Math.Seq.{drop-nil}
+use Rattle.weak_history.specs.Places.{placed, IsFull}
+use Rattle.weak_history.proofs.PlaceLemmas.{shown, placed_get}
 use Rattle.transfer_core.proofs.VersionLemmas.{drop_here}
 use Rattle.cell_core.specs.declared.words.Version.{Version}
 use Rattle.snapshot_cell.specs.Tokens.{ReaderState, IsUpgraded}
@@ -23,6 +27,23 @@ pub some_at : {X : Type 0} (entries : List X) (at : ℕ) → at < length entries
 some_at [] at within = absurd (omega arith)
 some_at (first ∷ entries) zero within = (first, refl)
 some_at (first ∷ entries) (suc at) within = some_at entries at (omega arith)
+
+pub no_entry : {X : Type 0} (entries : List X) (at : ℕ) → at < length entries → None ≡ slice_get entries at → ⊥
+no_entry entries at within none = let some = (some_at entries at within).1 in no_both (none ∙ some)
+  where
+    no_both : {X : Type 0} {x : X} → None ≡ Some x → ⊥
+    no_both e = cc
+
+-- the entry in a place is upgraded
+pub upgraded_here : {T E : Type 0} (result : Result (Option (Version T)) E) (places : List (Option (Entered T))) (at : ℕ) (place : Option (Entered T)) (own : Entered T) (before after : ReaderState T) → IsFull places → at < length places → get_or places at place ≡ Some own
+    → IfOk result (λ found. IsUpgraded before after own.version found × (0 < before.left)) → IfOk result (λ found. (entry : Entered T) → slice_get (placed places) at ≡ Some entry → IsUpgraded before after entry.version found × (0 < before.left))
+upgraded_here {T} (Ok found) places at place own before after full within is up =
+    λ entry there.
+    subst (λ (e : Entered T). IsUpgraded before after e.version found × (0 < before.left)) (same own entry (sym (ap shown (slice_get-get_or places at place within ∙ ap Some is)) ∙ sym (placed_get places at full) ∙ there)) up
+  where
+    same : (a b : Entered T) → Some a ≡ Some b → a ≡ b
+    same a b e = cc
+upgraded_here (Err e) places at place own before after full within is up = tt
 
 -- an entry that is met, and one that isn't
 with_one : {T : Type 0} (number : ℕ) (entry : Entered T) (entries : List (Entered T)) → nat_le entry.version.number number ≡ true → numbered_to number (entry ∷ entries) ≡ entry ∷ numbered_to number entries
