@@ -26,7 +26,7 @@ use Rattle.dns_engine.specs.Chain.{changes_told, HasBroken}
 abbrev Zone : Type 0
 Zone = List Record
 
-abbrev entered : List Version → List (Entered Version)
+abbrev pub entered : List Version → List (Entered Version)
 entered versions = map entry_of versions
 
 -- numbers one after the other
@@ -85,7 +85,7 @@ zones_append (v ∷ versions) more = ap (λ zones. v.zone ∷ zones) (zones_appe
 
 module _ (size : ℕ) (newer : List Version) where
   -- the versions of a window
-  abbrev run_of : List Version → List Version
+  abbrev pub run_of : List Version → List Version
   run_of [] = []
   run_of (version ∷ versions) = if fits size (serials_of (zones_of ((version ∷ versions) ++ newer))) then version ∷ versions else run_of versions
 
@@ -140,13 +140,13 @@ module _ (size : ℕ) (newer : List Version) where
   run_part (version ∷ versions) = part_by version versions (fits size (serials_of (zones_of ((version ∷ versions) ++ newer)))) refl (run_part versions)
 
 -- what is behind the version of a serial, among zones and among entries
-record IsBehind (serial : ℕ) (versions : List Version) (later : List (Entered Version)) : Type 0 where
-  front : List Version
-  version : Version
-  behind : List Version
-  split : versions ≡ front ++ version ∷ behind
-  entries : later ≡ entered behind
-  found : held serial (zones_of versions) ≡ Some (version.zone, zones_of behind)
+pub record IsBehind (serial : ℕ) (versions : List Version) (later : List (Entered Version)) : Type 0 where
+  pub front : List Version
+  pub version : Version
+  pub behind : List Version
+  pub split : versions ≡ front ++ version ∷ behind
+  pub entries : later ≡ entered behind
+  pub found : held serial (zones_of versions) ≡ Some (version.zone, zones_of behind)
 
 or_none : {A : Type 0} (o : Option A) → option_or o None ≡ o
 or_none None = refl
@@ -248,7 +248,7 @@ newest_last : (zone : Zone) (versions : List Version) (version : Version) → ne
 newest_last zone [] version = refl
 newest_last zone (v ∷ versions) version = newest_last v.zone versions version
 
-versions_entered : (versions : List Version) → versions_of (versions_in (entered versions)) ≡ versions
+pub versions_entered : (versions : List Version) → versions_of (versions_in (entered versions)) ≡ versions
 versions_entered [] = refl
 versions_entered (v ∷ versions) = ap (λ l. v ∷ l) (versions_entered versions)
 
@@ -271,10 +271,10 @@ sunk_buried before after version (inl is) = subst (λ (r : ReaderState Version).
 sunk_buried before after version (inr is) = subst (λ (r : ReaderState Version). Contains r.gone version.number) (sym is) (contains_first version.number before.gone)
 
 module _ (first : List Record) (published before newer : List Version) (version : Version) (history : IsHistory (IsFirst first) IsNext published) (place : published ≡ (before ++ version ∷ []) ++ newer) (number : length before ≡ version.number) (serial : ℕ) where
-  abbrev versions : List Version
+  abbrev pub versions : List Version
   versions = before ++ version ∷ []
 
-  abbrev run : List Version
+  abbrev pub run : List Version
   run = run_of 16 newer versions
 
   size : length versions ≡ version.number + 1
