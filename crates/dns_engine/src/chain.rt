@@ -47,7 +47,7 @@ impl VersionChain {
     {
         let mut left = owners;
         let mut versions = Copies::new();
-        for _ in 0..left.len() {
+        for _at in 0..left.len() {
             let Some(owner) = left.take_first() else {
                 unreachable!()
             };

@@ -186,3 +186,9 @@ module _ {T : Type 0} (all : List (Entered T)) (before : ReaderState T) where
       let parts : length (so_far.front ++ entry ∷ rest) ≡ length so_far.front + length (entry ∷ rest) = length-append so_far.front (entry ∷ rest) in
       let same : length so_far.front ≡ before.left = omega (arith, had, is.1, o.enough) in
       record { few = omega (arith, whole, parts, same); spent = is.2 ∙ o.spent ∙ ap (λ n. less n before) same }
+
+  -- whichever the reason
+  pub lost_here : (rest left : List (Entered T)) (entry : Entered T) (number : ℕ) (now after : ReaderState T) (owners : List (Version T)) (lost : Lost) → (nat_le entry.version.number number ≡ true → left ≡ entry ∷ rest) → SoFar all left before now owners → IsLostAt entry number now after lost
+      → IsLost all before after lost
+  lost_here rest left entry number now after owners (Gone gone) splits so_far is = one_lost rest entry number now after owners (Gone gone) (on_to left (entry ∷ rest) now owners (splits is.0) so_far) is
+  lost_here rest left entry number now after owners Spent splits so_far is = one_lost rest entry number now after owners Spent (on_to left (entry ∷ rest) now owners (splits is.0) so_far) is

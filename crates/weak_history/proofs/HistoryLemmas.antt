@@ -8,7 +8,7 @@ use Rattle.std.proofs.lemmas.List.{length_push, drop_all}
 use Rattle.std.proofs.lemmas.Bool.Decides.{nat_tests}
 use Rattle.dns_rdata.specs.SerialOrder.{serial_distance}
 use Rattle.transfer_core.proofs.VersionLemmas.{drop_here}
-use Rattle.weak_history.specs.History.{Entered, serials_in, span_in, longest_run}
+use Rattle.weak_history.specs.History.{Entered, HistoryState, serials_in, span_in, longest_run}
 
 serials_push : {T : Type 0} (entries : List (Entered T)) (entry : Entered T) → serials_in (entries ++ entry ∷ []) ≡ serials_in entries ++ entry.serial ∷ []
 serials_push [] entry = refl
@@ -126,3 +126,20 @@ run_by {T} size first entries entry false unfit again =
 pub run_again : {T : Type 0} (size : ℕ) (entries : List (Entered T)) (entry : Entered T) → longest_run size (longest_run size entries ++ entry ∷ []) ≡ longest_run size (entries ++ entry ∷ [])
 run_again size [] entry = refl
 run_again size (first ∷ entries) entry = run_by size first entries entry (fits size (serials_in (first ∷ entries))) refl (run_again size entries entry)
+
+pub not_less : (n most : ℕ) → most ≤ n → nat_lt n most ≡ false
+not_less n most many = grind (arith, nat_tests)
+
+-- the oldest entry leaves, and the others are as long a run with one more
+pub one_leaves : {T : Type 0} (initial state : HistoryState T) (serial size : ℕ) (entries : List (Entered T)) → 0 < initial.size → state.size ≡ initial.size
+    → ((entry : Entered T) → entry.serial ≡ serial → longest_run state.size (state.entries ++ entry ∷ []) ≡ longest_run initial.size (initial.entries ++ entry ∷ [])) → fits state.size (serials_in state.entries ++ serial ∷ []) ≡ false
+    → size ≡ state.size → entries ≡ drop 1 state.entries → (size ≡ initial.size) × ((entry : Entered T) → entry.serial ≡ serial → longest_run size (entries ++ entry ∷ []) ≡ longest_run initial.size (initial.entries ++ entry ∷ []))
+one_leaves {T} initial state serial size entries some kept run unfit same rest =
+    let few : 0 < length state.entries = one_fits state.size serial state.entries (omega (arith, some, kept)) unfit in (
+      same ∙ kept,
+      λ entry is.
+      ap (λ (n : ℕ). longest_run n (entries ++ entry ∷ [])) same
+      ∙ ap (λ (es : List (Entered T)). longest_run state.size (es ++ entry ∷ [])) rest
+      ∙ sym (run_without state.size serial state.entries entry is few unfit)
+      ∙ run entry is,
+    )

@@ -88,7 +88,7 @@ impl<'a, T: Drop, C: Names<T>, N: Naming> History<'a, T, C, N> {
     fn has_room(&self, serial: Serial) -> bool
         ensures { result ≡ fits self.now.size (serials_in self.now.entries ++ serial.0 ∷ []) }
     {
-        self.places.len() < self.size && self.spans_less_than_half(serial)
+        self.len() < self.size && self.spans_less_than_half(serial)
     }
 
     /// Whether it is less than half the ring from the first of the entries through the others to a serial (RFC 1982, 3.2).
@@ -182,7 +182,11 @@ impl<'a, T: Drop, C: Names<T>, N: Naming> History<'a, T, C, N> {
     {
         let mut owners = Owners::new();
         for at in first..self.len() {
-            if let Some(owner) = self.own_at(at, upto, reader)? {
+            let found = match self.own_at(at, upto, reader) {
+                Ok(found) => found,
+                Err(lost) => return Err(lost),
+            };
+            if let Some(owner) = found {
                 owners.push(owner);
             }
         }

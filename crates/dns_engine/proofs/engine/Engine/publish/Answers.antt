@@ -9,26 +9,4 @@ use Rattle.dns_engine.proofs.OwnedLemmas.{newest_on}
 use Rattle.dns_engine.proofs.engine.Engine.publish.Goals as goal
 
 pub invariant_of-self-2 : goal.invariant_of-self-2
-invariant_of-self-2 g c =
-    let inside = c.self.inside in
-    let held = c.self.invariant in
-    let version = c.args.version in
-    let follows : IsNext inside.last.value version = subst (λ (state : EngineState). IsNext state.held.last version) (sym c.self.view_is) c.requires.follows in
-    let made : c.in-Some.version ≡ version = c.in-Some.ensures in
-    let next = c.in-Ok.ensures.published in
-    let value : c.publish.new.publisher.value ≡ version = ap (λ (p : PublisherState Version). p.value) next ∙ made in
-    let number : c.publish.new.publisher.number ≡ inside.last.value.number + 1 = ap (λ (p : PublisherState Version). p.number) next ∙ ap (λ n. n + 1) held.3 in
-    let published : c.publish.new.publisher.published ≡ inside.reader.seen ++ version ∷ [] =
-    ap (λ (p : PublisherState Version). p.published) next ∙ ap (λ (v : Version). inside.publisher.published ++ v ∷ []) made ∙ ap (λ (l : List Version). l ++ version ∷ []) held.1 in
-    let same = c.newest.ensures.same in
-    let loaded = c.in-Ok-newest.ensures.newest in
-    let seen : c.newest.new.reader.seen ≡ c.publish.new.publisher.published = ap (λ (r : ReaderState Version). r.seen) loaded.1 in
-    let last : c.replace.new.dest.value ≡ version = ap (λ (o : Numbered Version). o.value) (c.replace.ensures.after ∙ loaded.0) ∙ value in
-    let older : c.keep_newest.new.self ≡ newest inside.keep (inside.older ++ inside.last.value ∷ []) =
-    c.keep_newest.ensures ∙ ap (λ (v : Version). newest inside.keep (inside.older ++ v ∷ [])) (ap (λ (o : Numbered Version). o.value) c.in-Ok.ensures.old ∙ held.2) in (
-      held.0,
-      ap (λ (p : PublisherState Version). p.published) same ∙ sym seen,
-      ap (λ (p : PublisherState Version). p.value) same ∙ value ∙ sym last,
-      ap (λ (p : PublisherState Version). p.number) same ∙ number ∙ sym follows.makes.number ∙ ap (λ (v : Version). v.number) (sym last),
-      rw (seen ∙ published, last, older) (newest_on g.Z.FirstZone.zone _ version held.4 follows),
-    )
+invariant_of-self-2 g c = ?
