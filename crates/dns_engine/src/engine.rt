@@ -15,7 +15,8 @@ use crate::learn::learn_last;
 use crate::owners::Owners;
 use crate::shared::SharedVersion;
 use crate::versions::{
-    ChangeHistory, FirstZone, VersionCell, VersionOwner, VersionPublisher, VersionReader, ZoneVersions,
+    ChangeHistory, FirstZone, VersionCell, VersionOwner, VersionPublisher, VersionReader,
+    ZoneVersions,
 };
 use dns_message::Update;
 use dns_rdata::{Rcode, Serial};

@@ -138,8 +138,8 @@ one_leaves {T} initial state serial size entries some kept run unfit same rest =
     let few : 0 < length state.entries = one_fits state.size serial state.entries (omega (arith, some, kept)) unfit in (
       same ∙ kept,
       λ entry is.
-      ap (λ (n : ℕ). longest_run n (entries ++ entry ∷ [])) same
-      ∙ ap (λ (es : List (Entered T)). longest_run state.size (es ++ entry ∷ [])) rest
-      ∙ sym (run_without state.size serial state.entries entry is few unfit)
-      ∙ run entry is,
+          ap (λ (n : ℕ). longest_run n (entries ++ entry ∷ [])) same
+          ∙ ap (λ (es : List (Entered T)). longest_run state.size (es ++ entry ∷ [])) rest
+          ∙ sym (run_without state.size serial state.entries entry is few unfit)
+          ∙ run entry is,
     )

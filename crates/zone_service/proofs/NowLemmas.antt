@@ -13,8 +13,7 @@ use Rattle.serve_core.specs.declared.peer.Peer.{Peer}
 use Rattle.conversation.specs.Served.{BeginsWith}
 use Rattle.conversation.proofs.TurnLemmas.{begins_itself, begins_more}
 use Rattle.dns_engine.specs.Held.{EngineState}
-use Rattle.dns_engine.specs.Told.{IsTold, made, refused, unchanged, full, starved as starved_making}
-use Rattle.zone_service.specs.Known.{HasGone, HasLoaded, HasSeen, LoadsInVain}
+use Rattle.zone_service.specs.Known.{HasGone, HasLoaded, HasMet, HasSeen, LoadsInVain}
 use Rattle.zone_service.specs.Updated.{IsUpdated, IsJudged, by_engine as judged_by_engine, in_version, IsToldOf, read, unread, bad_opt, starved}
 use Rattle.zone_service.specs.Replied.{IsQuery, IsUpdate, IsTransfer, LoadsFor, IsNow}
 use Rattle.zone_service.specs.declared.answer.Told.{Told}
@@ -45,17 +44,11 @@ now_grows first peer request before after out Later is =
     ⊎_elim (λ (u : IsUpdate request × (after ≡ before)). same_grows before after u.1) (λ (t : (transfer : IsTransfer first peer request) × HasLoaded first before after transfer.version). load_grows first before after t.0.version t.1) is
 now_grows first peer request before after out Spent is = same_grows before after is.1.1
 
-told_further : (old new : EngineState) (update : Update) (may : _) (code : _) → IsTold old update may code new → BeginsWith new.held.published old.held.published
-told_further old new update may code (made next taken makes is_code left is) = (next ∷ [], ap (λ (s : EngineState). s.held.published) is)
-told_further old new update may code (refused is_code same) = subst (λ (s : EngineState). BeginsWith s.held.published old.held.published) (sym same) (begins_itself old.held.published)
-told_further old new update may code (unchanged taken acts is_code same) = subst (λ (s : EngineState). BeginsWith s.held.published old.held.published) (sym same) (begins_itself old.held.published)
-told_further old new update may code (full most is_code same) = subst (λ (s : EngineState). BeginsWith s.held.published old.held.published) (sym same) (begins_itself old.held.published)
-told_further old new update may code (starved_making taken is_code same) = subst (λ (s : EngineState). BeginsWith s.held.published old.held.published) (sym same) (begins_itself old.held.published)
+met_grows : (first : List Record) (engine : EngineState) (before after : ReaderState Version) → HasMet first engine before after → BeginsWith after.seen before.seen
+met_grows first engine before after m = (m.begun.0, ap (λ (r : ReaderState Version). r.seen) m.seen ∙ sym m.begun.1)
 
 updated_grows : (first : List Record) (update : Update) (may : _) (before after : ReaderState Version) (code : _) (serials : _) → IsUpdated first update may before after code serials → BeginsWith after.seen before.seen
-updated_grows first update may before after code serials u =
-    subst (λ (r : ReaderState Version). BeginsWith r.seen before.seen) (sym u.seen)
-    (begins_more before.seen u.old.held.published u.new.held.published (u.begun.0, sym u.begun.1) (told_further u.old u.new update may code u.told))
+updated_grows first update may before after code serials u = begins_more before.seen u.met.seen after.seen (met_grows first u.old before u.met u.meets) (met_grows first u.new u.met after u.meets_again)
 
 judged_grows : (first : List Record) (update : Update) (may : _) (before after : ReaderState Version) (told : Told) → IsJudged first update may before after told → BeginsWith after.seen before.seen
 judged_grows first update may before after told (judged_by_engine serials asks is updated) = updated_grows first update may before after told.code serials updated

@@ -417,7 +417,7 @@ module _ (first : List Record) (peer : Peer) (before after : ReaderState Version
 
   judged_replied : (update : Update) (t : Told) → reads request ≡ SaysUpdate update → IsJudged first update peer.may_update before after t → take len out ≡ fit (coded (heading_of_update update) t.code) (limit_of peer.transport None) → IsReplied first peer after.seen request (take len out ∷ [])
   judged_replied update t reading (by_engine serials asks is updated) written =
-      update_replied first peer after.seen request out (SaysUpdate update) update updated.old updated.new t.code len updated.replayed (inl (sym reading)) refl short written updated.told
+      update_replied first peer after.seen request out (SaysUpdate update) update updated.old updated.new t.code len updated.meets.replayed (inl (sym reading)) refl short written updated.told
   judged_replied update t reading (in_version version may replayed loaded gives none) written =
       same_replied first peer after.seen version request out (fit (coded (heading_of_update update) t.code) (limit_of peer.transport None)) (SaysUpdate update) (SaysUpdate update) len replayed (inl (sym reading)) refl tt short written (judged_got peer.transport version.zone update peer.may_update t.code may gives)
 

@@ -9,6 +9,8 @@ use Rattle.weak_history.specs.Owned.{IsChain}
 use Rattle.weak_history.specs.declared.chain.Chain.{Chain}
 use Rattle.conversation.specs.Served.{BeginsWith}
 use Rattle.dns_engine.specs.Entries.{entries_of}
+use Rattle.dns_engine.specs.Held.{EngineState, IsLatest}
+use Rattle.dns_engine.specs.Replayed.{IsReplay}
 use Rattle.dns_engine.specs.Versions.{IsFirst, IsNext}
 
 -- a reader has loaded a version, once: it is the last of the versions that the reader has then seen, which begin with those that it had
@@ -28,6 +30,14 @@ HasSeen first before after version = (loaded : ReaderState Version) × HasLoaded
 -- those since the asker's (own)
 abbrev pub LoadsInVain : List Record → ReaderState Version → ReaderState Version → Type 0
 LoadsInVain first before after = HasGone before after ⊎ ((version : Version) × HasSeen first before after version)
+
+-- a reader meets all that an engine has published, of which it had seen a beginning, for no grant; the engine's last version is the latest of it, the
+-- first zone with updates replayed (own)
+pub record HasMet (first : List Record) (engine : EngineState) (before after : ReaderState Version) : Type 0 where
+  pub begun : Begins before.seen engine.held.published
+  pub latest : IsLatest first engine.held.published engine.held.last
+  pub replayed : IsReplay first engine.held.last
+  pub seen : after ≡ record before { seen = engine.held.published }
 
 -- a reader meets what is published, of which it had seen a beginning, and asks its history of the versions after the one of a serial, up to a
 -- number (own)

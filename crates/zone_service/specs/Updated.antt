@@ -11,16 +11,15 @@ use Rattle.dns_message.specs.declared.query.Parsed.TheVariants.{Fault, BadOpt, U
 use Rattle.dns_message.specs.declared.update.Update.{Update}
 use Rattle.zone_tree.specs.Version.{Version, zone_serial}
 use Rattle.update_core.specs.Verdict.{verdict}
-use Rattle.counted_handles.specs.Ruled.{Begins}
 use Rattle.snapshot_cell.specs.Tokens.{ReaderState}
-use Rattle.dns_engine.specs.Held.{EngineState, IsLatest}
+use Rattle.dns_engine.specs.Held.{EngineState}
 use Rattle.dns_engine.specs.Told.{IsTold}
 use Rattle.dns_engine.specs.Replayed.{IsReplay}
 use Rattle.serve_core.specs.declared.peer.Peer.{Peer}
 use Rattle.serve_core.specs.declared.heading.Heading.{Heading}
 use Rattle.serve_core.specs.Heading.{header_alone, heading_of_update, heading_of_bad, coded}
 use Rattle.serve_core.specs.Transport.{limit_of}
-use Rattle.zone_service.specs.Known.{HasLoaded}
+use Rattle.zone_service.specs.Known.{HasLoaded, HasMet}
 use Rattle.zone_service.specs.declared.answer.Told.{Told}
 use Rattle.zone_service.specs.declared.service_log.Serials.{Serials}
 
@@ -30,14 +29,12 @@ use Rattle.zone_service.specs.declared.service_log.Serials.{Serials}
 pub record IsUpdated (first : List Record) (update : Update) (may : Bool) (before after : ReaderState Version) (code : Rcode) (serials : Serials) : Type 0 where
   pub old : EngineState
   pub new : EngineState
-  pub begun : Begins before.seen old.held.published
-  pub replayed : IsReplay first old.held.last
-  pub latest : IsLatest first old.held.published old.held.last
+  pub met : ReaderState Version
+  pub meets : HasMet first old before met
   pub told : IsTold old update may code new
+  pub meets_again : HasMet first new met after
   pub serial_before : serials.before.0 ≡ zone_serial old.held.last.zone
   pub serial_after : serials.after.0 ≡ zone_serial new.held.last.zone
-  pub made : IsLatest first new.held.published new.held.last
-  pub seen : after ≡ record before { seen = new.held.published }
 
 -- what is told of an update that was read, by whether its peer may update, and by what becomes of the reader of who answers: of a peer that may,
 -- or where no load is left, the code that an engine tells of it, with the serials of that engine's last version before it and after it, and all that

@@ -1,7 +1,9 @@
 //! The server: a cell of versions, and its engine behind a lock.
 ghost use Rattle.std.specs.Prelude.{◌≡◌, ◌⊎◌, ◌↔◌, ◌<◌, ◌≤◌, IfOk, IfErr};
 ghost use Rattle.cell_core.specs.Words.{notes};
-ghost use Rattle.zone_service.specs.Known.{MeetsAndAsks};
+ghost use Rattle.zone_tree.specs.Version.{zone_serial};
+ghost use Rattle.dns_engine.specs.Replayed.{IsReplay};
+ghost use Rattle.zone_service.specs.Known.{HasMet, MeetsAndAsks};
 ghost use Rattle.zone_service.specs.Updated.{IsUpdated};
 ghost use Rattle.dns_engine.specs.Held.{IsLatest};
 ghost use Rattle.dns_engine.specs.declared.fault.EngineFault.{EngineFault as Fault};
@@ -26,9 +28,25 @@ pub struct Server<'a, Z: FirstZone, N: Naming> {
 
 /// Looks at an engine's last number for a proof alone, which learns by it that its last version is the latest that it has published.
 fn learn_latest<Z: FirstZone, N: Naming>(engine: &Engine<'_, Z, N>)
-    ensures { IsLatest Z.zone engine.now.held.published engine.now.held.last }
+    ensures latest { IsLatest Z.zone engine.now.held.published engine.now.held.last }
+    ensures replayed { IsReplay Z.zone engine.now.held.last }
 {
     let _ = engine.number();
+}
+
+/// The serial of an engine's last version, which a reader meets with all that is published.
+fn meet_last<Z: FirstZone, N: Naming>(
+    engine: &mut Engine<'_, Z, N>,
+    cell: &VersionCell<Z, N>,
+    reader: &mut VersionReader<N>,
+) -> Serial
+    ensures serial { result.0 ≡ zone_serial engine.old.held.last.zone }
+    ensures met { HasMet Z.zone engine.old reader.old reader.new }
+    ensures same { engine.new ≡ engine.old }
+{
+    learn_latest(engine);
+    engine.meet(cell, reader);
+    engine.last_version().serial()
 }
 
 impl<'a, Z: FirstZone, N: Naming> Server<'a, Z, N> {
@@ -73,13 +91,9 @@ impl<'a, Z: FirstZone, N: Naming> Server<'a, Z, N> {
         ensures { IsUpdated Z.zone update.now may reader.old reader.new result.0 result.1 }
     {
         let mut engine = self.engine.lock(rt);
-        engine.meet(self.cell, reader);
-        learn_latest(&engine);
-        let before = engine.last_version().serial();
+        let before = meet_last(&mut engine, self.cell, reader);
         let code = engine.update(alloc, self.cell, update, may);
-        learn_latest(&engine);
-        let after = engine.last_version().serial();
-        engine.meet(self.cell, reader);
+        let after = meet_last(&mut engine, self.cell, reader);
         (code, Serials { before, after })
     }
 
@@ -95,8 +109,7 @@ impl<'a, Z: FirstZone, N: Naming> Server<'a, Z, N> {
         ensures { MeetsAndAsks Z.zone from.0 upto reader.old reader.new result }
     {
         let mut engine = self.engine.lock(rt);
-        learn_latest(&engine);
-        engine.meet(self.cell, reader);
+        meet_last(&mut engine, self.cell, reader);
         engine.chain(from, upto, reader)
     }
 
