@@ -104,7 +104,7 @@ fn run_weakly<R: Abort + Threads + Sync, N: Naming + Send + Sync>(
 }
 
 /// 63 slots are free, and K is 1 in each: as many values are published, each old version is kept weakly alone, and each of these weak owners
-/// is then the last that knows its version.
+/// is then the last that knows its version. The tally counts no drop of the value that stays refused.
 fn all_are_free<R: Abort, N: Naming>(
     rt: &R,
     alloc: Global,
@@ -174,7 +174,7 @@ fn play<R: Abort + Threads + Sync, N: Naming + Send + Sync>(
 // buried by one release and dropped once, each upgrade that gave none is of one of those, and 63 slots are free in the end.
 #[test]
 fn weak_owners_are_raised_while_versions_go(rt: HostRuntime) {
-    let values = (VALUES + OTHERS) as usize + 2;
+    let values = (VALUES + OTHERS) as usize + 1;
     let tally = tally_of(&rt, rt.alloc(), values, None);
     let parts = begun(&rt, rt.alloc(), RAISERS + 1, &tally);
     play::<HostRuntime, Brand>(&rt, rt.alloc(), parts, &tally);
