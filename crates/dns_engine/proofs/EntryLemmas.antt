@@ -6,6 +6,10 @@ use Rattle.zone_tree.specs.Version.{Version, zone_serial}
 use Rattle.cell_core.specs.declared.words.Version.{Version as Numbered}
 use Rattle.weak_history.specs.History.{Entered, HistoryState, longest_run}
 use Rattle.weak_history.proofs.HistoryLemmas.{run_again}
+use Rattle.dns_rdata.specs.Record.{Record}
+use Rattle.counted_handles.specs.History.{IsHistory}
+use Rattle.dns_engine.specs.Versions.{IsFirst, IsNext}
+use Rattle.dns_engine.specs.Held.{IsNewest}
 use Rattle.dns_engine.specs.Entries.{entry_of, entries_of, history_of}
 
 entry_is : (version : Version) (owner : Numbered Version) (serial : ℕ) → owner ≡ record { number = version.number; value = version } → serial ≡ zone_serial version.zone → record { version = owner; serial = serial } ≡ entry_of version
@@ -35,3 +39,14 @@ only_one (first ∷ []) value size is = ap (λ v. v ∷ []) (some_same first val
     some_same : (a b : Version) → Some a ≡ Some b → a ≡ b
     some_same a b e = cc
 only_one (first ∷ (next ∷ more)) value size is = absurd (omega arith)
+
+-- where one version alone is published, it is the newest
+pub begun_newest : (first : List Record) (published : List Version) (version : Version) (keep : ℕ) (older : List Version) → published ≡ version ∷ [] → IsHistory (IsFirst first) IsNext published → older ≡ [] → version.number ≡ 0
+    → IsNewest first (record { published = published; last = version; keep = keep; older = older })
+begun_newest first published version keep older one history none begins = record {
+  before = [];
+  history = history;
+  ends = one ∙ ap (λ (o : List Version). o ++ version ∷ []) (sym none);
+  number = ap length none ∙ sym begins;
+  most = ap length none ∙ omega (arith, begins);
+}

@@ -1,5 +1,4 @@
 -- By the versions published before.
-use Rattle.dns_engine.proofs.ChainLemmas.{found_behind, told_gone}
 use Rattle.dns_engine.proofs.ReplayLemmas.{last_latest, last_replay_of, last_number_of}
 use Rattle.dns_engine.proofs.laws.published_versions_are_replays.Goals as goal
 
