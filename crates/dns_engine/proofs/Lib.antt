@@ -3,3 +3,4 @@ pub mod OwnedLemmas
 pub mod ToldLemmas
 pub mod SendLemmas
 pub mod ChainLemmas
+pub mod EntryLemmas

@@ -11,48 +11,14 @@ use Rattle.cell_core.specs.declared.words.Version.{Version as Numbered}
 use Rattle.counted_handles.specs.History.{IsHistory}
 use Rattle.dns_engine.specs.Versions.{IsFirst, IsNext}
 use Rattle.dns_engine.specs.Held.{Held, newest, IsNewest, held_with}
-use Rattle.dns_engine.specs.Owned.{placed, versions_of, IsFull}
-
-pub placed-append : {T : Type 0} (places more : List (Option T)) → placed (places ++ more) ≡ placed places ++ placed more
-placed-append [] more = refl
-placed-append (None ∷ places) more = placed-append places more
-placed-append (Some it ∷ places) more = ap (λ l. it ∷ l) (placed-append places more)
-
-pub length-placed : {T : Type 0} (places : List (Option T)) → IsFull places → length (placed places) ≡ length places
-length-placed [] full = refl
-length-placed (None ∷ places) full = absurd full
-length-placed (Some it ∷ places) full = ap suc (length-placed places full)
-
-pub full_push : {T : Type 0} (places : List (Option T)) (it : T) → IsFull places → IsFull (places ++ Some it ∷ [])
-full_push [] it full = tt
-full_push (None ∷ places) it full = full
-full_push (Some other ∷ places) it full = full_push places it full
+use Rattle.weak_history.specs.Places.{placed, IsFull}
+use Rattle.weak_history.proofs.PlaceLemmas.{placed-append, length-placed}
+use Rattle.dns_engine.specs.Owned.{versions_of}
 
 pub full_drop : {T : Type 0} (places : List (Option T)) → IsFull places → IsFull (drop 1 places)
 full_drop [] full = tt
 full_drop (None ∷ places) full = absurd full
 full_drop (Some other ∷ places) full = full
-
--- what is in a place
-abbrev pub shown : {T : Type 0} → Option (Option T) → Option T
-shown None = None
-shown (Some it) = it
-
-pub placed_get : {T : Type 0} (places : List (Option T)) (at : ℕ) → IsFull places → slice_get (placed places) at ≡ shown (slice_get places at)
-placed_get [] at full = refl
-placed_get (None ∷ places) at full = absurd full
-placed_get (Some it ∷ places) zero full = refl
-placed_get (Some it ∷ places) (suc at) full = placed_get places at full
-
--- no place is empty
-pub place_full : {T : Type 0} (places : List (Option T)) (at : ℕ) (place : Option T) → IsFull places → at < length places → place ≡ get_or places at place → place ≡ None → ⊥
-place_full [] at place full within is none = absurd (omega arith)
-place_full (None ∷ places) at place full within is none = full
-place_full (Some it ∷ places) zero place full within is none = some_none it (sym is ∙ none)
-  where
-    some_none : {T : Type 0} (it : T) → Some it ≡ None → ⊥
-    some_none it same = cc
-place_full (Some it ∷ places) (suc at) place full within is none = place_full places at place full (omega arith) is none
 
 -- the versions of owners in places
 abbrev pub owned : List (Option (Numbered Version)) → List Version
@@ -76,18 +42,6 @@ pub owned-drop : (places : List (Option (Numbered Version))) → IsFull places �
 owned-drop [] full = refl
 owned-drop (None ∷ places) full = absurd full
 owned-drop (Some other ∷ places) full = refl
-
--- one version more, of the owner in the next place
-pub share_more : (items : List (Option (Numbered Version))) (copies new : List Version) (at : ℕ) (place : Option (Numbered Version)) (owner : Numbered Version) (version : Version) → take (at + 1) items ≡ take at items ++ place ∷ [] → place ≡ Some owner
-    → version ≡ owner.value → new ≡ copies ++ version ∷ [] → copies ≡ owned (take at items) → length copies ≤ at → (new ≡ owned (take (at + 1) items)) × (length new ≤ at + 1)
-share_more items copies new at place owner version longer is its more same short =
-    let size : length new ≡ length copies + 1 = ap length more ∙ length_push copies version in (
-      more
-          ∙ ap (λ v. copies ++ v ∷ []) its
-          ∙ ap (λ l. l ++ owner.value ∷ []) same
-          ∙ sym (ap owned longer ∙ owned-append (take at items) (place ∷ []) ∙ ap (λ p. owned (take at items) ++ owned (p ∷ [])) is),
-      omega (arith, size, short),
-    )
 
 -- the newest of a list with one value more
 pub newest_push : {T : Type 0} (keep : ℕ) (values : List T) (value : T) → 0 < keep → newest keep (values ++ value ∷ []) ≡ newest (keep - 1) values ++ value ∷ []

@@ -12,6 +12,7 @@ use Rattle.dns_engine.specs.contracts.engine.Engine as engine
 use Rattle.dns_engine.specs.contracts.owners.Owners as owners
 use Rattle.dns_engine.specs.contracts.shared.SharedVersion as shared
 use Rattle.dns_engine.specs.declared.versions.FirstZone.{Ghosts}
+use Rattle.weak_history.proofs.SendLemmas as history
 use Rattle.zone_tree.below.shared_tree.proofs.node.Link.TheLaws.TheKnot as knot
 use Rattle.zone_tree.specs.contracts.version.Version as version
 
@@ -34,7 +35,7 @@ module _ (a : NamedLft) (T : RattleType) (g : Ghosts T.Denot) (N : RattleType) (
       depth 60 fits 20000
 
   pub engine_send : IsSend (engine.the_row a T N g n)
-  engine_send = search (shared_send, shared_sync, owners_send, cell.crosses, crossing.crosses, sendable) depth 60 fits 20000
+  engine_send = search (shared_send, shared_sync, owners_send, history.crosses, cell.crosses, crossing.crosses, sendable) depth 60 fits 20000
 
 -- what the engine has to do with, as a set for search
 pub ruleset crosses = (version_send, version_sync, shared_send, shared_sync, engine_send)

@@ -2,8 +2,10 @@ pub mod Versions
 pub mod Replayed
 pub mod Held
 pub mod Owned
+pub mod Entries
 pub mod Told
 pub mod Chain
 pub use Rattle.update_core.specs.Act
 pub use Rattle.snapshot_cell.specs.Tokens
 pub use Rattle.transfer_core.specs.Window
+pub use Rattle.weak_history.specs.History

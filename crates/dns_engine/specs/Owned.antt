@@ -1,19 +1,7 @@
--- What is in places (own).
-use Rattle.std.specs.Prelude.{List, [], ◌∷◌, Option, None, Some}
+-- The versions of owners (own).
+use Rattle.std.specs.Prelude.{List, [], ◌∷◌}
 use Rattle.zone_tree.specs.Version.{Version}
 use Rattle.cell_core.specs.declared.words.Version.{Version as Numbered}
-
--- what is in places
-abbrev pub placed : {T : Type 0} → List (Option T) → List T
-placed [] = []
-placed (None ∷ places) = placed places
-placed (Some it ∷ places) = it ∷ placed places
-
--- each place has something in it
-abbrev pub IsFull : {T : Type 0} → List (Option T) → Type 0
-IsFull [] = Unit {0}
-IsFull (None ∷ places) = ⊥
-IsFull (Some it ∷ places) = IsFull places
 
 -- the versions of owners
 abbrev pub versions_of : List (Numbered Version) → List Version

@@ -6,19 +6,19 @@ ghost use Rattle.std.specs.Option.{option_copied};
 use crate::shared::SharedVersion;
 use arrayvec::ArrayVec;
 use std::marker::Model;
-use transfer_core::KEPT;
+use transfer_core::WINDOW;
 use zone_tree::Version;
 
 /// Versions that are owned beside the cell, the oldest first. Contracts see the versions.
 #[derive(Drop)]
 pub(crate) struct Copies {
-    places: ArrayVec<Option<SharedVersion>, KEPT>,
+    places: ArrayVec<Option<SharedVersion>, WINDOW>,
 }
 
 impl Model for Copies {
     ghost use Rattle.std.specs.Prelude.{List};
     ghost use Rattle.zone_tree.specs.Version.{Version};
-    ghost use Rattle.dns_engine.specs.Owned.{placed, IsFull};
+    ghost use Rattle.weak_history.specs.Places.{placed, IsFull};
 
     ghost Value = { List Version };
 
@@ -40,7 +40,7 @@ impl Copies {
     /// How many versions they are.
     pub(crate) fn len(&self) -> usize
         ensures len { result ≡ length self.now }
-        ensures most { result ≤ KEPT }
+        ensures most { result ≤ WINDOW }
     {
         self.places.len()
     }
@@ -58,7 +58,7 @@ impl Copies {
 
     /// Puts a version behind the others.
     pub(crate) fn push(&mut self, version: SharedVersion)
-        requires { length self.old < KEPT }
+        requires { length self.old < WINDOW }
         ensures { self.new ≡ self.old ++ version ∷ [] }
     {
         self.places.push(Some(version));

@@ -1,11 +1,10 @@
 //! Owners of versions, in no memory of their own.
-ghost use Rattle.std.specs.Prelude.{◌≡◌, ◌-◌, ◌<◌, ◌≤◌, [], ◌∷◌, ◌++◌, length, IfOk};
+ghost use Rattle.std.specs.Prelude.{◌≡◌, ◌-◌, ◌<◌, ◌≤◌, [], ◌∷◌, ◌++◌, length};
 ghost use Rattle.dns_engine.specs.Held.{newest};
 
-use crate::copies::Copies;
 use crate::versions::{FirstZone, VersionOwner};
 use arrayvec::ArrayVec;
-use snapshot_cell::{Naming, Spent};
+use snapshot_cell::Naming;
 use std::marker::Model;
 use transfer_core::KEPT;
 
@@ -18,7 +17,8 @@ pub(crate) struct Owners<'a, Z: FirstZone, N: Naming> {
 impl<'a, Z: FirstZone, N: Naming> Model for Owners<'a, Z, N> {
     ghost use Rattle.std.specs.Prelude.{List};
     ghost use Rattle.zone_tree.specs.Version.{Version};
-    ghost use Rattle.dns_engine.specs.Owned.{placed, versions_of, IsFull};
+    ghost use Rattle.weak_history.specs.Places.{placed, IsFull};
+    ghost use Rattle.dns_engine.specs.Owned.{versions_of};
 
     ghost Value = { List Version };
 
@@ -35,19 +35,6 @@ impl<'a, Z: FirstZone, N: Naming> Owners<'a, Z, N> {
         Owners {
             places: ArrayVec::new(),
         }
-    }
-
-    /// The same versions, owned beside the cell. [`Spent`] where one of them can't be shared.
-    pub(crate) fn share(&self) -> Result<Copies, Spent>
-        ensures { IfOk result (λ copies. copies ≡ self.now) }
-    {
-        let mut copies = Copies::new();
-        for place in self.places.as_slice() {
-            if let Some(owner) = place {
-                copies.push(owner.get().share()?);
-            }
-        }
-        Ok(copies)
     }
 
     /// Puts an owner of the next version after the others, of which the newest stay, so many in all.

@@ -7,6 +7,7 @@ use crate::shared::SharedVersion;
 use cell_core::Follows;
 use snapshot_cell::{NamedCell, NamedPublisher, NamedReader, NamedStrong, Names};
 use std::marker::{Brand, PhantomData};
+use weak_history::{Chain, History};
 
 /// The first zone of a cell, which contracts alone see. A type has it that stands for a zone known only when the program runs.
 pub trait FirstZone {
@@ -43,3 +44,9 @@ pub type VersionReader<N> = NamedReader<SharedVersion, N>;
 
 /// An owner of a version.
 pub type VersionOwner<'a, Z, N> = NamedStrong<'a, SharedVersion, ZoneVersions<Z>, N>;
+
+/// What a history of versions tells of those after an asker's.
+pub type ToldChain<'a, Z, N> = Chain<'a, SharedVersion, ZoneVersions<Z>, N>;
+
+/// The history of a cell's versions, of which is told what changed.
+pub(crate) type ChangeHistory<'a, Z, N> = History<'a, SharedVersion, ZoneVersions<Z>, N>;

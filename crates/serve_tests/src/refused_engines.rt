@@ -3,14 +3,14 @@ ghost use Rattle.std.specs.Prelude.{◌≡◌};
 
 use crate::engines::{small_zone, update_of};
 use dns_engine::{
-    Engine, FirstZone, Naming, NoEngine, VersionCell, VersionPublisher, VersionReader,
+    Engine, FirstZone, Naming, NoEngine, VersionCell, VersionChain, VersionPublisher, VersionReader,
 };
 use dns_message::Update;
 use dns_rdata::{Rcode, Serial};
 use played_zones::{Play, Played, is_played};
 use std::alloc::Global;
 use std::sync::Wait;
-use transfer_core::ChainView;
+use transfer_core::{ChainView, VersionList};
 use zone_tree::Zone;
 
 /// The zone, made anew where memory is refused.
@@ -44,16 +44,18 @@ fn sent_anew<'a, Z: FirstZone, N: Naming>(
     code
 }
 
-/// Whether the versions that the engine keeps tell what changed since the first; asked once more where they can't be owned.
-fn tells_the_change<Z: FirstZone, N: Naming>(engine: &Engine<'_, Z, N>) -> bool {
-    let newest = match engine.newest() {
-        Ok(newest) => newest,
-        Err(_) => match engine.newest() {
-            Ok(newest) => newest,
-            Err(_) => return false,
-        },
-    };
-    newest.last_version().number() == 1 && newest.chain(Some(Serial(1))).is_whole()
+/// Whether the engine's history tells what changed since the first version.
+fn tells_the_change<'a, Z: FirstZone, N: Naming>(
+    cell: &VersionCell<Z, N>,
+    engine: &mut Engine<'a, Z, N>,
+    reader: &mut VersionReader<N>,
+) -> bool {
+    engine.meet(cell, reader);
+    let told = engine.chain(Serial(1), 1, reader);
+    match VersionChain::of(told) {
+        Ok(chain) => engine.number() == 1 && chain.is_whole() && chain.len() == 1,
+        Err(_) => false,
+    }
 }
 
 /// The engine of a cell that keeps two versions, made anew where it is refused.
@@ -75,10 +77,14 @@ fn publishes<'a, Z: FirstZone, N: Naming>(
     alloc: Global,
     cell: &'a VersionCell<Z, N>,
     engine: &mut Engine<'a, Z, N>,
+    readers: &mut Vec<VersionReader<N>>,
 ) -> Option<bool> {
     let update = update_anew(alloc)?;
     let code = sent_anew(alloc, cell, engine, &update);
-    Some(code == Rcode::NoError && engine.number() == 1 && tells_the_change(engine))
+    let mut reader = readers.pop()?;
+    let told = code == Rcode::NoError && tells_the_change(cell, engine, &mut reader);
+    let _ = readers.push(reader);
+    Some(told)
 }
 
 /// An update, sent anew where memory is refused.
@@ -102,7 +108,7 @@ impl Play for UpdateAnew {
         };
         let (told, publisher, reader) = match engine_anew(cell, publisher, reader) {
             Ok(mut engine) => {
-                let told = publishes(alloc, cell, &mut engine);
+                let told = publishes(alloc, cell, &mut engine, &mut readers);
                 let (publisher, reader) = engine.finish();
                 (told, publisher, reader)
             }

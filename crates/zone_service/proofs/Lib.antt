@@ -3,3 +3,4 @@ pub mod ReplyLemmas
 pub mod NowLemmas
 pub mod SendLemmas
 pub mod TransferLemmas
+pub mod ChainLemmas

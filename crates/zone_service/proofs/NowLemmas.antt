@@ -1,5 +1,5 @@
 -- What a reader has seen behind a request, and when no load is left for it.
-use Rattle.std.proofs.Common.{◌≡◌, ◌↔◌, refl, ℕ, ◌+◌, List, ⊎_elim, sym, ◌∙◌, subst, arith}
+use Rattle.std.proofs.Common.{◌≡◌, ◌↔◌, refl, ℕ, ◌+◌, List, [], ◌∷◌, ⊎_elim, sym, ap, ◌∙◌, subst, arith}
 use Rattle.dns_rdata.specs.Record.{Record}
 use Rattle.dns_message.specs.Request.{reads}
 use Rattle.dns_message.specs.declared.query.Query.{Query as QueryAsked}
@@ -11,9 +11,10 @@ use Rattle.snapshot_cell.specs.Tokens.{ReaderState}
 use Rattle.serve_core.specs.declared.heading.Heading.{Heading}
 use Rattle.serve_core.specs.declared.peer.Peer.{Peer}
 use Rattle.conversation.specs.Served.{BeginsWith}
-use Rattle.conversation.proofs.TurnLemmas.{begins_itself}
-use Rattle.zone_service.specs.Known.{HasGone, HasLoaded, LoadsInVain}
-use Rattle.zone_service.specs.Updated.{IsJudged, by_engine as judged_by_engine, in_version, IsToldOf, read, unread, bad_opt, starved}
+use Rattle.conversation.proofs.TurnLemmas.{begins_itself, begins_more}
+use Rattle.dns_engine.specs.Held.{EngineState}
+use Rattle.zone_service.specs.Known.{HasGone, HasLoaded, HasMet, HasSeen, LoadsInVain}
+use Rattle.zone_service.specs.Updated.{IsUpdated, IsJudged, by_engine as judged_by_engine, in_version, IsToldOf, read, unread, bad_opt, starved}
 use Rattle.zone_service.specs.Replied.{IsQuery, IsUpdate, IsTransfer, LoadsFor, IsNow}
 use Rattle.zone_service.specs.declared.answer.Told.{Told}
 use Rattle.zone_service.specs.declared.answer.Now.{Now}
@@ -43,8 +44,14 @@ now_grows first peer request before after out Later is =
     ⊎_elim (λ (u : IsUpdate request × (after ≡ before)). same_grows before after u.1) (λ (t : (transfer : IsTransfer first peer request) × HasLoaded first before after transfer.version). load_grows first before after t.0.version t.1) is
 now_grows first peer request before after out Spent is = same_grows before after is.1.1
 
+met_grows : (first : List Record) (engine : EngineState) (before after : ReaderState Version) → HasMet first engine before after → BeginsWith after.seen before.seen
+met_grows first engine before after m = (m.begun.0, ap (λ (r : ReaderState Version). r.seen) m.seen ∙ sym m.begun.1)
+
+updated_grows : (first : List Record) (update : Update) (may : _) (before after : ReaderState Version) (code : _) (serials : _) → IsUpdated first update may before after code serials → BeginsWith after.seen before.seen
+updated_grows first update may before after code serials u = begins_more before.seen u.met.seen after.seen (met_grows first u.old before u.met u.meets) (met_grows first u.new u.met after u.meets_again)
+
 judged_grows : (first : List Record) (update : Update) (may : _) (before after : ReaderState Version) (told : Told) → IsJudged first update may before after told → BeginsWith after.seen before.seen
-judged_grows first update may before after told (judged_by_engine serials asks is updated same) = same_grows before after same
+judged_grows first update may before after told (judged_by_engine serials asks is updated) = updated_grows first update may before after told.code serials updated
 judged_grows first update may before after told (in_version version stranger replayed load gives none) = load_grows first before after version load
 
 pub told_grows : (first : List Record) (may : _) (request : List ℕ) (before after : ReaderState Version) (heading : Heading) (told : Told) → IsToldOf first may request before after heading told → BeginsWith after.seen before.seen
@@ -53,9 +60,13 @@ told_grows first may request before after heading told (unread head reading alon
 told_grows first may request before after heading told (bad_opt head question dnssec_ok reading repeats none same) = same_grows before after same
 told_grows first may request before after heading told (starved head want alone code none same) = same_grows before after same
 
+-- who has loaded and then seen more
+pub seen_grows : (first : List Record) (before after : ReaderState Version) (version : Version) → HasSeen first before after version → BeginsWith after.seen before.seen
+seen_grows first before after version s = begins_more before.seen s.0.seen after.seen (load_grows first before s.0 version s.1) s.2
+
 pub vain_grows : (first : List Record) (before after : ReaderState Version) → LoadsInVain first before after → BeginsWith after.seen before.seen
 vain_grows first before after is =
-    ⊎_elim (λ (gone : HasGone before after). same_grows before after gone.1) (λ (l : (version : Version) × HasLoaded first before after version). load_grows first before after l.0 l.1) is
+    ⊎_elim (λ (gone : HasGone before after). same_grows before after gone.1) (λ (l : (version : Version) × HasSeen first before after version). seen_grows first before after l.0 l.1) is
 
 -- who has loaded had a load left
 had_one : (first : List Record) (before after : ReaderState Version) (version : Version) → HasLoaded first before after version → before.left ≡ 0 → ⊥

@@ -24,9 +24,12 @@ use Rattle.update_core.specs.Act.{act}
 use Rattle.update_core.specs.Applied.{code_of}
 use Rattle.dns_engine.specs.Replayed.{IsReplay}
 use Rattle.dns_engine.specs.Held.{EngineState, IsLatest}
-use Rattle.dns_rdata.specs.declared.numbers.Serial.{Serial}
 use Rattle.snapshot_cell.specs.Tokens.{ReaderState}
-use Rattle.dns_engine.specs.Chain.{TellsSince, changes_told}
+use Rattle.dns_engine.specs.Chain.{ChainState, TellsSince, changes_by}
+use Rattle.dns_rdata.specs.Numbers.{type_IXFR}
+use Rattle.zone_tree.specs.Zone.{soa_of}
+use Rattle.conversation.specs.Served.{BeginsWith}
+use Rattle.conversation.proofs.TurnLemmas.{begins_itself}
 use Rattle.dns_engine.specs.Told.{IsTold, made, refused, unchanged, full, starved}
 use Rattle.serve_core.specs.declared.transport.Transport.{Transport}
 use Rattle.serve_core.specs.declared.transport.Transport.TheVariants.{Udp, Tcp}
@@ -35,7 +38,7 @@ use Rattle.serve_core.specs.Transport.{limit_of, room_of}
 use Rattle.serve_core.specs.declared.heading.Heading.{Heading}
 use Rattle.serve_core.specs.Heading.{header_alone, heading_of_update, heading_of_bad, coded}
 use Rattle.serve_core.specs.declared.peer.Peer.{Peer}
-use Rattle.serve_core.specs.Transfers.{is_permitted, reply_to_peer, messages_to}
+use Rattle.serve_core.specs.Transfers.{is_permitted, reply_to_peer, list_for, messages_to}
 use Rattle.serve_core.specs.Replies.{replies_to, IsNoTransfer}
 use Rattle.serve_core.specs.Served.{Got, Want, ForNothing, ForMaking, got, got_of, told, answered, limit_for, StandsIn, IsBehind, ServesSaid}
 use Rattle.serve_core.proofs.ServedLemmas.{serves_told, serves_reply}
@@ -44,7 +47,7 @@ use Rattle.serve_core.proofs.WantLemmas.{reads-want}
 use Rattle.zone_service.specs.declared.answer.Told.{Told}
 use Rattle.zone_service.specs.Known.{HasLoaded}
 use Rattle.zone_service.specs.Updated.{IsJudged, by_engine, in_version, IsToldOf, read, unread, bad_opt, starved as starved_reading}
-use Rattle.zone_service.specs.Replied.{TellsFor, IsReplied, IsUpdate, IsQuery, IsTransfer, IsAtOnce, LoadsFor, HasNoAnswer}
+use Rattle.zone_service.specs.Replied.{TellsFor, asks_changes, IsChained, IsReplied, IsUpdate, IsQuery, IsTransfer, IsAtOnce, LoadsFor, HasNoAnswer}
 
 no_want : (head : Head) (heard : Parsed) → heard ≡ NoMemory head → heard ≡ IsSilent → ⊥
 no_want head heard wants is = cc
@@ -76,13 +79,13 @@ pub heard_query : (request : List ℕ) (heard : Parsed) (query : QueryAsked) →
 heard_query request heard query tells is =
     ⊎_elim (λ (e : heard ≡ reads request). sym e ∙ is) (λ (want : IsWant request heard). absurd (no_query_wanted (header_of request) heard query want.is is)) tells
 
-no_query_told : (first : List Record) (later : List Version) (version : Version) (said : Parsed) → IsNoQuery said → TellsFor first later version None said
-no_query_told first later version IsSilent plain = tt
-no_query_told first later version (Fault head code) plain = tt
-no_query_told first later version (BadOpt head question code dnssec_ok) plain = tt
-no_query_told first later version (Query query) plain = absurd plain
-no_query_told first later version (SaysUpdate update) plain = tt
-no_query_told first later version (NoMemory head) plain = tt
+no_query_told : (first : List Record) (peer : Peer) (later : List Version) (version : Version) (said : Parsed) → IsNoQuery said → TellsFor first peer later [] version None said
+no_query_told first peer later version IsSilent plain = tt
+no_query_told first peer later version (Fault head code) plain = tt
+no_query_told first peer later version (BadOpt head question code dnssec_ok) plain = tt
+no_query_told first peer later version (Query query) plain = absurd plain
+no_query_told first peer later version (SaysUpdate update) plain = tt
+no_query_told first peer later version (NoMemory head) plain = tt
 
 no_query_replies : (zone : List Record) (changes : Option (List Record)) (peer : Peer) (wants : Want) (said : Parsed) → IsNoQuery said
     → option_to_list (got_of peer.transport peer.may_update wants zone said).reply ≡ replies_to zone changes peer wants said
@@ -101,7 +104,8 @@ got_replied first peer later version request messages wants replayed plain gets 
   version = version;
   replayed = replayed;
   changes = None;
-  told = no_query_told first later version (reads request) plain;
+  gone = [];
+  told = no_query_told first peer later version (reads request) plain;
   want = wants;
   reply = gets ∙ no_query_replies version.zone None peer wants (reads request) plain;
 }
@@ -113,28 +117,89 @@ said_replied first peer later version request out heard said len next replayed t
     let s = serves_told (record { len = Some len; next = next }) peer.transport peer.may_update version request out heard said tells is serves in
     got_replied first peer later version request (take len out ∷ []) s.want replayed (heard_no_query request heard said tells is plain) (ap option_to_list (sym s.reply.1))
 
--- a query gets what is sent for it in a version, by what the versions tell that are known then
-query_replied : (first : List Record) (peer : Peer) (later : List Version) (version : Version) (request : List ℕ) (query : QueryAsked) (messages : List (List ℕ)) (changes : Option (List Record)) (keep : ℕ) → IsReplay first version
-    → TellsSince first later keep version query.serial changes → reads request ≡ Query query → messages ≡ replies_to version.zone changes peer ForNothing (Query query) → IsReplied first peer later request messages
-query_replied first peer later version request query messages changes keep replayed told asked gets = record {
+no_changes : {P : Type 0} (b : Bool) → b ≡ false → b ≡ true → P
+no_changes b is other = absurd (cc)
+
+no_other : {P : Type 0} (b : Bool) → b ≡ true → b ≡ false → P
+no_other b is other = absurd (cc)
+
+-- a query that asks for no transfer of what changed gets what is sent for it in the last of the versions that are known then
+query_replied : (first : List Record) (peer : Peer) (later : List Version) (version : Version) (request : List ℕ) (query : QueryAsked) (messages : List (List ℕ)) → IsReplay first version → IsLatest first later version → asks_changes version.zone peer query ≡ false
+    → reads request ≡ Query query → messages ≡ replies_to version.zone None peer ForNothing (Query query) → IsReplied first peer later request messages
+query_replied first peer later version request query messages replayed latest other asked gets = record {
   version = version;
   replayed = replayed;
-  changes = changes;
-  told = subst (TellsFor first later version changes) (sym asked) (keep, told);
+  changes = None;
+  gone = [];
+  told = subst (TellsFor first peer later [] version None) (sym asked) (no_changes (asks_changes version.zone peer query) other, λ e. latest);
   want = ForNothing;
-  reply = gets ∙ ap (replies_to version.zone changes peer ForNothing) (sym asked);
+  reply = gets ∙ ap (replies_to version.zone None peer ForNothing) (sym asked);
 }
 
--- a transfer that is permitted gets its messages
-pub transfer_replied : (first : List Record) (peer : Peer) (later : List Version) (version : Version) (request : List ℕ) (query : QueryAsked) (changes : Option (List Record)) (keep : ℕ) → IsReplay first version
-    → TellsSince first later keep version query.serial changes → reads request ≡ Query query → is_permitted version.zone peer query ≡ true
-    → IsReplied first peer later request (messages_to version.zone changes peer query)
-transfer_replied first peer later version request query changes keep replayed told asked may =
-    query_replied first peer later version request query (messages_to version.zone changes peer query) changes keep replayed told asked (rw may refl)
+-- a transfer that is permitted in a version gets its messages, by a chain that tells what changed
+abbrev pub IsTransferred : List Record → Peer → ReaderState Version → Version → List ℕ → List (List ℕ) → Type 0
+IsTransferred first peer after version request messages = (replied : IsReplied first peer after.seen request messages) × (replied.version ≡ version) × (replied.gone ≡ after.gone)
 
--- what is told of what changed up to a version that is published, where none in front of it is kept
-pub latest_tells : (first : List Record) (published : List Version) (version : Version) (serial : Option Serial) → IsLatest first published version → (changes : Option (List Record)) × TellsSince first published 0 version serial changes
-latest_tells first published version serial latest = (changes_told 0 published serial, record { latest = latest; told = refl })
+messages_same : (zone : List Record) (a b : Option (List Record)) (peer : Peer) (query : QueryAsked) → list_for zone a query ≡ list_for zone b query → messages_to zone a peer query ≡ messages_to zone b peer query
+messages_same zone a b peer query same = rw same refl
+
+transferred_by : (first : List Record) (peer : Peer) (before after : ReaderState Version) (version : Version) (request : List ℕ) (query : QueryAsked) (chain : ChainState) (ixfr : Bool) → (query.question.rtype.0 == type_IXFR) ≡ ixfr → IsReplay first version → IsLatest first before.seen version → reads request ≡ Query query
+    → is_permitted version.zone peer query ≡ true → IsChained first query version before after chain → IsTransferred first peer after version request (messages_to version.zone (changes_by (soa_of version.zone) chain) peer query)
+transferred_by first peer before after version request query chain true ixfr replayed latest asked may chained =
+    let t = chained.0 ixfr in
+    let asks : asks_changes version.zone peer query ≡ true = rw (may, ixfr) refl in (
+      record {
+        version = version;
+        replayed = replayed;
+        changes = t.changes;
+        gone = after.gone;
+        told = subst (TellsFor first peer after.seen after.gone version t.changes) (sym asked) (λ e. t.told, no_other (asks_changes version.zone peer query) asks);
+        want = ForNothing;
+        reply = messages_same version.zone (changes_by (soa_of version.zone) chain) t.changes peer query t.list
+            ∙ transfer_sent version.zone t.changes peer query may
+            ∙ ap (replies_to version.zone t.changes peer ForNothing) (sym asked);
+      },
+      refl,
+      refl,
+    )
+  where
+    transfer_sent : (zone : List Record) (changes : Option (List Record)) (peer : Peer) (query : QueryAsked) → is_permitted zone peer query ≡ true → messages_to zone changes peer query ≡ replies_to zone changes peer ForNothing (Query query)
+    transfer_sent zone changes peer query may = rw may refl
+transferred_by first peer before after version request query chain false other replayed latest asked may chained =
+    let none = chained.1 other in
+    let asks : asks_changes version.zone peer query ≡ false = rw (may, other) refl in
+    let same : changes_by (soa_of version.zone) chain ≡ None = ap (changes_by (soa_of version.zone)) none.1 in (
+      record {
+        version = version;
+        replayed = replayed;
+        changes = None;
+        gone = after.gone;
+        told = subst (TellsFor first peer after.seen after.gone version None) (sym asked)
+            (no_changes (asks_changes version.zone peer query) asks, λ e. subst (λ (r : ReaderState Version). IsLatest first r.seen version) (sym none.0) latest);
+        want = ForNothing;
+        reply = ap (λ (c : Option (List Record)). messages_to version.zone c peer query) same
+            ∙ transfer_sent version.zone peer query may
+            ∙ ap (replies_to version.zone None peer ForNothing) (sym asked);
+      },
+      refl,
+      refl,
+    )
+  where
+    transfer_sent : (zone : List Record) (peer : Peer) (query : QueryAsked) → is_permitted zone peer query ≡ true → messages_to zone None peer query ≡ replies_to zone None peer ForNothing (Query query)
+    transfer_sent zone peer query may = rw may refl
+
+pub transfer_replied : (first : List Record) (peer : Peer) (before after : ReaderState Version) (version : Version) (request : List ℕ) (query : QueryAsked) (chain : ChainState) → IsReplay first version → IsLatest first before.seen version → reads request ≡ Query query
+    → is_permitted version.zone peer query ≡ true → IsChained first query version before after chain → IsTransferred first peer after version request (messages_to version.zone (changes_by (soa_of version.zone) chain) peer query)
+transfer_replied first peer before after version request query chain replayed latest asked may chained =
+    transferred_by first peer before after version request query chain (query.question.rtype.0 == type_IXFR) refl replayed latest asked may chained
+
+-- what the reader has seen behind a transfer
+pub chained_grows : (first : List Record) (query : QueryAsked) (version : Version) (before after : ReaderState Version) (chain : ChainState) → IsChained first query version before after chain → BeginsWith after.seen before.seen
+chained_grows first query version before after chain chained = by (query.question.rtype.0 == type_IXFR) refl
+  where
+    by : (b : Bool) → (query.question.rtype.0 == type_IXFR) ≡ b → BeginsWith after.seen before.seen
+    by true ixfr = (chained.0 ixfr).grown
+    by false other = subst (λ (r : ReaderState Version). BeginsWith r.seen before.seen) (sym (chained.1 other).0) (begins_itself before.seen)
 
 -- the first version is a replay of no update
 abbrev pub first_version : List Record → Version
@@ -351,8 +416,8 @@ module _ (first : List Record) (peer : Peer) (before after : ReaderState Version
   code_of_heading heading code = fit (coded heading code) (limit_of peer.transport None)
 
   judged_replied : (update : Update) (t : Told) → reads request ≡ SaysUpdate update → IsJudged first update peer.may_update before after t → take len out ≡ fit (coded (heading_of_update update) t.code) (limit_of peer.transport None) → IsReplied first peer after.seen request (take len out ∷ [])
-  judged_replied update t reading (by_engine serials asks is updated same) written =
-      update_replied first peer after.seen request out (SaysUpdate update) update updated.0 updated.1 t.code len updated.2 (inl (sym reading)) refl short written updated.4
+  judged_replied update t reading (by_engine serials asks is updated) written =
+      update_replied first peer after.seen request out (SaysUpdate update) update updated.old updated.new t.code len updated.meets.replayed (inl (sym reading)) refl short written updated.told
   judged_replied update t reading (in_version version may replayed loaded gives none) written =
       same_replied first peer after.seen version request out (fit (coded (heading_of_update update) t.code) (limit_of peer.transport None)) (SaysUpdate update) (SaysUpdate update) len replayed (inl (sym reading)) refl tt short written (judged_got peer.transport version.zone update peer.may_update t.code may gives)
 
@@ -431,35 +496,36 @@ code_now first peer reader request out saying heading own code len other reading
     )
 
 -- a query that is answered at once, in the version that is loaded for it
-pub query_now : (first : List Record) (peer : Peer) (before after : ReaderState Version) (version : Version) (request out : List ℕ) (query : QueryAsked) (len : ℕ) (changes : Option (List Record)) (keep : ℕ) → IsReplay first version
-    → TellsSince first after.seen keep version query.serial changes → HasLoaded first before after version → is_update request ≡ false → reads request ≡ Query query → is_permitted version.zone peer query ≡ false
-    → take len out ≡ fit (reply_to_peer version.zone peer query) (limit_of peer.transport query.edns) → len ≤ limit_of peer.transport query.edns
+pub query_now : (first : List Record) (peer : Peer) (before after : ReaderState Version) (version : Version) (request out : List ℕ) (query : QueryAsked) (len : ℕ) → IsReplay first version → IsLatest first after.seen version → HasLoaded first before after version → is_update request ≡ false → reads request ≡ Query query
+    → is_permitted version.zone peer query ≡ false → take len out ≡ fit (reply_to_peer version.zone peer query) (limit_of peer.transport query.edns) → len ≤ limit_of peer.transport query.edns
     → (len ≤ limit_for peer.transport (reads request)) × (replied : IsReplied first peer after.seen request (take len out ∷ [])) × IsAtOnce peer request replied.version × LoadsFor first before after replied.version (reads request)
-query_now first peer before after version request out query len changes keep replayed told loaded other asked may written short =
-    let gets : take len out ∷ [] ≡ replies_to version.zone changes peer ForNothing (Query query) = rw (may, written) refl in (
+query_now first peer before after version request out query len replayed latest loaded other asked may written short =
+    let gets : take len out ∷ [] ≡ replies_to version.zone None peer ForNothing (Query query) = rw (may, written) refl in
+    let plain : asks_changes version.zone peer query ≡ false = rw may refl in (
       subst (λ p. len ≤ limit_for peer.transport p) (sym asked) short,
       record {
         version = version;
         replayed = replayed;
-        changes = changes;
-        told = subst (TellsFor first after.seen version changes) (sym asked) (keep, told);
+        changes = None;
+        gone = [];
+        told = subst (TellsFor first peer after.seen [] version None) (sym asked) (no_changes (asks_changes version.zone peer query) plain, λ e. latest);
         want = ForNothing;
-        reply = gets ∙ ap (replies_to version.zone changes peer ForNothing) (sym asked);
+        reply = gets ∙ ap (replies_to version.zone None peer ForNothing) (sym asked);
       },
       record { other = other; plain = subst (IsNoTransfer version.zone peer) (sym asked) may },
       subst (LoadsFor first before after version) (sym asked) loaded,
     )
 
--- a query that is answered from the versions that are found for it
-pub query_served : (first : List Record) (peer : Peer) (before after : ReaderState Version) (version : Version) (request out : List ℕ) (query : QueryAsked) (len : ℕ) (changes : Option (List Record)) (keep : ℕ) → IsReplay first version
-    → TellsSince first after.seen keep version query.serial changes → HasLoaded first before after version → reads request ≡ Query query → is_permitted version.zone peer query ≡ false
-    → take len out ≡ fit (reply_to_peer version.zone peer query) (limit_of peer.transport query.edns) → len ≤ limit_of peer.transport query.edns
+-- a query that is answered in the version that is loaded for it, when it was to be answered later
+pub query_served : (first : List Record) (peer : Peer) (before after : ReaderState Version) (version : Version) (request out : List ℕ) (query : QueryAsked) (len : ℕ) → IsReplay first version → IsLatest first after.seen version → HasLoaded first before after version → reads request ≡ Query query
+    → is_permitted version.zone peer query ≡ false → take len out ≡ fit (reply_to_peer version.zone peer query) (limit_of peer.transport query.edns) → len ≤ limit_of peer.transport query.edns
     → (len ≤ limit_for peer.transport (reads request)) × (replied : IsReplied first peer after.seen request (take len out ∷ [])) × IsQuery request × HasLoaded first before after replied.version
 unfolding query_replied
-query_served first peer before after version request out query len changes keep replayed told loaded asked may written short =
-    let gets : take len out ∷ [] ≡ replies_to version.zone changes peer ForNothing (Query query) = rw (may, written) refl in (
+query_served first peer before after version request out query len replayed latest loaded asked may written short =
+    let gets : take len out ∷ [] ≡ replies_to version.zone None peer ForNothing (Query query) = rw (may, written) refl in
+    let plain : asks_changes version.zone peer query ≡ false = rw may refl in (
       subst (λ p. len ≤ limit_for peer.transport p) (sym asked) short,
-      query_replied first peer after.seen version request query (take len out ∷ []) changes keep replayed told asked gets,
+      query_replied first peer after.seen version request query (take len out ∷ []) replayed latest plain asked gets,
       (query, asked),
       loaded,
     )

@@ -1,45 +1,71 @@
 -- What the running server replies (RFC 1034, 4.3.2; RFC 1995, 4; RFC 2136, 3; RFC 5936, 2.2).
-use Rattle.std.specs.Prelude.{◌≡◌, ◌≤◌, ◌⊎◌, ℕ, true, false, List, [], ◌∷◌, take, Option}
+use Rattle.std.specs.Prelude.{◌≡◌, ◌≤◌, ◌⊎◌, ◌==◌, ◌&&◌, ℕ, Bool, true, false, List, [], ◌∷◌, take, Option}
+use Rattle.dns_rdata.specs.Numbers.{type_IXFR}
 use Rattle.dns_rdata.specs.Record.{Record}
 use Rattle.dns_message.specs.declared.query.Query.{Query as QueryAsked}
 use Rattle.dns_message.specs.declared.query.Parsed.{Parsed}
 use Rattle.dns_message.specs.declared.query.Parsed.TheVariants.{Silent as IsSilent, Fault, BadOpt, Query, Update, NoMemory}
 use Rattle.dns_message.specs.Request.{is_update, reads}
+use Rattle.zone_tree.specs.Zone.{soa_of}
 use Rattle.zone_tree.specs.Version.{Version}
 use Rattle.snapshot_cell.specs.Tokens.{ReaderState}
 use Rattle.dns_engine.specs.Replayed.{IsReplay}
-use Rattle.dns_engine.specs.Chain.{TellsSince, changes_in}
+use Rattle.dns_engine.specs.Held.{IsLatest}
+use Rattle.dns_engine.specs.Chain.{ChainState, TellsSince, changes_by}
+use Rattle.conversation.specs.Served.{BeginsWith}
 use Rattle.serve_core.specs.declared.peer.Peer.{Peer}
 use Rattle.serve_core.specs.Served.{Want, limit_for}
 use Rattle.serve_core.specs.Replies.{replies_to, IsNoTransfer}
-use Rattle.serve_core.specs.Transfers.{is_permitted, messages_to}
-use Rattle.zone_service.specs.Known.{HasLoaded, HasGone, LoadsInVain}
+use Rattle.serve_core.specs.Transfers.{is_permitted, list_for, messages_to}
+use Rattle.zone_service.specs.Known.{HasLoaded, HasGone, HasSeen, LoadsInVain}
 use Rattle.zone_service.specs.Updated.{IsUpdateTold}
 use Rattle.zone_service.specs.declared.answer.Now.{Now}
 use Rattle.zone_service.specs.declared.answer.Now.TheVariants.{Bytes, Silent, Later, Spent}
 use Rattle.zone_service.specs.declared.answer.Served.{Served}
 use Rattle.zone_service.specs.declared.answer.Served.TheVariants.{Reply, Updated, Transfer, Spent as IsSpent}
 
--- what a query is told of what changed up to a version: it is the list through the versions that are known to be published when the reply is
--- made, of which that version is the last, from the one of the serial that the asker holds, where so many are kept (RFC 1995, 4)
-abbrev pub TellsFor : List Record → List Version → Version → Option (List Record) → Parsed → Type 0
-TellsFor first later version changes IsSilent = Unit {0}
-TellsFor first later version changes (Fault head code) = Unit {0}
-TellsFor first later version changes (BadOpt head question code dnssec_ok) = Unit {0}
-TellsFor first later version changes (Query query) = (keep : ℕ) × TellsSince first later keep version query.serial changes
-TellsFor first later version changes (Update update) = Unit {0}
-TellsFor first later version changes (NoMemory head) = Unit {0}
+-- a query asks for a transfer of what changed, and it is permitted in a zone (RFC 1995, 2)
+abbrev pub asks_changes : List Record → Peer → QueryAsked → Bool
+asks_changes zone peer query = is_permitted zone peer query && query.question.rtype.0 == type_IXFR
+
+-- what a query is told in a version: of a transfer of what changed the list through the versions that are known to be published when the reply is
+-- made, of which the version is one, from the one of the serial that the asker holds, unless a version that it takes is known to be buried; any other
+-- query is answered in the last of those versions (RFC 1995, 4)
+abbrev pub TellsFor : List Record → Peer → List Version → List ℕ → Version → Option (List Record) → Parsed → Type 0
+TellsFor first peer later gone version changes IsSilent = Unit {0}
+TellsFor first peer later gone version changes (Fault head code) = Unit {0}
+TellsFor first peer later gone version changes (BadOpt head question code dnssec_ok) = Unit {0}
+TellsFor first peer later gone version changes (Query query) =
+    (asks_changes version.zone peer query ≡ true → TellsSince first later gone version query.serial changes) × (asks_changes version.zone peer query ≡ false → IsLatest first later version)
+TellsFor first peer later gone version changes (Update update) = Unit {0}
+TellsFor first peer later gone version changes (NoMemory head) = Unit {0}
 
 -- messages are the reply to a request in one version, which is the first zone with updates replayed, and of a query the last of the versions
--- that are known to be published when it is made: of a transfer that is permitted its messages, of an IXFR by what these versions tell of what
--- changed since the asker's; an update may also get what it gets where memory is wanted
+-- that are known to be published when it is made, or of an IXFR one of them: of a transfer that is permitted its messages, of an IXFR by what these
+-- versions tell of what changed since the asker's, where none that it takes is one of those known to be buried; an update may also get what it gets
+-- where memory is wanted
 pub record IsReplied (first : List Record) (peer : Peer) (later : List Version) (request : List ℕ) (messages : List (List ℕ)) : Type 0 where
   pub version : Version
   pub replayed : IsReplay first version
   pub changes : Option (List Record)
-  pub told : TellsFor first later version changes (reads request)
+  pub gone : List ℕ
+  pub told : TellsFor first peer later gone version changes (reads request)
   pub want : Want
   pub reply : messages ≡ replies_to version.zone changes peer want (reads request)
+
+-- a chain of versions gives the asker of an IXFR the list of what changed up to a version, through those that a reader has then seen published, which
+-- begin with those that it had seen; and where it isn't whole for want of a version, the reader has seen that one buried (RFC 1995, 4; own)
+pub record TellsBy (first : List Record) (query : QueryAsked) (version : Version) (before after : ReaderState Version) (chain : ChainState) : Type 0 where
+  pub grown : BeginsWith after.seen before.seen
+  pub changes : Option (List Record)
+  pub told : TellsSince first after.seen after.gone version query.serial changes
+  pub list : list_for version.zone (changes_by (soa_of version.zone) chain) query ≡ list_for version.zone changes query
+
+-- the chain that a query gets: of an IXFR one that tells what changed; of another one none, and its reader stays as it was (own)
+abbrev pub IsChained : List Record → QueryAsked → Version → ReaderState Version → ReaderState Version → ChainState → Type 0
+IsChained first query version before after chain =
+    ((query.question.rtype.0 == type_IXFR) ≡ true → TellsBy first query version before after chain)
+    × ((query.question.rtype.0 == type_IXFR) ≡ false → (after ≡ before) × (chain ≡ record { whole = false; versions = [] }))
 
 -- a request asks for an update, by its header alone, whether it can be read as one or not (RFC 2136, 1.3 and 2.2)
 abbrev pub IsUpdate : List ℕ → Type 0
@@ -89,22 +115,17 @@ IsNow first peer request before after out Spent = IsQuery request × HasGone bef
 abbrev pub HasNoAnswer : List Record → Peer → List ℕ → ReaderState Version → Type 0
 HasNoAnswer first peer request before = (IsQuery request × (before.left ≡ 0)) ⊎ IsTransfer first peer request
 
--- the versions that a query is answered from after the first look, up to the last of them: the reader has loaded that one, and they are those
--- that it has then seen (own)
-abbrev pub IsFound : List Record → ReaderState Version → ReaderState Version → List Version → Version → Type 0
-IsFound first before after published version = HasLoaded first before after version × (published ≡ after.seen)
-
 -- what is answered by the engine or from its versions, by a reader before and after: in a buffer a query's reply, or the code that an update gets and
--- which is told of it; or a transfer that is permitted, whose messages are the reply; or, of a transfer alone, that no version could be owned
-abbrev pub IsServed : {Z N : Type 0} → List Record → Peer → List ℕ → ReaderState Version → ReaderState Version → List ℕ → Served Z N → Type 0
+-- which is told of it; or a transfer that is permitted, whose messages are the reply in a version that isn't older than what was seen; or, of a transfer alone, that no version could be owned
+abbrev pub IsServed : List Record → Peer → List ℕ → ReaderState Version → ReaderState Version → List ℕ → Served → Type 0
 IsServed first peer request before after out (Reply len) =
     (len ≤ limit_for peer.transport (reads request)) × (replied : IsReplied first peer after.seen request (take len out ∷ [])) × IsQuery request
     × HasLoaded first before after replied.version
 IsServed first peer request before after out (Updated len told) =
     (len ≤ limit_for peer.transport (reads request)) × IsReplied first peer after.seen request (take len out ∷ [])
     × IsUpdateTold first peer request before after (take len out) told
-IsServed first peer request before after out (Transfer newest query) =
-    (is_permitted newest.last.zone peer query ≡ true)
-    × IsReplied first peer after.seen request (messages_to newest.last.zone (changes_in newest query.serial) peer query) × (reads request ≡ Query query)
-    × IsFound first before after newest.published newest.last
+IsServed first peer request before after out (Transfer version chain query) =
+    (is_permitted version.zone peer query ≡ true)
+    × ((replied : IsReplied first peer after.seen request (messages_to version.zone (changes_by (soa_of version.zone) chain) peer query)) × (replied.version ≡ version) × (replied.gone ≡ after.gone))
+    × (reads request ≡ Query query) × HasSeen first before after version
 IsServed first peer request before after out IsSpent = IsTransfer first peer request × LoadsInVain first before after

@@ -12,29 +12,35 @@ use Rattle.dns_message.specs.declared.update.Update.{Update}
 use Rattle.zone_tree.specs.Version.{Version, zone_serial}
 use Rattle.update_core.specs.Verdict.{verdict}
 use Rattle.snapshot_cell.specs.Tokens.{ReaderState}
-use Rattle.dns_engine.specs.Held.{EngineState, IsLatest}
+use Rattle.dns_engine.specs.Held.{EngineState}
 use Rattle.dns_engine.specs.Told.{IsTold}
 use Rattle.dns_engine.specs.Replayed.{IsReplay}
 use Rattle.serve_core.specs.declared.peer.Peer.{Peer}
 use Rattle.serve_core.specs.declared.heading.Heading.{Heading}
 use Rattle.serve_core.specs.Heading.{header_alone, heading_of_update, heading_of_bad, coded}
 use Rattle.serve_core.specs.Transport.{limit_of}
-use Rattle.zone_service.specs.Known.{HasLoaded}
+use Rattle.zone_service.specs.Known.{HasLoaded, HasMet}
 use Rattle.zone_service.specs.declared.answer.Told.{Told}
 use Rattle.zone_service.specs.declared.service_log.Serials.{Serials}
 
 -- the code that an engine tells of an update, and the serials of its last version in front of the update and behind it, the first of which is
--- the first zone with updates replayed, and the last of the versions that the engine has published
-abbrev pub IsUpdated : List Record → Update → Bool → Rcode → Serials → Type 0
-IsUpdated first update may code serials =
-    (old new : EngineState) × IsReplay first old.held.last × IsLatest first old.held.published old.held.last × IsTold old update may code new
-    × (serials.before.0 ≡ zone_serial old.held.last.zone) × (serials.after.0 ≡ zone_serial new.held.last.zone)
+-- the first zone with updates replayed, and the last of the versions that the engine had published, of which a reader had seen a beginning. The
+-- reader has then seen all that the engine has published behind the update (own)
+pub record IsUpdated (first : List Record) (update : Update) (may : Bool) (before after : ReaderState Version) (code : Rcode) (serials : Serials) : Type 0 where
+  pub old : EngineState
+  pub new : EngineState
+  pub met : ReaderState Version
+  pub meets : HasMet first old before met
+  pub told : IsTold old update may code new
+  pub meets_again : HasMet first new met after
+  pub serial_before : serials.before.0 ≡ zone_serial old.held.last.zone
+  pub serial_after : serials.after.0 ≡ zone_serial new.held.last.zone
 
 -- what is told of an update that was read, by whether its peer may update, and by what becomes of the reader of who answers: of a peer that may,
--- or where no load is left, the code that an engine tells of it, with the serials of that engine's last version before it and after it; else the
--- code of the first rule that it breaks in the version that is loaded for it, which is the first zone with updates replayed, and no serials
+-- or where no load is left, the code that an engine tells of it, with the serials of that engine's last version before it and after it, and all that
+-- the engine has then published is seen; else the code of the first rule that it breaks in the version that is loaded for it, which is the first zone with updates replayed, and no serials
 pub data IsJudged (first : List Record) (update : Update) (may : Bool) (before after : ReaderState Version) (told : Told) : Type 0 where
-  by_engine : (serials : Serials) → (may ≡ true) ⊎ (before.left ≡ 0) → told.serials ≡ Some serials → IsUpdated first update may told.code serials → after ≡ before → IsJudged first update may before after told
+  by_engine : (serials : Serials) → (may ≡ true) ⊎ (before.left ≡ 0) → told.serials ≡ Some serials → IsUpdated first update may before after told.code serials → IsJudged first update may before after told
   in_version : (version : Version) → may ≡ false → IsReplay first version → HasLoaded first before after version → verdict version.zone update false ≡ Some told.code → told.serials ≡ None → IsJudged first update may before after told
 
 -- what is told of a request that asks for an update, and what its reply repeats of it: of one that is read what is told of that update; of one that

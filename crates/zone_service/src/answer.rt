@@ -1,23 +1,24 @@
 //! Requests that are answered at once, with a version that is loaded (RFC 1034, 4.3.2), and those that the engine answers, or the
 //! versions that it keeps: updates (RFC 2136, 3) and transfers (RFC 1995, 4; RFC 5936, 2.2).
-ghost use Rattle.std.specs.Prelude.{◌≡◌, ◌↔◌, ◌≤◌, ◌⊎◌, List, ℕ, Some, None, false, length};
-ghost use Rattle.dns_message.specs.Request.{reads};
-ghost use Rattle.dns_message.specs.declared.query.Parsed.TheVariants.{Query as SaysQuery};
+ghost use Rattle.std.specs.Prelude.{◌≡◌, ◌↔◌, ◌≤◌, ◌⊎◌, Some, None, false, length, IfOk, OnErr};
 ghost use Rattle.serve_core.specs.Transport.{room_of};
-ghost use Rattle.snapshot_cell.specs.Tokens.{ReaderState};
 ghost use Rattle.zone_tree.specs.Version.{Version as PublishedVersion};
-ghost use Rattle.zone_service.specs.Replied.{IsUpdate, IsQuery, IsTransfer, IsNow, IsFound, IsServed};
+ghost use Rattle.zone_service.specs.Replied.{IsUpdate, IsQuery, IsTransfer, IsChained, IsNow, IsServed};
+ghost use Rattle.conversation.specs.Served.{BeginsWith};
+ghost use Rattle.dns_engine.specs.Held.{IsLatest};
 ghost use Rattle.zone_service.specs.declared.answer.Now.{Now as AtOnce};
 ghost use Rattle.zone_service.specs.Updated.{IsJudged, IsToldOf};
 ghost use Rattle.update_core.specs.Verdict.{verdict};
 
 use crate::server::Server;
 use crate::service_log::Serials;
-use dns_engine::{FirstZone, Newest, VersionCell, VersionReader};
+use dns_engine::{
+    FirstZone, SharedVersion, VersionCell, VersionChain, VersionOwner, VersionReader,
+};
 use dns_message::{Parsed, Query, Update, is_update, parse, parse_other};
-use dns_rdata::Rcode;
+use dns_rdata::{RType, Rcode};
 use serve_core::{Heading, Peer, is_permitted, respond_to_peer, write_code};
-use snapshot_cell::Naming;
+use snapshot_cell::{Naming, Spent};
 use std::alloc::Global;
 use std::sync::Wait;
 use update_core::check;
@@ -61,13 +62,13 @@ impl Told {
 
 /// What an update or a transfer gets.
 #[derive(Drop)]
-pub enum Served<Z: FirstZone, N: Naming> {
+pub enum Served {
     /// A reply of so many octets.
     Reply(usize),
     /// An update's reply of so many octets, and what is told in it.
     Updated(usize, Told),
-    /// The messages of a transfer of the last of these versions, which a query asks for.
-    Transfer(Newest<Z, N>, Query),
+    /// The messages of a transfer of this version, which a query asks for, by those since the asker's.
+    Transfer(SharedVersion, VersionChain, Query),
     /// No version could be owned for a transfer.
     Spent,
 }
@@ -114,8 +115,9 @@ pub fn answer_now<Z: FirstZone, N: Naming>(
     }
 }
 
-/// Answers an update: writes the code that it gets to the front of `out` (RFC 2136, 3.8), and tells it. Of a transfer it gives the
-/// versions that its messages are made of, and the query; where no longer permitted, the reply.
+/// Answers an update: writes the code that it gets to the front of `out` (RFC 2136, 3.8), and tells it. Of a transfer it gives the version
+/// that is loaded, of an IXFR with those since the asker's, as they are there when the engine's lock is had, and the query: the messages are
+/// made of these after the lock is free. Where the transfer is no longer permitted it gives the reply.
 pub fn serve_one<R: Wait, Z: FirstZone, N: Naming>(
     rt: &R,
     alloc: Global,
@@ -124,7 +126,7 @@ pub fn serve_one<R: Wait, Z: FirstZone, N: Naming>(
     peer: Peer,
     request: &[u8],
     out: &mut [u8],
-) -> Served<Z, N>
+) -> Served
     requires later { IsUpdate request.now ⊎ IsTransfer Z.zone peer request.now }
     requires room { room_of peer.transport ≤ length out.old }
     ensures { IsServed Z.zone peer request.now reader.old reader.new out.new result }
@@ -137,10 +139,43 @@ pub fn serve_one<R: Wait, Z: FirstZone, N: Naming>(
     let Parsed::Query(query) = parse_other(request) else {
         unreachable!()
     };
-    let Ok(newest) = server.versions_for(rt, reader, &query) else {
+    let Ok(strong) = server.cell().load(reader) else {
         return Served::Spent;
     };
-    serve_query(newest, query, peer, out)
+    let version = strong.get().get();
+    if !is_permitted(version, &query, peer) {
+        return Served::Reply(respond_to_peer(version.zone(), &query, peer, out));
+    }
+    let Ok(shared) = strong.get().share() else {
+        return Served::Spent;
+    };
+    let Ok(chain) = chain_for(rt, server, reader, &strong, &query) else {
+        return Served::Spent;
+    };
+    Served::Transfer(shared, chain, query)
+}
+
+/// The versions since the one that the asker of an IXFR holds, up to one that the reader has loaded: none of another query. [`Spent`] where
+/// the reader has no grant left for one of them, or it can't be shared.
+fn chain_for<R: Wait, Z: FirstZone, N: Naming>(
+    rt: &R,
+    server: &Server<'_, Z, N>,
+    reader: &mut VersionReader<N>,
+    strong: &VersionOwner<'_, Z, N>,
+    query: &Query,
+) -> Result<VersionChain, Spent>
+    requires { IsLatest Z.zone reader.old.seen strong.now.value × (strong.now.value.number ≡ strong.now.number) }
+    ensures chained { IfOk result (λ chain. IsChained Z.zone query.now strong.now.value reader.old reader.new chain) }
+    ensures grown { OnErr result (BeginsWith {T = PublishedVersion} reader.new.seen reader.old.seen) }
+{
+    if query.question.rtype != RType::IXFR {
+        return Ok(VersionChain::none());
+    }
+    let Some(serial) = query.serial else {
+        return Ok(VersionChain::none());
+    };
+    let told = server.chain(rt, reader, serial, strong.number());
+    VersionChain::of(told)
 }
 
 /// What is told of a request that asks for an update, and what its reply repeats of it: FORMERR of one that can't be read
@@ -191,7 +226,7 @@ fn judge<R: Wait, Z: FirstZone, N: Naming>(
             Err(_) => {}
         }
     }
-    let (code, serials) = server.update(rt, alloc, update, may);
+    let (code, serials) = server.update(rt, alloc, reader, update, may);
     Told {
         code,
         serials: Some(serials),
@@ -207,21 +242,4 @@ fn refusal_in(version: &Version, update: &Update) -> Rcode
         Ok(()) => Rcode::Refused,
         Err(code) => code,
     }
-}
-
-/// What a query gets in the last of these versions.
-fn serve_query<Z: FirstZone, N: Naming>(
-    newest: Newest<Z, N>,
-    query: Query,
-    peer: Peer,
-    out: &mut [u8],
-) -> Served<Z, N>
-    requires { room_of peer.transport ≤ length out.old }
-    ensures { (request : List ℕ) (before after : ReaderState PublishedVersion) → reads request ≡ SaysQuery query → IsFound Z.zone before after newest.published newest.last → IsServed Z.zone peer request before after out.new result }
-{
-    if is_permitted(newest.last_version(), &query, peer) {
-        return Served::Transfer(newest, query);
-    }
-    let len = respond_to_peer(newest.last_version().zone(), &query, peer, out);
-    Served::Reply(len)
 }

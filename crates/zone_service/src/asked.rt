@@ -123,8 +123,8 @@ impl<'a, 's, Z: FirstZone, N: Naming, L: ServiceLog> Asked<'a, 's, Z, N, L> {
                 self.tell(rt, told);
                 write_frame(stream, &out[..len], frame)
             }
-            Served::Transfer(newest, query) => {
-                send_transfer(&newest, &query, peer, stream, out, frame)
+            Served::Transfer(version, chain, query) => {
+                send_transfer(version.get(), &chain, &query, peer, stream, out, frame)
             }
             Served::Spent => Err(Broken::Spent),
         }
@@ -162,7 +162,9 @@ impl<'a, 's, Z: FirstZone, N: Naming, L: ServiceLog> Asked<'a, 's, Z, N, L> {
                 self.tell(rt, told);
                 Ok(Some(len))
             }
-            Served::Transfer(newest, query) => Ok(write_transfer(&newest, &query, peer, out)),
+            Served::Transfer(version, chain, query) => {
+                Ok(write_transfer(version.get(), &chain, &query, peer, out))
+            }
             Served::Spent => Err(Spent),
         }
     }

@@ -1,7 +1,9 @@
 //! The server: a cell of versions, and its engine behind a lock.
-ghost use Rattle.std.specs.Prelude.{◌≡◌, ◌↔◌, ◌<◌, ◌≤◌, IfOk, IfErr, OnErr};
-ghost use Rattle.zone_service.specs.Known.{LoadsInVain};
-ghost use Rattle.zone_service.specs.Replied.{IsFound};
+ghost use Rattle.std.specs.Prelude.{◌≡◌, ◌⊎◌, ◌↔◌, ◌<◌, ◌≤◌, IfOk, IfErr};
+ghost use Rattle.cell_core.specs.Words.{notes};
+ghost use Rattle.zone_tree.specs.Version.{zone_serial};
+ghost use Rattle.dns_engine.specs.Replayed.{IsReplay};
+ghost use Rattle.zone_service.specs.Known.{HasMet, MeetsAndAsks};
 ghost use Rattle.zone_service.specs.Updated.{IsUpdated};
 ghost use Rattle.dns_engine.specs.Held.{IsLatest};
 ghost use Rattle.dns_engine.specs.declared.fault.EngineFault.{EngineFault as Fault};
@@ -9,11 +11,11 @@ ghost use Rattle.transfer_core.specs.declared.kept.TheConstants.{KEPT};
 
 use crate::service_log::Serials;
 use dns_engine::{
-    Engine, FirstZone, Newest, NoEngine, VersionCell, VersionPublisher, VersionReader,
+    Engine, FirstZone, NoEngine, ToldChain, VersionCell, VersionPublisher, VersionReader,
 };
-use dns_message::{Query, Update};
-use dns_rdata::{RType, Rcode};
-use snapshot_cell::{Naming, Spent};
+use dns_message::Update;
+use dns_rdata::{Rcode, Serial};
+use snapshot_cell::Naming;
 use std::alloc::Global;
 use std::sync::{Mutex, Wait};
 
@@ -26,9 +28,25 @@ pub struct Server<'a, Z: FirstZone, N: Naming> {
 
 /// Looks at an engine's last number for a proof alone, which learns by it that its last version is the latest that it has published.
 fn learn_latest<Z: FirstZone, N: Naming>(engine: &Engine<'_, Z, N>)
-    ensures { IsLatest Z.zone engine.now.held.published engine.now.held.last }
+    ensures latest { IsLatest Z.zone engine.now.held.published engine.now.held.last }
+    ensures replayed { IsReplay Z.zone engine.now.held.last }
 {
     let _ = engine.number();
+}
+
+/// The serial of an engine's last version, which a reader meets with all that is published.
+fn meet_last<Z: FirstZone, N: Naming>(
+    engine: &mut Engine<'_, Z, N>,
+    cell: &VersionCell<Z, N>,
+    reader: &mut VersionReader<N>,
+) -> Serial
+    ensures serial { result.0 ≡ zone_serial engine.old.held.last.zone }
+    ensures met { HasMet Z.zone engine.old reader.old reader.new }
+    ensures same { engine.new ≡ engine.old }
+{
+    learn_latest(engine);
+    engine.meet(cell, reader);
+    engine.last_version().serial()
 }
 
 impl<'a, Z: FirstZone, N: Naming> Server<'a, Z, N> {
@@ -44,7 +62,7 @@ impl<'a, Z: FirstZone, N: Naming> Server<'a, Z, N> {
         ensures kept { IfOk result (λ _. keep ≤ KEPT) }
         ensures grant { IfOk result (λ _. 0 < reader.left) }
         ensures refused { IfErr result (λ refused. (refused.fault ≡ Fault.TooGreat) ↔ (KEPT < keep)) }
-        ensures spent { IfErr result (λ refused. refused.fault ≡ Fault.Spent → reader.left ≡ 0) }
+        ensures spent { IfErr result (λ refused. refused.fault ≡ Fault.Spent → (reader.left ≡ 0) ⊎ (publisher.noted ≡ notes)) }
         ensures given_back { IfErr result (λ refused. (refused.publisher ≡ publisher) × (refused.reader ≡ reader)) }
     {
         let engine = Engine::new(cell, publisher, reader, keep)?;
@@ -60,47 +78,42 @@ impl<'a, Z: FirstZone, N: Naming> Server<'a, Z, N> {
     }
 
     /// Hands an update to the engine, behind its lock, and gives the code that is told, and the serials of the zone before the
-    /// update and after it: those of an engine whose last version is the first zone with updates replayed.
+    /// update and after it: those of an engine whose last version is the first zone with updates replayed. The reader meets what is
+    /// published behind the lock, before and after, so that it has seen the version that is told to be made.
     pub fn update<R: Wait>(
         &self,
         rt: &R,
         alloc: Global,
+        reader: &mut VersionReader<N>,
         update: &Update,
         may: bool,
     ) -> (Rcode, Serials)
-        ensures { IsUpdated Z.zone update.now may result.0 result.1 }
+        ensures { IsUpdated Z.zone update.now may reader.old reader.new result.0 result.1 }
     {
         let mut engine = self.engine.lock(rt);
-        learn_latest(&engine);
-        let before = engine.last_version().serial();
+        let before = meet_last(&mut engine, self.cell, reader);
         let code = engine.update(alloc, self.cell, update, may);
-        let after = engine.last_version().serial();
+        let after = meet_last(&mut engine, self.cell, reader);
         (code, Serials { before, after })
     }
 
-    /// The versions that a query for a transfer is answered with, up to the last that its reader has then seen published: of an IXFR
-    /// all that the engine keeps, which are shared behind its lock, where the reader meets them; of another query the one that is
-    /// loaded, without that lock. [`Spent`] where no load is left, or one of them can't be shared.
-    pub fn versions_for<R: Wait>(
+    /// What the engine's history tells of the versions after the one of a serial, up to a number, behind its lock, where the reader meets
+    /// what is published.
+    pub fn chain<R: Wait>(
         &self,
         rt: &R,
         reader: &mut VersionReader<N>,
-        query: &Query,
-    ) -> Result<Newest<Z, N>, Spent>
-        ensures found { IfOk result (λ newest. IsFound Z.zone reader.old reader.new newest.published newest.last) }
-        ensures spent { OnErr result (LoadsInVain Z.zone reader.old reader.new) }
+        from: Serial,
+        upto: u64,
+    ) -> ToldChain<'a, Z, N>
+        ensures { MeetsAndAsks Z.zone from.0 upto reader.old reader.new result }
     {
-        if query.question.rtype == RType::IXFR {
-            let mut engine = self.engine.lock(rt);
-            learn_latest(&engine);
-            engine.meet(self.cell, reader)?;
-            return engine.newest();
-        }
-        let strong = self.cell.load(reader)?;
-        Newest::alone(&strong, reader)
+        let mut engine = self.engine.lock(rt);
+        meet_last(&mut engine, self.cell, reader);
+        engine.chain(from, upto, reader)
     }
 
-    /// Ends the server: its engine's owners are given up, and its publisher and its reader come back, with all that was published.
+    /// Ends the server: its engine's history and owners are given up, and its publisher and its reader come back, with all that was published.
     pub fn finish(self) -> (VersionPublisher<Z, N>, VersionReader<N>)
         ensures latest { IsLatest Z.zone result.0.published result.0.value }
         ensures number { result.0.number ≡ result.0.value.number }

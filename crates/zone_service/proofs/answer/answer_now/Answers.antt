@@ -10,7 +10,7 @@ use Rattle.serve_core.specs.Transport.{limit_of}
 use Rattle.zone_service.specs.Replied.{IsNow}
 use Rattle.zone_service.specs.declared.answer.Now.TheVariants.{Bytes, Later, Spent}
 use Rattle.zone_service.proofs.KnownLemmas.{loads, loaded_latest, loaded_replay}
-use Rattle.zone_service.proofs.ReplyLemmas.{latest_tells, code_now, query_now}
+use Rattle.zone_service.proofs.ReplyLemmas.{code_now, query_now}
 use Rattle.zone_service.proofs.NowLemmas.{now_spent}
 use Rattle.zone_service.proofs.answer.answer_now.Goals as goal
 
@@ -65,9 +65,9 @@ returns-else-is_permitted g c =
     let refused : is_permitted version.zone c.args.peer query ≡ false = ap (λ (v : Version). is_permitted v.zone c.args.peer query) (sym got) ∙ sym c.is_permitted.ensures ∙ c.if-is_permitted.false in
     let zone : c.zone.result.now ≡ version.zone = c.zone.ensures ∙ ap (λ (v : Version). v.zone) got in
     let written = c.respond_to_peer.ensures.octets ∙ ap (λ (z : List Record). fit (reply_to_peer z c.args.peer query) (limit_of c.args.peer.transport query.edns)) zone in
-    let tells = latest_tells first c.load.new.reader.seen version query.serial (loaded_latest first c.args.reader.now c.load.new.reader c.in-Ok.strong load) in
+    let latest = loaded_latest first c.args.reader.now c.load.new.reader c.in-Ok.strong load in
     let other : is_update c.args.request.now ≡ false = sym c.is_update.ensures ∙ c.if-is_update.false in
     let now : IsNow first c.args.peer c.args.request.now c.args.reader.now c.load.new.reader c.respond_to_peer.new.out (Bytes c.respond_to_peer.result) =
-    query_now first c.args.peer c.args.reader.now c.load.new.reader version c.args.request.now c.respond_to_peer.new.out query c.respond_to_peer.result tells.0 0 (loaded_replay first _ _ c.in-Ok.strong load) tells.1 (loads first _ _ c.in-Ok.strong load) other
+    query_now first c.args.peer c.args.reader.now c.load.new.reader version c.args.request.now c.respond_to_peer.new.out query c.respond_to_peer.result (loaded_replay first _ _ c.in-Ok.strong load) latest (loads first _ _ c.in-Ok.strong load) other
     (sym c.parse_other.ensures ∙ c.in-Query.is) refused written c.respond_to_peer.ensures.len in
     record { now = now; spent = now_spent g.Z.FirstZone.zone c.args.peer c.args.request.now c.args.reader.now c.load.new.reader c.respond_to_peer.new.out (Bytes c.respond_to_peer.result) now }

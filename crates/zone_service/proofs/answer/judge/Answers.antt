@@ -1,8 +1,9 @@
 -- A stranger's update is judged in the version that is loaded, any other by the engine.
-use Rattle.std.proofs.Common.{◌≡◌, true, false, Some, refl, inl, inr, sym, ap, ◌∙◌, rules}
+use Rattle.std.proofs.Common.{◌≡◌, true, false, Some, refl, inl, inr, sym, ap, ◌∙◌, subst, rules}
+use Rattle.snapshot_cell.specs.Tokens.{ReaderState}
 use Rattle.zone_tree.specs.Version.{Version}
 use Rattle.update_core.specs.Verdict.{verdict}
-use Rattle.zone_service.specs.Updated.{by_engine, in_version}
+use Rattle.zone_service.specs.Updated.{IsUpdated, by_engine, in_version}
 use Rattle.zone_service.proofs.KnownLemmas.{loads, loaded_replay}
 use Rattle.zone_service.proofs.answer.judge.Goals as goal
 use Rattle.zone_service.proofs.answer.judge.Goals.{then-not-may+in-Err, else-not-may}
@@ -18,7 +19,8 @@ returns-in-Ok g c =
 
 pub returns : goal.returns
 returns g c =
+    let seen = λ (r : ReaderState Version). IsUpdated g.Z.FirstZone.zone c.args.update.now c.args.may r c.update-code.new.reader c.update-code.result.0 c.update-code.result.1 in
     elim c.if-not-may.branch [
-      | then-not-may+in-Err w ↦ by_engine c.update-code.result.1 (inr w.in-Err.ensures.spent.0) refl c.update-code.ensures (w.reader-is ∙ w.in-Err.ensures.spent.1)
-      | else-not-may w ↦ let may : c.args.may ≡ true = search rules in by_engine c.update-code.result.1 (inl may) refl c.update-code.ensures w.reader-is
+      | then-not-may+in-Err w ↦ by_engine c.update-code.result.1 (inr w.in-Err.ensures.spent.0) refl (subst seen (w.reader-is ∙ w.in-Err.ensures.spent.1) c.update-code.ensures)
+      | else-not-may w ↦ let may : c.args.may ≡ true = search rules in by_engine c.update-code.result.1 (inl may) refl (subst seen w.reader-is c.update-code.ensures)
     ]

@@ -1,4 +1,4 @@
--- The code that is told of an update is its reply.
+-- The code that is told of an update is its reply; a transfer's messages are made of what the history tells.
 use Rattle.std.proofs.Common.{◌≤◌, ℕ, sym, ◌∙◌, subst}
 use Rattle.zone_service.proofs.ReplyLemmas.{told_replied, update_limit, later_transfer}
 use Rattle.zone_service.proofs.answer.serve_one.Goals as goal
@@ -12,9 +12,3 @@ returns-then-is_update g c =
       told_replied g.Z.FirstZone.zone c.args.peer c.args.reader.now c.told_of-heading.new.reader c.args.request.now c.write_code-len.new.out c.write_code-len.result c.write_code-len.ensures.len heading said c.told_of-heading.ensures c.write_code-len.ensures.octets,
       record { asks = asks; heading = heading; tells = c.told_of-heading.ensures; reply = c.write_code-len.ensures.octets },
     )
-
-pub returns-in_default-versions_for : goal.returns-in_default-versions_for
-returns-in_default-versions_for g c = (later_transfer g.Z.FirstZone.zone c.args.peer c.args.request.now (sym c.is_update.ensures ∙ c.if-is_update.false) c.requires.later, c.in_default-versions_for.ensures.spent)
-
-pub returns : goal.returns
-returns g c = c.serve_query.ensures c.args.request.now c.args.reader.now c.versions_for.new.reader (sym c.parse_other.ensures ∙ c.in-Query.is) c.in-Ok.ensures.found

@@ -1,6 +1,6 @@
 -- Each place has a version.
 use Rattle.std.proofs.Common.{length, ap, sym, ◌∙◌}
-use Rattle.dns_engine.proofs.OwnedLemmas.{length-placed}
+use Rattle.weak_history.proofs.PlaceLemmas.{length-placed}
 use Rattle.dns_engine.proofs.copies.Copies.len.Goals as goal
 
 pub returns-clause-len : goal.returns-clause-len

@@ -2,7 +2,7 @@
 use Rattle.std.proofs.Common.{rules, ◌≤◌, length, ap, sym, ◌∙◌, Some}
 use Rattle.std.specs.List.{slice_get}
 use Rattle.std.proofs.lemmas.Option.{slice_get-get_or, slice_get_past}
-use Rattle.dns_engine.proofs.OwnedLemmas.{shown, placed_get}
+use Rattle.weak_history.proofs.PlaceLemmas.{shown, placed_get}
 use Rattle.dns_engine.proofs.copies.Copies.version.Goals as goal
 
 pub returns-in-Some-Some : goal.returns-in-Some-Some

@@ -1,7 +1,8 @@
 -- One owner more, and the newest stay.
 use Rattle.std.proofs.Common.{rules, arith, ◌≡◌, ◌-◌, ◌<◌, ◌++◌, ◌∷◌, [], min, length, ap, sym, ◌∙◌, subst}
-use Rattle.dns_engine.specs.Owned.{IsFull}
-use Rattle.dns_engine.proofs.OwnedLemmas.{owned, length-owned, owned-append, full_push, newest_push, length-newest}
+use Rattle.weak_history.specs.Places.{IsFull}
+use Rattle.weak_history.proofs.PlaceLemmas.{full_push}
+use Rattle.dns_engine.proofs.OwnedLemmas.{owned, length-owned, owned-append, newest_push, length-newest}
 use Rattle.dns_engine.proofs.owners.Owners.keep_newest.Goals as goal
 
 pub push-requires : goal.push-requires

@@ -1,0 +1,4 @@
+pub mod PlaceLemmas
+pub mod HistoryLemmas
+pub mod ChainLemmas
+pub mod SendLemmas

@@ -1,0 +1,5 @@
+pub mod Places
+pub mod History
+pub mod Owned
+pub use Rattle.transfer_core.specs.Window
+pub use Rattle.snapshot_cell.specs.Tokens
