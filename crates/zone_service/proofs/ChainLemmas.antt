@@ -1,5 +1,5 @@
 -- What a server's history tells an asker of what changed.
-use Rattle.std.proofs.Common.{◌≡◌, refl, ℕ, ◌+◌, ◌-◌, ◌<◌, Bool, true, false, not, ◌&&◌, ◌==◌, List, [], ◌∷◌, ◌++◌, length, Option, None, Some, ◌⊎◌, inl, inr, sym, ap, ◌∙◌, subst, unwrap_or, append-nil, if◌then◌else◌}
+use Rattle.std.proofs.Common.{◌≡◌, refl, ℕ, ◌+◌, ◌-◌, ◌<◌, Bool, true, false, not, ◌&&◌, ◌==◌, List, [], ◌∷◌, ◌++◌, length, Option, None, Some, ◌⊎◌, inl, inr, sym, ap, ◌∙◌, subst, unwrap_or, append-nil, if◌then◌else◌, Result, Ok, Err, IfOk, OnErr}
 use Rattle.dns_rdata.specs.Numbers.{type_IXFR}
 use Rattle.dns_rdata.specs.Record.{Record}
 use Rattle.dns_rdata.specs.SerialOrder.{serial_less}
@@ -26,7 +26,7 @@ use Rattle.dns_engine.proofs.ChainLemmas.{IsBehind, run_of, entered, versions_en
 use Rattle.serve_core.specs.Transfers.{is_current, list_for}
 use Rattle.conversation.specs.Served.{BeginsWith}
 use Rattle.zone_service.specs.Known.{MeetsAndAsks}
-use Rattle.zone_service.specs.Replied.{TellsBy}
+use Rattle.zone_service.specs.Replied.{TellsBy, IsChained}
 
 -- who holds the served version's serial gets its SOA alone
 list_current : (zone : List Record) (a b : Option (List Record)) (query : QueryAsked) (serial : Serial) → query.serial ≡ Some serial → zone_serial zone ≡ serial.0 → list_for zone a query ≡ list_for zone b query
@@ -55,7 +55,7 @@ module _ (first : List Record) (query : QueryAsked) (serial : Serial) (version :
   place : published ≡ (latest.before ++ version ∷ []) ++ begun.0
   place = sym begun.1 ∙ ap (λ l. l ++ begun.0) latest.ends
 
-  here : IsPublished first published version
+  abbrev here : IsPublished first published version
   here = record { before = latest.before; newer = begun.0; history = history; place = place; number = latest.number }
 
   -- what is told, once the reader has seen what is published
@@ -122,3 +122,20 @@ chain_grows first serial number before after (Whole owners) m = (m.2.0, owned_se
 chain_grows first serial number before after (Gone gone) m = (m.2.0, sunk_seen (less (length m.3.2.front) (record before { seen = m.0 })) after m.3.2.entry.version m.3.2.sunk ∙ sym m.2.1)
 chain_grows first serial number before after Unknown m = (m.2.0, ap (λ (r : ReaderState Version). r.seen) m.3.1 ∙ sym m.2.1)
 chain_grows first serial number before after Spent m = (m.2.0, ap (λ (r : ReaderState Version). r.seen) m.3.2.spent ∙ sym m.2.1)
+
+-- a chain for an IXFR
+pub chained_of : {C N E : Type 0} (result : Result ChainState E) (first : List Record) (query : QueryAsked) (serial : Serial) (version : Version) (number : ℕ) (before after : ReaderState Version) (asked : Chain Version C N) → query.serial ≡ Some serial → (query.question.rtype.0 == type_IXFR) ≡ true
+    → IsLatest first before.seen version → number ≡ version.number → MeetsAndAsks first serial.0 number before after asked → IfOk result (λ chain. IsCopied asked chain) → IfOk result (λ chain. IsChained first query version before after chain)
+chained_of (Ok chain) first query serial version number before after asked asks ixfr latest same m copied =
+    let met = subst (λ (n : ℕ). MeetsAndAsks first serial.0 n before after asked) same m in (
+      λ e. chain_tells first query serial version before asks latest met.0 met.1 met.2 after asked chain met.3 copied,
+      λ other. absurd (no_both (query.question.rtype.0 == type_IXFR) ixfr other),
+    )
+  where
+    no_both : (b : Bool) → b ≡ true → b ≡ false → ⊥
+    no_both b yes no_such = cc
+chained_of (Err e) first query serial version number before after asked asks ixfr latest same m copied = tt
+
+pub whatever : {T E P : Type 0} (result : Result T E) → P → OnErr result P
+whatever (Ok x) p = tt
+whatever (Err e) p = p

@@ -442,7 +442,8 @@ silent_replied first peer later request silent = record {
   version = first_version first;
   replayed = first_replay first;
   changes = None;
-  told = subst (TellsFor first later (first_version first) None) (sym silent) tt;
+  gone = [];
+  told = subst (TellsFor first peer later [] (first_version first) None) (sym silent) tt;
   want = ForNothing;
   reply = ap (replies_to first None peer ForNothing) (sym silent);
 }

@@ -1,4 +1,6 @@
 -- What the reader has seen grows.
+use Rattle.std.proofs.Common.{ℕ, List, sym, subst}
+use Rattle.zone_service.specs.Replied.{IsReplied}
 use Rattle.zone_service.proofs.NowLemmas.{told_grows, vain_grows}
 use Rattle.zone_service.proofs.asked.Asked.answer_datagram_later.Goals as goal
 
@@ -8,3 +10,7 @@ returns-in-Updated-clause-grows g c =
 
 pub returns-in-Spent-clause-grows : goal.returns-in-Spent-clause-grows
 returns-in-Spent-clause-grows g c = vain_grows g.Z.FirstZone.zone c.args.self.now.reader c.serve_one.new.reader c.in-Spent.ensures.1
+
+pub returns-in-Transfer-clause-replied : goal.returns-in-Transfer-clause-replied
+returns-in-Transfer-clause-replied g c =
+    subst (λ (l : List (List ℕ)). IsReplied g.Z.FirstZone.zone c.args.peer c.serve_one.new.reader.seen c.args.request.now l) (sym c.write_transfer.ensures.messages) c.in-Transfer.ensures.1.0

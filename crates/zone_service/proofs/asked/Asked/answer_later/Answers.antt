@@ -25,10 +25,10 @@ pub returns-in-Updated-clause-broken : goal.returns-in-Updated-clause-broken
 returns-in-Updated-clause-broken g c = reply_broken _ c.write_frame-in-Updated.result _ _ _ _ _ _ c.in-Updated.ensures.1 c.write_frame-in-Updated.ensures.failed (part_of_one c.write_frame-in-Updated.result _ _ _ c.write_frame-in-Updated.ensures.part)
 
 pub returns-in-Transfer-clause-replied : goal.returns-in-Transfer-clause-replied
-returns-in-Transfer-clause-replied g c = reply_written _ c.send_transfer.result _ _ _ _ _ _ c.in-Transfer.ensures.1 c.send_transfer.ensures.whole
+returns-in-Transfer-clause-replied g c = reply_written _ c.send_transfer.result _ _ _ _ _ _ c.in-Transfer.ensures.1.0 c.send_transfer.ensures.whole
 
 pub returns-in-Transfer-clause-broken : goal.returns-in-Transfer-clause-broken
-returns-in-Transfer-clause-broken g c = reply_broken _ c.send_transfer.result _ _ _ _ _ _ c.in-Transfer.ensures.1 c.send_transfer.ensures.failed c.send_transfer.ensures.part
+returns-in-Transfer-clause-broken g c = reply_broken _ c.send_transfer.result _ _ _ _ _ _ c.in-Transfer.ensures.1.0 c.send_transfer.ensures.failed c.send_transfer.ensures.part
 
 pub returns-in-Reply-clause-spent : goal.returns-in-Reply-clause-spent
 returns-in-Reply-clause-spent g c = never_spent _ c.write_frame.result c.write_frame.ensures.failed
