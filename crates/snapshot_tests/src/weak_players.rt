@@ -202,9 +202,9 @@ impl<'a, N: Naming> Raiser<'a, N> {
 
     /// What is given back, where so many weak owners came, and each went as it should.
     pub(crate) fn finish(mut self, weaks: u64) -> Option<Back<'a, N>> {
-        let mut raised = 0;
+        let mut left = weaks;
         for _ in 0..TURNS {
-            if raised == weaks {
+            if left == 0 {
                 break;
             }
             match self.ring.pop() {
@@ -212,7 +212,7 @@ impl<'a, N: Naming> Raiser<'a, N> {
                     if !self.raise(weak) {
                         return None;
                     }
-                    raised += 1;
+                    left -= 1;
                 }
                 Err(_) => thread::yield_now(),
             }
@@ -222,7 +222,7 @@ impl<'a, N: Naming> Raiser<'a, N> {
             ring: _,
             records: _,
         } = self;
-        (raised == weaks).then_some(Back::Read(loader))
+        (left == 0).then_some(Back::Read(loader))
     }
 }
 
