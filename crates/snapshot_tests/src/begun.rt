@@ -71,7 +71,8 @@ pub(crate) fn draw_by<'a, R: Abort, T: Drop, C: Names<T>>(
     readers: &mut Vec<Reader<T>>,
 ) -> Strong<'a, T, C>
     requires { All (λ r. r.cell ≡ cell.now) readers.old.items }
-    ensures { All (λ r. r.cell ≡ cell.now) readers.new.items }
+    ensures readers { All (λ r. r.cell ≡ cell.now) readers.new.items }
+    ensures owner { result.table ≡ cell.now }
 {
     let mut reader = readers.pop().expect(rt, "a reader");
     let grants = reader.left();

@@ -122,6 +122,16 @@ impl<'a, N: Naming> Teller<'a, N> {
         }
     }
 
+    /// A weak owner of an owner's version.
+    pub(crate) fn downgrade(
+        &mut self,
+        owner: &mut NamedStrong<'a, Counted, Rising, N>,
+    ) -> Option<NamedWeak<'a, Counted, Rising, N>>
+        ensures { self.new.publisher.number ≡ self.old.publisher.number }
+    {
+        self.publisher.downgrade(owner).ok()
+    }
+
     /// A weak owner of an owner's version, which is let go: None where its release didn't bury it.
     pub(crate) fn weaken(
         &mut self,
@@ -129,7 +139,7 @@ impl<'a, N: Naming> Teller<'a, N> {
     ) -> Option<NamedWeak<'a, Counted, Rising, N>>
         ensures { self.new.publisher.number ≡ self.old.publisher.number }
     {
-        let weak = self.publisher.downgrade(&mut owner).ok()?;
+        let weak = self.downgrade(&mut owner)?;
         (owner.release().buried() == Some(weak.number())).then_some(weak)
     }
 

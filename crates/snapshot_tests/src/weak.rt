@@ -2,11 +2,11 @@
 ghost use Rattle.std.specs.Prelude.{◌≡◌, ◌+◌, ◌<◌, IfSome};
 ghost use Rattle.std.specs.List.{All};
 
-use crate::begun::{Named, begun, draw, end, end_at, name_parts, tally_of};
+use crate::begun::{Named, begun, draw_by, end, end_at, name_parts, tally_of};
 use crate::counted::{Counted, Rising, Tally};
 use crate::numbers::{Climbing, cell_of, has, publish};
 use crate::players::{Loader, Teller};
-use snapshot_cell::{NamedWeak, Naming, Parts, Reader, Strong, Weak};
+use snapshot_cell::{Cell, NamedWeak, Naming, Parts, Publisher, Reader, Strong, Weak};
 use std::alloc::Global;
 use std::collections::VecDeque;
 use std::marker::Brand;
@@ -42,6 +42,55 @@ fn upgrade<'a, R: Abort>(
     found
 }
 
+/// Lets an owner go while its weak owner's upgrade owns the version, too, which is 1 and has number 0, and then what that gave: the last
+/// release buries it.
+fn let_both_go<'a, R: Abort>(
+    rt: &R,
+    reader: &mut Reader<u64>,
+    first: Strong<'a, u64, Climbing>,
+    weak: &mut Weak<'a, u64, Climbing>,
+)
+    requires { (first.table ≡ reader.old.cell) × (weak.old.table ≡ reader.old.cell) }
+    ensures weak { weak.new ≡ weak.old }
+    ensures reader { reader.new.cell ≡ reader.old.cell }
+{
+    let mut first = first;
+    let mut raised = upgrade(rt, reader, weak).expect(rt, "an owner");
+    reader.alive(&mut first);
+    assert_eq!(rt; first.release().buried(), None);
+    reader.alive(&mut raised);
+    assert!(rt; has(&raised, 0, 1));
+    assert_eq!(rt; raised.release().buried(), Some(0));
+}
+
+/// A weak owner gives no owner, however often it is asked.
+fn gives_none<R: Abort>(rt: &R, reader: &mut Reader<u64>, weak: &mut Weak<'_, u64, Climbing>)
+    requires { weak.old.table ≡ reader.old.cell }
+    ensures { reader.new.cell ≡ reader.old.cell }
+{
+    assert!(rt; upgrade(rt, reader, weak).is_none());
+    assert!(rt; upgrade(rt, reader, weak).is_none());
+    assert_eq!(rt; weak.number(), 0);
+}
+
+/// Both by one of the cell's readers.
+fn raise_and_let_go<'a, R: Abort>(
+    rt: &R,
+    cell: &'a Cell<u64, Climbing>,
+    readers: &mut Vec<Reader<u64>>,
+    first: Strong<'a, u64, Climbing>,
+    weak: &mut Weak<'a, u64, Climbing>,
+)
+    requires tables { (first.table ≡ cell.now) × (weak.old.table ≡ cell.now) }
+    requires readers { All (λ r. r.cell ≡ cell.now) readers.old.items }
+    ensures { All (λ r. r.cell ≡ cell.now) readers.new.items }
+{
+    let mut reader = readers.pop().expect(rt, "a reader");
+    let_both_go(rt, &mut reader, first, weak);
+    gives_none(rt, &mut reader, weak);
+    readers.push(reader).ok().expect(rt, "memory");
+}
+
 // A weak owner gives an owner of its very version, for a grant, as long as one is left; behind the last one's release it gives none, for
 // none. It is the last that knows the version then, and makes its slot free.
 #[test]
@@ -51,29 +100,81 @@ fn upgrades_until_the_last_owner_is_gone(rt: HostRuntime) {
         mut publisher,
         mut readers,
     } = cell_of(&rt, rt.alloc(), 1);
-    let mut reader = readers.pop().expect(&rt, "a reader");
-    let mut first = draw(&rt, &cell, &mut reader);
+    let mut first = draw_by(&rt, &cell, &mut readers);
     let notes = publisher.left();
     let mut weak = publisher
         .downgrade(&mut first)
         .ok()
         .expect(&rt, "a weak owner");
-    assert!(rt; weak.number() == 0 && publisher.left().wrapping_add(1) == notes);
-    assert_eq!(rt;
-        publish(&rt, &cell, &mut publisher, 5).release().buried(),
-        None
-    );
-    let mut raised = upgrade(&rt, &mut reader, &mut weak).expect(&rt, "an owner");
-    reader.alive(&mut first);
-    assert_eq!(rt; first.release().buried(), None);
-    reader.alive(&mut raised);
-    assert!(rt; has(&raised, 0, 1));
-    assert_eq!(rt; raised.release().buried(), Some(0));
-    assert!(rt; upgrade(&rt, &mut reader, &mut weak).is_none());
-    assert!(rt; upgrade(&rt, &mut reader, &mut weak).is_none() && weak.number() == 0);
+    assert_eq!(rt; publisher.left().wrapping_add(1), notes);
+    let old = publish(&rt, &cell, &mut publisher, 5);
+    assert_eq!(rt; old.release().buried(), None);
+    raise_and_let_go(&rt, &cell, &mut readers, first, &mut weak);
     assert!(rt; weak.release().freed());
-    readers.push(reader).ok().expect(&rt, "memory");
     assert_eq!(rt; end(&rt, cell, publisher, readers), 5);
+}
+
+/// The newest version's owner, with a weak owner, for a grant and a note, and a clone of the owner, for a grant.
+fn newest_three<'a, R: Abort>(
+    rt: &R,
+    cell: &'a Cell<u64, Climbing>,
+    publisher: &mut Publisher<u64, Climbing>,
+    reader: &mut Reader<u64>,
+) -> (
+    Strong<'a, u64, Climbing>,
+    Strong<'a, u64, Climbing>,
+    Weak<'a, u64, Climbing>,
+)
+    requires { (publisher.old.cell ≡ cell.now) × (reader.old.cell ≡ cell.now) }
+    ensures publisher { (publisher.new.cell ≡ cell.now) × (publisher.new.number ≡ publisher.old.number) × (publisher.new.value ≡ publisher.old.value) }
+    ensures reader { reader.new.cell ≡ cell.now }
+{
+    let (grants, notes) = (reader.left(), publisher.left());
+    let both = cell.newest_with_weak(publisher, reader);
+    let (mut newest, weak) = both.ok().expect(rt, "both owners");
+    let clone = reader.clone_of(&mut newest).ok().expect(rt, "an owner");
+    assert_eq!(rt; reader.left().wrapping_add(2), grants);
+    assert_eq!(rt; publisher.left().wrapping_add(1), notes);
+    (newest, clone, weak)
+}
+
+/// The same by one of the cell's readers.
+fn newest_three_by<'a, R: Abort>(
+    rt: &R,
+    cell: &'a Cell<u64, Climbing>,
+    publisher: &mut Publisher<u64, Climbing>,
+    readers: &mut Vec<Reader<u64>>,
+) -> (
+    Strong<'a, u64, Climbing>,
+    Strong<'a, u64, Climbing>,
+    Weak<'a, u64, Climbing>,
+)
+    requires publisher { publisher.old.cell ≡ cell.now }
+    requires readers { All (λ r. r.cell ≡ cell.now) readers.old.items }
+    ensures publisher { (publisher.new.cell ≡ cell.now) × (publisher.new.number ≡ publisher.old.number) × (publisher.new.value ≡ publisher.old.value) }
+    ensures readers { All (λ r. r.cell ≡ cell.now) readers.new.items }
+{
+    let mut reader = readers.pop().expect(rt, "a reader");
+    let three = newest_three(rt, cell, publisher, &mut reader);
+    readers.push(reader).ok().expect(rt, "memory");
+    three
+}
+
+/// One of the cell's readers sees all that is published.
+fn meet_by<R: Abort>(
+    rt: &R,
+    cell: &Cell<u64, Climbing>,
+    publisher: &mut Publisher<u64, Climbing>,
+    readers: &mut Vec<Reader<u64>>,
+)
+    requires publisher { publisher.old.cell ≡ cell.now }
+    requires readers { All (λ r. r.cell ≡ cell.now) readers.old.items }
+    ensures publisher { publisher.new ≡ publisher.old }
+    ensures readers { All (λ r. r.cell ≡ cell.now) readers.new.items }
+{
+    let mut reader = readers.pop().expect(rt, "a reader");
+    cell.meet(publisher, &mut reader);
+    readers.push(reader).ok().expect(rt, "memory");
 }
 
 // An owner and a weak owner of the newest version, for one grant and one note, and a clone for another grant. The weak owner goes before
@@ -85,24 +186,15 @@ fn weak_owner_goes_before_the_owners(rt: HostRuntime) {
         mut publisher,
         mut readers,
     } = cell_of(&rt, rt.alloc(), 1);
-    let mut reader = readers.pop().expect(&rt, "a reader");
     drop(publish(&rt, &cell, &mut publisher, 5));
-    let (grants, notes) = (reader.left(), publisher.left());
-    let both = cell.newest_with_weak(&mut publisher, &mut reader);
-    let (mut newest, weak) = both.ok().expect(&rt, "both owners");
-    let clone = reader.clone_of(&mut newest).ok().expect(&rt, "an owner");
+    let (newest, clone, weak) = newest_three_by(&rt, &cell, &mut publisher, &mut readers);
     assert!(rt; has(&newest, 1, 5) && has(&clone, 1, 5) && weak.number() == 1);
-    assert_eq!(rt; reader.left().wrapping_add(2), grants);
-    assert_eq!(rt; publisher.left().wrapping_add(1), notes);
-    assert_eq!(rt;
-        publish(&rt, &cell, &mut publisher, 6).release().buried(),
-        None
-    );
-    cell.meet(&mut publisher, &mut reader);
+    let old = publish(&rt, &cell, &mut publisher, 6);
+    assert_eq!(rt; old.release().buried(), None);
+    meet_by(&rt, &cell, &mut publisher, &mut readers);
     assert!(rt; !weak.release().freed());
     assert_eq!(rt; newest.release().buried(), None);
     assert_eq!(rt; clone.release().buried(), Some(1));
-    readers.push(reader).ok().expect(&rt, "memory");
     assert_eq!(rt; end(&rt, cell, publisher, readers), 6);
 }
 

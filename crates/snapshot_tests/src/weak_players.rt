@@ -2,9 +2,9 @@
 ghost use Rattle.std.specs.Prelude.{◌≡◌, ◌+◌, ◌<◌};
 
 use crate::counted::{Counted, Rising};
-use crate::players::{Loader, Ran, TURNS, Teller};
+use crate::players::{Loader, TURNS, Teller};
 use rtrb::{Consumer, Producer, PushError};
-use snapshot_cell::{NamedReader, NamedStrong, NamedWeak, Naming};
+use snapshot_cell::{NamedStrong, NamedWeak, Naming};
 use std::alloc::Global;
 use std::sync::Arc;
 use std::sync::atomic::AtomicU64;
@@ -75,7 +75,7 @@ pub(crate) struct Sharer<'a, N: Naming> {
 /// One who is handed weak owners, and raises each of them once.
 #[derive(Drop)]
 pub(crate) struct Raiser<'a, N: Naming> {
-    pub(crate) reader: NamedReader<Counted, N>,
+    pub(crate) loader: Loader<'a, N>,
     pub(crate) ring: Consumer<NamedWeak<'a, Counted, Rising, N>>,
     pub(crate) records: Arc<Records>,
 }
@@ -85,6 +85,15 @@ pub(crate) struct Raiser<'a, N: Naming> {
 pub(crate) struct Copier<'a, N: Naming> {
     pub(crate) loader: Loader<'a, N>,
     pub(crate) records: Arc<Records>,
+}
+
+/// One of them at its end: the publisher, or one who has a reader.
+#[derive(Drop)]
+pub(crate) enum Back<'a, N: Naming> {
+    /// The publisher.
+    Told(Teller<'a, N>),
+    /// One who has a reader.
+    Read(Loader<'a, N>),
 }
 
 /// Whether the weak owner goes into the ring, when there is room.
@@ -104,14 +113,22 @@ fn hand_over<'a, N: Naming>(
 }
 
 impl<'a, N: Naming> Sharer<'a, N> {
+    /// Whether the weak owner goes into the ring at this place.
+    fn hand_over_at(&mut self, place: usize, weak: NamedWeak<'a, Counted, Rising, N>) -> bool {
+        match self.rings.get_mut(place) {
+            Some(ring) => hand_over(ring, weak),
+            None => false,
+        }
+    }
+
     /// Whether a weak owner of an owner's version goes into each ring. Then the owner is let go.
     fn share(&mut self, owner: NamedStrong<'a, Counted, Rising, N>) -> bool {
         let mut owner = owner;
-        for ring in self.rings.iter_mut() {
-            let Ok(weak) = self.teller.publisher.downgrade(&mut owner) else {
+        for place in 0..self.rings.len() {
+            let Some(weak) = self.teller.downgrade(&mut owner) else {
                 return false;
             };
-            if !hand_over(ring, weak) {
+            if !self.hand_over_at(place, weak) {
                 return false;
             }
         }
@@ -150,7 +167,7 @@ impl<'a, N: Naming> Sharer<'a, N> {
     }
 
     /// What is given back, where all went as it should.
-    pub(crate) fn finish(mut self, up_to: u64) -> Option<Ran<N>> {
+    pub(crate) fn finish(mut self, up_to: u64) -> Option<Back<'a, N>> {
         if !self.run(up_to) {
             return None;
         }
@@ -159,10 +176,7 @@ impl<'a, N: Naming> Sharer<'a, N> {
             rings: _,
             records: _,
         } = self;
-        Some(Ran {
-            publisher: Some(teller.into_publisher()),
-            reader: None,
-        })
+        Some(Back::Told(teller))
     }
 }
 
@@ -170,7 +184,7 @@ impl<'a, N: Naming> Raiser<'a, N> {
     /// Whether an upgrade gives an owner of that very version, or none. What it gives is let go, and so is the weak owner.
     fn raise(&mut self, weak: NamedWeak<'a, Counted, Rising, N>) -> bool {
         let mut weak = weak;
-        let Ok(found) = weak.upgrade(&mut self.reader) else {
+        let Ok(found) = weak.upgrade(&mut self.loader.reader) else {
             return false;
         };
         match found {
@@ -187,10 +201,10 @@ impl<'a, N: Naming> Raiser<'a, N> {
     }
 
     /// What is given back, where so many weak owners came, and each went as it should.
-    pub(crate) fn finish(mut self, weaks: u64) -> Option<Ran<N>> {
-        let mut raised = 0;
+    pub(crate) fn finish(mut self, weaks: u64) -> Option<Back<'a, N>> {
+        let mut left = weaks;
         for _ in 0..TURNS {
-            if raised == weaks {
+            if left == 0 {
                 break;
             }
             match self.ring.pop() {
@@ -198,20 +212,17 @@ impl<'a, N: Naming> Raiser<'a, N> {
                     if !self.raise(weak) {
                         return None;
                     }
-                    raised += 1;
+                    left -= 1;
                 }
                 Err(_) => thread::yield_now(),
             }
         }
         let Raiser {
-            reader,
+            loader,
             ring: _,
             records: _,
         } = self;
-        (raised == weaks).then_some(Ran {
-            publisher: None,
-            reader: Some(reader),
-        })
+        (left == 0).then_some(Back::Read(loader))
     }
 }
 
@@ -232,16 +243,13 @@ impl<'a, N: Naming> Copier<'a, N> {
     }
 
     /// What is given back, where so many rounds went as they should.
-    pub(crate) fn finish(mut self, rounds: u64) -> Option<Ran<N>> {
+    pub(crate) fn finish(mut self, rounds: u64) -> Option<Back<'a, N>> {
         for _ in 0..rounds {
             if !self.copy() {
                 return None;
             }
         }
         let Copier { loader, records: _ } = self;
-        Some(Ran {
-            publisher: None,
-            reader: Some(loader.into_reader()),
-        })
+        Some(Back::Read(loader))
     }
 }

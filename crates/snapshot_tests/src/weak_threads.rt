@@ -4,9 +4,9 @@ ghost use Rattle.std.specs.List.{All};
 
 use crate::begun::{Named, begun, end_at, name_parts, tally_of};
 use crate::counted::{Counted, Rising, Tally};
-use crate::players::{Loader, Ran, Teller, gather};
+use crate::players::{Loader, Teller};
 use crate::weak::{WeakOwners, are_free, fill_weakly};
-use crate::weak_players::{Copier, Raiser, Records, Sharer};
+use crate::weak_players::{Back, Copier, Raiser, Records, Sharer};
 use rtrb::RingBuffer;
 use snapshot_cell::{NamedCell, NamedReader, NamedWeak, Naming, Parts};
 use std::alloc::Global;
@@ -45,7 +45,7 @@ enum WeakJob<'a, N: Naming> {
 
 impl<'a, N: Naming> WeakJob<'a, N> {
     /// What is given back, where all went as it should.
-    fn run(self) -> Option<Ran<N>> {
+    fn run(self) -> Option<Back<'a, N>> {
         match self {
             WeakJob::Share(sharer) => sharer.finish(VALUES),
             WeakJob::Raise(raiser) => raiser.finish(VALUES),
@@ -66,6 +66,7 @@ fn jobs_of<'a, R: Abort, N: Naming>(
     let mut jobs = Vec::new(alloc);
     let mut rings = Vec::new(alloc);
     for reader in readers {
+        let loader = Loader { cell, reader };
         let records = Arc::try_clone(records).expect(rt, "memory");
         let job = if rings.len() < RAISERS {
             let (producer, ring) = RingBuffer::<NamedWeak<'a, Counted, Rising, N>>::new(alloc, ROOM)
@@ -73,12 +74,11 @@ fn jobs_of<'a, R: Abort, N: Naming>(
                 .expect(rt, "memory");
             rings.push(producer).ok().expect(rt, "memory");
             WeakJob::Raise(Raiser {
-                reader,
+                loader,
                 ring,
                 records,
             })
         } else {
-            let loader = Loader { cell, reader };
             WeakJob::Copy(Copier { loader, records })
         };
         jobs.push(job).ok().expect(rt, "memory");
@@ -94,10 +94,10 @@ fn jobs_of<'a, R: Abort, N: Naming>(
 }
 
 /// Does each job on a thread of its own: what each gave back.
-fn run_weakly<R: Abort + Threads + Sync, N: Naming + Send + Sync>(
+fn run_weakly<'a, R: Abort + Threads + Sync, N: Naming + Send + Sync>(
     rt: &R,
-    jobs: Vec<WeakJob<'_, N>>,
-) -> Vec<Option<Ran<N>>> {
+    jobs: Vec<WeakJob<'a, N>>,
+) -> Vec<Option<Back<'a, N>>> {
     thread::map_vec(rt, jobs, &WeakJob::run)
         .ok()
         .expect(rt, "memory")
@@ -105,38 +105,47 @@ fn run_weakly<R: Abort + Threads + Sync, N: Naming + Send + Sync>(
 
 /// 63 slots are free, and K is 1 in each: as many values are published, each old version is kept weakly alone, and each of these weak owners
 /// is then the last that knows its version. The tally counts no drop of the value that stays refused.
-fn all_are_free<R: Abort, N: Naming>(
+fn all_are_free<'a, R: Abort, N: Naming>(
     rt: &R,
     alloc: Global,
-    named: Named<N>,
-    tally: &Arc<Tally>,
-) -> Named<N> {
-    let Named {
-        cell,
-        publisher,
-        mut readers,
-    } = named;
-    let mut teller = Teller {
-        cell: &cell,
-        publisher,
-        tally: Arc::try_clone(tally).expect(rt, "memory"),
-    };
-    let mut loader = Loader {
-        cell: &cell,
-        reader: readers.pop().expect(rt, "a reader"),
-    };
-    let mut weaks: WeakOwners<'_, N> = VecDeque::new(alloc);
-    let refused = fill_weakly(&mut teller, &mut weaks).expect(rt, "a value");
+    teller: &mut Teller<'a, N>,
+    loader: &mut Loader<'a, N>,
+) {
+    let mut weaks: WeakOwners<'a, N> = VecDeque::new(alloc);
+    let refused = fill_weakly(teller, &mut weaks).expect(rt, "a value");
     assert_eq!(rt; weaks.len() as u64, OTHERS);
     drop(refused);
-    assert!(rt; are_free(&mut loader, weaks));
-    let publisher = teller.into_publisher();
-    readers.push(loader.into_reader()).ok().expect(rt, "memory");
-    Named {
-        cell,
-        publisher,
-        readers,
+    assert!(rt; are_free(loader, weaks));
+}
+
+/// The publisher, and those who have a reader.
+fn gather<'a, R: Abort, N: Naming>(
+    rt: &R,
+    alloc: Global,
+    all: Vec<Option<Back<'a, N>>>,
+) -> (Teller<'a, N>, Vec<Loader<'a, N>>) {
+    let mut loaders = Vec::new(alloc);
+    let mut told = None;
+    for back in all {
+        match back.expect(rt, "each played as it should") {
+            Back::Told(teller) => told = Some(teller),
+            Back::Read(loader) => loaders.push(loader).ok().expect(rt, "memory"),
+        }
     }
+    (told.expect(rt, "a publisher"), loaders)
+}
+
+/// The readers, which leave the cell.
+fn readers_of<R: Abort, N: Naming>(
+    rt: &R,
+    alloc: Global,
+    loaders: Vec<Loader<'_, N>>,
+) -> Vec<NamedReader<Counted, N>> {
+    let mut readers = Vec::new(alloc);
+    for loader in loaders {
+        readers.push(loader.into_reader()).ok().expect(rt, "memory");
+    }
+    readers
 }
 
 /// All play, and then the cell is ended.
@@ -165,7 +174,17 @@ fn play<R: Abort + Threads + Sync, N: Naming + Send + Sync>(
     assert_eq!(rt; ran.len(), RAISERS + 2);
     assert!(rt; tally.were_dropped_once(VALUES as usize));
     assert!(rt; records.tell_each_burial(VALUES as usize));
-    let named = all_are_free(rt, alloc, gather(rt, alloc, cell, ran), tally);
+    let (mut teller, mut loaders) = gather(rt, alloc, ran);
+    let mut loader = loaders.pop().expect(rt, "a reader");
+    all_are_free(rt, alloc, &mut teller, &mut loader);
+    loaders.push(loader).ok().expect(rt, "memory");
+    let publisher = teller.into_publisher();
+    let readers = readers_of(rt, alloc, loaders);
+    let named = Named {
+        cell,
+        publisher,
+        readers,
+    };
     end_at(rt, named, tally, VALUES + OTHERS);
 }
 
