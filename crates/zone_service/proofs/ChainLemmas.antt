@@ -133,7 +133,7 @@ chained_of (Ok chain) first query serial version number before after asked asks 
     )
   where
     no_both : (b : Bool) → b ≡ true → b ≡ false → ⊥
-    no_both b yes no_such = cc
+    no_both b is other = cc
 chained_of (Err e) first query serial version number before after asked asks ixfr latest same m copied = tt
 
 pub whatever : {T E P : Type 0} (result : Result T E) → P → OnErr result P

@@ -1,5 +1,5 @@
 -- The code that is told of an update is its reply; a transfer's messages are made of what the history tells.
-use Rattle.std.proofs.Common.{◌≡◌, ◌≤◌, ℕ, true, false, List, inl, inr, ap, sym, ◌∙◌, subst}
+use Rattle.std.proofs.Common.{◌≡◌, ◌≤◌, ℕ, true, false, List, inl, inr, ap, sym, ◌∙◌, subst, rules}
 use Rattle.dns_rdata.specs.Record.{Record}
 use Rattle.dns_message.specs.Octets.{fit}
 use Rattle.dns_message.specs.Request.{is_update, reads}
@@ -53,7 +53,7 @@ pub chain_for-requires : goal.chain_for-requires
 chain_for-requires g c =
     let first = g.Z.FirstZone.zone in
     let load = c.in-Ok.ensures.loaded in
-    (loaded_latest first _ _ c.in-Ok.strong load, last_number_of first c.load.new.reader.seen c.in-Ok.strong load.history load.last)
+    (search rules, (loaded_latest first _ _ c.in-Ok.strong load, last_number_of first c.load.new.reader.seen c.in-Ok.strong load.history load.last))
 
 pub returns-in_default-chain_for : goal.returns-in_default-chain_for
 returns-in_default-chain_for g c =
@@ -81,8 +81,8 @@ returns g c =
     let permitted : is_permitted version.zone peer query ≡ true = ap (λ (v : Version). is_permitted v.zone peer query) (sym got) ∙ sym c.is_permitted.ensures ∙ c.if-not-is_permitted.false in
     let same : version ≡ c.in-Ok-share.shared = sym (c.in-Ok-share.ensures ∙ c.get-2.ensures) in
     subst (λ (v : Version). (is_permitted v.zone peer query ≡ true)
-        × ((replied : IsReplied first peer after.seen request (messages_to v.zone (changes_by (soa_of v.zone) chain) peer query)) × (replied.version ≡ v) × (replied.gone ≡ after.gone))
-        × (reads request ≡ Query query) × HasSeen first c.args.reader.now after v) same (
+    × ((replied : IsReplied first peer after.seen request (messages_to v.zone (changes_by (soa_of v.zone) chain) peer query)) × (replied.version ≡ v) × (replied.gone ≡ after.gone))
+    × (reads request ≡ Query query) × HasSeen first c.args.reader.now after v) same (
       permitted,
       transfer_replied first peer c.load.new.reader after version request query chain (loaded_replay first _ _ c.in-Ok.strong load) (loaded_latest first _ _ c.in-Ok.strong load) asked permitted chained,
       asked,

@@ -1,5 +1,9 @@
 -- What the reader has seen grows.
 use Rattle.std.proofs.Common.{ℕ, List, sym, subst}
+use Rattle.zone_tree.specs.Zone.{soa_of}
+use Rattle.zone_tree.specs.Version.{Version}
+use Rattle.dns_engine.specs.Chain.{changes_by}
+use Rattle.serve_core.specs.Transfers.{messages_to}
 use Rattle.zone_service.specs.Replied.{IsReplied}
 use Rattle.zone_service.proofs.NowLemmas.{told_grows, vain_grows}
 use Rattle.zone_service.proofs.asked.Asked.answer_datagram_later.Goals as goal
@@ -13,4 +17,5 @@ returns-in-Spent-clause-grows g c = vain_grows g.Z.FirstZone.zone c.args.self.no
 
 pub returns-in-Transfer-clause-replied : goal.returns-in-Transfer-clause-replied
 returns-in-Transfer-clause-replied g c =
-    subst (λ (l : List (List ℕ)). IsReplied g.Z.FirstZone.zone c.args.peer c.serve_one.new.reader.seen c.args.request.now l) (sym c.write_transfer.ensures.messages) c.in-Transfer.ensures.1.0
+    let reply = subst (λ (v : Version). IsReplied g.Z.FirstZone.zone c.args.peer c.serve_one.new.reader.seen c.args.request.now (messages_to v.zone (changes_by (soa_of v.zone) c.in-Transfer.chain) c.args.peer c.in-Transfer.query)) (sym c.get.ensures) c.in-Transfer.ensures.1.0 in
+    subst (λ (l : List (List ℕ)). IsReplied g.Z.FirstZone.zone c.args.peer c.serve_one.new.reader.seen c.args.request.now l) (sym c.write_transfer.ensures.messages) reply

@@ -1,8 +1,13 @@
 -- What is written is the reply, or a beginning of it.
-use Rattle.std.proofs.Common.{sym, arith}
+use Rattle.std.proofs.Common.{sym, subst, arith}
 use Rattle.std.proofs.lemmas.List.{length-take-le}
 use Rattle.dns_message.specs.Request.{reads}
-use Rattle.zone_service.proofs.NowLemmas.{told_grows, vain_grows}
+use Rattle.zone_tree.specs.Zone.{soa_of}
+use Rattle.zone_tree.specs.Version.{Version}
+use Rattle.dns_engine.specs.Chain.{changes_by}
+use Rattle.serve_core.specs.Transfers.{messages_to}
+use Rattle.zone_service.specs.Replied.{IsReplied}
+use Rattle.zone_service.proofs.NowLemmas.{told_grows, vain_grows, seen_grows}
 use Rattle.zone_service.proofs.ReplyLemmas.{short_reply}
 use Rattle.zone_service.proofs.TransferLemmas.{part_of_one, never_spent, reply_written, reply_broken}
 use Rattle.zone_service.proofs.asked.Asked.answer_later.Goals as goal
@@ -25,10 +30,14 @@ pub returns-in-Updated-clause-broken : goal.returns-in-Updated-clause-broken
 returns-in-Updated-clause-broken g c = reply_broken _ c.write_frame-in-Updated.result _ _ _ _ _ _ c.in-Updated.ensures.1 c.write_frame-in-Updated.ensures.failed (part_of_one c.write_frame-in-Updated.result _ _ _ c.write_frame-in-Updated.ensures.part)
 
 pub returns-in-Transfer-clause-replied : goal.returns-in-Transfer-clause-replied
-returns-in-Transfer-clause-replied g c = reply_written _ c.send_transfer.result _ _ _ _ _ _ c.in-Transfer.ensures.1.0 c.send_transfer.ensures.whole
+returns-in-Transfer-clause-replied g c =
+    let reply = subst (λ (v : Version). IsReplied g.Z.FirstZone.zone c.args.self.now.peer c.serve_one.new.reader.seen c.args.request.now (messages_to v.zone (changes_by (soa_of v.zone) c.in-Transfer.chain) c.args.self.now.peer c.in-Transfer.query)) (sym c.get.ensures) c.in-Transfer.ensures.1.0 in
+    reply_written _ c.send_transfer.result _ _ _ _ _ _ reply c.send_transfer.ensures.whole
 
 pub returns-in-Transfer-clause-broken : goal.returns-in-Transfer-clause-broken
-returns-in-Transfer-clause-broken g c = reply_broken _ c.send_transfer.result _ _ _ _ _ _ c.in-Transfer.ensures.1.0 c.send_transfer.ensures.failed c.send_transfer.ensures.part
+returns-in-Transfer-clause-broken g c =
+    let reply = subst (λ (v : Version). IsReplied g.Z.FirstZone.zone c.args.self.now.peer c.serve_one.new.reader.seen c.args.request.now (messages_to v.zone (changes_by (soa_of v.zone) c.in-Transfer.chain) c.args.self.now.peer c.in-Transfer.query)) (sym c.get.ensures) c.in-Transfer.ensures.1.0 in
+    reply_broken _ c.send_transfer.result _ _ _ _ _ _ reply c.send_transfer.ensures.failed c.send_transfer.ensures.part
 
 pub returns-in-Reply-clause-spent : goal.returns-in-Reply-clause-spent
 returns-in-Reply-clause-spent g c = never_spent _ c.write_frame.result c.write_frame.ensures.failed
@@ -45,3 +54,6 @@ returns-in-Updated-clause-grows g c =
 
 pub returns-in-Spent-clause-grows : goal.returns-in-Spent-clause-grows
 returns-in-Spent-clause-grows g c = vain_grows g.Z.FirstZone.zone c.args.self.now.reader c.serve_one.new.reader c.in-Spent.ensures.1
+
+pub returns-in-Transfer-clause-grows : goal.returns-in-Transfer-clause-grows
+returns-in-Transfer-clause-grows g c = seen_grows g.Z.FirstZone.zone c.args.self.now.reader c.serve_one.new.reader c.in-Transfer.version c.in-Transfer.ensures.3
