@@ -1,5 +1,5 @@
 -- What a server's history tells an asker of what changed.
-use Rattle.std.proofs.Common.{◌≡◌, refl, ℕ, ◌+◌, ◌-◌, ◌<◌, Bool, true, false, not, ◌&&◌, ◌==◌, List, [], ◌∷◌, ◌++◌, length, Option, None, Some, ◌⊎◌, inl, inr, sym, ap, ◌∙◌, subst, unwrap_or, append-nil, if◌then◌else◌, Result, Ok, Err, IfOk, OnErr}
+use Rattle.std.proofs.Common.{◌≡◌, refl, ℕ, Bool, true, false, not, ◌==◌, List, [], ◌∷◌, ◌++◌, length, Option, None, Some, ◌⊎◌, inl, inr, sym, ap, ◌∙◌, subst, append-nil, Result, Ok, Err, IfOk, OnErr}
 use Rattle.dns_rdata.specs.Numbers.{type_IXFR}
 use Rattle.dns_rdata.specs.Record.{Record}
 use Rattle.dns_rdata.specs.SerialOrder.{serial_less}
@@ -8,12 +8,12 @@ use Rattle.dns_rdata.specs.declared.numbers.Serial.{Serial}
 use Rattle.dns_message.specs.declared.query.Query.{Query as QueryAsked}
 use Rattle.zone_tree.specs.Zone.{soa_of}
 use Rattle.zone_tree.specs.Version.{Version, zone_serial}
-use Rattle.transfer_core.specs.Chain.{told_changes, told}
+use Rattle.transfer_core.specs.Chain.{told}
 use Rattle.cell_core.specs.declared.words.Version.{Version as Numbered}
 use Rattle.counted_handles.specs.History.{IsHistory}
 use Rattle.counted_handles.specs.Ruled.{Begins}
 use Rattle.snapshot_cell.specs.Tokens.{ReaderState, IsUpgraded}
-use Rattle.weak_history.specs.History.{Entered, versions_in, later_entries}
+use Rattle.weak_history.specs.History.{Entered, versions_in}
 use Rattle.weak_history.specs.Owned.{less, AreOwned, HasGone, IsChain}
 use Rattle.weak_history.specs.declared.chain.Chain.{Chain}
 use Rattle.weak_history.specs.declared.chain.Chain.TheVariants.{Whole, Gone, Unknown, Spent}
@@ -22,7 +22,7 @@ use Rattle.dns_engine.specs.Held.{IsLatest}
 use Rattle.dns_engine.specs.Owned.{versions_of}
 use Rattle.dns_engine.specs.Entries.{entries_of}
 use Rattle.dns_engine.specs.Chain.{ChainState, IsPublished, TellsSince, changes_told, changes_by, IsCopied, HasBroken}
-use Rattle.dns_engine.proofs.ChainLemmas.{IsBehind, run_of, entered, versions_entered, told_unknown, told_behind, told_gone, found_behind}
+use Rattle.dns_engine.proofs.ChainLemmas.{IsBehind, run_of, versions_entered, told_unknown, told_behind, told_gone, found_behind}
 use Rattle.serve_core.specs.Transfers.{is_current, list_for}
 use Rattle.conversation.specs.Served.{BeginsWith}
 use Rattle.zone_service.specs.Known.{MeetsAndAsks}

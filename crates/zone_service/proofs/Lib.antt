@@ -4,3 +4,5 @@ pub mod NowLemmas
 pub mod SendLemmas
 pub mod TransferLemmas
 pub mod ChainLemmas
+pub mod WantedLemmas
+pub mod AboutLemmas

@@ -1,5 +1,5 @@
 -- What is replied, by what is told of a request.
-use Rattle.std.proofs.Common.{◌≡◌, ◌≤◌, ◌==◌, refl, ℕ, Bool, true, false, not, ◌&&◌, ◌||◌, nat_lt, List, [], ◌∷◌, length, take, Option, None, Some, option_and_then, ◌⊎◌, inl, inr, ⊎_elim, sym, ap, ◌∙◌, subst, unwrap_or, if◌then◌else◌, Result, Ok, Err, OnErr, lit≤, arith}
+use Rattle.std.proofs.Common.{◌≡◌, ◌≢◌, ◌≤◌, ◌==◌, refl, ℕ, Bool, true, false, not, ◌&&◌, ◌||◌, nat_lt, List, [], ◌∷◌, length, take, Option, None, Some, option_and_then, ◌⊎◌, inl, inr, ⊎_elim, sym, ap, ◌∙◌, subst, unwrap_or, if◌then◌else◌, Result, Ok, Err, OnErr, lit≤, arith}
 use Rattle.std.proofs.lemmas.Bool.{eqb-true}
 use Rattle.std.proofs.lemmas.Bool.Decides.{nat_tests}
 use Rattle.std.specs.Option.{option_to_list, option_or, is_some}
@@ -25,7 +25,7 @@ use Rattle.update_core.specs.Applied.{code_of}
 use Rattle.dns_engine.specs.Replayed.{IsReplay}
 use Rattle.dns_engine.specs.Held.{EngineState, IsLatest}
 use Rattle.snapshot_cell.specs.Tokens.{ReaderState}
-use Rattle.dns_engine.specs.Chain.{ChainState, TellsSince, changes_by}
+use Rattle.dns_engine.specs.Chain.{ChainState, changes_by}
 use Rattle.dns_rdata.specs.Numbers.{type_IXFR}
 use Rattle.zone_tree.specs.Zone.{soa_of}
 use Rattle.conversation.specs.Served.{BeginsWith}
@@ -33,21 +33,22 @@ use Rattle.conversation.proofs.TurnLemmas.{begins_itself}
 use Rattle.dns_engine.specs.Told.{IsTold, made, refused, unchanged, full, starved}
 use Rattle.serve_core.specs.declared.transport.Transport.{Transport}
 use Rattle.serve_core.specs.declared.transport.Transport.TheVariants.{Udp, Tcp}
-use Rattle.serve_core.specs.declared.served.Responded.{Responded}
 use Rattle.serve_core.specs.Transport.{limit_of, room_of}
 use Rattle.serve_core.specs.declared.heading.Heading.{Heading}
 use Rattle.serve_core.specs.Heading.{header_alone, heading_of_update, heading_of_bad, coded}
 use Rattle.serve_core.specs.declared.peer.Peer.{Peer}
 use Rattle.serve_core.specs.Transfers.{is_permitted, reply_to_peer, list_for, messages_to}
 use Rattle.serve_core.specs.Replies.{replies_to, IsNoTransfer}
-use Rattle.serve_core.specs.Served.{Got, Want, ForNothing, ForMaking, got, got_of, told, answered, limit_for, StandsIn, IsBehind, ServesSaid}
-use Rattle.serve_core.proofs.ServedLemmas.{serves_told, serves_reply}
+use Rattle.serve_core.specs.Served.{Got, Want, ForNothing, ForReading, ForMaking, got_of, told, answered, limit_for}
 use Rattle.dns_message.proofs.ReadLemmas.{judged}
 use Rattle.serve_core.proofs.WantLemmas.{reads-want}
 use Rattle.zone_service.specs.declared.answer.Told.{Told}
 use Rattle.zone_service.specs.Known.{HasLoaded}
-use Rattle.zone_service.specs.Updated.{IsJudged, by_engine, in_version, IsToldOf, read, unread, bad_opt, starved as starved_reading}
-use Rattle.zone_service.specs.Replied.{TellsFor, asks_changes, IsChained, IsReplied, IsUpdate, IsQuery, IsTransfer, IsAtOnce, LoadsFor, HasNoAnswer}
+use Rattle.zone_service.proofs.KnownLemmas.{loaded_latest}
+use Rattle.zone_service.proofs.AboutLemmas.{latest_known, unmade_about, made_about, known_about}
+use Rattle.zone_service.proofs.WantedLemmas.{wanted_got}
+use Rattle.zone_service.specs.Updated.{TellsOf, IsJudged, by_engine, in_version, IsToldOf, read, unread, bad_opt, starved as starved_reading}
+use Rattle.zone_service.specs.Replied.{TellsFor, TellsAbout, asks_changes, IsChained, IsReplied, IsUpdate, IsQuery, IsTransfer, IsAtOnce, LoadsFor, HasNoAnswer}
 
 no_want : (head : Head) (heard : Parsed) → heard ≡ NoMemory head → heard ≡ IsSilent → ⊥
 no_want head heard wants is = cc
@@ -97,25 +98,51 @@ no_query_replies zone changes peer wants (SaysUpdate update) plain = refl
 no_query_replies zone changes peer wants (NoMemory head) plain = refl
 
 -- what a request gets that is no query
-got_replied : (first : List Record) (peer : Peer) (later : List Version) (version : Version) (request : List ℕ) (messages : List (List ℕ)) (wants : Want) → IsReplay first version → IsNoQuery (reads request)
-    → messages ≡ option_to_list (got peer.transport peer.may_update wants version.zone request).reply → IsReplied first peer later request messages
-unfolding got
-got_replied first peer later version request messages wants replayed plain gets = record {
+got_replied : (first : List Record) (peer : Peer) (later : List Version) (version : Version) (request : List ℕ) (messages : List (List ℕ)) (wants : Want) → IsReplay first version → IsNoQuery (reads request) → TellsAbout first peer later version wants (reads request)
+    → messages ≡ option_to_list (got_of peer.transport peer.may_update wants version.zone (reads request)).reply → IsReplied first peer later request messages
+got_replied first peer later version request messages wants replayed plain about gets = record {
   version = version;
   replayed = replayed;
   changes = None;
   gone = [];
   told = no_query_told first peer later version (reads request) plain;
   want = wants;
+  about = about;
   reply = gets ∙ no_query_replies version.zone None peer wants (reads request) plain;
 }
 
--- octets that serve what is told of a request are its reply
-pub said_replied : (first : List Record) (peer : Peer) (later : List Version) (version : Version) (request out : List ℕ) (heard said : Parsed) (len : ℕ) (next : Option Version) → IsReplay first version → Tells request heard → heard ≡ said → IsNoQuery said
-    → ServesSaid (record { len = Some len; next = next }) peer.transport peer.may_update version said out → IsReplied first peer later request (take len out ∷ [])
-said_replied first peer later version request out heard said len next replayed tells is plain serves =
-    let s = serves_told (record { len = Some len; next = next }) peer.transport peer.may_update version request out heard said tells is serves in
-    got_replied first peer later version request (take len out ∷ []) s.want replayed (heard_no_query request heard said tells is plain) (ap option_to_list (sym s.reply.1))
+-- what is said is a code, or that memory is wanted, or nothing
+abbrev pub IsCodeAlone : Parsed → Type 0
+IsCodeAlone IsSilent = Unit {0}
+IsCodeAlone (Fault head code) = Unit {0}
+IsCodeAlone (BadOpt head question code dnssec_ok) = Unit {0}
+IsCodeAlone (Query query) = ⊥
+IsCodeAlone (SaysUpdate update) = ⊥
+IsCodeAlone (NoMemory head) = Unit {0}
+
+alone_no_query : (said : Parsed) → IsCodeAlone said → IsNoQuery said
+alone_no_query IsSilent alone = tt
+alone_no_query (Fault head code) alone = tt
+alone_no_query (BadOpt head question code dnssec_ok) alone = tt
+alone_no_query (Query query) alone = alone
+alone_no_query (SaysUpdate update) alone = tt
+alone_no_query (NoMemory head) alone = tt
+
+alone_about : (first : List Record) (peer : Peer) (later : List Version) (version : Version) (wants : Want) (said : Parsed) → IsCodeAlone said → TellsAbout first peer later version wants said
+alone_about first peer later version wants IsSilent alone = tt
+alone_about first peer later version wants (Fault head code) alone = tt
+alone_about first peer later version wants (BadOpt head question code dnssec_ok) alone = tt
+alone_about first peer later version wants (Query query) alone = absurd alone
+alone_about first peer later version wants (SaysUpdate update) alone = absurd alone
+alone_about first peer later version wants (NoMemory head) alone = tt
+
+wanted_about : (first : List Record) (peer : Peer) (later : List Version) (version : Version) (said : Parsed) → TellsAbout first peer later version ForReading said
+wanted_about first peer later version IsSilent = tt
+wanted_about first peer later version (Fault head code) = tt
+wanted_about first peer later version (BadOpt head question code dnssec_ok) = tt
+wanted_about first peer later version (Query query) = tt
+wanted_about first peer later version (SaysUpdate update) = tt
+wanted_about first peer later version (NoMemory head) = tt
 
 no_changes : {P : Type 0} (b : Bool) → b ≡ false → b ≡ true → P
 no_changes b is other = absurd (cc)
@@ -133,6 +160,7 @@ query_replied first peer later version request query messages replayed latest ot
   gone = [];
   told = subst (TellsFor first peer later [] version None) (sym asked) (no_changes (asks_changes version.zone peer query) other, λ e. latest);
   want = ForNothing;
+  about = subst (TellsAbout first peer later version ForNothing) (sym asked) tt;
   reply = gets ∙ ap (replies_to version.zone None peer ForNothing) (sym asked);
 }
 
@@ -155,6 +183,7 @@ transferred_by first peer before after version request query chain true ixfr rep
         gone = after.gone;
         told = subst (TellsFor first peer after.seen after.gone version t.changes) (sym asked) (λ e. t.told, no_other (asks_changes version.zone peer query) asks);
         want = ForNothing;
+        about = subst (TellsAbout first peer after.seen version ForNothing) (sym asked) tt;
         reply = messages_same version.zone (changes_by (soa_of version.zone) chain) t.changes peer query t.list
             ∙ transfer_sent version.zone t.changes peer query may
             ∙ ap (replies_to version.zone t.changes peer ForNothing) (sym asked);
@@ -177,6 +206,7 @@ transferred_by first peer before after version request query chain false other r
         told = subst (TellsFor first peer after.seen after.gone version None) (sym asked)
             (no_changes (asks_changes version.zone peer query) asks, λ e. subst (λ (r : ReaderState Version). IsLatest first r.seen version) (sym none.0) latest);
         want = ForNothing;
+        about = subst (TellsAbout first peer after.seen version ForNothing) (sym asked) tt;
         reply = ap (λ (c : Option (List Record)). messages_to version.zone c peer query) same
             ∙ transfer_sent version.zone peer query may
             ∙ ap (replies_to version.zone None peer ForNothing) (sym asked);
@@ -209,20 +239,29 @@ pub first_replay : (first : List Record) → IsReplay first (first_version first
 first_replay first = record { updates = []; changing = tt; zone = refl; number = refl }
 
 -- a reply that is the same in each version
-pub same_replied : (first : List Record) (peer : Peer) (later : List Version) (version : Version) (request out octets : List ℕ) (heard said : Parsed) (len : ℕ) → IsReplay first version → Tells request heard → heard ≡ said → IsNoQuery said → len ≤ limit_for peer.transport said → take len out ≡ octets
+pub same_replied : (first : List Record) (peer : Peer) (later : List Version) (version : Version) (request out octets : List ℕ) (said : Parsed) (len : ℕ) → IsReplay first version → Tells request said → IsCodeAlone said → take len out ≡ octets
     → got_of peer.transport peer.may_update ForNothing version.zone said ≡ record { reply = Some octets; zone = version.zone } → IsReplied first peer later request (take len out ∷ [])
-same_replied first peer later version request out octets heard said len replayed tells is plain short written gets =
-    said_replied first peer later version request out heard said len None replayed tells is plain
-    (serves_reply (record { len = Some len; next = None }) peer.transport peer.may_update version said octets out len refl refl short written gets)
+same_replied first peer later version request out octets said len replayed tells alone written gets =
+    ⊎_elim
+    (λ (e : said ≡ reads request).
+        got_replied first peer later version request (take len out ∷ []) ForNothing replayed plain (subst (TellsAbout first peer later version ForNothing) e (alone_about first peer later version ForNothing said alone))
+        (messages ∙ ap (λ (p : Parsed). option_to_list (got_of peer.transport peer.may_update ForNothing version.zone p).reply) e))
+    (λ (want : IsWant request said).
+        got_replied first peer later version request (take len out ∷ []) ForReading replayed plain (wanted_about first peer later version (reads request))
+        (messages ∙ ap (λ (g : Got). option_to_list g.reply) (wanted_got peer.transport peer.may_update ForNothing version.zone request said want)))
+    tells
+  where
+    plain : IsNoQuery (reads request)
+    plain = heard_no_query request said said tells refl (alone_no_query said alone)
+
+    messages : take len out ∷ [] ≡ option_to_list (got_of peer.transport peer.may_update ForNothing version.zone said).reply
+    messages = ap (λ (o : List ℕ). o ∷ []) written ∙ sym (ap (λ (g : Got). option_to_list g.reply) gets)
 
 no_code : (zone after : List Record) (update : Update) (may : Bool) → verdict zone update may ≡ None → act zone update ≡ Some after → code_of zone update may ≡ None
 no_code zone after update may taken acts =
     ap (λ v. option_or v (if is_some (act zone update) then None else Some ServFail)) taken ∙ ap (λ (o : Option (List Record)). if is_some o then None else Some ServFail) acts
 
-module _ (transport : Transport) (update : Update) (may : Bool) (out : List ℕ) (len : ℕ) (short : len ≤ limit_of transport None) where
-  served_by : Option Version → Responded
-  served_by next = record { len = Some len; next = next }
-
+module _ (transport : Transport) (update : Update) (may : Bool) (out : List ℕ) (len : ℕ) where
   -- an update that is taken gets NOERROR
   taken_got : (zone after : List Record) → verdict zone update may ≡ None → act zone update ≡ Some after → got_of transport may ForNothing zone (SaysUpdate update) ≡ told transport (heading_of_update update) NoError after
   taken_got zone after taken acts =
@@ -232,45 +271,48 @@ module _ (transport : Transport) (update : Update) (may : Bool) (out : List ℕ)
   said : (old : Version) (code : Rcode) → take len out ≡ fit (coded (heading_of_update update) code) (limit_of transport None) → (other : Rcode) → code ≡ other → Some (take len out) ≡ Some (fit (coded (heading_of_update update) other) (limit_of transport None))
   said old code written other same = ap Some (written ∙ ap (λ c. fit (coded (heading_of_update update) c) (limit_of transport None)) same)
 
-  -- what is told of an update is what it gets
-  pub told_said : (old new : EngineState) (code : Rcode) → take len out ≡ fit (coded (heading_of_update update) code) (limit_of transport None) → IsTold old update may code new
-      → (next : Option Version) × ServesSaid (record { len = Some len; next = next }) transport may old.held.last (SaysUpdate update) out
-  told_said old new code written (made next taken makes is_code left is_new) =
-      let gets = taken_got old.held.last.zone next.zone taken makes.zone in (
-        Some next,
-        record {
-          want = ForNothing;
-          reply = subst (λ (g : Got). StandsIn (Some len) (limit_of transport None) out g.reply) (sym gets) (short, sym (said old.held.last code written NoError is_code));
-          zone = subst (λ (g : Got). IsBehind (Some next) old.held.last g.zone) (sym gets) (refl, makes.changed, makes.number);
-        },
-      )
-  told_said old new code written (refused is_code same) =
-      let gets : got_of transport may ForNothing old.held.last.zone (SaysUpdate update) ≡ told transport (heading_of_update update) code old.held.last.zone = ap (λ c. answered transport (heading_of_update update) old.held.last.zone (act old.held.last.zone update) c) is_code in (
-        None,
-        record {
-          want = ForNothing;
-          reply = subst (λ (g : Got). StandsIn (Some len) (limit_of transport None) out g.reply) (sym gets) (short, sym (ap Some written));
-          zone = subst (λ (g : Got). IsBehind None old.held.last g.zone) (sym gets) refl;
-        },
-      )
-  told_said old new code written (unchanged taken acts is_code same) =
-      let gets = taken_got old.held.last.zone old.held.last.zone taken acts in (
-        None,
-        record {
-          want = ForNothing;
-          reply = subst (λ (g : Got). StandsIn (Some len) (limit_of transport None) out g.reply) (sym gets) (short, sym (said old.held.last code written NoError is_code));
-          zone = subst (λ (g : Got). IsBehind None old.held.last g.zone) (sym gets) refl;
-        },
-      )
-  told_said old new code written (full most is_code same) = (None, record { want = ForMaking; reply = (short, sym (said old.held.last code written ServFail is_code)); zone = refl })
-  told_said old new code written (starved taken is_code same) = (None, record { want = ForMaking; reply = (short, sym (said old.held.last code written ServFail is_code)); zone = refl })
+  module _ (first : List Record) (later : List Version) (old new : EngineState) (code : Rcode) (written : take len out ≡ fit (coded (heading_of_update update) code) (limit_of transport None)) (before : IsLatest first old.held.published old.held.last)
+      (after : IsLatest first new.held.published new.held.last) (saw : later ≡ new.held.published) where
+    -- what an update gets, about the versions that are known when it is told
+    abbrev IsSaid : Type 0
+    IsSaid = (want : Want) × (TellsOf first may later old.held.last want update) × ((got_of transport may want old.held.last.zone (SaysUpdate update)).reply ≡ Some (take len out))
 
--- an update's code is its reply
-pub update_replied : (first : List Record) (peer : Peer) (later : List Version) (request out : List ℕ) (heard : Parsed) (update : Update) (old new : EngineState) (code : Rcode) (len : ℕ) → IsReplay first old.held.last → Tells request heard → heard ≡ SaysUpdate update
-    → len ≤ limit_of peer.transport None → take len out ≡ fit (coded (heading_of_update update) code) (limit_of peer.transport None) → IsTold old update peer.may_update code new → IsReplied first peer later request (take len out ∷ [])
-update_replied first peer later request out heard update old new code len replayed tells is short written t =
-    let s = told_said peer.transport update peer.may_update out len short old new code written t in
-    said_replied first peer later old.held.last request out heard (SaysUpdate update) len s.0 replayed tells is tt s.1
+    no_zone : (o : _) (zone : List Record) → o ≡ Some old.held.last.zone → o ≡ Some zone → zone ≢ old.held.last.zone → ⊥
+    no_zone o zone is other changed = changed (the_same)
+      where
+        the_same : zone ≡ old.held.last.zone
+        the_same = cc
+
+    no_code_for : (o : _) → o ≡ Some code → o ≡ None → ⊥
+    no_code_for o is other = cc
+
+    -- what is told of an update is what it gets
+    pub told_said : IsTold old update may code new → IsSaid
+    told_said (made next taken makes is_code left is_new) = (
+      ForNothing,
+      made_about first may later old new update next before after saw makes is_new,
+      ap (λ (g : Got). g.reply) (taken_got old.held.last.zone next.zone taken makes.zone) ∙ sym (said old.held.last code written NoError is_code),
+    )
+    told_said (refused is_code same) = (
+      ForNothing,
+      unmade_about first may later old.held.last update (known_about first later old new before saw same)
+      (λ zone taken acts changed. no_code_for (code_of old.held.last.zone update may) is_code (no_code old.held.last.zone zone update may taken acts)),
+      ap (λ (g : Got). g.reply) (ap (λ c. answered transport (heading_of_update update) old.held.last.zone (act old.held.last.zone update) c) is_code) ∙ sym (ap Some written),
+    )
+    told_said (unchanged taken acts is_code same) = (
+      ForNothing,
+      unmade_about first may later old.held.last update (known_about first later old new before saw same) (λ zone again makes changed. no_zone (act old.held.last.zone update) zone acts makes changed),
+      ap (λ (g : Got). g.reply) (taken_got old.held.last.zone old.held.last.zone taken acts) ∙ sym (said old.held.last code written NoError is_code),
+    )
+    told_said (full most is_code same) = (ForMaking, latest_known first later old.held.last (known_about first later old new before saw same), sym (said old.held.last code written ServFail is_code))
+    told_said (starved taken is_code same) = (ForMaking, latest_known first later old.held.last (known_about first later old new before saw same), sym (said old.held.last code written ServFail is_code))
+
+-- an update's code is its reply, about the versions that are known when it is told
+pub update_replied : (first : List Record) (peer : Peer) (later : List Version) (version : Version) (request out : List ℕ) (update : Update) (len : ℕ) (wants : Want) → IsReplay first version → reads request ≡ SaysUpdate update
+    → TellsOf first peer.may_update later version wants update → (got_of peer.transport peer.may_update wants version.zone (SaysUpdate update)).reply ≡ Some (take len out) → IsReplied first peer later request (take len out ∷ [])
+update_replied first peer later version request out update len wants replayed reading about gets =
+    got_replied first peer later version request (take len out ∷ []) wants replayed (subst IsNoQuery (sym reading) tt) (subst (TellsAbout first peer later version wants) (sym reading) about)
+    (ap option_to_list (sym gets) ∙ ap (λ (p : Parsed). option_to_list (got_of peer.transport peer.may_update wants version.zone p).reply) (sym reading))
 
 -- what asks for an update by its header, where memory is wanted to read it
 want_of : (request : List ℕ) → is_update request ≡ true → IsWant request (NoMemory (header_of request))
@@ -415,26 +457,38 @@ module _ (first : List Record) (peer : Peer) (before after : ReaderState Version
   code_of_heading : Heading → Rcode → List ℕ
   code_of_heading heading code = fit (coded heading code) (limit_of peer.transport None)
 
+  met_seen : (met : ReaderState Version) (published : List Version) → after ≡ record met { seen = published } → after.seen ≡ published
+  met_seen met published is = ap (λ (r : ReaderState Version). r.seen) is
+
+  no_code_of : (version : Version) (update : Update) (code : Rcode) → peer.may_update ≡ false → verdict version.zone update false ≡ Some code → verdict version.zone update peer.may_update ≡ None → ⊥
+  no_code_of version update code may gives taken = no_both (verdict version.zone update false) gives (sym (ap (verdict version.zone update) may) ∙ taken)
+    where
+      no_both : (o : _) → o ≡ Some code → o ≡ None → ⊥
+      no_both o is other = cc
+
   judged_replied : (update : Update) (t : Told) → reads request ≡ SaysUpdate update → IsJudged first update peer.may_update before after t → take len out ≡ fit (coded (heading_of_update update) t.code) (limit_of peer.transport None) → IsReplied first peer after.seen request (take len out ∷ [])
   judged_replied update t reading (by_engine serials asks is updated) written =
-      update_replied first peer after.seen request out (SaysUpdate update) update updated.old updated.new t.code len updated.meets.replayed (inl (sym reading)) refl short written updated.told
+      let s = told_said peer.transport update peer.may_update out len first after.seen updated.old updated.new t.code written updated.meets.latest updated.meets_again.latest (met_seen updated.met updated.new.held.published updated.meets_again.seen) updated.told in
+      update_replied first peer after.seen updated.old.held.last request out update len s.0 updated.meets.replayed reading s.1 s.2
   judged_replied update t reading (in_version version may replayed loaded gives none) written =
-      same_replied first peer after.seen version request out (fit (coded (heading_of_update update) t.code) (limit_of peer.transport None)) (SaysUpdate update) (SaysUpdate update) len replayed (inl (sym reading)) refl tt short written (judged_got peer.transport version.zone update peer.may_update t.code may gives)
+      update_replied first peer after.seen version request out update len ForNothing replayed reading
+      (unmade_about first peer.may_update after.seen version update (loaded_latest first before after (record { number = version.number; value = version }) loaded) (λ zone taken acts changed. no_code_of version update t.code may gives taken))
+      (ap (λ (g : Got). g.reply) (judged_got peer.transport version.zone update peer.may_update t.code may gives) ∙ sym (ap Some written))
 
   -- a request that can't be read as an update gets a code, whatever version is served
-  said_as : (saying : Parsed) (heading other : Heading) (code : Rcode) → Tells request saying → IsNoQuery saying → len ≤ limit_for peer.transport saying → heading ≡ other
+  said_as : (saying : Parsed) (heading other : Heading) (code : Rcode) → Tells request saying → IsCodeAlone saying → heading ≡ other
       → got_of peer.transport peer.may_update ForNothing first saying ≡ told peer.transport other code first → take len out ≡ fit (coded heading code) (limit_of peer.transport None) → IsReplied first peer after.seen request (take len out ∷ [])
-  said_as saying heading other code tells plain within same gets written =
-      same_replied first peer after.seen (first_version first) request out (fit (coded other code) (limit_of peer.transport None)) saying saying len (first_replay first) tells refl plain within (written ∙ ap (λ (h : Heading). fit (coded h code) (limit_of peer.transport None)) same) gets
+  said_as saying heading other code tells alone same gets written =
+      same_replied first peer after.seen (first_version first) request out (fit (coded other code) (limit_of peer.transport None)) saying len (first_replay first) tells alone (written ∙ ap (λ (h : Heading). fit (coded h code) (limit_of peer.transport None)) same) gets
 
   pub told_replied : (heading : Heading) (t : Told) → IsToldOf first peer.may_update request before after heading t → take len out ≡ fit (coded heading t.code) (limit_of peer.transport None) → IsReplied first peer after.seen request (take len out ∷ [])
   told_replied heading t (read update reading same judged) written =
       judged_replied update t reading judged (written ∙ ap (λ (h : Heading). fit (coded h t.code) (limit_of peer.transport None)) same)
-  told_replied heading t (unread head reading same none stays) written = said_as (Fault head t.code) heading (header_alone head) t.code (inl (sym reading)) tt short same refl written
+  told_replied heading t (unread head reading same none stays) written = said_as (Fault head t.code) heading (header_alone head) t.code (inl (sym reading)) tt same refl written
   told_replied heading t (bad_opt head question dnssec_ok reading same none stays) written =
-      said_as (BadOpt head question t.code dnssec_ok) heading (heading_of_bad head question dnssec_ok) t.code (inl (sym reading)) tt short same refl written
+      said_as (BadOpt head question t.code dnssec_ok) heading (heading_of_bad head question dnssec_ok) t.code (inl (sym reading)) tt same refl written
   told_replied heading t (starved_reading head want same code none stays) written =
-      said_as (NoMemory head) heading (header_alone head) t.code (inr want) tt short same (ap (λ c. told peer.transport (header_alone head) c first) (sym code)) written
+      said_as (NoMemory head) heading (header_alone head) t.code (inr want) tt same (ap (λ c. told peer.transport (header_alone head) c first) (sym code)) written
 
 -- octets that get no reply
 pub silent_replied : (first : List Record) (peer : Peer) (later : List Version) (request : List ℕ) → reads request ≡ IsSilent → IsReplied first peer later request []
@@ -445,6 +499,7 @@ silent_replied first peer later request silent = record {
   gone = [];
   told = subst (TellsFor first peer later [] (first_version first) None) (sym silent) tt;
   want = ForNothing;
+  about = subst (TellsAbout first peer later (first_version first) ForNothing) (sym silent) tt;
   reply = ap (replies_to first None peer ForNothing) (sym silent);
 }
 
@@ -483,13 +538,13 @@ room_most peer = by peer.transport
     by Tcp = lit≤ tt
 
 -- what is answered at once without a version
-pub code_now : (first : List Record) (peer : Peer) (reader : ReaderState Version) (request out : List ℕ) (saying : Parsed) (heading own : Heading) (code : Rcode) (len : ℕ) → is_update request ≡ false → reads request ≡ saying → IsNoQuery saying → len ≤ limit_of peer.transport None
+pub code_now : (first : List Record) (peer : Peer) (reader : ReaderState Version) (request out : List ℕ) (saying : Parsed) (heading own : Heading) (code : Rcode) (len : ℕ) → is_update request ≡ false → reads request ≡ saying → IsCodeAlone saying → len ≤ limit_of peer.transport None
     → limit_for peer.transport saying ≡ limit_of peer.transport None → heading ≡ own → got_of peer.transport peer.may_update ForNothing first saying ≡ told peer.transport own code first → ((zone : List Record) → IsNoTransfer zone peer saying)
     → ((version : Version) → LoadsFor first reader reader version saying) → take len out ≡ fit (coded heading code) (limit_of peer.transport None)
     → (len ≤ limit_for peer.transport (reads request)) × (replied : IsReplied first peer reader.seen request (take len out ∷ [])) × IsAtOnce peer request replied.version × LoadsFor first reader reader replied.version (reads request)
 code_now first peer reader request out saying heading own code len other reading plain short limit same gets none stays written =
     let within : len ≤ limit_for peer.transport saying = subst (λ (n : ℕ). len ≤ n) (sym limit) short in
-    let replied = same_replied first peer reader.seen (first_version first) request out (fit (coded own code) (limit_of peer.transport None)) saying saying len (first_replay first) (inl (sym reading)) refl plain within (written ∙ ap (λ (h : Heading). fit (coded h code) (limit_of peer.transport None)) same) gets in (
+    let replied = same_replied first peer reader.seen (first_version first) request out (fit (coded own code) (limit_of peer.transport None)) saying len (first_replay first) (inl (sym reading)) plain (written ∙ ap (λ (h : Heading). fit (coded h code) (limit_of peer.transport None)) same) gets in (
       subst (λ p. len ≤ limit_for peer.transport p) (sym reading) within,
       replied,
       record { other = other; plain = subst (IsNoTransfer replied.version.zone peer) (sym reading) (none replied.version.zone) },
@@ -511,6 +566,7 @@ query_now first peer before after version request out query len replayed latest 
         gone = [];
         told = subst (TellsFor first peer after.seen [] version None) (sym asked) (no_changes (asks_changes version.zone peer query) plain, λ e. latest);
         want = ForNothing;
+        about = subst (TellsAbout first peer after.seen version ForNothing) (sym asked) tt;
         reply = gets ∙ ap (replies_to version.zone None peer ForNothing) (sym asked);
       },
       record { other = other; plain = subst (IsNoTransfer version.zone peer) (sym asked) may },

@@ -18,7 +18,7 @@ use Rattle.serve_core.specs.Served.{Want, limit_for}
 use Rattle.serve_core.specs.Replies.{replies_to, IsNoTransfer}
 use Rattle.serve_core.specs.Transfers.{is_permitted, list_for, messages_to}
 use Rattle.zone_service.specs.Known.{HasLoaded, HasGone, HasSeen, LoadsInVain}
-use Rattle.zone_service.specs.Updated.{IsUpdateTold}
+use Rattle.zone_service.specs.Updated.{TellsOf, IsUpdateTold}
 use Rattle.zone_service.specs.declared.answer.Now.{Now}
 use Rattle.zone_service.specs.declared.answer.Now.TheVariants.{Bytes, Silent, Later, Spent}
 use Rattle.zone_service.specs.declared.answer.Served.{Served}
@@ -40,10 +40,20 @@ TellsFor first peer later gone version changes (Query query) =
 TellsFor first peer later gone version changes (Update update) = Unit {0}
 TellsFor first peer later gone version changes (NoMemory head) = Unit {0}
 
+-- what is told of an update is about the versions that are known to be published when it is told, wherever memory is wanted: so who is told that one
+-- which changes the zone is taken knows the version that it makes (RFC 2136, 3)
+abbrev pub TellsAbout : List Record → Peer → List Version → Version → Want → Parsed → Type 0
+TellsAbout first peer later version want IsSilent = Unit {0}
+TellsAbout first peer later version want (Fault head code) = Unit {0}
+TellsAbout first peer later version want (BadOpt head question code dnssec_ok) = Unit {0}
+TellsAbout first peer later version want (Query query) = Unit {0}
+TellsAbout first peer later version want (Update update) = TellsOf first peer.may_update later version want update
+TellsAbout first peer later version want (NoMemory head) = Unit {0}
+
 -- messages are the reply to a request in one version, which is the first zone with updates replayed, and of a query the last of the versions
 -- that are known to be published when it is made, or of an IXFR one of them: of a transfer that is permitted its messages, of an IXFR by what these
 -- versions tell of what changed since the asker's, where none that it takes is one of those known to be buried; an update may also get what it gets
--- where memory is wanted
+-- where memory is wanted, and is told in one of these versions, with what it makes of that one behind it
 pub record IsReplied (first : List Record) (peer : Peer) (later : List Version) (request : List ℕ) (messages : List (List ℕ)) : Type 0 where
   pub version : Version
   pub replayed : IsReplay first version
@@ -51,6 +61,7 @@ pub record IsReplied (first : List Record) (peer : Peer) (later : List Version) 
   pub gone : List ℕ
   pub told : TellsFor first peer later gone version changes (reads request)
   pub want : Want
+  pub about : TellsAbout first peer later version want (reads request)
   pub reply : messages ≡ replies_to version.zone changes peer want (reads request)
 
 -- a chain of versions gives the asker of an IXFR the list of what changed up to a version, through those that a reader has then seen published, which

@@ -1,5 +1,5 @@
 -- What has come of an update (RFC 2136, 3).
-use Rattle.std.specs.Prelude.{◌≡◌, ◌⊎◌, ℕ, Bool, true, false, List, None, Some}
+use Rattle.std.specs.Prelude.{◌≡◌, ◌≢◌, ◌⊎◌, ℕ, Bool, true, false, List, ◌∷◌, None, Some}
 use Rattle.dns_rdata.specs.Record.{Record}
 use Rattle.dns_rdata.specs.declared.numbers.Rcode.{Rcode}
 use Rattle.dns_rdata.specs.declared.numbers.Rcode.TheVariants.{ServFail}
@@ -11,12 +11,15 @@ use Rattle.dns_message.specs.declared.query.Parsed.TheVariants.{Fault, BadOpt, U
 use Rattle.dns_message.specs.declared.update.Update.{Update}
 use Rattle.zone_tree.specs.Version.{Version, zone_serial}
 use Rattle.update_core.specs.Verdict.{verdict}
+use Rattle.update_core.specs.Act.{act}
 use Rattle.snapshot_cell.specs.Tokens.{ReaderState}
 use Rattle.dns_engine.specs.Held.{EngineState}
+use Rattle.dns_engine.specs.Chain.{IsPublished}
 use Rattle.dns_engine.specs.Told.{IsTold}
 use Rattle.dns_engine.specs.Replayed.{IsReplay}
 use Rattle.serve_core.specs.declared.peer.Peer.{Peer}
 use Rattle.serve_core.specs.declared.heading.Heading.{Heading}
+use Rattle.serve_core.specs.Served.{Want, ForNothing, ForReading, ForMaking}
 use Rattle.serve_core.specs.Heading.{header_alone, heading_of_update, heading_of_bad, coded}
 use Rattle.serve_core.specs.Transport.{limit_of}
 use Rattle.zone_service.specs.Known.{HasLoaded, HasMet}
@@ -35,6 +38,19 @@ pub record IsUpdated (first : List Record) (update : Update) (may : Bool) (befor
   pub meets_again : HasMet first new met after
   pub serial_before : serials.before.0 ≡ zone_serial old.held.last.zone
   pub serial_after : serials.after.0 ≡ zone_serial new.held.last.zone
+
+-- what an update makes of a version, if that changes the zone, is the zone of the next version that is known to be published (RFC 2136, 3)
+abbrev pub IsMadeBehind : List Version → Version → Update → Bool → Type 0
+IsMadeBehind newer version update may =
+    (zone : List Record) → verdict version.zone update may ≡ None → act version.zone update ≡ Some zone → zone ≢ version.zone
+    → (next : Version) × (more : List Version) × (newer ≡ next ∷ more) × (next.zone ≡ zone)
+
+-- an update is told about in a version that is known to be published when it is told, and what it makes of that one is known to be published behind it,
+-- but where memory is wanted to make it; where memory is wanted to read it, it is told about in none (RFC 2136, 3; own)
+abbrev pub TellsOf : List Record → Bool → List Version → Version → Want → Update → Type 0
+TellsOf first may later version ForNothing update = (here : IsPublished first later version) × IsMadeBehind here.newer version update may
+TellsOf first may later version ForReading update = Unit {0}
+TellsOf first may later version ForMaking update = IsPublished first later version
 
 -- what is told of an update that was read, by whether its peer may update, and by what becomes of the reader of who answers: of a peer that may,
 -- or where no load is left, the code that an engine tells of it, with the serials of that engine's last version before it and after it, and all that

@@ -2,7 +2,7 @@
 use Rattle.std.proofs.Common.{◌≡◌, ◌≤◌, ℕ, true, false, List, inl, inr, ap, sym, ◌∙◌, subst, rules}
 use Rattle.dns_rdata.specs.Record.{Record}
 use Rattle.dns_message.specs.Octets.{fit}
-use Rattle.dns_message.specs.Request.{is_update, reads}
+use Rattle.dns_message.specs.Request.{reads}
 use Rattle.dns_message.specs.declared.query.Parsed.TheVariants.{Query}
 use Rattle.zone_tree.specs.Zone.{soa_of}
 use Rattle.zone_tree.specs.Version.{Version}
