@@ -14,23 +14,35 @@ const ALL: u64 = u64::MAX;
 
 /// A row of a stream.
 #[derive(Clone, Copy)]
-struct Row {
+pub(crate) struct Row {
     /// Whether the peer may update and transfer.
-    may: bool,
+    pub(crate) may: bool,
     /// How many octets can be written.
-    room: usize,
+    pub(crate) room: usize,
     /// How many octets a read gives and a write takes at most.
-    step: usize,
+    pub(crate) step: usize,
     /// How many reads and writes go well.
-    calls: u64,
+    pub(crate) calls: u64,
     /// How the stream ends.
-    end: StreamEnd,
+    pub(crate) end: StreamEnd,
     /// The octets that are read, and those that are written, in hexadecimal.
-    input: &'static str,
-    written: &'static str,
+    pub(crate) input: &'static str,
+    pub(crate) written: &'static str,
     /// The lines that are told of updates.
-    told: &'static str,
+    pub(crate) told: &'static str,
 }
+
+/// A stream on which nothing fails, of a peer that may update and transfer.
+pub(crate) const TRANSFER: Row = Row {
+    may: true,
+    room: 9999,
+    step: 3,
+    calls: ALL,
+    end: StreamEnd::Clean,
+    input: "",
+    written: "",
+    told: "",
+};
 
 /// Streams over the zone.
 const STREAMS: &[Row] = &[
@@ -236,7 +248,7 @@ fn is_served<R: Wait, Z: FirstZone, N: Naming>(
 
 /// Whether a row's stream goes as it says, by a server whom one of these readers asks, which comes back to them; None also where there is
 /// none.
-fn told_by<R: Wait, Z: FirstZone, N: Naming>(
+pub(crate) fn told_by<R: Wait, Z: FirstZone, N: Naming>(
     rt: &R,
     alloc: Global,
     server: &Server<'_, Z, N>,

@@ -1,0 +1,124 @@
+//! What a running server tells of versions that are there, and in whole of one that has gone (RFC 1995, 4; own).
+use crate::streams::{Row, TRANSFER, told_by};
+use dns_engine::{FirstZone, Naming, VersionCell, VersionPublisher, VersionReader};
+use played_zones::{Play, Played, is_played, zone};
+use std::alloc::Global;
+use std::sync::Wait;
+use zone_service::Server;
+
+/// An update that adds an address at `new`, and NOERROR.
+const FIRST_UPDATE: Row = Row {
+    input: "\
+0032432128000001000000010000076578616d706c6504746573740000060001036e6577c00c0001000100000e100004c000024d",
+    written: "000c4321a8000000000000000000",
+    told: "update from 192.0.2.7:4711: NOERROR, serial 1 to 2;",
+    ..TRANSFER
+};
+
+/// An update that adds another one, and an IXFR from serial 1, whose reply has what both updates changed: the version that the first one made is
+/// owned.
+const WHILE_OWNED: Row = Row {
+    input: "\
+0032432128000001000000010000076578616d706c6504746573740000060001036e6577c00c0001000100000e100004c000024e\
+0040123400000001000000010000076578616d706c6504746573740000fb0001c00c0006000100000000001600000000000100000000000000000000000000000000",
+    written: "\
+000c4321a80000000000000000000124123484000001000800000000076578616d706c6504746573740000fb0001c00c0006000100000e100022036e7331c00c0561646d696ec00c0000000300001c2000000384001275000000012cc00c0006000100000e100018c02ac0300000000100001c2000000384001275000000012cc00c0006000100000e100018c02ac0300000000200001c2000000384001275000000012c036e6577c00c0001000100000e100004c000024dc00c0006000100000e100018c02ac0300000000200001c2000000384001275000000012cc00c0006000100000e100018c02ac0300000000300001c2000000384001275000000012cc0940001000100000e100004c000024ec00c0006000100000e100018c02ac0300000000300001c2000000384001275000000012c",
+    told: "update from 192.0.2.7:4711: NOERROR, serial 2 to 3;",
+    ..TRANSFER
+};
+
+/// The same IXFR, once nobody owns that version: the reply has the zone in whole.
+const ONCE_GONE: Row = Row {
+    input: "\
+0040123400000001000000010000076578616d706c6504746573740000fb0001c00c0006000100000000001600000000000100000000000000000000000000000000",
+    written: "\
+00d8123484000001000800000000076578616d706c6504746573740000fb0001\
+c00c0006000100000e100022036e7331c00c0561646d696ec00c0000000300001c2000000384001275000000012c\
+c00c0002000100000e100002c02a\
+036e6577c00c0001000100000e100004c000024d\
+c05a0001000100000e100004c000024e\
+c02a0001000100000e100004c0000201\
+03776562c00c0001000100000e100004c000020a\
+03777777c00c0005000100000e100002c08e\
+c00c0006000100000e100018c02ac0300000000300001c2000000384001275000000012c",
+    told: "",
+    ..TRANSFER
+};
+
+/// Streams over a server that keeps no version beside the last, while the version between two updates is owned and once it isn't.
+struct OwnedAWhile;
+
+/// Whether a stream goes as its row says, behind an owner of the version that is the last one before it.
+fn told_behind<R: Wait, Z: FirstZone, N: Naming>(
+    rt: &R,
+    alloc: Global,
+    cell: &VersionCell<Z, N>,
+    server: &Server<'_, Z, N>,
+    readers: &mut Vec<VersionReader<N>>,
+    row: &Row,
+) -> Option<bool> {
+    let mut reader = readers.pop()?;
+    let loaded = cell.load(&mut reader);
+    let _ = readers.push(reader);
+    let owner = loaded.ok()?;
+    let told = told_by(rt, alloc, server, readers, row);
+    let _ = owner.release();
+    told
+}
+
+/// Whether the streams go as their rows say, one after the other.
+fn all_told<R: Wait, Z: FirstZone, N: Naming>(
+    rt: &R,
+    alloc: Global,
+    cell: &VersionCell<Z, N>,
+    server: &Server<'_, Z, N>,
+    readers: &mut Vec<VersionReader<N>>,
+) -> Option<bool> {
+    let made = told_by(rt, alloc, server, readers, &FIRST_UPDATE)?;
+    let owned = told_behind(rt, alloc, cell, server, readers, &WHILE_OWNED)?;
+    let gone = told_by(rt, alloc, server, readers, &ONCE_GONE)?;
+    Some(made && owned && gone)
+}
+
+impl Play for OwnedAWhile {
+    fn play<R: Wait, Z: FirstZone, N: Naming>(
+        &self,
+        rt: &R,
+        alloc: Global,
+        cell: &VersionCell<Z, N>,
+        publisher: VersionPublisher<Z, N>,
+        mut readers: Vec<VersionReader<N>>,
+    ) -> Played<Z, N> {
+        let Some(reader) = readers.pop() else {
+            return Played {
+                told: None,
+                publisher,
+                readers,
+            };
+        };
+        let (told, publisher, reader) = match Server::new(cell, publisher, reader, 0) {
+            Ok(server) => {
+                let told = all_told(rt, alloc, cell, &server, &mut readers);
+                let (publisher, reader) = server.finish();
+                (told, publisher, reader)
+            }
+            Err(refused) => (None, refused.publisher, refused.reader),
+        };
+        let _ = readers.push(reader);
+        Played {
+            told,
+            publisher,
+            readers,
+        }
+    }
+}
+
+// What changed is told as long as the versions are there, whoever owns them, and in whole once one has gone (RFC 1995, 4).
+#[test]
+fn a_version_is_told_as_long_as_it_is_there(rt: HostRuntime) {
+    let told = match zone(rt.alloc()) {
+        Some(zone) => is_played(&rt, rt.alloc(), zone, &OwnedAWhile),
+        None => None,
+    };
+    assert_eq!(rt; told, Some(true));
+}
