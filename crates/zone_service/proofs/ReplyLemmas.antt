@@ -244,11 +244,11 @@ pub same_replied : (first : List Record) (peer : Peer) (later : List Version) (v
 same_replied first peer later version request out octets said len replayed tells alone written gets =
     ⊎_elim
     (λ (e : said ≡ reads request).
-        got_replied first peer later version request (take len out ∷ []) ForNothing replayed plain (subst (TellsAbout first peer later version ForNothing) e (alone_about first peer later version ForNothing said alone))
-        (messages ∙ ap (λ (p : Parsed). option_to_list (got_of peer.transport peer.may_update ForNothing version.zone p).reply) e))
+    got_replied first peer later version request (take len out ∷ []) ForNothing replayed plain (subst (TellsAbout first peer later version ForNothing) e (alone_about first peer later version ForNothing said alone))
+    (messages ∙ ap (λ (p : Parsed). option_to_list (got_of peer.transport peer.may_update ForNothing version.zone p).reply) e))
     (λ (want : IsWant request said).
-        got_replied first peer later version request (take len out ∷ []) ForReading replayed plain (wanted_about first peer later version (reads request))
-        (messages ∙ ap (λ (g : Got). option_to_list g.reply) (wanted_got peer.transport peer.may_update ForNothing version.zone request said want)))
+    got_replied first peer later version request (take len out ∷ []) ForReading replayed plain (wanted_about first peer later version (reads request))
+    (messages ∙ ap (λ (g : Got). option_to_list g.reply) (wanted_got peer.transport peer.may_update ForNothing version.zone request said want)))
     tells
   where
     plain : IsNoQuery (reads request)
@@ -296,7 +296,7 @@ module _ (transport : Transport) (update : Update) (may : Bool) (out : List ℕ)
     told_said (refused is_code same) = (
       ForNothing,
       unmade_about first may later old.held.last update (known_about first later old new before saw same)
-      (λ zone taken acts changed. no_code_for (code_of old.held.last.zone update may) is_code (no_code old.held.last.zone zone update may taken acts)),
+          (λ zone taken acts changed. no_code_for (code_of old.held.last.zone update may) is_code (no_code old.held.last.zone zone update may taken acts)),
       ap (λ (g : Got). g.reply) (ap (λ c. answered transport (heading_of_update update) old.held.last.zone (act old.held.last.zone update) c) is_code) ∙ sym (ap Some written),
     )
     told_said (unchanged taken acts is_code same) = (
