@@ -3,7 +3,7 @@ ghost use Rattle.std.specs.Prelude.{◌≡◌, ◌↔◌, ◌<◌, [], ◌∷◌
 ghost use Rattle.cell_core.specs.Words.{slots};
 ghost use Rattle.counted_handles.specs.declared.lapsed.Lapse.TheVariants.{Faded, Restored, Freed};
 ghost use Rattle.counted_handles.specs.declared.view.Tie.{Tie};
-ghost use Rattle.counted_handles.specs.declared.view.View.TheVariants.{HasWeakly, Resets, Frees};
+ghost use Rattle.counted_handles.specs.declared.view.View.TheVariants.{HasWeakly, Resets, Frees, Gone};
 ghost use Rattle.counted_handles.specs.Calls.{Fits};
 ghost use Rattle.counted_handles.specs.Lapses.{IsLapsed, HasFaded};
 
@@ -42,6 +42,13 @@ impl Model for Lapsed {
 }
 
 impl Lapsed {
+    /// Whether the release made the slot free: nobody else could know the version.
+    pub fn freed(&self) -> bool
+        ensures { result ≡ true ↔ self.now ≡ Freed }
+    {
+        self.steps == Lapse::Freed
+    }
+
     // The weak owner is one no more.
     fn fade<T, C: Names<T>>(
         words: &Words<T, C>,
@@ -75,6 +82,7 @@ impl Lapsed {
     )
         requires fits { Fits words.now.table_id × (seat.old.table_id ≡ words.now.table_id) × (slot < slots) }
         requires last { (self.old ≡ Faded 1) × (seat.old.me ≡ (Resets slot, [])) }
+        ensures seat { (seat.new.table_id ≡ seat.old.table_id) × (seat.new.id ≡ seat.old.id) × (seat.new.me ≡ (Gone, [])) }
         ensures freed { self.new ≡ Freed }
     {
         reset(words, seat, slot);

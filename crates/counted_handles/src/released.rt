@@ -4,7 +4,7 @@ ghost use Rattle.cell_core.specs.Words.{slots};
 ghost use Rattle.cell_core.specs.declared.words.Version.{Version};
 ghost use Rattle.counted_handles.specs.declared.released.Steps.TheVariants.{Lowered, Won, Buried, Faded, Restored, Freed};
 ghost use Rattle.counted_handles.specs.declared.view.Mark.{Mark};
-ghost use Rattle.counted_handles.specs.declared.view.View.TheVariants.{Has, Buries, Resets, Frees};
+ghost use Rattle.counted_handles.specs.declared.view.View.TheVariants.{Has, Buries, Resets, Frees, Gone};
 ghost use Rattle.counted_handles.specs.Calls.{Fits, IsOut, IsEmptied};
 ghost use Rattle.counted_handles.specs.Releases.{IsLowered, HasLost, LiesIn, IsOutlived, buried_in};
 
@@ -183,6 +183,7 @@ impl Released {
     )
         requires fits { Fits words.now.table_id × (seat.old.table_id ≡ words.now.table_id) × (slot < slots) }
         requires restored { (number : ℕ) × (self.old ≡ Restored number) × (seat.old.me ≡ (Frees slot, [])) }
+        ensures seat { (seat.new.table_id ≡ seat.old.table_id) × (seat.new.id ≡ seat.old.id) × (seat.new.me ≡ (Gone, [])) }
         ensures freed { (number : ℕ) → self.old ≡ Restored number → self.new ≡ Freed number }
     {
         free(words, seat, slot);
