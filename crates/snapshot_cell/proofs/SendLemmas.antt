@@ -28,10 +28,12 @@ use Rattle.counted_handles.specs.contracts.rule.Rule as Rule
 use Rattle.counted_handles.specs.contracts.rule.RuleTableRuleRoomViewSpots.TheImpl as rule_impl
 use Rattle.counted_handles.specs.contracts.rule.Spots as Spots
 use Rattle.counted_handles.specs.contracts.view.View as View
+use Rattle.counted_handles.specs.contracts.weak.Weak as Weak
 use Rattle.counted_handles.specs.declared.names.Names as names
 use Rattle.snapshot_cell.proofs.named.NamedReader.TheSendSync as named_reader
 use Rattle.snapshot_cell.proofs.tokens.Reader.TheSendSync as reader
 use Rattle.snapshot_cell.specs.contracts.cell.Cell as Cell
+use Rattle.snapshot_cell.specs.contracts.further.NamedWeak as NamedWeak
 use Rattle.snapshot_cell.specs.contracts.named.NamedCell as NamedCell
 use Rattle.snapshot_cell.specs.contracts.named.NamedPublisher as NamedPublisher
 use Rattle.snapshot_cell.specs.contracts.named_owner.NamedStrong as NamedStrong
@@ -108,7 +110,16 @@ module _ (T C : RattleType) (g : names.Ghosts C.Denot T.Denot) (g' : follows.Gho
         let room = room_send T s y in
         search (shared.the_sync, spots_sync, held.the_sync, option.the_sync, crossing.crosses, sendable) depth 60 fits 20000
 
+    pub weak_send : (a : NamedLft) → IsSend (Weak.the_row a T C g g')
+    weak_send a =
+        let older = older_sync T y in
+        let room = room_send T s y in
+        search (shared.the_sync, spots_sync, badge.the_send, crossing.crosses, sendable) depth 60 fits 20000
+
     module _ (N : RattleType) (n : naming.Ghosts N.Denot) where
+      pub named_weak_send : (a : NamedLft) → IsSend (NamedWeak.the_row a T C N g g' n)
+      named_weak_send a = search (weak_send, phantom.the_field_send, sendable) depth 60 fits 20000
+
       pub named_strong_send : (a : NamedLft) → IsSend (NamedStrong.the_row a T C N g g' n)
       named_strong_send a = search (strong_send, phantom.the_field_send, sendable) depth 60 fits 20000
 
@@ -128,4 +139,4 @@ module _ (T C : RattleType) (g : names.Ghosts C.Denot T.Denot) (g' : follows.Gho
       named_cell_field_sync = search (cell_sync, phantom.the_field_sync, sendable) depth 60 fits 20000
 
 -- a cell with its tokens and owners, as a set for search
-pub ruleset crosses = (reader.the_send, cell_send, cell_sync, publisher_send, strong_send, strong_sync, named_strong_send, named_strong_sync, named_reader.the_send, named_cell_send, named_cell_sync, named_cell_field_send, named_cell_field_sync, named_publisher_send)
+pub ruleset crosses = (reader.the_send, cell_send, cell_sync, publisher_send, strong_send, strong_sync, named_strong_send, named_strong_sync, weak_send, named_weak_send, named_reader.the_send, named_cell_send, named_cell_sync, named_cell_field_send, named_cell_field_sync, named_publisher_send)

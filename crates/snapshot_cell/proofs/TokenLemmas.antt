@@ -3,6 +3,7 @@ use Rattle.std.proofs.Common.{◌≡◌, refl, ap, sym, ◌∙◌, subst, ℕ, �
 use Rattle.std.specs.List.{slice_get}
 use Rattle.std.proofs.lemmas.List.{length_push}
 use Rattle.atomic_table.specs.Seated.{TableId}
+use Rattle.cell_core.specs.Words.{notes}
 use Rattle.cell_core.specs.declared.words.Version.{Version}
 use Rattle.counted_handles.specs.declared.view.Publishing.{Publishing}
 use Rattle.counted_handles.specs.declared.view.View.{View}
@@ -48,9 +49,9 @@ module _ {T : Type 0} (begins : T → Type 0) (follows : T → T → Type 0) whe
       })
 
   -- a token whose view tells the same
-  pub publisher_as : (cell new_cell : TableId) (id new_id : ℕ) (views new_views : List (View T)) (spare_cell : TableId) (spare : List (View T)) (number : ℕ) (value : T) (readers : ℕ) → (inv : IsPublisher begins follows cell id views spare_cell spare number value readers) → new_cell ≡ cell → new_id ≡ id
-      → (q : Publishing T) → new_views ≡ Publishes q ∷ [] → q.published ≡ inv.publishing.published → q.how ≡ inv.publishing.how → q.share ≡ inv.publishing.share → q.left ≡ 0 → q.name ≡ inv.publishing.name → q.readers ≡ inv.publishing.readers → IsPublisher begins follows new_cell new_id new_views spare_cell spare number value readers
-  publisher_as cell new_cell id new_id views new_views spare_cell spare number value readers inv same same_id q is published how share left name still = record {
+  pub publisher_as : (cell new_cell : TableId) (id new_id : ℕ) (views new_views : List (View T)) (spare_cell : TableId) (spare : List (View T)) (number : ℕ) (value : T) (readers noted new_noted : ℕ) → (inv : IsPublisher begins follows cell id views spare_cell spare number value readers noted) → new_cell ≡ cell → new_id ≡ id
+      → (q : Publishing T) → new_views ≡ Publishes q ∷ [] → q.published ≡ inv.publishing.published → q.how ≡ inv.publishing.how → q.share ≡ inv.publishing.share → q.left ≡ 0 → q.name ≡ inv.publishing.name → q.readers ≡ inv.publishing.readers → q.noted ≡ new_noted → new_noted ≤ notes → IsPublisher begins follows new_cell new_id new_views spare_cell spare number value readers new_noted
+  publisher_as cell new_cell id new_id views new_views spare_cell spare number value readers noted new_noted inv same same_id q is published how share left name still gave few = record {
     publishing = q;
     views_are = is;
     first = same_id ∙ inv.first;
@@ -66,12 +67,14 @@ module _ {T : Type 0} (begins : T → Type 0) (follows : T → T → Type 0) whe
     rest = inv.rest;
     spare_is = inv.spare_is;
     spare_whole = inv.spare_whole;
+    noted_is = gave;
+    few = few;
   }
 
   -- a token behind a publication
-  pub publisher_next : (cell new_cell : TableId) (id new_id : ℕ) (views new_views : List (View T)) (spare_cell : TableId) (spare : List (View T)) (number : ℕ) (last value : T) (readers : ℕ) → (inv : IsPublisher begins follows cell id views spare_cell spare number last readers) → new_cell ≡ cell → new_id ≡ id → follows last value
-      → IsNewer inv.publishing value new_views → IsPublisher begins follows new_cell new_id new_views spare_cell spare (number + 1) value readers
-  publisher_next cell new_cell id new_id views new_views spare_cell spare number last value readers inv same same_id may newer =
+  pub publisher_next : (cell new_cell : TableId) (id new_id : ℕ) (views new_views : List (View T)) (spare_cell : TableId) (spare : List (View T)) (number : ℕ) (last value : T) (readers noted : ℕ) → (inv : IsPublisher begins follows cell id views spare_cell spare number last readers noted) → new_cell ≡ cell → new_id ≡ id → follows last value
+      → IsNewer inv.publishing value new_views → IsPublisher begins follows new_cell new_id new_views spare_cell spare (number + 1) value readers noted
+  publisher_next cell new_cell id new_id views new_views spare_cell spare number last value readers noted inv same same_id may newer =
       let p : Publishing T = inv.publishing in
       let size : length (p.published ++ value ∷ []) ≡ number + 1 + 1 = length_push p.published value ∙ ap (λ n. n + 1) inv.last in
       record {
@@ -90,12 +93,14 @@ module _ {T : Type 0} (begins : T → Type 0) (follows : T → T → Type 0) whe
         rest = inv.rest;
         spare_is = inv.spare_is;
         spare_whole = inv.spare_whole;
+        noted_is = inv.noted_is;
+        few = inv.few;
       }
 
 -- the tokens of a new cell
 module _ {T : Type 0} where
   pub begun_dealing : (value : T) (name : ℕ) (views : List (View T)) → IsBegun value name views → IsDealing value name 0 views
-  begun_dealing value name views begun = record { publishing = opener value name begun.0; views_are = begun.1; published = refl; how = refl; whole = refl; left = refl; readers_are = refl; name_is = refl }
+  begun_dealing value name views begun = record { publishing = opener value name begun.0; views_are = begun.1; published = refl; how = refl; whole = refl; left = refl; noted = refl; readers_are = refl; name_is = refl }
 
   pub enough_left : (value : T) (name count : ℕ) (views : List (View T)) → (d : IsDealing value name count views) → count < 64 → dealt_grants ≤ d.publishing.left
   enough_left value name count views d l = omega (arith, d.left, l)
@@ -108,6 +113,7 @@ module _ {T : Type 0} where
     how = d.how;
     whole = d.whole;
     left = omega (arith, d.left, l);
+    noted = d.noted;
     readers_are = ap (λ n. n + 1) d.readers_are;
     name_is = d.name_is;
   }
@@ -129,7 +135,7 @@ module _ {T : Type 0} where
 
   -- the publisher's token, when the readers have theirs
   pub first_token : (begins : T → Type 0) (follows : T → T → Type 0) (value last : T) (count : ℕ) (table cell : TableId) (id : ℕ) (views new_views : List (View T)) (spare_cell : TableId) (spare : List (View T)) → (d : IsDealing value table.views_name count views) → begins value → last ≡ value → cell ≡ table → id ≡ 0
-      → new_views ≡ Publishes (with_reader d.publishing d.publishing.left) ∷ [] → spare_cell ≡ cell → spare ≡ reader_of d.publishing d.publishing.left ∷ [] → IsPublisher begins follows cell id new_views spare_cell spare 0 last count
+      → new_views ≡ Publishes (with_reader d.publishing d.publishing.left) ∷ [] → spare_cell ≡ cell → spare ≡ reader_of d.publishing d.publishing.left ∷ [] → IsPublisher begins follows cell id new_views spare_cell spare 0 last count 0
   first_token begins follows value last count table cell id views new_views spare_cell spare d begun seen same seat is spare_same spare_is = record {
     publishing = with_reader d.publishing d.publishing.left;
     views_are = is;
@@ -146,4 +152,6 @@ module _ {T : Type 0} where
     rest = record { seen = d.publishing.published; share = None; left = d.publishing.left; gone = []; name = d.publishing.name };
     spare_is = spare_is;
     spare_whole = refl;
+    noted_is = d.noted;
+    few = omega arith;
   }

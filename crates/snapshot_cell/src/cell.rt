@@ -1,21 +1,22 @@
 //! The cell, and its calls.
-ghost use Rattle.std.specs.Prelude.{◌≡◌, ◌↔◌, ◌<◌, ◌≤◌, ◌-◌, ◌^◌, [], ◌∷◌, vec_len, IfOk, IfErr, IsErrOf};
+ghost use Rattle.std.specs.Prelude.{◌≡◌, ◌⊎◌, ◌↔◌, ◌<◌, ◌≤◌, ◌-◌, ◌^◌, [], ◌∷◌, vec_len, IfOk, IfErr, IsErrOf};
 ghost use Rattle.std.specs.Vec.{vec_capacity};
 ghost use Rattle.std.specs.List.{All};
-ghost use Rattle.cell_core.specs.Words.{slots};
+ghost use Rattle.cell_core.specs.Words.{slots, notes};
 ghost use Rattle.counted_handles.specs.Calls.{Fits};
 ghost use Rattle.counted_handles.specs.Opens.{IsBegun};
 ghost use Rattle.counted_handles.specs.Ruled.{Begins};
 ghost use Rattle.counted_handles.specs.declared.view.View.TheVariants.{Gone};
-ghost use Rattle.snapshot_cell.specs.Tokens.{IsDealing, IsLoad, first_publisher, first_reader, published_next};
+ghost use Rattle.snapshot_cell.specs.Tokens.{IsDealing, IsLoad, first_publisher, first_reader, noted_next, published_next};
 
 use crate::ending::end_all;
 use crate::fault::{NewFault, Spent};
-use crate::tokens::{LOADS, Publisher, READERS, Reader};
+use crate::tokens::{LOADS, NOTES, Publisher, READERS, Reader};
 use atomic_table::{Badge, Table};
 use cell_core::Version;
 use counted_handles::{
-    Made, Names, NoSlot, Room, Rule, Spots, Strong, View, Words, deal, deal_rest, make, unmake,
+    Made, Names, NoSlot, Room, Rule, Spots, Strong, View, Weak, Words, deal, deal_rest, make,
+    unmake,
 };
 use raw_slots::Bare;
 use std::alloc::Global;
@@ -128,6 +129,7 @@ impl<T: Drop, C: Names<T>> Cell<T, C> {
                 number: 0,
                 last,
                 readers,
+                noted: 0,
                 names: PhantomData,
             },
             readers: tokens,
@@ -188,6 +190,34 @@ impl<T: Drop, C: Names<T>> Cell<T, C> {
         }
         reader.left -= 1;
         Ok(counted_handles::newest(
+            &self.table.shared,
+            &self.spots,
+            &mut publisher.badge,
+            &mut reader.badge,
+        ))
+    }
+
+    /// The same with a weak owner beside it, which the publisher counts. [`Spent`] where the reader has no grant left, or the publisher can
+    /// give no weak owner more: all is then as it was. It waits for nobody.
+    pub fn newest_with_weak(
+        &self,
+        publisher: &mut Publisher<T, C>,
+        reader: &mut Reader<T>,
+    ) -> Result<(Strong<'_, T, C>, Weak<'_, T, C>), Spent>
+        requires { (publisher.old.cell ≡ self.now) × (reader.old.cell ≡ self.now) }
+        ensures table { IfOk result (λ owners. owners.0.table ≡ self.now) }
+        ensures weak { IfOk result (λ owners. owners.1 ≡ owners.0) }
+        ensures newest { IfOk result (λ owners. (owners.0.version ≡ record { number = publisher.old.number; value = publisher.old.value }) × (reader.new ≡ record { cell = self.now; seen = publisher.old.published; left = reader.old.left - 1; gone = reader.old.gone }) × (0 < reader.old.left)) }
+        ensures begun { IfOk result (λ _. Begins reader.old.seen publisher.old.published) }
+        ensures noted { IfOk result (λ _. (publisher.new ≡ noted_next publisher.old) × (publisher.old.noted < notes)) }
+        ensures spent { IfErr result (λ _. ((reader.old.left ≡ 0) ⊎ (publisher.old.noted ≡ notes)) × (reader.new ≡ reader.old) × (publisher.new ≡ publisher.old)) }
+    {
+        if reader.left == 0 || publisher.noted == NOTES {
+            return Err(Spent);
+        }
+        reader.left -= 1;
+        publisher.noted += 1;
+        Ok(counted_handles::newest_with_weak(
             &self.table.shared,
             &self.spots,
             &mut publisher.badge,

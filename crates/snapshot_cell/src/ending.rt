@@ -58,6 +58,7 @@ pub(crate) fn end_all<T, C: Names<T>>(
         number,
         last,
         readers: count,
+        noted,
         names,
     } = publisher;
     take_in(words, &mut badge, spare);
@@ -71,6 +72,7 @@ pub(crate) fn end_all<T, C: Names<T>>(
                 number,
                 last,
                 readers: count,
+                noted,
                 names,
             })
         }

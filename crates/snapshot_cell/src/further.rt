@@ -1,17 +1,20 @@
-//! Further owners of a cell's versions: clones of owners, weak owners, and their upgrades.
-ghost use Rattle.std.specs.Prelude.{◌≡◌, ◌<◌, ◌-◌, IfOk, IfErr, IfSome};
+//! Further owners of a cell's versions: clones of owners, weak owners, and their upgrades; and whether an owner's version is there.
+ghost use Rattle.std.specs.Prelude.{◌≡◌, ◌<◌, ◌-◌, Contains, IfOk, IfErr, IfSome};
 ghost use Rattle.std.specs.Option.{option_map};
-ghost use Rattle.snapshot_cell.specs.Tokens.{IsUpgraded};
+ghost use Rattle.cell_core.specs.Words.{notes};
+ghost use Rattle.counted_handles.specs.Lapses.{IsLapsed};
+ghost use Rattle.snapshot_cell.specs.Tokens.{IsUpgraded, noted_next};
 
 use crate::fault::Spent;
-use crate::named::{NamedReader, Naming};
+use crate::named::{NamedPublisher, NamedReader, Naming};
 use crate::named_owner::NamedStrong;
-use crate::tokens::Reader;
-use counted_handles::{Names, Strong, Sunk, Weak};
+use crate::tokens::{NOTES, Publisher, Reader};
+use counted_handles::{Lapsed, Names, Strong, Sunk, Weak};
 use std::marker::{Model, PhantomData};
 
 /// A weak owner of a version of the cell of this name: it lets the version go, and can tell later whether it has gone. Contracts see the
 /// version.
+#[derive(Drop)]
 pub struct NamedWeak<'a, T: Drop, C: Names<T>, N: Naming> {
     weak: Weak<'a, T, C>,
     names: PhantomData<N>,
@@ -73,6 +76,48 @@ impl<T: Drop> Reader<T> {
             Err(Sunk { raised: false }) => Ok(None),
         }
     }
+
+    /// Looks whether an owner's version is there still, and it is: its number isn't one of those that the reader has seen buried. It costs
+    /// no grant and waits for nobody.
+    pub fn alive<'a, C: Names<T>>(&mut self, strong: &mut Strong<'a, T, C>)
+        requires { self.old.cell ≡ strong.old.table }
+        ensures same { (strong.new ≡ strong.old) × (self.new ≡ self.old) }
+        ensures alive { Contains self.old.gone strong.old.version.number → ⊥ }
+    {
+        strong.alive(&mut self.badge);
+    }
+}
+
+impl<T: Drop, C: Names<T>> Publisher<T, C> {
+    /// A weak owner of an owner's version, which the publisher counts. [`Spent`] where it can give none more. It waits for nobody.
+    pub fn downgrade<'a>(&mut self, strong: &mut Strong<'a, T, C>) -> Result<Weak<'a, T, C>, Spent>
+        requires { self.old.cell ≡ strong.old.table }
+        ensures same { strong.new ≡ strong.old }
+        ensures weak { IfOk result (λ weak. weak ≡ strong.old) }
+        ensures noted { IfOk result (λ _. (self.new ≡ noted_next self.old) × (self.old.noted < notes)) }
+        ensures spent { IfErr result (λ _. (self.old.noted ≡ notes) × (self.new ≡ self.old)) }
+    {
+        if self.noted == NOTES {
+            return Err(Spent);
+        }
+        self.noted += 1;
+        Ok(strong.downgrade(&mut self.badge))
+    }
+}
+
+impl<T: Drop, C: Names<T>, N: Naming> NamedPublisher<T, C, N> {
+    /// As [`Publisher::downgrade`].
+    pub fn downgrade<'a>(
+        &mut self,
+        strong: &mut NamedStrong<'a, T, C, N>,
+    ) -> Result<NamedWeak<'a, T, C, N>, Spent>
+        ensures same { strong.new ≡ strong.old }
+        ensures weak { IfOk result (λ weak. weak ≡ strong.old) }
+        ensures noted { IfOk result (λ _. (self.new ≡ noted_next self.old) × (self.old.noted < notes)) }
+        ensures spent { IfErr result (λ _. (self.old.noted ≡ notes) × (self.new ≡ self.old)) }
+    {
+        Ok(NamedWeak::of(self.publisher.downgrade(&mut strong.strong)?))
+    }
 }
 
 impl<'a, T: Drop, C: Names<T>, N: Naming> NamedWeak<'a, T, C, N> {
@@ -107,5 +152,13 @@ impl<'a, T: Drop, C: Names<T>, N: Naming> NamedWeak<'a, T, C, N> {
             Some(strong) => Ok(Some(NamedStrong::of(strong))),
             None => Ok(None),
         }
+    }
+
+    /// Gives the weak owner up, as [`Weak::release`].
+    pub fn release(self) -> Lapsed
+        ensures { IsLapsed result }
+    {
+        let NamedWeak { weak, names: _ } = self;
+        weak.release()
     }
 }

@@ -1,13 +1,14 @@
 //! A cell and its tokens that a type names: what has the same name belongs together, so no call asks for it.
-ghost use Rattle.std.specs.Prelude.{◌≡◌, ◌<◌, ◌-◌, ◌^◌, IfOk, IfErr};
-ghost use Rattle.cell_core.specs.Words.{slots};
+ghost use Rattle.std.specs.Prelude.{◌≡◌, ◌⊎◌, ◌+◌, ◌<◌, ◌-◌, ◌^◌, IfOk, IfErr};
+ghost use Rattle.cell_core.specs.Words.{slots, notes};
 ghost use Rattle.counted_handles.specs.History.{IsHistory};
 ghost use Rattle.counted_handles.specs.Ruled.{Begins};
-ghost use Rattle.snapshot_cell.specs.Tokens.{IsLoad, IsLastOf, published_next};
+ghost use Rattle.snapshot_cell.specs.Tokens.{IsLoad, IsLastOf, noted_next, published_next};
 ghost use Rattle.atomic_table.specs.Seated.{TableId};
 
 use crate::cell::Cell;
 use crate::fault::Spent;
+use crate::further::NamedWeak;
 use crate::named_ending::end_all_named;
 use crate::named_owner::NamedStrong;
 use crate::tokens::{Publisher, Reader};
@@ -55,7 +56,7 @@ impl<T, N: Naming> Model for NamedReader<T, N> {
 /// The publisher of the cell of this name. Contracts see the publisher.
 #[derive(Drop)]
 pub struct NamedPublisher<T, C: Names<T>, N: Naming> {
-    publisher: Publisher<T, C>,
+    pub(crate) publisher: Publisher<T, C>,
     names: PhantomData<N>,
 }
 
@@ -122,6 +123,13 @@ impl<T, C: Names<T>, N: Naming> NamedPublisher<T, C, N> {
     {
         self.publisher.last()
     }
+
+    /// How many weak owners more it can give.
+    pub fn left(&self) -> u64
+        ensures { result + self.now.noted ≡ notes }
+    {
+        self.publisher.left()
+    }
 }
 
 impl<T: Drop, C: Names<T>, N: Naming> NamedCell<T, C, N> {
@@ -158,6 +166,24 @@ impl<T: Drop, C: Names<T>, N: Naming> NamedCell<T, C, N> {
             .cell
             .newest(&mut publisher.publisher, &mut reader.reader)?;
         Ok(NamedStrong::of(strong))
+    }
+
+    /// As [`Cell::newest_with_weak`].
+    pub fn newest_with_weak(
+        &self,
+        publisher: &mut NamedPublisher<T, C, N>,
+        reader: &mut NamedReader<T, N>,
+    ) -> Result<(NamedStrong<'_, T, C, N>, NamedWeak<'_, T, C, N>), Spent>
+        ensures weak { IfOk result (λ owners. owners.1 ≡ owners.0) }
+        ensures newest { IfOk result (λ owners. (owners.0 ≡ record { number = publisher.old.number; value = publisher.old.value }) × (reader.new ≡ record { cell = reader.old.cell; seen = publisher.old.published; left = reader.old.left - 1; gone = reader.old.gone }) × (0 < reader.old.left)) }
+        ensures begun { IfOk result (λ _. Begins reader.old.seen publisher.old.published) }
+        ensures noted { IfOk result (λ _. (publisher.new ≡ noted_next publisher.old) × (publisher.old.noted < notes)) }
+        ensures spent { IfErr result (λ _. ((reader.old.left ≡ 0) ⊎ (publisher.old.noted ≡ notes)) × (reader.new ≡ reader.old) × (publisher.new ≡ publisher.old)) }
+    {
+        let (strong, weak) = self
+            .cell
+            .newest_with_weak(&mut publisher.publisher, &mut reader.reader)?;
+        Ok((NamedStrong::of(strong), NamedWeak::of(weak)))
     }
 
     /// As [`Cell::meet`].

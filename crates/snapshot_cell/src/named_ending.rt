@@ -59,6 +59,7 @@ pub(crate) fn end_all_named<T, C: Names<T>, N: Naming>(
         number,
         last,
         readers: count,
+        noted,
         names,
     } = publisher;
     take_in(words, &mut badge, spare);
@@ -72,6 +73,7 @@ pub(crate) fn end_all_named<T, C: Names<T>, N: Naming>(
                 number,
                 last,
                 readers: count,
+                noted,
                 names,
             })
         }

@@ -1,5 +1,5 @@
 //! Owners of versions of a cell that a type names.
-ghost use Rattle.std.specs.Prelude.{◌≡◌, ◌<◌, ◌-◌, IfOk, IfErr};
+ghost use Rattle.std.specs.Prelude.{◌≡◌, ◌<◌, ◌-◌, Contains, IfOk, IfErr};
 ghost use Rattle.counted_handles.specs.Releases.{IsReleased};
 
 use crate::fault::Spent;
@@ -10,7 +10,7 @@ use std::marker::{Model, PhantomData};
 /// An owner of a version of the cell of this name, as [`Strong`]. Contracts see the version.
 #[derive(Drop)]
 pub struct NamedStrong<'a, T: Drop, C: Names<T>, N: Naming> {
-    strong: Strong<'a, T, C>,
+    pub(crate) strong: Strong<'a, T, C>,
     names: PhantomData<N>,
 }
 
@@ -69,5 +69,13 @@ impl<'a, T: Drop, C: Names<T>, N: Naming> NamedStrong<'a, T, C, N> {
         ensures spent { IfErr result (λ _. (reader.old.left ≡ 0) × (reader.new ≡ reader.old)) }
     {
         Ok(NamedStrong::of(reader.reader.clone_of(&mut self.strong)?))
+    }
+
+    /// As [`Reader::alive`](crate::Reader::alive).
+    pub fn alive(&mut self, reader: &mut NamedReader<T, N>)
+        ensures same { (self.new ≡ self.old) × (reader.new ≡ reader.old) }
+        ensures alive { Contains reader.old.gone self.old.number → ⊥ }
+    {
+        reader.reader.alive(&mut self.strong);
     }
 }

@@ -1,5 +1,6 @@
 //! The tokens of a cell: its publisher, and its readers.
-ghost use Rattle.std.specs.Prelude.{◌≡◌};
+ghost use Rattle.std.specs.Prelude.{◌≡◌, ◌+◌};
+ghost use Rattle.cell_core.specs.Words.{notes};
 ghost use Rattle.counted_handles.specs.History.{IsHistory};
 ghost use Rattle.snapshot_cell.specs.Tokens.{IsLastOf};
 
@@ -13,6 +14,9 @@ pub const READERS: usize = 64;
 
 /// How many loads a reader can make (own).
 pub(crate) const LOADS: u64 = 1 << 40;
+
+/// How many weak owners a publisher can give (own).
+pub(crate) const NOTES: u64 = 1 << 32;
 
 /// One who loads. Contracts see its cell, the values that it has seen published, the grants that it has left, and the numbers that it has
 /// seen buried.
@@ -34,7 +38,8 @@ impl<T> Model for Reader<T> {
     ghost invariant = { λ a. IsReader a.badge.table_id a.badge.views a.left };
 }
 
-/// The one who publishes. Contracts see its cell, the values that are published, and the last one with its number.
+/// The one who publishes. Contracts see its cell, the values that are published, the last one with its number, and how many weak owners it
+/// has given.
 #[derive(Drop)]
 pub struct Publisher<T, C: Names<T>> {
     pub(crate) badge: Badge<View<T>>,
@@ -42,6 +47,7 @@ pub struct Publisher<T, C: Names<T>> {
     pub(crate) number: u64,
     pub(crate) last: Snapshot<T>,
     pub(crate) readers: usize,
+    pub(crate) noted: u64,
     pub(crate) names: PhantomData<C>,
 }
 
@@ -52,9 +58,9 @@ impl<T, C: Names<T>> Model for Publisher<T, C> {
 
     ghost coded = { publisher_coded T.code };
 
-    ghost view = { λ a. record { cell = a.badge.table_id; published = published_in a.badge.views; number = a.number; value = a.last.value } };
+    ghost view = { λ a. record { cell = a.badge.table_id; published = published_in a.badge.views; number = a.number; value = a.last.value; noted = a.noted } };
 
-    ghost invariant = { λ a. IsPublisher C.begins C.follows a.badge.table_id a.badge.id a.badge.views a.spare.table_id a.spare.views a.number a.last.value a.readers };
+    ghost invariant = { λ a. IsPublisher C.begins C.follows a.badge.table_id a.badge.id a.badge.views a.spare.table_id a.spare.views a.number a.last.value a.readers a.noted };
 }
 
 impl<T> Reader<T> {
@@ -74,5 +80,12 @@ impl<T, C: Names<T>> Publisher<T, C> {
         ensures last { IsLastOf self.now.published (record { number = self.now.number; value = self.now.value }) }
     {
         self.number
+    }
+
+    /// How many weak owners more it can give.
+    pub fn left(&self) -> u64
+        ensures { result + self.now.noted ≡ notes }
+    {
+        NOTES - self.noted
     }
 }

@@ -37,7 +37,7 @@ invariant_of-result g c =
     let host = host_of p inv.rest (inside.readers + 1) inside.badge.views c.end_named.new.badge.views told.0.0 told.0.1 begun inv.spare_whole told.0.2 in
     let home = c.give_back-spare.ensures.back (looked (lodged p inv.rest) told.0.0 told.0.1) inv.rest p.guests host in
     let like = like_again p inv.rest (inside.readers + 1) inside.badge.views c.give_back-spare.new.badge.views told.0.0 told.0.1 begun (omega arith) home.0 in
-    publisher_again g.C.Names.begins g.C.Follows.follows inside.badge.table_id c.give_back-spare.new.badge.table_id inside.badge.id c.give_back-spare.new.badge.id inside.badge.views c.give_back-spare.new.badge.views inside.spare.table_id c.give_back-spare.result.table_id inside.spare.views c.give_back-spare.result.views inside.number inside.last.value inside.readers told.0.1 inv
+    publisher_again g.C.Names.begins g.C.Follows.follows inside.badge.table_id c.give_back-spare.new.badge.table_id inside.badge.id c.give_back-spare.new.badge.id inside.badge.views c.give_back-spare.new.badge.views inside.spare.table_id c.give_back-spare.result.table_id inside.spare.views c.give_back-spare.result.views inside.number inside.last.value inside.readers inside.noted told.0.1 inv
     (c.give_back-spare.ensures.badges.0 ∙ c.end_named.ensures.badge.0 ∙ c.take_in.ensures.badge.0)
     (c.give_back-spare.ensures.badges.1 ∙ c.end_named.ensures.badge.1 ∙ c.take_in.ensures.badge.1)
     (c.give_back-spare.ensures.badges.2 ∙ sym c.give_back-spare.ensures.badges.0) like home.1
@@ -71,4 +71,4 @@ returns-in-None-clause-out g c =
     let like = like_again p inv.rest (inside.readers + 1) inside.badge.views c.give_back-spare.new.badge.views told.0.0 told.0.1 begun (omega arith) home.0 in
     let cell = c.give_back-spare.ensures.badges.0 ∙ c.end_named.ensures.badge.0 ∙ c.take_in.ensures.badge.0 in
     let published = ap published_in like ∙ sym (ap published_in inv.views_are) in
-    ((λ i. record { cell = cell i; published = published i; number = inside.number; value = inside.last.value }) ∙ c.publisher.view_is, told.1)
+    ((λ i. record { cell = cell i; published = published i; number = inside.number; value = inside.last.value; noted = inside.noted }) ∙ c.publisher.view_is, told.1)

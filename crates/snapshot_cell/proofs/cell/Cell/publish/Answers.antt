@@ -18,8 +18,8 @@ invariant_of-publisher-2 g c =
     let inv = c.publisher.invariant in
     let may = subst (λ s. g.C.Follows.follows s.value c.args.value) (sym c.publisher.view_is) c.requires.follows in
     let newer = c.in_ok-old.ensures.published inv.publishing (inv.views_are, inv.how, inv.whole) in
-    let made = publisher_next g.C.Names.begins g.C.Follows.follows before.badge.table_id c.publish.new.badge.table_id before.badge.id c.publish.new.badge.id before.badge.views c.publish.new.badge.views before.spare.table_id before.spare.views before.number before.last.value c.args.value before.readers inv c.publish.ensures.badge.0 c.publish.ensures.badge.1 may newer in
-    subst (λ v. IsPublisher g.C.Names.begins g.C.Follows.follows c.publish.new.badge.table_id c.publish.new.badge.id c.publish.new.badge.views before.spare.table_id before.spare.views (before.number + 1) v before.readers) (sym c.of-last.ensures) made
+    let made = publisher_next g.C.Names.begins g.C.Follows.follows before.badge.table_id c.publish.new.badge.table_id before.badge.id c.publish.new.badge.id before.badge.views c.publish.new.badge.views before.spare.table_id before.spare.views before.number before.last.value c.args.value before.readers before.noted inv c.publish.ensures.badge.0 c.publish.ensures.badge.1 may newer in
+    subst (λ v. IsPublisher g.C.Names.begins g.C.Follows.follows c.publish.new.badge.table_id c.publish.new.badge.id c.publish.new.badge.views before.spare.table_id before.spare.views (before.number + 1) v before.readers before.noted) (sym c.of-last.ensures) made
 
 pub returns-clause-published : goal.returns-clause-published
 returns-clause-published g c =
@@ -29,4 +29,4 @@ returns-clause-published g c =
     let is = c.publisher.view_is in
     let cell = c.publish.ensures.badge.0 ∙ ap (λ s. s.cell) is in
     let published = ap published_in newer.1 ∙ ap (λ l. l ++ c.args.value ∷ []) (sym (ap published_in inv.views_are) ∙ ap (λ s. s.published) is) in
-    λ i. record { cell = cell i; published = published i; number = ap (λ s. s.number + 1) is i; value = c.of-last.ensures i }
+    λ i. record { cell = cell i; published = published i; number = ap (λ s. s.number + 1) is i; value = c.of-last.ensures i; noted = ap (λ s. s.noted) is i }
