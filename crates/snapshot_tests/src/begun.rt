@@ -55,7 +55,8 @@ pub(crate) fn draw<'a, R: Abort, T: Drop, C: Names<T>>(
     reader: &mut Reader<T>,
 ) -> Strong<'a, T, C>
     requires { reader.old.cell ≡ cell.now }
-    ensures { reader.new.cell ≡ reader.old.cell }
+    ensures reader { reader.new.cell ≡ reader.old.cell }
+    ensures owner { result.table ≡ cell.now }
 {
     match cell.load(reader) {
         Ok(owner) => owner,
@@ -70,7 +71,8 @@ pub(crate) fn draw_by<'a, R: Abort, T: Drop, C: Names<T>>(
     readers: &mut Vec<Reader<T>>,
 ) -> Strong<'a, T, C>
     requires { All (λ r. r.cell ≡ cell.now) readers.old.items }
-    ensures { All (λ r. r.cell ≡ cell.now) readers.new.items }
+    ensures readers { All (λ r. r.cell ≡ cell.now) readers.new.items }
+    ensures owner { result.table ≡ cell.now }
 {
     let mut reader = readers.pop().expect(rt, "a reader");
     let grants = reader.left();

@@ -77,6 +77,18 @@ impl Ending {
         self.readers.push(reader).ok().expect(rt, "memory");
     }
 
+    /// A reader loads the last version, of which a weak owner is left that is never let go.
+    fn leak_weakly<R: Abort>(&mut self, rt: &R, alloc: Global) {
+        let mut reader = self.readers.pop().expect(rt, "a reader");
+        let mut owner = draw(rt, &self.cell, &mut reader);
+        let Ok(weak) = self.publisher.downgrade(&mut owner) else {
+            panic!(rt; "there is no weak owner");
+        };
+        drop(owner);
+        Box::leak(Box::new(alloc, weak).ok().expect(rt, "memory"));
+        self.readers.push(reader).ok().expect(rt, "memory");
+    }
+
     /// A reader is not given back.
     fn keep_back<R: Abort>(&mut self, rt: &R) {
         let reader = self.readers.pop().expect(rt, "a reader");
@@ -197,6 +209,21 @@ fn owner_is_out(rt: HostRuntime) {
     ending.load(&rt);
     assert_eq!(rt; ending.tally.drops(), 1);
     panic!(rt; "an owner is out")
+}
+
+// The same while a version has a weak owner, the last one or one before it, which is buried then.
+#[test]
+#[should_panic(expected = "a weak owner is out")]
+fn weak_owner_is_out(rt: HostRuntime) {
+    let mut ending = Ending::of(&rt, rt.alloc(), 2);
+    ending.leak_weakly(&rt, rt.alloc());
+    ending = ending.goes_on(&rt);
+    ending.load(&rt);
+    assert_eq!(rt; ending.tally.drops(), 1);
+    ending = ending.goes_on(&rt);
+    ending.load(&rt);
+    assert_eq!(rt; ending.tally.drops(), 2);
+    panic!(rt; "a weak owner is out")
 }
 
 /// Whether the newest version is the one that was published last.

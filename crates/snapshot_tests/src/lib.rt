@@ -1,5 +1,5 @@
 //! Tests of the cell on words that threads share: readers and a publisher at the same time, values that count their drops, an owner
-//! that is stopped in the middle of its release, slots that are all in use, and a cell's end.
+//! that is stopped in the middle of its release, slots that are all in use, weak owners, and a cell's end.
 #![tactic(auto)]
 
 #[cfg(test)]
@@ -20,3 +20,9 @@ mod players;
 mod stopped;
 #[cfg(test)]
 mod threads;
+#[cfg(test)]
+mod weak;
+#[cfg(test)]
+mod weak_players;
+#[cfg(test)]
+mod weak_threads;

@@ -12,7 +12,7 @@ use std::process::Abort;
 use std::sync::Arc;
 
 /// Numbers that rise from 1 on.
-struct Climbing;
+pub(crate) struct Climbing;
 
 impl Follows<u64> for Climbing {
     ghost follows = { λ value next. value < next };
@@ -23,12 +23,12 @@ impl Names<u64> for Climbing {
 }
 
 /// Whether an owner has this version.
-fn has(owner: &Strong<'_, u64, Climbing>, number: u64, value: u64) -> bool {
+pub(crate) fn has(owner: &Strong<'_, u64, Climbing>, number: u64, value: u64) -> bool {
     owner.number() == number && *owner.get() == value
 }
 
 /// Publishes a value behind the last version: the old one's owner.
-fn publish<'a, R: Abort>(
+pub(crate) fn publish<'a, R: Abort>(
     rt: &R,
     cell: &'a Cell<u64, Climbing>,
     publisher: &mut Publisher<u64, Climbing>,
@@ -36,7 +36,8 @@ fn publish<'a, R: Abort>(
 ) -> Strong<'a, u64, Climbing>
     requires cell { publisher.old.cell ≡ cell.now }
     requires follows { (publisher.old.number < 100) × (publisher.old.value < value) }
-    ensures { publisher.new ≡ published_next publisher.old value }
+    ensures publisher { publisher.new ≡ published_next publisher.old value }
+    ensures old { result.table ≡ cell.now }
 {
     match cell.publish(publisher, value) {
         Ok(old) => old,
@@ -65,7 +66,7 @@ fn newest_by<'a, R: Abort>(
 }
 
 /// The cell of numbers from 1 on, made again where its first making finds no memory.
-fn cell_of<R: Abort>(rt: &R, alloc: Global, readers: usize) -> Parts<u64, Climbing>
+pub(crate) fn cell_of<R: Abort>(rt: &R, alloc: Global, readers: usize) -> Parts<u64, Climbing>
     ensures publisher { (result.publisher.cell ≡ result.cell) × (result.publisher.number ≡ 0) × (result.publisher.value ≡ 1) }
     ensures readers { All (λ r. r.cell ≡ result.cell) result.readers.items }
 {

@@ -3,13 +3,13 @@ ghost use Rattle.std.specs.Prelude.{◌≡◌, ◌+◌, ◌<◌, ◌-◌, ◌^�
 
 use crate::begun::Named;
 use crate::counted::{Counted, Rising, Tally};
-use snapshot_cell::{NamedCell, NamedPublisher, NamedReader, NamedStrong, Naming};
+use snapshot_cell::{NamedCell, NamedPublisher, NamedReader, NamedStrong, NamedWeak, Naming};
 use std::alloc::Global;
 use std::process::Abort;
 use std::sync::Arc;
 
 /// How often a publisher that finds no slot goes on, at most.
-const TURNS: u64 = 10_000_000;
+pub(crate) const TURNS: u64 = 10_000_000;
 
 /// A reader that loads, at its cell.
 #[derive(Drop)]
@@ -120,6 +120,27 @@ impl<'a, N: Naming> Teller<'a, N> {
             Ok(old) => Ok(old),
             Err(refused) => Err(refused.value),
         }
+    }
+
+    /// A weak owner of an owner's version.
+    pub(crate) fn downgrade(
+        &mut self,
+        owner: &mut NamedStrong<'a, Counted, Rising, N>,
+    ) -> Option<NamedWeak<'a, Counted, Rising, N>>
+        ensures { self.new.publisher.number ≡ self.old.publisher.number }
+    {
+        self.publisher.downgrade(owner).ok()
+    }
+
+    /// A weak owner of an owner's version, which is let go: None where its release didn't bury it.
+    pub(crate) fn weaken(
+        &mut self,
+        mut owner: NamedStrong<'a, Counted, Rising, N>,
+    ) -> Option<NamedWeak<'a, Counted, Rising, N>>
+        ensures { self.new.publisher.number ≡ self.old.publisher.number }
+    {
+        let weak = self.downgrade(&mut owner)?;
+        (owner.release().buried() == Some(weak.number())).then_some(weak)
     }
 
     /// Whether all values up to this one are published, each in turn, and each old owner had the value of its number. Where there is
