@@ -248,11 +248,11 @@ pub same_replied : (first : List Record) (peer : Peer) (known later : List Versi
 same_replied first peer known later version request out octets said len replayed tells alone written gets =
     ⊎_elim
     (λ (e : said ≡ reads request).
-        got_replied first peer known later version request (take len out ∷ []) ForNothing replayed plain (subst (TellsAbout first peer known later version ForNothing) e (alone_about first peer known later version ForNothing said alone))
-        (messages ∙ ap (λ (p : Parsed). option_to_list (got_of peer.transport peer.may_update ForNothing version.zone p).reply) e))
+    got_replied first peer known later version request (take len out ∷ []) ForNothing replayed plain (subst (TellsAbout first peer known later version ForNothing) e (alone_about first peer known later version ForNothing said alone))
+    (messages ∙ ap (λ (p : Parsed). option_to_list (got_of peer.transport peer.may_update ForNothing version.zone p).reply) e))
     (λ (want : IsWant request said).
-        got_replied first peer known later version request (take len out ∷ []) ForReading replayed plain (wanted_about first peer known later version (reads request))
-        (messages ∙ ap (λ (g : Got). option_to_list g.reply) (wanted_got peer.transport peer.may_update ForNothing version.zone request said want)))
+    got_replied first peer known later version request (take len out ∷ []) ForReading replayed plain (wanted_about first peer known later version (reads request))
+    (messages ∙ ap (λ (g : Got). option_to_list g.reply) (wanted_got peer.transport peer.may_update ForNothing version.zone request said want)))
     tells
   where
     plain : IsNoQuery (reads request)
@@ -300,7 +300,7 @@ module _ (transport : Transport) (update : Update) (may : Bool) (out : List ℕ)
     told_said (refused is_code same) = (
       ForNothing,
       unmade_about first may known later old.held.last update fresh (known_about first later old new before saw same)
-      (λ zone taken acts changed. no_code_for (code_of old.held.last.zone update may) is_code (no_code old.held.last.zone zone update may taken acts)),
+          (λ zone taken acts changed. no_code_for (code_of old.held.last.zone update may) is_code (no_code old.held.last.zone zone update may taken acts)),
       ap (λ (g : Got). g.reply) (ap (λ c. answered transport (heading_of_update update) old.held.last.zone (act old.held.last.zone update) c) is_code) ∙ sym (ap Some written),
     )
     told_said (unchanged taken acts is_code same) = (
@@ -473,7 +473,7 @@ module _ (first : List Record) (peer : Peer) (before after : ReaderState Version
   judged_replied : (update : Update) (t : Told) → reads request ≡ SaysUpdate update → IsJudged first update peer.may_update before after t → take len out ≡ fit (coded (heading_of_update update) t.code) (limit_of peer.transport None) → IsReplied first peer before.seen after.seen request (take len out ∷ [])
   judged_replied update t reading (by_engine serials asks is updated) written =
       let s = told_said peer.transport update peer.may_update out len first before.seen after.seen updated.old updated.new t.code written updated.meets.latest updated.meets_again.latest (met_seen updated.met updated.new.held.published updated.meets_again.seen)
-          (no_older first before.seen updated.old.held.published updated.old.held.last updated.meets.begun updated.meets.latest) updated.told in
+      (no_older first before.seen updated.old.held.published updated.old.held.last updated.meets.begun updated.meets.latest) updated.told in
       update_replied first peer before.seen after.seen updated.old.held.last request out update len s.0 updated.meets.replayed reading s.1 s.2
   judged_replied update t reading (in_version version may replayed loaded gives none) written =
       update_replied first peer before.seen after.seen version request out update len ForNothing replayed reading
