@@ -28,11 +28,11 @@ pub sends_nothing : (old new : Option (List Datagram × List Datagram)) → new 
 sends_nothing None new same = tt
 sends_nothing (Some o) new same = same ∙ ap (λ l. Some (o.0, l)) (sym (append-nil o.1))
 
-module _ {T : Type 0} (IsReply : Peer → List T → List ℕ → List (List ℕ) → Type 0) where
+module _ {T : Type 0} (IsReply : Peer → List T → List T → List ℕ → List (List ℕ) → Type 0) where
   -- a reply of one message
-  pub replied_one : (peer : Peer) (request : List ℕ) (from : SocketAddr) (later : List T) (old : Option (List Datagram × List Datagram)) (faults : ℕ) (new : Option (List Datagram × List Datagram)) (more : ℕ) (message : List ℕ) → IsReply peer later request (message ∷ [])
-      → SendsOrFails old faults new more (message, from) → RepliesTo IsReply peer request from later old faults new more
-  replied_one peer request from later old faults new more message is (inl out) = record {
+  pub replied_one : (peer : Peer) (seen : List T) (request : List ℕ) (from : SocketAddr) (later : List T) (old : Option (List Datagram × List Datagram)) (faults : ℕ) (new : Option (List Datagram × List Datagram)) (more : ℕ) (message : List ℕ) → IsReply peer seen later request (message ∷ [])
+      → SendsOrFails old faults new more (message, from) → RepliesTo IsReply peer seen request from later old faults new more
+  replied_one peer seen request from later old faults new more message is (inl out) = record {
     messages = message ∷ [];
     reply = is;
     datagrams = (message, from) ∷ [];
@@ -41,7 +41,7 @@ module _ {T : Type 0} (IsReply : Peer → List T → List ℕ → List (List ℕ
     output = out.0;
     counted = out.1 ∙ count_none faults;
   }
-  replied_one peer request from later old faults new more message is (inr not) = record {
+  replied_one peer seen request from later old faults new more message is (inr not) = record {
     messages = message ∷ [];
     reply = is;
     datagrams = [];
@@ -52,8 +52,8 @@ module _ {T : Type 0} (IsReply : Peer → List T → List ℕ → List (List ℕ
   }
 
   -- a reply of none
-  pub replied_none : (peer : Peer) (request : List ℕ) (from : SocketAddr) (later : List T) (old : Option (List Datagram × List Datagram)) (faults : ℕ) → IsReply peer later request [] → RepliesTo IsReply peer request from later old faults old faults
-  replied_none peer request from later old faults is = record {
+  pub replied_none : (peer : Peer) (seen : List T) (request : List ℕ) (from : SocketAddr) (later : List T) (old : Option (List Datagram × List Datagram)) (faults : ℕ) → IsReply peer seen later request [] → RepliesTo IsReply peer seen request from later old faults old faults
+  replied_none peer seen request from later old faults is = record {
     messages = [];
     reply = is;
     datagrams = [];
@@ -63,7 +63,7 @@ module _ {T : Type 0} (IsReply : Peer → List T → List ℕ → List (List ℕ
     counted = count_none faults;
   }
 
-module _ {T : Type 0} (IsReply : Peer → List T → List ℕ → List (List ℕ) → Type 0) (addresses : List IpAddr) where
+module _ {T : Type 0} (IsReply : Peer → List T → List T → List ℕ → List (List ℕ) → Type 0) (addresses : List IpAddr) where
   -- no datagram is answered yet
   pub exchanged_none : (start : List T) (old : List Datagram × List Datagram) (faults : ℕ) → Exchanged IsReply addresses start old faults 0 start old faults
   exchanged_none start old faults = record {
@@ -92,7 +92,7 @@ module _ {T : Type 0} (IsReply : Peer → List T → List ℕ → List (List ℕ
         datagrams = s.datagrams ++ t.datagrams;
         failed = s.failed + t.failed;
         last = later;
-        exchanges = next s.exchanges (begins_more s.last seen later s.grown t.grows) t.asks t.reply t.sent refl refl refl;
+        exchanges = next s.exchanges (begins_more s.last seen t.before s.grown t.begun) t.grows t.asks t.reply t.sent refl refl refl;
         grown = begins_itself later;
         input = s.input ∙ ap (λ l. s.received ++ l) t.input ∙ sym (append_assoc s.received one new.0);
         output = t.output ∙ ap (λ l. l ++ t.datagrams) s.output ∙ append_assoc old.1 s.datagrams t.datagrams;
@@ -151,10 +151,10 @@ module _ {T : Type 0} (IsReply : Peer → List T → List ℕ → List (List ℕ
       (known.0, known.1, subst (λ (n : ℕ). Exchanged IsReply addresses start o faults n seen known.0 more) all known.2)
 
   -- a datagram that is received and answered
-  pub turn_made : (seen later : List T) (peer : Peer) (request : List ℕ) (from : SocketAddr) (a b c : Option (List Datagram × List Datagram)) (faults mid more : ℕ) → BeginsWith later seen → IsPeer addresses Udp from peer → Receives a b (request, from) → mid ≡ faults
-      → RepliesTo IsReply peer request from later b mid c more → IfSome a (λ o. TurnsBy IsReply addresses None seen o faults later c more)
-  turn_made seen later peer request from None b c faults mid more grows asks gives same r = tt
-  turn_made seen later peer request from (Some o) b c faults mid more grows asks gives same r =
+  pub turn_made : (seen before later : List T) (peer : Peer) (request : List ℕ) (from : SocketAddr) (a b c : Option (List Datagram × List Datagram)) (faults mid more : ℕ) → BeginsWith before seen → BeginsWith later before → IsPeer addresses Udp from peer → Receives a b (request, from) → mid ≡ faults
+      → RepliesTo IsReply peer before request from later b mid c more → IfSome a (λ o. TurnsBy IsReply addresses None seen o faults later c more)
+  turn_made seen before later peer request from None b c faults mid more begun grows asks gives same r = tt
+  turn_made seen before later peer request from (Some o) b c faults mid more begun grows asks gives same r =
       let out = subst (λ m. Sends m c r.datagrams) gives.2 r.output in (
         (gives.0, o.1 ++ r.datagrams),
         out,
@@ -165,6 +165,8 @@ module _ {T : Type 0} (IsReply : Peer → List T → List ℕ → List (List ℕ
           messages = r.messages;
           datagrams = r.datagrams;
           failed = r.failed;
+          before = before;
+          begun = begun;
           grows = grows;
           asks = asks;
           reply = r.reply;

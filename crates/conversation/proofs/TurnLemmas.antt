@@ -23,7 +23,7 @@ pub end_device : (broken : Broken) → Some (end_of broken) ≡ Some Device → 
 end_device IsSpent same = cc
 end_device Failed same = refl
 
-module _ {T : Type 0} (IsReply : List T → List ℕ → List (List ℕ) → Type 0) where
+module _ {T : Type 0} (IsReply : List T → List T → List ℕ → List (List ℕ) → Type 0) where
   -- no request is answered yet
   pub served_none : (start : List T) (old : List ℕ × List ℕ) → Served IsReply start old start old
   served_none start old = record { requests = []; octets = []; last = start; answers = none; grown = begins_itself start; input = refl; output = sym (append-nil old.1) }
@@ -34,7 +34,7 @@ module _ {T : Type 0} (IsReply : List T → List ℕ → List (List ℕ) → Typ
     requests = s.requests ++ t.request ∷ [];
     octets = s.octets ++ frames_of t.messages;
     last = later;
-    answers = next s.answers (begins_more s.last seen later s.grown t.grows) t.reply refl refl;
+    answers = next s.answers s.grown t.grows t.reply refl refl;
     grown = begins_itself later;
     input = s.input ∙ ap (λ l. frames_of s.requests ++ l) t.input ∙ sym (append_assoc (frames_of s.requests) (frame_of t.request) new.0) ∙ ap (λ l. l ++ new.0) (sym (frames_push s.requests t.request));
     output = t.output ∙ ap (λ l. l ++ frames_of t.messages) s.output ∙ append_assoc old.1 s.octets (frames_of t.messages);

@@ -10,12 +10,12 @@ use Rattle.conversation.specs.Served.{BeginsWith}
 use Rattle.conversation.specs.declared.udp.DatagramsEnd.{DatagramsEnd}
 use Rattle.conversation.specs.declared.udp.DatagramsEnd.TheVariants.{Done, Device, Spent}
 
--- what a reply is, by who asks, the list of what is known to be published, the request, and the reply's messages
-module _ {T : Type 0} (IsReply : Peer → List T → List ℕ → List (List ℕ) → Type 0) where
+-- what a reply is, by who asks, the list of what is known to be published before it and that of what is when it is made, the request, and the reply's messages
+module _ {T : Type 0} (IsReply : Peer → List T → List T → List ℕ → List (List ℕ) → Type 0) where
   -- a request's reply goes to who asked, by what is known then to be published; how many of its messages failed to be sent is counted
-  pub record RepliesTo (peer : Peer) (request : List ℕ) (from : SocketAddr) (later : List T) (old : Option (List Datagram × List Datagram)) (faults : ℕ) (new : Option (List Datagram × List Datagram)) (more : ℕ) : Type 0 where
+  pub record RepliesTo (peer : Peer) (seen : List T) (request : List ℕ) (from : SocketAddr) (later : List T) (old : Option (List Datagram × List Datagram)) (faults : ℕ) (new : Option (List Datagram × List Datagram)) (more : ℕ) : Type 0 where
     pub messages : List (List ℕ)
-    pub reply : IsReply peer later request messages
+    pub reply : IsReply peer seen later request messages
     pub datagrams : List Datagram
     pub failed : ℕ
     pub sent : AreSent from messages datagrams failed
@@ -23,13 +23,13 @@ module _ {T : Type 0} (IsReply : Peer → List T → List ℕ → List (List ℕ
     pub counted : more ≡ count_of faults failed
 
 -- the same, and the addresses that may update and transfer
-module _ {T : Type 0} (IsReply : Peer → List T → List ℕ → List (List ℕ) → Type 0) (addresses : List IpAddr) where
+module _ {T : Type 0} (IsReply : Peer → List T → List T → List ℕ → List (List ℕ) → Type 0) (addresses : List IpAddr) where
   -- datagrams that were received, those that were sent, how many failed to be, and what is known to be published then: each that was
   -- received has its reply, which goes to who sent it, as a peer by its address; and what was known before begins what is known
   pub data Exchanges (start : List T) : List Datagram → List Datagram → ℕ → List T → Type 0 where
     none : Exchanges start [] [] 0 start
-    next : {received more sent longer datagrams : List Datagram} {faults failed all : ℕ} {seen later : List T} {from : SocketAddr} {peer : Peer} {request : List ℕ} {messages : List (List ℕ)} → Exchanges start received sent faults seen
-        → BeginsWith later seen → IsPeer addresses Udp from peer → IsReply peer later request messages → AreSent from messages datagrams failed
+    next : {received more sent longer datagrams : List Datagram} {faults failed all : ℕ} {seen before later : List T} {from : SocketAddr} {peer : Peer} {request : List ℕ} {messages : List (List ℕ)} → Exchanges start received sent faults seen
+        → BeginsWith before seen → BeginsWith later before → IsPeer addresses Udp from peer → IsReply peer before later request messages → AreSent from messages datagrams failed
         → more ≡ received ++ (request, from) ∷ [] → longer ≡ sent ++ datagrams → all ≡ faults + failed → Exchanges start more longer all later
 
   -- from one state of the datagrams to another so many that were received have been answered
@@ -53,9 +53,11 @@ module _ {T : Type 0} (IsReply : Peer → List T → List ℕ → List (List ℕ
     pub messages : List (List ℕ)
     pub datagrams : List Datagram
     pub failed : ℕ
-    pub grows : BeginsWith later seen
+    pub before : List T
+    pub begun : BeginsWith before seen
+    pub grows : BeginsWith later before
     pub asks : IsPeer addresses Udp from peer
-    pub reply : IsReply peer later request messages
+    pub reply : IsReply peer before later request messages
     pub sent : AreSent from messages datagrams failed
     pub input : old.0 ≡ (request, from) ∷ new.0
     pub output : new.1 ≡ old.1 ++ datagrams

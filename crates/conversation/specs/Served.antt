@@ -8,13 +8,13 @@ use Rattle.conversation.specs.declared.stream.StreamEnd.TheVariants.{Clean, Torn
 abbrev pub BeginsWith : {T : Type 0} → List T → List T → Type 0
 BeginsWith {T} longer shorter = (more : List T) × (longer ≡ shorter ++ more)
 
--- what a reply is, by the list of what is known to be published, the request, and the reply's messages
-module _ {T : Type 0} (IsReply : List T → List ℕ → List (List ℕ) → Type 0) where
+-- what a reply is, by the list of what is known to be published before it and that of what is when it is made, the request, and the reply's messages
+module _ {T : Type 0} (IsReply : List T → List T → List ℕ → List (List ℕ) → Type 0) where
   -- requests, the frames of their replies in order, and what is known to be published then: of each reply it begins with what was known before
   pub data Answers (start : List T) : List (List ℕ) → List ℕ → List T → Type 0 where
     none : Answers start [] [] start
-    next : {requests more : List (List ℕ)} {octets longer : List ℕ} {seen later : List T} {request : List ℕ} {messages : List (List ℕ)} → Answers start requests octets seen
-        → BeginsWith later seen → IsReply later request messages → more ≡ requests ++ request ∷ [] → longer ≡ octets ++ frames_of messages → Answers start more longer later
+    next : {requests more : List (List ℕ)} {octets longer : List ℕ} {seen before later : List T} {request : List ℕ} {messages : List (List ℕ)} → Answers start requests octets seen
+        → BeginsWith before seen → BeginsWith later before → IsReply before later request messages → more ≡ requests ++ request ∷ [] → longer ≡ octets ++ frames_of messages → Answers start more longer later
 
   -- from one state of a stream to another all the frames that were read have been answered
   pub record Served (start : List T) (old : List ℕ × List ℕ) (seen : List T) (new : List ℕ × List ℕ) : Type 0 where

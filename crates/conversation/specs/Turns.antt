@@ -13,17 +13,17 @@ abbrev pub end_of : Broken → StreamEnd
 end_of IsSpent = Spent
 end_of Failed = Device
 
-module _ {T : Type 0} (IsReply : List T → List ℕ → List (List ℕ) → Type 0) where
+module _ {T : Type 0} (IsReply : List T → List T → List ℕ → List (List ℕ) → Type 0) where
   -- a request's reply is written, by what is known then to be published
   pub record Replies (seen : List T) (request : List ℕ) (later : List T) (old new : Option (List ℕ × List ℕ)) : Type 0 where
     pub messages : List (List ℕ)
-    pub reply : IsReply later request messages
+    pub reply : IsReply seen later request messages
     pub written : Takes old new (frames_of messages)
 
   -- a beginning of a request's reply is written
   pub record RepliesPartly (seen : List T) (request : List ℕ) (later : List T) (old new : Option (List ℕ × List ℕ)) : Type 0 where
     pub messages : List (List ℕ)
-    pub reply : IsReply later request messages
+    pub reply : IsReply seen later request messages
     pub front : List ℕ
     pub back : List ℕ
     pub whole : frames_of messages ≡ front ++ back
@@ -39,7 +39,7 @@ module _ {T : Type 0} (IsReply : List T → List ℕ → List (List ℕ) → Typ
     pub request : List ℕ
     pub messages : List (List ℕ)
     pub grows : BeginsWith later seen
-    pub reply : IsReply later request messages
+    pub reply : IsReply seen later request messages
     pub input : old.0 ≡ frame_of request ++ new.0
     pub output : new.1 ≡ old.1 ++ frames_of messages
 

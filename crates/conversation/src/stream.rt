@@ -40,8 +40,8 @@ pub trait Answering {
     /// Who asks.
     ghost peer: { Self → PeerAsking };
 
-    /// What the messages of a reply to a request are, by who asks and by such versions.
-    ghost is_reply: { PeerAsking → List Version → List ℕ → List (List ℕ) → Type 0 };
+    /// What the messages of a reply to a request are, by who asks, by such versions before the reply, and by those when it is made.
+    ghost is_reply: { PeerAsking → List Version → List Version → List ℕ → List (List ℕ) → Type 0 };
 
     /// Turns to another peer, who asks from an address.
     fn turn_to(&mut self, other: Peer, from: SocketAddr)
@@ -60,7 +60,7 @@ pub trait Answering {
         ensures same { peer self.new ≡ peer self.old }
         ensures grows { BeginsWith (seen self.new) (seen self.old) }
         ensures bound { IfOk result (λ len. IfSome len (λ n. (n ≤ message_limit) × (n ≤ length out.new))) }
-        ensures reply { IfOk result (λ len. is_reply (by_datagram (peer self.old)) (seen self.new) request.now (messages_in len out.new)) };
+        ensures reply { IfOk result (λ len. is_reply (by_datagram (peer self.old)) (seen self.old) (seen self.new) request.now (messages_in len out.new)) };
 
     /// Answers a request of a stream: writes the frames of the reply's messages, in their order, by way of buffers for a message and for
     /// a frame.

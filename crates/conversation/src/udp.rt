@@ -37,7 +37,7 @@ fn reply<R: Wait, A: Answering, D: Datagrams>(
 ) -> Result<(), Spent>
     requires { message_limit ≤ length out.old }
     ensures grows { BeginsWith (A.seen answering.new) (A.seen answering.old) }
-    ensures replied { OnOk result (RepliesTo A.is_reply (by_datagram (A.peer answering.old)) request.now from (A.seen answering.new) (D.datagrams datagrams.old) (D.failed datagrams.old) (D.datagrams datagrams.new) (D.failed datagrams.new)) }
+    ensures replied { OnOk result (RepliesTo A.is_reply (by_datagram (A.peer answering.old)) (A.seen answering.old) request.now from (A.seen answering.new) (D.datagrams datagrams.old) (D.failed datagrams.old) (D.datagrams datagrams.new) (D.failed datagrams.new)) }
     ensures spent { OnErr result (D.datagrams datagrams.new ≡ D.datagrams datagrams.old) }
     ensures same { OnErr result (D.failed datagrams.new ≡ D.failed datagrams.old) }
 {

@@ -60,7 +60,7 @@ impl Answering for Noting<'_> {
 
     ghost peer = { λ noting. noting.peer };
 
-    ghost is_reply = { λ _ _ _ _. Unit {0} };
+    ghost is_reply = { λ _ _ _ _ _. Unit {0} };
 
     #[tactic(auto, using(conversation::proofs::TurnLemmas::begins_itself))]
     fn turn_to(&mut self, other: Peer, _from: SocketAddr) {

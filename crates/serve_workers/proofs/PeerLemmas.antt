@@ -11,14 +11,14 @@ use Rattle.conversation.specs.declared.stream.StreamEnd.TheVariants.{Clean, Torn
 use Rattle.conversation.proofs.TurnLemmas.{begins_itself, begins_more}
 use Rattle.serve_workers.specs.ServedFor.{IsServedFor}
 
-module _ {T : Type 0} (IsReply : List T → List ℕ → List (List ℕ) → Type 0) where
+module _ {T : Type 0} (IsReply : List T → List T → List ℕ → List (List ℕ) → Type 0) where
   -- what is answered behind a list is answered behind what begins it
   answers_before : (before start last : List T) (requests : List (List ℕ)) (octets : List ℕ) → BeginsWith start before → Answers IsReply start requests octets last
       → (first : List T) × Answers IsReply before requests octets first × BeginsWith last first
   answers_before before start _ _ _ grows none = (before, none, grows)
-  answers_before before start _ _ _ grows (next {seen = seen} {later = later} answers more reply requests octets) =
+  answers_before before start _ _ _ grows (next {seen = seen} {before = known} {later = later} answers begun more reply requests octets) =
       let first = answers_before before start seen _ _ grows answers in
-      (later, next first.1 (begins_more first.0 seen later first.2 more) reply requests octets, begins_itself later)
+      (later, next first.1 (begins_more first.0 seen known first.2 begun) more reply requests octets, begins_itself later)
 
   served_before : (before start seen : List T) (old new : List ℕ × List ℕ) → BeginsWith start before → Served IsReply start old seen new → Served IsReply before old seen new
   served_before before start seen old new grows s =
@@ -51,7 +51,7 @@ module _ {T : Type 0} (IsReply : List T → List ℕ → List (List ℕ) → Typ
   ends_before Spent before start seen old new grows e = partly_before before start seen old new grows e
 
 -- a stream that is served as who is turned to is served for that one
-pub served_for : {T : Type 0} (IsReply : Peer → List T → List ℕ → List (List ℕ) → Type 0) (addresses : List IpAddr) (from : SocketAddr) (peer asked : Peer) (end : StreamEnd) (before start seen : List T) (old new : Option (List ℕ × List ℕ))
+pub served_for : {T : Type 0} (IsReply : Peer → List T → List T → List ℕ → List (List ℕ) → Type 0) (addresses : List IpAddr) (from : SocketAddr) (peer asked : Peer) (end : StreamEnd) (before start seen : List T) (old new : Option (List ℕ × List ℕ))
     → asked ≡ peer → IsPeer addresses Tcp from peer → BeginsWith start before → IfSome old (λ o. EndsAs (IsReply asked) end start o seen new) → IfSome old (λ o. IsServedFor IsReply addresses from end before o seen new)
 served_for IsReply addresses from peer asked end before start seen None new same is grows ends = tt
 served_for IsReply addresses from peer asked end before start seen (Some o) new same is grows ends =

@@ -150,6 +150,7 @@ fn serve_parts<
 ) -> Result<(), ServeFault>
     requires named { parts.cell ≡ N.cell }
     requires publisher { (parts.publisher.cell ≡ parts.cell) × (parts.publisher.number ≡ 0) }
+    requires notes { parts.publisher.noted ≡ 0 }
     requires readers { All (λ r. (r.cell ≡ parts.cell) × (0 < r.left)) parts.readers.items }
     requires count { vec_len parts.readers ≡ vec_len jobs + 1 }
     requires kept { keep ≤ KEPT }
@@ -203,6 +204,7 @@ fn serve_cell<
     Vec<VersionReader<N>>,
 )
     requires first { publisher.number ≡ 0 }
+    requires notes { publisher.noted ≡ 0 }
     requires grant { 0 < reader.left }
     requires kept { keep ≤ KEPT }
     requires empty { back.items ≡ [] }

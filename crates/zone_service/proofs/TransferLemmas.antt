@@ -61,8 +61,8 @@ pub never_spent : (P : Type 0) (result : Result (Unit {0}) Broken) → IfErr res
 never_spent P (Ok x) failed is = absurd (cc)
 never_spent P (Err broken) failed is = absurd (cc)
 
-module _ {T : Type 0} (IsReply : List T → List ℕ → List (List ℕ) → Type 0) (result : Result (Unit {0}) Broken) (seen : List T) (request : List ℕ) (later : List T) (messages : List (List ℕ)) (a b : Option (List ℕ × List ℕ))
-    (reply : IsReply later request messages) where
+module _ {T : Type 0} (IsReply : List T → List T → List ℕ → List (List ℕ) → Type 0) (result : Result (Unit {0}) Broken) (seen : List T) (request : List ℕ) (later : List T) (messages : List (List ℕ)) (a b : Option (List ℕ × List ℕ))
+    (reply : IsReply seen later request messages) where
   -- messages that are the reply are written
   pub reply_written : OnOk result (Takes a b (frames_of messages)) → OnOk result (Replies IsReply seen request later a b)
   reply_written = written_by result

@@ -1,5 +1,5 @@
 -- What a reader has seen published, and how it comes to see more (own).
-use Rattle.std.specs.Prelude.{◌≡◌, ◌⊎◌, ℕ, List}
+use Rattle.std.specs.Prelude.{◌≡◌, ◌⊎◌, ℕ, ◌+◌, ◌≤◌, List, length}
 use Rattle.dns_rdata.specs.Record.{Record}
 use Rattle.zone_tree.specs.Version.{Version}
 use Rattle.snapshot_cell.specs.Tokens.{ReaderState, IsLoad}
@@ -25,6 +25,10 @@ HasGone before after = (before.left ≡ 0) × (after ≡ before)
 -- a reader has loaded a version, and has seen more since then, perhaps (own)
 abbrev pub HasSeen : List Record → ReaderState Version → ReaderState Version → Version → Type 0
 HasSeen first before after version = (loaded : ReaderState Version) × HasLoaded first before loaded version × BeginsWith after.seen loaded.seen
+
+-- a version isn't older than the last of those that were known to be published (own)
+abbrev pub IsNoOlder : List Version → Version → Type 0
+IsNoOlder known version = length known ≤ version.number + 1
 
 -- no version can be had: a reader has no grant left, and stays as it was; or it has loaded one, but can't share it, or has no grant left for one of
 -- those since the asker's (own)

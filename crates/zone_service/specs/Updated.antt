@@ -22,7 +22,7 @@ use Rattle.serve_core.specs.declared.heading.Heading.{Heading}
 use Rattle.serve_core.specs.Served.{Want, ForNothing, ForReading, ForMaking}
 use Rattle.serve_core.specs.Heading.{header_alone, heading_of_update, heading_of_bad, coded}
 use Rattle.serve_core.specs.Transport.{limit_of}
-use Rattle.zone_service.specs.Known.{HasLoaded, HasMet}
+use Rattle.zone_service.specs.Known.{HasLoaded, HasMet, IsNoOlder}
 use Rattle.zone_service.specs.declared.answer.Told.{Told}
 use Rattle.zone_service.specs.declared.service_log.Serials.{Serials}
 
@@ -45,12 +45,13 @@ IsMadeBehind newer version update may =
     (zone : List Record) → verdict version.zone update may ≡ None → act version.zone update ≡ Some zone → zone ≢ version.zone
     → (next : Version) × (more : List Version) × (newer ≡ next ∷ more) × (next.zone ≡ zone)
 
--- an update is told about in a version that is known to be published when it is told, and what it makes of that one is known to be published behind it,
--- but where memory is wanted to make it; where memory is wanted to read it, it is told about in none (RFC 2136, 3; own)
-abbrev pub TellsOf : List Record → Bool → List Version → Version → Want → Update → Type 0
-TellsOf first may later version ForNothing update = (here : IsPublished first later version) × IsMadeBehind here.newer version update may
-TellsOf first may later version ForReading update = Unit {0}
-TellsOf first may later version ForMaking update = IsPublished first later version
+-- an update is told about in a version that is known to be published when it is told, and isn't older than the last that was known before, and what it
+-- makes of that one is known to be published behind it, but where memory is wanted to make it; where memory is wanted to read it, it is told about in
+-- none (RFC 2136, 3; own)
+abbrev pub TellsOf : List Record → Bool → List Version → List Version → Version → Want → Update → Type 0
+TellsOf first may known later version ForNothing update = IsNoOlder known version × (here : IsPublished first later version) × IsMadeBehind here.newer version update may
+TellsOf first may known later version ForReading update = Unit {0}
+TellsOf first may known later version ForMaking update = IsNoOlder known version × IsPublished first later version
 
 -- what is told of an update that was read, by whether its peer may update, and by what becomes of the reader of who answers: of a peer that may,
 -- or where no load is left, the code that an engine tells of it, with the serials of that engine's last version before it and after it, and all that

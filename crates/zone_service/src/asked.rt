@@ -145,7 +145,7 @@ impl<'a, 's, Z: FirstZone, N: Naming, L: ServiceLog> Asked<'a, 's, Z, N, L> {
         ensures peer { self.new.peer ≡ self.old.peer }
         ensures grows { BeginsWith {T = Version} self.new.reader.seen self.old.reader.seen }
         ensures bound { IfOk result (λ len. IfSome len (λ n. (n ≤ message_limit) × (n ≤ length out.new))) }
-        ensures replied { IfOk result (λ len. IsReplied Z.zone peer self.new.reader.seen request.now (messages_in len out.new)) }
+        ensures replied { IfOk result (λ len. IsReplied Z.zone peer self.old.reader.seen self.new.reader.seen request.now (messages_in len out.new)) }
         ensures spent { OnErr result (IsTransfer Z.zone peer request.now) }
     {
         match serve_one(
@@ -175,7 +175,7 @@ impl<'a, 's, Z: FirstZone, N: Naming, L: ServiceLog> Answering for Asked<'a, 's,
 
     ghost peer = { λ asked. asked.peer };
 
-    ghost is_reply = { λ peer later request messages. IsReplied Z.zone peer later request messages };
+    ghost is_reply = { λ peer known later request messages. IsReplied Z.zone peer known later request messages };
 
     #[tactic(auto, using(conversation::proofs::TurnLemmas::begins_itself))]
     fn turn_to(&mut self, other: Peer, from: SocketAddr) {
@@ -194,7 +194,7 @@ impl<'a, 's, Z: FirstZone, N: Naming, L: ServiceLog> Answering for Asked<'a, 's,
         ensures same { self.new.peer ≡ self.old.peer }
         ensures grows { BeginsWith {T = Version} self.new.reader.seen self.old.reader.seen }
         ensures bound { IfOk result (λ len. IfSome len (λ n. (n ≤ message_limit) × (n ≤ length out.new))) }
-        ensures reply { IfOk result (λ len. IsReplied Z.zone (by_datagram self.old.peer) self.new.reader.seen request.now (messages_in len out.new)) }
+        ensures reply { IfOk result (λ len. IsReplied Z.zone (by_datagram self.old.peer) self.old.reader.seen self.new.reader.seen request.now (messages_in len out.new)) }
         // What can't be read as a query is answered, or told as silence, whether a version can be loaded or not.
         ensures spent { OnErr result (HasNoAnswer Z.zone (by_datagram self.old.peer) request.now self.old.reader) }
     {

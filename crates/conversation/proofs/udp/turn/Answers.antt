@@ -16,7 +16,6 @@ returns-clause-grows g c = begins_more _ _ _ c.turn_to.ensures.grows c.reply-rep
 
 pub returns-clause-turns : goal.returns-clause-turns
 returns-clause-turns g c =
-    let grows = begins_more _ _ _ c.turn_to.ensures.grows c.reply-replied.ensures.grows in
     let turned = rw c.turn_to.ensures.other at c.in-Ok.ensures.replied in
     let replied = rw (datagram_same c.peer.result c.peer.ensures.over) at turned in
-    turn_made g.A.Answering.is_reply c.args.allowed.addresses.now _ _ _ _ _ _ _ _ _ _ _ grows c.peer.ensures c.in-Some.ensures.receives c.in-Some.ensures.same replied
+    turn_made g.A.Answering.is_reply c.args.allowed.addresses.now _ _ _ _ _ _ _ _ _ _ _ _ c.turn_to.ensures.grows c.reply-replied.ensures.grows c.peer.ensures c.in-Some.ensures.receives c.in-Some.ensures.same replied

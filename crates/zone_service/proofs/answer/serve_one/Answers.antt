@@ -14,6 +14,7 @@ use Rattle.zone_service.specs.Known.{HasSeen}
 use Rattle.zone_service.specs.Replied.{IsReplied}
 use Rattle.zone_service.proofs.KnownLemmas.{loads, loaded_latest, loaded_replay, has_seen, just_seen}
 use Rattle.zone_service.proofs.ReplyLemmas.{told_replied, update_limit, later_transfer, query_served, transfer_replied, chained_grows}
+use Rattle.zone_service.proofs.AboutLemmas.{no_older}
 use Rattle.zone_service.proofs.answer.serve_one.Goals as goal
 
 pub returns-then-is_update : goal.returns-then-is_update
@@ -81,10 +82,10 @@ returns g c =
     let permitted : is_permitted version.zone peer query ≡ true = ap (λ (v : Version). is_permitted v.zone peer query) (sym got) ∙ sym c.is_permitted.ensures ∙ c.if-not-is_permitted.false in
     let same : version ≡ c.in-Ok-share.shared = sym (c.in-Ok-share.ensures ∙ c.get-2.ensures) in
     subst (λ (v : Version). (is_permitted v.zone peer query ≡ true)
-    × ((replied : IsReplied first peer after.seen request (messages_to v.zone (changes_by (soa_of v.zone) chain) peer query)) × (replied.version ≡ v) × (replied.gone ≡ after.gone))
+    × ((replied : IsReplied first peer c.args.reader.now.seen after.seen request (messages_to v.zone (changes_by (soa_of v.zone) chain) peer query)) × (replied.version ≡ v) × (replied.gone ≡ after.gone))
     × (reads request ≡ Query query) × HasSeen first c.args.reader.now after v) same (
       permitted,
-      transfer_replied first peer c.load.new.reader after version request query chain (loaded_replay first _ _ c.in-Ok.strong load) (loaded_latest first _ _ c.in-Ok.strong load) asked permitted chained,
+      transfer_replied first peer c.args.reader.now.seen c.load.new.reader after version request query chain (no_older first c.args.reader.now.seen c.load.new.reader.seen version load.begun (loaded_latest first _ _ c.in-Ok.strong load)) (loaded_replay first _ _ c.in-Ok.strong load) (loaded_latest first _ _ c.in-Ok.strong load) asked permitted chained,
       asked,
       has_seen first c.args.reader.now c.load.new.reader after version (loads first _ _ c.in-Ok.strong load) (chained_grows first query version c.load.new.reader after chain chained),
     )

@@ -17,5 +17,5 @@ returns-in-Spent-clause-grows g c = vain_grows g.Z.FirstZone.zone c.args.self.no
 
 pub returns-in-Transfer-clause-replied : goal.returns-in-Transfer-clause-replied
 returns-in-Transfer-clause-replied g c =
-    let reply = subst (λ (v : Version). IsReplied g.Z.FirstZone.zone c.args.peer c.serve_one.new.reader.seen c.args.request.now (messages_to v.zone (changes_by (soa_of v.zone) c.in-Transfer.chain) c.args.peer c.in-Transfer.query)) (sym c.get.ensures) c.in-Transfer.ensures.1.0 in
-    subst (λ (l : List (List ℕ)). IsReplied g.Z.FirstZone.zone c.args.peer c.serve_one.new.reader.seen c.args.request.now l) (sym c.write_transfer.ensures.messages) reply
+    let reply = subst (λ (v : Version). IsReplied g.Z.FirstZone.zone c.args.peer c.args.self.now.reader.seen c.serve_one.new.reader.seen c.args.request.now (messages_to v.zone (changes_by (soa_of v.zone) c.in-Transfer.chain) c.args.peer c.in-Transfer.query)) (sym c.get.ensures) c.in-Transfer.ensures.1.0 in
+    subst (λ (l : List (List ℕ)). IsReplied g.Z.FirstZone.zone c.args.peer c.args.self.now.reader.seen c.serve_one.new.reader.seen c.args.request.now l) (sym c.write_transfer.ensures.messages) reply

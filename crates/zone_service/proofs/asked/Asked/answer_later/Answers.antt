@@ -31,12 +31,12 @@ returns-in-Updated-clause-broken g c = reply_broken _ c.write_frame-in-Updated.r
 
 pub returns-in-Transfer-clause-replied : goal.returns-in-Transfer-clause-replied
 returns-in-Transfer-clause-replied g c =
-    let reply = subst (λ (v : Version). IsReplied g.Z.FirstZone.zone c.args.self.now.peer c.serve_one.new.reader.seen c.args.request.now (messages_to v.zone (changes_by (soa_of v.zone) c.in-Transfer.chain) c.args.self.now.peer c.in-Transfer.query)) (sym c.get.ensures) c.in-Transfer.ensures.1.0 in
+    let reply = subst (λ (v : Version). IsReplied g.Z.FirstZone.zone c.args.self.now.peer c.args.self.now.reader.seen c.serve_one.new.reader.seen c.args.request.now (messages_to v.zone (changes_by (soa_of v.zone) c.in-Transfer.chain) c.args.self.now.peer c.in-Transfer.query)) (sym c.get.ensures) c.in-Transfer.ensures.1.0 in
     reply_written _ c.send_transfer.result _ _ _ _ _ _ reply c.send_transfer.ensures.whole
 
 pub returns-in-Transfer-clause-broken : goal.returns-in-Transfer-clause-broken
 returns-in-Transfer-clause-broken g c =
-    let reply = subst (λ (v : Version). IsReplied g.Z.FirstZone.zone c.args.self.now.peer c.serve_one.new.reader.seen c.args.request.now (messages_to v.zone (changes_by (soa_of v.zone) c.in-Transfer.chain) c.args.self.now.peer c.in-Transfer.query)) (sym c.get.ensures) c.in-Transfer.ensures.1.0 in
+    let reply = subst (λ (v : Version). IsReplied g.Z.FirstZone.zone c.args.self.now.peer c.args.self.now.reader.seen c.serve_one.new.reader.seen c.args.request.now (messages_to v.zone (changes_by (soa_of v.zone) c.in-Transfer.chain) c.args.self.now.peer c.in-Transfer.query)) (sym c.get.ensures) c.in-Transfer.ensures.1.0 in
     reply_broken _ c.send_transfer.result _ _ _ _ _ _ reply c.send_transfer.ensures.failed c.send_transfer.ensures.part
 
 pub returns-in-Reply-clause-spent : goal.returns-in-Reply-clause-spent

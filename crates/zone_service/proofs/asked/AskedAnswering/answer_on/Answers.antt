@@ -5,7 +5,7 @@ use Rattle.dns_message.specs.Request.{reads}
 use Rattle.conversation.proofs.TurnLemmas.{begins_more}
 use Rattle.zone_service.specs.declared.answer.Now.TheVariants.{Bytes, Later}
 use Rattle.zone_service.proofs.NowLemmas.{now_grows}
-use Rattle.zone_service.proofs.ReplyLemmas.{short_reply, silent_replied}
+use Rattle.zone_service.proofs.ReplyLemmas.{short_reply, silent_replied, stream_replied, stream_broken}
 use Rattle.zone_service.proofs.TransferLemmas.{takes_none, never_spent}
 use Rattle.zone_service.proofs.asked.AskedAnswering.answer_on.Goals as goal
 
@@ -16,7 +16,7 @@ write_frame-requires-clause-most g c =
     omega (arith, short, size)
 
 pub returns-in-Silent-clause-replied : goal.returns-in-Silent-clause-replied
-returns-in-Silent-clause-replied g c = record { messages = []; reply = silent_replied g.Z.FirstZone.zone _ _ c.args.request.now c.in-Silent.ensures.now.0; written = takes_none _ }
+returns-in-Silent-clause-replied g c = record { messages = []; reply = silent_replied g.Z.FirstZone.zone _ _ _ c.args.request.now c.in-Silent.ensures.now.0; written = takes_none _ }
 
 pub returns-in-Bytes-clause-spent : goal.returns-in-Bytes-clause-spent
 returns-in-Bytes-clause-spent g c = never_spent _ c.write_frame.result c.write_frame.ensures.failed
@@ -30,3 +30,13 @@ returns-in-Bytes-clause-grows g c = now_grows g.Z.FirstZone.zone _ c.args.reques
 pub returns-in-Later-clause-grows : goal.returns-in-Later-clause-grows
 returns-in-Later-clause-grows g c =
     begins_more _ _ _ (now_grows g.Z.FirstZone.zone _ c.args.request.now c.args.self.now.reader c.answer_now.new.reader c.answer_now.new.out Later c.in-Later.ensures.now) c.answer_later.ensures.grows
+
+pub returns-in-Later-clause-replied : goal.returns-in-Later-clause-replied
+returns-in-Later-clause-replied g c =
+    let grown = now_grows g.Z.FirstZone.zone _ c.args.request.now c.args.self.now.reader c.answer_now.new.reader c.answer_now.new.out Later c.in-Later.ensures.now in
+    stream_replied g.Z.FirstZone.zone _ c.args.self.now.reader.seen c.answer_now.new.reader.seen _ _ _ _ grown c.answer_later.result c.answer_later.ensures.replied
+
+pub returns-in-Later-clause-broken : goal.returns-in-Later-clause-broken
+returns-in-Later-clause-broken g c =
+    let grown = now_grows g.Z.FirstZone.zone _ c.args.request.now c.args.self.now.reader c.answer_now.new.reader c.answer_now.new.out Later c.in-Later.ensures.now in
+    stream_broken g.Z.FirstZone.zone _ c.args.self.now.reader.seen c.answer_now.new.reader.seen _ _ _ _ grown c.answer_later.result c.answer_later.ensures.broken
