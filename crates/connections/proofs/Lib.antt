@@ -1,0 +1,4 @@
+pub mod QueueLemmas
+pub mod FrameLemmas
+pub mod ToldLemmas
+pub mod GoingLemmas
