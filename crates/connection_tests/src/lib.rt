@@ -3,6 +3,7 @@
 #![tactic(auto)]
 
 #[cfg(test)]
+mod deadlines;
 mod echo;
 #[cfg(test)]
 mod pieces;

@@ -54,7 +54,7 @@ const CASES: [(bool, Behind); 5] = [
 fn connection(alloc: Global, may: bool, behind: Behind) -> Result<Link<Pieces, Both>, AllocError> {
     let from = SocketAddr::V4(SocketAddrV4::new(Ipv4Addr::new(192, 0, 2, 1), 5_353));
     let stream = Pieces::new(alloc, &[0, 1, b'a', 0, 1, b'b'], 2, behind)?;
-    Ok(Link::new(stream, alloc, Peer::over(Transport::Tcp, may), from))
+    Ok(Link::new(stream, alloc, Peer::over(Transport::Tcp, may), from, 0))
 }
 
 /// Serves the connections under some keys by a share each.
@@ -70,7 +70,7 @@ fn serve<R: Wait>(
     if room.is_empty() || out.len() < 65_535 {
         return Ok(());
     }
-    serve_ready(rt, rights, links, keys, next, room, out)
+    serve_ready(rt, rights, links, keys, next, 0, room, out)
 }
 
 /// Whether what was written on a connection is two octets as its peer's rights are; one that isn't there has ended.

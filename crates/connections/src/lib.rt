@@ -7,6 +7,7 @@
 #![tactic(auto)]
 
 mod answering;
+mod awaited;
 mod blocking;
 mod machine;
 mod queue;
@@ -15,6 +16,7 @@ mod stream;
 mod stream_end;
 
 pub use answering::{Answering, Messages, Reply};
+pub use awaited::Awaited;
 pub use blocking::{Blocking, Fault};
 pub use machine::{Broken, Conversation};
 pub use serve::{Flow, serve_some};

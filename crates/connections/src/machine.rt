@@ -5,9 +5,10 @@ ghost use Rattle.dns_message.specs.Message.{message_limit};
 ghost use Rattle.conversation.specs.Octets.{frames_of};
 ghost use Rattle.conversation.specs.Served.{BeginsWith};
 ghost use Rattle.conversation.specs.Turns.{Turn};
-ghost use Rattle.connections.specs.Kept.{nothing_kept, due, IsWaiting, messages_of};
+ghost use Rattle.connections.specs.Kept.{nothing_kept, due, IsWaiting, awaited, messages_of, one_passed, passed_behind};
 
 use crate::answering::{Answering, Messages, Reply};
+use crate::awaited::Awaited;
 use crate::queue::{LENGTH, Queue};
 use dns_message::take_frame;
 use std::alloc::{AllocError, Global};
@@ -32,16 +33,17 @@ pub struct Conversation<M: Messages> {
     held: Queue,
     ready: Queue,
     rest: Option<M>,
+    passed: u64,
 }
 
 impl<M: Messages> Model for Conversation<M> {
     ghost use Rattle.std.specs.Prelude.{[]};
-    ghost use Rattle.std.specs.Option.{option_map_or};
+    ghost use Rattle.std.specs.Option.{option_map_or, is_some};
     ghost use Rattle.connections.specs.Kept.{Kept};
 
     ghost Value = { Kept };
 
-    ghost view = { λ a. record { held = a.held; ready = a.ready; later = option_map_or M.left a.rest [] } };
+    ghost view = { λ a. record { held = a.held; ready = a.ready; later = option_map_or M.left a.rest []; making = is_some a.rest; passed = a.passed } };
 }
 
 impl<M: Messages> Conversation<M> {
@@ -53,6 +55,7 @@ impl<M: Messages> Conversation<M> {
             held: Queue::new(alloc),
             ready: Queue::new(alloc),
             rest: None,
+            passed: 0,
         }
     }
 
@@ -72,12 +75,24 @@ impl<M: Messages> Conversation<M> {
         self.ready.as_slice()
     }
 
-    /// The first of the octets that are to be written have been.
+    /// The first of the octets that are to be written have been. Where nothing is ready behind them, one more has passed.
     pub fn advance(&mut self, count: usize)
         requires { count ≤ length self.old.ready }
-        ensures { self.new ≡ record self.old { ready = drop count self.old.ready } }
+        ensures rest { self.new ≡ record self.old { ready = drop count self.old.ready; passed = self.new.passed } }
+        ensures passed { self.new.passed ≡ passed_behind (drop count self.old.ready) self.old.passed }
     {
         self.ready.advance(count);
+        if self.ready.is_empty() {
+            self.passed = self.passed.wrapping_add(1);
+        }
+    }
+
+    /// How many times its peer has brought something to its end, modulo 2^64: a request that came whole and is answered, or all that was
+    /// ready, taken. A mere octet, come or gone, doesn't count.
+    pub fn passed(&self) -> u64
+        ensures { result ≡ self.now.passed }
+    {
+        self.passed
     }
 
     /// Whether it waits for octets. Only then is more read: not while a request is held in whole, or anything is to be written.
@@ -85,6 +100,19 @@ impl<M: Messages> Conversation<M> {
         ensures { IsTrue result → IsWaiting self.now }
     {
         self.rest.is_none() && self.ready.is_empty() && take_frame(self.held.as_slice()).is_none()
+    }
+
+    /// What it waits for from its peer.
+    pub fn awaits(&self) -> Awaited
+        ensures { result ≡ awaited self.now }
+    {
+        if self.rest.is_some() || !self.ready.is_empty() {
+            return Awaited::Taking;
+        }
+        if !self.held.is_empty() {
+            return Awaited::Rest;
+        }
+        Awaited::Request
     }
 
     /// Whether octets are held.
@@ -108,6 +136,7 @@ impl<M: Messages> Conversation<M> {
         requires bound { (len : ℕ) → reply ≡ Reply.One len → (len ≤ message_limit) × (len ≤ length out.now) }
         ensures held { OnOk result (self.new.held ≡ self.old.held) }
         ensures queued { OnOk result (due self.new ≡ due self.old ++ frames_of (messages_of M.left reply out.now)) }
+        ensures passed { OnOk result (self.new.passed ≡ self.old.passed) }
         ensures same { OnErr result (self.new ≡ self.old) }
     {
         match reply {
@@ -135,6 +164,7 @@ impl<M: Messages> Conversation<M> {
         ensures peer { A.peer answering.new ≡ A.peer answering.old }
         ensures grows { BeginsWith (A.seen answering.new) (A.seen answering.old) }
         ensures turn { IfOk result (λ is_made. is_made ≡ true → Turn (A.is_reply (A.peer answering.old)) (A.seen answering.old) (self.old.held, due self.old) (A.seen answering.new) (self.new.held, due self.new)) }
+        ensures passed { IfOk result (λ is_made. is_made ≡ true → self.new.passed ≡ one_passed self.old.passed) }
         ensures none { IfOk result (λ is_made. is_made ≡ false → self.new ≡ self.old) }
         ensures broken { OnErr result (self.new ≡ self.old) }
     {
@@ -154,6 +184,7 @@ impl<M: Messages> Conversation<M> {
             Err(_) => return Err(Broken::NoMemory),
         }
         self.held.advance(count);
+        self.passed = self.passed.wrapping_add(1);
         Ok(true)
     }
 
@@ -162,6 +193,7 @@ impl<M: Messages> Conversation<M> {
         requires { message_limit ≤ length out.old }
         ensures held { self.new.held ≡ self.old.held }
         ensures ready { self.new.ready ≡ self.old.ready }
+        ensures passed { self.new.passed ≡ self.old.passed }
         ensures none { result ≡ None → (self.old.later ≡ []) × (self.new.later ≡ []) }
         ensures first { IfSome result (λ len. self.old.later ≡ take len out.new ∷ self.new.later) }
         ensures bound { IfSome result (λ len. (len ≤ length out.new) × (len ≤ message_limit)) }
@@ -184,6 +216,7 @@ impl<M: Messages> Conversation<M> {
         ensures held { OnOk result (self.new.held ≡ self.old.held) }
         ensures due { OnOk result (due self.new ≡ due self.old) }
         ensures whole { OnOk result (self.new.ready ≡ [] → self.new.later ≡ []) }
+        ensures passed { OnOk result (self.new.passed ≡ self.old.passed) }
     {
         if !self.ready.is_empty() {
             return Ok(());

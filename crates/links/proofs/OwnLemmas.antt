@@ -1,6 +1,6 @@
 -- What becomes of a connection over several shares, of it and of others.
-use Rattle.std.proofs.Common.{◌≡◌, ◌≢◌, refl, ℕ, List, Option, None, Some, Result, Ok, Err, OnOk, IfErr, option_map, sym, ◌∙◌, subst, inl, inr}
-use Rattle.std.proofs.lemmas.Bool.{cases_eq}
+use Rattle.std.proofs.Common.{◌≡◌, ◌≢◌, ◌==◌, refl, ℕ, Bool, true, false, if◌then◌else◌, List, Option, None, Some, Result, Ok, Err, OnOk, IfErr, option_map, sym, ◌∙◌, subst, inl, inr}
+use Rattle.std.proofs.lemmas.Bool.{cases_eq, eqb-true}
 use Rattle.serve_core.specs.declared.peer.Peer.{Peer}
 use Rattle.conversation.specs.Served.{BeginsWith}
 use Rattle.conversation.proofs.TurnLemmas.{begins_more}
@@ -8,6 +8,7 @@ use Rattle.connections.specs.Going.{Goes, Stops}
 use Rattle.connections.specs.declared.stream_end.StreamEnd.{StreamEnd}
 use Rattle.connections.proofs.ToldLemmas.{writes_itself, writes_more}
 use Rattle.connections.proofs.GoingLemmas.{goes_seen, goes_more, stops_more}
+use Rattle.links.specs.Deadlines.{IsBegun, begun_behind}
 use Rattle.links.specs.Links.{Seen, HasGone, HasEnded, OwnServed}
 
 -- what follows from what holds where a result is Ok, and where it is Err
@@ -19,25 +20,41 @@ pub err_follows : {A E : Type 0} {P Q : E → Type 0} (result : Result A E) → 
 err_follows (Ok value) step holds = tt
 err_follows (Err fault) step holds = step fault holds
 
+-- since when a peer is waited for, over two shares at one time
+pub begun_more : (now p begun q mid r later : ℕ) → IsBegun now p begun q mid → IsBegun now q mid r later → IsBegun now p begun r later
+begun_more now p begun q mid r later first (inl is) = inl is
+begun_more now p begun q mid r later (inl was) (inr then) = inl (then.1 ∙ was)
+begun_more now p begun q mid r later (inr first) (inr then) = inr (then.0 ∙ first.0, then.1 ∙ first.1)
+
+-- and over one
+by_test : (now passed begun more later : ℕ) (b : Bool) → (more == passed) ≡ b → later ≡ (if b then begun else now) → IsBegun now passed begun more later
+by_test now passed begun more later true test is = inr (eqb-true more passed test, is)
+by_test now passed begun more later false test is = inl is
+
+pub begun_once : (now passed begun more later : ℕ) → later ≡ begun_behind passed more begun now → IsBegun now passed begun more later
+begun_once now passed begun more later is = by_test now passed begun more later (more == passed) refl is
+
 module _ {T : Type 0} (IsReply : Peer → List T → List ℕ → List (List ℕ) → Type 0) where
   -- a connection isn't served, and maybe more is known
-  pub own_same : (seen later : List T) (link : Option Seen) → BeginsWith later seen → OwnServed IsReply seen link later link
-  own_same seen later None grows = tt
-  own_same seen later (Some a) grows = record {
+  pub own_same : (now : ℕ) (seen later : List T) (link : Option Seen) → BeginsWith later seen → OwnServed IsReply now seen link later link
+  own_same now seen later None grows = tt
+  own_same now seen later (Some a) grows = record {
     peer = refl;
     goes = goes_seen (IsReply a.peer) seen later a.told grows;
     written = writes_itself a.octets;
+    begun = inr (refl, refl);
   }
 
-  gone_more : (seen mid later : List T) (a b c : Seen) → HasGone IsReply seen a mid b → HasGone IsReply mid b later c → HasGone IsReply seen a later c
-  gone_more seen mid later a b c first then = record {
+  gone_more : (now : ℕ) (seen mid later : List T) (a b c : Seen) → HasGone IsReply now seen a mid b → HasGone IsReply now mid b later c → HasGone IsReply now seen a later c
+  gone_more now seen mid later a b c first then = record {
     peer = then.peer ∙ first.peer;
     goes = goes_more (IsReply a.peer) seen mid later a.told b.told c.told first.goes (subst (λ (peer : Peer). Goes (IsReply peer) mid b.told later c.told) first.peer then.goes);
     written = writes_more a.octets b.octets c.octets first.written then.written;
+    begun = begun_more now a.passed a.begun b.passed b.begun c.passed c.begun first.begun then.begun;
   }
 
-  ended_more : (seen mid later : List T) (a b : Seen) → HasGone IsReply seen a mid b → HasEnded IsReply mid b later → HasEnded IsReply seen a later
-  ended_more seen mid later a b first then = record {
+  ended_more : (now : ℕ) (seen mid later : List T) (a b : Seen) → HasGone IsReply now seen a mid b → HasEnded IsReply mid b later → HasEnded IsReply seen a later
+  ended_more now seen mid later a b first then = record {
     end = then.end;
     known = then.known;
     octets = then.octets;
@@ -57,14 +74,14 @@ module _ {T : Type 0} (IsReply : Peer → List T → List ℕ → List (List ℕ
   }
 
   -- one share behind the other
-  pub own_more : (seen mid later : List T) (a b c : Option Seen) → BeginsWith later mid → OwnServed IsReply seen a mid b → OwnServed IsReply mid b later c → OwnServed IsReply seen a later c
-  own_more seen mid later None None None grows first then = tt
-  own_more seen mid later None None (Some c) grows first then = absurd then
-  own_more seen mid later None (Some b) c grows first then = absurd first
-  own_more seen mid later (Some a) None None grows first then = ended_seen seen mid later a grows first
-  own_more seen mid later (Some a) None (Some c) grows first then = absurd then
-  own_more seen mid later (Some a) (Some b) None grows first then = ended_more seen mid later a b first then
-  own_more seen mid later (Some a) (Some b) (Some c) grows first then = gone_more seen mid later a b c first then
+  pub own_more : (now : ℕ) (seen mid later : List T) (a b c : Option Seen) → BeginsWith later mid → OwnServed IsReply now seen a mid b → OwnServed IsReply now mid b later c → OwnServed IsReply now seen a later c
+  own_more now seen mid later None None None grows first then = tt
+  own_more now seen mid later None None (Some c) grows first then = absurd then
+  own_more now seen mid later None (Some b) c grows first then = absurd first
+  own_more now seen mid later (Some a) None None grows first then = ended_seen seen mid later a grows first
+  own_more now seen mid later (Some a) None (Some c) grows first then = absurd then
+  own_more now seen mid later (Some a) (Some b) None grows first then = ended_more now seen mid later a b first then
+  own_more now seen mid later (Some a) (Some b) (Some c) grows first then = gone_more now seen mid later a b c first then
 
   -- a connection goes on, or ends, once its peer is turned to
   pub goes_as : (seen known later : List T) (peer mine : Peer) (a b : Option (List ℕ × List ℕ)) → mine ≡ peer → BeginsWith known seen → Goes (IsReply mine) known a later b → Goes (IsReply peer) seen a later b
@@ -77,21 +94,21 @@ module _ {T : Type 0} (IsReply : Peer → List T → List ℕ → List (List ℕ
 
   module _ {L : Type 0} (seen_as : L → Seen) where
     -- the connection under a key goes on
-    pub own_gone : (seen later : List T) (old new : Option L) (a b : L) → Some a ≡ old → new ≡ Some b → HasGone IsReply seen (seen_as a) later (seen_as b) → OwnServed IsReply seen (option_map seen_as old) later (option_map seen_as new)
-    own_gone seen later old new a b was is gone =
-        subst (λ (n : Option L). OwnServed IsReply seen (option_map seen_as old) later (option_map seen_as n)) (sym is) (subst (λ (o : Option L). OwnServed IsReply seen (option_map seen_as o) later (Some (seen_as b))) was gone)
+    pub own_gone : (now : ℕ) (seen later : List T) (old new : Option L) (a b : L) → Some a ≡ old → new ≡ Some b → HasGone IsReply now seen (seen_as a) later (seen_as b) → OwnServed IsReply now seen (option_map seen_as old) later (option_map seen_as new)
+    own_gone now seen later old new a b was is gone =
+        subst (λ (n : Option L). OwnServed IsReply now seen (option_map seen_as old) later (option_map seen_as n)) (sym is) (subst (λ (o : Option L). OwnServed IsReply now seen (option_map seen_as o) later (Some (seen_as b))) was gone)
 
     -- the connection under a key has ended
-    pub own_ended : (seen later : List T) (old new : Option L) (a : L) → Some a ≡ old → new ≡ None → HasEnded IsReply seen (seen_as a) later → OwnServed IsReply seen (option_map seen_as old) later (option_map seen_as new)
-    own_ended seen later old new a was is ended =
-        subst (λ (n : Option L). OwnServed IsReply seen (option_map seen_as old) later (option_map seen_as n)) (sym is) (subst (λ (o : Option L). OwnServed IsReply seen (option_map seen_as o) later None) was ended)
+    pub own_ended : (now : ℕ) (seen later : List T) (old new : Option L) (a : L) → Some a ≡ old → new ≡ None → HasEnded IsReply seen (seen_as a) later → OwnServed IsReply now seen (option_map seen_as old) later (option_map seen_as new)
+    own_ended now seen later old new a was is ended =
+        subst (λ (n : Option L). OwnServed IsReply now seen (option_map seen_as old) later (option_map seen_as n)) (sym is) (subst (λ (o : Option L). OwnServed IsReply now seen (option_map seen_as o) later None) was ended)
 
     -- the connection under one key more is served
-    pub own_each : (seen mid later : List T) (old before after : ℕ → Option L) (key : ℕ) → BeginsWith later mid → ((k : ℕ) → OwnServed IsReply seen (option_map seen_as (old k)) mid (option_map seen_as (before k)))
-        → OwnServed IsReply mid (option_map seen_as (before key)) later (option_map seen_as (after key)) → ((other : ℕ) → other ≢ key → after other ≡ before other) → (k : ℕ) → OwnServed IsReply seen (option_map seen_as (old k)) later (option_map seen_as (after k))
-    own_each seen mid later old before after key grows so_far own others = λ k.
-        let here : OwnServed IsReply mid (option_map seen_as (before k)) later (option_map seen_as (after k)) = elim (cases_eq k key) [
-          | inl same ↦ subst (λ (j : ℕ). OwnServed IsReply mid (option_map seen_as (before j)) later (option_map seen_as (after j))) (sym same) own
-          | inr differs ↦ subst (λ (o : Option L). OwnServed IsReply mid (option_map seen_as (before k)) later (option_map seen_as o)) (sym (others k differs)) (own_same mid later (option_map seen_as (before k)) grows)
+    pub own_each : (now : ℕ) (seen mid later : List T) (old before after : ℕ → Option L) (key : ℕ) → BeginsWith later mid → ((k : ℕ) → OwnServed IsReply now seen (option_map seen_as (old k)) mid (option_map seen_as (before k)))
+        → OwnServed IsReply now mid (option_map seen_as (before key)) later (option_map seen_as (after key)) → ((other : ℕ) → other ≢ key → after other ≡ before other) → (k : ℕ) → OwnServed IsReply now seen (option_map seen_as (old k)) later (option_map seen_as (after k))
+    own_each now seen mid later old before after key grows so_far own others = λ k.
+        let here : OwnServed IsReply now mid (option_map seen_as (before k)) later (option_map seen_as (after k)) = elim (cases_eq k key) [
+          | inl same ↦ subst (λ (j : ℕ). OwnServed IsReply now mid (option_map seen_as (before j)) later (option_map seen_as (after j))) (sym same) own
+          | inr differs ↦ subst (λ (o : Option L). OwnServed IsReply now mid (option_map seen_as (before k)) later (option_map seen_as o)) (sym (others k differs)) (own_same now mid later (option_map seen_as (before k)) grows)
         ] in
-        own_more seen mid later (option_map seen_as (old k)) (option_map seen_as (before k)) (option_map seen_as (after k)) grows (so_far k) here
+        own_more now seen mid later (option_map seen_as (old k)) (option_map seen_as (before k)) (option_map seen_as (after k)) grows (so_far k) here

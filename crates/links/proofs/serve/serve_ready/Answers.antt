@@ -9,12 +9,12 @@ use Rattle.links.proofs.serve.serve_ready.Goals.{then-serve_key+in-Ok, else-serv
 
 pub returns-in_err-reserve-clause-own : goal.returns-in_err-reserve-clause-own
 returns-in_err-reserve-clause-own g c = λ key.
-    own_same g.A.Answering.is_reply (g.A.Answering.seen c.args.answering.now) (g.A.Answering.seen c.args.answering.now) (option_map (seen_of g.S.Blocking.octets) (get c.args.links.now key)) (begins_itself _)
+    own_same g.A.Answering.is_reply c.args.now (g.A.Answering.seen c.args.answering.now) (g.A.Answering.seen c.args.answering.now) (option_map (seen_of g.S.Blocking.octets) (get c.args.links.now key)) (begins_itself _)
 
 pub loop-key-init : goal.loop-key-init
 loop-key-init g c = record {
   grows = begins_itself _;
-  own = λ key. own_same g.A.Answering.is_reply (g.A.Answering.seen c.args.answering.now) (g.A.Answering.seen c.args.answering.now) (option_map (seen_of g.S.Blocking.octets) (get c.args.links.now key)) (begins_itself _);
+  own = λ key. own_same g.A.Answering.is_reply c.args.now (g.A.Answering.seen c.args.answering.now) (g.A.Answering.seen c.args.answering.now) (option_map (seen_of g.S.Blocking.octets) (get c.args.links.now key)) (begins_itself _);
   next = begins_itself _;
   room = omega (arith, c.in_ok-reserve.ensures.ok);
 }
@@ -27,7 +27,7 @@ loop-key-preserved g c =
     let later = g.A.Answering.seen c.serve_key.new.answering in
     record {
       grows = begins_more _ _ _ so_far.grows c.serve_key.ensures.grows;
-      own = own_each g.A.Answering.is_reply (seen_of g.S.Blocking.octets) seen mid later (λ key. get c.args.links.now key) (λ key. get c.loop-key.links key) (λ key. get c.serve_key.new.links key) _ c.serve_key.ensures.grows so_far.own c.serve_key.ensures.own c.serve_key.ensures.others;
+      own = own_each g.A.Answering.is_reply (seen_of g.S.Blocking.octets) c.args.now seen mid later (λ key. get c.args.links.now key) (λ key. get c.loop-key.links key) (λ key. get c.serve_key.new.links key) _ c.serve_key.ensures.grows so_far.own c.serve_key.ensures.own c.serve_key.ensures.others;
       next = elim c.if-serve_key.branch [ then-serve_key+in-Ok w ↦ rw w.next-is (begins_more c.reserve.new.self.items c.loop-key.next.items w.push.new.self.items so_far.next (get_or c.args.keys.now c.loop-key.key-index 0 ∷ [], w.in-Ok.ensures.items)) | else-serve_key w ↦ rw w.next-is so_far.next ];
       room = elim c.if-serve_key.branch [ then-serve_key+in-Ok w ↦ rw w.next-is (omega (arith, w.in-Ok.ensures.len, w.push.ensures.capacity)) | else-serve_key w ↦ rw w.next-is (omega arith) ];
     }
