@@ -60,7 +60,7 @@ fn put(
 ) -> Result<(), Fail> {
     match links.insert(link) {
         Ok(_) => Ok(()),
-        Err(_) => Err("no memory")?,
+        Err(_) => return Err("no memory")?,
     }
 }
 
@@ -68,12 +68,12 @@ fn put(
 fn each_connection_has_its_time(rt: HostRuntime) -> Result<(), Fail> {
     let alloc = rt.alloc();
     let mut links = Slab::new(alloc);
-    // Under 0 nothing comes, under 1 half a request, under 2 a whole one, under 3 one whose reply is longer than what its peer takes.
+    // Under 0 nothing comes, under 1 half a request, under 2 a whole one, under 3 one that comes and goes octet by octet.
     put(&mut links, connection(alloc, &[], 1, 0)?)?;
     put(&mut links, connection(alloc, &[0, 9, b'a'], 1, 0)?)?;
     put(&mut links, connection(alloc, &[0, 1, b'a'], 9, 0)?)?;
     put(&mut links, connection(alloc, &[0, 1, b'a'], 1, 0)?)?;
-    // At 3 s octets come and go: only the whole request under 2 counts.
+    // At 3 s octets come and go: only whole requests and replies count, under 2 and 3.
     serve(&rt, alloc, &mut links, 20, 3 * SECOND)?;
     assert_eq!(rt; sweep(&mut links, LIMITS, 6 * SECOND), 0);
     // The rest of a request is waited for 7 s, from when the connection began.

@@ -1,9 +1,10 @@
 //! Tests of `connections`: conversations and streams in memory that are fed and drained in pieces, that would block, and that end in each
-//! way.
+//! way; and of `links`: connections of several peers, and those that take too long.
 #![tactic(auto)]
 
 #[cfg(test)]
 mod deadlines;
+#[cfg(test)]
 mod echo;
 #[cfg(test)]
 mod pieces;
