@@ -15,8 +15,17 @@ use std::test::Fail;
 
 /// One who gives for each request one octet: 1 for a peer that may update, else 0.
 #[derive(Drop)]
-struct Rights {
+pub(crate) struct Rights {
     peer: Peer,
+}
+
+impl Rights {
+    /// One who answers nobody yet.
+    pub(crate) fn new() -> Rights {
+        Rights {
+            peer: Peer::over(Transport::Udp, false),
+        }
+    }
 }
 
 impl Answering<Both> for Rights {
@@ -90,9 +99,7 @@ fn each_connection_has_the_rights_of_its_peer(rt: HostRuntime) -> Result<(), Fai
             return Err("no memory")?;
         }
     }
-    let mut rights = Rights {
-        peer: Peer::over(Transport::Udp, false),
-    };
+    let mut rights = Rights::new();
     let mut buffers = (
         vec![in rt.alloc(); 0; 512]?,
         vec![in rt.alloc(); 0; 65_535]?,

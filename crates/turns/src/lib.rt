@@ -8,10 +8,10 @@
 mod arrivals;
 mod readiness;
 mod tally;
-mod turns;
 mod waiting;
+mod worker;
 
 pub use arrivals::{Arrivals, Refusal};
 pub use readiness::{NotWatched, Readiness};
 pub use tally::Tally;
-pub use turns::{Plan, TurnEnd, Turns};
+pub use worker::{Plan, TurnEnd, Turns};

@@ -1,6 +1,7 @@
 //! Keys that wait for their turn.
 
 use std::alloc::{AllocError, Global};
+use std::mem;
 
 /// Keys that wait for their turn, in the order in which they came, each once.
 #[derive(Drop)]
@@ -39,7 +40,7 @@ impl Waiting {
 
     /// Lets all keys go to `taken`, which is empty, and which they then wait in no more.
     pub(crate) fn take(&mut self, taken: &mut Vec<usize>) {
-        std::mem::swap(&mut self.keys, taken);
+        mem::swap(&mut self.keys, taken);
         for key in taken.iter() {
             if let Some(is_in) = self.is_in.get_mut(*key) {
                 *is_in = false;

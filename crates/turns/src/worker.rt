@@ -96,9 +96,11 @@ impl<S: Blocking + Drop, M: Messages> Turns<S, M> {
         self.tally
     }
 
-    /// How many connections are open.
-    pub fn open(&self) -> usize {
-        self.links.len()
+    /// Its connections.
+    pub fn links(&self) -> &Slab<Link<S, M>>
+        ensures { result.now ≡ self.now.links }
+    {
+        &self.links
     }
 
     /// How long is waited at most: not at all where something could be done at once.
@@ -225,7 +227,7 @@ impl<S: Blocking + Drop, M: Messages> Turns<S, M> {
             &mut self.room,
             &mut self.out,
         );
-        let ended = (open - self.links.len()) as u64;
+        let ended = open.saturating_sub(self.links.len()) as u64;
         self.tally.ended = self.tally.ended.saturating_add(ended);
         for key in self.next.iter() {
             self.waiting.put(*key);
