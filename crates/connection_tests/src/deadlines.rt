@@ -48,16 +48,22 @@ fn serve<R: Wait>(
         if room.is_empty() || out.len() < 65_535 {
             return Ok(());
         }
-        serve_ready(rt, &mut echo, links, &[0, 1, 2, 3], &mut next, now, &mut room, &mut out)?;
+        serve_ready(
+            rt,
+            &mut echo,
+            links,
+            &[0, 1, 2, 3],
+            &mut next,
+            now,
+            &mut room,
+            &mut out,
+        )?;
     }
     Ok(())
 }
 
 /// Puts a connection into a slab, under its next key.
-fn put(
-    links: &mut Slab<Link<Pieces, Both>>,
-    link: Link<Pieces, Both>,
-) -> Result<(), Fail> {
+fn put(links: &mut Slab<Link<Pieces, Both>>, link: Link<Pieces, Both>) -> Result<(), Fail> {
     match links.insert(link) {
         Ok(_) => Ok(()),
         Err(_) => return Err("no memory")?,

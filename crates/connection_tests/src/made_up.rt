@@ -82,7 +82,10 @@ fn comers(alloc: Global, count: u8, octets: &[u8], behind: Behind) -> Result<Com
     let mut left = Vec::new(alloc);
     for at in 0..count {
         let most = 1 + usize::from(at % 3);
-        left.push((Pieces::new(alloc, octets, most, behind)?, address(1 + at % 2)))?;
+        left.push((
+            Pieces::new(alloc, octets, most, behind)?,
+            address(1 + at % 2),
+        ))?;
     }
     Ok(Comers {
         left,
@@ -117,7 +120,10 @@ fn turns(
     let mut places = Vec::new(rt.alloc());
     places.push(comers)?;
     for _turn in 0..count {
-        if worker.turn(rt, teller, plan, &mut places, &mut rights).is_err() {
+        if worker
+            .turn(rt, teller, plan, &mut places, &mut rights)
+            .is_err()
+        {
             return Err("a turn has failed")?;
         }
     }

@@ -34,11 +34,7 @@ fn sweep_key<S: Drop, M: Messages>(
 
 /// Ends the connections that are over at a time, in nanoseconds of the clock by which they have begun; and gives how many these were. The others
 /// stay as they were.
-pub fn sweep<S: Drop, M: Messages>(
-    links: &mut Slab<Link<S, M>>,
-    limits: Limits,
-    now: u64,
-) -> usize
+pub fn sweep<S: Drop, M: Messages>(links: &mut Slab<Link<S, M>>, limits: Limits, now: u64) -> usize
     ensures swept { (key : ℕ) → get links.new key ≡ kept_at limits now (get links.old key) }
     ensures ended { slab_len links.new + result ≡ slab_len links.old }
 {

@@ -149,7 +149,10 @@ impl<S: Blocking + Drop, M: Messages> Turns<S, M> {
             return;
         }
         let peer = plan.allowed.peer(from, Transport::Tcp);
-        match self.links.insert(Link::new(stream, self.alloc, peer, from, now)) {
+        match self
+            .links
+            .insert(Link::new(stream, self.alloc, peer, from, now))
+        {
             Ok(key) => {
                 self.tally.begun = self.tally.begun.saturating_add(1);
                 self.waiting.put(key);

@@ -169,8 +169,7 @@ impl<'a, 's, Z: FirstZone, N: Naming, L: ServiceLog> Replies<'a, 's, Z, N, L> {
 }
 
 impl<'a, 's, Z: FirstZone, N: Naming, L: ServiceLog> Answering<Transfer<Z, N>>
-    for Replies<'a, 's, Z, N, L>
-{
+    for Replies<'a, 's, Z, N, L> {
     ghost seen = { λ replies. replies.reader.seen };
 
     ghost peer = { λ replies. replies.peer };

@@ -54,7 +54,7 @@ fn write_from<Z: FirstZone, N: Naming>(
     ensures message { MatchOption result
         (messages_from newest.now.last.zone (changes_in newest.now query.now.serial) query.now is_begun left ≡ [])
         (λ r. messages_from newest.now.last.zone (changes_in newest.now query.now.serial) query.now is_begun left
-            ≡ take r.0 out.new ∷ messages_from newest.now.last.zone (changes_in newest.now query.now.serial) query.now true r.1) }
+        ≡ take r.0 out.new ∷ messages_from newest.now.last.zone (changes_in newest.now query.now.serial) query.now true r.1) }
     ensures len { IfSome result (λ r. r.0 ≤ MAX_MESSAGE) }
     ensures fewer { IfSome result (λ r. r.1 ≤ left) }
 {
