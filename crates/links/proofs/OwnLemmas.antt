@@ -9,7 +9,7 @@ use Rattle.connections.specs.declared.stream_end.StreamEnd.{StreamEnd}
 use Rattle.connections.proofs.ToldLemmas.{writes_itself, writes_more}
 use Rattle.connections.proofs.GoingLemmas.{goes_seen, goes_more, stops_more}
 use Rattle.links.specs.Deadlines.{IsBegun, begun_behind}
-use Rattle.links.specs.Links.{Seen, HasGone, HasEnded, OwnServed}
+use Rattle.links.specs.Links.{Seen, told_of, HasGone, HasEnded, OwnServed}
 
 -- what follows from what holds where a result is Ok, and where it is Err
 pub ok_follows : {A E P Q : Type 0} (result : Result A E) → (P → Q) → OnOk result P → OnOk result Q
@@ -40,7 +40,7 @@ module _ {T : Type 0} (IsReply : Peer → List T → List ℕ → List (List ℕ
   own_same now seen later None grows = tt
   own_same now seen later (Some a) grows = record {
     peer = refl;
-    goes = goes_seen (IsReply a.peer) seen later a.told grows;
+    goes = goes_seen (IsReply a.peer) seen later (told_of a) grows;
     written = writes_itself a.octets;
     begun = inr (refl, refl);
   }
@@ -48,9 +48,9 @@ module _ {T : Type 0} (IsReply : Peer → List T → List ℕ → List (List ℕ
   gone_more : (now : ℕ) (seen mid later : List T) (a b c : Seen) → HasGone IsReply now seen a mid b → HasGone IsReply now mid b later c → HasGone IsReply now seen a later c
   gone_more now seen mid later a b c first then = record {
     peer = then.peer ∙ first.peer;
-    goes = goes_more (IsReply a.peer) seen mid later a.told b.told c.told first.goes (subst (λ (peer : Peer). Goes (IsReply peer) mid b.told later c.told) first.peer then.goes);
+    goes = goes_more (IsReply a.peer) seen mid later (told_of a) (told_of b) (told_of c) first.goes (subst (λ (peer : Peer). Goes (IsReply peer) mid (told_of b) later (told_of c)) first.peer then.goes);
     written = writes_more a.octets b.octets c.octets first.written then.written;
-    begun = begun_more now a.passed a.begun b.passed b.begun c.passed c.begun first.begun then.begun;
+    begun = begun_more now a.kept.passed a.begun b.kept.passed b.begun c.kept.passed c.begun first.begun then.begun;
   }
 
   ended_more : (now : ℕ) (seen mid later : List T) (a b : Seen) → HasGone IsReply now seen a mid b → HasEnded IsReply mid b later → HasEnded IsReply seen a later
@@ -59,7 +59,7 @@ module _ {T : Type 0} (IsReply : Peer → List T → List ℕ → List (List ℕ
     known = then.known;
     octets = then.octets;
     grown = then.grown;
-    stops = stops_more (IsReply a.peer) then.end seen mid then.known a.told b.told then.octets first.goes (subst (λ (peer : Peer). Stops (IsReply peer) then.end mid b.told then.known then.octets) first.peer then.stops);
+    stops = stops_more (IsReply a.peer) then.end seen mid then.known (told_of a) (told_of b) then.octets first.goes (subst (λ (peer : Peer). Stops (IsReply peer) then.end mid (told_of b) then.known then.octets) first.peer then.stops);
     written = writes_more a.octets b.octets then.octets first.written then.written;
   }
 

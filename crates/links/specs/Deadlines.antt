@@ -26,17 +26,17 @@ begun_behind passed more begun now = if more == passed then begun else now
 abbrev pub IsBegun : ℕ → ℕ → ℕ → ℕ → ℕ → Type 0
 IsBegun now passed begun more later = (later ≡ now) ⊎ ((more ≡ passed) × (later ≡ begun))
 
+-- since when a connection that waits for a request does so
+abbrev pub idle_by : Awaited → ℕ → Option ℕ
+idle_by Request begun = Some begun
+idle_by Rest begun = None
+idle_by Taking begun = None
+
 module _ {S M : Type 0} where
   -- what a sweep leaves under a key
   abbrev pub kept_at : Limits → ℕ → Option (Link S M) → Option (Link S M)
   kept_at limits now None = None
   kept_at limits now (Some link) = if is_over limits now link.begun link.conversation then None else Some link
-
-  -- since when a connection that waits for a request does so
-  abbrev pub idle_by : Awaited → ℕ → Option ℕ
-  idle_by Request begun = Some begun
-  idle_by Rest begun = None
-  idle_by Taking begun = None
 
   -- since when the connection under a key, if there is one, is idle
   abbrev pub idle_since : Option (Link S M) → Option ℕ

@@ -1,10 +1,9 @@
 //! A worker's connections, and its turns.
-ghost use Rattle.std.specs.Prelude.{◌≡◌, ◌<◌, ◌≤◌, ℕ, length, option_map, OnErr};
+ghost use Rattle.std.specs.Prelude.{◌≡◌, ◌≤◌, ℕ, length, OnOk};
 ghost use Rattle.dns_message.specs.Message.{message_limit};
 ghost use Rattle.conversation.specs.Served.{BeginsWith};
-ghost use Rattle.slab.specs.Slab.{get};
-ghost use Rattle.links.specs.Links.{seen_of};
-ghost use Rattle.turns.specs.Steps.{Steps};
+ghost use Rattle.links.specs.Links.{OwnServed};
+ghost use Rattle.turns.specs.Steps.{seen_under, Moves, HasTurned};
 
 use crate::arrivals::{Arrivals, Refusal};
 use crate::readiness::Readiness;
@@ -115,7 +114,9 @@ impl<S: Blocking + Drop, M: Messages> Turns<S, M> {
     }
 
     /// Marks what was told to be ready: connections, and where others may come in.
-    fn mark(&mut self) {
+    fn mark(&mut self)
+        ensures { self.new.links ≡ self.old.links }
+    {
         for key in self.told.iter() {
             let place = usize::MAX - *key;
             match self.may_come.get_mut(place) {
@@ -134,7 +135,9 @@ impl<S: Blocking + Drop, M: Messages> Turns<S, M> {
         stream: S,
         from: SocketAddr,
         now: u64,
-    ) {
+    )
+        ensures { Moves plan.entry.allowed.addresses.now (seen_under S.octets self.old.links) (seen_under S.octets self.new.links) }
+    {
         match make_room(&mut self.links, plan.places) {
             Room::Free => {}
             Room::Made(_) => self.tally.evicted = self.tally.evicted.saturating_add(1),
@@ -168,7 +171,9 @@ impl<S: Blocking + Drop, M: Messages> Turns<S, M> {
         plan: Plan<'_>,
         arrivals: &mut L,
         now: u64,
-    ) -> Result<bool, TurnEnd> {
+    ) -> Result<bool, TurnEnd>
+        ensures { Moves plan.entry.allowed.addresses.now (seen_under S.octets self.old.links) (seen_under S.octets self.new.links) }
+    {
         for _taken in 0..ARRIVALS {
             match arrivals.take() {
                 Ok((stream, from)) => self.begin(poll, plan, stream, from, now),
@@ -192,7 +197,9 @@ impl<S: Blocking + Drop, M: Messages> Turns<S, M> {
         plan: Plan<'_>,
         places: &mut [L],
         now: u64,
-    ) -> Result<(), TurnEnd> {
+    ) -> Result<(), TurnEnd>
+        ensures { Moves plan.entry.allowed.addresses.now (seen_under S.octets self.old.links) (seen_under S.octets self.new.links) }
+    {
         if now < self.shut_until {
             return Ok(());
         }
@@ -215,7 +222,10 @@ impl<S: Blocking + Drop, M: Messages> Turns<S, M> {
         rt: &R,
         answering: &mut A,
         now: u64,
-    ) -> Result<(), TurnEnd> {
+    ) -> Result<(), TurnEnd>
+        ensures grows { BeginsWith (A.seen answering.new) (A.seen answering.old) }
+        ensures own { (key : ℕ) → OwnServed A.is_reply now (A.seen answering.old) (seen_under S.octets self.old.links key) (A.seen answering.new) (seen_under S.octets self.new.links key) }
+    {
         self.served.clear();
         self.waiting.take(&mut self.served);
         self.next.clear();
@@ -239,7 +249,9 @@ impl<S: Blocking + Drop, M: Messages> Turns<S, M> {
     }
 
     /// Ends the connections that are over, once a second.
-    fn sweep(&mut self, plan: Plan<'_>, now: u64) {
+    fn sweep(&mut self, plan: Plan<'_>, now: u64)
+        ensures { Moves plan.entry.allowed.addresses.now (seen_under S.octets self.old.links) (seen_under S.octets self.new.links) }
+    {
         if now.saturating_sub(self.swept) < SECOND {
             return;
         }
@@ -261,7 +273,7 @@ impl<S: Blocking + Drop, M: Messages> Turns<S, M> {
         answering: &mut A,
     ) -> Result<(), TurnEnd>
         ensures grows { BeginsWith (A.seen answering.new) (A.seen answering.old) }
-        ensures steps { Steps A.is_reply plan.entry.allowed.addresses.now (A.seen answering.old) (λ key. option_map (seen_of S.octets) (get self.old.links key)) (A.seen answering.new) (λ key. option_map (seen_of S.octets) (get self.new.links key)) }
+        ensures turned { OnOk result (HasTurned A.is_reply plan.entry.allowed.addresses.now (A.seen answering.old) (seen_under S.octets self.old.links) (A.seen answering.new) (seen_under S.octets self.new.links)) }
     {
         let Ok(now) = poll.wait(self.patience(), &mut self.told) else {
             return Err(TurnEnd::Device);
