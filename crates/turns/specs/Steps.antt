@@ -24,15 +24,16 @@ pub record HasBegun (allowed : List IpAddr) (new : Seen) : Type 0 where
   pub kept : new.kept ≡ nothing_kept
 
 -- places are taken and given back, by what contracts see under each key: a connection begins under a key that had none; the one that is idle
--- longest gives its place to another; those that are over at a time do so
+-- longest gives its place to another; those that are over at a time do so; or all rests
 pub data Move (allowed : List IpAddr) (old new : ℕ → Option Seen) : Type 0 where
   begins : (key : ℕ) (link : Seen) → old key ≡ None → new key ≡ Some link → HasBegun allowed link → ((other : ℕ) → other ≢ key → new other ≡ old other) → Move allowed old new
   gives : (key : ℕ) → IsLeast (λ k. idle_seen (old k)) (Some key) → new key ≡ None → ((other : ℕ) → other ≢ key → new other ≡ old other) → Move allowed old new
+  rests : ((key : ℕ) → new key ≡ old key) → Move allowed old new
   over : (limits : Limits) (now : ℕ) → ((key : ℕ) → new key ≡ kept_seen limits now (old key)) → Move allowed old new
 
 -- so many such moves, one behind the other
 pub data Moves (allowed : List IpAddr) (old : ℕ → Option Seen) : (ℕ → Option Seen) → Type 0 where
-  stay : {new : ℕ → Option Seen} → ((key : ℕ) → new key ≡ old key) → Moves allowed old new
+  stay : Moves allowed old old
   move : {between new : ℕ → Option Seen} → Moves allowed old between → Move allowed between new → Moves allowed old new
 
 -- what a reply is, by who asks, the list of what is known to be published, the request, and the reply's messages; and who may update and

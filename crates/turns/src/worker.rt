@@ -1,17 +1,16 @@
 //! A worker's connections, and its turns.
-ghost use Rattle.std.specs.Prelude.{◌≡◌, ◌≤◌, ℕ, length, OnOk};
+ghost use Rattle.std.specs.Prelude.{◌≡◌, ◌<◌, ◌≤◌, ℕ, length, OnOk};
 ghost use Rattle.dns_message.specs.Message.{message_limit};
 ghost use Rattle.conversation.specs.Served.{BeginsWith};
 ghost use Rattle.links.specs.Links.{OwnServed};
 ghost use Rattle.turns.specs.Steps.{seen_under, Moves, HasTurned};
 
 use crate::arrivals::{Arrivals, Refusal};
-use crate::readiness::Readiness;
+use crate::readiness::{NotWatched, Readiness};
 use crate::tally::Tally;
 use crate::waiting::Waiting;
 use connections::{Answering, Blocking, Messages};
 use conversation::Allowed;
-use dns_message::MAX_LIMIT;
 use links::{Limits, Link, Room, make_room, serve_ready, sweep};
 use serve_core::Transport;
 use slab::Slab;
@@ -24,9 +23,6 @@ const SECOND: u64 = 1_000_000_000;
 
 /// How many connections a place where they come in gives at a turn, at most (own).
 const ARRIVALS: usize = 16;
-
-/// How many octets a read takes at most (own).
-const ROOM: usize = 16_384;
 
 /// How a worker has its connections.
 #[derive(Clone, Copy)]
@@ -63,12 +59,8 @@ pub struct Turns<S: Drop, M: Messages> {
     shut_until: u64,
     /// When it was swept last.
     swept: u64,
-    room: Vec<u8>,
-    out: Vec<u8>,
     tally: Tally,
     alloc: Global,
-    ghost read_room: { length room.items ≡ 16384 },
-    ghost reply_room: { length out.items ≡ message_limit },
 }
 
 impl<S: Blocking + Drop, M: Messages> Turns<S, M> {
@@ -83,8 +75,6 @@ impl<S: Blocking + Drop, M: Messages> Turns<S, M> {
             may_come: vec![in alloc; true; arrivals]?,
             shut_until: 0,
             swept: 0,
-            room: vec![in alloc; 0u8; ROOM]?,
-            out: vec![in alloc; 0u8; MAX_LIMIT]?,
             tally: Tally::default(),
             alloc,
         })
@@ -127,6 +117,43 @@ impl<S: Blocking + Drop, M: Messages> Turns<S, M> {
         self.told.clear();
     }
 
+    /// Whether there is a place for one more connection, be it that of the one that is idle longest, which is then ended.
+    fn make_place(&mut self, plan: Plan<'_>) -> bool
+        ensures { Moves plan.entry.allowed.addresses.now (seen_under S.octets self.old.links) (seen_under S.octets self.new.links) }
+    {
+        match make_room(&mut self.links, plan.places) {
+            Room::Free => true,
+            Room::Made(_key) => {
+                self.tally.evicted = self.tally.evicted.saturating_add(1);
+                true
+            }
+            Room::Full => {
+                self.tally.turned_away = self.tally.turned_away.saturating_add(1);
+                false
+            }
+        }
+    }
+
+    /// Has a connection watched under the next key.
+    fn watch<P: Readiness<S>>(&self, poll: &mut P, stream: &mut S) -> Result<(), NotWatched> {
+        poll.watch(stream, self.links.vacant_key())
+    }
+
+    /// Gives a connection that has come a place, as that of the peer at the address that it comes from.
+    fn put(&mut self, plan: Plan<'_>, stream: S, from: SocketAddr, now: u64)
+        ensures { Moves plan.entry.allowed.addresses.now (seen_under S.octets self.old.links) (seen_under S.octets self.new.links) }
+    {
+        let peer = plan.allowed.peer(from, Transport::Tcp);
+        let link = Link::new(stream, self.alloc, peer, from, now);
+        match self.links.insert(link) {
+            Ok(key) => {
+                self.tally.begun = self.tally.begun.saturating_add(1);
+                self.waiting.put(key);
+            }
+            Err(_) => self.tally.no_room = self.tally.no_room.saturating_add(1),
+        }
+    }
+
     /// Gives a connection that has come a place, where there is one, and has it watched.
     fn begin<P: Readiness<S>>(
         &mut self,
@@ -138,30 +165,15 @@ impl<S: Blocking + Drop, M: Messages> Turns<S, M> {
     )
         ensures { Moves plan.entry.allowed.addresses.now (seen_under S.octets self.old.links) (seen_under S.octets self.new.links) }
     {
-        match make_room(&mut self.links, plan.places) {
-            Room::Free => {}
-            Room::Made(_) => self.tally.evicted = self.tally.evicted.saturating_add(1),
-            Room::Full => {
-                self.tally.turned_away = self.tally.turned_away.saturating_add(1);
-                return;
-            }
+        if !self.make_place(plan) {
+            return;
         }
         let mut stream = stream;
-        if poll.watch(&mut stream, self.links.vacant_key()).is_err() {
+        if self.watch(poll, &mut stream).is_err() {
             self.tally.no_room = self.tally.no_room.saturating_add(1);
             return;
         }
-        let peer = plan.allowed.peer(from, Transport::Tcp);
-        match self
-            .links
-            .insert(Link::new(stream, self.alloc, peer, from, now))
-        {
-            Ok(key) => {
-                self.tally.begun = self.tally.begun.saturating_add(1);
-                self.waiting.put(key);
-            }
-            Err(_) => self.tally.no_room = self.tally.no_room.saturating_add(1),
-        }
+        self.put(plan, stream, from, now);
     }
 
     /// Takes connections where they come in, so many at most. False where no more waits there; an error where it is broken.
@@ -222,7 +234,11 @@ impl<S: Blocking + Drop, M: Messages> Turns<S, M> {
         rt: &R,
         answering: &mut A,
         now: u64,
+        room: &mut [u8],
+        out: &mut [u8],
     ) -> Result<(), TurnEnd>
+        requires room { 0 < length room.old }
+        requires out { message_limit ≤ length out.old }
         ensures grows { BeginsWith (A.seen answering.new) (A.seen answering.old) }
         ensures own { (key : ℕ) → OwnServed A.is_reply now (A.seen answering.old) (seen_under S.octets self.old.links key) (A.seen answering.new) (seen_under S.octets self.new.links key) }
     {
@@ -237,8 +253,8 @@ impl<S: Blocking + Drop, M: Messages> Turns<S, M> {
             &self.served,
             &mut self.next,
             now,
-            &mut self.room,
-            &mut self.out,
+            room,
+            out,
         );
         let ended = open.saturating_sub(self.links.len()) as u64;
         self.tally.ended = self.tally.ended.saturating_add(ended);
@@ -271,7 +287,11 @@ impl<S: Blocking + Drop, M: Messages> Turns<S, M> {
         plan: Plan<'_>,
         places: &mut [L],
         answering: &mut A,
+        room: &mut [u8],
+        out: &mut [u8],
     ) -> Result<(), TurnEnd>
+        requires room { 0 < length room.old }
+        requires out { message_limit ≤ length out.old }
         ensures grows { BeginsWith (A.seen answering.new) (A.seen answering.old) }
         ensures turned { OnOk result (HasTurned A.is_reply plan.entry.allowed.addresses.now (A.seen answering.old) (seen_under S.octets self.old.links) (A.seen answering.new) (seen_under S.octets self.new.links)) }
     {
@@ -280,7 +300,7 @@ impl<S: Blocking + Drop, M: Messages> Turns<S, M> {
         };
         self.mark();
         self.take_all(poll, plan, places, now)?;
-        self.serve(rt, answering, now)?;
+        self.serve(rt, answering, now, room, out)?;
         self.sweep(plan, now);
         Ok(())
     }
