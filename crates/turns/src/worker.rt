@@ -1,5 +1,5 @@
 //! A worker's connections, and its turns.
-ghost use Rattle.std.specs.Prelude.{◌≡◌, ◌<◌, ◌≤◌, ℕ, length, OnOk};
+ghost use Rattle.std.specs.Prelude.{◌≡◌, ◌<◌, ◌≤◌, ℕ, length};
 ghost use Rattle.dns_message.specs.Message.{message_limit};
 ghost use Rattle.conversation.specs.Served.{BeginsWith};
 ghost use Rattle.links.specs.Links.{OwnServed};
@@ -293,7 +293,7 @@ impl<S: Blocking + Drop, M: Messages> Turns<S, M> {
         requires room { 0 < length room.old }
         requires out { message_limit ≤ length out.old }
         ensures grows { BeginsWith (A.seen answering.new) (A.seen answering.old) }
-        ensures turned { OnOk result (HasTurned A.is_reply plan.entry.allowed.addresses.now (A.seen answering.old) (seen_under S.octets self.old.links) (A.seen answering.new) (seen_under S.octets self.new.links)) }
+        ensures turned { HasTurned A.is_reply plan.entry.allowed.addresses.now (A.seen answering.old) (seen_under S.octets self.old.links) (A.seen answering.new) (seen_under S.octets self.new.links) }
     {
         let Ok(now) = poll.wait(self.patience(), &mut self.told) else {
             return Err(TurnEnd::Device);
