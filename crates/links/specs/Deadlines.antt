@@ -1,5 +1,5 @@
 -- When a connection is over (RFC 7766, 6.2.3; own). Times are nanoseconds of one clock.
-use Rattle.std.specs.Prelude.{◌≡◌, ℕ, ◌-◌, ◌≤◌, ◌⊎◌, Bool, nat_le, ◌==◌, Option, None, Some, if◌then◌else◌}
+use Rattle.std.specs.Prelude.{◌≡◌, ℕ, ◌-◌, ◌<◌, ◌≤◌, ◌⊎◌, Bool, nat_le, ◌==◌, Option, None, Some, if◌then◌else◌}
 use Rattle.connections.specs.Kept.{Kept, awaited}
 use Rattle.connections.specs.declared.awaited.Awaited.{Awaited}
 use Rattle.connections.specs.declared.awaited.Awaited.TheVariants.{Request, Rest, Taking}
@@ -47,3 +47,8 @@ module _ {S M : Type 0} where
 abbrev pub IsLeast : (ℕ → Option ℕ) → Option ℕ → Type 0
 IsLeast numbers None = (key : ℕ) → numbers key ≡ None
 IsLeast numbers (Some key) = (least : ℕ) × (numbers key ≡ Some least) × ((other number : ℕ) → numbers other ≡ Some number → least ≤ number)
+
+-- the same of the keys below an end, with the number
+abbrev pub IsLeastBelow : (ℕ → Option ℕ) → ℕ → Option (ℕ × ℕ) → Type 0
+IsLeastBelow numbers end None = (key : ℕ) → key < end → numbers key ≡ None
+IsLeastBelow numbers end (Some least) = (numbers least.0 ≡ Some least.1) × ((other number : ℕ) → other < end → numbers other ≡ Some number → least.1 ≤ number)

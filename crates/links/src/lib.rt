@@ -5,12 +5,12 @@
 //! one that is idle longest where there is no place for one more. There is no clock here: each call is given the time.
 #![tactic(auto)]
 
+mod deadlines;
 mod limits;
 mod link;
 mod serve;
-mod sweep;
 
+pub use deadlines::{Room, make_room, sweep};
 pub use limits::Limits;
 pub use link::Link;
 pub use serve::serve_ready;
-pub use sweep::{Room, make_room, sweep};

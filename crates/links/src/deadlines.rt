@@ -1,8 +1,8 @@
 //! Connections that are over.
-ghost use Rattle.std.specs.Prelude.{◌≡◌, ◌≢◌, ◌+◌, ◌<◌, ◌≤◌, ℕ, true, false, None, Some};
+ghost use Rattle.std.specs.Prelude.{◌≡◌, ◌≢◌, ◌+◌, ◌<◌, ◌≤◌, ℕ, true, false, Option, None, Some};
 ghost use Rattle.slab.specs.Slab.{get, slab_len};
-ghost use Rattle.links.specs.Deadlines.{kept_at, idle_since, IsLeast};
-ghost use Rattle.links.specs.declared.sweep.Room.{Room as RoomFor};
+ghost use Rattle.links.specs.Deadlines.{kept_at, idle_since, IsLeast, IsLeastBelow};
+ghost use Rattle.links.specs.declared.deadlines.Room.{Room as RoomFor};
 
 use crate::limits::Limits;
 use crate::link::Link;
@@ -60,22 +60,44 @@ fn idle_at<S: Drop, M: Messages>(links: &Slab<Link<S, M>>, key: usize) -> Option
     }
 }
 
+/// Of a key's number and the least so far, with its key, the lesser.
+fn lesser(least: Option<(usize, u64)>, key: usize, number: u64) -> Option<(usize, u64)>
+    ensures { (numbers : ℕ → Option ℕ) → IsLeastBelow numbers key least → numbers key ≡ Some number → IsLeastBelow numbers (key + 1) result }
+{
+    if let Some((_, least_so_far)) = least {
+        if least_so_far <= number {
+            return least;
+        }
+    }
+    Some((key, number))
+}
+
+/// The connection that is idle longest of those under the keys up to one, by that of those before it.
+fn longest_up_to<S: Drop, M: Messages>(
+    links: &Slab<Link<S, M>>,
+    before: Option<(usize, u64)>,
+    key: usize,
+) -> Option<(usize, u64)>
+    ensures { IsLeastBelow (λ k. idle_since (get links.now k)) key before → IsLeastBelow (λ k. idle_since (get links.now k)) (key + 1) result }
+{
+    match idle_at(links, key) {
+        Some(since) => lesser(before, key, since),
+        None => before,
+    }
+}
+
 /// The key of the connection that is idle longest; None where none is idle.
 fn longest_idle<S: Drop, M: Messages>(links: &Slab<Link<S, M>>) -> Option<usize>
     ensures { IsLeast (λ key. idle_since (get links.now key)) result }
 {
     let mut longest: Option<(usize, u64)> = None;
     for key in 0..links.capacity() {
-        let Some(since) = idle_at(links, key) else {
-            continue;
-        };
-        match longest {
-            Some((_, before)) if before <= since => {}
-            _ => longest = Some((key, since)),
-        }
+        longest = longest_up_to(links, longest, key);
     }
-    let (key, _since) = longest?;
-    Some(key)
+    match longest {
+        Some((key, _since)) => Some(key),
+        None => None,
+    }
 }
 
 /// Whether there is a place for one more connection.
