@@ -108,7 +108,7 @@ fn plan(places: usize) -> Plan<'static> {
 }
 
 /// Takes so many turns, and gives what has become of the connections.
-fn turns(
+fn take_turns(
     rt: &HostRuntime,
     worker: &mut Turns<Pieces, Both>,
     teller: &mut Teller,
@@ -140,7 +140,7 @@ fn each_is_answered_by_its_own_rights(rt: HostRuntime) -> Result<(), Fail> {
         step: 1,
     };
     let comers = comers(alloc, 40, &[0, 1, b'a', 0, 1, b'b'], Behind::Nothing)?;
-    let tally = turns(&rt, &mut worker, &mut teller, plan(64), comers, 60)?;
+    let tally = take_turns(&rt, &mut worker, &mut teller, plan(64), comers, 60)?;
     assert_eq!(rt; tally.begun, 40);
     assert_eq!(rt; worker.links().len(), 40);
     let mut may = 0;
@@ -165,14 +165,14 @@ fn ends_and_delays_give_places_back(rt: HostRuntime) -> Result<(), Fail> {
     };
     // Those that end by themselves.
     let first = comers(alloc, 7, &[0, 1, b'a'], Behind::End)?;
-    let tally = turns(&rt, &mut worker, &mut teller, plan(8), first, 60)?;
+    let tally = take_turns(&rt, &mut worker, &mut teller, plan(8), first, 60)?;
     assert_eq!(rt; (tally.begun, tally.ended, worker.links().len()), (7, 7, 0));
     // Those that begin a request, and bring no more.
     let second = comers(alloc, 7, &[0, 9, b'a'], Behind::Nothing)?;
-    let tally = turns(&rt, &mut worker, &mut teller, plan(8), second, 30)?;
+    let tally = take_turns(&rt, &mut worker, &mut teller, plan(8), second, 30)?;
     assert_eq!(rt; (tally.begun, worker.links().len()), (14, 7));
     let nobody = comers(alloc, 0, &[], Behind::End)?;
-    let tally = turns(&rt, &mut worker, &mut teller, plan(8), nobody, 60)?;
+    let tally = take_turns(&rt, &mut worker, &mut teller, plan(8), nobody, 60)?;
     assert_eq!(rt; (tally.over, worker.links().len()), (7, 0));
     Ok(())
 }
@@ -188,14 +188,14 @@ fn places_are_for_those_that_ask(rt: HostRuntime) -> Result<(), Fail> {
     };
     // Four that begin a request have the places: others are turned away.
     let busy = comers(alloc, 4, &[0, 9, b'a'], Behind::Nothing)?;
-    turns(&rt, &mut worker, &mut teller, plan(4), busy, 20)?;
+    take_turns(&rt, &mut worker, &mut teller, plan(4), busy, 20)?;
     let more = comers(alloc, 3, &[], Behind::Nothing)?;
-    let tally = turns(&rt, &mut worker, &mut teller, plan(4), more, 20)?;
+    let tally = take_turns(&rt, &mut worker, &mut teller, plan(4), more, 20)?;
     assert_eq!(rt; (tally.begun, tally.turned_away, tally.evicted), (4, 3, 0));
     // Idle ones give theirs.
     let mut worker = Turns::new(alloc, 4, 1)?;
     let idle = comers(alloc, 9, &[], Behind::Nothing)?;
-    let tally = turns(&rt, &mut worker, &mut teller, plan(4), idle, 20)?;
+    let tally = take_turns(&rt, &mut worker, &mut teller, plan(4), idle, 20)?;
     assert_eq!(rt; (tally.begun, tally.turned_away, tally.evicted), (9, 0, 5));
     assert_eq!(rt; worker.links().len(), 4);
     Ok(())
@@ -212,7 +212,7 @@ fn want_of_room_is_waited_out(rt: HostRuntime) -> Result<(), Fail> {
     };
     let mut few = comers(alloc, 5, &[], Behind::Nothing)?;
     few.no_room = 3;
-    let tally = turns(&rt, &mut worker, &mut teller, plan(8), few, 30)?;
+    let tally = take_turns(&rt, &mut worker, &mut teller, plan(8), few, 30)?;
     assert_eq!(rt; (tally.begun, tally.no_room), (5, 3));
     Ok(())
 }

@@ -35,6 +35,7 @@ impl<'a, C: ChainView> Drop for LeftList<'a, C> {
 
 impl<'a, C: ChainView> LeftList<'a, C> {
     /// The records of a list, so many.
+    #[tactic(auto, using(crate::proofs::LeftLemmas::begun_counted))]
     pub(crate) fn new(
         name: &'a Name,
         mut list: TransferRecords<'a, C>,
@@ -67,6 +68,7 @@ impl<'a, C: ChainView> RecordList for LeftList<'a, C> {
         }
     }
 
+    #[tactic(auto, using(crate::proofs::LeftLemmas::advanced_counted))]
     fn advance(&mut self) {
         self.next = next_record(&mut self.rest);
         self.left = self.left.saturating_sub(1);

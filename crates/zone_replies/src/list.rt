@@ -57,6 +57,7 @@ pub(crate) fn next_record<'a, C: ChainView>(
 }
 
 /// How many records a list has; None where a `usize` doesn't tell it.
+#[tactic(auto, using(crate::proofs::LeftLemmas::counted_more))]
 pub(crate) fn count_of<C: ChainView>(list: TransferRecords<'_, C>) -> Option<usize>
     ensures { IfSome result (λ count. count ≡ length (listed list.entry)) }
 {

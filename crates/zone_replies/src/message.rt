@@ -1,5 +1,5 @@
 //! One message of a transfer behind the other (RFC 5936, 2.2).
-ghost use Rattle.std.specs.Prelude.{◌≡◌, ◌≤◌, [], ◌∷◌, length, take, true, IfSome, MatchOption};
+ghost use Rattle.std.specs.Prelude.{◌≡◌, ◌≤◌, [], ◌∷◌, length, take, true, ◌&&◌, IfSome, MatchOption};
 ghost use Rattle.std.specs.Option.{option_copied};
 ghost use Rattle.transfer_core.specs.Packed.{listed, opt_beside};
 ghost use Rattle.serve_core.specs.Heading.{reply_opt};
@@ -29,6 +29,13 @@ fn opt_left(query: &Query, is_begun: bool) -> Option<Opt>
     Some(query.edns?.reply())
 }
 
+/// Whether there is no further message: no record is left, and the question is sent.
+fn is_over(ended: bool, is_begun: bool) -> bool
+    ensures { result ≡ (ended && is_begun) }
+{
+    ended && is_begun
+}
+
 /// Writes the next message of the records that are left of a transfer to the front of `out`: with as many of them as fit into
 /// [`MAX_MESSAGE`] octets, and the question where no message is sent (RFC 5936, 2.2). It gives how many octets the message has, and how many
 /// records are left behind it; None where there is no message. It takes no memory.
@@ -49,7 +56,7 @@ pub(crate) fn write_message<C: ChainView>(
 {
     let mut records = LeftList::new(&query.question.name, list, left);
     let ended = records.first().is_none();
-    if ended && is_begun {
+    if is_over(ended, is_begun) {
         return None;
     }
     let question = question_left(query, is_begun);
