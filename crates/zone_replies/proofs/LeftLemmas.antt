@@ -1,5 +1,5 @@
 -- The end of a list that a message leaves, and the messages of that.
-use Rattle.std.proofs.Common.{◌≡◌, refl, ℕ, suc, ◌+◌, ◌-◌, ◌≤◌, Bool, true, false, List, [], ◌∷◌, ◌++◌, length, drop, map, Option, None, Some, MatchOption, if◌then◌else◌, not, ◌&&◌, is_some, option_map, sym, ap, ◌∙◌, subst, arith}
+use Rattle.std.proofs.Common.{◌≡◌, refl, ℕ, suc, ◌+◌, ◌-◌, ◌≤◌, Bool, true, false, List, [], ◌∷◌, ◌++◌, length, take, drop, map, Option, None, Some, IfSome, MatchOption, if◌then◌else◌, not, ◌&&◌, is_some, option_map, sym, ap, ◌∙◌, subst, arith}
 use Rattle.std.proofs.lemmas.List.{length-drop, length-map, drop-drop, drop-map}
 use Rattle.std.specs.Option.{option_to_list}
 use Rattle.dns_rdata.specs.Record.{Record}
@@ -179,3 +179,16 @@ message_from zone changes query is_begun left count records octets is fewer with
     ∙ made
     ∙ ap (λ (l : List Record). octets ∷ messages_of_records query true (last_of count l)) is
     ∙ ap (λ (l : List Record). octets ∷ messages_of_records query true l) (last_of-last_of count left all fewer within)
+
+-- how many records a list has
+pub counted_list : (o : Option ℕ) (found all : List Record) → found ≡ all → IfSome o (λ n. n ≡ length found) → IfSome o (λ n. n ≡ length all)
+counted_list None found all is counted = tt
+counted_list (Some n) found all is counted = counted ∙ ap length is
+
+-- the next message from a place, or that there is none
+pub from_place : (o : Option (ℕ × ℕ)) (zone : List Record) (changes : Option (List Record)) (query : Query) (is_begun : Bool) (left : ℕ) (records : List Record) (out : List ℕ) → records ≡ last_of left (list_for zone changes query) → left ≤ length (list_for zone changes query) → IfSome o (λ r. r.1 ≤ left)
+    → MatchOption o (messages_of_records query is_begun records ≡ []) (λ r. messages_of_records query is_begun records ≡ take r.0 out ∷ messages_of_records query true (last_of r.1 records))
+    → MatchOption o (messages_from zone changes query is_begun left ≡ []) (λ r. messages_from zone changes query is_begun left ≡ take r.0 out ∷ messages_from zone changes query true r.1)
+from_place None zone changes query is_begun left records out is within fewer made = ap (messages_of_records query is_begun) (sym is) ∙ made
+from_place (Some r) zone changes query is_begun left records out is within fewer made =
+    message_from zone changes query is_begun left r.1 records (take r.0 out) is fewer within made
