@@ -1,6 +1,6 @@
 -- What becomes of a connection over several shares, of it and of others.
-use Rattle.std.proofs.Common.{◌≡◌, ◌≢◌, ◌==◌, refl, ℕ, Bool, true, false, if◌then◌else◌, List, Option, None, Some, Result, Ok, Err, OnOk, IfErr, option_map, sym, ◌∙◌, subst, inl, inr}
-use Rattle.std.proofs.lemmas.Bool.{cases_eq, eqb-true}
+use Rattle.std.proofs.Common.{◌≡◌, ◌≢◌, refl, ℕ, List, Option, None, Some, Result, Ok, Err, OnOk, IfErr, option_map, sym, ◌∙◌, subst, inl, inr}
+use Rattle.std.proofs.lemmas.Bool.{cases_eq}
 use Rattle.serve_core.specs.declared.peer.Peer.{Peer}
 use Rattle.conversation.specs.Served.{BeginsWith}
 use Rattle.conversation.proofs.TurnLemmas.{begins_more}
@@ -8,7 +8,7 @@ use Rattle.connections.specs.Going.{Goes, Stops}
 use Rattle.connections.specs.declared.stream_end.StreamEnd.{StreamEnd}
 use Rattle.connections.proofs.ToldLemmas.{writes_itself, writes_more}
 use Rattle.connections.proofs.GoingLemmas.{goes_seen, goes_more, stops_more}
-use Rattle.links.specs.Deadlines.{IsBegun, begun_behind}
+use Rattle.links.proofs.BegunLemmas.{begun_more}
 use Rattle.links.specs.Links.{Seen, told_of, HasGone, HasEnded, OwnServed}
 
 -- what follows from what holds where a result is Ok, and where it is Err
@@ -19,20 +19,6 @@ ok_follows (Err fault) step holds = tt
 pub err_follows : {A E : Type 0} {P Q : E → Type 0} (result : Result A E) → ((fault : E) → P fault → Q fault) → IfErr result P → IfErr result Q
 err_follows (Ok value) step holds = tt
 err_follows (Err fault) step holds = step fault holds
-
--- since when a peer is waited for, over two shares at one time
-pub begun_more : (now p begun q mid r later : ℕ) → IsBegun now p begun q mid → IsBegun now q mid r later → IsBegun now p begun r later
-begun_more now p begun q mid r later first (inl is) = inl is
-begun_more now p begun q mid r later (inl was) (inr then) = inl (then.1 ∙ was)
-begun_more now p begun q mid r later (inr first) (inr then) = inr (then.0 ∙ first.0, then.1 ∙ first.1)
-
--- and over one
-by_test : (now passed begun more later : ℕ) (b : Bool) → (more == passed) ≡ b → later ≡ (if b then begun else now) → IsBegun now passed begun more later
-by_test now passed begun more later true test is = inr (eqb-true more passed test, is)
-by_test now passed begun more later false test is = inl is
-
-pub begun_once : (now passed begun more later : ℕ) → later ≡ begun_behind passed more begun now → IsBegun now passed begun more later
-begun_once now passed begun more later is = by_test now passed begun more later (more == passed) refl is
 
 module _ {T : Type 0} (IsReply : Peer → List T → List ℕ → List (List ℕ) → Type 0) where
   -- a connection isn't served, and maybe more is known

@@ -15,7 +15,7 @@ use Rattle.turns.specs.Steps.{seen_under, HasBegun, Move, begins, gives, rests, 
 
 pub moves_more : {allowed : List IpAddr} {a b c : ℕ → Option Seen} → Moves allowed a b → Moves allowed b c → Moves allowed a c
 moves_more first stay = first
-moves_more first (move then one) = move (moves_more first then) one
+moves_more first (move second one) = move (moves_more first second) one
 
 pub moves_once : {allowed : List IpAddr} {a b : ℕ → Option Seen} → Move allowed a b → Moves allowed a b
 moves_once one = move stay one

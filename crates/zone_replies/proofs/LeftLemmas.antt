@@ -30,8 +30,8 @@ pub passed_one : {T : Type 0} (next : Option T) (old new : List T) → MatchOpti
 passed_one None old new h = h.1 ∙ sym (ap (drop 1) h.0)
 passed_one (Some r) old new h = sym (ap (drop 1) h)
 
-pub passed_more : {T : Type 0} (count : ℕ) (all now then : List T) → now ≡ drop count all → then ≡ drop 1 now → then ≡ drop (count + 1) all
-passed_more count all now then so_far step = step ∙ ap (drop 1) so_far ∙ drop-drop 1 count all
+pub passed_more : {T : Type 0} (count : ℕ) (all now next : List T) → now ≡ drop count all → next ≡ drop 1 now → next ≡ drop (count + 1) all
+passed_more count all now next so_far step = step ∙ ap (drop 1) so_far ∙ drop-drop 1 count all
 
 pub one_less : {T : Type 0} (left : ℕ) (old new : List T) → left ≡ length old → new ≡ drop 1 old → left - 1 ≡ length new
 one_less left old new counted step = ap (λ n. n - 1) counted ∙ sym (length-drop 1 old) ∙ ap length (sym step)
@@ -138,8 +138,8 @@ none_made query begun (r ∷ rs) None start ended is shown none both = absurd (n
 none_made query begun (r ∷ rs) (Some s) start ended is shown none both = absurd (never ended none both)
   where
     never : (e : Bool) → true ≡ not e → (e && begun) ≡ true → ⊥
-    never true no both = cc
-    never false no both = cc
+    never true is_none both = cc
+    never false is_none both = cc
 
 -- else there is one: the question is to be sent, or a record is left
 pub open_by : (query : Query) (begun : Bool) (o : Option SentRecord) (start : List Record) (ended : Bool) → option_map sent o ≡ first_of start → is_some o ≡ not ended → (ended && begun) ≡ false → IsOpen (question_left begun query) start
@@ -147,8 +147,8 @@ open_by query false o start ended shown none either = tt
 open_by query true None start ended shown none either = absurd (never ended none either)
   where
     never : (e : Bool) → false ≡ not e → (e && true) ≡ false → ⊥
-    never true yes either = cc
-    never false yes either = cc
+    never true is_none either = cc
+    never false is_none either = cc
 open_by query true (Some s) [] ended shown none either = absurd (no_first shown)
   where
     no_first : Some (sent s) ≡ None → ⊥

@@ -4,7 +4,8 @@ use Rattle.conversation.proofs.TurnLemmas.{begins_itself}
 use Rattle.slab.specs.Slab.{get, with_value}
 use Rattle.slab.proofs.SlabLemmas.{Updates-with_value}
 use Rattle.links.specs.Links.{seen_of}
-use Rattle.links.proofs.OwnLemmas.{own_gone, own_ended, begun_once}
+use Rattle.links.proofs.BegunLemmas.{begun_once}
+use Rattle.links.proofs.OwnLemmas.{own_gone, own_ended}
 use Rattle.links.proofs.serve.serve_key.Goals as goal
 
 pub returns-in-Ok-clause-own : goal.returns-in-Ok-clause-own

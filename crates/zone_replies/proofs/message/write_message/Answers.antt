@@ -26,3 +26,8 @@ returns-clause-fewer g c =
     let later = c.write_answers-len.new.records in
     let counted = later.counted ∙ sym (length-map (option_to_list later.next ++ listed later.rest) (spelt later.name.now)) in
     spelt_fewer c.args.query.now.head (option_copied c.question_left-question.result) c.opt_left-opt.result _ (spelt c.args.query.now.question.name) (listed c.args.list) _ later.left c.args.left _ c.new-records.ensures c.write_answers-len.ensures.left counted c.requires.counted
+
+pub returns-clause-len : goal.returns-clause-len
+returns-clause-len g c =
+    let size = length-take-le 16384 c.args.out.now c.requires.room in
+    omega (arith, c.write_answers-len.ensures.len, size)
