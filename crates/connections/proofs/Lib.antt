@@ -2,3 +2,4 @@ pub mod QueueLemmas
 pub mod FrameLemmas
 pub mod ToldLemmas
 pub mod GoingLemmas
+pub mod PassLemmas

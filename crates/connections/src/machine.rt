@@ -1,5 +1,5 @@
 //! A connection's requests and replies, with no device.
-ghost use Rattle.std.specs.Prelude.{◌≡◌, ◌≢◌, ℕ, ◌+◌, ◌≤◌, [], ◌∷◌, ◌++◌, length, take, drop, true, false, IsTrue, None, IfSome, IfOk, OnOk, OnErr};
+ghost use Rattle.std.specs.Prelude.{◌≡◌, ◌≢◌, ℕ, ◌+◌, ◌≤◌, [], ◌∷◌, ◌++◌, length, take, drop, true, false, IsTrue, None, IfSome, IfOk, OnOk, OnErr, if◌then◌else◌};
 ghost use Rattle.dns_message.specs.Frame.{frame_of};
 ghost use Rattle.dns_message.specs.Message.{message_limit};
 ghost use Rattle.conversation.specs.Octets.{frames_of};
@@ -76,15 +76,14 @@ impl<M: Messages> Conversation<M> {
     }
 
     /// The first of the octets that are to be written have been. Where nothing is ready behind them, one more has passed.
+    #[tactic(auto, using(crate::proofs::PassLemmas::passed_as))]
     pub fn advance(&mut self, count: usize)
         requires { count ≤ length self.old.ready }
         ensures rest { self.new ≡ record self.old { ready = drop count self.old.ready; passed = self.new.passed } }
         ensures passed { self.new.passed ≡ passed_behind (drop count self.old.ready) self.old.passed }
     {
         self.ready.advance(count);
-        if self.ready.is_empty() {
-            self.passed = self.passed.wrapping_add(1);
-        }
+        self.passed = passed_by(self.ready.is_empty(), self.passed);
     }
 
     /// How many times its peer has brought something to its end, modulo 2^64: a request that came whole and is answered, or all that was
@@ -103,10 +102,14 @@ impl<M: Messages> Conversation<M> {
     }
 
     /// What it waits for from its peer.
+    #[tactic(auto, using(crate::proofs::PassLemmas::taking_making, crate::proofs::PassLemmas::taking_ready, crate::proofs::PassLemmas::rest_held, crate::proofs::PassLemmas::request_idle))]
     pub fn awaits(&self) -> Awaited
         ensures { result ≡ awaited self.now }
     {
-        if self.rest.is_some() || !self.ready.is_empty() {
+        if self.rest.is_some() {
+            return Awaited::Taking;
+        }
+        if !self.ready.is_empty() {
             return Awaited::Taking;
         }
         if !self.held.is_empty() {
@@ -227,6 +230,16 @@ impl<M: Messages> Conversation<M> {
         self.ready.push_frame(&out[..len])?;
         Ok(())
     }
+}
+
+/// How many have passed: one more where all that was ready is taken.
+fn passed_by(is_all: bool, passed: u64) -> u64
+    ensures { result ≡ (if is_all then one_passed passed else passed) }
+{
+    if is_all {
+        return passed.wrapping_add(1);
+    }
+    passed
 }
 
 /// The request whose frame octets begin with; None where they end before it does (RFC 1035, 4.2.2).
