@@ -72,7 +72,7 @@ module _ (numbers : ℕ → Option ℕ) (i : ℕ) where
     has,
     λ k other within is. elim (cases_eq k i) [
       | inl same ↦ equal_le number other (sym has ∙ subst (λ (j : ℕ). numbers j ≡ Some other) same is)
-      | inr differs ↦ let more = below.1 k other (omega (arith, within, differs)) is in omega (arith, more, fits)
+      | inr differs ↦ let more : least.1 ≤ other = below.1 k other (omega (arith, within, differs)) is in omega (arith, more, fits)
     ],
   )
     where
