@@ -48,3 +48,8 @@ module _ {T : Type 0} (IsReply : Peer → List T → List ℕ → List (List ℕ
     pub first : Moves allowed old come
     pub own : (key : ℕ) → OwnServed IsReply now seen (come key) later (served key)
     pub last : Moves allowed served new
+
+  -- turns, one behind the other
+  pub data Turned (seen : List T) (old : ℕ → Option Seen) : List T → (ℕ → Option Seen) → Type 0 where
+    unturned : Turned seen old seen old
+    turned : {mid later : List T} {between new : ℕ → Option Seen} → Turned seen old mid between → HasTurned mid between later new → Turned seen old later new

@@ -3,7 +3,7 @@ ghost use Rattle.std.specs.Prelude.{◌≡◌, ◌<◌, ◌≤◌, ℕ, length};
 ghost use Rattle.dns_message.specs.Message.{message_limit};
 ghost use Rattle.conversation.specs.Served.{BeginsWith};
 ghost use Rattle.links.specs.Links.{OwnServed};
-ghost use Rattle.turns.specs.Steps.{seen_under, Moves, HasTurned};
+ghost use Rattle.turns.specs.Steps.{seen_under, Moves, HasTurned, Turned};
 
 use crate::arrivals::{Arrivals, Refusal};
 use crate::readiness::{NotWatched, Readiness};
@@ -303,6 +303,41 @@ impl<S: Blocking + Drop, M: Messages> Turns<S, M> {
         self.serve(rt, answering, now, room, out)?;
         self.sweep(plan, now);
         Ok(())
+    }
+
+    /// How many connections have given their places.
+    fn gone(&self) -> u64 {
+        let tally = self.tally;
+        tally
+            .ended
+            .saturating_add(tally.over)
+            .saturating_add(tally.evicted)
+    }
+
+    /// Takes turns until so many connections have given their places, or no more turns can be taken.
+    pub fn run<R: Wait, P: Readiness<S>, L: Arrivals<Stream = S>, A: Answering<M>>(
+        &mut self,
+        rt: &R,
+        poll: &mut P,
+        plan: Plan<'_>,
+        places: &mut [L],
+        answering: &mut A,
+        most: u64,
+        room: &mut [u8],
+        out: &mut [u8],
+    ) -> Result<(), TurnEnd>
+        requires room { 0 < length room.old }
+        requires out { message_limit ≤ length out.old }
+        ensures grows { BeginsWith (A.seen answering.new) (A.seen answering.old) }
+        ensures turned { Turned A.is_reply plan.entry.allowed.addresses.now (A.seen answering.old) (seen_under S.octets self.old.links) (A.seen answering.new) (seen_under S.octets self.new.links) }
+    {
+        for _ in rt.forever() {
+            if self.gone() >= most {
+                return Ok(());
+            }
+            self.turn(rt, poll, plan, places, answering, room, out)?;
+        }
+        unreachable!()
     }
 }
 
