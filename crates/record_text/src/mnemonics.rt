@@ -122,7 +122,7 @@ fn is_in(text: &[u8]) -> Result<bool, Cause>
     requires { 5 ≤ length text.now }
     ensures { result ≡ (if bytes_eq (drop 5 text.now) (codes "1") then Ok true else Err Cause.BadClass) }
 {
-    if &text[5..] == b"1" {
+    if &text[5..] == b"1".as_slice() {
         Ok(true)
     } else {
         Err(Cause::BadClass)
