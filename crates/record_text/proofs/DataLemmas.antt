@@ -1,5 +1,5 @@
 -- Octets of fields and of strings, put one behind the other.
-use Rattle.std.proofs.Common.{◌≡◌, ℕ, ◌+◌, ◌<◌, ◌≤◌, inl, inr, Bool, true, false, cond, ◌==◌, nat_lt, nat_le, bytes_eq, Option, Some, None, IsSome, List, [], ◌∷◌, ◌++◌, map, length, drop, get_or, Result, Ok, Err, refl, sym, ap, ◌∙◌, arith}
+use Rattle.std.proofs.Common.{◌≡◌, ℕ, ◌+◌, ◌<◌, ◌≤◌, inl, inr, Bool, true, false, cond, ◌==◌, nat_lt, nat_le, bytes_eq, Option, Some, None, IsSome, eq-eqb, List, [], ◌∷◌, ◌++◌, map, length, drop, get_or, Result, Ok, Err, refl, sym, ap, ◌∙◌, arith}
 use Rattle.std.proofs.lemmas.List.{append_assoc, append-nil, drop_all, length-drop, at_drop_more}
 use Rattle.record_text.specs.declared.data.Field.{Field}
 use Rattle.zone_lexing.specs.declared.word.Word.{Word}
@@ -274,3 +274,40 @@ words_generic rtype origin words e =
 pub words_in_form : (rtype : ℕ) (origin : List (List ℕ)) (words : List Word) → false ≡ are_generic (map written words) → data_of_words rtype origin (map written words) ≡ and_then (octets_of_words rtype origin (map written words)) (as_data rtype)
 words_in_form rtype origin words e =
     ap (λ (b : Bool). cond b (and_then (generic_of (drop 1 (map written words))) (as_own_data rtype)) (and_then (octets_of_words rtype origin (map written words)) (as_data rtype))) (sym e)
+
+-- the octets behind `\#`, one step after another
+pub generic-none : (words : List Word) → length words ≡ 0 → generic_of (map written words) ≡ Err BadData
+unfolding generic_of
+generic-none [] e = refl
+generic-none (word ∷ words) e = absurd (omega arith)
+
+-- what is read behind the size
+abbrev sized : List Word → ℕ → Result (List ℕ) Cause
+sized behind size = and_then (hexes_of (map written behind)) (λ octets. cond (length octets == size) (Ok octets) (Err BadData))
+
+generic-first : (words behind : List Word) (first : Word) → words ≡ first ∷ behind → generic_of (map written words) ≡ and_then (size_of (written first)) (sized behind)
+unfolding generic_of
+generic-first words behind first e = ap (λ (ws : List Word). generic_of (map written ws)) e
+
+generic-sized : (words behind : List Word) (first : Word) (size : ℕ) → words ≡ first ∷ behind → size_of (written first) ≡ Ok size → generic_of (map written words) ≡ sized behind size
+generic-sized words behind first size e s = generic-first words behind first e ∙ ap (λ (r : Result ℕ Cause). and_then r (sized behind)) s
+
+pub generic-size : (words behind : List Word) (first : Word) (cause : Cause) → words ≡ first ∷ behind → size_of (written first) ≡ Err cause → IsToldOf (generic_of (map written words)) cause
+generic-size words behind first cause e s = inr (generic-first words behind first e ∙ ap (λ (r : Result ℕ Cause). and_then r (sized behind)) s)
+
+pub generic-hexes : (words behind : List Word) (first : Word) (size : ℕ) (cause : Cause) → words ≡ first ∷ behind → size_of (written first) ≡ Ok size → IsToldOf (hexes_of (map written behind)) cause → IsToldOf (generic_of (map written words)) cause
+generic-hexes words behind first size cause e s (inl none) = inl none
+generic-hexes words behind first size cause e s (inr fault) =
+    inr (generic-sized words behind first size e s ∙ ap (λ (r : Result (List ℕ) Cause). and_then r (λ octets. cond (length octets == size) (Ok octets) (Err BadData))) fault)
+
+pub generic-all : (words behind : List Word) (first : Word) (size : ℕ) (octets : List ℕ) (b : Bool) → words ≡ first ∷ behind → size_of (written first) ≡ Ok size → hexes_of (map written behind) ≡ Ok octets → (length octets == size) ≡ b → generic_of (map written words) ≡ cond b (Ok octets) (Err BadData)
+generic-all words behind first size octets b e s h t =
+    generic-sized words behind first size e s
+    ∙ ap (λ (r : Result (List ℕ) Cause). and_then r (λ os. cond (length os == size) (Ok os) (Err BadData))) h
+    ∙ ap (λ (c : Bool). cond c (Ok octets) (Err BadData)) t
+
+pub equal_test : (m n : ℕ) → m ≡ n → (m == n) ≡ true
+equal_test m n e = eq-eqb m n e
+
+pub other_test : (m n : ℕ) → (m ≡ n → ⊥) → (m == n) ≡ false
+other_test m n e = grind (arith, nat_tests)

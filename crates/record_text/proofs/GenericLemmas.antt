@@ -1,10 +1,11 @@
 -- Data behind `\#`: how many octets there are, and their digits.
-use Rattle.std.proofs.Common.{◌≡◌, ℕ, zero, suc, ◌+◌, ◌-◌, ◌*◌, ◌/◌, ◌%◌, ◌<◌, ◌≤◌, Bool, true, false, cond, not, ◌&&◌, ◌==◌, nat_lt, nat_le, List, [], ◌∷◌, ◌++◌, length, slice_index, decimal, All, Option, Some, None, Result, Ok, Err, refl, sym, ap, subst, ◌∙◌, arith}
+use Rattle.std.proofs.Common.{◌≡◌, ℕ, zero, suc, ◌+◌, ◌-◌, ◌*◌, ◌/◌, ◌%◌, ◌<◌, ◌≤◌, Bool, true, false, cond, not, ◌&&◌, ◌==◌, nat_lt, nat_le, List, [], ◌∷◌, ◌++◌, length, drop, slice_index, decimal, All, Option, Some, None, Result, Ok, Err, refl, sym, ap, subst, ◌∙◌, arith}
 use Rattle.std.specs.Char.{digit_value}
 use Rattle.std.specs.Fmt.{digits, digits_onto, digit_glyph}
 use Rattle.std.specs.Str.Parse.{AllDigits}
 use Rattle.std.proofs.lemmas.Bool.Decides.{nat_tests, Decides-eqb}
-use Rattle.std.proofs.lemmas.List.{append_assoc, append-nil}
+use Rattle.std.proofs.lemmas.List.{append_assoc, append-nil, drop_all}
+use Rattle.hex.proofs.Pairs.{encode_with-drop}
 use Rattle.std.proofs.lemmas.List.Elements.{All-nil, All-cons, All-head, All-tail}
 use Rattle.hex.specs.Hex.{decode_of, decode_pairs, digit_or_error, encode_with, encode_lower, hex_digit_value, lower_digits, ◌>>=◌}
 use Rattle.hex.specs.declared.error.FromHexError.{FromHexError}
@@ -159,3 +160,17 @@ pairs_octets i (c ∷ d ∷ text) = pair_octets (hex_digit_value c) (hex_digit_v
 
 pub decode_octets : (text : List ℕ) → DecodesOctets (decode_of text)
 decode_octets text = by_test (λ b. DecodesOctets (cond b (Err OddLength) (decode_pairs 0 text))) (length text % 2 == 1) (λ _. tt) (λ _. pairs_octets 0 text)
+
+-- one octet more is written
+pub digits_more : (t₀ t₁ t₂ octets : List ℕ) (i a b : ℕ) → i < length octets → a ≡ slice_index lower_digits (slice_index octets i / 16) → b ≡ slice_index lower_digits (slice_index octets i % 16) → t₁ ≡ t₀ ++ a ∷ [] → t₂ ≡ t₁ ++ b ∷ [] → t₂ ++ encode_lower (drop (i + 1) octets) ≡ t₀ ++ encode_lower (drop i octets)
+digits_more t₀ t₁ t₂ octets i a b h high low first second =
+    let rest = encode_lower (drop (i + 1) octets) in
+    let step = encode_with-drop lower_digits octets i h in
+    let is : a ∷ b ∷ rest ≡ encode_lower (drop i octets) = cc in
+    ap (λ (t : List ℕ). t ++ rest) second ∙ append_assoc t₁ (b ∷ []) rest
+    ∙ ap (λ (t : List ℕ). t ++ b ∷ rest) first ∙ append_assoc t₀ (a ∷ []) (b ∷ rest)
+    ∙ ap (λ (t : List ℕ). t₀ ++ t) is
+
+pub digits_end : (text octets : List ℕ) (i : ℕ) → length octets ≤ i → text ++ encode_lower (drop i octets) ≡ text
+unfolding encode_with
+digits_end text octets i h = ap (λ (os : List ℕ). text ++ encode_lower os) (drop_all i octets h) ∙ append-nil text
