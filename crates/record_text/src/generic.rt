@@ -38,11 +38,7 @@ pub(crate) fn are_generic(words: &[Word<'_>]) -> bool
 /// `Number` at a number of octets that is no number; `Limit` where it is greater than data may have; `BadData` at a word that
 /// isn't hexadecimal digits, an even number of them, where there are more or fewer octets than were said, and where they
 /// haven't the form; `Unclosed` where no word stands; `NoMemory` where a growth was refused.
-pub(crate) fn read_generic(
-    alloc: Global,
-    rtype: RType,
-    words: &[Word<'_>],
-) -> Result<RData, Cause>
+pub(crate) fn read_generic(alloc: Global, rtype: RType, words: &[Word<'_>]) -> Result<RData, Cause>
     ensures rtype { IfOk result (λ d. d.rtype ≡ rtype.0) }
     ensures octets { IfOk result (λ d. and_then (generic_of (map written words.now)) (as_own_data rtype.0) ≡ Ok d.octets) }
     ensures fault { IfErr result (IsToldOf (and_then (generic_of (map written words.now)) (as_own_data rtype.0))) }
