@@ -27,12 +27,12 @@ example. 60 IN SOA . . 1 2 3 4 5
 example. 60 IN NS .
 a.example. 60 IN A 192.0.2.1
 a.example. 60 IN A 192.0.2.2
-a.example. 60 IN TXT "x"
+a.example. 5 IN TXT "x"
 a.example. 60 IN AAAA 0:0:0:0:0:0:0:1
 b.example. 60 IN TYPE3 \# 5 0161c00c00
 b.example. 60 IN TYPE127 \# 1 ff
 b.example. 60 IN TYPE256 \# 0
-b.example. 60 IN TYPE257 \# 12 000569737375652063612e7465
+b.example. 60 IN TYPE257 \# 12 0005697373756563612e7465
 b.example. 60 IN TYPE65280 \# 3 0a0b0c
 b.example. 60 IN TYPE65535 \# 2 4161
 end
