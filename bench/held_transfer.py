@@ -3,7 +3,7 @@
 all that while, slowly; a secondary that asks each second what changed, and one that asks every third second. What each holds after each
 transfer must be the zone of the serial that it was told, and the slow client's zone that of one version. It prints how often each was told what
 changed, and how often the zone in whole (RFC 1995, 4), and what memory the server has; status 1 where something is wrong.
-Usage: [DNSD=PROGRAM] bench/held_transfer.py [--keep N] [--records N] [--updates N] [--port N], by default 0, 50000, 60 and 15653."""
+Usage: [DNSD=PROGRAM] bench/held_transfer.py [--keep N] [--records N] [--updates N] [--port N], by default 0, 6000, 60 and 15653."""
 import argparse
 import os
 import socket
@@ -18,9 +18,11 @@ from soak import APEX, TYPES, framed, of, parsed, query, read_frame, update, wir
 
 top = os.path.dirname(os.path.dirname(os.path.abspath(__file__)))
 words = argparse.ArgumentParser()
-for word, number in (("keep", 0), ("records", 50000), ("updates", 60), ("port", 15653)):
+for word, number in (("keep", 0), ("records", 6000), ("updates", 60), ("port", 15653)):
     words.add_argument(f"--{word}", type=int, default=number)
 given = words.parse_args()
+# slow enough that a transfer of so many records isn't over before the updates are, quick enough that the server ends no connection
+OCTETS_A_SECOND = given.records * 2400 / (given.updates + 15)
 program = os.environ.get("DNSD", f"{top}/crates/dnsd/out/dnsd")
 wrong = []
 
@@ -116,16 +118,17 @@ def secondary(pace, told, is_on):
 def slow(is_on, ends):
     """Takes the zone in whole, some of it a second, and the rest at the end."""
     try:
-        with connected(4096) as sock:
+        with connected(32768) as sock:
             sock.sendall(framed(query(7, APEX, "AXFR")))
             records = []
             while not (len(records) > 1 and records[-1][1] == TYPES["SOA"]):
-                _, rcode, more = parsed(read_frame(sock))
+                message = read_frame(sock)
+                _, rcode, more = parsed(message)
                 if rcode != 0 or not more:
                     raise ValueError(f"RCODE {rcode}, {len(more)} records")
                 records += more
                 if is_on():
-                    time.sleep(2)
+                    time.sleep(len(message) / OCTETS_A_SECOND)
             serials = of(records, "SOA")
             if serials[0] != serials[-1] or not is_version(({it for it in records if it[1] != TYPES["SOA"]}, serials[0])):
                 fail("the slow client holds no version")
@@ -143,7 +146,8 @@ def main():
     with tempfile.NamedTemporaryFile("w", suffix=".zone") as zone:
         zone.write(f"{APEX}. 60 IN SOA ns1.{APEX}. admin.{APEX}. 1 2 2 1209600 60\n{APEX}. 60 IN NS ns1.{APEX}.\n{APEX}. 60 IN TXT \"1\"\n")
         zone.write(f"ns1.{APEX}. 60 IN A 192.0.2.1\nalias.{APEX}. 60 IN CNAME t1.{APEX}.\nv1.{APEX}. 60 IN A 10.0.0.1\n")
-        zone.writelines(f"h{at}.{APEX}. 60 IN TXT \"{'a long text ' * 15}\"\n" for at in range(given.records - 5))
+        long_text = " ".join(['"' + "a long text " * 10 + '"'] * 20)
+        zone.writelines(f"h{at}.{APEX}. 60 IN TXT {long_text}\n" for at in range(given.records - 5))
         zone.flush()
         server = subprocess.Popen(
             [program, "serve", "--listen", f"127.0.0.1:{given.port}", "--workers", "6", "--keep", str(given.keep), zone.name], stderr=subprocess.PIPE, text=True

@@ -322,4 +322,5 @@ def main():
     sys.exit(1 if state.wrong else 0)
 
 
-main()
+if __name__ == "__main__":
+    main()
