@@ -4,7 +4,7 @@
 # the same records after a transfer in whole and after each change. What is expected stands here, from tests/interop.zone and the RFCs.
 # It prints a line a check and a count, and its status is 1 where one failed. It listens on 127.0.0.1 alone, and ends what it starts.
 # Usage: [DNSD=PROGRAM] tests/interop.sh [--port N] [--without-transfers]
-#   --port N               dnsd listens on N (by default 15353), the secondaries on the three behind it
+#   --port N               dnsd listens on N (by default 15353), the secondaries on the three behind it, and BIND as a primary on the next
 #   --without-transfers    leaves out transfers and secondaries
 # It needs Debian's packages bind9-dnsutils, knot-dnsutils, bind9-utils, bind9, knot and nsd, and the program that `make dnsd` builds.
 set -euo pipefail
@@ -474,6 +474,70 @@ secondaries() {
     check "the server itself" "$want" "$(held "$port")"
 }
 
+# BIND as the server that has tests/types.zone, on a port.
+start_primary() {
+    mkdir "$work/primary"
+    cat >"$work/primary.conf" <<end
+options {
+    directory "$work/primary"; pid-file none; session-keyfile none;
+    listen-on port $1 { 127.0.0.1; }; listen-on-v6 { none; };
+    recursion no; notify no; dnssec-validation no; allow-transfer { 127.0.0.1; };
+};
+controls { };
+zone "example.test" { type primary; file "$PWD/tests/types.zone"; };
+end
+    named -g -n 1 -c "$work/primary.conf" >"$work/primary.log" 2>&1 &
+    started+=($!)
+}
+
+# The records of a zone's transfer as octets, in order (RFC 3597, 5): the port of who sends it.
+octets_at() {
+    dig @127.0.0.1 -p "$1" +noall +answer +onesoa +unknownformat "$d" axfr | plain | LC_ALL=C sort
+}
+
+# The messages of that transfer in hexadecimal, a line each (RFC 1035, 4.2.2): what comes until nothing does for a second.
+messages_at() {
+    local stream
+    exec 3<>"/dev/tcp/127.0.0.1/$1"
+    printf '\0\x1e\x43\x21\0\0\0\1\0\0\0\0\0\0\7example\4test\0\0\xfc\0\1' >&3
+    stream=$(timeout 1 cat <&3 | od -An -v -tx1 | tr -d ' \n' || true)
+    exec 3>&-
+    while [ -n "$stream" ]; do
+        local len=$((16#${stream:0:4} * 2))
+        echo "${stream:4:len}"
+        stream=${stream:4+len}
+    done
+}
+
+# Types that dnsd doesn't know: what BIND has of them is taken in from what dig prints, and from the octets of a transfer; it is told as it
+# was taken, to dig by name and by number, and nsupdate changes it by the names that it knows (RFC 3597).
+any_types() {
+    local at=$((port + 4)) tool=nsupdate over=udp want
+    start_primary $at
+    reaches $at 1
+    want=$(octets_at $at)
+    dig @127.0.0.1 -p $at +noall +answer +onesoa +unknownformat "$d" axfr | "$program" check - >"$work/printed" || true
+    { "$program" check - <<<"$d 3600 IN SOA . . 0 1 1 1 1"$'\n'"$d 3600 IN NS ."; echo %; messages_at $at; } |
+        "$program" apply - >"$work/sent" || true
+    check "BIND's zone by dig and by its messages" "$(<"$work/printed")" "$(<"$work/sent")"
+    serve "$work/sent"
+    check "BIND's zone, octet by octet" "$want" "$(octets_at "$port")"
+    check "BIND's zone, as dig tells it" "$(held $at)" "$(held "$port")"
+    tools=dig ask "$both" "$d CAA" 'NOERROR qr aa rd' "$(rr @ CAA '0 issue "ca.example.net"' '128 ISSUEWILD ";"')"
+    tools=dig ask "$both" "web.$d TYPE65280" 'NOERROR qr aa rd' "$(rr web TYPE65280 '\# 3 0A0B0C')"
+    tools=dig ask "$both" "_dns.$d SVCB" 'NOERROR qr aa rd' "$(rr _dns SVCB '1 Web.Example.TEST. alpn="dot" port=853')"
+    # a DS at a cut is told to nobody who asks for it: the zone below is (RFC 1034, 4.3.2)
+    tools=dig ask "$both" "sub.$d DS" 'NOERROR qr rd' '' "$(rr sub NS "ns.sub.$d")" "$(rr ns.sub A 192.0.2.53)"
+    change NOERROR "update add new.$d 3600 CAA 0 issue \"Ca.Example.NET\""$'\n'"update add new.$d 3600 TYPE65280 \\# 3 0a0b0c"
+    holds "new.$d" CAA "$(rr new CAA '0 issue "Ca.Example.NET"')"
+    change NOERROR "update delete new.$d CAA 0 issue \"ca.example.net\""
+    holds "new.$d" CAA "$(rr new CAA '0 issue "Ca.Example.NET"')"
+    change NOERROR "update delete new.$d CAA 0 issue \"Ca.Example.NET\""
+    holds "new.$d" CAA NOERROR
+    holds "new.$d" TYPE65280 "$(rr new TYPE65280 '\# 3 0A0B0C')"
+    unserve
+}
+
 serve tests/interop.zone
 questions
 unserve
@@ -490,6 +554,7 @@ if [ $transfers = yes ]; then
         secondaries
     fi
     unserve
+    any_types
 fi
 echo "$passed checks passed, $failed failed"
 [ $failed -eq 0 ]

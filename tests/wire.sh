@@ -3,8 +3,8 @@
 # shellcheck shell=bash disable=SC2034
 
 origin=example.test.
-# the numbers of types and classes (RFC 1035, 3.2; RFC 2136, 2.4); UNKNOWN is a type that isn't served
-declare -A type_numbers=([A]=0001 [NS]=0002 [CNAME]=0005 [SOA]=0006 [PTR]=000c [MX]=000f [TXT]=0010 [AAAA]=001c [SRV]=0021 [UNKNOWN]=0063
+# the numbers of types and classes (RFC 1035, 3.2; RFC 2136, 2.4); UNKNOWN is a type that nobody here knows
+declare -A type_numbers=([A]=0001 [NS]=0002 [CNAME]=0005 [SOA]=0006 [PTR]=000c [MX]=000f [TXT]=0010 [AAAA]=001c [SRV]=0021 [OPT]=0029 [UNKNOWN]=0063
     [IXFR]=00fb [AXFR]=00fc [ANY]=00ff)
 declare -A class_numbers=([IN]=0001 [CH]=0003 [NONE]=00fe [ANY]=00ff)
 

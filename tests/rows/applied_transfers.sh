@@ -25,7 +25,9 @@ put_known() {
         out) put_raw net. A IN 3600 c0000201 ;;
         short) put_raw h A IN 3600 c00002 ;;
         chaos) put_raw @ SOA CH 3600 000000000001$numbers ;;
-        unknown) put_raw h UNKNOWN IN 3600 c0000201 ;;
+        opt) put_raw h OPT IN 3600 c0000201 ;;
+        unknown) put_raw h UNKNOWN IN 3600 034142c00c ;;
+        folded) put_raw h UNKNOWN IN 3600 034162c00c ;;
         garbled) ;;
     esac
 }
@@ -67,7 +69,8 @@ X1 Broken|refused s1
 X1 Broken|ns s2
 X1 Broken|chaos
 X1 Broken|s2 chaos
-X1 Broken|s2 unknown
+X1 Broken|s2 opt
+X1 Broken|s2 ns opt s2
 X1 Broken|s2 short
 X1 Broken|s2 ns a2
 X1 Broken|s2 ns s3
@@ -87,6 +90,7 @@ X2 WrongBase|s3 s1 s2 s1 s3 s3
 X2 WrongBase|s2 s1 a2 s2 s2
 X2 WrongBase|s2 s1 s2 a1 s2
 X2 WrongBase|s2 s1 a60 s2 s2
+X2 WrongBase|s2 s1 unknown s2 s2
 X3 NotInZone|outer
 X3 NotInZone|outer ns
 X3 NotInZone|outer ns/garbled
@@ -112,6 +116,19 @@ done <<'text'
 2|192.0.2.2|s2 s1 a1 s2 a2 s2
 2||s2 s1 a1/s2/s2
 3||s3 s1 a1 s2 a2 s2 a2 s3 s3
+text
+
+# data of a type that nobody here knows is taken as it stands: octets that would be a pointer or letters in other data are none here, and two
+# that differ in a letter's case are two records (RFC 3597, 3, 4 and 6)
+while IFS='|' read -r octets messages; do
+    transfer "$messages"
+    text='example. 3600 IN SOA . . 2 2 3 4 5'$'\n''example. 3600 IN NS h.example.'$'\n''h.example. 3600 IN A 192.0.2.1'
+    for data in $octets; do text+=$'\n'"h.example. 3600 IN TYPE99 \\# 5 $data"; done
+    prints "$text" apply --origin example. -
+done <<'text'
+034142c00c|s2 ns a1 unknown s2
+034142c00c 034162c00c|s2 ns a1 folded unknown s2
+034162c00c|s2 s1 s2 folded s2
 text
 
 # put_addresses FROM COUNT: puts so many addresses at h, from 192.0.2.0 and so many on, and counts them

@@ -114,7 +114,7 @@ faults <<'end'
 HINFO x␊ => line 1: M5 UnknownType
 \065 x␊ => line 1: M5 UnknownType
 IN x␊ => line 1: M5 UnknownType
-TYPE1 x␊ => line 1: M5 UnknownType
+CAA 0 issue ca␊ => line 1: M5 UnknownType
 end
 
 # the class in any case, and in front of a type; in quotes it is none, and other classes aren't served (RFC 1035, 3.2.4)

@@ -25,6 +25,7 @@ rules <<'text'
 2.4.1: no name|8|@ SOA IN|new A ANY 0|
 2.4.1: no such type|8|@ SOA IN|web UNKNOWN ANY 0|
 2.4.2: a set of these data|0|@ SOA IN|A.B A IN 0 c0000201|
+2.4.2: no set of a type that nobody knows|8|@ SOA IN|web UNKNOWN IN 0 c0000201|
 2.4.2: of other data|8|@ SOA IN|a.b A IN 0 c0000202|
 2.4.2: of more data|8|@ SOA IN|web A IN 0 c0000201|
 2.4.3: no set exists|0|@ SOA IN|web AAAA NONE 0|
@@ -79,7 +80,9 @@ rules <<'text'
 outside|10|@ SOA IN||test. A CH 1
 add ANY|1|@ SOA IN||web ANY IN 0
 add AXFR|1|@ SOA IN||web AXFR IN 0
-add an unknown type|1|@ SOA IN||web UNKNOWN IN 0
+add OPT|1|@ SOA IN||web OPT IN 0
+add a type that nobody knows|0|@ SOA IN||web UNKNOWN IN 60 41
+add no octets of one|0|@ SOA IN||web UNKNOWN IN 60
 an NS at `*`|5|@ SOA IN||*.b NS IN 60 036e7331076578616d706c65047465737400
 a text at `*`|0|@ SOA IN||*.b TXT IN 60 0178
 an NS below `*`|0|@ SOA IN||a.*.b NS IN 60 036e7331076578616d706c65047465737400
@@ -88,6 +91,9 @@ ANY with data|1|@ SOA IN||web A ANY 0 c0000201
 delete AXFR|1|@ SOA IN||web AXFR ANY 0
 NONE with a TTL|1|@ SOA IN||web A NONE 1 c0000201
 NONE of type ANY|1|@ SOA IN||web ANY NONE 0
+NONE of OPT|1|@ SOA IN||web OPT NONE 0
+delete a set that nobody knows|0|@ SOA IN||web UNKNOWN ANY 0
+delete no octets of one|0|@ SOA IN||web UNKNOWN NONE 0
 another class|1|@ SOA IN||web A CH 0 c0000201
 text
 

@@ -96,11 +96,16 @@ a 1 "A" 1.1.1.1 => line 1: M5 UnknownType
 a 1h A 1.1.1.1 => line 1: M5 UnknownType
 a 1 \065 1.1.1.1 => line 1: M5 UnknownType
 a x => line 1: M5 UnknownType
-a 1 CLASS1 A 1.1.1.1 => line 1: M5 UnknownType
-a 1 CLASS3 A 1.1.1.1 => line 1: M5 UnknownType
+a 1 CLASS01 A 1.1.1.1 => line 1: M4 BadClass
+a 1 CLASS3 A 1.1.1.1 => line 1: M4 BadClass
+a 1 class255 A 1.1.1.1 => line 1: M4 BadClass
+a 1 CLASS99999 A 1.1.1.1 => line 1: M4 BadClass
+a 1 CLASS A 1.1.1.1 => line 1: M5 UnknownType
+a 1 CLASSA A 1.1.1.1 => line 1: M5 UnknownType
+a 1 "CLASS1" A 1.1.1.1 => line 1: M5 UnknownType
+a 1 CLASS1 CLASS1 A 1.1.1.1 => line 1: M5 UnknownType
 a 1 ANY A 1.1.1.1 => line 1: M5 UnknownType
-a 1 TYPE1 1.1.1.1 => line 1: M5 UnknownType
-a 1 A \# 4 01010101 => line 1: M6 BadData
+a 1 CAA 0 issue ca => line 1: M5 UnknownType
 a => line 1: M6 BadData
 a 1 IN => line 1: M6 BadData
 $ORIGIN a b => line 1: M6 BadData
@@ -178,11 +183,11 @@ a number is due, and this is none, or too great for its field: `a. 5 MX 65536 a.
 a. 5 ch A 192.0.2.1␊ => line 1: M4 BadClass
 the class isn't IN: `ch`, in `a. 5 ch A 192.0.2.1`
 ␊␊a.test. 5 IN WKS x␍␊ => line 3: M5 UnknownType
-a type is due, and this is none that is served: `WKS`, in `a.test. 5 IN WKS x`
+a type is due, by a name that is known here or by its number (CAA is written TYPE257 \# ..): `WKS`, in `a.test. 5 IN WKS x`
 a. 5 A 192.0.2.1␊ 5 WKS x␊ => line 2: M5 UnknownType
-a type is due, and this is none that is served: `WKS`, in ` 5 WKS x`
+a type is due, by a name that is known here or by its number (CAA is written TYPE257 \# ..): `WKS`, in ` 5 WKS x`
 a. 5 IN W␛S␊ => line 1: M5 UnknownType
-a type is due, and this is none that is served: `W\027S`, in `a. 5 IN W\027S`
+a type is due, by a name that is known here or by its number (CAA is written TYPE257 \# ..): `W\027S`, in `a. 5 IN W\027S`
 www 3600 IN A 192.0.2.256␊ => line 1: M6 BadData
 the data isn't of its type's form, or a word is missing or too many: `www 3600 IN A 192.0.2.256`
 a. 5 TXT (␊ "x␊ )␊ => line 2: M7 Unclosed

@@ -22,7 +22,7 @@ fn words_of_no_text(rt: HostRuntime) {
     let root = Name::root();
     let txt = read_data(rt.alloc(), RType::TXT, &slash, &root).err();
     let opt = read_data(rt.alloc(), RType::OPT, &[], &root).err();
-    assert!(rt; txt == Some(Cause::BadData) && opt == Some(Cause::UnknownType));
+    assert!(rt; txt == Some(Cause::BadData) && opt == Some(Cause::BadData));
 }
 
 /// Names relative to the origin of RFC 1035, 5.3.

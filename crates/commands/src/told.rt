@@ -93,7 +93,9 @@ fn reason_of(fault: FileFault) -> &'static str {
         Cause::BadName => "a name is due, and this is none",
         Cause::Number => "a number is due, and this is none, or too great for its field",
         Cause::BadClass => "the class isn't IN",
-        Cause::UnknownType => "a type is due, and this is none that is served",
+        Cause::UnknownType => {
+            "a type is due, by a name that is known here or by its number (CAA is written TYPE257 \\# ..)"
+        }
         Cause::BadData => "the data isn't of its type's form, or a word is missing or too many",
         Cause::Unclosed =>
             "a quote or a parenthesis has no other one, or stands within parentheses",

@@ -5,7 +5,7 @@ use Rattle.std.specs.Int.{to_be_bytes, w16}
 use Rattle.dns_name.specs.Name.{wire_of, name_in, IsName}
 use Rattle.dns_name.proofs.LawLemmas.{name_in-stands}
 use Rattle.dns_rdata.specs.declared.layout.Layout.{Layout}
-use Rattle.dns_rdata.specs.declared.layout.Layout.TheVariants.{Fields, Strings}
+use Rattle.dns_rdata.specs.declared.layout.Layout.TheVariants.{Fields, Strings, Opaque}
 use Rattle.dns_rdata.specs.Layout.{layout_of, names_in}
 use Rattle.dns_rdata.specs.Record.{Record}
 use Rattle.wire_names.specs.Table.{Entry, Table, keyed}
@@ -101,6 +101,7 @@ Keeps-by : (layout : Layout) (octets : List ℕ) → Keeps (octets_by layout oct
 Keeps-by (Fields front names back compressed) octets =
     Keeps-before (these (take front octets)) (names_octets compressed names (drop front octets)) (Keeps-these _) (Keeps-names compressed names (drop front octets))
 Keeps-by Strings octets = Keeps-these octets
+Keeps-by Opaque octets = Keeps-these octets
 
 Keeps-at : (o : Option Layout) (octets : List ℕ) → Keeps (data_laid o octets)
 Keeps-at None octets = Keeps-these octets

@@ -1,5 +1,5 @@
 -- How the data and the records of an update are read, one after another.
-use Rattle.std.proofs.Common.{subst, eq-eqb, ⊎_elim, lit<, ◌≡◌, ℕ, suc, ◌+◌, ◌-◌, ◌<◌, ◌≤◌, Bool, true, false, cond, ◌==◌, List, [], ◌∷◌, ◌++◌, append_assoc, Option, Some, None, Ok, Err, refl, sym, ap, ◌∙◌, arith, option_map, option_and_then}
+use Rattle.std.proofs.Common.{subst, eq-eqb, ⊎_elim, lit<, ◌≡◌, ℕ, suc, ◌+◌, ◌-◌, ◌<◌, ◌≤◌, ◌^◌, Bool, true, false, cond, ◌||◌, ◌==◌, nat_le, List, [], ◌∷◌, ◌++◌, append_assoc, Option, Some, None, Ok, Err, refl, sym, ap, ◌∙◌, arith, option_map, option_and_then}
 use Rattle.std.specs.List.{flat_map}
 use Rattle.std.proofs.lemmas.Bool.{cases_Bool}
 use Rattle.std.proofs.lemmas.Bool.Decides.{Decides-eqb}
@@ -9,8 +9,9 @@ use Rattle.dns_rdata.specs.Raw.{RawRecord}
 use Rattle.wire_names.specs.NameAt.{name_at}
 use Rattle.wire_names.specs.declared.part.NameReadFault.{NameReadFault}
 use Rattle.dns_rdata.specs.declared.layout.Layout.{Layout}
-use Rattle.dns_rdata.specs.declared.layout.Layout.TheVariants.{Fields, Strings}
+use Rattle.dns_rdata.specs.declared.layout.Layout.TheVariants.{Fields, Strings, Opaque}
 use Rattle.dns_rdata.specs.Layout.{layout_of}
+use Rattle.dns_rdata.specs.Numbers.{is_metatype}
 use Rattle.dns_message.specs.Message.{Entry}
 use Rattle.dns_message.specs.Expanded.{names_at, octets_from, expanded_by, expanded_data}
 use Rattle.dns_message.specs.Updates.{raw_at, raws_at}
@@ -96,6 +97,10 @@ pub data_of_strings : (msg : List ℕ) (e : Entry) → Some Strings ≡ layout_o
 unfolding expanded_data
 data_of_strings msg e h = rw (sym h, expanded_data) refl
 
+pub data_of_opaque : (msg : List ℕ) (e : Entry) → Some Opaque ≡ layout_of e.rtype → expanded_data msg e ≡ Some (octets_from msg e.at e.size)
+unfolding expanded_data
+data_of_opaque msg e h = rw (sym h, expanded_data) refl
+
 pub data_of_none : (msg : List ℕ) (e : Entry) → None ≡ layout_of e.rtype → expanded_data msg e ≡ Some (octets_from msg e.at e.size)
 unfolding expanded_data
 data_of_none msg e h = rw (sym h, expanded_data) refl
@@ -105,6 +110,7 @@ front_of : Option Layout → ℕ
 front_of None = 0
 front_of (Some (Fields front names back compressed)) = front
 front_of (Some Strings) = 0
+front_of (Some Opaque) = 0
 
 front_of_cond : (b : Bool) (x y : Option Layout) → front_of x < 65536 → front_of y < 65536 → front_of (cond b x y) < 65536
 front_of_cond true x y h k = h
@@ -121,7 +127,8 @@ front_of_layout rtype =
     (front_of_cond (rtype == 15) _ _ (lit< tt)
     (front_of_cond (rtype == 16) _ _ (lit< tt)
     (front_of_cond (rtype == 28) _ _ (lit< tt)
-    (front_of_cond (rtype == 33) (Some (Fields 6 1 0 false)) None (lit< tt) (lit< tt)))))))))
+    (front_of_cond (rtype == 33) _ _ (lit< tt)
+    (front_of_cond (is_metatype rtype || nat_le (2 ^ 16) rtype) None (Some Opaque) (lit< tt) (lit< tt))))))))))
 
 pub front_is_short : (rtype front names back : ℕ) (compressed : Bool) → Some (Fields front names back compressed) ≡ layout_of rtype → front < 65536
 unfolding front_of

@@ -6,7 +6,7 @@ use Rattle.std.specs.List.{flat_map}
 use Rattle.dns_name.specs.Name.{Name, wire_of, name_in, IsName}
 use Rattle.dns_name.proofs.LawLemmas.{name_in-stands}
 use Rattle.dns_rdata.specs.declared.layout.Layout.{Layout}
-use Rattle.dns_rdata.specs.declared.layout.Layout.TheVariants.{Fields, Strings}
+use Rattle.dns_rdata.specs.declared.layout.Layout.TheVariants.{Fields, Strings, Opaque}
 use Rattle.dns_rdata.specs.Layout.{layout_of, names_in}
 use Rattle.dns_rdata.specs.Record.{Record}
 use Rattle.wire_names.specs.Table.{Table}
@@ -79,6 +79,7 @@ by_short (Fields front names back compressed) octets table at =
     let whole = split_at_front front octets in
     omega arith
 by_short Strings octets table at = omega arith
+by_short Opaque octets table at = omega arith
 
 laid_short : (o : Option Layout) (octets : List ℕ) (table : Table) (at : ℕ) → length (data_laid o octets table at).0 ≤ length octets
 unfolding these

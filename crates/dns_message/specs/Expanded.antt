@@ -3,7 +3,7 @@ use Rattle.std.specs.Prelude.{ℕ, zero, suc, ◌+◌, ◌==◌, List, [], ◌�
 use Rattle.std.specs.List.{flat_map}
 use Rattle.dns_name.specs.Name.{Name, wire_of}
 use Rattle.dns_rdata.specs.declared.layout.Layout.{Layout}
-use Rattle.dns_rdata.specs.declared.layout.Layout.TheVariants.{Fields, Strings}
+use Rattle.dns_rdata.specs.declared.layout.Layout.TheVariants.{Fields, Strings, Opaque}
 use Rattle.dns_rdata.specs.Layout.{layout_of}
 use Rattle.wire_names.specs.NameAt.{name_at}
 use Rattle.dns_message.specs.Message.{Entry}
@@ -30,6 +30,7 @@ expanded_by (Fields front names back compressed) msg at size =
     (λ r. if r.1 + back == at + size then Some (octets_from msg at front ++ flat_map wire_of r.0 ++ octets_from msg r.1 back) else None)
     (names_at names msg (at + front))
 expanded_by Strings msg at size = Some (octets_from msg at size)
+expanded_by Opaque msg at size = Some (octets_from msg at size)
 
 -- the expanded data of a record in a message: its data with the names in it in full; data of a type that has no layout
 -- are as they stand (RFC 1035, 4.1.4; RFC 3597, 4)

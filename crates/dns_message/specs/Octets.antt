@@ -4,7 +4,7 @@ use Rattle.std.specs.Int.{to_be_bytes, w16, w32}
 use Rattle.std.specs.List.{flat_map}
 use Rattle.dns_name.specs.Name.{wire_of}
 use Rattle.dns_rdata.specs.declared.layout.Layout.{Layout}
-use Rattle.dns_rdata.specs.declared.layout.Layout.TheVariants.{Fields, Strings}
+use Rattle.dns_rdata.specs.declared.layout.Layout.TheVariants.{Fields, Strings, Opaque}
 use Rattle.dns_rdata.specs.Layout.{layout_of, names_in}
 use Rattle.dns_rdata.specs.Numbers.{class_IN, header_bits}
 use Rattle.dns_rdata.specs.Record.{Record}
@@ -33,12 +33,14 @@ names_octets compress count octets =
     let names = names_in count octets in
     before (each (named compress) names) (these (drop (length (flat_map wire_of names)) octets))
 
--- data that lies by a layout: the octets in front of its names as they are, and then the names; strings as they are
+-- data that lies by a layout: the octets in front of its names as they are, and then the names; strings as they are, and data of a type that
+-- nobody knows, in which no name is compressed (RFC 3597, 4)
 abbrev pub octets_by : Layout → List ℕ → Encoding
 octets_by (Fields front names back compressed) octets = before (these (take front octets)) (names_octets compressed names (drop front octets))
 octets_by Strings octets = these octets
+octets_by Opaque octets = these octets
 
--- data of a type that has this layout, or none, and then it is as it is (RFC 3597, 4)
+-- data of a type that has this layout, or none, and then it is as it is (own)
 abbrev pub data_laid : Option Layout → List ℕ → Encoding
 data_laid None octets = these octets
 data_laid (Some layout) octets = octets_by layout octets

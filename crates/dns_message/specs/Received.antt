@@ -14,7 +14,7 @@ abbrev pub rcode_of : List ℕ → ℕ
 rcode_of msg = slice_index msg 3 % 16
 
 -- a record as it is received: its owner in lower case, and its data with the names in full; no data where these can't be read, which
--- is the form of no type that is served (RFC 1035, 3.3 and 4.1.4; RFC 4343, 3; own)
+-- is the form of no type that has names (RFC 1035, 3.3 and 4.1.4; RFC 4343, 3; own)
 abbrev pub received : List ℕ → Entry → RawRecord
 received msg entry = raw_with entry (unwrap_or (expanded_data msg entry) [])
 

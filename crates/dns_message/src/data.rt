@@ -70,6 +70,7 @@ fn put_data(
             },
         ) => put_fields(out, at, names, front, count, compressed, octets),
         Some(Layout::Strings) => put(out, at, octets),
+        Some(Layout::Opaque) => put(out, at, octets),
         None => put(out, at, octets),
     }
 }

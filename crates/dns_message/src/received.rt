@@ -18,7 +18,7 @@ use std::alloc::{AllocError, Global};
 const RCODES: u8 = 16;
 
 /// The records of the answer section of a message that was received, in their order, each with its owner in lower case and
-/// the names in its data in full; a record whose data can't be read has none, which is the form of no type that is served.
+/// the names in its data in full; a record whose data can't be read has none, which is the form of no type that has names.
 /// None where the octets are no reply of RCODE NOERROR, or a question or a record of any section can't be read; octets behind
 /// the last record are ignored (RFC 1035, 4.1; RFC 5936, 2.2; own). An `Err` only where a growth was refused; none is asked for
 /// where there is no such record.

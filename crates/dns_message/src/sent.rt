@@ -79,7 +79,7 @@ fn data_octets(
     }
 }
 
-/// Whether a record's data are read: those of class IN and of class NONE are, of the types that are served; but a
+/// Whether a record's data are read: those of class IN and of class NONE are, of the types that a record of a zone can have; but a
 /// prerequisite of class NONE may have none, and says so that a set doesn't exist (RFC 2136, 2.4 and 2.5).
 fn is_looked_at(section: Section, entry: &Entry) -> bool
     ensures { result ≡ is_looked_at section entry.now }
@@ -116,6 +116,7 @@ pub(crate) fn expanded(
             ..
         } => expanded_fields(alloc, octets, entry, front, names, back),
         Layout::Strings => as_it_stands(alloc, octets, entry),
+        Layout::Opaque => as_it_stands(alloc, octets, entry),
     }
 }
 

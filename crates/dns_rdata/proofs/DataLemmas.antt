@@ -6,7 +6,7 @@ use Rattle.std.proofs.Math.Seq.{take-append_seam, drop-append_seam}
 use Rattle.dns_name.specs.Name.{wire_of, fold_name, name_in}
 use Rattle.std.specs.Option.{option_and_then}
 use Rattle.dns_rdata.specs.declared.layout.Layout.{Layout}
-use Rattle.dns_rdata.specs.declared.layout.Layout.TheVariants.{Fields, Strings}
+use Rattle.dns_rdata.specs.declared.layout.Layout.TheVariants.{Fields, Strings, Opaque}
 use Rattle.dns_rdata.specs.Layout.{layout_of}
 use Rattle.dns_rdata.specs.Data.{names_then, parts, are_strings, data_by, data_of}
 use Rattle.std.proofs.lemmas.List.Elements.{All-append, All-drop, All-take}
@@ -74,6 +74,7 @@ IsRead-strings octets own e =
 IsRead-by : (layout : Layout) (octets own : List ℕ) → data_by layout octets ≡ Some own → IsRead (data_by layout) octets own
 IsRead-by (Fields front names back compressed) octets own e = let read = IsRead-parts front names back octets own e in record { again = read.again; len = read.len }
 IsRead-by Strings octets own e = let read = IsRead-strings octets own e in record { again = read.again; len = read.len }
+IsRead-by Opaque octets own e = let same : octets ≡ own = cc in record { again = refl; len = ap length (sym same) }
 
 IsRead-at : (o : Option Layout) (octets own : List ℕ) → option_and_then (λ (layout : Layout). data_by layout octets) o ≡ Some own → IsRead (λ (os : List ℕ). option_and_then (λ (layout : Layout). data_by layout os) o) octets own
 IsRead-at None octets own e = cc
@@ -111,6 +112,7 @@ octets_by Strings octets own e h =
     let test = cond_some (nat_lt 0 (length octets) && are_strings octets) (Some octets) own e in
     let same : octets ≡ own = cc in
     rw same at h
+octets_by Opaque octets own e h = let same : octets ≡ own = cc in rw same at h
 
 octets_at : (o : Option Layout) (octets own : List ℕ) → option_and_then (λ (layout : Layout). data_by layout octets) o ≡ Some own → All (λ octet. octet < 256) octets → All (λ octet. octet < 256) own
 octets_at None octets own e h = cc

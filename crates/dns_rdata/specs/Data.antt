@@ -1,12 +1,12 @@
 -- What a record's data is: which octets have the form of their type, with names written in full (RFC 1035, 3.3 and
--- 3.4.1; RFC 2782; RFC 3596, 2.2), and what stands in them.
+-- 3.4.1; RFC 2782; RFC 3596, 2.2; RFC 3597, 3), and what stands in them.
 use Rattle.std.specs.Prelude.{◌≡◌, ℕ, zero, suc, ◌*◌, ◌-◌, ◌<◌, ◌≤◌, Bool, true, false, ◌&&◌, ◌==◌, List, [], ◌∷◌, ◌++◌, length, take, drop, nat_lt, nat_le, if◌then◌else◌, Option, Some, None, All}
 use Rattle.std.specs.Option.{option_map, option_and_then}
 use Rattle.std.specs.Int.{from_be_bytes, to_be_bytes, w32}
 use Rattle.dns_rdata.specs.Limits.{max_data}
 use Rattle.dns_name.specs.Name.{Name, wire_of, fold_name, name_in}
 use Rattle.dns_rdata.specs.declared.layout.Layout.{Layout}
-use Rattle.dns_rdata.specs.declared.layout.Layout.TheVariants.{Fields, Strings}
+use Rattle.dns_rdata.specs.declared.layout.Layout.TheVariants.{Fields, Strings, Opaque}
 use Rattle.dns_rdata.specs.Layout.{layout_of}
 
 -- so many names in full and behind them so many octets: the same octets with the names in lower case; none of any others
@@ -39,9 +39,10 @@ counted string = length string ∷ string
 abbrev pub data_by : Layout → List ℕ → Option (List ℕ)
 data_by (Fields front names back compressed) octets = parts front names back octets
 data_by Strings octets = if nat_lt 0 (length octets) && are_strings octets then Some octets else None
+data_by Opaque octets = Some octets
 
--- the data octets of a type that these octets spell; none where they haven't the type's form, or the type isn't one of
--- those served (RFC 1035, 3.3 and 3.4.1; RFC 2782; RFC 3596, 2.2)
+-- the data octets of a type that these octets spell; none where they haven't the type's form, or no record of a zone has
+-- the type (RFC 1035, 3.3 and 3.4.1; RFC 2782; RFC 3596, 2.2; RFC 3597, 3)
 unfoldable pub data_of : ℕ → List ℕ → Option (List ℕ)
 data_of rtype octets = option_and_then (λ layout. data_by layout octets) (layout_of rtype)
 

@@ -1,4 +1,4 @@
-//! A record's data (RFC 1035, 3.3 and 3.4.1; RFC 2782; RFC 3596, 2.2).
+//! A record's data (RFC 1035, 3.3 and 3.4.1; RFC 2782; RFC 3596, 2.2; RFC 3597, 3).
 ghost use Rattle.std.specs.Prelude.{◌≡◌, ◌-◌, ◌<◌, ◌≤◌, ◌↔◌, ◌==◌, if◌then◌else◌, length, take, drop, IfOk, IfSome, Some, None, IsSome};
 ghost use Rattle.std.specs.Int.{from_be_bytes, w32};
 ghost use Rattle.std.specs.Result.{IsErrOf};
@@ -20,7 +20,7 @@ pub const MAX_DATA: usize = 4096;
 /// Why octets are no record's data. The form is judged before the length.
 #[derive(Clone, Copy, Debug, PartialEq, Eq, Error)]
 pub enum DataFault {
-    /// The octets don't have the form of their type, or the type isn't one of those served.
+    /// The octets don't have the form of their type, or no record of a zone has the type.
     #[error("A1 BadLength")]
     BadLength,
     /// More octets than a record's data may have.
@@ -67,7 +67,7 @@ impl RData {
     /// The data that these octets spell for a type, names in full: the same octets with the names in lower case.
     ///
     /// `BadLength` where they haven't the type's form, else `TooLong` over [`MAX_DATA`] octets (RFC 1035, 3.3 and
-    /// 3.4.1; RFC 2782; RFC 3596, 2.2). `NoMemory` only where a growth was refused, of octets that are data.
+    /// 3.4.1; RFC 2782; RFC 3596, 2.2; RFC 3597, 3). `NoMemory` only where a growth was refused, of octets that are data.
     pub fn from_wire(alloc: Global, rtype: RType, octets: &[u8]) -> Result<RData, DataFault>
         ensures data { IfOk result (λ d. (d.rtype ≡ rtype.0)
             × (data_of rtype.0 octets.now ≡ Some d.octets)

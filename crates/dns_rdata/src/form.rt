@@ -9,8 +9,8 @@ use crate::numbers::RType;
 use dns_name::{KeptOctets, Name};
 use std::alloc::{AllocError, Global};
 
-/// Whether octets have a type's form; those of a type that isn't served have none (RFC 1035, 3.3 and 3.4.1; RFC 2782;
-/// RFC 3596, 2.2). It takes no memory.
+/// Whether octets have a type's form; those of a metatype have none (RFC 1035, 3.3 and 3.4.1; RFC 2782; RFC 3596, 2.2;
+/// RFC 3597, 3). It takes no memory.
 #[tactic(auto, unfolding(crate::specs::Data::data_of))]
 pub(crate) fn has_form(rtype: RType, octets: &[u8]) -> bool
     ensures { result ≡ is_some (data_of rtype.0 octets.now) }
@@ -26,6 +26,7 @@ pub(crate) fn has_form(rtype: RType, octets: &[u8]) -> bool
             },
         ) => has_parts(octets, front, names, back),
         Some(Layout::Strings) => !octets.is_empty() && holds_strings(octets),
+        Some(Layout::Opaque) => true,
     }
 }
 

@@ -1,5 +1,5 @@
 //! Laws of data, records and sets: each is the contract of a function that does nothing.
-ghost use Rattle.std.specs.Prelude.{◌≡◌, ℕ, Bool, false, ◌||◌, ◌↔◌, true, List, length, flat_map, Some, IsSome, bytes_eq};
+ghost use Rattle.std.specs.Prelude.{◌≡◌, ◌<◌, ◌^◌, ℕ, Bool, false, ◌||◌, ◌↔◌, true, List, length, flat_map, Some, IsSome, bytes_eq};
 ghost use Rattle.std.specs.Cmp.{IsTotalOrder};
 ghost use Rattle.dns_rdata.specs.Data.{data_of, are_strings, counted, target_of};
 ghost use Rattle.dns_rdata.specs.Layout.{layout_of, names_in_data};
@@ -22,9 +22,9 @@ pub fn strings_in_a_row()
         ↔ ((strings : List (List ℕ)) × (octets ≡ flat_map counted strings)) }
 {}
 
-/// No type that is served is a metatype (RFC 6895, 3.1).
+/// Records of a zone have each type of 16 bits that isn't a metatype, and no other (RFC 3597, 3; RFC 6895, 3.1).
 pub fn served_types()
-    ensures { (rtype : ℕ) → IsSome (layout_of rtype) → is_metatype rtype ≡ false }
+    ensures { (rtype : ℕ) → IsSome (layout_of rtype) ↔ ((is_metatype rtype ≡ false) × (rtype < 2 ^ 16)) }
 {}
 
 /// Data of a type with so many names has that many of them (RFC 1035, 3.3); so an alias of a zone has a name that it stands

@@ -1,4 +1,4 @@
-//! How the data of each type lies (RFC 1035, 3.3 and 3.4.1; RFC 2782; RFC 3596, 2.2).
+//! How the data of each type lies (RFC 1035, 3.3 and 3.4.1; RFC 2782; RFC 3596, 2.2; RFC 3597, 3).
 ghost use Rattle.std.specs.Prelude.{◌≡◌};
 ghost use Rattle.dns_rdata.specs.Layout.{layout_of};
 
@@ -23,10 +23,13 @@ pub enum Layout {
     },
     /// One string or more, each a length octet and so many octets (RFC 1035, 3.3 and 3.3.14).
     Strings,
+    /// Octets of any number, of a type that nobody here knows: no name in them is looked for (RFC 3597, 3, 4 and 6).
+    Opaque,
 }
 
 impl RType {
-    /// How the type's data lies; None of a type that isn't served (RFC 1035, 3.3 and 3.4.1; RFC 2782; RFC 3596, 2.2).
+    /// How the type's data lies; None of a metatype, which no record of a zone has (RFC 1035, 3.3 and 3.4.1; RFC 2782;
+    /// RFC 3596, 2.2; RFC 3597, 3).
     #[tactic(auto, unfolding(crate::specs::Layout::layout_of))]
     pub fn layout(self) -> Option<Layout>
         ensures { result ≡ layout_of self.0 }
@@ -41,7 +44,8 @@ impl RType {
             RType::AAAA => (16, 0, 0, false),
             // Priority, weight and port, and then the target.
             RType::SRV => (6, 1, 0, false),
-            _ => return None,
+            _ if self.is_metatype() => return None,
+            _ => return Some(Layout::Opaque),
         };
         Some(Layout::Fields {
             front,

@@ -1,5 +1,6 @@
 //! The numbers of record types, classes and reply codes, and the numbers that a record and an SOA carry.
 ghost use Rattle.std.specs.Prelude.{◌≡◌, ◌<◌, ◌^◌};
+ghost use Rattle.dns_rdata.specs.Numbers.{is_metatype};
 ghost use Rattle.dns_rdata.specs.Raw.{ttl_in_zone};
 
 /// A record type, or a type that only a question may have (RFC 1035, 3.2.2 and 3.2.3).
@@ -37,6 +38,14 @@ impl RType {
     pub const MAILA: RType = RType(254);
     /// A request for all records (RFC 1035, 3.2.3).
     pub const ANY: RType = RType(255);
+
+    /// Whether no record of a zone has the type: 0, OPT, and those kept for what only a message carries, 128 to 255 (RFC 2136,
+    /// 3.4.1.2; RFC 6891, 6.1.1; RFC 6895, 3.1).
+    pub fn is_metatype(self) -> bool
+        ensures { result ≡ is_metatype self.0 }
+    {
+        self.0 == 0 || self == RType::OPT || (128 <= self.0 && self.0 <= 255)
+    }
 }
 
 /// A class (RFC 1035, 3.2.4).

@@ -39,7 +39,7 @@ line_spelt r h =
     first_spelt (Plain (text_of r.owner)) (Plain (decimal r.ttl) ∷ Plain (codes "IN") ∷ Plain (type_word r.rtype) ∷ words_of r.rtype r.rdata) (name_spelt r.owner)
     (first_spelt (Plain (decimal r.ttl)) (Plain (codes "IN") ∷ Plain (type_word r.rtype) ∷ words_of r.rtype r.rdata) (decimal_spelt r.ttl (omega arith))
     (first_spelt (Plain (codes "IN")) (Plain (type_word r.rtype) ∷ words_of r.rtype r.rdata) refl
-    (first_spelt (Plain (type_word r.rtype)) (words_of r.rtype r.rdata) (type_spelt r.rtype r.rdata h.form) (words_spelt r.rtype r.rdata h.octets))))
+    (first_spelt (Plain (type_word r.rtype)) (words_of r.rtype r.rdata) (type_spelt r.rtype) (words_spelt r.rtype r.rdata h.octets))))
 
 more_spelt : (words : List Written) (lines : List (List Written)) → AreSpelt words → are_spelt lines ≡ true → are_spelt (words ∷ lines) ≡ true
 more_spelt words lines e h = rw (e, h) refl

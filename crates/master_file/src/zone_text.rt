@@ -5,7 +5,7 @@ ghost use Rattle.master_file.specs.WrittenZone.{record_line, is_other, zone_text
 
 use dns_name::Name;
 use dns_rdata::{RData, RRset, RType, Ttl};
-use record_text::{type_word, write_data};
+use record_text::{write_data, write_type};
 use std::alloc::{AllocError, Global};
 use zone_tree::ZoneRead;
 
@@ -55,8 +55,8 @@ fn write_record(text: &mut String, owner: &Name, ttl: Ttl, rdata: &RData) -> Res
         ++ record_line (record { owner = owner.now; rtype = rdata.now.rtype; ttl = ttl.0; rdata = rdata.now.octets })) }
 {
     let seconds = ttl.0;
-    let rtype = type_word(rdata.rtype());
-    write!(text, "{owner} {seconds} IN {rtype}")?;
+    write!(text, "{owner} {seconds} IN ")?;
+    write_type(text, rdata.rtype())?;
     write_data(text, rdata)?;
     text.push('\n')
 }

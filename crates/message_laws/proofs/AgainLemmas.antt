@@ -10,7 +10,7 @@ use Rattle.dns_rdata.specs.declared.layout.Layout.{Layout}
 use Rattle.dns_rdata.specs.Data.{data_by, data_of}
 use Rattle.dns_rdata.specs.Layout.{layout_of}
 use Rattle.dns_rdata.specs.Record.{Record}
-use Rattle.dns_rdata.proofs.LayoutLemmas.{by_type}
+use Rattle.dns_rdata.proofs.LayoutLemmas.{served_types-are}
 use Rattle.wire_names.specs.NameAt.{name_at}
 use Rattle.wire_names.specs.Table.{Table, keyed}
 use Rattle.wire_names.specs.Written.{written, table_after}
@@ -117,12 +117,9 @@ record_parts r table n =
     let place : n + length owner + length (fixed_octets r) + 2 ≡ n + length owner + 10 = omega arith in
     ap (λ k. owner ++ (fixed_octets r ++ (to_be_bytes w16 (length (data_octets r.rtype r.rdata after k).0) ++ (data_octets r.rtype r.rdata after k).0))) place
 
--- the number of a type that is served has 16 bits
-abbrev has_16_bits : ℕ → Type 0
-has_16_bits rtype = IsSome (layout_of rtype) → rtype < 2 ^ 16
-
+-- the number of a type that records of a zone can have has 16 bits
 served_16_bits : (rtype : ℕ) → IsSome (layout_of rtype) → rtype < 2 ^ 16
-served_16_bits rtype = by_type has_16_bits rtype (λ _. lit< tt) (λ _. lit< tt) (λ _. lit< tt) (λ _. lit< tt) (λ _. lit< tt) (λ _. lit< tt) (λ _. lit< tt) (λ _. lit< tt) (λ _. lit< tt) (λ none some. let is = rw none at some in cc)
+served_16_bits rtype some = ((served_types-are rtype).0 some).1
 
 served_by : (o : Option Layout) (octets own : List ℕ) → option_and_then (λ (layout : Layout). data_by layout octets) o ≡ Some own → IsSome o
 served_by None octets own e = cc

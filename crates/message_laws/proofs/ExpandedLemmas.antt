@@ -8,7 +8,7 @@ use Rattle.std.specs.List.{flat_map}
 use Rattle.dns_name.specs.Name.{wire_of, name_in, IsName}
 use Rattle.dns_name.proofs.LawLemmas.{name_in-stands}
 use Rattle.dns_rdata.specs.declared.layout.Layout.{Layout}
-use Rattle.dns_rdata.specs.declared.layout.Layout.TheVariants.{Fields, Strings}
+use Rattle.dns_rdata.specs.declared.layout.Layout.TheVariants.{Fields, Strings, Opaque}
 use Rattle.dns_rdata.specs.Data.{names_then, parts, data_by, data_of}
 use Rattle.dns_rdata.specs.Layout.{layout_of, names_in}
 use Rattle.dns_rdata.specs.Record.{Record}
@@ -129,6 +129,7 @@ layout_again : (layout : Layout) (rdata own : List ℕ) → data_by layout rdata
 unfolding these
 layout_again (Fields first names back compressed) rdata own e whole front rest table n s = fields_again first names back compressed rdata own e whole front rest table n s
 layout_again Strings rdata own e whole front rest table n s = ap Some (stands_from front rdata rest whole n (length rdata) s.at refl s.is)
+layout_again Opaque rdata own e whole front rest table n s = ap Some (stands_from front rdata rest whole n (length rdata) s.at refl s.is)
 
 at_again : (o : Option Layout) (rdata own : List ℕ) → option_and_then (λ (layout : Layout). data_by layout rdata) o ≡ Some own → (whole front rest : List ℕ) (table : Table) (n : ℕ) → Stands whole front ((data_laid o rdata table n).0 ++ rest) table n → elim o as (λ _. Option (List ℕ)) [ None ↦ Some (octets_from whole n (length (data_laid o rdata table n).0)) | Some layout ↦ expanded_by layout whole n (length (data_laid o rdata table n).0) ] ≡ Some rdata
 at_again None rdata own e whole front rest table n s = cc

@@ -20,8 +20,8 @@ pub(crate) const VENERA: &[u8] = b"\x06VENERA\x03ISI\x03EDU\0";
 pub(crate) const FOLDED: &[u8] = b"\x06venera\x03isi\x03edu\0";
 
 /// Types and octets in hexadecimal, and what these are read as, or none: the zone of RFC 1035, 5.3, on the wire, the pointer of
-/// RFC 1035, 3.5, the address of RFC 3596, 2.5, the service of RFC 2782, and data that isn't of its type's form (RFC 1035, 3.3 and
-/// 3.4.1).
+/// RFC 1035, 3.5, the address of RFC 3596, 2.5, the service of RFC 2782, octets of types that nobody here knows (RFC 3597), and data that
+/// isn't of its type's form (RFC 1035, 3.3 and 3.4.1).
 const FORMS: &str = "\
 1 0a010034 = 0a010034\n\
 1 0a0100 = none\n\
@@ -46,7 +46,11 @@ const FORMS: &str = "\
 28 432100000001000200030004056789 = none\n\
 33 0000000100090c6f6c642d736c6f772d626f78076578616d706c6503636f6d00 = 0000000100090c6f6c642d736c6f772d626f78076578616d706c6503636f6d00\n\
 33 000000010009 = none\n\
-13 0356415804554e4958 = none\n\
+13 0356415804554e4958 = 0356415804554e4958\n\
+65280 014100c00c = 014100c00c\n\
+65535  = \n\
+0  = none\n\
+128  = none\n\
 41  = none\n\
 255  = none\n";
 

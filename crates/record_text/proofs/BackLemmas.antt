@@ -1,5 +1,5 @@
 -- Words that are written of data are read as the same octets: one string, one field at a time.
-use Rattle.std.proofs.Common.{◌≡◌, ℕ, zero, suc, ◌+◌, ◌-◌, ◌*◌, ◌/◌, ◌%◌, ◌^◌, ◌<◌, ◌≤◌, Bool, true, false, cond, ◌||◌, ◌==◌, nat_lt, nat_le, List, [], ◌∷◌, ◌++◌, map, flat_map, length, drop, take, All, Some, Ok, decimal, refl, sym, ap, ◌∙◌, arith}
+use Rattle.std.proofs.Common.{◌≡◌, ℕ, zero, suc, ◌+◌, ◌-◌, ◌*◌, ◌/◌, ◌%◌, ◌^◌, ◌<◌, ◌≤◌, Bool, true, false, cond, ◌&&◌, ◌||◌, ◌==◌, nat_lt, nat_le, List, [], ◌∷◌, ◌++◌, map, flat_map, length, drop, take, All, Option, Some, None, Ok, ok_or, decimal, refl, sym, ap, ◌∙◌, arith}
 use Rattle.std.specs.List.{list_all}
 use Rattle.std.specs.Char.{is_ascii_digit, digit_value}
 use Rattle.std.specs.Str.Parse.{AllDigits, digits_value_after}
@@ -9,7 +9,8 @@ use Rattle.std.proofs.lemmas.List.{append-nil, append_assoc, take-append-drop, l
 use Rattle.std.proofs.lemmas.List.Elements.{All-head, All-tail, All-take}
 use Rattle.dns_name.specs.Text.{octet_at, digits_of}
 use Rattle.dns_rdata.proofs.StringLemmas.{strings_behind}
-use Rattle.record_text.specs.Number.{value_after, value_of, decimal_of, number_of}
+use Rattle.record_text.specs.declared.cause.Cause.TheVariants.{Number}
+use Rattle.record_text.specs.Number.{are_digits, value_after, value_of, decimal_of, number_of}
 use Rattle.record_text.specs.Strings.{string_of, strings_of}
 use Rattle.record_text.specs.Text.{string_octet, strings_in}
 use Rattle.zone_lexing.specs.Word.{Written}
@@ -135,12 +136,27 @@ value_back n (c ∷ text) h =
     let first = a_decimal c h.0 in
     ap (λ (d : ℕ). value_after (n * 10 + d) text) (sym first.1) ∙ value_back (n * 10 + digit_value c) text h.1
 
-pub number_back : (most n : ℕ) → n ≤ most → n < 2 ^ 64 → number_of most (Plain (decimal n)) ≡ Ok n
-unfolding decimal_of
-number_back most n fits small =
+-- a text writes a number in decimal digits
+pub record IsDecimal (n : ℕ) (text : List ℕ) : Type 0 where
+  pub digits : are_digits text ≡ true
+  pub value : value_of text ≡ n
+
+pub decimal_read : (n : ℕ) → n < 2 ^ 64 → IsDecimal n (decimal n)
+decimal_read n small =
     let is = decimal_is_IsNumeral n small in
     let alone = digits_alone (decimal n) is.0.1 in
     let some : nat_lt 0 (length (decimal n)) ≡ true = let h = is.0.0 in grind (arith, nat_tests) in
-    let value : value_of (decimal n) ≡ n = value_back 0 (decimal n) is.0.1 ∙ is.1 in
+    record { digits = rw (some, alone) refl; value = value_back 0 (decimal n) is.0.1 ∙ is.1 }
+
+decimal_by : (most n : ℕ) (text : List ℕ) → IsDecimal n text → n ≤ most → decimal_of most text ≡ Some n
+unfolding decimal_of
+decimal_by most n text is fits =
     let within : nat_le n most ≡ true = grind (arith, nat_tests) in
-    rw (alone, some, value, within) refl
+    let test : (are_digits text && nat_le (value_of text) most) ≡ true = ap (λ (b : Bool). b && nat_le (value_of text) most) is.digits ∙ ap (λ (v : ℕ). nat_le v most) is.value ∙ within in
+    ap (λ (b : Bool). cond b (Some (value_of text)) None) test ∙ ap (λ (v : ℕ). Some v) is.value
+
+pub decimal_back : (most n : ℕ) → n ≤ most → n < 2 ^ 64 → decimal_of most (decimal n) ≡ Some n
+decimal_back most n fits small = decimal_by most n (decimal n) (decimal_read n small) fits
+
+pub number_back : (most n : ℕ) → n ≤ most → n < 2 ^ 64 → number_of most (Plain (decimal n)) ≡ Ok n
+number_back most n fits small = ap (λ (o : Option ℕ). ok_or o Number) (decimal_back most n fits small)

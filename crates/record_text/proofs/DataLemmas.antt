@@ -1,21 +1,25 @@
 -- Octets of fields and of strings, put one behind the other.
-use Rattle.std.proofs.Common.{◌≡◌, ℕ, ◌+◌, ◌<◌, ◌≤◌, inl, inr, Bool, true, false, cond, ◌==◌, nat_lt, Option, Some, None, IsSome, List, [], ◌∷◌, ◌++◌, map, length, drop, get_or, Result, Ok, Err, refl, sym, ap, ◌∙◌, arith}
+use Rattle.std.proofs.Common.{◌≡◌, ℕ, ◌+◌, ◌<◌, ◌≤◌, inl, inr, Bool, true, false, cond, ◌==◌, nat_lt, nat_le, bytes_eq, Option, Some, None, IsSome, eq-eqb, List, [], ◌∷◌, ◌++◌, map, length, drop, get_or, Result, Ok, Err, refl, sym, ap, ◌∙◌, arith}
 use Rattle.std.proofs.lemmas.List.{append_assoc, append-nil, drop_all, length-drop, at_drop_more}
 use Rattle.record_text.specs.declared.data.Field.{Field}
 use Rattle.zone_lexing.specs.declared.word.Word.{Word}
 use Rattle.record_text.specs.declared.cause.Cause.{Cause}
-use Rattle.record_text.specs.declared.cause.Cause.TheVariants.{BadData}
-use Rattle.record_text.specs.declared.cause.Cause.TheVariants.{UnknownType, Limit}
+use Rattle.record_text.specs.declared.cause.Cause.TheVariants.{BadData, Number, Limit}
 use Rattle.dns_rdata.specs.declared.data.DataFault.{DataFault}
 use Rattle.dns_rdata.specs.declared.data.DataFault.TheVariants as fault
 use Rattle.dns_rdata.specs.Data.{data_of}
 use Rattle.dns_rdata.proofs.DataLemmas.{IsRead-data}
-use Rattle.std.proofs.lemmas.Bool.Decides.{nat_tests}
+use Rattle.std.proofs.lemmas.Bool.Decides.{nat_tests, Decides-eqb}
+use Rattle.std.proofs.lemmas.Slice.Eq.{bytes_eq-Decides}
 use Rattle.record_text.specs.Fault.{cause_of_data}
-use Rattle.record_text.specs.Data.{fields_of, form_of, octets_of_words, as_data, surplus_of, IsToldOf}
+use Rattle.record_text.specs.Data.{fields_of, form_of, octets_of_words, as_data, as_own_data, data_of_words, surplus_of, IsToldOf}
+use Rattle.record_text.specs.Generic.{are_generic, size_of, hexes_of, generic_of}
+use Rattle.record_text.specs.Number.{are_digits, value_of}
 use Rattle.record_text.specs.Private.{ReadsBehind}
 use Rattle.record_text.specs.Strings.{strings_of}
 use Rattle.zone_lexing.specs.Word.{Written, written}
+use Rattle.zone_lexing.specs.Word.Written.{Plain, Quoted, Unclosed}
+use Rattle.record_text.proofs.NumberLemmas.{by_test}
 use Rattle.record_text.specs.Reading.{on_ok, and_then}
 
 -- what is put so far, and what the rest gives
@@ -104,7 +108,7 @@ pub words_fields : (rtype : ℕ) (origin : List (List ℕ)) (words : List Writte
 unfolding octets_of_words
 words_fields rtype origin words fields e form = rw (sym e, form) refl
 
-pub words_unknown : (rtype : ℕ) (origin : List (List ℕ)) (words : List Written) → false ≡ (rtype == 16) → form_of rtype ≡ None → octets_of_words rtype origin words ≡ Err UnknownType
+pub words_unknown : (rtype : ℕ) (origin : List (List ℕ)) (words : List Written) → false ≡ (rtype == 16) → form_of rtype ≡ None → octets_of_words rtype origin words ≡ Err BadData
 unfolding octets_of_words
 words_unknown rtype origin words e form = rw (sym e, form) refl
 
@@ -154,6 +158,15 @@ pub IsToldOf-words : (rtype : ℕ) (reading : Result (List ℕ) Cause) (cause : 
 IsToldOf-words rtype reading cause (inl none) = inl none
 IsToldOf-words rtype reading cause (inr e) = inr (ap (λ (r : Result (List ℕ) Cause). and_then r (as_data rtype)) e)
 
+-- the parts of a reading
+and_then_ok : {A B : Type 0} (r : Result A Cause) (f : A → Result B Cause) (y : B) → and_then r f ≡ Ok y → (x : A) × (r ≡ Ok x) × (f x ≡ Ok y)
+and_then_ok (Ok x) f y e = (x, refl, e)
+and_then_ok (Err cause) f y e = cc
+
+cond_ok : {A : Type 0} (b : Bool) (r : Result A Cause) (cause : Cause) (y : A) → cond b r (Err cause) ≡ Ok y → (b ≡ true) × (r ≡ Ok y)
+cond_ok true r cause y e = (refl, e)
+cond_ok false r cause y e = cc
+
 -- what is read is data
 pub record IsData (rtype : ℕ) (own : List ℕ) : Type 0 where
   pub form : data_of rtype own ≡ Some own
@@ -172,3 +185,129 @@ pub IsData-read : (rtype : ℕ) (reading : Result (List ℕ) Cause) (own : List 
 unfolding as_data
 IsData-read rtype (Ok octets) own is = as_data-IsData rtype octets own (data_of rtype octets) (nat_lt 4096 (length octets)) refl refl is
 IsData-read rtype (Err cause) own is = cc
+
+-- octets behind `\#` are at most as many as data may have
+size-short : (word : Written) (size : ℕ) → size_of word ≡ Ok size → size ≤ 4096
+size-short (Plain text) size e =
+    let digits = cond_ok (are_digits text) (cond (nat_le (value_of text) 4096) (Ok (value_of text)) (Err Limit)) Number size e in
+    let within = cond_ok (nat_le (value_of text) 4096) (Ok (value_of text)) Limit size digits.1 in
+    let same : value_of text ≡ size = let is = within.1 in cc in
+    let fits : value_of text ≤ 4096 = let t = within.0 in grind (arith, nat_tests) in
+    omega arith
+size-short (Quoted text) size e = cc
+size-short Unclosed size e = cc
+
+generic-short : (words : List Written) (octets : List ℕ) → generic_of words ≡ Ok octets → length octets ≤ 4096
+unfolding generic_of
+generic-short [] octets e = cc
+generic-short (word ∷ words) octets e =
+    let size = and_then_ok (size_of word) (λ size. and_then (hexes_of words) (λ os. cond (length os == size) (Ok os) (Err BadData))) octets e in
+    let read = and_then_ok (hexes_of words) (λ os. cond (length os == size.0) (Ok os) (Err BadData)) octets size.2 in
+    let test = cond_ok (length read.0 == size.0) (Ok read.0) BadData octets read.2 in
+    let same : read.0 ≡ octets = let is = test.1 in cc in
+    let all = ap length same in
+    let len = (Decides-eqb (length read.0) size.0).0 test.0 in
+    let fits = size-short word size.0 size.1 in
+    omega arith
+
+-- octets that are data as they stand
+own_data-by : (rtype : ℕ) (octets own : List ℕ) (o : Option (List ℕ)) → data_of rtype octets ≡ o → length octets ≤ 4096 → elim o as (λ _. Result (List ℕ) Cause) [ None ↦ Err BadData | Some inner ↦ cond (bytes_eq inner octets) (Ok inner) (Err BadData) ] ≡ Ok own → IsData rtype own
+own_data-by rtype octets own None d short e = cc
+own_data-by rtype octets own (Some inner) d short e =
+    let test = cond_ok (bytes_eq inner octets) (Ok inner) BadData own e in
+    let same = (bytes_eq-Decides inner octets).0 test.0 in
+    let is : inner ≡ own = let f = test.1 in cc in
+    let whole : octets ≡ own = sym same ∙ is in
+    let len = ap length whole in
+    record { form = ap (data_of rtype) (sym whole) ∙ d ∙ ap Some is; short = omega arith }
+
+own_data-IsData : (rtype : ℕ) (octets own : List ℕ) → length octets ≤ 4096 → as_own_data rtype octets ≡ Ok own → IsData rtype own
+unfolding as_own_data
+own_data-IsData rtype octets own short e = own_data-by rtype octets own (data_of rtype octets) refl short e
+
+generic-IsData : (rtype : ℕ) (words : List Written) (own : List ℕ) → and_then (generic_of words) (as_own_data rtype) ≡ Ok own → IsData rtype own
+generic-IsData rtype words own e =
+    let read = and_then_ok (generic_of words) (as_own_data rtype) own e in
+    own_data-IsData rtype read.0 own (generic-short words read.0 read.1) read.2
+
+pub IsData-words : (rtype : ℕ) (origin : List (List ℕ)) (words : List Written) (own : List ℕ) → data_of_words rtype origin words ≡ Ok own → IsData rtype own
+IsData-words rtype origin words own =
+    by_test (λ b. cond b (and_then (generic_of (drop 1 words)) (as_own_data rtype)) (and_then (octets_of_words rtype origin words) (as_data rtype)) ≡ Ok own → IsData rtype own) (are_generic words)
+    (λ _ e. generic-IsData rtype (drop 1 words) own e) (λ _ e. IsData-read rtype (octets_of_words rtype origin words) own e)
+
+-- a fault of the octets behind `\#` as data is one of the words
+own_data-none : (rtype : ℕ) (octets : List ℕ) → data_of rtype octets ≡ None → as_own_data rtype octets ≡ Err BadData
+unfolding as_own_data
+own_data-none rtype octets e = rw (e, as_own_data) refl
+
+pub IsToldOf-own : (rtype : ℕ) (octets : List ℕ) (reading : Result (List ℕ) Cause) (f : DataFault) → reading ≡ Ok octets → length octets ≤ 4096 → (f ≡ fault.BadLength → data_of rtype octets ≡ None) → (f ≡ fault.TooLong → IsSome (data_of rtype octets) × (4096 < length octets)) → IsToldOf (and_then reading (as_own_data rtype)) (cause_of_data f)
+IsToldOf-own rtype octets reading fault.BadLength e short bad long = inr (ap (λ (r : Result (List ℕ) Cause). and_then r (as_own_data rtype)) e ∙ own_data-none rtype octets (bad refl))
+IsToldOf-own rtype octets reading fault.TooLong e short bad long = let is = long refl in let far = is.1 in absurd (omega arith)
+IsToldOf-own rtype octets reading fault.NoMemory e short bad long = inl refl
+
+pub IsToldOf-generic : (rtype : ℕ) (reading : Result (List ℕ) Cause) (cause : Cause) → IsToldOf reading cause → IsToldOf (and_then reading (as_own_data rtype)) cause
+IsToldOf-generic rtype reading cause (inl none) = inl none
+IsToldOf-generic rtype reading cause (inr e) = inr (ap (λ (r : Result (List ℕ) Cause). and_then r (as_own_data rtype)) e)
+
+-- whether they are the data
+pub own_data-if : (rtype : ℕ) (octets own : List ℕ) (b : Bool) (reading : Result (List ℕ) Cause) → reading ≡ Ok octets → data_of rtype octets ≡ Some own → b ≡ bytes_eq own octets → and_then reading (as_own_data rtype) ≡ cond b (Ok own) (Err BadData)
+unfolding as_own_data
+own_data-if rtype octets own b reading e d t =
+    ap (λ (r : Result (List ℕ) Cause). and_then r (as_own_data rtype)) e
+    ∙ ap (λ (o : Option (List ℕ)). elim o as (λ _. Result (List ℕ) Cause) [ None ↦ Err BadData | Some inner ↦ cond (bytes_eq inner octets) (Ok inner) (Err BadData) ]) d
+    ∙ ap (λ (c : Bool). cond c (Ok own) (Err BadData)) (sym t)
+
+-- the words behind `\#`
+pub some_word : (words : List Word) → true ≡ are_generic (map written words) → 1 ≤ length words
+some_word [] e = cc
+some_word (word ∷ words) e = omega arith
+
+pub words_behind : (words : List Word) → drop 1 (map written words) ≡ map written (drop 1 words)
+words_behind [] = refl
+words_behind (word ∷ words) = refl
+
+pub words_generic : (rtype : ℕ) (origin : List (List ℕ)) (words : List Word) → true ≡ are_generic (map written words) → data_of_words rtype origin (map written words) ≡ and_then (generic_of (map written (drop 1 words))) (as_own_data rtype)
+words_generic rtype origin words e =
+    ap (λ (b : Bool). cond b (and_then (generic_of (drop 1 (map written words))) (as_own_data rtype)) (and_then (octets_of_words rtype origin (map written words)) (as_data rtype))) (sym e)
+    ∙ ap (λ (ws : List Written). and_then (generic_of ws) (as_own_data rtype)) (words_behind words)
+
+pub words_in_form : (rtype : ℕ) (origin : List (List ℕ)) (words : List Word) → false ≡ are_generic (map written words) → data_of_words rtype origin (map written words) ≡ and_then (octets_of_words rtype origin (map written words)) (as_data rtype)
+words_in_form rtype origin words e =
+    ap (λ (b : Bool). cond b (and_then (generic_of (drop 1 (map written words))) (as_own_data rtype)) (and_then (octets_of_words rtype origin (map written words)) (as_data rtype))) (sym e)
+
+-- the octets behind `\#`, one step after another
+pub generic-none : (words : List Word) → length words ≡ 0 → generic_of (map written words) ≡ Err BadData
+unfolding generic_of
+generic-none [] e = refl
+generic-none (word ∷ words) e = absurd (omega arith)
+
+-- what is read behind the size
+abbrev sized : List Word → ℕ → Result (List ℕ) Cause
+sized behind size = and_then (hexes_of (map written behind)) (λ octets. cond (length octets == size) (Ok octets) (Err BadData))
+
+generic-first : (words behind : List Word) (first : Word) → words ≡ first ∷ behind → generic_of (map written words) ≡ and_then (size_of (written first)) (sized behind)
+unfolding generic_of
+generic-first words behind first e = ap (λ (ws : List Word). generic_of (map written ws)) e
+
+generic-sized : (words behind : List Word) (first : Word) (size : ℕ) → words ≡ first ∷ behind → size_of (written first) ≡ Ok size → generic_of (map written words) ≡ sized behind size
+generic-sized words behind first size e s = generic-first words behind first e ∙ ap (λ (r : Result ℕ Cause). and_then r (sized behind)) s
+
+pub generic-size : (words behind : List Word) (first : Word) (cause : Cause) → words ≡ first ∷ behind → size_of (written first) ≡ Err cause → IsToldOf (generic_of (map written words)) cause
+generic-size words behind first cause e s = inr (generic-first words behind first e ∙ ap (λ (r : Result ℕ Cause). and_then r (sized behind)) s)
+
+pub generic-hexes : (words behind : List Word) (first : Word) (size : ℕ) (cause : Cause) → words ≡ first ∷ behind → size_of (written first) ≡ Ok size → IsToldOf (hexes_of (map written behind)) cause → IsToldOf (generic_of (map written words)) cause
+generic-hexes words behind first size cause e s (inl none) = inl none
+generic-hexes words behind first size cause e s (inr fault) =
+    inr (generic-sized words behind first size e s ∙ ap (λ (r : Result (List ℕ) Cause). and_then r (λ octets. cond (length octets == size) (Ok octets) (Err BadData))) fault)
+
+pub generic-all : (words behind : List Word) (first : Word) (size : ℕ) (octets : List ℕ) (b : Bool) → words ≡ first ∷ behind → size_of (written first) ≡ Ok size → hexes_of (map written behind) ≡ Ok octets → (length octets == size) ≡ b → generic_of (map written words) ≡ cond b (Ok octets) (Err BadData)
+generic-all words behind first size octets b e s h t =
+    generic-sized words behind first size e s
+    ∙ ap (λ (r : Result (List ℕ) Cause). and_then r (λ os. cond (length os == size) (Ok os) (Err BadData))) h
+    ∙ ap (λ (c : Bool). cond c (Ok octets) (Err BadData)) t
+
+pub equal_test : (m n : ℕ) → m ≡ n → (m == n) ≡ true
+equal_test m n e = eq-eqb m n e
+
+pub other_test : (m n : ℕ) → (m ≡ n → ⊥) → (m == n) ≡ false
+other_test m n e = grind (arith, nat_tests)

@@ -1,5 +1,5 @@
 -- Data of each type's form is of its fields, and the words that are written of it are read as it.
-use Rattle.std.proofs.Common.{◌≡◌, ℕ, zero, suc, ◌*◌, ◌<◌, ◌≤◌, Bool, true, false, ◌&&◌, ◌==◌, nat_lt, nat_le, List, [], ◌∷◌, ◌++◌, length, drop, All, Some, Ok, refl, sym, subst, ◌∙◌, arith}
+use Rattle.std.proofs.Common.{◌≡◌, ℕ, zero, suc, ◌*◌, ◌<◌, ◌≤◌, Bool, true, false, cond, ◌&&◌, ◌==◌, nat_lt, nat_le, List, [], ◌∷◌, ◌++◌, length, drop, All, Some, Ok, refl, sym, ap, subst, ◌∙◌, arith}
 use Rattle.std.proofs.lemmas.Bool.Decides.{nat_tests, Decides-eqb}
 use Rattle.std.proofs.lemmas.List.{nil_from_length, length-drop}
 use Rattle.std.proofs.lemmas.List.Elements.{All-nil, All-cons, All-head, All-tail, All-drop}
@@ -11,11 +11,17 @@ use Rattle.dns_rdata.proofs.StringLemmas.{are_strings-behind}
 use Rattle.dns_rdata.proofs.NameLemmas.{map_some, and_then_some, cond_some}
 use Rattle.record_text.specs.declared.data.Field.{Field}
 use Rattle.record_text.specs.declared.data.Field.TheVariants as field
-use Rattle.record_text.specs.Data.{form_of, octets_of_words, data_of_words, text_of}
+use Rattle.record_text.specs.Data.{form_of, octets_of_words, as_data, as_own_data, data_of_words, text_of}
+use Rattle.record_text.specs.Generic.{are_generic, generic_of, generic_words}
+use Rattle.record_text.specs.Reading.{and_then}
 use Rattle.record_text.specs.Strings.{strings_of}
-use Rattle.record_text.specs.Text.{strings_in, words_of}
+use Rattle.record_text.specs.Text.{strings_in, words_at, words_of}
+use Rattle.zone_lexing.specs.Word.{Written}
 use Rattle.record_text.proofs.BackLemmas.{AreOctets, strings_back, string_words}
 use Rattle.record_text.proofs.DataLemmas.{data_of_words-ok}
+use Rattle.record_text.proofs.GenericBack.{generic_back}
+use Rattle.record_text.proofs.MarkLemmas.{fields_other, strings_other}
+use Rattle.record_text.proofs.TypeLemmas.{IsNumbered, by_word, form_numbered}
 use Rattle.record_text.proofs.FieldLemmas.{HasFront, HasFields, fields_back, address_front, short_front, long_front, name_front, address6_front}
 
 all_front : (xs ys : List ℕ) → AreOctets (xs ++ ys) → AreOctets xs
@@ -148,39 +154,53 @@ srv_has octets own e all =
 
 -- the words of octets are read as them, type by type
 abbrev IsBack : List (List ℕ) → ℕ → Type 0
-IsBack origin rtype = (octets : List ℕ) → data_of rtype octets ≡ Some octets → AreOctets octets → octets_of_words rtype origin (words_of rtype octets) ≡ Ok octets
+IsBack origin rtype = (octets : List ℕ) → data_of rtype octets ≡ Some octets → length octets ≤ 4096 → AreOctets octets → data_of_words rtype origin (words_of rtype octets) ≡ Ok octets
+
+-- words in the type's own form
+in_words : (rtype : ℕ) (origin : List (List ℕ)) (octets : List ℕ) (words : List Written) → are_generic words ≡ false → octets_of_words rtype origin words ≡ Ok octets → data_of rtype octets ≡ Some octets → length octets ≤ 4096 → data_of_words rtype origin words ≡ Ok octets
+in_words rtype origin octets words own read e short =
+    ap (λ (b : Bool). cond b (and_then (generic_of (drop 1 words)) (as_own_data rtype)) (and_then (octets_of_words rtype origin words) (as_data rtype))) own
+    ∙ data_of_words-ok rtype octets octets (octets_of_words rtype origin words) read e short
 
 address_back : (origin : List (List ℕ)) → IsBack origin 1
 unfolding data_of layout_of octets_of_words words_of form_of
-address_back origin octets e all = fields_back origin (field.Address ∷ []) octets (address_has octets octets e all)
+address_back origin octets e short all =
+    in_words 1 origin octets (words_at (field.Address ∷ []) octets) (fields_other (field.Address ∷ []) octets all) (fields_back origin (field.Address ∷ []) octets (address_has octets octets e all)) e short
 
 ns_back : (origin : List (List ℕ)) → IsBack origin 2
 unfolding data_of layout_of octets_of_words words_of form_of
-ns_back origin octets e all = fields_back origin (field.Name ∷ []) octets (name_has octets octets e all)
+ns_back origin octets e short all =
+    in_words 2 origin octets (words_at (field.Name ∷ []) octets) (fields_other (field.Name ∷ []) octets all) (fields_back origin (field.Name ∷ []) octets (name_has octets octets e all)) e short
 
 cname_back : (origin : List (List ℕ)) → IsBack origin 5
 unfolding data_of layout_of octets_of_words words_of form_of
-cname_back origin octets e all = fields_back origin (field.Name ∷ []) octets (name_has octets octets e all)
+cname_back origin octets e short all =
+    in_words 5 origin octets (words_at (field.Name ∷ []) octets) (fields_other (field.Name ∷ []) octets all) (fields_back origin (field.Name ∷ []) octets (name_has octets octets e all)) e short
 
 soa_back : (origin : List (List ℕ)) → IsBack origin 6
 unfolding data_of layout_of octets_of_words words_of form_of
-soa_back origin octets e all = fields_back origin (field.Name ∷ field.Name ∷ longs 5) octets (soa_has octets octets e all)
+soa_back origin octets e short all =
+    in_words 6 origin octets (words_at (field.Name ∷ field.Name ∷ longs 5) octets) (fields_other (field.Name ∷ field.Name ∷ longs 5) octets all) (fields_back origin (field.Name ∷ field.Name ∷ longs 5) octets (soa_has octets octets e all)) e short
 
 ptr_back : (origin : List (List ℕ)) → IsBack origin 12
 unfolding data_of layout_of octets_of_words words_of form_of
-ptr_back origin octets e all = fields_back origin (field.Name ∷ []) octets (name_has octets octets e all)
+ptr_back origin octets e short all =
+    in_words 12 origin octets (words_at (field.Name ∷ []) octets) (fields_other (field.Name ∷ []) octets all) (fields_back origin (field.Name ∷ []) octets (name_has octets octets e all)) e short
 
 mx_back : (origin : List (List ℕ)) → IsBack origin 15
 unfolding data_of layout_of octets_of_words words_of form_of
-mx_back origin octets e all = fields_back origin (field.Short ∷ field.Name ∷ []) octets (mx_has octets octets e all)
+mx_back origin octets e short all =
+    in_words 15 origin octets (words_at (field.Short ∷ field.Name ∷ []) octets) (fields_other (field.Short ∷ field.Name ∷ []) octets all) (fields_back origin (field.Short ∷ field.Name ∷ []) octets (mx_has octets octets e all)) e short
 
 aaaa_back : (origin : List (List ℕ)) → IsBack origin 28
 unfolding data_of layout_of octets_of_words words_of form_of
-aaaa_back origin octets e all = fields_back origin (field.Address6 ∷ []) octets (address6_has octets octets e all)
+aaaa_back origin octets e short all =
+    in_words 28 origin octets (words_at (field.Address6 ∷ []) octets) (fields_other (field.Address6 ∷ []) octets all) (fields_back origin (field.Address6 ∷ []) octets (address6_has octets octets e all)) e short
 
 srv_back : (origin : List (List ℕ)) → IsBack origin 33
 unfolding data_of layout_of octets_of_words words_of form_of
-srv_back origin octets e all = fields_back origin (field.Short ∷ field.Short ∷ field.Short ∷ field.Name ∷ []) octets (srv_has octets octets e all)
+srv_back origin octets e short all =
+    in_words 33 origin octets (words_at (field.Short ∷ field.Short ∷ field.Short ∷ field.Name ∷ []) octets) (fields_other (field.Short ∷ field.Short ∷ field.Short ∷ field.Name ∷ []) octets all) (fields_back origin (field.Short ∷ field.Short ∷ field.Short ∷ field.Name ∷ []) octets (srv_has octets octets e all)) e short
 
 second_true : (a b : Bool) → (a && b) ≡ true → b ≡ true
 second_true true b e = e
@@ -193,40 +213,29 @@ some_strings (n ∷ octets) h = refl
 
 txt_back : (origin : List (List ℕ)) → IsBack origin 16
 unfolding data_of layout_of octets_of_words words_of
-txt_back origin octets e all =
+txt_back origin octets e short all =
     let test = cond_some (nat_lt 0 (length octets) && are_strings octets) (Some octets) octets e in
     let some : 0 < length octets = let t = test.0 in grind (arith, nat_tests) in
-    some_strings octets some ∙ strings_back 0 octets (sym (are_strings-behind octets) ∙ second_true (nat_lt 0 (length octets)) (are_strings octets) test.0) all
+    in_words 16 origin octets (string_words (strings_in 0 octets)) (strings_other (strings_in 0 octets))
+    (some_strings octets some ∙ strings_back 0 octets (sym (are_strings-behind octets) ∙ second_true (nat_lt 0 (length octets)) (are_strings octets) test.0) all) e short
 
--- another type has no data
-no_data : (rtype : ℕ) (octets own : List ℕ) → (rtype == 1) ≡ false → (rtype == 2) ≡ false → (rtype == 5) ≡ false → (rtype == 6) ≡ false → (rtype == 12) ≡ false → (rtype == 15) ≡ false → (rtype == 16) ≡ false → (rtype == 28) ≡ false → (rtype == 33) ≡ false → data_of rtype octets ≡ Some own → ⊥
-unfolding data_of layout_of
-no_data rtype octets own a b c d e f g h i is = let none = rw (a, b, c, d, e, f, g, h, i) at is in cc
+-- a type that has no word is written behind `\#`
+words_numbered : (rtype : ℕ) (octets : List ℕ) → IsNumbered rtype → words_of rtype octets ≡ generic_words octets
+unfolding words_of
+words_numbered rtype octets n = let form = form_numbered rtype n in let text = n.txt in rw (text, form) refl
 
-is_type : (rtype n : ℕ) → (rtype == n) ≡ true → rtype ≡ n
-is_type rtype n e = (Decides-eqb rtype n).0 e
+numbered_back : (origin : List (List ℕ)) (rtype : ℕ) → IsNumbered rtype → IsBack origin rtype
+numbered_back origin rtype n octets e short all = ap (data_of_words rtype origin) (words_numbered rtype octets n) ∙ generic_back rtype octets e short all
 
 at_type : (origin : List (List ℕ)) (rtype n : ℕ) → IsBack origin n → (rtype == n) ≡ true → IsBack origin rtype
-at_type origin rtype n back e = subst (IsBack origin) (sym (is_type rtype n e)) back
-
-if_type : (P : Type 0) (b : Bool) → (b ≡ true → P) → (b ≡ false → P) → P
-if_type P true h k = h refl
-if_type P false h k = k refl
+at_type origin rtype n back e = subst (IsBack origin) (sym ((Decides-eqb rtype n).0 e)) back
 
 words_back : (origin : List (List ℕ)) (rtype : ℕ) → IsBack origin rtype
 words_back origin rtype =
-    if_type (IsBack origin rtype) (rtype == 1) (at_type origin rtype 1 (address_back origin)) (λ a.
-    if_type (IsBack origin rtype) (rtype == 2) (at_type origin rtype 2 (ns_back origin)) (λ b.
-    if_type (IsBack origin rtype) (rtype == 5) (at_type origin rtype 5 (cname_back origin)) (λ c.
-    if_type (IsBack origin rtype) (rtype == 6) (at_type origin rtype 6 (soa_back origin)) (λ d.
-    if_type (IsBack origin rtype) (rtype == 12) (at_type origin rtype 12 (ptr_back origin)) (λ e.
-    if_type (IsBack origin rtype) (rtype == 15) (at_type origin rtype 15 (mx_back origin)) (λ f.
-    if_type (IsBack origin rtype) (rtype == 16) (at_type origin rtype 16 (txt_back origin)) (λ g.
-    if_type (IsBack origin rtype) (rtype == 28) (at_type origin rtype 28 (aaaa_back origin)) (λ h.
-    if_type (IsBack origin rtype) (rtype == 33) (at_type origin rtype 33 (srv_back origin)) (λ i octets is all.
-    absurd (no_data rtype octets octets a b c d e f g h i is))))))))))
+    by_word (IsBack origin rtype) rtype (at_type origin rtype 1 (address_back origin)) (at_type origin rtype 2 (ns_back origin)) (at_type origin rtype 5 (cname_back origin)) (at_type origin rtype 6 (soa_back origin))
+    (at_type origin rtype 12 (ptr_back origin)) (at_type origin rtype 15 (mx_back origin)) (at_type origin rtype 16 (txt_back origin)) (at_type origin rtype 28 (aaaa_back origin)) (at_type origin rtype 33 (srv_back origin))
+    (numbered_back origin rtype)
 
 -- the words of data are read as it
 pub data_back : (rtype : ℕ) (octets : List ℕ) (origin : List (List ℕ)) → data_of rtype octets ≡ Some octets → length octets ≤ 4096 → AreOctets octets → data_of_words rtype origin (words_of rtype octets) ≡ Ok octets
-data_back rtype octets origin e short all =
-    data_of_words-ok rtype octets octets (octets_of_words rtype origin (words_of rtype octets)) (words_back origin rtype octets e all) e short
+data_back rtype octets origin e short all = words_back origin rtype octets e short all

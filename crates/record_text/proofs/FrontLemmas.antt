@@ -1,15 +1,15 @@
 -- What is written of a record in front of its data is read again.
-use Rattle.std.proofs.Common.{◌≡◌, ℕ, ◌<◌, ◌^◌, Bool, true, false, cond, ◌||◌, ◌==◌, nat_lt, List, [], ◌∷◌, ◌++◌, length, flat_map, codes, decimal, Option, Some, None, Result, Ok, ok_or, All, refl, sym, ap, ◌∙◌, arith}
+use Rattle.std.proofs.Common.{◌≡◌, ℕ, ◌<◌, ◌^◌, Bool, true, false, cond, not, ◌||◌, ◌==◌, nat_lt, List, [], ◌∷◌, ◌++◌, length, get_or, flat_map, codes, decimal, Option, Some, None, option_and_then, Result, Ok, ok_or, All, refl, sym, ap, ◌∙◌, arith}
 use Rattle.std.specs.List.{list_all}
 use Rattle.std.specs.Char.{is_ascii_digit, digit_value}
 use Rattle.std.specs.Str.Parse.{AllDigits}
 use Rattle.std.proofs.lemmas.Bool.Decides.{Decides-eqb, nat_tests}
-use Rattle.std.proofs.lemmas.Fmt.{decimal_is_IsNumeral}
+use Rattle.std.proofs.lemmas.Fmt.{decimal_is_IsNumeral, first_decimal}
 use Rattle.std.proofs.lemmas.List.{append_assoc}
 use Rattle.dns_name.specs.Name.{IsName}
 use Rattle.dns_name.specs.Text.{digits_of, is_special, octet_text, label_text, text_of}
 use Rattle.dns_rdata.specs.Data.{data_of}
-use Rattle.dns_rdata.specs.Layout.{layout_of}
+use Rattle.dns_rdata.specs.Numbers.{is_metatype}
 use Rattle.dns_rdata.specs.declared.numbers.Ttl.{Ttl}
 use Rattle.zone_lexing.specs.Items.{begins_with}
 use Rattle.zone_lexing.specs.Word.{Written}
@@ -19,12 +19,13 @@ use Rattle.record_text.specs.declared.cause.Cause.TheVariants.{UnknownType}
 use Rattle.record_text.specs.declared.front.Mark.{Mark}
 use Rattle.record_text.specs.declared.front.Mark.TheVariants as mark
 use Rattle.record_text.specs.Front.{Front, mark_of, front_from, front_of}
-use Rattle.record_text.specs.Mnemonics.{type_named, class_named, type_word}
+use Rattle.record_text.specs.Mnemonics.{has_zero, type_numbered, type_named, class_named, type_word}
 use Rattle.record_text.specs.NameWord.{owner_of}
-use Rattle.record_text.specs.Number.{are_digits}
+use Rattle.record_text.specs.Number.{are_digits, decimal_of}
 use Rattle.record_text.specs.Reading.{on_ok, and_then}
-use Rattle.record_text.proofs.BackLemmas.{number_back}
+use Rattle.record_text.proofs.BackLemmas.{decimal_back, number_back}
 use Rattle.record_text.proofs.FieldLemmas.{name_read}
+use Rattle.record_text.proofs.TypeLemmas.{IsTyped, IsTyped-data, IsNumbered, not_zero, by_word, word_numbered}
 
 -- a label's text doesn't begin with `$`
 no_dollar : (c : ℕ) → is_special c ≡ false → (c == 36) ≡ false
@@ -83,28 +84,33 @@ at_type rtype n h e =
     let same = (Decides-eqb rtype n).0 e in
     ap (λ (t : ℕ). type_named (type_word t)) same ∙ h ∙ ap (λ (t : ℕ). Some t) (sym same)
 
-no_data : (rtype : ℕ) (octets own : List ℕ) → (rtype == 1) ≡ false → (rtype == 2) ≡ false → (rtype == 5) ≡ false → (rtype == 6) ≡ false → (rtype == 12) ≡ false → (rtype == 15) ≡ false → (rtype == 16) ≡ false → (rtype == 28) ≡ false → (rtype == 33) ≡ false → data_of rtype octets ≡ Some own → ⊥
-unfolding data_of layout_of
-no_data rtype octets own a b c d e f g h i is = let none = rw (a, b, c, d, e, f, g, h, i) at is in cc
+zero_behind : (text : List ℕ) → 48 < get_or text 0 0 → has_zero text ≡ false
+zero_behind [] h = refl
+zero_behind (c ∷ text) h = grind (arith, nat_tests)
 
-if_type : (P : Type 0) (b : Bool) → (b ≡ true → P) → (b ≡ false → P) → P
-if_type P true h k = h refl
-if_type P false h k = k refl
+-- a type by its number, in which no zero stands in front
+numbered_text : (rtype : ℕ) → IsTyped rtype → type_numbered (codes "TYPE" ++ decimal rtype) ≡ Some rtype
+unfolding type_numbered
+numbered_text rtype is =
+    let short = is.short in
+    let zero : has_zero (decimal rtype) ≡ false = zero_behind (decimal rtype) (first_decimal rtype (not_zero rtype is.own) (omega arith)) in
+    ap (λ (b : Bool). cond (not b) (option_and_then (λ (n : ℕ). cond (is_metatype n) None (Some n)) (decimal_of 65535 (decimal rtype))) None) zero
+    ∙ ap (option_and_then (λ (n : ℕ). cond (is_metatype n) None (Some n))) (decimal_back 65535 rtype (omega arith) (omega arith))
+    ∙ ap (λ (b : Bool). cond b None (Some rtype)) is.own
+
+other_words : (digits : List ℕ) → type_named (codes "TYPE" ++ digits) ≡ type_numbered (codes "TYPE" ++ digits)
+unfolding type_named
+other_words digits = refl
+
+numbered_is : (rtype : ℕ) → IsTyped rtype → IsNumbered rtype → type_named (type_word rtype) ≡ Some rtype
+numbered_is rtype is n = ap type_named (word_numbered rtype n) ∙ other_words (decimal rtype) ∙ numbered_text rtype is
 
 pub type_is : (rtype : ℕ) (octets : List ℕ) → data_of rtype octets ≡ Some octets → type_named (type_word rtype) ≡ Some rtype
 unfolding type_word type_named
 type_is rtype octets is =
     let P : Type 0 = type_named (type_word rtype) ≡ Some rtype in
-    if_type P (rtype == 1) (at_type rtype 1 refl) (λ a.
-    if_type P (rtype == 2) (at_type rtype 2 refl) (λ b.
-    if_type P (rtype == 5) (at_type rtype 5 refl) (λ c.
-    if_type P (rtype == 6) (at_type rtype 6 refl) (λ d.
-    if_type P (rtype == 12) (at_type rtype 12 refl) (λ e.
-    if_type P (rtype == 15) (at_type rtype 15 refl) (λ f.
-    if_type P (rtype == 16) (at_type rtype 16 refl) (λ g.
-    if_type P (rtype == 28) (at_type rtype 28 refl) (λ h.
-    if_type P (rtype == 33) (at_type rtype 33 refl) (λ i.
-    absurd (no_data rtype octets octets a b c d e f g h i is))))))))))
+    by_word P rtype (at_type rtype 1 refl) (at_type rtype 2 refl) (at_type rtype 5 refl) (at_type rtype 6 refl) (at_type rtype 12 refl) (at_type rtype 15 refl) (at_type rtype 16 refl) (at_type rtype 28 refl) (at_type rtype 33 refl)
+    (numbered_is rtype (IsTyped-data rtype octets octets is))
 
 -- what stands in front of the data
 abbrev next : Option Ttl → Bool → List Written → Result Mark Cause → Result Front Cause

@@ -4,9 +4,13 @@ pub mod DataLemmas
 pub mod FieldLemmas
 pub mod FormLemmas
 pub mod FrontLemmas
+pub mod GenericBack
+pub mod GenericLemmas
+pub mod MarkLemmas
 pub mod NumberLemmas
 pub mod OctetLemmas
 pub mod OwnLemmas
 pub mod SpeltLemmas
 pub mod StringLemmas
 pub mod TextLemmas
+pub mod TypeLemmas

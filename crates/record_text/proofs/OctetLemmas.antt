@@ -1,5 +1,5 @@
 -- What words of octets are read as is of octets.
-use Rattle.std.proofs.Common.{◌≡◌, refl, sym, subst, ℕ, zero, suc, ◌-◌, ◌/◌, ◌%◌, ◌^◌, ◌<◌, ◌≤◌, inl, inr, Bool, true, false, cond, not, ◌&&◌, ◌==◌, nat_lt, nat_le, List, [], ◌∷◌, ◌++◌, length, codes, All, Option, Some, None, Result, Ok, Err, ok_or, option_map, arith, true≢false, lit≤}
+use Rattle.std.proofs.Common.{◌≡◌, refl, sym, subst, ℕ, zero, suc, ◌-◌, ◌/◌, ◌%◌, ◌^◌, ◌<◌, ◌≤◌, inl, inr, Bool, true, false, cond, not, ◌&&◌, ◌==◌, nat_lt, nat_le, List, [], ◌∷◌, ◌++◌, length, drop, codes, bytes_eq, All, Option, Some, None, Result, Ok, Err, ok_or, option_map, arith, true≢false, lit≤}
 use Rattle.std.specs.Prelude.{option_and_then, replicate, IfSome}
 use Rattle.std.specs.Option.{is_some}
 use Rattle.std.specs.Int.{to_be_bytes, w16, w32}
@@ -8,6 +8,8 @@ use Rattle.std.specs.Net.Grammar.{IsDotted, IsGroup, IsGroupsAfter, IsElided, Is
 use Rattle.std.proofs.lemmas.Bool.Decides.{nat_tests}
 use Rattle.std.proofs.lemmas.Int.Digits.{digits_value-lt}
 use Rattle.std.proofs.lemmas.List.Elements.{All-nil, All-cons, All-head, All-tail, All-append}
+use Rattle.hex.specs.Hex.{decode_of}
+use Rattle.hex.specs.declared.error.FromHexError.{FromHexError}
 use Rattle.dns_name.specs.Name.{wire_of, IsLabel}
 use Rattle.dns_name.specs.Text.{octet_at, name_of_text}
 use Rattle.dns_name.specs.declared.text.NameFault.{NameFault}
@@ -19,13 +21,14 @@ use Rattle.zone_lexing.specs.Word.{Written}
 use Rattle.zone_lexing.specs.Word.Written.{Plain, Quoted, Unclosed}
 use Rattle.zone_lexing.proofs.OctetLemmas.{IsOfOctets, AreOfOctets}
 use Rattle.record_text.specs.declared.cause.Cause.{Cause}
-use Rattle.record_text.specs.declared.cause.Cause.TheVariants.{BadName, BadData, Number, Limit, UnknownType}
+use Rattle.record_text.specs.declared.cause.Cause.TheVariants.{BadName, BadData, Number, Limit}
 use Rattle.record_text.specs.declared.data.Field.{Field}
 use Rattle.record_text.specs.declared.data.Field.TheVariants as field
 use Rattle.record_text.specs.declared.front.Mark.{Mark}
 use Rattle.record_text.specs.declared.front.Mark.TheVariants as mark
 use Rattle.record_text.specs.Address.{dotted, colon_hex, address_of, address6_of}
-use Rattle.record_text.specs.Data.{field_of, fields_of, form_of, text_of, octets_of_words, as_data, data_of_words}
+use Rattle.record_text.specs.Data.{field_of, fields_of, form_of, text_of, octets_of_words, as_data, as_own_data, data_of_words}
+use Rattle.record_text.specs.Generic.{are_generic, size_of, hex_of, hexes_of, generic_of}
 use Rattle.record_text.specs.Front.{Front, ttl_of, type_mark, mark_of, front_from, front_of}
 use Rattle.record_text.specs.Private.{IsLasting}
 use Rattle.record_text.specs.Mnemonics.{class_of, type_of}
@@ -35,6 +38,7 @@ use Rattle.record_text.specs.Reading.{on_ok, and_then}
 use Rattle.record_text.specs.Strings.{unescaped_behind, unescaped, counted, string_in, string_of, strings_of}
 use Rattle.record_text.proofs.AddressLemmas.{dotted-IsDotted, colon_hex-IsColonHex}
 use Rattle.record_text.proofs.BackLemmas.{AreOctets}
+use Rattle.record_text.proofs.GenericLemmas.{DecodesOctets, decode_octets}
 use Rattle.record_text.proofs.SpeltLemmas.{segments_small}
 
 -- what is read is of octets
@@ -214,7 +218,7 @@ fields_gives origin (f ∷ fields) [] h k = tt
 fields_gives origin (f ∷ fields) (word ∷ words) h k =
     then_gives (field_of origin f word) (λ front. on_ok (λ rest. front ++ rest) (fields_of origin fields words)) (field_gives origin f word h k.0) (λ front j. front_gives front (fields_of origin fields words) j (fields_gives origin fields words h k.1))
 
-form_gives : (form : Option (List Field)) (origin : List (List ℕ)) (words : List Written) → IsNamed origin → AreOfOctets words → GivesOctets (elim form as (λ _. Result (List ℕ) Cause) [ None ↦ Err UnknownType | Some fields ↦ fields_of origin fields words ])
+form_gives : (form : Option (List Field)) (origin : List (List ℕ)) (words : List Written) → IsNamed origin → AreOfOctets words → GivesOctets (elim form as (λ _. Result (List ℕ) Cause) [ None ↦ Err BadData | Some fields ↦ fields_of origin fields words ])
 form_gives None origin words h k = tt
 form_gives (Some fields) origin words h k = fields_gives origin fields words h k
 
@@ -224,7 +228,7 @@ either_gives false r s h k = k
 
 words_give : (rtype : ℕ) (origin : List (List ℕ)) (words : List Written) → IsNamed origin → AreOfOctets words → GivesOctets (octets_of_words rtype origin words)
 unfolding octets_of_words
-words_give rtype origin words h k = either_gives (rtype == 16) (text_of words) (elim (form_of rtype) as (λ _. Result (List ℕ) Cause) [ None ↦ Err UnknownType | Some fields ↦ fields_of origin fields words ]) (text_of_gives words k) (form_gives (form_of rtype) origin words h k)
+words_give rtype origin words h k = either_gives (rtype == 16) (text_of words) (elim (form_of rtype) as (λ _. Result (List ℕ) Cause) [ None ↦ Err BadData | Some fields ↦ fields_of origin fields words ]) (text_of_gives words k) (form_gives (form_of rtype) origin words h k)
 
 own_gives : (o : Option (List ℕ)) (b : Bool) → ((own : List ℕ) → o ≡ Some own → AreOctets own) → GivesOctets (elim o as (λ _. Result (List ℕ) Cause) [ None ↦ Err BadData | Some own ↦ cond b (Err Limit) (Ok own) ])
 own_gives None b h = tt
@@ -235,8 +239,45 @@ as_gives : (rtype : ℕ) (octets : List ℕ) → AreOctets octets → GivesOctet
 unfolding as_data
 as_gives rtype octets h = own_gives (data_of rtype octets) (nat_lt 4096 (length octets)) (λ own e. data_octets rtype octets own e h)
 
+-- octets behind `\#`
+decoded_gives : (r : Result (List ℕ) FromHexError) → DecodesOctets r → GivesOctets (elim r as (λ _. Result (List ℕ) Cause) [ Ok octets ↦ Ok octets | Err fault ↦ Err BadData ])
+decoded_gives (Ok octets) h = h
+decoded_gives (Err fault) h = tt
+
+hex_gives : (word : Written) → GivesOctets (hex_of word)
+hex_gives (Plain text) = decoded_gives (decode_of text) (decode_octets text)
+hex_gives (Quoted text) = tt
+hex_gives Unclosed = tt
+
+hexes_give : (words : List Written) → GivesOctets (hexes_of words)
+hexes_give [] = All-nil (λ c. c < 256)
+hexes_give (word ∷ words) = then_gives (hex_of word) (λ front. on_ok (λ rest. front ++ rest) (hexes_of words)) (hex_gives word) (λ front k. front_gives front (hexes_of words) k (hexes_give words))
+
+sized_gives : (r : Result ℕ Cause) (f : ℕ → Result (List ℕ) Cause) → ((size : ℕ) → GivesOctets (f size)) → GivesOctets (and_then r f)
+sized_gives (Ok size) f h = h size
+sized_gives (Err cause) f h = tt
+
+generic_gives : (words : List Written) → GivesOctets (generic_of words)
+unfolding generic_of
+generic_gives [] = tt
+generic_gives (word ∷ words) =
+    sized_gives (size_of word) (λ size. and_then (hexes_of words) (λ octets. cond (length octets == size) (Ok octets) (Err BadData))) (λ size.
+    then_gives (hexes_of words) (λ octets. cond (length octets == size) (Ok octets) (Err BadData)) (hexes_give words) (λ octets k.
+    either_gives (length octets == size) (Ok octets) (Err BadData) k tt))
+
+same_gives : (o : Option (List ℕ)) (octets : List ℕ) → ((own : List ℕ) → o ≡ Some own → AreOctets own) → GivesOctets (elim o as (λ _. Result (List ℕ) Cause) [ None ↦ Err BadData | Some own ↦ cond (bytes_eq own octets) (Ok own) (Err BadData) ])
+same_gives None octets h = tt
+same_gives (Some own) octets h = either_gives (bytes_eq own octets) (Ok own) (Err BadData) (h own refl) tt
+
+own_data_gives : (rtype : ℕ) (octets : List ℕ) → AreOctets octets → GivesOctets (as_own_data rtype octets)
+unfolding as_own_data
+own_data_gives rtype octets h = same_gives (data_of rtype octets) octets (λ own e. data_octets rtype octets own e h)
+
 pub data_gives : (rtype : ℕ) (origin : List (List ℕ)) (words : List Written) → IsNamed origin → AreOfOctets words → GivesOctets (data_of_words rtype origin words)
-data_gives rtype origin words h k = then_gives (octets_of_words rtype origin words) (as_data rtype) (words_give rtype origin words h k) (λ octets j. as_gives rtype octets j)
+data_gives rtype origin words h k =
+    either_gives (are_generic words) (and_then (generic_of (drop 1 words)) (as_own_data rtype)) (and_then (octets_of_words rtype origin words) (as_data rtype))
+    (then_gives (generic_of (drop 1 words)) (as_own_data rtype) (generic_gives (drop 1 words)) (λ octets j. own_data_gives rtype octets j))
+    (then_gives (octets_of_words rtype origin words) (as_data rtype) (words_give rtype origin words h k) (λ octets j. as_gives rtype octets j))
 
 -- what stands in front of the data
 abbrev pub GivesTtl : Result Ttl Cause → Type 0

@@ -1,7 +1,9 @@
 -- No reading tells want of memory.
-use Rattle.std.proofs.Common.{ℕ, Bool, true, false, cond, not, ◌&&◌, ◌==◌, nat_lt, nat_le, List, [], ◌∷◌, ◌++◌, length, codes, Option, Some, None, Result, Ok, Err, ok_or}
+use Rattle.std.proofs.Common.{ℕ, Bool, true, false, cond, not, ◌&&◌, ◌==◌, nat_lt, nat_le, List, [], ◌∷◌, ◌++◌, length, drop, codes, bytes_eq, Option, Some, None, Result, Ok, Err, ok_or}
 use Rattle.std.specs.Option.{is_some}
 use Rattle.std.specs.Int.{to_be_bytes, w16, w32}
+use Rattle.hex.specs.Hex.{decode_of}
+use Rattle.hex.specs.declared.error.FromHexError.{FromHexError}
 use Rattle.dns_name.specs.Name.{wire_of}
 use Rattle.dns_name.specs.Text.{name_of_text}
 use Rattle.dns_name.specs.declared.text.NameFault.{NameFault}
@@ -16,11 +18,12 @@ use Rattle.record_text.specs.declared.data.Field.TheVariants as field
 use Rattle.record_text.specs.declared.front.Mark.{Mark}
 use Rattle.record_text.specs.declared.front.Mark.TheVariants as mark
 use Rattle.record_text.specs.Address.{dotted, colon_hex, address_of, address6_of}
-use Rattle.record_text.specs.Data.{field_of, surplus_of, fields_of, form_of, text_of, octets_of_words, as_data, data_of_words}
+use Rattle.record_text.specs.Data.{field_of, surplus_of, fields_of, form_of, text_of, octets_of_words, as_data, as_own_data, data_of_words}
+use Rattle.record_text.specs.Generic.{are_generic, size_of, hex_of, hexes_of, generic_of}
 use Rattle.record_text.specs.Front.{ttl_of, type_mark, mark_of, front_from, front_of}
-use Rattle.record_text.specs.Mnemonics.{is_word, type_named, type_of, class_named, class_of}
+use Rattle.record_text.specs.Mnemonics.{is_word, type_named, type_of, is_class_number, class_named, class_of}
 use Rattle.record_text.specs.NameWord.{name_named, name_of, owner_of}
-use Rattle.record_text.specs.Number.{decimal_of, number_of, is_number}
+use Rattle.record_text.specs.Number.{are_digits, value_of, decimal_of, number_of, is_number}
 use Rattle.record_text.specs.Reading.{on_ok, and_then}
 use Rattle.record_text.specs.Strings.{unescaped, counted, string_in, string_of, strings_of}
 
@@ -90,10 +93,13 @@ type_own Unclosed = tt
 class_named_own : (text : List ℕ) → TellsOwn (class_named text)
 unfolding class_named
 class_named_own text =
-    cond_own (is_word text (codes "IN")) (Ok true) (cond (is_word text (codes "CS")) (Err BadClass) (cond (is_word text (codes "CH")) (Err BadClass) (cond (is_word text (codes "HS")) (Err BadClass) (Ok false)))) tt
-    (cond_own (is_word text (codes "CS")) (Err BadClass) (cond (is_word text (codes "CH")) (Err BadClass) (cond (is_word text (codes "HS")) (Err BadClass) (Ok false))) tt
-    (cond_own (is_word text (codes "CH")) (Err BadClass) (cond (is_word text (codes "HS")) (Err BadClass) (Ok false)) tt
-    (cond_own (is_word text (codes "HS")) (Err BadClass) (Ok false) tt tt)))
+    let numbered : Result Bool Cause = cond (is_class_number text) (cond (bytes_eq (drop 5 text) (codes "1")) (Ok true) (Err BadClass)) (Ok false) in
+    cond_own (is_word text (codes "IN")) (Ok true) (cond (is_word text (codes "CS")) (Err BadClass) (cond (is_word text (codes "CH")) (Err BadClass) (cond (is_word text (codes "HS")) (Err BadClass) numbered))) tt
+    (cond_own (is_word text (codes "CS")) (Err BadClass) (cond (is_word text (codes "CH")) (Err BadClass) (cond (is_word text (codes "HS")) (Err BadClass) numbered)) tt
+    (cond_own (is_word text (codes "CH")) (Err BadClass) (cond (is_word text (codes "HS")) (Err BadClass) numbered) tt
+    (cond_own (is_word text (codes "HS")) (Err BadClass) numbered tt
+    (cond_own (is_class_number text) (cond (bytes_eq (drop 5 text) (codes "1")) (Ok true) (Err BadClass)) (Ok false)
+    (cond_own (bytes_eq (drop 5 text) (codes "1")) (Ok true) (Err BadClass) tt tt) tt))))
 
 class_own : (word : Written) → TellsOwn (class_of word)
 class_own (Plain text) = class_named_own text
@@ -140,13 +146,13 @@ fields_own origin (f ∷ fields) [] = tt
 fields_own origin (f ∷ fields) (word ∷ words) =
     then_own (field_of origin f word) (λ front. on_ok (λ rest. front ++ rest) (fields_of origin fields words)) (field_own origin f word) (λ front. on_own (λ (rest : List ℕ). front ++ rest) (fields_of origin fields words) (fields_own origin fields words))
 
-form_own : (form : Option (List Field)) (origin : List (List ℕ)) (words : List Written) → TellsOwn (elim form as (λ _. Result (List ℕ) Cause) [ None ↦ Err UnknownType | Some fields ↦ fields_of origin fields words ])
+form_own : (form : Option (List Field)) (origin : List (List ℕ)) (words : List Written) → TellsOwn (elim form as (λ _. Result (List ℕ) Cause) [ None ↦ Err BadData | Some fields ↦ fields_of origin fields words ])
 form_own None origin words = tt
 form_own (Some fields) origin words = fields_own origin fields words
 
 words_own : (rtype : ℕ) (origin : List (List ℕ)) (words : List Written) → TellsOwn (octets_of_words rtype origin words)
 unfolding octets_of_words
-words_own rtype origin words = cond_own (rtype == 16) (text_of words) (elim (form_of rtype) as (λ _. Result (List ℕ) Cause) [ None ↦ Err UnknownType | Some fields ↦ fields_of origin fields words ]) (text_of_own words) (form_own (form_of rtype) origin words)
+words_own rtype origin words = cond_own (rtype == 16) (text_of words) (elim (form_of rtype) as (λ _. Result (List ℕ) Cause) [ None ↦ Err BadData | Some fields ↦ fields_of origin fields words ]) (text_of_own words) (form_own (form_of rtype) origin words)
 
 data_by : (o : Option (List ℕ)) (b : Bool) → TellsOwn (elim o as (λ _. Result (List ℕ) Cause) [ None ↦ Err BadData | Some own ↦ cond b (Err Limit) (Ok own) ])
 data_by None b = tt
@@ -156,8 +162,47 @@ as_own : (rtype : ℕ) (octets : List ℕ) → TellsOwn (as_data rtype octets)
 unfolding as_data
 as_own rtype octets = data_by (data_of rtype octets) (nat_lt 4096 (length octets))
 
+-- octets behind `\#`
+size_own : (word : Written) → TellsOwn (size_of word)
+size_own (Plain text) =
+    cond_own (are_digits text) (cond (nat_le (value_of text) 4096) (Ok (value_of text)) (Err Limit)) (Err Number) (cond_own (nat_le (value_of text) 4096) (Ok (value_of text)) (Err Limit) tt tt) tt
+size_own (Quoted text) = tt
+size_own Unclosed = tt
+
+decoded_own : (r : Result (List ℕ) FromHexError) → TellsOwn (elim r as (λ _. Result (List ℕ) Cause) [ Ok octets ↦ Ok octets | Err fault ↦ Err BadData ])
+decoded_own (Ok octets) = tt
+decoded_own (Err fault) = tt
+
+hex_own : (word : Written) → TellsOwn (hex_of word)
+hex_own (Plain text) = decoded_own (decode_of text)
+hex_own (Quoted text) = tt
+hex_own Unclosed = tt
+
+hexes_own : (words : List Written) → TellsOwn (hexes_of words)
+hexes_own [] = tt
+hexes_own (word ∷ words) = then_own (hex_of word) (λ front. on_ok (λ rest. front ++ rest) (hexes_of words)) (hex_own word) (λ front. on_own (λ (rest : List ℕ). front ++ rest) (hexes_of words) (hexes_own words))
+
+generic_own : (words : List Written) → TellsOwn (generic_of words)
+unfolding generic_of
+generic_own [] = tt
+generic_own (word ∷ words) =
+    then_own (size_of word) (λ size. and_then (hexes_of words) (λ octets. cond (length octets == size) (Ok octets) (Err BadData))) (size_own word) (λ size.
+    then_own (hexes_of words) (λ octets. cond (length octets == size) (Ok octets) (Err BadData)) (hexes_own words) (λ octets.
+    cond_own (length octets == size) (Ok octets) (Err BadData) tt tt))
+
+same_own : (o : Option (List ℕ)) (octets : List ℕ) → TellsOwn (elim o as (λ _. Result (List ℕ) Cause) [ None ↦ Err BadData | Some own ↦ cond (bytes_eq own octets) (Ok own) (Err BadData) ])
+same_own None octets = tt
+same_own (Some own) octets = cond_own (bytes_eq own octets) (Ok own) (Err BadData) tt tt
+
+own_own : (rtype : ℕ) (octets : List ℕ) → TellsOwn (as_own_data rtype octets)
+unfolding as_own_data
+own_own rtype octets = same_own (data_of rtype octets) octets
+
 pub data_own : (rtype : ℕ) (origin : List (List ℕ)) (words : List Written) → TellsOwn (data_of_words rtype origin words)
-data_own rtype origin words = then_own (octets_of_words rtype origin words) (as_data rtype) (words_own rtype origin words) (as_own rtype)
+data_own rtype origin words =
+    cond_own (are_generic words) (and_then (generic_of (drop 1 words)) (as_own_data rtype)) (and_then (octets_of_words rtype origin words) (as_data rtype))
+    (then_own (generic_of (drop 1 words)) (as_own_data rtype) (generic_own (drop 1 words)) (own_own rtype))
+    (then_own (octets_of_words rtype origin words) (as_data rtype) (words_own rtype origin words) (as_own rtype))
 
 pub ttl_own : (word : Written) → TellsOwn (ttl_of word)
 ttl_own word = on_own (λ (seconds : ℕ). record { 0 = seconds }) (number_of 2147483647 word) (number_own 2147483647 word)

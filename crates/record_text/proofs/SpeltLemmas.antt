@@ -1,5 +1,5 @@
 -- What is written of a record is spelt: each word is a run to its end.
-use Rattle.std.proofs.Common.{◌≡◌, ℕ, ◌+◌, ◌*◌, ◌/◌, ◌%◌, ◌<◌, ◌≤◌, ◌^◌, Bool, true, false, cond, ◌||◌, ◌==◌, nat_lt, nat_le, List, [], ◌∷◌, ◌++◌, length, map, take, drop, flat_map, decimal, Option, Some, None, option_map, All, refl, sym, ap, ◌∙◌, arith}
+use Rattle.std.proofs.Common.{◌≡◌, ℕ, ◌+◌, ◌*◌, ◌/◌, ◌%◌, ◌<◌, ◌≤◌, ◌^◌, Bool, true, false, cond, ◌||◌, ◌==◌, nat_lt, nat_le, List, [], ◌∷◌, ◌++◌, length, map, take, drop, flat_map, codes, decimal, Option, Some, None, option_map, All, refl, sym, ap, ◌∙◌, arith}
 use Rattle.std.specs.List.{list_all}
 use Rattle.std.specs.Char.{digit_value}
 use Rattle.std.specs.Int.{from_be_bytes, w16, w32}
@@ -12,19 +12,21 @@ use Rattle.std.proofs.lemmas.List.{append-nil}
 use Rattle.std.proofs.lemmas.List.Elements.{All-nil, All-cons, All-head, All-tail, All-drop, All-take, All-get_or}
 use Rattle.dns_name.specs.Name.{wire_of, name_in}
 use Rattle.dns_name.specs.Text.{digits_of, is_special, octet_text, label_text, text_of}
-use Rattle.dns_rdata.specs.Data.{data_of}
-use Rattle.dns_rdata.specs.Layout.{layout_of}
+use Rattle.hex.specs.Hex.{encode_with, encode_lower}
 use Rattle.zone_lexing.specs.Spelling.{is_run, is_spelt}
 use Rattle.zone_lexing.specs.Word.{Written}
 use Rattle.zone_lexing.specs.Word.Written.{Plain, Quoted}
 use Rattle.zone_lexing.proofs.RunLemmas.{ARun, of_word, of_string, Passes, both_pass, each_passes, octet_passes, escaped_passes, digit_passes, spelt_plain}
 use Rattle.record_text.specs.Data.{form_of}
+use Rattle.record_text.specs.Generic.{generic_mark, hex_words, generic_words}
 use Rattle.record_text.specs.Mnemonics.{type_word}
 use Rattle.record_text.specs.Text.{word_at, words_at, words_of, strings_in, group_text, groups_text, string_octet}
 use Rattle.record_text.specs.declared.data.Field.{Field}
 use Rattle.record_text.specs.declared.data.Field.TheVariants as field
 use Rattle.record_text.proofs.BackLemmas.{AreOctets}
+use Rattle.record_text.proofs.GenericLemmas.{decimal_digits, decimal_some, digits_pass as octets_pass}
 use Rattle.record_text.proofs.NumberLemmas.{by_test}
+use Rattle.record_text.proofs.TypeLemmas.{IsNumbered, by_word, word_numbered}
 
 pub digits_pass : (run : ARun) (c : ℕ) → Passes run (92 ∷ digits_of c)
 digits_pass run c =
@@ -223,39 +225,42 @@ fields_spelt [] octets h = refl
 fields_spelt (f ∷ fields) octets h =
     behind_spelt (word_at f octets) (λ (n : ℕ). words_at fields (drop n octets)) (word_spelt f octets h) (λ n. fields_spelt fields (drop n octets) (All-drop (λ (x : ℕ). x < 256) n octets h))
 
-form_spelt : (form : Option (List Field)) (octets : List ℕ) → AreOctets octets → AreSpelt (elim form [ None ↦ [] | Some fields ↦ words_at fields octets ])
-form_spelt None octets h = refl
+-- octets behind `\#`
+hex_spelt : (octets : List ℕ) → AreOctets octets → AreSpelt (hex_words octets)
+unfolding encode_with
+hex_spelt [] h = refl
+hex_spelt (octet ∷ octets) h = first_spelt (Plain (encode_lower (octet ∷ octets))) [] (spelt_plain (encode_lower (octet ∷ octets)) (omega arith) (octets_pass (octet ∷ octets) h)) refl
+
+generic_spelt : (octets : List ℕ) → AreOctets octets → AreSpelt (generic_words octets)
+generic_spelt octets h =
+    let size = length octets in
+    first_spelt (Plain generic_mark) (Plain (decimal size) ∷ hex_words octets) refl
+    (first_spelt (Plain (decimal size)) (hex_words octets) (spelt_plain (decimal size) (decimal_some size) (all_digits_pass 10 (decimal size) (omega arith) (decimal_digits size))) (hex_spelt octets h))
+
+form_spelt : (form : Option (List Field)) (octets : List ℕ) → AreOctets octets → AreSpelt (elim form [ None ↦ generic_words octets | Some fields ↦ words_at fields octets ])
+form_spelt None octets h = generic_spelt octets h
 form_spelt (Some fields) octets h = fields_spelt fields octets h
 
 pub words_spelt : (rtype : ℕ) (octets : List ℕ) → AreOctets octets → AreSpelt (words_of rtype octets)
 unfolding words_of
 words_spelt rtype octets h =
-    by_test (λ b. AreSpelt (cond b (map (λ (string : List ℕ). Quoted (flat_map string_octet string)) (strings_in 0 octets)) (elim (form_of rtype) [ None ↦ [] | Some fields ↦ words_at fields octets ]))) (rtype == 16)
+    by_test (λ b. AreSpelt (cond b (map (λ (string : List ℕ). Quoted (flat_map string_octet string)) (strings_in 0 octets)) (elim (form_of rtype) [ None ↦ generic_words octets | Some fields ↦ words_at fields octets ]))) (rtype == 16)
     (λ _. strings_spelt (strings_in 0 octets)) (λ _. form_spelt (form_of rtype) octets h)
 
 -- the type
 at_type : (rtype n : ℕ) → is_spelt (Plain (type_word n)) ≡ true → (rtype == n) ≡ true → is_spelt (Plain (type_word rtype)) ≡ true
 at_type rtype n h e = ap (λ (t : ℕ). is_spelt (Plain (type_word t))) ((Decides-eqb rtype n).0 e) ∙ h
 
-no_data : (rtype : ℕ) (octets own : List ℕ) → (rtype == 1) ≡ false → (rtype == 2) ≡ false → (rtype == 5) ≡ false → (rtype == 6) ≡ false → (rtype == 12) ≡ false → (rtype == 15) ≡ false → (rtype == 16) ≡ false → (rtype == 28) ≡ false → (rtype == 33) ≡ false → data_of rtype octets ≡ Some own → ⊥
-unfolding data_of layout_of
-no_data rtype octets own a b c d e f g h i is = let none = rw (a, b, c, d, e, f, g, h, i) at is in cc
+type_passes : Passes of_word (codes "TYPE")
+type_passes = λ more. refl
 
-if_type : (P : Type 0) (b : Bool) → (b ≡ true → P) → (b ≡ false → P) → P
-if_type P true h k = h refl
-if_type P false h k = k refl
+numbered_spelt : (rtype : ℕ) → IsNumbered rtype → is_spelt (Plain (type_word rtype)) ≡ true
+numbered_spelt rtype n =
+    ap (λ (text : List ℕ). is_spelt (Plain text)) (word_numbered rtype n)
+    ∙ spelt_plain (codes "TYPE" ++ decimal rtype) (some_front (codes "TYPE") (decimal rtype) (omega arith)) (both_pass of_word (codes "TYPE") (decimal rtype) type_passes (all_digits_pass 10 (decimal rtype) (omega arith) (decimal_digits rtype)))
 
-pub type_spelt : (rtype : ℕ) (octets : List ℕ) → data_of rtype octets ≡ Some octets → is_spelt (Plain (type_word rtype)) ≡ true
+pub type_spelt : (rtype : ℕ) → is_spelt (Plain (type_word rtype)) ≡ true
 unfolding type_word
-type_spelt rtype octets is =
+type_spelt rtype =
     let P : Type 0 = is_spelt (Plain (type_word rtype)) ≡ true in
-    if_type P (rtype == 1) (at_type rtype 1 refl) (λ a.
-    if_type P (rtype == 2) (at_type rtype 2 refl) (λ b.
-    if_type P (rtype == 5) (at_type rtype 5 refl) (λ c.
-    if_type P (rtype == 6) (at_type rtype 6 refl) (λ d.
-    if_type P (rtype == 12) (at_type rtype 12 refl) (λ e.
-    if_type P (rtype == 15) (at_type rtype 15 refl) (λ f.
-    if_type P (rtype == 16) (at_type rtype 16 refl) (λ g.
-    if_type P (rtype == 28) (at_type rtype 28 refl) (λ h.
-    if_type P (rtype == 33) (at_type rtype 33 refl) (λ i.
-    absurd (no_data rtype octets octets a b c d e f g h i is))))))))))
+    by_word P rtype (at_type rtype 1 refl) (at_type rtype 2 refl) (at_type rtype 5 refl) (at_type rtype 6 refl) (at_type rtype 12 refl) (at_type rtype 15 refl) (at_type rtype 16 refl) (at_type rtype 28 refl) (at_type rtype 33 refl) (numbered_spelt rtype)

@@ -7,6 +7,7 @@ use Rattle.record_text.specs.declared.data.Field.TheVariants as field
 use Rattle.std.specs.Net.Addr.{segments_of}
 use Rattle.std.proofs.lemmas.Bool.Decides.{nat_tests}
 use Rattle.record_text.specs.Data.{form_of}
+use Rattle.record_text.specs.Generic.{generic_words}
 use Rattle.record_text.specs.Text.{string_octet, strings_in, groups_text, word_at, words_at, words_of, text_of_words}
 use Rattle.zone_lexing.specs.Word.Written.{Quoted}
 
@@ -15,7 +16,7 @@ pub words_of-fields : (rtype : ℕ) (octets : List ℕ) (fields : List Field) �
 unfolding words_of
 words_of-fields rtype octets fields e form = rw (sym e, form, words_of) refl
 
-pub words_of-none : (rtype : ℕ) (octets : List ℕ) → false ≡ (rtype == 16) → form_of rtype ≡ None → words_of rtype octets ≡ []
+pub words_of-none : (rtype : ℕ) (octets : List ℕ) → false ≡ (rtype == 16) → form_of rtype ≡ None → words_of rtype octets ≡ generic_words octets
 unfolding words_of
 words_of-none rtype octets e form = rw (sym e, form, words_of) refl
 

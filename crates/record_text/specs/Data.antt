@@ -1,15 +1,16 @@
--- The data of a record as words (RFC 1035, 3.3, 3.4.1 and 5.1; RFC 2782; RFC 3596).
-use Rattle.std.specs.Prelude.{ℕ, ◌≡◌, ◌⊎◌, List, [], ◌∷◌, ◌++◌, length, nat_lt, ◌==◌, if◌then◌else◌, Option, Some, None, Result, Ok, Err}
+-- The data of a record as words (RFC 1035, 3.3, 3.4.1 and 5.1; RFC 2782; RFC 3596; RFC 3597, 5).
+use Rattle.std.specs.Prelude.{ℕ, ◌≡◌, ◌⊎◌, List, [], ◌∷◌, ◌++◌, length, drop, nat_lt, ◌==◌, bytes_eq, if◌then◌else◌, Option, Some, None, Result, Ok, Err}
 use Rattle.std.specs.Int.{to_be_bytes, w16, w32}
 use Rattle.dns_rdata.specs.Limits.{max_data}
 use Rattle.dns_name.specs.Name.{Name, wire_of}
 use Rattle.dns_rdata.specs.Numbers.{type_A, type_NS, type_CNAME, type_SOA, type_PTR, type_MX, type_TXT, type_AAAA, type_SRV}
 use Rattle.dns_rdata.specs.Data.{data_of}
 use Rattle.record_text.specs.declared.cause.Cause.{Cause}
-use Rattle.record_text.specs.declared.cause.Cause.TheVariants.{BadData, UnknownType, Limit, NoMemory}
+use Rattle.record_text.specs.declared.cause.Cause.TheVariants.{BadData, Limit, NoMemory}
 use Rattle.record_text.specs.declared.data.Field.{Field}
 use Rattle.record_text.specs.declared.data.Field.TheVariants as field
 use Rattle.record_text.specs.Address.{address_of, address6_of}
+use Rattle.record_text.specs.Generic.{are_generic, generic_of}
 use Rattle.record_text.specs.NameWord.{name_of}
 use Rattle.record_text.specs.Number.{number_of}
 use Rattle.record_text.specs.Strings.{strings_of}
@@ -40,7 +41,7 @@ fields_of origin (field ∷ fields) [] = Err BadData
 fields_of origin (field ∷ fields) (word ∷ words) =
     and_then (field_of origin field word) (λ front. on_ok (λ rest. front ++ rest) (fields_of origin fields words))
 
--- the fields of a type's data; none of TXT, which has strings, and of types that aren't served
+-- the fields of a type's data; none of TXT, which has strings, and of a type that nobody here knows
 unfoldable pub form_of : ℕ → Option (List Field)
 form_of rtype =
     if rtype == type_A then Some (field.Address ∷ [])
@@ -58,21 +59,27 @@ abbrev pub text_of : List Written → Result (List ℕ) Cause
 text_of [] = Err BadData
 text_of (word ∷ words) = strings_of (word ∷ words)
 
--- the octets of a type that words spell, names as they are written
+-- the octets of a type that words spell, names as they are written; a type that nobody here knows has no words of its own
 unfoldable pub octets_of_words : ℕ → Name → List Written → Result (List ℕ) Cause
 octets_of_words rtype origin words =
     if rtype == type_TXT then text_of words
-    else elim (form_of rtype) [ None ↦ Err UnknownType | Some fields ↦ fields_of origin fields words ]
+    else elim (form_of rtype) [ None ↦ Err BadData | Some fields ↦ fields_of origin fields words ]
 
 -- octets as data of a type: names in lower case, at most 4,096 octets
 unfoldable pub as_data : ℕ → List ℕ → Result (List ℕ) Cause
 as_data rtype octets =
     elim (data_of rtype octets) [ None ↦ Err BadData | Some own ↦ if nat_lt max_data (length octets) then Err Limit else Ok own ]
 
--- the data of a type that words spell relative to an origin; the first fault in reading order is told, and the limit
--- of octets last
+-- octets as data of a type, which they have to be as they stand: names in full and in lower case
+unfoldable pub as_own_data : ℕ → List ℕ → Result (List ℕ) Cause
+as_own_data rtype octets = elim (data_of rtype octets) [ None ↦ Err BadData | Some own ↦ if bytes_eq own octets then Ok own else Err BadData ]
+
+-- the data of a type that words spell relative to an origin: as octets behind `\#`, or in the type's own form; the first fault in reading
+-- order is told, and the limit of octets last (RFC 1035, 5.1; RFC 3597, 5)
 abbrev pub data_of_words : ℕ → Name → List Written → Result (List ℕ) Cause
-data_of_words rtype origin words = and_then (octets_of_words rtype origin words) (as_data rtype)
+data_of_words rtype origin words =
+    if are_generic words then and_then (generic_of (drop 1 words)) (as_own_data rtype)
+    else and_then (octets_of_words rtype origin words) (as_data rtype)
 
 -- a fault that is told of a reading: its own, or want of memory
 abbrev pub IsToldOf : {A : Type 0} → Result A Cause → Cause → Type 0

@@ -2,6 +2,7 @@ pub mod Address
 pub mod Data
 pub mod Fault
 pub mod Front
+pub mod Generic
 pub mod Mnemonics
 pub mod NameWord
 pub mod Number

@@ -10,6 +10,7 @@ use Rattle.dns_rdata.specs.Numbers.{type_TXT}
 use Rattle.record_text.specs.declared.data.Field.{Field}
 use Rattle.record_text.specs.declared.data.Field.TheVariants as field
 use Rattle.record_text.specs.Data.{form_of}
+use Rattle.record_text.specs.Generic.{generic_words}
 use Rattle.zone_lexing.specs.Word.{Written}
 use Rattle.zone_lexing.specs.Word.Written.{Plain, Quoted, Unclosed}
 
@@ -48,11 +49,11 @@ words_at [] octets = []
 words_at (field ∷ fields) octets =
     elim (word_at field octets) [ None ↦ [] | Some word ↦ Plain word.0 ∷ words_at fields (drop word.1 octets) ]
 
--- the words of a type's data
+-- the words of a type's data; of a type that nobody here knows octets behind `\#` (RFC 3597, 5)
 unfoldable pub words_of : ℕ → List ℕ → List Written
 words_of rtype octets =
     if rtype == type_TXT then map (λ string. Quoted (flat_map string_octet string)) (strings_in 0 octets)
-    else elim (form_of rtype) [ None ↦ [] | Some fields ↦ words_at fields octets ]
+    else elim (form_of rtype) [ None ↦ generic_words octets | Some fields ↦ words_at fields octets ]
 
 -- a word as it stands in a text
 abbrev pub as_text : Written → List ℕ

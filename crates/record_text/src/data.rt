@@ -1,4 +1,4 @@
-//! The data of a record as words (RFC 1035, 3.3, 3.4.1 and 5.1; RFC 2782; RFC 3596).
+//! The data of a record as words (RFC 1035, 3.3, 3.4.1 and 5.1; RFC 2782; RFC 3596; RFC 3597, 5).
 ghost use Rattle.std.specs.Prelude.{◌≡◌, OnOk, IfOk, IfErr, Ok, map, option_copied};
 ghost use Rattle.record_text.specs.Data.{IsToldOf, field_of, fields_of, form_of, octets_of_words, data_of_words, surplus_of};
 ghost use Rattle.record_text.specs.Private.{ReadsBehind};
@@ -6,6 +6,7 @@ ghost use Rattle.zone_lexing.specs.Word.{written};
 
 use crate::addresses::{address, address6};
 use crate::cause::Cause;
+use crate::generic::{are_generic, read_generic};
 use crate::names::name;
 use crate::numbers::number;
 use crate::strings::put_strings;
@@ -29,12 +30,12 @@ pub(crate) enum Field {
     Long,
 }
 
-/// The data of a type that words spell, relative to the origin (RFC 1035, 3.3, 3.4.1 and 5.1; RFC 2782; RFC 3596). The
-/// words are judged from left to right, and the first fault is told.
+/// The data of a type that words spell, relative to the origin (RFC 1035, 3.3, 3.4.1 and 5.1; RFC 2782; RFC 3596), or octets of any type
+/// behind `\\#` (RFC 3597, 5). The words are judged from left to right, and the first fault is told.
 ///
 /// `Number` and `BadName` at a word that is no number for its field or no name; `BadData` at another word that isn't of
-/// its form, and at too few or too many words; `Unclosed` where no word stands; `Limit` over the octets that data may
-/// have; `UnknownType` at a type that isn't served; `NoMemory` where a growth was refused.
+/// its form, at too few or too many words, and at a type that nobody here knows without `\\#`; `Unclosed` where no word stands; `Limit`
+/// over the octets that data may have; `NoMemory` where a growth was refused.
 pub fn read_data(
     alloc: Global,
     rtype: RType,
@@ -45,6 +46,9 @@ pub fn read_data(
     ensures octets { IfOk result (λ d. data_of_words rtype.0 origin.now (map written words.now) ≡ Ok d.octets) }
     ensures fault { IfErr result (IsToldOf (data_of_words rtype.0 origin.now (map written words.now))) }
 {
+    if are_generic(words) {
+        return read_generic(alloc, rtype, &words[1..]);
+    }
     let mut octets = Vec::new(alloc);
     put_words(alloc, &mut octets, rtype, words, origin)?;
     Ok(RData::from_wire(alloc, rtype, &octets)?)
@@ -69,11 +73,11 @@ fn put_words(
     }
     match form_of(rtype) {
         Some(fields) => put_fields(octets, fields, words, origin),
-        None => Err(Cause::UnknownType),
+        None => Err(Cause::BadData),
     }
 }
 
-/// The fields of a type's data; None of TXT and of types that aren't served.
+/// The fields of a type's data; None of TXT and of types that nobody here knows.
 #[tactic(auto, unfolding(crate::specs::Data::form_of))]
 pub(crate) fn form_of(rtype: RType) -> Option<&'static [Field]>
     ensures { option_copied result ≡ form_of rtype.0 }

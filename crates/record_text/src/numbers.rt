@@ -45,7 +45,7 @@ pub fn ttl(word: Word<'_>) -> Result<Ttl, Cause>
 }
 
 /// Whether a text is decimal digits, one or more.
-fn are_digits(text: &[u8]) -> bool
+pub(crate) fn are_digits(text: &[u8]) -> bool
     ensures { result ≡ are_digits text.now }
 {
     !text.is_empty() && has_digits_alone(text)
@@ -59,7 +59,7 @@ fn has_digits_alone(text: &[u8]) -> bool
 }
 
 /// The number of a text of digits; None of another text, and where it is greater than the greatest one given.
-fn decimal(text: &[u8], most: u32) -> Option<u32>
+pub(crate) fn decimal(text: &[u8], most: u32) -> Option<u32>
     ensures number { result ≡ decimal_of most text.now }
     ensures within { IfSome result (λ n. n ≤ most) }
 {

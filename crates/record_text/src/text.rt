@@ -6,6 +6,7 @@ ghost use Rattle.record_text.specs.Text.{groups_text, string_octet, word_at, wor
 ghost use Rattle.record_text.specs.Private.{WritesWord};
 
 use crate::data::{Field, form_of};
+use crate::generic::write_generic;
 use dns_name::Name;
 use dns_rdata::{RData, RType};
 use std::alloc::AllocError;
@@ -14,7 +15,8 @@ use std::net::Ipv6Addr;
 /// Writes the words of a record's data behind the text, each behind a space (RFC 1035, 5.1): names whole with a final
 /// dot, numbers in decimal, addresses with dots, addresses of version 6 as eight groups in lower case without leading
 /// zeros and without `::`, and strings quoted, `"` and `\` in them behind a backslash and octets outside 32 to 126 as
-/// three digits behind one.
+/// three digits behind one; of a type that nobody here knows `\#`, how many octets there are, and these in hexadecimal digits of lower
+/// case (RFC 3597, 5).
 ///
 /// The fault is a growth that was refused; the text then ends anywhere.
 pub fn write_data(text: &mut String, rdata: &RData) -> Result<(), AllocError>
@@ -25,7 +27,7 @@ pub fn write_data(text: &mut String, rdata: &RData) -> Result<(), AllocError>
     }
     match form_of(rdata.rtype()) {
         Some(fields) => write_fields(text, fields, rdata.octets()),
-        None => Ok(()),
+        None => write_generic(text, rdata.octets()),
     }
 }
 

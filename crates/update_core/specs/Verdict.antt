@@ -78,11 +78,11 @@ prerequisites zone sent = option_or (first_code (prerequisite zone) sent) (if ar
 abbrev pub permission : Bool → Option Rcode
 permission may = if may then None else Some Refused
 
--- whether a type is recognised: it is served, and so no metatype (RFC 2136, 3.4.1.2; own)
+-- whether a type is one that records of a zone can have: any but a metatype (RFC 2136, 3.4.1.2; RFC 3597, 3)
 abbrev pub is_recognised : ℕ → Bool
 is_recognised rtype = is_some (layout_of rtype)
 
--- whether a record's type is recognised and its data have that type's form, as those of each update that is read have (own)
+-- whether records of a zone can have a record's type, and its data have that type's form, as those of each update that is read have (own)
 abbrev pub has_form : RawRecord → Bool
 has_form r = is_some (data_of r.rtype r.octets)
 

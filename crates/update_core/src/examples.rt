@@ -57,7 +57,9 @@ pub fn examples_of_prescan()
     ensures outside { prescan_of zone_here (sent outside 99 3 1 (address 1)) ≡ Some NotZone }
     ensures added { prescan_of zone_here (add fresh type_A (address 1)) ≡ None }
     ensures add_of_metatype { prescan_of zone_here (add fresh type_ANY []) ≡ Some FormErr }
-    ensures add_of_other_type { prescan_of zone_here (add fresh 99 []) ≡ Some FormErr }
+    ensures add_of_opt { prescan_of zone_here (add fresh 41 []) ≡ Some FormErr }
+    ensures add_of_type_0 { prescan_of zone_here (add fresh 0 []) ≡ Some FormErr }
+    ensures add_of_any_type { prescan_of zone_here (add fresh 99 []) ≡ None }
     ensures cut_at_wildcard { prescan_of zone_here (add (in_example (42 ∷ [])) type_NS (wire_of ns)) ≡ Some Refused }
     ensures text_at_wildcard { prescan_of zone_here (add (in_example (42 ∷ [])) type_TXT (0 ∷ [])) ≡ None }
     ensures name_deleted { prescan_of zone_here (any web type_ANY) ≡ None }
@@ -65,13 +67,13 @@ pub fn examples_of_prescan()
     ensures any_with_ttl { prescan_of zone_here (sent web type_A class_ANY 1 []) ≡ Some FormErr }
     ensures any_with_data { prescan_of zone_here (sent web type_A class_ANY 0 (address 1)) ≡ Some FormErr }
     ensures any_of_metatype { prescan_of zone_here (any web 252) ≡ Some FormErr }
-    ensures any_of_other_type { prescan_of zone_here (any web 99) ≡ Some FormErr }
+    ensures set_of_any_type { prescan_of zone_here (any web 99) ≡ None }
     ensures record_deleted { prescan_of zone_here (delete web type_A (address 1)) ≡ None }
     ensures none_with_ttl { prescan_of zone_here (sent web type_A class_NONE 1 (address 1)) ≡ Some FormErr }
     ensures none_of_metatype { prescan_of zone_here (delete web type_ANY []) ≡ Some FormErr }
     ensures add_without_form { prescan_of zone_here (add fresh type_A (0 ∷ [])) ≡ Some FormErr }
     ensures none_without_data { prescan_of zone_here (none web type_A) ≡ Some FormErr }
-    ensures none_of_other_type { prescan_of zone_here (delete web 99 []) ≡ Some FormErr }
+    ensures record_of_any_type { prescan_of zone_here (delete web 99 []) ≡ None }
     ensures other_class { prescan_of zone_here (sent web type_A 3 0 []) ≡ Some FormErr }
 {}
 
@@ -122,6 +124,21 @@ pub fn examples_of_deletions()
     ensures soa { effect zone_here (delete example type_SOA (soa_data 1)) ≡ Some zone_here }
     ensures last_name_server { effect zone_here (delete example type_NS (wire_of ns)) ≡ Some zone_here }
     ensures name_server { effect (hour_record example type_NS (wire_of ns) ∷ hour_record example type_NS (wire_of web) ∷ hour_record example type_SOA (soa_data 1) ∷ []) (delete example type_NS (wire_of ns)) ≡ Some (hour_record example type_NS (wire_of web) ∷ hour_record example type_SOA (soa_data 1) ∷ []) }
+{}
+
+/// Records of a type that nobody here knows: octets, which are the same where they stand the same (RFC 2136, 3.4.2; RFC 3597, 6).
+#[tactic(auto, unfolding(dns_rdata::specs::Layout::layout_of, dns_rdata::specs::Data::data_of))]
+pub fn examples_of_any_type()
+    ensures joins { effect [] (add web 65280 (10 ∷ 11 ∷ 12 ∷ [])) ≡ Some (hour_record web 65280 (10 ∷ 11 ∷ 12 ∷ []) ∷ []) }
+    ensures without_octets { effect [] (add web 65280 []) ≡ Some (hour_record web 65280 [] ∷ []) }
+    ensures another_case_joins { effect (hour_record web 65280 (97 ∷ []) ∷ []) (add web 65280 (65 ∷ [])) ≡ Some (hour_record web 65280 (65 ∷ []) ∷ hour_record web 65280 (97 ∷ []) ∷ []) }
+    ensures deleted { effect (hour_record web 65280 (10 ∷ 11 ∷ 12 ∷ []) ∷ []) (delete web 65280 (10 ∷ 11 ∷ 12 ∷ [])) ≡ Some [] }
+    ensures another_octet { effect (hour_record web 65280 (10 ∷ 11 ∷ 12 ∷ []) ∷ []) (delete web 65280 (10 ∷ 11 ∷ 13 ∷ [])) ≡ Some (hour_record web 65280 (10 ∷ 11 ∷ 12 ∷ []) ∷ []) }
+    ensures another_case { effect (hour_record web 65280 (97 ∷ []) ∷ []) (delete web 65280 (65 ∷ [])) ≡ Some (hour_record web 65280 (97 ∷ []) ∷ []) }
+    ensures beside_alias { effect zone_here (add www 65280 []) ≡ Some zone_here }
+    ensures alias_beside { effect (hour_record web 65280 [] ∷ []) (add web type_CNAME (wire_of ns)) ≡ Some (hour_record web 65280 [] ∷ []) }
+    ensures most_data { effect [] (add web 65280 (long_text 4096)) ≡ Some (hour_record web 65280 (long_text 4096) ∷ []) }
+    ensures more_data { effect [] (add web 65280 (long_text 4097)) ≡ None }
 {}
 
 /// Whole updates: the records in order, and the serial (RFC 2136, 3.4.2 and 3.6; RFC 1982, 3).

@@ -47,7 +47,7 @@ fn prescan_one<Z: ZoneRead>(zone: &Z, raw: &RawRecord) -> Result<(), Rcode>
     }
 }
 
-/// Whether a type is recognised: it is served, and so no metatype (RFC 2136, 3.4.1.2; own).
+/// Whether a type is one that records of a zone can have: any but a metatype (RFC 2136, 3.4.1.2; RFC 3597, 3).
 fn is_recognised(rtype: RType) -> bool
     ensures { result ≡ is_recognised rtype.0 }
 {

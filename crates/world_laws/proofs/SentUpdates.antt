@@ -13,7 +13,7 @@ use Rattle.dns_rdata.specs.Data.{data_of}
 use Rattle.dns_rdata.specs.Layout.{layout_of}
 use Rattle.dns_rdata.specs.Raw.{RawRecord}
 use Rattle.dns_rdata.specs.declared.layout.Layout.{Layout}
-use Rattle.dns_rdata.specs.declared.layout.Layout.TheVariants.{Fields, Strings}
+use Rattle.dns_rdata.specs.declared.layout.Layout.TheVariants.{Fields, Strings, Opaque}
 use Rattle.dns_message.specs.Expanded.{names_at, octets_from, expanded_by, expanded_data}
 use Rattle.dns_message.specs.Message.{Entry, opcode_QUERY, opcode_UPDATE, number_at}
 use Rattle.dns_message.specs.Opt.{opt_said}
@@ -106,6 +106,7 @@ fields_octets msg front back at size (Some r) octets h more is =
 layout_octets : (layout : Layout) (msg : List ℕ) (at size : ℕ) (octets : List ℕ) → Octets msg → expanded_by layout msg at size ≡ Some octets → Octets octets
 layout_octets (Fields front names back compressed) msg at size octets h is = fields_octets msg front back at size (names_at names msg (at + front)) octets h (λ ns next e. names_read names msg (at + front) ns next h e) is
 layout_octets Strings msg at size octets h is = let same : octets_from msg at size ≡ octets = (let f = is in cc) in subst Octets same (part_octets msg size at h)
+layout_octets Opaque msg at size octets h is = let same : octets_from msg at size ≡ octets = (let f = is in cc) in subst Octets same (part_octets msg size at h)
 
 expanded_octets_by : (o : Option Layout) (msg : List ℕ) (e : Entry) (octets : List ℕ) → Octets msg → (elim o as (λ _. Option (List ℕ)) [ None ↦ Some (octets_from msg e.at e.size) | Some layout ↦ expanded_by layout msg e.at e.size ]) ≡ Some octets → Octets octets
 expanded_octets_by None msg e octets h is = let same : octets_from msg e.at e.size ≡ octets = (let f = is in cc) in subst Octets same (part_octets msg e.size e.at h)

@@ -20,6 +20,14 @@ returns-in-Some-Strings c =
     let written = WritesEncoding-these octets c.args.out.now c.put.new.out c.args.at c.args.names.now c.put.result c.requires.table (WritesParts-octets c.args.out.now c.put.new.out c.args.at octets c.put.result c.put.ensures) in
     subst (λ (p : Encoding). WritesEncoding p c.args.out.now c.put.new.out c.args.at c.args.names.now c.args.names.now c.put.result) (sym (ap (λ (o : Option Layout). data_laid o octets) own)) written
 
+pub returns-in-Some-Opaque : goal.returns-in-Some-Opaque
+unfolding data_octets
+returns-in-Some-Opaque c =
+    let octets = c.args.octets.now in
+    let own = sym c.layout.ensures ∙ c.in-Some-Opaque.is ∙ ap Some c.in-Some-Opaque.field-0-is in
+    let written = WritesEncoding-these octets c.args.out.now c.put-in-Some-Opaque.new.out c.args.at c.args.names.now c.put-in-Some-Opaque.result c.requires.table (WritesParts-octets c.args.out.now c.put-in-Some-Opaque.new.out c.args.at octets c.put-in-Some-Opaque.result c.put-in-Some-Opaque.ensures) in
+    subst (λ (p : Encoding). WritesEncoding p c.args.out.now c.put-in-Some-Opaque.new.out c.args.at c.args.names.now c.args.names.now c.put-in-Some-Opaque.result) (sym (ap (λ (o : Option Layout). data_laid o octets) own)) written
+
 pub returns-in-None : goal.returns-in-None
 unfolding data_octets
 returns-in-None c =

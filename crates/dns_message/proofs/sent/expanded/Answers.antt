@@ -2,7 +2,7 @@ use Rattle.std.proofs.Common.{◌≡◌, ◌∙◌, ℕ, List, Option, Some, IfO
 use Rattle.dns_rdata.specs.declared.layout.Layout.{Layout}
 use Rattle.dns_rdata.specs.Layout.{layout_of}
 use Rattle.dns_message.specs.Message.{Entry}
-use Rattle.dns_message.proofs.SentLemmas.{front_is_short, data_of_fields, data_of_strings, data_of_none}
+use Rattle.dns_message.proofs.SentLemmas.{front_is_short, data_of_fields, data_of_strings, data_of_opaque, data_of_none}
 use Rattle.dns_message.proofs.sent.expanded.Goals as goal
 
 pub returns-in_default : goal.returns-in_default
@@ -32,3 +32,11 @@ returns-in-Strings c =
     let is = data_of_strings c.args.octets.now c.args.entry.now lies in
     let P : Option (List ℕ) → Type 0 = λ own. IfOk c.as_it_stands-in-Strings.result (λ found. option_map (λ v. v.items) found ≡ own) in
     subst P (sym is) c.as_it_stands-in-Strings.ensures
+
+pub returns-in-Opaque : goal.returns-in-Opaque
+returns-in-Opaque c =
+    let rtype : c.entry.inside.rtype.0 ≡ c.args.entry.now.rtype = ap (λ (e : Entry). e.rtype) c.entry.view_is in
+    let lies = ap (λ (layout : Layout). Some layout) (sym c.in-Opaque.is) ∙ (c.in-Some.ensures ∙ ap layout_of rtype) in
+    let is = data_of_opaque c.args.octets.now c.args.entry.now lies in
+    let P : Option (List ℕ) → Type 0 = λ own. IfOk c.as_it_stands-in-Opaque.result (λ found. option_map (λ v. v.items) found ≡ own) in
+    subst P (sym is) c.as_it_stands-in-Opaque.ensures

@@ -1,6 +1,6 @@
 use Rattle.std.proofs.Common.{◌∙◌, ◌≡◌, ◌==◌, ◌++◌, ℕ, List, OnOk, sym, ap, subst, string_bytes}
-use Rattle.std.proofs.lemmas.List.{append-nil}
 use Rattle.record_text.specs.Data.{form_of}
+use Rattle.record_text.specs.Generic.{generic_words}
 use Rattle.record_text.specs.Text.{words_at, text_of_words}
 use Rattle.zone_lexing.specs.Word.{Written}
 use Rattle.record_text.proofs.TextLemmas.{words_of-fields, words_of-none}
@@ -18,6 +18,8 @@ returns-in-Some c =
 pub returns-in-None : goal.returns-in-None
 returns-in-None c =
     let d = c.args.rdata.now in
-    let none = words_of-none d.rtype d.octets
+    let same = words_of-none d.rtype d.octets
     (c.if-eq.ensures ∙ ap (λ (n : ℕ). n == 16) c.rtype.ensures.rtype) (sym (c.in-None.ensures ∙ ap form_of c.rtype-2.ensures.rtype)) in
-    sym (ap (λ (words : List Written). string_bytes c.args.text.now ++ text_of_words words) none ∙ append-nil (string_bytes c.args.text.now))
+    subst (λ (words : List Written). OnOk c.write_generic.result (string_bytes c.write_generic.new.text ≡ string_bytes c.args.text.now ++ text_of_words words))
+    (sym (same ∙ ap generic_words (sym c.octets-in-None.ensures.octets)))
+    c.write_generic.ensures
