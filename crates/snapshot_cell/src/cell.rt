@@ -11,9 +11,9 @@ ghost use Rattle.snapshot_cell.specs.Tokens.{IsDealing, IsLoad, first_publisher,
 
 use crate::ending::end_all;
 use crate::fault::{NewFault, Spent};
-use crate::tokens::{LOADS, NOTES, Publisher, READERS, Reader};
+use crate::tokens::{LOADS, Publisher, READERS, Reader};
 use atomic_table::{Badge, Table};
-use cell_core::Version;
+use cell_core::{NOTES, Version};
 use counted_handles::{
     Made, Names, NoSlot, Room, Rule, Spots, Strong, View, Weak, Words, deal, deal_rest, make,
     unmake,

@@ -8,7 +8,8 @@ ghost use Rattle.snapshot_cell.specs.Tokens.{IsUpgraded, noted_next};
 use crate::fault::Spent;
 use crate::named::{NamedPublisher, NamedReader, Naming};
 use crate::named_owner::NamedStrong;
-use crate::tokens::{NOTES, Publisher, Reader};
+use crate::tokens::{Publisher, Reader};
+use cell_core::NOTES;
 use counted_handles::{Lapsed, Names, Strong, Sunk, Weak};
 use std::marker::{Model, PhantomData};
 

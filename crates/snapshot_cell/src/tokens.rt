@@ -5,6 +5,7 @@ ghost use Rattle.counted_handles.specs.History.{IsHistory};
 ghost use Rattle.snapshot_cell.specs.Tokens.{IsLastOf};
 
 use atomic_table::Badge;
+use cell_core::NOTES;
 use counted_handles::{Names, View};
 use std::marker::{Model, PhantomData};
 use std::snapshot::Snapshot;
@@ -14,9 +15,6 @@ pub const READERS: usize = 64;
 
 /// How many loads a reader can make (own).
 pub(crate) const LOADS: u64 = 1 << 40;
-
-/// How many weak owners a publisher can give (own).
-pub(crate) const NOTES: u64 = 1 << 32;
 
 /// One who loads. Contracts see its cell, the values that it has seen published, the grants that it has left, and the numbers that it has
 /// seen buried.
