@@ -144,7 +144,7 @@ pub few_of : {C N E T : Type 0} (result : Result T E) (first : List Record) (que
     → number ≡ version.number → MeetsAndAsks first serial.0 number before after asked → OnErr result (asked ≡ Spent) → OnErr result (HasTooFew first query version before after)
 few_of (Ok chain) first query serial version number before after asked asks ixfr same m spent = tt
 few_of {C = C} {N = N} (Err e) first query serial version number before after asked asks ixfr same m spent =
-    let met = subst (λ (n : ℕ). MeetsAndAsks first serial.0 n before after Spent) same (subst (λ (c : Chain Version C N). MeetsAndAsks first serial.0 number before after c) spent m) in
+    let met = subst (λ (n : ℕ). MeetsAndAsks {C = C} {N = N} first serial.0 n before after Spent) same (subst (λ (c : Chain Version C N). MeetsAndAsks first serial.0 number before after c) spent m) in
     record {
       asks = ixfr;
       serial = serial;
