@@ -4,12 +4,12 @@
 # stands here, from RFC 4701 and 4703. It prints a line a check and a count, and its status is 1 where one failed. It listens on 127.0.0.1
 # alone, and ends what it starts.
 # Usage: [DNSD=PROGRAM] tests/kea.sh [--port N]
-#   --port N               the servers listen on N (by default 15363) and the next one, Kea on the one behind them
+#   --port N               the servers listen on N (by default 15373) and the next one, Kea on the one behind them
 # It needs Debian's packages bind9-dnsutils and kea-dhcp-ddns-server, and the program that `make dnsd` builds.
 set -euo pipefail
 cd "$(dirname "$0")/.."
 program=${DNSD:-$PWD/crates/dnsd/out/dnsd}
-port=15363
+port=15373
 while [ $# -gt 0 ]; do
     case $1 in
         --port) port=$2; shift 2 ;;
