@@ -614,6 +614,7 @@ any_types() {
     change NOERROR "update delete _443._tcp.web.$d TLSA"$'\n'"update add sub.$d 3600 DS 1 13 2 $(printf 'AB%.0s' {1..32})"
     holds "_443._tcp.web.$d" TLSA NXDOMAIN
     hold_octets 4 "$(octets_at "$port")"
+    check "knotd, how they came" incremental "$(taken knotd)"
     check "the server itself" "$({ grep -vE ' TYPE6 |^_443' <<<"$want"; octets_at "$port" | grep -E ' TYPE6 |^new'
         echo "sub.$d 3600 CLASS1 TYPE43 \\# 36 00010D02$(printf 'AB%.0s' {1..24}) $(printf 'AB%.0s' {1..8})"; } | LC_ALL=C sort)" "$(octets_at "$port")"
     unserve
