@@ -4,6 +4,7 @@ use Rattle.std.specs.declared.net.ip_addr.IpAddr.{IpAddr}
 use Rattle.serve_core.specs.declared.peer.Peer.{Peer}
 use Rattle.conversation.specs.Datagrams.{Datagram}
 use Rattle.conversation.specs.Exchanged.{EndsBy}
+use Rattle.conversation.specs.Served.{Learned}
 use Rattle.conversation.specs.declared.udp.DatagramsEnd.{DatagramsEnd}
 use Rattle.conversation.specs.declared.udp.DatagramsEnd.TheVariants.{Done, Device, Spent}
 use Rattle.zone_service.specs.declared.service_log.JobEnd.{JobEnd}

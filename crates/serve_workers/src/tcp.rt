@@ -170,6 +170,7 @@ impl<'a, L: Listener, C: Clock> TcpJob<'a, L, C> {
     }
 
     /// Serves the connections that come, so many, those that have failed already among them; fewer where the listener is broken.
+    #[tactic(auto, using(conversation::proofs::TurnLemmas::grows_itself))]
     fn serve_all<R: Wait, A: Answering, G: Gate, O: ServiceLog>(
         &mut self,
         rt: &R,
@@ -184,9 +185,10 @@ impl<'a, L: Listener, C: Clock> TcpJob<'a, L, C> {
             let Some((stream, from)) = self.accept(rt, log) else {
                 return JobEnd::Device;
             };
-            if let Some(stream) = stream {
-                let _ = self.serve(rt, answering, (stream, from), gate);
-            }
+            let Some(stream) = stream else {
+                continue;
+            };
+            let _ = self.serve(rt, answering, (stream, from), gate);
         }
         JobEnd::Done(self.most)
     }
