@@ -3,7 +3,7 @@
 exist, that don't, and aliases), updates a second, one behind the reply to the one before, with the processor time of one, and an IXFR after one
 update, on a connection that stays: processor time and time. It prints each round's figures, and then the medians and how the second program's stand
 to the first's, round by round. Usage: bench/beside.py FIRST SECOND [--rounds N] [--seconds N] [--records N] [--workers N] [--ixfrs N], by default
-9 rounds of 2 seconds a figure, 1000 records, 1 worker and 3000 IXFRs. It needs Debian's dnsperf."""
+9 rounds of 2 seconds a figure, 1000 records, 1 worker and 30000 IXFRs. It needs Debian's dnsperf."""
 import argparse
 import os
 import re
@@ -18,7 +18,7 @@ from soak import APEX, framed, parsed, read_frame, wire
 
 words = argparse.ArgumentParser()
 words.add_argument("programs", nargs=2)
-for word, number in (("rounds", 9), ("seconds", 2), ("records", 1000), ("workers", 1), ("ixfrs", 3000)):
+for word, number in (("rounds", 9), ("seconds", 2), ("records", 1000), ("workers", 1), ("ixfrs", 30000)):
     words.add_argument(f"--{word}", type=int, default=number)
 given = words.parse_args()
 TICKS = os.sysconf("SC_CLK_TCK")
@@ -55,7 +55,7 @@ def ixfr(serial):
 class Server:
     def __init__(self, program, zone):
         self.process = subprocess.Popen([program, "serve", "--listen", "127.0.0.1:0", "--workers", str(given.workers), zone], stderr=subprocess.PIPE, text=True)
-        self.port = int(re.search(r":(\d+)\D*$", self.process.stderr.readline()).group(1))
+        self.port = int(re.match(r"listening on [^ ]*:(\d+):", self.process.stderr.readline()).group(1))
         self.updates = 0
 
     def spent(self):
