@@ -1,0 +1,218 @@
+//! A worker's turns over a poll that is made up: it tells readiness that isn't there, of keys that nobody has, and its time is the test's.
+ghost use Rattle.std.specs.Prelude.{[]};
+
+use crate::echo::Both;
+use crate::pieces::{Behind, Pieces};
+use crate::rights::Rights;
+use connections::Blocking;
+use conversation::Allowed;
+use links::Limits;
+use std::alloc::{AllocError, Global};
+use std::net::{IpAddr, Ipv4Addr, SocketAddr, SocketAddrV4};
+use std::test::Fail;
+use turns::{Arrivals, NotWatched, Plan, Readiness, Refusal, Tally, Turns};
+
+/// A second, in nanoseconds.
+const SECOND: u64 = 1_000_000_000;
+
+/// Who may update: 192.0.2.1 alone.
+const MAY: [IpAddr; 1] = [IpAddr::V4(Ipv4Addr::new(192, 0, 2, 1))];
+
+/// A poll that tells every key under so many at each turn, one that nobody has, and the first place where connections come in.
+#[derive(Drop)]
+struct Teller {
+    keys: usize,
+    now: u64,
+    step: u64,
+}
+
+impl<S: Blocking> Readiness<S> for Teller {
+    fn watch(&mut self, _stream: &mut S, _key: usize) -> Result<(), NotWatched> {
+        Ok(())
+    }
+
+    fn wait(&mut self, most: u64, keys: &mut Vec<usize>) -> Result<u64, NotWatched> {
+        for key in 0..self.keys {
+            if keys.push(key).is_err() {
+                return Err(NotWatched);
+            }
+        }
+        if keys.push(40_000).is_err() || keys.push(usize::MAX).is_err() {
+            return Err(NotWatched);
+        }
+        self.now = self.now.saturating_add(self.step.min(most.max(1)));
+        Ok(self.now)
+    }
+}
+
+/// Connections that come one after another, with a failed one behind each; and one for which there is no room, where that is wanted.
+#[derive(Drop)]
+struct Comers {
+    left: Vec<(Pieces, SocketAddr)>,
+    is_odd: bool,
+    no_room: u32,
+}
+
+impl Arrivals for Comers {
+    type Stream = Pieces;
+
+    fn take(&mut self) -> Result<(Pieces, SocketAddr), Refusal> {
+        if self.no_room > 0 {
+            self.no_room -= 1;
+            return Err(Refusal::Room);
+        }
+        self.is_odd = !self.is_odd;
+        if self.is_odd {
+            return Err(Refusal::Client);
+        }
+        match self.left.pop() {
+            Some(comer) => Ok(comer),
+            None => Err(Refusal::Blocked),
+        }
+    }
+}
+
+/// An address of 192.0.2.0/24.
+fn address(last: u8) -> SocketAddr {
+    SocketAddr::V4(SocketAddrV4::new(Ipv4Addr::new(192, 0, 2, last), 5_353))
+}
+
+/// So many connections, from 192.0.2.1 and 192.0.2.2 by turns, on which these octets come in pieces.
+fn comers(alloc: Global, count: u8, octets: &[u8], behind: Behind) -> Result<Comers, AllocError> {
+    let mut left = Vec::new(alloc);
+    for at in 0..count {
+        let most = 1 + usize::from(at % 3);
+        left.push((
+            Pieces::new(alloc, octets, most, behind)?,
+            address(1 + at % 2),
+        ))?;
+    }
+    Ok(Comers {
+        left,
+        is_odd: false,
+        no_room: 0,
+    })
+}
+
+/// A plan of so many places, and ten seconds for everything.
+fn plan(places: usize) -> Plan<'static> {
+    Plan {
+        places,
+        limits: Limits {
+            idle: 10 * SECOND,
+            message: 10 * SECOND,
+            reply: 10 * SECOND,
+        },
+        allowed: Allowed::new(&MAY),
+    }
+}
+
+/// Takes so many turns, and gives what has become of the connections.
+fn take_turns(
+    rt: &HostRuntime,
+    worker: &mut Turns<Pieces, Both>,
+    teller: &mut Teller,
+    plan: Plan<'_>,
+    comers: Comers,
+    count: usize,
+) -> Result<Tally, Fail> {
+    let mut rights = Rights::new();
+    let mut places = Vec::new(rt.alloc());
+    places.push(comers)?;
+    for _turn in 0..count {
+        if worker
+            .turn(rt, teller, plan, &mut places, &mut rights)
+            .is_err()
+        {
+            return Err("a turn has failed")?;
+        }
+    }
+    Ok(worker.tally())
+}
+
+#[test]
+fn each_is_answered_by_its_own_rights(rt: HostRuntime) -> Result<(), Fail> {
+    let alloc = rt.alloc();
+    let mut worker = Turns::new(alloc, 64, 1)?;
+    let mut teller = Teller {
+        keys: 64,
+        now: 0,
+        step: 1,
+    };
+    let comers = comers(alloc, 40, &[0, 1, b'a', 0, 1, b'b'], Behind::Nothing)?;
+    let tally = take_turns(&rt, &mut worker, &mut teller, plan(64), comers, 60)?;
+    assert_eq!(rt; tally.begun, 40);
+    assert_eq!(rt; worker.links().len(), 40);
+    let mut may = 0;
+    for (_key, link) in worker.links().iter() {
+        let written = link.stream().written();
+        let octet = u8::from(written == [0, 1, 1, 0, 1, 1].as_slice());
+        assert!(rt; written == [0, 1, octet, 0, 1, octet].as_slice());
+        may += usize::from(octet);
+    }
+    assert_eq!(rt; may, 20);
+    Ok(())
+}
+
+#[test]
+fn ends_and_delays_give_places_back(rt: HostRuntime) -> Result<(), Fail> {
+    let alloc = rt.alloc();
+    let mut worker = Turns::new(alloc, 8, 1)?;
+    let mut teller = Teller {
+        keys: 8,
+        now: 0,
+        step: SECOND / 4,
+    };
+    // Those that end by themselves.
+    let first = comers(alloc, 7, &[0, 1, b'a'], Behind::End)?;
+    let tally = take_turns(&rt, &mut worker, &mut teller, plan(8), first, 60)?;
+    assert_eq!(rt; (tally.begun, tally.ended, worker.links().len()), (7, 7, 0));
+    // Those that begin a request, and bring no more.
+    let second = comers(alloc, 7, &[0, 9, b'a'], Behind::Nothing)?;
+    let tally = take_turns(&rt, &mut worker, &mut teller, plan(8), second, 30)?;
+    assert_eq!(rt; (tally.begun, worker.links().len()), (14, 7));
+    let nobody = comers(alloc, 0, &[], Behind::End)?;
+    let tally = take_turns(&rt, &mut worker, &mut teller, plan(8), nobody, 60)?;
+    assert_eq!(rt; (tally.over, worker.links().len()), (7, 0));
+    Ok(())
+}
+
+#[test]
+fn places_are_for_those_that_ask(rt: HostRuntime) -> Result<(), Fail> {
+    let alloc = rt.alloc();
+    let mut worker = Turns::new(alloc, 4, 1)?;
+    let mut teller = Teller {
+        keys: 4,
+        now: 0,
+        step: 1,
+    };
+    // Four that begin a request have the places: others are turned away.
+    let busy = comers(alloc, 4, &[0, 9, b'a'], Behind::Nothing)?;
+    take_turns(&rt, &mut worker, &mut teller, plan(4), busy, 20)?;
+    let more = comers(alloc, 3, &[], Behind::Nothing)?;
+    let tally = take_turns(&rt, &mut worker, &mut teller, plan(4), more, 20)?;
+    assert_eq!(rt; (tally.begun, tally.turned_away, tally.evicted), (4, 3, 0));
+    // Idle ones give theirs.
+    let mut worker = Turns::new(alloc, 4, 1)?;
+    let idle = comers(alloc, 9, &[], Behind::Nothing)?;
+    let tally = take_turns(&rt, &mut worker, &mut teller, plan(4), idle, 20)?;
+    assert_eq!(rt; (tally.begun, tally.turned_away, tally.evicted), (9, 0, 5));
+    assert_eq!(rt; worker.links().len(), 4);
+    Ok(())
+}
+
+#[test]
+fn want_of_room_is_waited_out(rt: HostRuntime) -> Result<(), Fail> {
+    let alloc = rt.alloc();
+    let mut worker = Turns::new(alloc, 8, 1)?;
+    let mut teller = Teller {
+        keys: 8,
+        now: 0,
+        step: SECOND / 4,
+    };
+    let mut few = comers(alloc, 5, &[], Behind::Nothing)?;
+    few.no_room = 3;
+    let tally = take_turns(&rt, &mut worker, &mut teller, plan(8), few, 30)?;
+    assert_eq!(rt; (tally.begun, tally.no_room), (5, 3));
+    Ok(())
+}

@@ -1,0 +1,3 @@
+pub mod BegunLemmas
+pub mod OwnLemmas
+pub mod SweepLemmas

@@ -1,0 +1,208 @@
+//! A server as one who answers connections.
+ghost use Rattle.std.specs.Prelude.{◌≡◌, ◌≤◌, ◌⊎◌, ℕ, true, length, Some, None, IfSome, IfOk, OnErr, if◌then◌else◌};
+ghost use Rattle.dns_message.specs.Message.{message_limit};
+ghost use Rattle.zone_tree.specs.Version.{Version};
+ghost use Rattle.serve_core.specs.Transfers.{is_permitted, messages_to};
+ghost use Rattle.dns_engine.specs.Chain.{changes_in};
+ghost use Rattle.conversation.specs.Octets.{messages_in};
+ghost use Rattle.conversation.specs.Served.{BeginsWith};
+ghost use Rattle.connections.specs.Kept.{messages_of};
+ghost use Rattle.connections.specs.declared.answering.Reply.{Reply as ReplyOf};
+ghost use Rattle.zone_service.specs.Replied.{IsReplied, IsUpdate, IsTransfer, HasNoAnswer};
+ghost use Rattle.zone_service.specs.declared.service_log.Event.TheVariants.{Update as ToldOfUpdate};
+ghost use Rattle.zone_replies.specs.Going.{transfer_left};
+
+use crate::transfer::Transfer;
+use connections::{Answering, Reply};
+use dns_engine::{FirstZone, Newest, VersionReader};
+use dns_message::Query;
+use serve_core::{Peer, Transport, transfer_reply};
+use snapshot_cell::{Naming, Spent};
+use std::alloc::Global;
+use std::net::SocketAddr;
+use std::sync::Wait;
+use transfer_core::MAX_MESSAGE;
+use zone_service::{Event, Now, Served, Server, ServiceLog, Told, answer_now, serve_one};
+
+/// A server that answers the peers of connections, with a worker's reader, of which contracts know what it has seen published. A log is told of
+/// updates.
+#[derive(Drop)]
+pub struct Replies<'a, 's, Z: FirstZone, N: Naming, L> {
+    server: &'a Server<'s, Z, N>,
+    reader: VersionReader<N>,
+    log: &'a L,
+    alloc: Global,
+    peer: Peer,
+    from: SocketAddr,
+}
+
+/// Writes the one message of a transfer to the front of `out`, for a datagram (RFC 1995, 2).
+fn write_one<Z: FirstZone, N: Naming>(
+    newest: &Newest<Z, N>,
+    query: &Query,
+    peer: Peer,
+    out: &mut [u8],
+) -> Option<usize>
+    requires permitted { is_permitted newest.now.last.zone peer query.now ≡ true }
+    requires datagram { peer.transport ≡ Transport.Udp }
+    requires room { MAX_MESSAGE ≤ length out.old }
+    ensures messages { messages_in result out.new ≡ messages_to newest.now.last.zone (changes_in newest.now query.now.serial) peer query.now }
+    ensures bound { IfSome result (λ len. len ≤ MAX_MESSAGE) }
+{
+    let chain = newest.chain(query.serial);
+    let mut packer = transfer_reply(newest.last_version(), &chain, query, peer);
+    packer.next_message(out)
+}
+
+/// The reply to a query for a transfer that is permitted, in the last of these versions: over a stream what makes its messages, for a datagram
+/// its one message. [`Spent`] where a `usize` doesn't tell how many records it has.
+fn reply_transfer<Z: FirstZone, N: Naming>(
+    newest: Newest<Z, N>,
+    query: Query,
+    peer: Peer,
+    out: &mut [u8],
+) -> Result<Reply<Transfer<Z, N>>, Spent>
+    requires permitted { is_permitted newest.last.zone peer query ≡ true }
+    requires room { message_limit ≤ length out.old }
+    ensures bound { IfOk result (λ reply. (len : ℕ) → reply ≡ ReplyOf.One len → (len ≤ message_limit) × (len ≤ length out.new)) }
+    ensures messages { IfOk result (λ reply. messages_of transfer_left reply out.new ≡ messages_to newest.last.zone (changes_in newest query.serial) peer query) }
+{
+    match peer.transport {
+        Transport::Tcp => match Transfer::new(newest, query) {
+            Some(transfer) => Ok(Reply::Many(transfer)),
+            None => Err(Spent),
+        },
+        Transport::Udp => match write_one(&newest, &query, peer, out) {
+            Some(len) => Ok(Reply::One(len)),
+            None => Ok(Reply::Silent),
+        },
+    }
+}
+
+impl<'a, 's, Z: FirstZone, N: Naming, L: ServiceLog> Replies<'a, 's, Z, N, L> {
+    /// A server that answers peers, with a reader; to begin with this peer, who asks from an address.
+    pub fn new(
+        alloc: Global,
+        server: &'a Server<'s, Z, N>,
+        reader: VersionReader<N>,
+        log: &'a L,
+        peer: Peer,
+        from: SocketAddr,
+    ) -> Replies<'a, 's, Z, N, L>
+        ensures reader { result.reader ≡ reader }
+        ensures peer { result.peer ≡ peer }
+    {
+        Replies {
+            server,
+            reader,
+            log,
+            alloc,
+            peer,
+            from,
+        }
+    }
+
+    /// Its reader, with which it answers no more.
+    pub fn into_reader(self) -> VersionReader<N>
+        ensures { result ≡ self.entry.reader }
+    {
+        self.reader
+    }
+
+    /// What the log is told of an update: its code and its serials, where the peer may update; nothing of others, who could fill the
+    /// log (own).
+    fn event_of(&self, told: Told) -> Option<Event>
+        ensures { result ≡ (if self.now.peer.may_update then Some (ToldOfUpdate self.now.from told.code told.serials) else None) }
+    {
+        if !self.peer.may_update {
+            return None;
+        }
+        Some(Event::Update {
+            from: self.from,
+            code: told.code,
+            serials: told.serials,
+        })
+    }
+
+    /// Tells the log of an update, where it is told of it.
+    fn tell<R: Wait>(&self, rt: &R, told: Told) {
+        if let Some(event) = self.event_of(told) {
+            self.log.tell(rt, event);
+        }
+    }
+
+    /// The reply to an update, or to a query for a transfer that is permitted.
+    #[tactic(auto, using(zone_service::proofs::ReplyLemmas::limit_most, zone_service::proofs::ReplyLemmas::room_most))]
+    fn reply_later<R: Wait>(
+        &mut self,
+        rt: &R,
+        request: &[u8],
+        out: &mut [u8],
+    ) -> Result<Reply<Transfer<Z, N>>, Spent>
+        requires later { IsUpdate request.now ⊎ IsTransfer Z.zone self.old.peer request.now }
+        requires room { message_limit ≤ length out.old }
+        ensures peer { self.new.peer ≡ self.old.peer }
+        ensures grows { BeginsWith {T = Version} self.new.reader.seen self.old.reader.seen }
+        ensures bound { IfOk result (λ reply. (len : ℕ) → reply ≡ ReplyOf.One len → (len ≤ message_limit) × (len ≤ length out.new)) }
+        ensures replied { IfOk result (λ reply. IsReplied Z.zone self.old.peer self.new.reader.seen request.now (messages_of transfer_left reply out.new)) }
+        ensures spent { OnErr result (IsTransfer Z.zone self.old.peer request.now) }
+    {
+        let peer = self.peer;
+        match serve_one(
+            rt,
+            self.alloc,
+            self.server,
+            &mut self.reader,
+            peer,
+            request,
+            out,
+        ) {
+            Served::Reply(len) => Ok(Reply::One(len)),
+            Served::Updated(len, told) => {
+                self.tell(rt, told);
+                Ok(Reply::One(len))
+            }
+            Served::Transfer(newest, query) => reply_transfer(newest, query, peer, out),
+            Served::Spent => Err(Spent),
+        }
+    }
+}
+
+impl<'a, 's, Z: FirstZone, N: Naming, L: ServiceLog> Answering<Transfer<Z, N>>
+    for Replies<'a, 's, Z, N, L> {
+    ghost seen = { λ replies. replies.reader.seen };
+
+    ghost peer = { λ replies. replies.peer };
+
+    ghost is_reply = { λ peer later request messages. IsReplied Z.zone peer later request messages };
+
+    #[tactic(auto, using(conversation::proofs::TurnLemmas::begins_itself))]
+    fn turn_to(&mut self, other: Peer, from: SocketAddr) {
+        self.peer = other;
+        self.from = from;
+    }
+
+    #[tactic(auto, using(zone_service::proofs::ReplyLemmas::limit_most, zone_service::proofs::ReplyLemmas::room_most, zone_service::proofs::ReplyLemmas::silent_replied, conversation::proofs::TurnLemmas::begins_itself))]
+    fn reply<R: Wait>(
+        &mut self,
+        rt: &R,
+        request: &[u8],
+        out: &mut [u8],
+    ) -> Result<Reply<Transfer<Z, N>>, Spent>
+        requires { message_limit ≤ length out.old }
+        ensures same { self.new.peer ≡ self.old.peer }
+        ensures grows { BeginsWith {T = Version} self.new.reader.seen self.old.reader.seen }
+        ensures bound { IfOk result (λ reply. (len : ℕ) → reply ≡ ReplyOf.One len → (len ≤ message_limit) × (len ≤ length out.new)) }
+        ensures reply { IfOk result (λ reply. IsReplied Z.zone self.old.peer self.new.reader.seen request.now (messages_of transfer_left reply out.new)) }
+        // What can't be read as a query is replied to, whether a version can be loaded or not.
+        ensures spent { OnErr result (HasNoAnswer Z.zone self.old.peer request.now self.old.reader) }
+    {
+        let cell = self.server.cell();
+        match answer_now(cell, &mut self.reader, self.peer, request, out) {
+            Now::Bytes(len) => Ok(Reply::One(len)),
+            Now::Silent => Ok(Reply::Silent),
+            Now::Later => self.reply_later(rt, request, out),
+            Now::Spent => Err(Spent),
+        }
+    }
+}
