@@ -58,7 +58,7 @@ impl Answering<Both> for Echo {
 
     ghost peer = { λ echo. echo.peer };
 
-    ghost is_reply = { λ _ _ _ _. Unit {0} };
+    ghost is_reply = { λ _ _ _ _ _. Unit {0} };
 
     fn turn_to(&mut self, other: Peer, _from: SocketAddr) {
         self.peer = other;

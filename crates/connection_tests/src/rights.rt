@@ -33,7 +33,7 @@ impl Answering<Both> for Rights {
 
     ghost peer = { λ rights. rights.peer };
 
-    ghost is_reply = { λ _ _ _ _. Unit {0} };
+    ghost is_reply = { λ _ _ _ _ _. Unit {0} };
 
     fn turn_to(&mut self, other: Peer, _from: SocketAddr) {
         self.peer = other;

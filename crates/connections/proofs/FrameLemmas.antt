@@ -86,9 +86,9 @@ some_ready ready new message pushed = λ none.
     let two : length (frame_of message) ≡ 2 + length message = length-append (to_be_bytes w16 (length message)) message in
     absurd (omega (arith, size, two, length-append ready (frame_of message)))
 
-module _ {T : Type 0} (IsReply : List T → List ℕ → List (List ℕ) → Type 0) where
+module _ {T : Type 0} (IsReply : List T → List T → List ℕ → List (List ℕ) → Type 0) where
   -- a request is answered
-  pub turn_made : (seen later : List T) (held owed left more request : List ℕ) (messages : List (List ℕ)) → BeginsWith later seen → IsReply later request messages
+  pub turn_made : (seen later : List T) (held owed left more request : List ℕ) (messages : List (List ℕ)) → BeginsWith later seen → IsReply seen later request messages
       → held ≡ frame_of request ++ left → more ≡ owed ++ frames_of messages → Turn IsReply seen (held, owed) later (left, more)
   turn_made seen later held owed left more request messages grows reply input output = record {
     request = request;

@@ -15,7 +15,7 @@ abbrev written_of : Option (List ℕ × List ℕ) → List ℕ
 written_of None = []
 written_of (Some p) = p.1
 
-module _ {T : Type 0} (IsReply : List T → List ℕ → List (List ℕ) → Type 0) where
+module _ {T : Type 0} (IsReply : List T → List T → List ℕ → List (List ℕ) → Type 0) where
   served_seen : (start seen later : List T) (old new : List ℕ × List ℕ) → Served IsReply start old seen new → BeginsWith later seen → Served IsReply start old later new
   served_seen start seen later old new s grows = record {
     requests = s.requests;

@@ -6,8 +6,9 @@ use Rattle.connections.specs.Kept.{Kept, told_by}
 use Rattle.connections.specs.declared.stream_end.StreamEnd.{StreamEnd}
 use Rattle.connections.specs.declared.stream_end.StreamEnd.TheVariants.{Clean, Torn, Device, Spent, NoMemory}
 
--- what a reply is, by the list of what is known to be published, the request, and the reply's messages
-module _ {T : Type 0} (IsReply : List T → List ℕ → List (List ℕ) → Type 0) where
+-- what a reply is, by the list of what is known to be published before it and that of what is when it is made, the request, and the reply's
+-- messages
+module _ {T : Type 0} (IsReply : List T → List T → List ℕ → List (List ℕ) → Type 0) where
   -- all frames between two states of a stream have been answered, where it tells its octets
   abbrev pub Known : List T → Option (List ℕ × List ℕ) → List T → Option (List ℕ × List ℕ) → Type 0
   Known start old seen new = IfSome old (λ o. (mid : List ℕ × List ℕ) × (new ≡ Some mid) × Served IsReply start o seen mid)

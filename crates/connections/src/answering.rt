@@ -41,8 +41,8 @@ pub trait Answering<M: Messages> {
     /// Who asks.
     ghost peer: { Self → PeerAsking };
 
-    /// What the messages of a reply to a request are, by who asks and by such versions.
-    ghost is_reply: { PeerAsking → List Version → List ℕ → List (List ℕ) → Type 0 };
+    /// What the messages of a reply to a request are, by who asks, by such versions before the reply, and by those when it is made.
+    ghost is_reply: { PeerAsking → List Version → List Version → List ℕ → List (List ℕ) → Type 0 };
 
     /// Turns to another peer, who asks from an address.
     fn turn_to(&mut self, other: Peer, from: SocketAddr)
@@ -56,5 +56,5 @@ pub trait Answering<M: Messages> {
         ensures same { peer self.new ≡ peer self.old }
         ensures grows { BeginsWith (seen self.new) (seen self.old) }
         ensures bound { IfOk result (λ reply. (len : ℕ) → reply ≡ Reply.One len → (len ≤ message_limit) × (len ≤ length out.new)) }
-        ensures reply { IfOk result (λ reply. is_reply (peer self.old) (seen self.new) request.now (messages_of M.left reply out.new)) };
+        ensures reply { IfOk result (λ reply. is_reply (peer self.old) (seen self.old) (seen self.new) request.now (messages_of M.left reply out.new)) };
 }

@@ -20,7 +20,7 @@ pub err_follows : {A E : Type 0} {P Q : E → Type 0} (result : Result A E) → 
 err_follows (Ok value) step holds = tt
 err_follows (Err fault) step holds = step fault holds
 
-module _ {T : Type 0} (IsReply : Peer → List T → List ℕ → List (List ℕ) → Type 0) where
+module _ {T : Type 0} (IsReply : Peer → List T → List T → List ℕ → List (List ℕ) → Type 0) where
   -- a connection isn't served, and maybe more is known
   pub own_same : (now : ℕ) (seen later : List T) (link : Option Seen) → BeginsWith later seen → OwnServed IsReply now seen link later link
   own_same now seen later None grows = tt

@@ -21,8 +21,9 @@ pub record Seen : Type 0 where
 abbrev pub told_of : Seen → Option (List ℕ × List ℕ)
 told_of seen = told_by seen.kept seen.octets
 
--- what a reply is, by who asks, the list of what is known to be published, the request, and the reply's messages
-module _ {T : Type 0} (IsReply : Peer → List T → List ℕ → List (List ℕ) → Type 0) where
+-- what a reply is, by who asks, the list of what is known to be published before it and that of what is when it is made, the request, and the
+-- reply's messages
+module _ {T : Type 0} (IsReply : Peer → List T → List T → List ℕ → List (List ℕ) → Type 0) where
   -- a connection has ended, with all its requests answered by its peer's rights, or some of them
   pub record HasEnded (seen : List T) (old : Seen) (later : List T) : Type 0 where
     pub end : StreamEnd

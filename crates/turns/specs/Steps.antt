@@ -36,9 +36,9 @@ pub data Moves (allowed : List IpAddr) (old : ℕ → Option Seen) : (ℕ → Op
   stay : Moves allowed old old
   move : {between new : ℕ → Option Seen} → Moves allowed old between → Move allowed between new → Moves allowed old new
 
--- what a reply is, by who asks, the list of what is known to be published, the request, and the reply's messages; and who may update and
--- transfer
-module _ {T : Type 0} (IsReply : Peer → List T → List ℕ → List (List ℕ) → Type 0) (allowed : List IpAddr) where
+-- what a reply is, by who asks, the list of what is known to be published before it and that of what is when it is made, the request, and the
+-- reply's messages; and who may update and transfer
+module _ {T : Type 0} (IsReply : Peer → List T → List T → List ℕ → List (List ℕ) → Type 0) (allowed : List IpAddr) where
   -- a turn, by what is known to be published before it and behind it: places are taken and given back; connections are served, each by its own
   -- peer's rights and on its own stream; and places are given back
   pub record HasTurned (seen : List T) (old : ℕ → Option Seen) (later : List T) (new : ℕ → Option Seen) : Type 0 where
