@@ -1,9 +1,10 @@
 //! A server as one who answers connections.
 ghost use Rattle.std.specs.Prelude.{◌≡◌, ◌≤◌, ◌⊎◌, ℕ, true, length, Some, None, IfSome, IfOk, OnErr, if◌then◌else◌};
 ghost use Rattle.dns_message.specs.Message.{message_limit};
-ghost use Rattle.zone_tree.specs.Version.{Version};
+ghost use Rattle.zone_tree.specs.Version.{Version as PublishedVersion};
 ghost use Rattle.serve_core.specs.Transfers.{is_permitted, messages_to};
-ghost use Rattle.dns_engine.specs.Chain.{changes_in};
+ghost use Rattle.zone_tree.specs.Zone.{soa_of};
+ghost use Rattle.dns_engine.specs.Chain.{changes_by};
 ghost use Rattle.conversation.specs.Octets.{messages_in};
 ghost use Rattle.conversation.specs.Served.{BeginsWith};
 ghost use Rattle.connections.specs.Kept.{messages_of};
@@ -14,7 +15,7 @@ ghost use Rattle.zone_replies.specs.Going.{transfer_left};
 
 use crate::transfer::Transfer;
 use connections::{Answering, Reply};
-use dns_engine::{FirstZone, Newest, VersionReader};
+use dns_engine::{FirstZone, SharedVersion, VersionChain, VersionReader};
 use dns_message::Query;
 use serve_core::{Peer, Transport, transfer_reply};
 use snapshot_cell::{Naming, Spent};
@@ -23,6 +24,7 @@ use std::net::SocketAddr;
 use std::sync::Wait;
 use transfer_core::MAX_MESSAGE;
 use zone_service::{Event, Now, Served, Server, ServiceLog, Told, answer_now, serve_one};
+use zone_tree::Version;
 
 /// A server that answers the peers of connections, with a worker's reader, of which contracts know what it has seen published. A log is told of
 /// updates.
@@ -37,42 +39,43 @@ pub struct Replies<'a, 's, Z: FirstZone, N: Naming, L> {
 }
 
 /// Writes the one message of a transfer to the front of `out`, for a datagram (RFC 1995, 2).
-fn write_one<Z: FirstZone, N: Naming>(
-    newest: &Newest<Z, N>,
+fn write_one(
+    version: &Version,
+    chain: &VersionChain,
     query: &Query,
     peer: Peer,
     out: &mut [u8],
 ) -> Option<usize>
-    requires permitted { is_permitted newest.now.last.zone peer query.now ≡ true }
+    requires permitted { is_permitted version.now.zone peer query.now ≡ true }
     requires datagram { peer.transport ≡ Transport.Udp }
     requires room { MAX_MESSAGE ≤ length out.old }
-    ensures messages { messages_in result out.new ≡ messages_to newest.now.last.zone (changes_in newest.now query.now.serial) peer query.now }
+    ensures messages { messages_in result out.new ≡ messages_to version.now.zone (changes_by (soa_of version.now.zone) chain.now) peer query.now }
     ensures bound { IfSome result (λ len. len ≤ MAX_MESSAGE) }
 {
-    let chain = newest.chain(query.serial);
-    let mut packer = transfer_reply(newest.last_version(), &chain, query, peer);
+    let mut packer = transfer_reply(version, chain, query, peer);
     packer.next_message(out)
 }
 
-/// The reply to a query for a transfer that is permitted, in the last of these versions: over a stream what makes its messages, for a datagram
-/// its one message. [`Spent`] where a `usize` doesn't tell how many records it has.
-fn reply_transfer<Z: FirstZone, N: Naming>(
-    newest: Newest<Z, N>,
+/// The reply to a query for a transfer that is permitted in a version, by those since the asker's: over a stream what makes its messages, for a
+/// datagram its one message. [`Spent`] where a `usize` doesn't tell how many records it has.
+fn reply_transfer(
+    version: SharedVersion,
+    chain: VersionChain,
     query: Query,
     peer: Peer,
     out: &mut [u8],
-) -> Result<Reply<Transfer<Z, N>>, Spent>
-    requires permitted { is_permitted newest.last.zone peer query ≡ true }
+) -> Result<Reply<Transfer>, Spent>
+    requires permitted { is_permitted version.zone peer query ≡ true }
     requires room { message_limit ≤ length out.old }
     ensures bound { IfOk result (λ reply. (len : ℕ) → reply ≡ ReplyOf.One len → (len ≤ message_limit) × (len ≤ length out.new)) }
-    ensures messages { IfOk result (λ reply. messages_of transfer_left reply out.new ≡ messages_to newest.last.zone (changes_in newest query.serial) peer query) }
+    ensures messages { IfOk result (λ reply. messages_of transfer_left reply out.new ≡ messages_to version.zone (changes_by (soa_of version.zone) chain) peer query) }
 {
     match peer.transport {
-        Transport::Tcp => match Transfer::new(newest, query) {
+        Transport::Tcp => match Transfer::new(version, chain, query) {
             Some(transfer) => Ok(Reply::Many(transfer)),
             None => Err(Spent),
         },
-        Transport::Udp => match write_one(&newest, &query, peer, out) {
+        Transport::Udp => match write_one(version.get(), &chain, &query, peer, out) {
             Some(len) => Ok(Reply::One(len)),
             None => Ok(Reply::Silent),
         },
@@ -138,13 +141,13 @@ impl<'a, 's, Z: FirstZone, N: Naming, L: ServiceLog> Replies<'a, 's, Z, N, L> {
         rt: &R,
         request: &[u8],
         out: &mut [u8],
-    ) -> Result<Reply<Transfer<Z, N>>, Spent>
+    ) -> Result<Reply<Transfer>, Spent>
         requires later { IsUpdate request.now ⊎ IsTransfer Z.zone self.old.peer request.now }
         requires room { message_limit ≤ length out.old }
         ensures peer { self.new.peer ≡ self.old.peer }
-        ensures grows { BeginsWith {T = Version} self.new.reader.seen self.old.reader.seen }
+        ensures grows { BeginsWith {T = PublishedVersion} self.new.reader.seen self.old.reader.seen }
         ensures bound { IfOk result (λ reply. (len : ℕ) → reply ≡ ReplyOf.One len → (len ≤ message_limit) × (len ≤ length out.new)) }
-        ensures replied { IfOk result (λ reply. IsReplied Z.zone self.old.peer self.new.reader.seen request.now (messages_of transfer_left reply out.new)) }
+        ensures replied { IfOk result (λ reply. IsReplied Z.zone self.old.peer self.old.reader.seen self.new.reader.seen request.now (messages_of transfer_left reply out.new)) }
         ensures spent { OnErr result (IsTransfer Z.zone self.old.peer request.now) }
     {
         let peer = self.peer;
@@ -162,19 +165,21 @@ impl<'a, 's, Z: FirstZone, N: Naming, L: ServiceLog> Replies<'a, 's, Z, N, L> {
                 self.tell(rt, told);
                 Ok(Reply::One(len))
             }
-            Served::Transfer(newest, query) => reply_transfer(newest, query, peer, out),
+            Served::Transfer(version, chain, query) => {
+                reply_transfer(version, chain, query, peer, out)
+            },
             Served::Spent => Err(Spent),
         }
     }
 }
 
-impl<'a, 's, Z: FirstZone, N: Naming, L: ServiceLog> Answering<Transfer<Z, N>>
+impl<'a, 's, Z: FirstZone, N: Naming, L: ServiceLog> Answering<Transfer>
     for Replies<'a, 's, Z, N, L> {
     ghost seen = { λ replies. replies.reader.seen };
 
     ghost peer = { λ replies. replies.peer };
 
-    ghost is_reply = { λ peer later request messages. IsReplied Z.zone peer later request messages };
+    ghost is_reply = { λ peer known later request messages. IsReplied Z.zone peer known later request messages };
 
     #[tactic(auto, using(conversation::proofs::TurnLemmas::begins_itself))]
     fn turn_to(&mut self, other: Peer, from: SocketAddr) {
@@ -188,12 +193,12 @@ impl<'a, 's, Z: FirstZone, N: Naming, L: ServiceLog> Answering<Transfer<Z, N>>
         rt: &R,
         request: &[u8],
         out: &mut [u8],
-    ) -> Result<Reply<Transfer<Z, N>>, Spent>
+    ) -> Result<Reply<Transfer>, Spent>
         requires { message_limit ≤ length out.old }
         ensures same { self.new.peer ≡ self.old.peer }
-        ensures grows { BeginsWith {T = Version} self.new.reader.seen self.old.reader.seen }
+        ensures grows { BeginsWith {T = PublishedVersion} self.new.reader.seen self.old.reader.seen }
         ensures bound { IfOk result (λ reply. (len : ℕ) → reply ≡ ReplyOf.One len → (len ≤ message_limit) × (len ≤ length out.new)) }
-        ensures reply { IfOk result (λ reply. IsReplied Z.zone self.old.peer self.new.reader.seen request.now (messages_of transfer_left reply out.new)) }
+        ensures reply { IfOk result (λ reply. IsReplied Z.zone self.old.peer self.old.reader.seen self.new.reader.seen request.now (messages_of transfer_left reply out.new)) }
         // What can't be read as a query is replied to, whether a version can be loaded or not.
         ensures spent { OnErr result (HasNoAnswer Z.zone self.old.peer request.now self.old.reader) }
     {

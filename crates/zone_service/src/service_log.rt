@@ -45,6 +45,30 @@ pub enum Event {
         /// Its number, from 1.
         worker: usize,
     },
+    /// All threads of all workers have begun.
+    Serving,
+    /// Connections of a worker have ended by what an operator may wonder about, or got no place, since this was told last.
+    Lost {
+        /// Its number, from 1.
+        worker: usize,
+        /// How many.
+        losses: Losses,
+    },
+}
+
+/// How many connections have ended by what an operator may wonder about, or got no place.
+#[derive(Clone, Copy, Default, PartialEq, Eq)]
+pub struct Losses {
+    /// Those by a read or a write that failed, or for want of memory or of a version.
+    pub failed: u64,
+    /// Those whose peers took too long.
+    pub late: u64,
+    /// Those that were idle and gave their places to others.
+    pub evicted: u64,
+    /// Those that got no place, since none was free, and no other was idle.
+    pub turned_away: u64,
+    /// Those that got none for want of a descriptor or of memory.
+    pub no_room: u64,
 }
 
 /// The zone's serial when an update is looked at, and the one after that update: the same where it has changed nothing.
@@ -65,6 +89,8 @@ pub enum JobEnd {
     Device,
     /// No version could be loaded.
     Spent,
+    /// A growth was refused.
+    NoMemory,
 }
 
 impl Display for Event {
@@ -92,6 +118,11 @@ impl Display for Event {
                 f,
                 "worker {worker} (TCP) has no room for a connection, and waits"
             ),
+            Event::Serving => f.write_str("all workers have begun"),
+            Event::Lost { worker, losses } => {
+                write!(f, "worker {worker} (TCP)")?;
+                write_losses(f, *losses)
+            }
         }
     }
 }
@@ -106,6 +137,25 @@ fn write_serials<W: fmt::Write>(f: &mut Formatter<W>, serials: Option<Serials>) 
         return write!(f, ", serial {before} stays");
     }
     write!(f, ", serial {before} to {after}")
+}
+
+/// Writes how many connections are lost, by what.
+fn write_losses<W: fmt::Write>(f: &mut Formatter<W>, losses: Losses) -> fmt::Result {
+    let kinds = [
+        (losses.failed, "failed"),
+        (losses.late, "ended by a deadline"),
+        (losses.evicted, "idle ended for another"),
+        (losses.turned_away, "turned away"),
+        (losses.no_room, "had no room"),
+    ];
+    let mut mark = ": ";
+    for (count, kind) in kinds {
+        if count > 0 {
+            write!(f, "{mark}{count} {kind}")?;
+            mark = ", ";
+        }
+    }
+    Ok(())
 }
 
 /// Writes how a job has ended.
@@ -124,6 +174,7 @@ fn write_end<W: fmt::Write>(
         }
         JobEnd::Device => f.write_str("its socket failed"),
         JobEnd::Spent => f.write_str("no version could be loaded"),
+        JobEnd::NoMemory => f.write_str("no memory"),
     }
 }
 
