@@ -3,3 +3,4 @@ pub mod GivenBack
 pub mod Ended
 pub mod ServedFor
 pub mod Numbers
+pub mod Seats

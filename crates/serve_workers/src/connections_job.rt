@@ -24,7 +24,7 @@ const SILENCE: u64 = 1;
 /// A worker's job on connections: turns over those that come at its listeners.
 #[derive(Drop)]
 pub struct ConnectionsJob<'a, C> {
-    number: usize,
+    pub(crate) number: usize,
     watch: Watch<'a, C>,
     places: Vec<TcpPlace>,
     turns: Turns<TcpPeer, Transfer>,

@@ -26,10 +26,7 @@ impl Muster {
 
     /// One more thread has begun. Whether all have by this.
     pub(crate) fn begin(&self) -> bool {
-        self.begun
-            .fetch_add(1, Ordering::SeqCst)
-            .saturating_add(1)
-            == self.threads
+        self.begun.fetch_add(1, Ordering::SeqCst).saturating_add(1) == self.threads
     }
 
     /// The server is to end, since a thread has ended for a reason of its own.
