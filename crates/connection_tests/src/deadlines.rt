@@ -2,7 +2,7 @@
 
 use crate::echo::{Both, Echo};
 use crate::pieces::{Behind, Pieces};
-use links::{Limits, Link, Room, make_room, serve_ready, sweep};
+use links::{Ends, Limits, Link, Room, make_room, serve_ready, sweep};
 use serve_core::{Peer, Transport};
 use slab::Slab;
 use std::alloc::{AllocError, Global};
@@ -54,6 +54,7 @@ fn serve<R: Wait>(
             links,
             &[0, 1, 2, 3],
             &mut next,
+            &mut Ends::default(),
             now,
             &mut room,
             &mut out,

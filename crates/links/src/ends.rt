@@ -1,0 +1,44 @@
+//! How connections have ended, counted.
+ghost use Rattle.std.specs.Prelude.{◌≡◌};
+ghost use Rattle.links.specs.Ends.{one_more};
+
+use connections::StreamEnd;
+
+/// How many connections have ended, by how they did; at most 2^64 - 1 of each are counted.
+#[derive(Clone, Copy, Default, PartialEq, Eq, Debug)]
+pub struct Ends {
+    /// Behind the last request's reply, with nothing left to be read.
+    pub clean: u64,
+    /// Inside a request, with nothing left to be read.
+    pub torn: u64,
+    /// By a read or a write that failed.
+    pub device: u64,
+    /// Since no version could be loaded.
+    pub spent: u64,
+    /// For want of memory.
+    pub no_memory: u64,
+}
+
+impl Ends {
+    /// Counts one more, by how it has ended.
+    pub(crate) fn count(&mut self, end: StreamEnd)
+        ensures { self.new ≡ one_more end self.old }
+    {
+        match end {
+            StreamEnd::Clean => self.clean = self.clean.saturating_add(1),
+            StreamEnd::Torn => self.torn = self.torn.saturating_add(1),
+            StreamEnd::Device => self.device = self.device.saturating_add(1),
+            StreamEnd::Spent => self.spent = self.spent.saturating_add(1),
+            StreamEnd::NoMemory => self.no_memory = self.no_memory.saturating_add(1),
+        }
+    }
+
+    /// How many have ended in all; at most 2^64 - 1 are told.
+    pub fn total(&self) -> u64 {
+        self.clean
+            .saturating_add(self.torn)
+            .saturating_add(self.device)
+            .saturating_add(self.spent)
+            .saturating_add(self.no_memory)
+    }
+}
