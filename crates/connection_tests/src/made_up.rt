@@ -236,7 +236,10 @@ fn ends_and_delays_give_places_back(rt: HostRuntime) -> Result<(), Fail> {
         nobody,
         60,
     )?;
-    assert_eq!(rt; (tally.over, worker.links().len()), (7, 0));
+    assert_eq!(rt;
+        (tally.ends.message, tally.ends.late(), worker.links().len()),
+        (7, 7, 0)
+    );
     Ok(())
 }
 

@@ -1,5 +1,7 @@
 -- How connections have ended, counted (own).
 use Rattle.std.specs.Prelude.{◌≡◌, ℕ, ◌+◌, ◌-◌, ◌^◌, min}
+use Rattle.connections.specs.declared.awaited.Awaited.{Awaited}
+use Rattle.connections.specs.declared.awaited.Awaited.TheVariants.{Request, Rest, Taking}
 use Rattle.connections.specs.declared.stream_end.StreamEnd.{StreamEnd}
 use Rattle.connections.specs.declared.stream_end.StreamEnd.TheVariants.{Clean, Torn, Device, Spent, NoMemory}
 use Rattle.links.specs.declared.ends.Ends.{Ends}
@@ -16,7 +18,14 @@ one_more Device ends = record ends { device = one_up ends.device }
 one_more Spent ends = record ends { spent = one_up ends.spent }
 one_more NoMemory ends = record ends { no_memory = one_up ends.no_memory }
 
--- so many more have ended, and each is counted by how it did
+-- one more is over, by what it waited for
+abbrev pub one_late : Awaited → Ends → Ends
+one_late Request ends = record ends { idle = one_up ends.idle }
+one_late Rest ends = record ends { message = one_up ends.message }
+one_late Taking ends = record ends { reply = one_up ends.reply }
+
+-- so many more have ended, and each is counted, by how it did, or by what it waited for too long
 pub data Counts (old : Ends) : ℕ → Ends → Type 0 where
   none : Counts old 0 old
   one : {number more : ℕ} {ends new : Ends} (end : StreamEnd) → Counts old number ends → more ≡ number + 1 → new ≡ one_more end ends → Counts old more new
+  late : {number more : ℕ} {ends new : Ends} (awaited : Awaited) → Counts old number ends → more ≡ number + 1 → new ≡ one_late awaited ends → Counts old more new

@@ -50,15 +50,8 @@ module _ {S M : Type 0} (octets : S → Option (List ℕ × List ℕ)) where
   pub moves_begun : (allowed : List IpAddr) (now : ℕ) (from : SocketAddr) (peer : Peer) (old new : Slab (Link S M)) (key : ℕ) (link : Link S M) → get old key ≡ None → get new key ≡ Some link → IsPeer allowed Tcp from peer → link.peer ≡ peer → link.conversation ≡ nothing_kept → link.begun ≡ now
       → ((other : ℕ) → other ≢ key → get new other ≡ get old other) → Moves allowed now (seen_under octets old) (seen_under octets new)
   moves_begun allowed now from peer old new key link vacant put is_peer same kept begun others =
-      moves_once (
-        begins
-        key
-        (seen_of octets link)
-        (ap (option_map (seen_of octets)) vacant)
-        (ap (option_map (seen_of octets)) put)
-        (record { from = from; peer = subst (λ (p : Peer). IsPeer allowed Tcp from p) (sym same) is_peer; kept = kept; begun = begun })
-        (λ other differs. ap (option_map (seen_of octets)) (others other differs)),
-      )
+      let began : HasBegun allowed now (seen_of octets link) = record { from = from; peer = subst (λ (p : Peer). IsPeer allowed Tcp from p) (sym same) is_peer; kept = kept; begun = begun } in
+      moves_once (begins key (seen_of octets link) (ap (option_map (seen_of octets)) vacant) (ap (option_map (seen_of octets)) put) began (λ other differs. ap (option_map (seen_of octets)) (others other differs)))
 
   swept_key : (limits : Limits) (now : ℕ) (old new : Slab (Link S M)) → ((key : ℕ) → get new key ≡ kept_at limits now (get old key)) → (key : ℕ) → seen_under octets new key ≡ kept_seen limits now (seen_under octets old key)
   swept_key limits now old new swept = λ key. ap (option_map (seen_of octets)) (swept key) ∙ kept_as limits now (get old key)

@@ -276,8 +276,7 @@ impl<S: Blocking + Drop, M: Messages> Turns<S, M> {
         }
         self.swept = now;
         let limits = limits_at(plan.limits, self.links.len(), plan.places);
-        let over = sweep(&mut self.links, limits, now) as u64;
-        self.tally.over = self.tally.over.saturating_add(over);
+        sweep(&mut self.links, limits, now, &mut self.tally.ends);
     }
 
     /// A turn: waits until something may be ready, takes the connections that come, serves those that may go on by a share each, and ends those
@@ -310,12 +309,7 @@ impl<S: Blocking + Drop, M: Messages> Turns<S, M> {
 
     /// How many connections have given their places.
     fn gone(&self) -> u64 {
-        let tally = self.tally;
-        tally
-            .ends
-            .total()
-            .saturating_add(tally.over)
-            .saturating_add(tally.evicted)
+        self.tally.ends.total().saturating_add(self.tally.evicted)
     }
 
     /// Takes turns until so many connections have given their places, or no more turns can be taken.
