@@ -2,7 +2,7 @@
 
 use crate::echo::{Both, Echo};
 use crate::pieces::{Behind, Pieces};
-use links::{Limits, Link, Room, make_room, serve_ready, sweep};
+use links::{Ends, Limits, Link, Room, make_room, serve_ready, sweep};
 use serve_core::{Peer, Transport};
 use slab::Slab;
 use std::alloc::{AllocError, Global};
@@ -54,6 +54,7 @@ fn serve<R: Wait>(
             links,
             &[0, 1, 2, 3],
             &mut next,
+            &mut Ends::default(),
             now,
             &mut room,
             &mut out,
@@ -74,6 +75,7 @@ fn put(links: &mut Slab<Link<Pieces, Both>>, link: Link<Pieces, Both>) -> Result
 fn each_connection_has_its_time(rt: HostRuntime) -> Result<(), Fail> {
     let alloc = rt.alloc();
     let mut links = Slab::new(alloc);
+    let mut ends = Ends::default();
     // Under 0 nothing comes, under 1 half a request, under 2 a whole one, under 3 one that comes and goes octet by octet.
     put(&mut links, connection(alloc, &[], 1, 0)?)?;
     put(&mut links, connection(alloc, &[0, 9, b'a'], 1, 0)?)?;
@@ -81,15 +83,22 @@ fn each_connection_has_its_time(rt: HostRuntime) -> Result<(), Fail> {
     put(&mut links, connection(alloc, &[0, 1, b'a'], 1, 0)?)?;
     // At 3 s octets come and go: only whole requests and replies count, under 2 and 3.
     serve(&rt, alloc, &mut links, 20, 3 * SECOND)?;
-    assert_eq!(rt; sweep(&mut links, LIMITS, 6 * SECOND), 0);
+    sweep(&mut links, LIMITS, 6 * SECOND, &mut ends);
+    assert_eq!(rt; ends.late(), 0);
     // The rest of a request is waited for 7 s, from when the connection began.
-    assert_eq!(rt; sweep(&mut links, LIMITS, 7 * SECOND), 1);
+    sweep(&mut links, LIMITS, 7 * SECOND, &mut ends);
+    assert_eq!(rt; ends.late(), 1);
     assert!(rt; links.get(1).is_none());
-    assert_eq!(rt; sweep(&mut links, LIMITS, 10 * SECOND - 1), 0);
-    assert_eq!(rt; sweep(&mut links, LIMITS, 10 * SECOND), 1);
+    sweep(&mut links, LIMITS, 10 * SECOND - 1, &mut ends);
+    assert_eq!(rt; ends.late(), 1);
+    sweep(&mut links, LIMITS, 10 * SECOND, &mut ends);
+    assert_eq!(rt; ends.late(), 2);
     assert!(rt; links.get(0).is_none());
-    assert_eq!(rt; sweep(&mut links, LIMITS, 13 * SECOND - 1), 0);
-    assert_eq!(rt; sweep(&mut links, LIMITS, 13 * SECOND), 2);
+    sweep(&mut links, LIMITS, 13 * SECOND - 1, &mut ends);
+    assert_eq!(rt; ends.late(), 2);
+    sweep(&mut links, LIMITS, 13 * SECOND, &mut ends);
+    assert_eq!(rt; ends.late(), 4);
+    assert_eq!(rt; (ends.idle, ends.message, ends.reply), (3, 1, 0));
     assert!(rt; links.is_empty());
     Ok(())
 }

@@ -1,10 +1,10 @@
 //! A worker's turns over a poll that is made up: it tells readiness that isn't there, of keys that nobody has, and its time is the test's.
 ghost use Rattle.std.specs.Prelude.{[]};
 
-use crate::echo::Both;
+use crate::echo::{Both, Echo};
 use crate::pieces::{Behind, Pieces};
 use crate::rights::Rights;
-use connections::Blocking;
+use connections::{Answering, Blocking};
 use conversation::Allowed;
 use links::Limits;
 use std::alloc::{AllocError, Global};
@@ -27,6 +27,8 @@ struct Teller {
 }
 
 impl<S: Blocking> Readiness<S> for Teller {
+    ghost time = { λ teller. teller.now };
+
     fn watch(&mut self, _stream: &mut S, _key: usize) -> Result<(), NotWatched> {
         Ok(())
     }
@@ -41,6 +43,30 @@ impl<S: Blocking> Readiness<S> for Teller {
             return Err(NotWatched);
         }
         self.now = self.now.saturating_add(self.step.min(most.max(1)));
+        Ok(self.now)
+    }
+}
+
+/// A poll that tells each key once, when it is watched, and of no place where connections come in.
+#[derive(Drop)]
+struct Once {
+    told: Vec<usize>,
+    now: u64,
+}
+
+impl<S: Blocking> Readiness<S> for Once {
+    ghost time = { λ once. once.now };
+
+    fn watch(&mut self, _stream: &mut S, key: usize) -> Result<(), NotWatched> {
+        self.told.push(key).map_err(|_| NotWatched)
+    }
+
+    fn wait(&mut self, _most: u64, keys: &mut Vec<usize>) -> Result<u64, NotWatched> {
+        if keys.extend_from_slice(&self.told).is_err() {
+            return Err(NotWatched);
+        }
+        self.told.clear();
+        self.now = self.now.saturating_add(1);
         Ok(self.now)
     }
 }
@@ -108,20 +134,22 @@ fn plan(places: usize) -> Plan<'static> {
 }
 
 /// Takes so many turns, and gives what has become of the connections.
-fn take_turns(
+fn take_turns<P: Readiness<Pieces>, A: Answering<Both>>(
     rt: &HostRuntime,
     worker: &mut Turns<Pieces, Both>,
-    teller: &mut Teller,
+    poll: &mut P,
+    answering: &mut A,
     plan: Plan<'_>,
     comers: Comers,
     count: usize,
 ) -> Result<Tally, Fail> {
-    let mut rights = Rights::new();
     let mut places = Vec::new(rt.alloc());
     places.push(comers)?;
+    let mut room = vec![in rt.alloc(); 0; 512]?;
+    let mut out = vec![in rt.alloc(); 0; 65_535]?;
     for _turn in 0..count {
         if worker
-            .turn(rt, teller, plan, &mut places, &mut rights)
+            .turn(rt, poll, plan, &mut places, answering, &mut room, &mut out)
             .is_err()
         {
             return Err("a turn has failed")?;
@@ -140,7 +168,15 @@ fn each_is_answered_by_its_own_rights(rt: HostRuntime) -> Result<(), Fail> {
         step: 1,
     };
     let comers = comers(alloc, 40, &[0, 1, b'a', 0, 1, b'b'], Behind::Nothing)?;
-    let tally = take_turns(&rt, &mut worker, &mut teller, plan(64), comers, 60)?;
+    let tally = take_turns(
+        &rt,
+        &mut worker,
+        &mut teller,
+        &mut Rights::new(),
+        plan(64),
+        comers,
+        60,
+    )?;
     assert_eq!(rt; tally.begun, 40);
     assert_eq!(rt; worker.links().len(), 40);
     let mut may = 0;
@@ -165,15 +201,45 @@ fn ends_and_delays_give_places_back(rt: HostRuntime) -> Result<(), Fail> {
     };
     // Those that end by themselves.
     let first = comers(alloc, 7, &[0, 1, b'a'], Behind::End)?;
-    let tally = take_turns(&rt, &mut worker, &mut teller, plan(8), first, 60)?;
-    assert_eq!(rt; (tally.begun, tally.ended, worker.links().len()), (7, 7, 0));
+    let tally = take_turns(
+        &rt,
+        &mut worker,
+        &mut teller,
+        &mut Rights::new(),
+        plan(8),
+        first,
+        60,
+    )?;
+    assert_eq!(rt;
+        (tally.begun, tally.ends.clean, worker.links().len()),
+        (7, 7, 0)
+    );
     // Those that begin a request, and bring no more.
     let second = comers(alloc, 7, &[0, 9, b'a'], Behind::Nothing)?;
-    let tally = take_turns(&rt, &mut worker, &mut teller, plan(8), second, 30)?;
+    let tally = take_turns(
+        &rt,
+        &mut worker,
+        &mut teller,
+        &mut Rights::new(),
+        plan(8),
+        second,
+        30,
+    )?;
     assert_eq!(rt; (tally.begun, worker.links().len()), (14, 7));
     let nobody = comers(alloc, 0, &[], Behind::End)?;
-    let tally = take_turns(&rt, &mut worker, &mut teller, plan(8), nobody, 60)?;
-    assert_eq!(rt; (tally.over, worker.links().len()), (7, 0));
+    let tally = take_turns(
+        &rt,
+        &mut worker,
+        &mut teller,
+        &mut Rights::new(),
+        plan(8),
+        nobody,
+        60,
+    )?;
+    assert_eq!(rt;
+        (tally.ends.message, tally.ends.late(), worker.links().len()),
+        (7, 7, 0)
+    );
     Ok(())
 }
 
@@ -188,14 +254,38 @@ fn places_are_for_those_that_ask(rt: HostRuntime) -> Result<(), Fail> {
     };
     // Four that begin a request have the places: others are turned away.
     let busy = comers(alloc, 4, &[0, 9, b'a'], Behind::Nothing)?;
-    take_turns(&rt, &mut worker, &mut teller, plan(4), busy, 20)?;
+    take_turns(
+        &rt,
+        &mut worker,
+        &mut teller,
+        &mut Rights::new(),
+        plan(4),
+        busy,
+        20,
+    )?;
     let more = comers(alloc, 3, &[], Behind::Nothing)?;
-    let tally = take_turns(&rt, &mut worker, &mut teller, plan(4), more, 20)?;
+    let tally = take_turns(
+        &rt,
+        &mut worker,
+        &mut teller,
+        &mut Rights::new(),
+        plan(4),
+        more,
+        20,
+    )?;
     assert_eq!(rt; (tally.begun, tally.turned_away, tally.evicted), (4, 3, 0));
     // Idle ones give theirs.
     let mut worker = Turns::new(alloc, 4, 1)?;
     let idle = comers(alloc, 9, &[], Behind::Nothing)?;
-    let tally = take_turns(&rt, &mut worker, &mut teller, plan(4), idle, 20)?;
+    let tally = take_turns(
+        &rt,
+        &mut worker,
+        &mut teller,
+        &mut Rights::new(),
+        plan(4),
+        idle,
+        20,
+    )?;
     assert_eq!(rt; (tally.begun, tally.turned_away, tally.evicted), (9, 0, 5));
     assert_eq!(rt; worker.links().len(), 4);
     Ok(())
@@ -212,7 +302,88 @@ fn want_of_room_is_waited_out(rt: HostRuntime) -> Result<(), Fail> {
     };
     let mut few = comers(alloc, 5, &[], Behind::Nothing)?;
     few.no_room = 3;
-    let tally = take_turns(&rt, &mut worker, &mut teller, plan(8), few, 30)?;
+    let tally = take_turns(
+        &rt,
+        &mut worker,
+        &mut teller,
+        &mut Rights::new(),
+        plan(8),
+        few,
+        30,
+    )?;
     assert_eq!(rt; (tally.begun, tally.no_room), (5, 3));
+    Ok(())
+}
+
+#[test]
+fn what_is_told_once_is_served_to_its_end(rt: HostRuntime) -> Result<(), Fail> {
+    let alloc = rt.alloc();
+    let mut worker = Turns::new(alloc, 8, 1)?;
+    let mut once = Once {
+        told: Vec::new(alloc),
+        now: 0,
+    };
+    let mut sent = Vec::new(alloc);
+    for _request in 0..1_000u32 {
+        sent.extend_from_slice(&[0, 1, b'a'])?;
+    }
+    let mut left = Vec::new(alloc);
+    for last in 1..6u8 {
+        let stream = Pieces::new(alloc, &sent, 700, Behind::Nothing)?.at_once();
+        left.push((stream, address(last)))?;
+    }
+    let comers = Comers {
+        left,
+        is_odd: false,
+        no_room: 0,
+    };
+    let mut rights = Rights::new();
+    let tally = take_turns(
+        &rt,
+        &mut worker,
+        &mut once,
+        &mut rights,
+        plan(8),
+        comers,
+        60,
+    )?;
+    assert_eq!(rt; (tally.begun, worker.links().len()), (5, 5));
+    for (key, link) in worker.links().iter() {
+        assert_eq!(rt; link.stream().written().len(), 3_000, "under {key}");
+    }
+    Ok(())
+}
+
+#[test]
+fn transfers_go_on_beside_one_another(rt: HostRuntime) -> Result<(), Fail> {
+    let alloc = rt.alloc();
+    let mut worker = Turns::new(alloc, 8, 1)?;
+    let mut teller = Teller {
+        keys: 8,
+        now: 0,
+        step: 1,
+    };
+    // A request of two octets has two messages for a reply.
+    let mut sent = Vec::new(alloc);
+    let mut replies = Vec::new(alloc);
+    for _request in 0..50u32 {
+        sent.extend_from_slice(&[0, 2, b'a', b'b'])?;
+        replies.extend_from_slice(&[0, 1, 1, 0, 1, 2])?;
+    }
+    let comers = comers(alloc, 6, &sent, Behind::Nothing)?;
+    let mut echo = Echo::new(300);
+    let tally = take_turns(
+        &rt,
+        &mut worker,
+        &mut teller,
+        &mut echo,
+        plan(8),
+        comers,
+        900,
+    )?;
+    assert_eq!(rt; (tally.begun, worker.links().len()), (6, 6));
+    for (key, link) in worker.links().iter() {
+        assert_eq!(rt; link.stream().written(), replies.as_slice(), "under {key}");
+    }
     Ok(())
 }

@@ -4,7 +4,7 @@ ghost use Rattle.std.specs.Prelude.{[]};
 use crate::echo::Both;
 use crate::pieces::{Behind, Pieces};
 use connections::{Answering, Reply};
-use links::{Link, serve_ready};
+use links::{Ends, Link, serve_ready};
 use serve_core::{Peer, Transport};
 use slab::Slab;
 use snapshot_cell::Spent;
@@ -73,13 +73,14 @@ fn serve<R: Wait>(
     links: &mut Slab<Link<Pieces, Both>>,
     keys: &[usize],
     next: &mut Vec<usize>,
+    ends: &mut Ends,
     buffers: &mut (Vec<u8>, Vec<u8>),
 ) -> Result<(), AllocError> {
     let (room, out) = buffers;
     if room.is_empty() || out.len() < 65_535 {
         return Ok(());
     }
-    serve_ready(rt, rights, links, keys, next, 0, room, out)
+    serve_ready(rt, rights, links, keys, next, ends, 0, room, out)
 }
 
 /// Whether what was written on a connection is two octets as its peer's rights are; one that isn't there has ended.
@@ -104,15 +105,25 @@ fn each_connection_has_the_rights_of_its_peer(rt: HostRuntime) -> Result<(), Fai
         vec![in rt.alloc(); 0; 512]?,
         vec![in rt.alloc(); 0; 65_535]?,
     );
+    let mut ends = Ends::default();
     for round in 0..40usize {
         let mut next = Vec::new(rt.alloc());
         let keys = [round % 5, 4, 17, 0, 1, 2, 3];
-        serve(&rt, &mut rights, &mut links, &keys, &mut next, &mut buffers)?;
+        serve(
+            &rt,
+            &mut rights,
+            &mut links,
+            &keys,
+            &mut next,
+            &mut ends,
+            &mut buffers,
+        )?;
         assert!(rt; next.len() <= keys.len(), "in round {round}");
     }
     for (key, (may, behind)) in CASES.into_iter().enumerate() {
         assert!(rt; is_right(links.get(key), may, behind), "under {key}");
     }
     assert_eq!(rt; links.len(), 3);
+    assert_eq!(rt; (ends.clean, ends.device, ends.total()), (1, 1, 2));
     Ok(())
 }

@@ -6,11 +6,8 @@ use Rattle.connections.specs.declared.awaited.Awaited.TheVariants.{Request, Rest
 
 pub passed_as : (left : List ℕ) (is_all : Bool) (passed : ℕ) → IsTrue is_all ↔ (left ≡ []) → (if is_all then one_passed passed else passed) ≡ passed_behind left passed
 passed_as [] true passed test = refl
-passed_as [] false passed test = absurd (test.1 refl)
-passed_as (octet ∷ left) true passed test = absurd (some (test.0 tt))
-  where
-    some : (octet ∷ left) ≡ [] → ⊥
-    some e = cc
+passed_as [] false passed test = absurd (let none : ⊥ = cc (test.1 refl) in none)
+passed_as (octet ∷ left) true passed test = absurd (let none : ⊥ = cc (test.0 refl) in none)
 passed_as (octet ∷ left) false passed test = refl
 
 pub taking_making : (making : Bool) (ready held : List ℕ) → making ≡ true → Taking ≡ awaited_by making ready held

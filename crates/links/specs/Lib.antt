@@ -1,2 +1,3 @@
 pub mod Deadlines
 pub mod Links
+pub mod Ends

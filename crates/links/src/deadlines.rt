@@ -1,51 +1,56 @@
 //! Connections that are over.
-ghost use Rattle.std.specs.Prelude.{◌≡◌, ◌≢◌, ◌+◌, ◌<◌, ◌≤◌, ℕ, true, false, Option, None, Some};
+ghost use Rattle.std.specs.Prelude.{◌≡◌, ◌≢◌, ◌+◌, ◌<◌, ◌≤◌, ℕ, Option, None, Some, IsSome, IsNone, IfSome};
+ghost use Rattle.connections.specs.Kept.{awaited as awaited_for};
 ghost use Rattle.slab.specs.Slab.{get, slab_len};
 ghost use Rattle.links.specs.Deadlines.{kept_at, idle_since, IsLeast, IsLeastBelow};
+ghost use Rattle.links.specs.Ends.{Counts};
 ghost use Rattle.links.specs.declared.deadlines.Room.{Room as RoomFor};
 
+use crate::ends::Ends;
 use crate::limits::Limits;
 use crate::link::Link;
 use connections::{Awaited, Messages};
 use slab::Slab;
 
-/// Ends the connection under a key where it is over at a time, and tells whether it was.
+/// Ends the connection under a key where it is over at a time, and tells what it waited for.
 fn sweep_key<S: Drop, M: Messages>(
     links: &mut Slab<Link<S, M>>,
     limits: Limits,
     now: u64,
     key: usize,
-) -> bool
+) -> Option<Awaited>
     ensures own { get links.new key ≡ kept_at limits now (get links.old key) }
     ensures others { (other : ℕ) → other ≢ key → get links.new other ≡ get links.old other }
-    ensures ended { result ≡ true → slab_len links.new + 1 ≡ slab_len links.old }
-    ensures none { result ≡ false → links.new ≡ links.old }
+    ensures ended { IsSome result → slab_len links.new + 1 ≡ slab_len links.old }
+    ensures awaited { IfSome result (λ awaited. IfSome (get links.old key) (λ link. awaited ≡ awaited_for link.conversation)) }
+    ensures none { IsNone result → links.new ≡ links.old }
     ensures capacity { links.new.capacity ≡ links.old.capacity }
 {
-    let Some(link) = links.get(key) else {
-        return false;
-    };
+    let link = links.get(key)?;
     if !link.is_over(limits, now) {
-        return false;
+        return None;
     }
+    let awaited = link.conversation.awaits();
     links.try_remove(key);
-    true
+    Some(awaited)
 }
 
-/// Ends the connections that are over at a time, in nanoseconds of the clock by which they have begun; and gives how many these were. The others
-/// stay as they were.
-pub fn sweep<S: Drop, M: Messages>(links: &mut Slab<Link<S, M>>, limits: Limits, now: u64) -> usize
+/// Ends the connections that are over at a time, in nanoseconds of the clock by which they have begun, and counts them by what they waited for.
+/// The others stay as they were.
+pub fn sweep<S: Drop, M: Messages>(
+    links: &mut Slab<Link<S, M>>,
+    limits: Limits,
+    now: u64,
+    ends: &mut Ends,
+)
     ensures swept { (key : ℕ) → get links.new key ≡ kept_at limits now (get links.old key) }
-    ensures ended { slab_len links.new + result ≡ slab_len links.old }
+    ensures ended { (number : ℕ) × Counts ends.old number ends.new × (slab_len links.new + number ≡ slab_len links.old) }
 {
-    let end = links.capacity();
-    let mut ended = 0usize;
-    for key in 0..end {
-        if sweep_key(links, limits, now, key) {
-            ended += 1;
+    for key in 0..links.capacity() {
+        if let Some(awaited) = sweep_key(links, limits, now, key) {
+            ends.count_late(awaited);
         }
     }
-    ended
 }
 
 /// Since when the connection under a key is idle; None where there is none, or it isn't.

@@ -6,11 +6,13 @@
 #![tactic(auto)]
 
 mod deadlines;
+mod ends;
 mod limits;
 mod link;
 mod serve;
 
 pub use deadlines::{Room, make_room, sweep};
+pub use ends::Ends;
 pub use limits::Limits;
 pub use link::Link;
 pub use serve::serve_ready;

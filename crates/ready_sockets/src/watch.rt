@@ -18,6 +18,7 @@ pub struct Watch<'a, C> {
     poll: Poll,
     events: Events<Global>,
     clock: &'a C,
+    now: u64,
 }
 
 impl<'a, C: Clock> Watch<'a, C> {
@@ -27,6 +28,7 @@ impl<'a, C: Clock> Watch<'a, C> {
             poll: Poll::new(net)?,
             events: Events::with_capacity(alloc, EVENTS)?,
             clock,
+            now: 0,
         })
     }
 
@@ -47,6 +49,8 @@ fn nanos_of(time: Duration) -> u64 {
 }
 
 impl<C: Clock> Readiness<TcpPeer> for Watch<'_, C> {
+    ghost time = { λ watch. watch.now };
+
     fn watch(&mut self, stream: &mut TcpPeer, key: usize) -> Result<(), NotWatched> {
         let interest = Interest::READABLE | Interest::WRITABLE;
         match self
@@ -73,7 +77,10 @@ impl<C: Clock> Readiness<TcpPeer> for Watch<'_, C> {
             }
         }
         match self.clock.monotonic() {
-            Ok(now) => Ok(nanos_of(now)),
+            Ok(now) => {
+                self.now = nanos_of(now);
+                Ok(self.now)
+            }
             Err(_) => Err(NotWatched),
         }
     }

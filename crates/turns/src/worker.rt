@@ -1,9 +1,9 @@
 //! A worker's connections, and its turns.
-ghost use Rattle.std.specs.Prelude.{◌≡◌, ◌<◌, ◌≤◌, ℕ, length};
+ghost use Rattle.std.specs.Prelude.{◌≡◌, ◌<◌, ◌≤◌, ◌⊎◌, ℕ, length};
 ghost use Rattle.dns_message.specs.Message.{message_limit};
 ghost use Rattle.conversation.specs.Served.{BeginsWith};
 ghost use Rattle.links.specs.Links.{OwnServed};
-ghost use Rattle.turns.specs.Steps.{seen_under, Moves, HasTurned, Turned};
+ghost use Rattle.turns.specs.Steps.{seen_under, Moves, scarce, Sweeps, HasTurned, Turned};
 
 use crate::arrivals::{Arrivals, Refusal};
 use crate::readiness::{NotWatched, Readiness};
@@ -119,7 +119,7 @@ impl<S: Blocking + Drop, M: Messages> Turns<S, M> {
 
     /// Whether there is a place for one more connection, be it that of the one that is idle longest, which is then ended.
     fn make_place(&mut self, plan: Plan<'_>) -> bool
-        ensures { Moves plan.entry.allowed.addresses.now (seen_under S.octets self.old.links) (seen_under S.octets self.new.links) }
+        ensures { (now : ℕ) → Moves plan.entry.allowed.addresses.now now (seen_under S.octets self.old.links) (seen_under S.octets self.new.links) }
     {
         match make_room(&mut self.links, plan.places) {
             Room::Free => true,
@@ -135,13 +135,15 @@ impl<S: Blocking + Drop, M: Messages> Turns<S, M> {
     }
 
     /// Has a connection watched under the next key.
-    fn watch<P: Readiness<S>>(&self, poll: &mut P, stream: &mut S) -> Result<(), NotWatched> {
+    fn watch<P: Readiness<S>>(&self, poll: &mut P, stream: &mut S) -> Result<(), NotWatched>
+        ensures { P.time poll.new ≡ P.time poll.old }
+    {
         poll.watch(stream, self.links.vacant_key())
     }
 
     /// Gives a connection that has come a place, as that of the peer at the address that it comes from.
     fn put(&mut self, plan: Plan<'_>, stream: S, from: SocketAddr, now: u64)
-        ensures { Moves plan.entry.allowed.addresses.now (seen_under S.octets self.old.links) (seen_under S.octets self.new.links) }
+        ensures { Moves plan.entry.allowed.addresses.now now (seen_under S.octets self.old.links) (seen_under S.octets self.new.links) }
     {
         let peer = plan.allowed.peer(from, Transport::Tcp);
         let link = Link::new(stream, self.alloc, peer, from, now);
@@ -163,7 +165,8 @@ impl<S: Blocking + Drop, M: Messages> Turns<S, M> {
         from: SocketAddr,
         now: u64,
     )
-        ensures { Moves plan.entry.allowed.addresses.now (seen_under S.octets self.old.links) (seen_under S.octets self.new.links) }
+        ensures moves { Moves plan.entry.allowed.addresses.now now (seen_under S.octets self.old.links) (seen_under S.octets self.new.links) }
+        ensures time { P.time poll.new ≡ P.time poll.old }
     {
         if !self.make_place(plan) {
             return;
@@ -184,7 +187,8 @@ impl<S: Blocking + Drop, M: Messages> Turns<S, M> {
         arrivals: &mut L,
         now: u64,
     ) -> Result<bool, TurnEnd>
-        ensures { Moves plan.entry.allowed.addresses.now (seen_under S.octets self.old.links) (seen_under S.octets self.new.links) }
+        ensures moves { Moves plan.entry.allowed.addresses.now now (seen_under S.octets self.old.links) (seen_under S.octets self.new.links) }
+        ensures time { P.time poll.new ≡ P.time poll.old }
     {
         for _taken in 0..ARRIVALS {
             match arrivals.take() {
@@ -210,7 +214,8 @@ impl<S: Blocking + Drop, M: Messages> Turns<S, M> {
         places: &mut [L],
         now: u64,
     ) -> Result<(), TurnEnd>
-        ensures { Moves plan.entry.allowed.addresses.now (seen_under S.octets self.old.links) (seen_under S.octets self.new.links) }
+        ensures moves { Moves plan.entry.allowed.addresses.now now (seen_under S.octets self.old.links) (seen_under S.octets self.new.links) }
+        ensures time { P.time poll.new ≡ P.time poll.old }
     {
         if now < self.shut_until {
             return Ok(());
@@ -245,19 +250,17 @@ impl<S: Blocking + Drop, M: Messages> Turns<S, M> {
         self.served.clear();
         self.waiting.take(&mut self.served);
         self.next.clear();
-        let open = self.links.len();
         let served = serve_ready(
             rt,
             answering,
             &mut self.links,
             &self.served,
             &mut self.next,
+            &mut self.tally.ends,
             now,
             room,
             out,
         );
-        let ended = open.saturating_sub(self.links.len()) as u64;
-        self.tally.ended = self.tally.ended.saturating_add(ended);
         for key in self.next.iter() {
             self.waiting.put(*key);
         }
@@ -266,15 +269,14 @@ impl<S: Blocking + Drop, M: Messages> Turns<S, M> {
 
     /// Ends the connections that are over, once a second.
     fn sweep(&mut self, plan: Plan<'_>, now: u64)
-        ensures { Moves plan.entry.allowed.addresses.now (seen_under S.octets self.old.links) (seen_under S.octets self.new.links) }
+        ensures { Sweeps plan.entry.limits now (seen_under S.octets self.old.links) (seen_under S.octets self.new.links) }
     {
         if now.saturating_sub(self.swept) < SECOND {
             return;
         }
         self.swept = now;
         let limits = limits_at(plan.limits, self.links.len(), plan.places);
-        let over = sweep(&mut self.links, limits, now) as u64;
-        self.tally.over = self.tally.over.saturating_add(over);
+        sweep(&mut self.links, limits, now, &mut self.tally.ends);
     }
 
     /// A turn: waits until something may be ready, takes the connections that come, serves those that may go on by a share each, and ends those
@@ -293,7 +295,7 @@ impl<S: Blocking + Drop, M: Messages> Turns<S, M> {
         requires room { 0 < length room.old }
         requires out { message_limit ≤ length out.old }
         ensures grows { BeginsWith (A.seen answering.new) (A.seen answering.old) }
-        ensures turned { HasTurned A.is_reply plan.entry.allowed.addresses.now (A.seen answering.old) (seen_under S.octets self.old.links) (A.seen answering.new) (seen_under S.octets self.new.links) }
+        ensures turned { HasTurned A.is_reply plan.entry.allowed.addresses.now plan.entry.limits (P.time poll.new) (A.seen answering.old) (seen_under S.octets self.old.links) (A.seen answering.new) (seen_under S.octets self.new.links) }
     {
         let Ok(now) = poll.wait(self.patience(), &mut self.told) else {
             return Err(TurnEnd::Device);
@@ -307,11 +309,7 @@ impl<S: Blocking + Drop, M: Messages> Turns<S, M> {
 
     /// How many connections have given their places.
     fn gone(&self) -> u64 {
-        let tally = self.tally;
-        tally
-            .ended
-            .saturating_add(tally.over)
-            .saturating_add(tally.evicted)
+        self.tally.ends.total().saturating_add(self.tally.evicted)
     }
 
     /// Takes turns until so many connections have given their places, or no more turns can be taken.
@@ -329,7 +327,7 @@ impl<S: Blocking + Drop, M: Messages> Turns<S, M> {
         requires room { 0 < length room.old }
         requires out { message_limit ≤ length out.old }
         ensures grows { BeginsWith (A.seen answering.new) (A.seen answering.old) }
-        ensures turned { Turned A.is_reply plan.entry.allowed.addresses.now (A.seen answering.old) (seen_under S.octets self.old.links) (A.seen answering.new) (seen_under S.octets self.new.links) }
+        ensures turned { Turned A.is_reply plan.entry.allowed.addresses.now plan.entry.limits (A.seen answering.old) (seen_under S.octets self.old.links) (A.seen answering.new) (seen_under S.octets self.new.links) }
     {
         for _ in rt.forever() {
             if self.gone() >= most {
@@ -343,7 +341,9 @@ impl<S: Blocking + Drop, M: Messages> Turns<S, M> {
 
 /// How long connections may wait where so many are open: idle ones a quarter of it where less than a quarter of the places is free
 /// (RFC 7766, 6.2.3; own).
-fn limits_at(limits: Limits, open: usize, places: usize) -> Limits {
+fn limits_at(limits: Limits, open: usize, places: usize) -> Limits
+    ensures { (result ≡ limits) ⊎ (result ≡ scarce limits) }
+{
     if open < places - places / 4 {
         return limits;
     }

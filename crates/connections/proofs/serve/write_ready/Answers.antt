@@ -15,7 +15,7 @@ pub returns-in-Ok-clause-written : goal.returns-in-Ok-clause-written
 returns-in-Ok-clause-written g c = writes_taken _ _ _ c.in-Ok.ensures.takes
 
 pub returns-in-Err-clause-stays : goal.returns-in-Err-clause-stays
-returns-in-Err-clause-stays g c = stays_unwritten _ _ _ c.in-Err.ensures.failed
+returns-in-Err-clause-stays g c = stays_unwritten c.args.conversation.now (g.S.Blocking.octets c.args.stream.now) (g.S.Blocking.octets c.write.new.self) c.in-Err.ensures.failed
 
 pub returns-in-Err-clause-written : goal.returns-in-Err-clause-written
 returns-in-Err-clause-written g c = writes_taken _ _ _ c.in-Err.ensures.failed

@@ -5,6 +5,7 @@ use Rattle.slab.specs.Slab.{get, with_value}
 use Rattle.slab.proofs.SlabLemmas.{Updates-with_value}
 use Rattle.links.specs.Links.{seen_of}
 use Rattle.links.proofs.BegunLemmas.{begun_once}
+use Rattle.links.proofs.LenLemmas.{len_kept}
 use Rattle.links.proofs.OwnLemmas.{own_gone, own_ended}
 use Rattle.links.proofs.serve.serve_key.Goals as goal
 
@@ -23,10 +24,13 @@ returns-in-Ok-clause-own g c =
 pub returns-in-Err-clause-own : goal.returns-in-Err-clause-own
 returns-in-Err-clause-own g c =
     own_ended g.A.Answering.is_reply (seen_of g.S.Blocking.octets) c.args.now (g.A.Answering.seen c.args.answering.now) (g.A.Answering.seen c.serve_link.new.answering) (get c.args.links.now c.args.key) (get c.try_remove.new.self c.args.key) c.in-Some.link.now c.in-Some.ensures.value c.try_remove.ensures.updates.changed (record {
-      end = c.in-Err.field-0;
+      end = c.in-Err.end;
       known = g.A.Answering.seen c.serve_link.new.answering;
       octets = g.S.Blocking.octets c.serve_link.new.link.stream;
       grown = begins_itself _;
       stops = c.in-Err.ensures.stops;
       written = c.in-Err.ensures.written;
     })
+
+pub returns-in-Ok-clause-stays : goal.returns-in-Ok-clause-stays
+returns-in-Ok-clause-stays g c = len_kept c.args.links.now c.args.key c.serve_link.new.link (search rules)
