@@ -31,8 +31,8 @@ pub struct ConnectionsJob<'a, C> {
     plan: Plan<'a>,
     standing: Standing<'a>,
     clock: &'a C,
-    /// What was told of connections, and when.
-    told: Tally,
+    /// Which connections were lost when that was told last, and when it was.
+    told: Losses,
     told_at: Duration,
     /// How many connections that ended are counted.
     counted: u64,
@@ -40,33 +40,37 @@ pub struct ConnectionsJob<'a, C> {
     scratch: CachePadded<Scratch>,
 }
 
-/// How many connections were lost between two counts.
-fn losses_since(before: Tally, now: Tally) -> Losses {
+/// How many connections are lost so far.
+fn losses_in(tally: Tally) -> Losses {
     Losses {
-        failed: failed_in(now).saturating_sub(failed_in(before)),
-        late: now.over.saturating_sub(before.over),
+        failed: tally.ends.device,
+        starved: tally.ends.spent.saturating_add(tally.ends.no_memory),
+        idle: tally.ends.idle,
+        unfinished: tally.ends.message,
+        untaken: tally.ends.reply,
+        evicted: tally.evicted,
+        turned_away: tally.turned_away,
+        no_room: tally.no_room,
+    }
+}
+
+/// How many more there are than before.
+fn losses_since(before: Losses, now: Losses) -> Losses {
+    Losses {
+        failed: now.failed.saturating_sub(before.failed),
+        starved: now.starved.saturating_sub(before.starved),
+        idle: now.idle.saturating_sub(before.idle),
+        unfinished: now.unfinished.saturating_sub(before.unfinished),
+        untaken: now.untaken.saturating_sub(before.untaken),
         evicted: now.evicted.saturating_sub(before.evicted),
         turned_away: now.turned_away.saturating_sub(before.turned_away),
         no_room: now.no_room.saturating_sub(before.no_room),
     }
 }
 
-/// How many connections have failed, or ended for want of memory or of a version.
-fn failed_in(tally: Tally) -> u64 {
-    tally
-        .ends
-        .device
-        .saturating_add(tally.ends.spent)
-        .saturating_add(tally.ends.no_memory)
-}
-
 /// How many connections have ended.
 fn ended_in(tally: Tally) -> u64 {
-    tally
-        .ends
-        .total()
-        .saturating_add(tally.over)
-        .saturating_add(tally.evicted)
+    tally.ends.total().saturating_add(tally.evicted)
 }
 
 /// Where connections come in at listeners, each of them watched.
@@ -109,7 +113,7 @@ impl<'a, C: Clock> ConnectionsJob<'a, C> {
             plan,
             standing,
             clock,
-            told: Tally::default(),
+            told: Losses::default(),
             told_at: Duration::from_secs(0),
             counted: 0,
             end: None,
@@ -135,15 +139,16 @@ impl<'a, C: Clock> ConnectionsJob<'a, C> {
 
     /// Tells of connections that are lost, once a second at most.
     fn tell<R: Wait, L: ServiceLog>(&mut self, rt: &R, log: &L, tally: Tally) {
-        let losses = losses_since(self.told, tally);
-        if losses == Losses::default() {
+        let lost = losses_in(tally);
+        if lost == self.told {
             return;
         }
         let now = self.clock.monotonic().unwrap_or(self.told_at);
         if now.saturating_sub(self.told_at) < Duration::from_secs(SILENCE) {
             return;
         }
-        self.told = tally;
+        let losses = losses_since(self.told, lost);
+        self.told = lost;
         self.told_at = now;
         let worker = self.number;
         log.tell(rt, Event::Lost { worker, losses });

@@ -59,10 +59,16 @@ pub enum Event {
 /// How many connections have ended by what an operator may wonder about, or got no place.
 #[derive(Clone, Copy, Default, PartialEq, Eq)]
 pub struct Losses {
-    /// Those by a read or a write that failed, or for want of memory or of a version.
+    /// Those by a read or a write that failed.
     pub failed: u64,
-    /// Those whose peers took too long.
-    pub late: u64,
+    /// Those for want of memory, or of a version.
+    pub starved: u64,
+    /// Those whose peers said nothing for too long.
+    pub idle: u64,
+    /// Those of which a request was too long in coming.
+    pub unfinished: u64,
+    /// Those whose peers took too long to take a reply.
+    pub untaken: u64,
     /// Those that were idle and gave their places to others.
     pub evicted: u64,
     /// Those that got no place, since none was free, and no other was idle.
@@ -143,10 +149,13 @@ fn write_serials<W: fmt::Write>(f: &mut Formatter<W>, serials: Option<Serials>) 
 fn write_losses<W: fmt::Write>(f: &mut Formatter<W>, losses: Losses) -> fmt::Result {
     let kinds = [
         (losses.failed, "failed"),
-        (losses.late, "ended by a deadline"),
-        (losses.evicted, "idle ended for another"),
+        (losses.starved, "starved"),
+        (losses.idle, "idle too long"),
+        (losses.unfinished, "too long over a request"),
+        (losses.untaken, "too long over a reply"),
+        (losses.evicted, "idle and ended for others"),
         (losses.turned_away, "turned away"),
-        (losses.no_room, "had no room"),
+        (losses.no_room, "without room"),
     ];
     let mut mark = ": ";
     for (count, kind) in kinds {
