@@ -17,14 +17,14 @@ use crate::transfer::Transfer;
 use connections::{Answering, Reply};
 use dns_engine::{FirstZone, SharedVersion, VersionChain, VersionReader};
 use dns_message::Query;
-use serve_core::{Peer, Transport, transfer_reply};
+use serve_core::{Peer, Transport};
 use snapshot_cell::{Naming, Spent};
 use std::alloc::Global;
 use std::net::SocketAddr;
 use std::sync::Wait;
-use transfer_core::MAX_MESSAGE;
-use zone_service::{Event, Now, Served, Server, ServiceLog, Told, answer_now, serve_one};
-use zone_tree::Version;
+use zone_service::{
+    Event, Now, Served, Server, ServiceLog, Told, answer_now, serve_one, write_transfer,
+};
 
 /// A server that answers the peers of connections, with a worker's reader, of which contracts know what it has seen published. A log is told of
 /// updates.
@@ -36,24 +36,6 @@ pub struct Replies<'a, 's, Z: FirstZone, N: Naming, L> {
     alloc: Global,
     peer: Peer,
     from: SocketAddr,
-}
-
-/// Writes the one message of a transfer to the front of `out`, for a datagram (RFC 1995, 2).
-fn write_one(
-    version: &Version,
-    chain: &VersionChain,
-    query: &Query,
-    peer: Peer,
-    out: &mut [u8],
-) -> Option<usize>
-    requires permitted { is_permitted version.now.zone peer query.now ≡ true }
-    requires datagram { peer.transport ≡ Transport.Udp }
-    requires room { MAX_MESSAGE ≤ length out.old }
-    ensures messages { messages_in result out.new ≡ messages_to version.now.zone (changes_by (soa_of version.now.zone) chain.now) peer query.now }
-    ensures bound { IfSome result (λ len. len ≤ MAX_MESSAGE) }
-{
-    let mut packer = transfer_reply(version, chain, query, peer);
-    packer.next_message(out)
 }
 
 /// The reply to a query for a transfer that is permitted in a version, by those since the asker's: over a stream what makes its messages, for a
@@ -75,7 +57,7 @@ fn reply_transfer(
             Some(transfer) => Ok(Reply::Many(transfer)),
             None => Err(Spent),
         },
-        Transport::Udp => match write_one(version.get(), &chain, &query, peer, out) {
+        Transport::Udp => match write_transfer(version.get(), &chain, &query, peer, out) {
             Some(len) => Ok(Reply::One(len)),
             None => Ok(Reply::Silent),
         },

@@ -15,3 +15,4 @@ pub use answer::{Now, Served, Told, answer_now, serve_one};
 pub use asked::Asked;
 pub use server::Server;
 pub use service_log::{Event, JobEnd, Losses, NoLog, Serials, ServiceLog};
+pub use transfer::write_transfer;
