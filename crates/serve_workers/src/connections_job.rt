@@ -166,7 +166,7 @@ impl<'a, C: Clock> ConnectionsJob<'a, C> {
         if self.standing.is_over() {
             return Some(JobEnd::Done(self.standing.progress.done()));
         }
-        let Scratch { request, reply, .. } = &mut *self.scratch;
+        let Scratch { request, reply } = &mut *self.scratch;
         let taken = self.turns.turn(
             rt,
             &mut self.watch,
