@@ -29,3 +29,7 @@ pub data Counts (old : Ends) : ℕ → Ends → Type 0 where
   none : Counts old 0 old
   one : {number more : ℕ} {ends new : Ends} (end : StreamEnd) → Counts old number ends → more ≡ number + 1 → new ≡ one_more end ends → Counts old more new
   late : {number more : ℕ} {ends new : Ends} (awaited : Awaited) → Counts old number ends → more ≡ number + 1 → new ≡ one_late awaited ends → Counts old more new
+
+-- as many are counted as there were connections more before
+abbrev pub AreCounted : Ends → Ends → ℕ → ℕ → Type 0
+AreCounted old new before left = (number : ℕ) × Counts old number new × (left + number ≡ before)

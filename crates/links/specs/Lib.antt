@@ -1,3 +1,3 @@
 pub mod Deadlines
-pub mod Links
 pub mod Ends
+pub mod Links

@@ -7,6 +7,8 @@ use Rattle.connections.specs.Told.{Writes}
 use Rattle.connections.specs.Going.{Goes, Stops}
 use Rattle.connections.specs.declared.stream_end.StreamEnd.{StreamEnd}
 use Rattle.links.specs.Deadlines.{IsBegun, is_over, idle_by}
+use Rattle.links.specs.Ends.{one_late}
+use Rattle.links.specs.declared.ends.Ends.{Ends}
 use Rattle.links.specs.declared.limits.Limits.{Limits}
 use Rattle.links.specs.declared.link.Link.{Link}
 
@@ -61,3 +63,8 @@ kept_seen limits now (Some seen) = if is_over limits now seen.begun seen.kept th
 abbrev pub idle_seen : Option Seen → Option ℕ
 idle_seen None = None
 idle_seen (Some seen) = idle_by (awaited seen.kept) seen.begun
+
+-- the count of ends where the connection under a key, if there is one, ends if it is over at a time
+abbrev pub ends_at : {S M : Type 0} → Limits → ℕ → Option (Link S M) → Ends → Ends
+ends_at limits now None ends = ends
+ends_at limits now (Some link) ends = if is_over limits now link.begun link.conversation then one_late (awaited link.conversation) ends else ends

@@ -1,9 +1,9 @@
 //! Connections that are over.
-ghost use Rattle.std.specs.Prelude.{◌≡◌, ◌≢◌, ◌+◌, ◌<◌, ◌≤◌, ℕ, Option, None, Some, IsSome, IsNone, IfSome};
-ghost use Rattle.connections.specs.Kept.{awaited as awaited_for};
+ghost use Rattle.std.specs.Prelude.{◌≡◌, ◌≢◌, ◌+◌, ◌<◌, ◌≤◌, ℕ, Option, None, Some};
 ghost use Rattle.slab.specs.Slab.{get, slab_len};
 ghost use Rattle.links.specs.Deadlines.{kept_at, idle_since, IsLeast, IsLeastBelow};
-ghost use Rattle.links.specs.Ends.{Counts};
+ghost use Rattle.links.specs.Ends.{AreCounted};
+ghost use Rattle.links.specs.Links.{ends_at};
 ghost use Rattle.links.specs.declared.deadlines.Room.{Room as RoomFor};
 
 use crate::ends::Ends;
@@ -12,27 +12,28 @@ use crate::link::Link;
 use connections::{Awaited, Messages};
 use slab::Slab;
 
-/// Ends the connection under a key where it is over at a time, and tells what it waited for.
+/// Ends the connection under a key where it is over at a time, and counts it by what it waited for.
 fn sweep_key<S: Drop, M: Messages>(
     links: &mut Slab<Link<S, M>>,
     limits: Limits,
     now: u64,
     key: usize,
-) -> Option<Awaited>
+    ends: &mut Ends,
+)
     ensures own { get links.new key ≡ kept_at limits now (get links.old key) }
     ensures others { (other : ℕ) → other ≢ key → get links.new other ≡ get links.old other }
-    ensures ended { IsSome result → slab_len links.new + 1 ≡ slab_len links.old }
-    ensures awaited { IfSome result (λ awaited. IfSome (get links.old key) (λ link. awaited ≡ awaited_for link.conversation)) }
-    ensures none { IsNone result → links.new ≡ links.old }
+    ensures counted { ends.new ≡ ends_at limits now (get links.old key) ends.old }
+    ensures ended { AreCounted ends.old ends.new (slab_len links.old) (slab_len links.new) }
     ensures capacity { links.new.capacity ≡ links.old.capacity }
 {
-    let link = links.get(key)?;
+    let Some(link) = links.get(key) else {
+        return;
+    };
     if !link.is_over(limits, now) {
-        return None;
+        return;
     }
-    let awaited = link.conversation.awaits();
+    ends.count_late(link.conversation.awaits());
     links.try_remove(key);
-    Some(awaited)
 }
 
 /// Ends the connections that are over at a time, in nanoseconds of the clock by which they have begun, and counts them by what they waited for.
@@ -44,12 +45,10 @@ pub fn sweep<S: Drop, M: Messages>(
     ends: &mut Ends,
 )
     ensures swept { (key : ℕ) → get links.new key ≡ kept_at limits now (get links.old key) }
-    ensures ended { (number : ℕ) × Counts ends.old number ends.new × (slab_len links.new + number ≡ slab_len links.old) }
+    ensures ended { AreCounted ends.old ends.new (slab_len links.old) (slab_len links.new) }
 {
     for key in 0..links.capacity() {
-        if let Some(awaited) = sweep_key(links, limits, now, key) {
-            ends.count_late(awaited);
-        }
+        sweep_key(links, limits, now, key, ends);
     }
 }
 

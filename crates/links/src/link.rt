@@ -71,6 +71,16 @@ fn patience(limits: Limits, awaited: Awaited) -> u64
     }
 }
 
+/// Since when a peer is waited for behind a share: since then where it has brought something to its end, else as before.
+fn begun_by(passed: u64, more: u64, begun: u64, now: u64) -> u64
+    ensures { result ≡ begun_behind passed more begun now }
+{
+    if more == passed {
+        return begun;
+    }
+    now
+}
+
 /// Serves a connection by a share, as its peer, at a time. From then on its peer is waited for anew where it has brought something to its end.
 pub(crate) fn serve_link<R: Wait, S: Blocking + Drop, M: Messages, A: Answering<M>>(
     rt: &R,
@@ -99,8 +109,6 @@ pub(crate) fn serve_link<R: Wait, S: Blocking + Drop, M: Messages, A: Answering<
         room,
         out,
     );
-    if link.conversation.passed() != passed {
-        link.begun = now;
-    }
+    link.begun = begun_by(passed, link.conversation.passed(), link.begun, now);
     served
 }

@@ -20,8 +20,7 @@ use Rattle.record_text.specs.Data.{data_of_words}
 use Rattle.record_text.specs.Front.{Front, ttl_of, front_of}
 use Rattle.record_text.specs.NameWord.{owner_of}
 use Rattle.record_text.specs.Reading.{on_ok, and_then}
-use Rattle.record_text.specs.Data.{octets_of_words}
-use Rattle.record_text.proofs.DataLemmas.{IsData-read}
+use Rattle.record_text.proofs.DataLemmas.{IsData-words}
 use Rattle.record_text.proofs.OctetLemmas.{GivesOctets, data_gives, GivesName, owner_gives, GivesTtl, ttl_gives, IsFront, GivesFront, front_of_gives}
 use Rattle.master_file.specs.declared.context.Context.{Context}
 use Rattle.master_file.specs.declared.record_entry.RecordEntry.{RecordEntry}
@@ -82,8 +81,8 @@ ttl_small None None None h k l = tt
 data_placed : (line : ℕ) (owner : List (List ℕ)) (ttl : Ttl) (rtype : ℕ) (origin : List (List ℕ)) (words : List Written) (r : Result (List ℕ) Cause) → data_of_words rtype origin words ≡ r → GivesOctets r → IsOwner owner → ttl.0 < 2 ^ 31 → GivesRecord (on_ok (λ octets. record { line = line; owner = owner; ttl = ttl; rdata = record { rtype = rtype; octets = octets } }) r)
 data_placed line owner ttl rtype origin words (Err cause) e h k l = tt
 data_placed line owner ttl rtype origin words (Ok octets) e h k l = record {
-  lawful = record { name = k.named.is; owner_octets = k.named.octets; folded = k.folded; lasts = l; form = (IsData-read rtype (octets_of_words rtype origin words) octets e).form; octets = h };
-  short = (IsData-read rtype (octets_of_words rtype origin words) octets e).short;
+  lawful = record { name = k.named.is; owner_octets = k.named.octets; folded = k.folded; lasts = l; form = (IsData-words rtype origin words octets e).form; octets = h };
+  short = (IsData-words rtype origin words octets e).short;
 }
 
 timed_placed : (context : Context) (line : ℕ) (owner : List (List ℕ)) (front : Front) (t : Result Ttl Cause) → GivesTtl t → IsContext context → IsOwner owner → IsFront front → GivesRecord (and_then t (λ ttl. on_ok (λ octets. record { line = line; owner = owner; ttl = ttl; rdata = record { rtype = front.rtype; octets = octets } }) (data_of_words front.rtype context.origin front.words)))

@@ -103,23 +103,23 @@ host last = hour_record (below (codes "h")) type_A (address 192 0 2 last)
 abbrev pub host_zone : ℕ → ℕ → List Record
 host_zone serial last = ns ∷ soa serial ∷ host last ∷ []
 
--- a record with another TTL, or another owner
+-- a record with another TTL, another owner, or another type
 abbrev pub lasting : ℕ → Record → Record
 lasting ttl r = record r { ttl = ttl }
 
 abbrev pub at_owner : Name → Record → Record
 at_owner owner r = record r { owner = owner }
 
+abbrev pub typed : ℕ → Record → Record
+typed rtype r = record r { rtype = rtype }
+
 -- a name outside the zone
 abbrev pub outside : Name
 outside = codes "host" ∷ codes "example" ∷ codes "net" ∷ []
 
--- a record as it is sent in another class, of another type, or with other data
+-- a record as it is sent in another class, or with other data
 abbrev pub of_class : ℕ → Record → RawRecord
 of_class class r = record (as_sent r) { class = class }
-
-abbrev pub of_type : ℕ → Record → RawRecord
-of_type rtype r = record (as_sent r) { rtype = rtype }
 
 abbrev pub with_octets : List ℕ → Record → RawRecord
 with_octets octets r = record (as_sent r) { octets = octets }

@@ -7,7 +7,7 @@ ghost use Rattle.zone_tree.specs.Example.{hour_record};
 ghost use Rattle.transfer_core.specs.declared.fault.TransferFault.TheVariants.{Broken, WrongBase, NotInZone};
 ghost use Rattle.transfer_core.specs.Lists.{full, incremental, as_sent};
 ghost use Rattle.transfer_core.specs.Take.{gathering, held, take};
-ghost use Rattle.transfer_core.specs.Examples.{jain, jain_soa, jain_ns, jain_ns_address, nezu, jain_bb, jain_1, jain_2, jain_3, address, apex, below, soa, ns, short_zone, long_zone, new_host, longer_zone, host, host_zone, lasting, at_owner, outside, of_class, of_type, with_octets, long_text};
+ghost use Rattle.transfer_core.specs.Examples.{jain, jain_soa, jain_ns, jain_ns_address, nezu, jain_bb, jain_1, jain_2, jain_3, address, apex, below, soa, ns, short_zone, long_zone, new_host, longer_zone, host, host_zone, lasting, at_owner, outside, of_class, typed, with_octets, long_text};
 
 /// The records of the worked examples are zones.
 pub fn examples_are_zones()
@@ -49,6 +49,8 @@ pub fn examples_of_taken_lists()
     ensures equal_records { take (short_zone 1) (map as_sent (soa 2 ∷ ns ∷ host 1 ∷ host 1 ∷ soa 2 ∷ [])) ≡ Ok (host_zone 2 1) }
     ensures serial_alone { take (short_zone 1) (map as_sent (soa 2 ∷ lasting 60 (soa 1) ∷ soa 2 ∷ host 1 ∷ soa 2 ∷ [])) ≡ Ok (host_zone 2 1) }
     ensures ttl { take (host_zone 1 1) (map as_sent (soa 2 ∷ soa 1 ∷ host 1 ∷ soa 2 ∷ lasting 60 (host 1) ∷ soa 2 ∷ [])) ≡ Ok (ns ∷ soa 2 ∷ lasting 60 (host 1) ∷ []) }
+    ensures any_type { take (short_zone 1) (map as_sent (soa 2 ∷ typed 99 (host 1) ∷ ns ∷ soa 2 ∷ [])) ≡ Ok (ns ∷ soa 2 ∷ typed 99 (host 1) ∷ []) }
+    ensures deletion_of_any_type { take (ns ∷ soa 1 ∷ typed 99 (host 1) ∷ []) (map as_sent (soa 2 ∷ soa 1 ∷ typed 99 (host 1) ∷ soa 2 ∷ soa 2 ∷ [])) ≡ Ok (short_zone 2) }
     ensures most_data { take (short_zone 1) (map as_sent (soa 2 ∷ ns ∷ long_text 0 ∷ soa 2 ∷ [])) ≡ Ok (ns ∷ soa 2 ∷ long_text 0 ∷ []) }
 {}
 
@@ -60,13 +62,13 @@ pub fn examples_of_broken_lists()
     ensures first_of_another_class { take (short_zone 1) (of_class 3 (soa 1) ∷ []) ≡ Err Broken }
     ensures first_without_form { take (short_zone 1) (with_octets [] (soa 1) ∷ []) ≡ Err Broken }
     ensures full_of_another_class { take (short_zone 1) (as_sent (soa 2) ∷ as_sent ns ∷ of_class 3 (host 1) ∷ as_sent (soa 2) ∷ []) ≡ Err Broken }
-    ensures full_of_another_type { take (short_zone 1) (as_sent (soa 2) ∷ of_type 99 (host 1) ∷ as_sent ns ∷ as_sent (soa 2) ∷ []) ≡ Err Broken }
+    ensures full_of_a_metatype { take (short_zone 1) (map as_sent (soa 2 ∷ typed 250 (host 1) ∷ ns ∷ soa 2 ∷ [])) ≡ Err Broken }
     ensures full_without_form { take (short_zone 1) (as_sent (soa 2) ∷ as_sent ns ∷ with_octets (0 ∷ []) (host 1) ∷ as_sent (soa 2) ∷ []) ≡ Err Broken }
     ensures full_not_closed { take (short_zone 1) (map as_sent (soa 2 ∷ ns ∷ [])) ≡ Err Broken }
     ensures full_closed_by_another { take (short_zone 1) (map as_sent (soa 2 ∷ ns ∷ soa 3 ∷ [])) ≡ Err Broken }
     ensures full_closed_with_another_ttl { take (short_zone 1) (map as_sent (soa 2 ∷ ns ∷ lasting 60 (soa 2) ∷ [])) ≡ Err Broken }
     ensures behind_a_full_list { take (short_zone 1) (map as_sent (soa 2 ∷ ns ∷ soa 2 ∷ host 1 ∷ [])) ≡ Err Broken }
-    ensures deletion_of_another_type { take (host_zone 1 1) (as_sent (soa 2) ∷ as_sent (soa 1) ∷ of_type 99 (host 1) ∷ []) ≡ Err Broken }
+    ensures deletion_of_a_metatype { take (host_zone 1 1) (map as_sent (soa 2 ∷ soa 1 ∷ typed 250 (host 1) ∷ [])) ≡ Err Broken }
     ensures addition_without_form { take (short_zone 1) (as_sent (soa 2) ∷ as_sent (soa 1) ∷ as_sent (soa 2) ∷ with_octets [] (host 1) ∷ []) ≡ Err Broken }
     ensures closed_before_a_step { take (short_zone 1) (map as_sent (soa 1 ∷ soa 1 ∷ [])) ≡ Err Broken }
     ensures closed_behind_another_soa { take (short_zone 1) (map as_sent (soa 3 ∷ soa 1 ∷ soa 2 ∷ soa 3 ∷ [])) ≡ Err Broken }
