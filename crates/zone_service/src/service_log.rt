@@ -31,19 +31,14 @@ pub enum Event {
         /// The zone's serials; none of an update that the engine wasn't asked for, since it can't be read or memory was wanted.
         serials: Option<Serials>,
     },
-    /// A worker has ended.
+    /// A thread of a worker has ended.
     End {
-        /// Its number, from 1.
+        /// The worker's number, from 1.
         worker: usize,
-        /// What carries its requests.
+        /// What carries the thread's requests.
         transport: Transport,
         /// How it has ended.
         end: JobEnd,
-    },
-    /// A worker has no room for the connection that comes next, and waits for it (own).
-    NoRoom {
-        /// Its number, from 1.
-        worker: usize,
     },
     /// All threads of all workers have begun.
     Serving,
@@ -89,7 +84,7 @@ pub struct Serials {
 /// How a worker's job has ended.
 #[derive(Clone, Copy)]
 pub enum JobEnd {
-    /// It has done as much as it may: so many requests, or connections.
+    /// Its worker has done what it may: so many datagrams and connections.
     Done(u64),
     /// Its socket has failed.
     Device,
@@ -118,12 +113,8 @@ impl Display for Event {
             } => {
                 let carrier = carrier_of(*transport);
                 write!(f, "worker {worker} ({carrier}) has ended: ")?;
-                write_end(f, *transport, *end)
+                write_end(f, *end)
             }
-            Event::NoRoom { worker } => write!(
-                f,
-                "worker {worker} (TCP) has no room for a connection, and waits"
-            ),
             Event::Serving => f.write_str("all workers have begun"),
             Event::Lost { worker, losses } => {
                 write!(f, "worker {worker} (TCP)")?;
@@ -168,19 +159,9 @@ fn write_losses<W: fmt::Write>(f: &mut Formatter<W>, losses: Losses) -> fmt::Res
 }
 
 /// Writes how a job has ended.
-fn write_end<W: fmt::Write>(
-    f: &mut Formatter<W>,
-    transport: Transport,
-    end: JobEnd,
-) -> fmt::Result {
+fn write_end<W: fmt::Write>(f: &mut Formatter<W>, end: JobEnd) -> fmt::Result {
     match end {
-        JobEnd::Done(count) => {
-            let what = match transport {
-                Transport::Udp => "requests answered",
-                Transport::Tcp => "connections served",
-            };
-            write!(f, "{count} {what}")
-        }
+        JobEnd::Done(count) => write!(f, "{count} datagrams and connections done"),
         JobEnd::Device => f.write_str("its socket failed"),
         JobEnd::Spent => f.write_str("no version could be loaded"),
         JobEnd::NoMemory => f.write_str("no memory"),
