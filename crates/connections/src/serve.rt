@@ -19,7 +19,7 @@ const REQUESTS: usize = 32;
 const WRITES: usize = 8;
 
 /// How many turns a share has at most (own).
-const TURNS: usize = 4;
+const TURNS: usize = 2;
 
 /// How a share of the work on a connection has gone.
 #[derive(Clone, Copy)]

@@ -22,7 +22,7 @@ use std::sync::Wait;
 const SECOND: u64 = 1_000_000_000;
 
 /// How many connections a place where they come in gives at a turn, at most (own).
-const ARRIVALS: usize = 16;
+const ARRIVALS: usize = 128;
 
 /// How a worker has its connections.
 #[derive(Clone, Copy)]
