@@ -8,7 +8,7 @@ use connections::{Answering, Blocking};
 use conversation::Allowed;
 use links::Limits;
 use std::alloc::{AllocError, Global};
-use std::net::{IpAddr, Ipv4Addr, SocketAddr, SocketAddrV4};
+use std::net::{IpAddr, Ipv4Addr};
 use std::test::Fail;
 use turns::{Arrivals, NotWatched, Plan, Readiness, Refusal, Tally, Turns};
 
@@ -74,7 +74,7 @@ impl<S: Blocking> Readiness<S> for Once {
 /// Connections that come one after another, with a failed one behind each; and one for which there is no room, where that is wanted.
 #[derive(Drop)]
 struct Comers {
-    left: Vec<(Pieces, SocketAddr)>,
+    left: Vec<Pieces>,
     is_odd: bool,
     no_room: u32,
 }
@@ -82,7 +82,7 @@ struct Comers {
 impl Arrivals for Comers {
     type Stream = Pieces;
 
-    fn take(&mut self) -> Result<(Pieces, SocketAddr), Refusal> {
+    fn take(&mut self) -> Result<Pieces, Refusal> {
         if self.no_room > 0 {
             self.no_room -= 1;
             return Err(Refusal::Room);
@@ -98,20 +98,12 @@ impl Arrivals for Comers {
     }
 }
 
-/// An address of 192.0.2.0/24.
-fn address(last: u8) -> SocketAddr {
-    SocketAddr::V4(SocketAddrV4::new(Ipv4Addr::new(192, 0, 2, last), 5_353))
-}
-
 /// So many connections, from 192.0.2.1 and 192.0.2.2 by turns, on which these octets come in pieces.
 fn comers(alloc: Global, count: u8, octets: &[u8], behind: Behind) -> Result<Comers, AllocError> {
     let mut left = Vec::new(alloc);
     for at in 0..count {
         let most = 1 + usize::from(at % 3);
-        left.push((
-            Pieces::new(alloc, octets, most, behind)?,
-            address(1 + at % 2),
-        ))?;
+        left.push(Pieces::new(alloc, octets, most, behind)?.coming_from(1 + at % 2))?;
     }
     Ok(Comers {
         left,
@@ -120,10 +112,9 @@ fn comers(alloc: Global, count: u8, octets: &[u8], behind: Behind) -> Result<Com
     })
 }
 
-/// A plan of so many places, and ten seconds for everything.
-fn plan(places: usize) -> Plan<'static> {
+/// Ten seconds for everything.
+fn plan() -> Plan<'static> {
     Plan {
-        places,
         limits: Limits {
             idle: 10 * SECOND,
             message: 10 * SECOND,
@@ -173,7 +164,7 @@ fn each_is_answered_by_its_own_rights(rt: HostRuntime) -> Result<(), Fail> {
         &mut worker,
         &mut teller,
         &mut Rights::new(),
-        plan(64),
+        plan(),
         comers,
         60,
     )?;
@@ -206,7 +197,7 @@ fn ends_and_delays_give_places_back(rt: HostRuntime) -> Result<(), Fail> {
         &mut worker,
         &mut teller,
         &mut Rights::new(),
-        plan(8),
+        plan(),
         first,
         60,
     )?;
@@ -221,7 +212,7 @@ fn ends_and_delays_give_places_back(rt: HostRuntime) -> Result<(), Fail> {
         &mut worker,
         &mut teller,
         &mut Rights::new(),
-        plan(8),
+        plan(),
         second,
         30,
     )?;
@@ -232,7 +223,7 @@ fn ends_and_delays_give_places_back(rt: HostRuntime) -> Result<(), Fail> {
         &mut worker,
         &mut teller,
         &mut Rights::new(),
-        plan(8),
+        plan(),
         nobody,
         60,
     )?;
@@ -259,7 +250,7 @@ fn places_are_for_those_that_ask(rt: HostRuntime) -> Result<(), Fail> {
         &mut worker,
         &mut teller,
         &mut Rights::new(),
-        plan(4),
+        plan(),
         busy,
         20,
     )?;
@@ -269,7 +260,7 @@ fn places_are_for_those_that_ask(rt: HostRuntime) -> Result<(), Fail> {
         &mut worker,
         &mut teller,
         &mut Rights::new(),
-        plan(4),
+        plan(),
         more,
         20,
     )?;
@@ -282,7 +273,7 @@ fn places_are_for_those_that_ask(rt: HostRuntime) -> Result<(), Fail> {
         &mut worker,
         &mut teller,
         &mut Rights::new(),
-        plan(4),
+        plan(),
         idle,
         20,
     )?;
@@ -307,7 +298,7 @@ fn want_of_room_is_waited_out(rt: HostRuntime) -> Result<(), Fail> {
         &mut worker,
         &mut teller,
         &mut Rights::new(),
-        plan(8),
+        plan(),
         few,
         30,
     )?;
@@ -329,8 +320,8 @@ fn what_is_told_once_is_served_to_its_end(rt: HostRuntime) -> Result<(), Fail> {
     }
     let mut left = Vec::new(alloc);
     for last in 1..6u8 {
-        let stream = Pieces::new(alloc, &sent, 700, Behind::Nothing)?.at_once();
-        left.push((stream, address(last)))?;
+        let stream = Pieces::new(alloc, &sent, 700, Behind::Nothing)?;
+        left.push(stream.at_once().coming_from(last))?;
     }
     let comers = Comers {
         left,
@@ -338,15 +329,7 @@ fn what_is_told_once_is_served_to_its_end(rt: HostRuntime) -> Result<(), Fail> {
         no_room: 0,
     };
     let mut rights = Rights::new();
-    let tally = take_turns(
-        &rt,
-        &mut worker,
-        &mut once,
-        &mut rights,
-        plan(8),
-        comers,
-        60,
-    )?;
+    let tally = take_turns(&rt, &mut worker, &mut once, &mut rights, plan(), comers, 60)?;
     assert_eq!(rt; (tally.begun, worker.links().len()), (5, 5));
     for (key, link) in worker.links().iter() {
         assert_eq!(rt; link.stream().written().len(), 3_000, "under {key}");
@@ -377,7 +360,7 @@ fn transfers_go_on_beside_one_another(rt: HostRuntime) -> Result<(), Fail> {
         &mut worker,
         &mut teller,
         &mut echo,
-        plan(8),
+        plan(),
         comers,
         900,
     )?;

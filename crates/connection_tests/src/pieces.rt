@@ -4,6 +4,8 @@ ghost use Rattle.connections.specs.declared.blocking.Fault.{Fault as FaultOf};
 
 use connections::{Blocking, Fault};
 use std::alloc::{AllocError, Global};
+use std::net::{Ipv4Addr, SocketAddr, SocketAddrV4};
+use turns::Remote;
 
 /// What is behind the octets of a stream.
 #[derive(Clone, Copy, PartialEq, Eq)]
@@ -28,6 +30,7 @@ enum Sizes {
 /// A stream that gives and takes some octets at once, and would block before each time, if it may.
 #[derive(Drop)]
 pub(crate) struct Pieces {
+    from: SocketAddr,
     octets: Vec<u8>,
     at: usize,
     sizes: Sizes,
@@ -37,6 +40,11 @@ pub(crate) struct Pieces {
     room: usize,
     faults: u64,
     written: Vec<u8>,
+}
+
+/// An address of 192.0.2.0/24.
+fn address(last: u8) -> SocketAddr {
+    SocketAddr::V4(SocketAddrV4::new(Ipv4Addr::new(192, 0, 2, last), 5_353))
 }
 
 impl Pieces {
@@ -52,6 +60,7 @@ impl Pieces {
         let mut held = Vec::new(alloc);
         held.extend_from_slice(octets)?;
         Ok(Pieces {
+            from: address(1),
             octets: held,
             at: 0,
             sizes: Sizes::Most(most),
@@ -62,6 +71,16 @@ impl Pieces {
             faults: 0,
             written: Vec::new(alloc),
         })
+    }
+
+    /// The same, from an address of 192.0.2.0/24.
+    pub(crate) fn coming_from(self, last: u8) -> Pieces
+        ensures { result.faults ≡ self.entry.faults }
+    {
+        Pieces {
+            from: address(last),
+            ..self
+        }
     }
 
     /// The same in pieces of random sizes, by a number.
@@ -128,6 +147,14 @@ impl Pieces {
     /// What was written.
     pub(crate) fn written(&self) -> &[u8] {
         self.written.as_slice()
+    }
+}
+
+impl Remote for Pieces {
+    ghost origin = { λ pieces. pieces.from };
+
+    fn address(&self) -> SocketAddr {
+        self.from
     }
 }
 

@@ -5,11 +5,14 @@ ghost use Rattle.connections.specs.declared.blocking.Fault.{Fault as FaultOf};
 use connections::{Blocking, Fault};
 use mio::net::TcpStream;
 use std::io::{self, ErrorKind, Read, Write};
+use std::net::SocketAddr;
+use turns::Remote;
 
 /// A connection, as a stream of which contracts know no octets.
 #[derive(Drop)]
 pub struct TcpPeer {
     pub(crate) inner: TcpStream,
+    from: SocketAddr,
     faults: u64,
 }
 
@@ -34,11 +37,16 @@ fn cause_of(fault: &io::Error) -> Cause {
 }
 
 impl TcpPeer {
-    /// A connection that doesn't wait.
-    pub fn new(inner: TcpStream) -> TcpPeer
-        ensures { result.faults ≡ 0 }
+    /// A connection that doesn't wait, and comes from an address.
+    pub fn new(inner: TcpStream, from: SocketAddr) -> TcpPeer
+        ensures none { result.faults ≡ 0 }
+        ensures from { result.from ≡ from }
     {
-        TcpPeer { inner, faults: 0 }
+        TcpPeer {
+            inner,
+            from,
+            faults: 0,
+        }
     }
 
     /// Counts a failure.
@@ -48,6 +56,14 @@ impl TcpPeer {
     {
         self.faults = self.faults.saturating_add(1);
         Fault::Failed
+    }
+}
+
+impl Remote for TcpPeer {
+    ghost origin = { λ peer. peer.from };
+
+    fn address(&self) -> SocketAddr {
+        self.from
     }
 }
 

@@ -6,7 +6,6 @@ ghost use Rattle.ready_sockets.specs.Refused.{refused_as};
 use crate::peer::TcpPeer;
 use mio::net::TcpListener;
 use std::io;
-use std::net::SocketAddr;
 use turns::{Arrivals, Refusal};
 
 /// A listener that doesn't wait.
@@ -41,7 +40,7 @@ fn refusal_of(fault: &io::Error) -> Refusal
 impl Arrivals for TcpPlace {
     type Stream = TcpPeer;
 
-    fn take(&mut self) -> Result<(TcpPeer, SocketAddr), Refusal> {
+    fn take(&mut self) -> Result<TcpPeer, Refusal> {
         let (stream, from) = match self.listener.accept() {
             Ok(taken) => taken,
             Err(fault) => return Err(refusal_of(&fault)),
@@ -49,6 +48,6 @@ impl Arrivals for TcpPlace {
         if stream.set_nodelay(true).is_err() {
             return Err(Refusal::Client);
         }
-        Ok((TcpPeer::new(stream), from))
+        Ok(TcpPeer::new(stream, from))
     }
 }

@@ -1,7 +1,19 @@
 //! Where connections come in (RFC 1035, 4.2.2).
+ghost use Rattle.std.specs.Prelude.{◌≡◌};
+ghost use Rattle.std.specs.declared.net.socket_addr.SocketAddr.{SocketAddr as Address};
 
 use connections::Blocking;
 use std::net::SocketAddr;
+
+/// A connection's stream that tells from where it comes.
+pub trait Remote {
+    /// The address that it comes from.
+    ghost origin: { Self → Address };
+
+    /// The address that it comes from.
+    fn address(&self) -> SocketAddr
+        ensures { result ≡ origin self.now };
+}
 
 /// Why no connection is taken.
 #[derive(Clone, Copy, PartialEq, Eq, Debug)]
@@ -19,8 +31,8 @@ pub enum Refusal {
 /// Where connections come in.
 pub trait Arrivals {
     /// What a connection's requests are read from, and its replies written to.
-    type Stream: Blocking + Drop;
+    type Stream: Blocking + Remote + Drop;
 
-    /// Takes the connection that comes next, and the address that it comes from.
-    fn take(&mut self) -> Result<(Self::Stream, SocketAddr), Refusal>;
+    /// Takes the connection that comes next.
+    fn take(&mut self) -> Result<Self::Stream, Refusal>;
 }

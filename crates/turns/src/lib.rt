@@ -11,7 +11,7 @@ mod tally;
 mod waiting;
 mod worker;
 
-pub use arrivals::{Arrivals, Refusal};
+pub use arrivals::{Arrivals, Refusal, Remote};
 pub use readiness::{NotWatched, Readiness};
 pub use tally::Tally;
 pub use worker::{Plan, TurnEnd, Turns};

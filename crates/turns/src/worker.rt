@@ -1,11 +1,11 @@
 //! A worker's connections, and its turns.
-ghost use Rattle.std.specs.Prelude.{◌≡◌, ◌<◌, ◌≤◌, ◌⊎◌, ℕ, length};
+ghost use Rattle.std.specs.Prelude.{◌≡◌, ◌<◌, ◌≤◌, ◌⊎◌, ℕ, List, length};
+ghost use Rattle.std.specs.declared.net.ip_addr.IpAddr.{IpAddr};
 ghost use Rattle.dns_message.specs.Message.{message_limit};
 ghost use Rattle.conversation.specs.Served.{BeginsWith};
-ghost use Rattle.links.specs.Links.{OwnServed};
-ghost use Rattle.turns.specs.Steps.{seen_under, Moves, scarce, Sweeps, HasTurned, Turned};
+ghost use Rattle.turns.specs.Steps.{scarce, Moves, Sweeps, Serves, HasTurned, Turned};
 
-use crate::arrivals::{Arrivals, Refusal};
+use crate::arrivals::{Arrivals, Refusal, Remote};
 use crate::readiness::{NotWatched, Readiness};
 use crate::tally::Tally;
 use crate::waiting::Waiting;
@@ -15,7 +15,6 @@ use links::{Limits, Link, Room, make_room, serve_ready, sweep};
 use serve_core::Transport;
 use slab::Slab;
 use std::alloc::{AllocError, Global};
-use std::net::SocketAddr;
 use std::sync::Wait;
 
 /// A second, in nanoseconds: the longest wait, the time between two sweeps, and that for which nothing is taken for want of room (own).
@@ -27,8 +26,6 @@ const ARRIVALS: usize = 128;
 /// How a worker has its connections.
 #[derive(Clone, Copy)]
 pub struct Plan<'a> {
-    /// How many may be open.
-    pub places: usize,
     /// How long each may wait for its peer.
     pub limits: Limits,
     /// Who may update and transfer.
@@ -48,6 +45,8 @@ pub enum TurnEnd {
 #[derive(Drop)]
 pub struct Turns<S: Drop, M: Messages> {
     links: Slab<Link<S, M>>,
+    /// How many may be open.
+    places: usize,
     waiting: Waiting,
     /// Keys that were told to be ready, those that are served, and those that could go on.
     told: Vec<usize>,
@@ -63,11 +62,12 @@ pub struct Turns<S: Drop, M: Messages> {
     alloc: Global,
 }
 
-impl<S: Blocking + Drop, M: Messages> Turns<S, M> {
+impl<S: Blocking + Remote + Drop, M: Messages> Turns<S, M> {
     /// A worker without connections, for so many places, and where connections come in at so many.
     pub fn new(alloc: Global, places: usize, arrivals: usize) -> Result<Turns<S, M>, AllocError> {
         Ok(Turns {
             links: Slab::new(alloc),
+            places,
             waiting: Waiting::new(alloc, places)?,
             told: Vec::new(alloc),
             served: Vec::with_capacity(alloc, places)?,
@@ -118,10 +118,10 @@ impl<S: Blocking + Drop, M: Messages> Turns<S, M> {
     }
 
     /// Whether there is a place for one more connection, be it that of the one that is idle longest, which is then ended.
-    fn make_place(&mut self, plan: Plan<'_>) -> bool
-        ensures { (now : ℕ) → Moves plan.entry.allowed.addresses.now now (seen_under S.octets self.old.links) (seen_under S.octets self.new.links) }
+    fn make_place(&mut self) -> bool
+        ensures { (allowed : List IpAddr) (now : ℕ) → Moves S.origin S.octets allowed now self.old.links self.new.links }
     {
-        match make_room(&mut self.links, plan.places) {
+        match make_room(&mut self.links, self.places) {
             Room::Free => true,
             Room::Made(_key) => {
                 self.tally.evicted = self.tally.evicted.saturating_add(1);
@@ -142,9 +142,10 @@ impl<S: Blocking + Drop, M: Messages> Turns<S, M> {
     }
 
     /// Gives a connection that has come a place, as that of the peer at the address that it comes from.
-    fn put(&mut self, plan: Plan<'_>, stream: S, from: SocketAddr, now: u64)
-        ensures { Moves plan.entry.allowed.addresses.now now (seen_under S.octets self.old.links) (seen_under S.octets self.new.links) }
+    fn put(&mut self, plan: Plan<'_>, stream: S, now: u64)
+        ensures { Moves S.origin S.octets plan.entry.allowed.addresses.now now self.old.links self.new.links }
     {
+        let from = stream.address();
         let peer = plan.allowed.peer(from, Transport::Tcp);
         let link = Link::new(stream, self.alloc, peer, from, now);
         match self.links.insert(link) {
@@ -157,18 +158,11 @@ impl<S: Blocking + Drop, M: Messages> Turns<S, M> {
     }
 
     /// Gives a connection that has come a place, where there is one, and has it watched.
-    fn begin<P: Readiness<S>>(
-        &mut self,
-        poll: &mut P,
-        plan: Plan<'_>,
-        stream: S,
-        from: SocketAddr,
-        now: u64,
-    )
-        ensures moves { Moves plan.entry.allowed.addresses.now now (seen_under S.octets self.old.links) (seen_under S.octets self.new.links) }
+    fn begin<P: Readiness<S>>(&mut self, poll: &mut P, plan: Plan<'_>, stream: S, now: u64)
+        ensures moves { Moves S.origin S.octets plan.entry.allowed.addresses.now now self.old.links self.new.links }
         ensures time { P.time poll.new ≡ P.time poll.old }
     {
-        if !self.make_place(plan) {
+        if !self.make_place() {
             return;
         }
         let mut stream = stream;
@@ -176,7 +170,7 @@ impl<S: Blocking + Drop, M: Messages> Turns<S, M> {
             self.tally.no_room = self.tally.no_room.saturating_add(1);
             return;
         }
-        self.put(plan, stream, from, now);
+        self.put(plan, stream, now);
     }
 
     /// Takes connections where they come in, so many at most. False where no more waits there; an error where it is broken.
@@ -187,12 +181,12 @@ impl<S: Blocking + Drop, M: Messages> Turns<S, M> {
         arrivals: &mut L,
         now: u64,
     ) -> Result<bool, TurnEnd>
-        ensures moves { Moves plan.entry.allowed.addresses.now now (seen_under S.octets self.old.links) (seen_under S.octets self.new.links) }
+        ensures moves { Moves S.origin S.octets plan.entry.allowed.addresses.now now self.old.links self.new.links }
         ensures time { P.time poll.new ≡ P.time poll.old }
     {
         for _taken in 0..ARRIVALS {
             match arrivals.take() {
-                Ok((stream, from)) => self.begin(poll, plan, stream, from, now),
+                Ok(stream) => self.begin(poll, plan, stream, now),
                 Err(Refusal::Blocked) => return Ok(false),
                 Err(Refusal::Client) => {}
                 Err(Refusal::Room) => {
@@ -214,7 +208,7 @@ impl<S: Blocking + Drop, M: Messages> Turns<S, M> {
         places: &mut [L],
         now: u64,
     ) -> Result<(), TurnEnd>
-        ensures moves { Moves plan.entry.allowed.addresses.now now (seen_under S.octets self.old.links) (seen_under S.octets self.new.links) }
+        ensures moves { Moves S.origin S.octets plan.entry.allowed.addresses.now now self.old.links self.new.links }
         ensures time { P.time poll.new ≡ P.time poll.old }
     {
         if now < self.shut_until {
@@ -245,7 +239,7 @@ impl<S: Blocking + Drop, M: Messages> Turns<S, M> {
         requires room { 0 < length room.old }
         requires out { message_limit ≤ length out.old }
         ensures grows { BeginsWith (A.seen answering.new) (A.seen answering.old) }
-        ensures own { (key : ℕ) → OwnServed A.is_reply now (A.seen answering.old) (seen_under S.octets self.old.links key) (A.seen answering.new) (seen_under S.octets self.new.links key) }
+        ensures own { Serves S.origin S.octets A.is_reply now (A.seen answering.old) self.old.links (A.seen answering.new) self.new.links }
     {
         self.served.clear();
         self.waiting.take(&mut self.served);
@@ -269,13 +263,13 @@ impl<S: Blocking + Drop, M: Messages> Turns<S, M> {
 
     /// Ends the connections that are over, once a second.
     fn sweep(&mut self, plan: Plan<'_>, now: u64)
-        ensures { Sweeps plan.entry.limits now (seen_under S.octets self.old.links) (seen_under S.octets self.new.links) }
+        ensures { Sweeps S.origin S.octets plan.entry.limits now self.old.links self.new.links }
     {
         if now.saturating_sub(self.swept) < SECOND {
             return;
         }
         self.swept = now;
-        let limits = limits_at(plan.limits, self.links.len(), plan.places);
+        let limits = limits_at(plan.limits, self.links.len(), self.places);
         sweep(&mut self.links, limits, now, &mut self.tally.ends);
     }
 
@@ -295,7 +289,7 @@ impl<S: Blocking + Drop, M: Messages> Turns<S, M> {
         requires room { 0 < length room.old }
         requires out { message_limit ≤ length out.old }
         ensures grows { BeginsWith (A.seen answering.new) (A.seen answering.old) }
-        ensures turned { HasTurned A.is_reply plan.entry.allowed.addresses.now plan.entry.limits (P.time poll.new) (A.seen answering.old) (seen_under S.octets self.old.links) (A.seen answering.new) (seen_under S.octets self.new.links) }
+        ensures turned { HasTurned S.origin S.octets A.is_reply plan.entry.allowed.addresses.now plan.entry.limits (P.time poll.new) (A.seen answering.old) self.old.links (A.seen answering.new) self.new.links }
     {
         let Ok(now) = poll.wait(self.patience(), &mut self.told) else {
             return Err(TurnEnd::Device);
@@ -327,7 +321,7 @@ impl<S: Blocking + Drop, M: Messages> Turns<S, M> {
         requires room { 0 < length room.old }
         requires out { message_limit ≤ length out.old }
         ensures grows { BeginsWith (A.seen answering.new) (A.seen answering.old) }
-        ensures turned { Turned A.is_reply plan.entry.allowed.addresses.now plan.entry.limits (A.seen answering.old) (seen_under S.octets self.old.links) (A.seen answering.new) (seen_under S.octets self.new.links) }
+        ensures turned { Turned S.origin S.octets A.is_reply plan.entry.allowed.addresses.now plan.entry.limits (A.seen answering.old) self.old.links (A.seen answering.new) self.new.links }
     {
         for _ in rt.forever() {
             if self.gone() >= most {
