@@ -187,8 +187,8 @@ fn serve_all<R: Net + Threads + Wait + Clock + Sync>(
     let plan = Plan {
         muster: &muster,
         keep: serve.keep,
+        places: serve.places,
         connections: ConnectionPlan {
-            places: serve.places,
             limits: serve.limits,
             allowed: Allowed::new(serve.allowed.as_slice()),
         },

@@ -91,25 +91,26 @@ fn places_of<C: Clock>(
 }
 
 impl<'a, C: Clock> ConnectionsJob<'a, C> {
-    /// The job of a worker, by its number, on listeners that don't wait. The clock is what deadlines are taken by.
+    /// The job of a worker, by its number, on listeners that don't wait, for so many connections. The clock is what deadlines are taken by.
     pub fn new<R: Net>(
         net: &R,
         alloc: Global,
         clock: &'a C,
         number: usize,
         listeners: Vec<TcpListener>,
+        places: usize,
         plan: Plan<'a>,
         standing: Standing<'a>,
         scratch: Scratch,
     ) -> io::Result<ConnectionsJob<'a, C>> {
         let count = listeners.len();
         let mut watch = Watch::new(net, alloc, clock)?;
-        let places = places_of(alloc, &mut watch, listeners)?;
+        let listening = places_of(alloc, &mut watch, listeners)?;
         Ok(ConnectionsJob {
             number,
             watch,
-            places,
-            turns: Turns::new(alloc, plan.places, count)?,
+            places: listening,
+            turns: Turns::new(alloc, places, count)?,
             plan,
             standing,
             clock,

@@ -38,7 +38,9 @@ pub struct Plan<'a> {
     pub muster: &'a Muster,
     /// How many versions are kept older than the last; at most `dns_engine::KEPT`.
     pub keep: usize,
-    /// How a worker has its connections, and who may update and transfer.
+    /// How many connections a worker may have open.
+    pub places: usize,
+    /// How long connections may wait for their peers, and who may update and transfer.
     pub connections: ConnectionPlan<'a>,
 }
 
@@ -305,9 +307,21 @@ fn job_of<'a, R: Clock + Net>(
             Ok(SocketJob::Datagrams(job))
         }
         Sockets::Connections(listeners) => {
-            let plan = plan.connections;
+            let Plan {
+                places,
+                connections,
+                ..
+            } = plan;
             let job = ConnectionsJob::new(
-                rt, alloc, rt, worker, listeners, plan, standing, scratch,
+                rt,
+                alloc,
+                rt,
+                worker,
+                listeners,
+                places,
+                connections,
+                standing,
+                scratch,
             )?;
             Ok(SocketJob::Connections(job))
         }
