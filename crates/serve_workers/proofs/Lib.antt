@@ -1,3 +1,4 @@
 pub mod SendLemmas
 pub mod EachLemmas
 pub mod NumberLemmas
+pub mod TurnedLemmas

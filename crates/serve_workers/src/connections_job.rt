@@ -1,33 +1,28 @@
 //! A worker's job on connections (RFC 7766, 6.2).
-ghost use Rattle.std.specs.Prelude.{◌≡◌};
+ghost use Rattle.std.specs.Prelude.{◌≡◌, Some, IfSome};
 ghost use Rattle.conversation.specs.Served.{BeginsWith};
+ghost use Rattle.turns.specs.Steps.{Turned};
 
 use crate::progress::Standing;
 use crate::scratch::Scratch;
-use connections::Answering;
-use conversation::Allowed;
+use connections::{Answering, Blocking};
 use crossbeam_utils::CachePadded;
-use links::Limits;
-use ready_sockets::{TcpPeer, TcpPlace, Watch};
-use std::alloc::Global;
-use std::io;
-use std::net::{Net, TcpListener};
 use std::sync::Wait;
 use std::time::{Clock, Duration};
-use turns::{Plan, Tally, TurnEnd, Turns};
+use turns::{Arrivals, Plan, Readiness, Remote, Tally, TurnEnd, Turns};
 use zone_replies::Transfer;
 use zone_service::{Event, JobEnd, Losses, ServiceLog};
 
 /// How many seconds pass at least between two lines on connections that are lost (own).
 const SILENCE: u64 = 1;
 
-/// A worker's job on connections: turns over those that come at its listeners.
+/// A worker's job on connections: turns over those that come at places.
 #[derive(Drop)]
-pub struct ConnectionsJob<'a, C> {
+pub struct ConnectionsJob<'a, S: Drop, P, L, C> {
     pub(crate) number: usize,
-    watch: Watch<'a, C>,
-    places: Vec<TcpPlace>,
-    turns: Turns<TcpPeer, Transfer>,
+    poll: P,
+    places: Vec<L>,
+    turns: Turns<S, Transfer>,
     plan: Plan<'a>,
     standing: Standing<'a>,
     clock: &'a C,
@@ -73,44 +68,34 @@ fn ended_in(tally: Tally) -> u64 {
     tally.ends.total().saturating_add(tally.evicted)
 }
 
-/// Where connections come in at listeners, each of them watched.
-fn places_of<C: Clock>(
-    alloc: Global,
-    watch: &mut Watch<'_, C>,
-    listeners: Vec<TcpListener>,
-) -> io::Result<Vec<TcpPlace>> {
-    let mut places = Vec::new(alloc);
-    let mut number = 0usize;
-    for listener in listeners {
-        let mut place = TcpPlace::new(mio::net::TcpListener::from_std(listener));
-        watch.watch_place(&mut place, number)?;
-        places.push(place)?;
-        number = number.saturating_add(1);
-    }
-    Ok(places)
-}
-
-impl<'a, C: Clock> ConnectionsJob<'a, C> {
-    /// The job of a worker, by its number, on listeners that don't wait, for so many connections. The clock is what deadlines are taken by.
-    pub fn new<R: Net>(
-        net: &R,
-        alloc: Global,
-        clock: &'a C,
+impl<
+    'a,
+    S: Blocking + Remote + Drop,
+    P: Readiness<S>,
+    L: Arrivals<Stream = S>,
+    C: Clock,
+> ConnectionsJob<'a, S, P, L, C> {
+    /// The job of a worker, by its number: turns over the connections that come at places, which the poll watches. The clock is what lines of
+    /// the log are held back by.
+    pub fn new(
         number: usize,
-        listeners: Vec<TcpListener>,
-        places: usize,
+        poll: P,
+        places: Vec<L>,
+        turns: Turns<S, Transfer>,
         plan: Plan<'a>,
         standing: Standing<'a>,
+        clock: &'a C,
         scratch: Scratch,
-    ) -> io::Result<ConnectionsJob<'a, C>> {
-        let count = listeners.len();
-        let mut watch = Watch::new(net, alloc, clock)?;
-        let listening = places_of(alloc, &mut watch, listeners)?;
-        Ok(ConnectionsJob {
+    ) -> ConnectionsJob<'a, S, P, L, C>
+        ensures number { result.number ≡ number }
+        ensures plan { result.plan ≡ plan }
+        ensures turns { result.turns ≡ turns }
+    {
+        ConnectionsJob {
             number,
-            watch,
-            places: listening,
-            turns: Turns::new(alloc, places, count)?,
+            poll,
+            places,
+            turns,
             plan,
             standing,
             clock,
@@ -119,7 +104,7 @@ impl<'a, C: Clock> ConnectionsJob<'a, C> {
             counted: 0,
             end: None,
             scratch: CachePadded::new(scratch),
-        })
+        }
     }
 
     /// How it has ended; none where it hasn't yet.
@@ -130,7 +115,11 @@ impl<'a, C: Clock> ConnectionsJob<'a, C> {
     }
 
     /// Counts the connections that have ended.
-    fn count(&mut self, tally: Tally) {
+    fn count(&mut self, tally: Tally)
+        ensures number { self.new.number ≡ self.old.number }
+        ensures plan { self.new.plan ≡ self.old.plan }
+        ensures turns { self.new.turns ≡ self.old.turns }
+    {
         let ended = ended_in(tally);
         if ended > self.counted {
             self.standing.progress.add(ended - self.counted);
@@ -139,7 +128,11 @@ impl<'a, C: Clock> ConnectionsJob<'a, C> {
     }
 
     /// Tells of connections that are lost, once a second at most.
-    fn tell<R: Wait, L: ServiceLog>(&mut self, rt: &R, log: &L, tally: Tally) {
+    fn tell<R: Wait, O: ServiceLog>(&mut self, rt: &R, log: &O, tally: Tally)
+        ensures number { self.new.number ≡ self.old.number }
+        ensures plan { self.new.plan ≡ self.old.plan }
+        ensures turns { self.new.turns ≡ self.old.turns }
+    {
         let lost = losses_in(tally);
         if lost == self.told {
             return;
@@ -155,14 +148,18 @@ impl<'a, C: Clock> ConnectionsJob<'a, C> {
         log.tell(rt, Event::Lost { worker, losses });
     }
 
-    /// Takes a turn; an end where it is the last.
-    fn turn<R: Wait, A: Answering<Transfer>, L: ServiceLog>(
+    /// Takes a turn, unless the worker is over; an end where it is, or the turn is the last.
+    #[tactic(auto, using(conversation::proofs::TurnLemmas::begins_itself))]
+    fn turn<R: Wait, A: Answering<Transfer>, O: ServiceLog>(
         &mut self,
         rt: &R,
         answering: &mut A,
-        log: &L,
+        log: &O,
     ) -> Option<JobEnd>
         ensures grows { BeginsWith (A.seen answering.new) (A.seen answering.old) }
+        ensures turned { Turned S.origin S.octets A.is_reply self.old.plan.allowed.addresses.now self.old.plan.limits (A.seen answering.old) self.old.turns.links (A.seen answering.new) self.new.turns.links }
+        ensures number { self.new.number ≡ self.old.number }
+        ensures plan { self.new.plan ≡ self.old.plan }
     {
         if self.standing.is_over() {
             return Some(JobEnd::Done(self.standing.progress.done()));
@@ -170,7 +167,7 @@ impl<'a, C: Clock> ConnectionsJob<'a, C> {
         let Scratch { request, reply } = &mut *self.scratch;
         let taken = self.turns.turn(
             rt,
-            &mut self.watch,
+            &mut self.poll,
             self.plan,
             self.places.as_mut_slice(),
             answering,
@@ -187,14 +184,18 @@ impl<'a, C: Clock> ConnectionsJob<'a, C> {
         }
     }
 
-    /// Serves connections until the worker is over, or nothing can be waited for any more.
-    pub fn serve<R: Wait, A: Answering<Transfer>, L: ServiceLog>(
+    /// Serves connections by turns until the worker is over, or no more turn can be taken: in each, connections take places, each of them is
+    /// answered as the peer of its own address, on its own stream, and those whose peers take too long are ended (RFC 7766, 6.2).
+    pub fn serve<R: Wait, A: Answering<Transfer>, O: ServiceLog>(
         &mut self,
         rt: &R,
         answering: &mut A,
-        log: &L,
+        log: &O,
     ) -> JobEnd
         ensures grows { BeginsWith (A.seen answering.new) (A.seen answering.old) }
+        ensures turned { Turned S.origin S.octets A.is_reply self.old.plan.allowed.addresses.now self.old.plan.limits (A.seen answering.old) self.old.turns.links (A.seen answering.new) self.new.turns.links }
+        ensures number { self.new.number ≡ self.old.number }
+        ensures end { self.new.end ≡ Some result }
     {
         for _ in rt.forever() {
             if let Some(end) = self.turn(rt, answering, log) {

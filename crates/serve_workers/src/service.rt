@@ -11,11 +11,12 @@ use crate::datagrams_job::DatagramsJob;
 use crate::ending::{end_cell, end_named};
 use crate::progress::{Muster, Progress, Standing};
 use crate::scratch::Scratch;
-use crate::threads::{SocketJob, run_threads};
+use crate::threads::{SocketJob, TcpJob, run_threads};
 use crate::workers::NotStarted;
 use dns_engine::{
     FirstZone, SharedVersion, VersionCell, VersionPublisher, VersionReader, ZoneVersions,
 };
+use ready_sockets::{TcpPlace, Watch};
 use snapshot_cell::{
     Cell, NamedCell, NamedPublisher, NamedReader, Naming, NewFault, Parts, Reader,
 };
@@ -27,7 +28,7 @@ use std::sync::Wait;
 use std::thread::Threads;
 use std::time::Clock;
 use thiserror::Error;
-use turns::Plan as ConnectionPlan;
+use turns::{Plan as ConnectionPlan, Turns};
 use zone_service::{JobEnd, Server, ServiceLog};
 use zone_tree::{Version, Zone};
 
@@ -284,6 +285,44 @@ fn put_readers<N: Naming, C: Clock>(
     }
 }
 
+/// Where connections come in at listeners, each of them watched.
+fn places_of<C: Clock>(
+    alloc: Global,
+    watch: &mut Watch<'_, C>,
+    listeners: Vec<TcpListener>,
+) -> io::Result<Vec<TcpPlace>> {
+    let mut places = Vec::new(alloc);
+    let mut number = 0usize;
+    for listener in listeners {
+        let mut place = TcpPlace::new(mio::net::TcpListener::from_std(listener));
+        watch.watch_place(&mut place, number)?;
+        places.push(place)?;
+        number = number.saturating_add(1);
+    }
+    Ok(places)
+}
+
+/// The job of a worker, by its number, on listeners that don't wait. An error where they can't be waited on.
+fn tcp_job<'a, R: Clock + Net>(
+    rt: &'a R,
+    alloc: Global,
+    worker: usize,
+    listeners: Vec<TcpListener>,
+    plan: Plan<'a>,
+    standing: Standing<'a>,
+    scratch: Scratch,
+) -> io::Result<TcpJob<'a, R>>
+    ensures number { IfOk result (λ job. job.number ≡ worker) }
+    ensures plan { IfOk result (λ job. job.plan ≡ plan.connections) }
+{
+    let count = listeners.len();
+    let mut watch = Watch::new(rt, alloc, rt)?;
+    let places = places_of(alloc, &mut watch, listeners)?;
+    let turns = Turns::new(alloc, plan.places, count)?;
+    let plan = plan.connections;
+    Ok(ConnectionsJob::new(worker, watch, places, turns, plan, standing, rt, scratch))
+}
+
 /// The job of a thread. An error where its sockets can't be waited on.
 fn job_of<'a, R: Clock + Net>(
     rt: &'a R,
@@ -307,22 +346,7 @@ fn job_of<'a, R: Clock + Net>(
             Ok(SocketJob::Datagrams(job))
         }
         Sockets::Connections(listeners) => {
-            let Plan {
-                places,
-                connections,
-                ..
-            } = plan;
-            let job = ConnectionsJob::new(
-                rt,
-                alloc,
-                rt,
-                worker,
-                listeners,
-                places,
-                connections,
-                standing,
-                scratch,
-            )?;
+            let job = tcp_job(rt, alloc, worker, listeners, plan, standing, scratch)?;
             Ok(SocketJob::Connections(job))
         }
     }

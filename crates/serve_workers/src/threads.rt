@@ -9,6 +9,7 @@ use crate::datagrams_job::DatagramsJob;
 use crate::progress::Muster;
 use crate::workers::{NotStarted, Work, do_all, nobody};
 use dns_engine::{FirstZone, VersionReader};
+use ready_sockets::{TcpPeer, TcpPlace, Watch};
 use serve_core::{Peer, Transport};
 use snapshot_cell::Naming;
 use std::alloc::Global;
@@ -18,13 +19,16 @@ use std::time::Clock;
 use zone_replies::Replies;
 use zone_service::{Asked, Event, JobEnd, Server, ServiceLog};
 
+/// A job on TCP connections of the system's.
+pub type TcpJob<'a, C> = ConnectionsJob<'a, TcpPeer, Watch<'a, C>, TcpPlace, C>;
+
 /// A thread's job on sockets.
 #[derive(Drop)]
 pub enum SocketJob<'a, C> {
     /// Requests by datagrams.
     Datagrams(DatagramsJob<'a>),
     /// Connections.
-    Connections(ConnectionsJob<'a, C>),
+    Connections(TcpJob<'a, C>),
 }
 
 /// A thread's job, and who answers in it by a reader.
@@ -33,7 +37,7 @@ enum Seat<'g, 's, Z: FirstZone, N: Naming, L, C> {
     /// On a socket of datagrams.
     Datagrams(Asked<'g, 's, Z, N, L>, DatagramsJob<'g>),
     /// On listeners.
-    Connections(Replies<'g, 's, Z, N, L>, ConnectionsJob<'g, C>),
+    Connections(Replies<'g, 's, Z, N, L>, TcpJob<'g, C>),
 }
 
 impl<'g, 's, Z: FirstZone, N: Naming, L: ServiceLog, C: Clock> Seat<'g, 's, Z, N, L, C> {
