@@ -16,7 +16,7 @@ use std::sync::Wait;
 const REQUESTS: usize = 32;
 
 /// How many writes a turn makes at most (own).
-const WRITES: usize = 8;
+const WRITES: usize = 4;
 
 /// How many turns a share has at most (own).
 const TURNS: usize = 2;
