@@ -15,8 +15,8 @@ use std::alloc::{AllocError, Global};
 use std::marker::Model;
 use std::sync::Wait;
 
-/// So many octets to be written hold up the answering of further requests: a frame of the longest message (RFC 1035, 4.2.2; own).
-const MOST_DUE: usize = 65_537;
+/// So many octets to be written hold up the answering of further requests, so that a share is as short for long replies (own).
+const MOST_DUE: usize = 16_384;
 
 /// Why a request isn't answered.
 #[derive(Clone, Copy)]
