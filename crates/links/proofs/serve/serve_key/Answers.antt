@@ -1,5 +1,5 @@
 -- The connection under the key has gone on, or has ended; the others are as they were.
-use Rattle.std.proofs.Common.{rules}
+use Rattle.std.proofs.Common.{refl, rules}
 use Rattle.conversation.proofs.TurnLemmas.{begins_itself}
 use Rattle.slab.specs.Slab.{get, with_value, slab_len}
 use Rattle.slab.proofs.SlabLemmas.{Updates-with_value}
@@ -31,6 +31,9 @@ returns-in-Err-clause-own g c =
       stops = c.in-Err.ensures.stops;
       written = c.in-Err.ensures.written;
     })
+
+pub returns-in_default-clause-ended : goal.returns-in_default-clause-ended
+returns-in_default-clause-ended g c = counted_none c.args.ends.now (slab_len c.args.links.now) (slab_len c.args.links.now) refl
 
 pub returns-in-Ok-clause-ended : goal.returns-in-Ok-clause-ended
 returns-in-Ok-clause-ended g c = counted_none c.args.ends.now (slab_len c.args.links.now) (slab_len (with_value c.args.links.now c.args.key c.serve_link.new.link)) (len_kept c.args.links.now c.args.key c.serve_link.new.link (search rules))
