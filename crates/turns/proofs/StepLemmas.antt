@@ -28,6 +28,10 @@ module _ {S M : Type 0} (origin : S → SocketAddr) (octets : S → Option (List
   pub moves_same : (old new : Slab (Link S M)) → new ≡ old → Moves origin octets allowed now old new
   moves_same old new same = moves_once old new (rests (λ key. ap (λ (s : Slab (Link S M)). get s key) same))
 
+  -- behind moves nothing is moved
+  pub moves_as : (old new same : Slab (Link S M)) → new ≡ same → Moves origin octets allowed now old same → Moves origin octets allowed now old new
+  moves_as old new same is moved = subst (λ (s : Slab (Link S M)). Moves origin octets allowed now old s) (sym is) moved
+
   -- there is room for more
   pub moves_wider : (old new : Slab (Link S M)) (capacity : ℕ) → new ≡ record old { capacity = capacity } → Moves origin octets allowed now old new
   moves_wider old new capacity same = moves_once old new (rests (λ key. ap (λ (s : Slab (Link S M)). get s key) same))
@@ -58,6 +62,9 @@ module _ {S M : Type 0} (origin : S → SocketAddr) (octets : S → Option (List
     -- none is served, and maybe more is known
     pub serves_none : (seen later : List T) (links : Slab (Link S M)) → BeginsWith later seen → Serves origin octets IsReply now seen links later links
     serves_none seen later links grows = λ key. own_same IsReply now seen later (option_map (seen_of octets) (get links key)) grows
+
+    pub serves_as : (seen later : List T) (old new same : Slab (Link S M)) → new ≡ same → Serves origin octets IsReply now seen old later same → Serves origin octets IsReply now seen old later new
+    serves_as seen later old new same is own = subst (λ (s : Slab (Link S M)). Serves origin octets IsReply now seen old later s) (sym is) own
 
     -- nothing is done in a turn
     pub turned_none : (limits : Limits) (seen : List T) (old new : Slab (Link S M)) → new ≡ old → HasTurned origin octets IsReply allowed limits now seen old seen new
