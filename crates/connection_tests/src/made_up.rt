@@ -9,6 +9,7 @@ use conversation::Allowed;
 use links::Limits;
 use std::alloc::{AllocError, Global};
 use std::net::{IpAddr, Ipv4Addr};
+use std::sync::Wait;
 use std::test::Fail;
 use turns::{Arrivals, NotWatched, Plan, Readiness, Refusal, Tally, Turns};
 
@@ -16,7 +17,9 @@ use turns::{Arrivals, NotWatched, Plan, Readiness, Refusal, Tally, Turns};
 const SECOND: u64 = 1_000_000_000;
 
 /// Who may update: 192.0.2.1 alone.
-const MAY: [IpAddr; 1] = [IpAddr::V4(Ipv4Addr::new(192, 0, 2, 1))];
+fn may() -> [IpAddr; 1] {
+    [IpAddr::V4(Ipv4Addr::new(192, 0, 2, 1))]
+}
 
 /// A poll that tells every key under so many at each turn, one that nobody has, and the first place where connections come in.
 #[derive(Drop)]
@@ -112,35 +115,44 @@ fn comers(alloc: Global, count: u8, octets: &[u8], behind: Behind) -> Result<Com
     })
 }
 
-/// Ten seconds for everything.
-fn plan() -> Plan<'static> {
+/// Ten seconds for everything, and who may update.
+fn plan(addresses: &[IpAddr]) -> Plan<'_> {
     Plan {
         limits: Limits {
             idle: 10 * SECOND,
             message: 10 * SECOND,
             reply: 10 * SECOND,
         },
-        allowed: Allowed::new(&MAY),
+        allowed: Allowed::new(addresses),
     }
 }
 
 /// Takes so many turns, and gives what has become of the connections.
-fn take_turns<P: Readiness<Pieces>, A: Answering<Both>>(
-    rt: &HostRuntime,
+fn take_turns<R: Wait, P: Readiness<Pieces>, A: Answering<Both>>(
+    rt: &R,
+    alloc: Global,
     worker: &mut Turns<Pieces, Both>,
     poll: &mut P,
     answering: &mut A,
-    plan: Plan<'_>,
     comers: Comers,
     count: usize,
 ) -> Result<Tally, Fail> {
-    let mut places = Vec::new(rt.alloc());
+    let addresses = may();
+    let mut places = Vec::new(alloc);
     places.push(comers)?;
-    let mut room = vec![in rt.alloc(); 0; 512]?;
-    let mut out = vec![in rt.alloc(); 0; 65_535]?;
+    let mut room = vec![in alloc; 0; 512]?;
+    let mut out = vec![in alloc; 0; 65_535]?;
     for _turn in 0..count {
         if worker
-            .turn(rt, poll, plan, &mut places, answering, &mut room, &mut out)
+            .turn(
+                rt,
+                poll,
+                plan(&addresses),
+                &mut places,
+                answering,
+                &mut room,
+                &mut out,
+            )
             .is_err()
         {
             return Err("a turn has failed")?;
@@ -161,10 +173,10 @@ fn each_is_answered_by_its_own_rights(rt: HostRuntime) -> Result<(), Fail> {
     let comers = comers(alloc, 40, &[0, 1, b'a', 0, 1, b'b'], Behind::Nothing)?;
     let tally = take_turns(
         &rt,
+        alloc,
         &mut worker,
         &mut teller,
         &mut Rights::new(),
-        plan(),
         comers,
         60,
     )?;
@@ -194,10 +206,10 @@ fn ends_and_delays_give_places_back(rt: HostRuntime) -> Result<(), Fail> {
     let first = comers(alloc, 7, &[0, 1, b'a'], Behind::End)?;
     let tally = take_turns(
         &rt,
+        alloc,
         &mut worker,
         &mut teller,
         &mut Rights::new(),
-        plan(),
         first,
         60,
     )?;
@@ -209,10 +221,10 @@ fn ends_and_delays_give_places_back(rt: HostRuntime) -> Result<(), Fail> {
     let second = comers(alloc, 7, &[0, 9, b'a'], Behind::Nothing)?;
     let tally = take_turns(
         &rt,
+        alloc,
         &mut worker,
         &mut teller,
         &mut Rights::new(),
-        plan(),
         second,
         30,
     )?;
@@ -220,10 +232,10 @@ fn ends_and_delays_give_places_back(rt: HostRuntime) -> Result<(), Fail> {
     let nobody = comers(alloc, 0, &[], Behind::End)?;
     let tally = take_turns(
         &rt,
+        alloc,
         &mut worker,
         &mut teller,
         &mut Rights::new(),
-        plan(),
         nobody,
         60,
     )?;
@@ -247,20 +259,20 @@ fn places_are_for_those_that_ask(rt: HostRuntime) -> Result<(), Fail> {
     let busy = comers(alloc, 4, &[0, 9, b'a'], Behind::Nothing)?;
     take_turns(
         &rt,
+        alloc,
         &mut worker,
         &mut teller,
         &mut Rights::new(),
-        plan(),
         busy,
         20,
     )?;
     let more = comers(alloc, 3, &[], Behind::Nothing)?;
     let tally = take_turns(
         &rt,
+        alloc,
         &mut worker,
         &mut teller,
         &mut Rights::new(),
-        plan(),
         more,
         20,
     )?;
@@ -270,10 +282,10 @@ fn places_are_for_those_that_ask(rt: HostRuntime) -> Result<(), Fail> {
     let idle = comers(alloc, 9, &[], Behind::Nothing)?;
     let tally = take_turns(
         &rt,
+        alloc,
         &mut worker,
         &mut teller,
         &mut Rights::new(),
-        plan(),
         idle,
         20,
     )?;
@@ -295,10 +307,10 @@ fn want_of_room_is_waited_out(rt: HostRuntime) -> Result<(), Fail> {
     few.no_room = 3;
     let tally = take_turns(
         &rt,
+        alloc,
         &mut worker,
         &mut teller,
         &mut Rights::new(),
-        plan(),
         few,
         30,
     )?;
@@ -329,7 +341,7 @@ fn what_is_told_once_is_served_to_its_end(rt: HostRuntime) -> Result<(), Fail> {
         no_room: 0,
     };
     let mut rights = Rights::new();
-    let tally = take_turns(&rt, &mut worker, &mut once, &mut rights, plan(), comers, 60)?;
+    let tally = take_turns(&rt, alloc, &mut worker, &mut once, &mut rights, comers, 60)?;
     assert_eq!(rt; (tally.begun, worker.links().len()), (5, 5));
     for (key, link) in worker.links().iter() {
         assert_eq!(rt; link.stream().written().len(), 3_000, "under {key}");
@@ -355,15 +367,7 @@ fn transfers_go_on_beside_one_another(rt: HostRuntime) -> Result<(), Fail> {
     }
     let comers = comers(alloc, 6, &sent, Behind::Nothing)?;
     let mut echo = Echo::new(300);
-    let tally = take_turns(
-        &rt,
-        &mut worker,
-        &mut teller,
-        &mut echo,
-        plan(),
-        comers,
-        900,
-    )?;
+    let tally = take_turns(&rt, alloc, &mut worker, &mut teller, &mut echo, comers, 900)?;
     assert_eq!(rt; (tally.begun, worker.links().len()), (6, 6));
     for (key, link) in worker.links().iter() {
         assert_eq!(rt; link.stream().written(), replies.as_slice(), "under {key}");

@@ -1,5 +1,5 @@
 -- How many connections there are, and how many have ended.
-use Rattle.std.proofs.Common.{◌≡◌, refl, ℕ, ◌+◌, subst, Option, None, Some, IsSome, is_some, cond, arith}
+use Rattle.std.proofs.Common.{◌≡◌, refl, ℕ, ◌+◌, sym, ap, subst, Option, None, Some, OnSome, is_some, cond, arith}
 use Rattle.std.proofs.lemmas.List.Sums.{sum_by-set}
 use Rattle.slab.specs.Slab.{Slab, get, with_value, ContainsKey, slab_len}
 use Rattle.slab.proofs.SlabLemmas.{ContainsKey-within}
@@ -8,15 +8,17 @@ use Rattle.connections.specs.declared.stream_end.StreamEnd.{StreamEnd}
 use Rattle.links.specs.Ends.{one_more, one_late, Counts, none, one, late, AreCounted}
 use Rattle.links.specs.declared.ends.Ends.{Ends}
 
-one_of : {L : Type 0} (o : Option L) → IsSome o → ◌≡◌ {A = ℕ} (cond (is_some o) 1 0) 1
-one_of (Some value) some = refl
-one_of None some = absurd some
+-- what holds where there is a value
+pub where_some : {L P : Type 0} (result : Option L) (value : L) → result ≡ Some value → OnSome result P → P
+where_some (Some other) value is holds = holds
+where_some None value is holds = absurd (let none : ⊥ = cc (is) in none)
 
 -- as many as before a write through one of them
-pub len_kept : {L : Type 0} (s : Slab L) (key : ℕ) (value : L) → ContainsKey s key → slab_len (with_value s key value) ≡ slab_len s
-len_kept {L} s key value present =
+pub len_kept : {L : Type 0} (s : Slab L) (key : ℕ) (old value : L) → Some old ≡ get s key → ContainsKey s key → slab_len (with_value s key value) ≡ slab_len s
+len_kept {L} s key old value found present =
     let moved = sum_by-set (λ (o : Option L). cond (is_some o) 1 0) s.slots key (Some value) None (ContainsKey-within s key present) in
-    omega (arith, moved, one_of (get s key) present)
+    let one : ◌≡◌ {A = ℕ} (cond (is_some (get s key)) 1 0) 1 = ap (λ (o : Option L). cond (is_some o) 1 0) (sym found) in
+    omega (arith, moved, one)
 
 -- so many, and so many more
 pub counts_more : (a b c : Ends) (front back both : ℕ) → Counts a front b → Counts b back c → both ≡ front + back → Counts a both c

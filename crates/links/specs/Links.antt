@@ -6,7 +6,7 @@ use Rattle.connections.specs.Kept.{Kept, told_by, awaited}
 use Rattle.connections.specs.Told.{Writes}
 use Rattle.connections.specs.Going.{Goes, Stops}
 use Rattle.connections.specs.declared.stream_end.StreamEnd.{StreamEnd}
-use Rattle.links.specs.Deadlines.{IsBegun, is_over, idle_by}
+use Rattle.links.specs.Deadlines.{IsBegun, is_over}
 use Rattle.links.specs.Ends.{one_late}
 use Rattle.links.specs.declared.ends.Ends.{Ends}
 use Rattle.links.specs.declared.limits.Limits.{Limits}
@@ -53,16 +53,6 @@ module _ {T : Type 0} (IsReply : Peer → List T → List T → List ℕ → Lis
 -- what contracts see of a connection, by how its stream tells its octets
 abbrev pub seen_of : {S M : Type 0} → (S → Option (List ℕ × List ℕ)) → Link S M → Seen
 seen_of octets link = record { peer = link.peer; octets = octets link.stream; kept = link.conversation; begun = link.begun }
-
--- what a sweep at a time leaves of a connection
-abbrev pub kept_seen : Limits → ℕ → Option Seen → Option Seen
-kept_seen limits now None = None
-kept_seen limits now (Some seen) = if is_over limits now seen.begun seen.kept then None else Some seen
-
--- since when a connection is idle; none where there is none, or it isn't
-abbrev pub idle_seen : Option Seen → Option ℕ
-idle_seen None = None
-idle_seen (Some seen) = idle_by (awaited seen.kept) seen.begun
 
 -- the count of ends where the connection under a key, if there is one, ends if it is over at a time
 abbrev pub ends_at : {S M : Type 0} → Limits → ℕ → Option (Link S M) → Ends → Ends

@@ -13,7 +13,8 @@ use Rattle.links.specs.Links.{seen_of}
 use Rattle.links.specs.declared.limits.Limits.{Limits}
 use Rattle.links.specs.declared.link.Link.{Link}
 use Rattle.links.proofs.OwnLemmas.{own_same}
-use Rattle.turns.specs.Steps.{scarce, HasBegun, Move, begins, gives, rests, Moves, stay, move, Sweeps, Serves}
+use Rattle.conversation.proofs.TurnLemmas.{begins_itself}
+use Rattle.turns.specs.Steps.{scarce, HasBegun, Move, begins, gives, rests, Moves, stay, move, Sweeps, Serves, HasTurned}
 
 module _ {S M : Type 0} (origin : S → SocketAddr) (octets : S → Option (List ℕ × List ℕ)) (allowed : List IpAddr) (now : ℕ) where
   pub moves_more : (a b c : Slab (Link S M)) → Moves origin octets allowed now a b → Moves origin octets allowed now b c → Moves origin octets allowed now a c
@@ -26,6 +27,10 @@ module _ {S M : Type 0} (origin : S → SocketAddr) (octets : S → Option (List
   -- nothing is moved
   pub moves_same : (old new : Slab (Link S M)) → new ≡ old → Moves origin octets allowed now old new
   moves_same old new same = moves_once old new (rests (λ key. ap (λ (s : Slab (Link S M)). get s key) same))
+
+  -- behind moves nothing is moved
+  pub moves_as : (old new same : Slab (Link S M)) → new ≡ same → Moves origin octets allowed now old same → Moves origin octets allowed now old new
+  moves_as old new same is moved = subst (λ (s : Slab (Link S M)). Moves origin octets allowed now old s) (sym is) moved
 
   -- there is room for more
   pub moves_wider : (old new : Slab (Link S M)) (capacity : ℕ) → new ≡ record old { capacity = capacity } → Moves origin octets allowed now old new
@@ -57,3 +62,18 @@ module _ {S M : Type 0} (origin : S → SocketAddr) (octets : S → Option (List
     -- none is served, and maybe more is known
     pub serves_none : (seen later : List T) (links : Slab (Link S M)) → BeginsWith later seen → Serves origin octets IsReply now seen links later links
     serves_none seen later links grows = λ key. own_same IsReply now seen later (option_map (seen_of octets) (get links key)) grows
+
+    pub serves_as : (seen later : List T) (old new same : Slab (Link S M)) → new ≡ same → Serves origin octets IsReply now seen old later same → Serves origin octets IsReply now seen old later new
+    serves_as seen later old new same is own = subst (λ (s : Slab (Link S M)). Serves origin octets IsReply now seen old later s) (sym is) own
+
+    -- nothing is done in a turn
+    pub turned_none : (limits : Limits) (seen : List T) (old new : Slab (Link S M)) → new ≡ old → HasTurned origin octets IsReply allowed limits now seen old seen new
+    turned_none limits seen old new same = record { come = old; served = old; first = stay; own = serves_none seen seen old (begins_itself seen); last = inl same }
+
+    -- a turn, at the time that was told
+    pub turned_whole : (limits : Limits) (told : ℕ) (seen later : List T) (old start come served new : Slab (Link S M)) → now ≡ told → start ≡ old → Moves origin octets allowed now start come → Serves origin octets IsReply now seen come later served
+        → Sweeps origin octets limits now served new → HasTurned origin octets IsReply allowed limits told seen old later new
+    turned_whole limits told seen later old start come served new same still first own last =
+        let moved : Moves origin octets allowed now old come = subst (λ (s : Slab (Link S M)). Moves origin octets allowed now s come) still first in
+        let made : HasTurned origin octets IsReply allowed limits now seen old later new = record { come = come; served = served; first = moved; own = own; last = last } in
+        subst (λ (n : ℕ). HasTurned origin octets IsReply allowed limits n seen old later new) same made

@@ -173,7 +173,34 @@ impl<S: Blocking + Remote + Drop, M: Messages> Turns<S, M> {
         self.put(plan, stream, now);
     }
 
-    /// Takes connections where they come in, so many at most. False where no more waits there; an error where it is broken.
+    /// Takes the connection that comes next. Some where no other is taken there in this turn: whether one may still wait there.
+    fn take_one<P: Readiness<S>, L: Arrivals<Stream = S>>(
+        &mut self,
+        poll: &mut P,
+        plan: Plan<'_>,
+        arrivals: &mut L,
+        now: u64,
+    ) -> Result<Option<bool>, TurnEnd>
+        ensures moves { Moves S.origin S.octets plan.entry.allowed.addresses.now now self.old.links self.new.links }
+        ensures time { P.time poll.new ≡ P.time poll.old }
+    {
+        match arrivals.take() {
+            Ok(stream) => {
+                self.begin(poll, plan, stream, now);
+                Ok(None)
+            }
+            Err(Refusal::Blocked) => Ok(Some(false)),
+            Err(Refusal::Client) => Ok(None),
+            Err(Refusal::Room) => {
+                self.tally.no_room = self.tally.no_room.saturating_add(1);
+                self.shut_until = now.saturating_add(SECOND);
+                Ok(Some(true))
+            }
+            Err(Refusal::Broken) => Err(TurnEnd::Device),
+        }
+    }
+
+    /// Takes connections where they come in, so many at most, and tells whether one may still wait there; an error where it is broken.
     fn take_some<P: Readiness<S>, L: Arrivals<Stream = S>>(
         &mut self,
         poll: &mut P,
@@ -185,19 +212,46 @@ impl<S: Blocking + Remote + Drop, M: Messages> Turns<S, M> {
         ensures time { P.time poll.new ≡ P.time poll.old }
     {
         for _taken in 0..ARRIVALS {
-            match arrivals.take() {
-                Ok(stream) => self.begin(poll, plan, stream, now),
-                Err(Refusal::Blocked) => return Ok(false),
-                Err(Refusal::Client) => {}
-                Err(Refusal::Room) => {
-                    self.tally.no_room = self.tally.no_room.saturating_add(1);
-                    self.shut_until = now.saturating_add(SECOND);
-                    return Ok(true);
-                }
-                Err(Refusal::Broken) => return Err(TurnEnd::Device),
+            match self.take_one(poll, plan, arrivals, now)? {
+                Some(may_come) => return Ok(may_come),
+                None => {}
             }
         }
         Ok(true)
+    }
+
+    /// Whether connections may wait at a place.
+    fn may_wait(&self, place: usize) -> bool {
+        self.may_come.get(place).copied().unwrap_or(false)
+    }
+
+    /// Marks whether connections may wait at a place.
+    fn mark_place(&mut self, place: usize, may: bool)
+        ensures { self.new.links ≡ self.old.links }
+    {
+        if let Some(may_come) = self.may_come.get_mut(place) {
+            *may_come = may;
+        }
+    }
+
+    /// Takes connections at a place, where one may wait, and there was room so far.
+    fn take_at<P: Readiness<S>, L: Arrivals<Stream = S>>(
+        &mut self,
+        poll: &mut P,
+        plan: Plan<'_>,
+        arrivals: &mut L,
+        place: usize,
+        now: u64,
+    ) -> Result<(), TurnEnd>
+        ensures moves { Moves S.origin S.octets plan.entry.allowed.addresses.now now self.old.links self.new.links }
+        ensures time { P.time poll.new ≡ P.time poll.old }
+    {
+        if self.shut_until != 0 || !self.may_wait(place) {
+            return Ok(());
+        }
+        let more = self.take_some(poll, plan, arrivals, now)?;
+        self.mark_place(place, more);
+        Ok(())
     }
 
     /// Takes connections at each place where one may wait, but not for a while after there was no room.
@@ -216,13 +270,7 @@ impl<S: Blocking + Remote + Drop, M: Messages> Turns<S, M> {
         }
         self.shut_until = 0;
         for (place, arrivals) in places.iter_mut().enumerate() {
-            let may = self.may_come.get(place).copied().unwrap_or(false);
-            if may && self.shut_until == 0 {
-                let more = self.take_some(poll, plan, arrivals, now)?;
-                if let Some(may) = self.may_come.get_mut(place) {
-                    *may = more;
-                }
-            }
+            self.take_at(poll, plan, arrivals, place, now)?;
         }
         Ok(())
     }

@@ -1,10 +1,18 @@
 -- One key behind the other, and none beyond the last slot.
-use Rattle.std.proofs.Common.{◌∙◌}
+use Rattle.std.proofs.Common.{refl, ◌∙◌, arith}
 use Rattle.slab.specs.Slab.{get, slab_len}
 use Rattle.links.specs.Deadlines.{kept_at}
-use Rattle.links.proofs.LenLemmas.{counted_then}
+use Rattle.links.proofs.LenLemmas.{counted_none, counted_then}
 use Rattle.links.proofs.SweepLemmas.{below_more, above_more}
 use Rattle.links.proofs.deadlines.sweep.Goals as goal
+
+pub loop-key-init : goal.loop-key-init
+loop-key-init g c = record {
+  below = λ k within. absurd (omega (arith, within));
+  above = λ k over. refl;
+  ended = counted_none c.args.ends.now (slab_len c.args.links.now) (slab_len c.args.links.now) refl;
+  capacity = refl;
+}
 
 pub loop-key-preserved : goal.loop-key-preserved
 loop-key-preserved g c =

@@ -1,11 +1,11 @@
 -- The connection under the key has gone on, or has ended; the others are as they were.
-use Rattle.std.proofs.Common.{rules}
+use Rattle.std.proofs.Common.{◌≡◌, refl, ◌∙◌, rules}
 use Rattle.conversation.proofs.TurnLemmas.{begins_itself}
 use Rattle.slab.specs.Slab.{get, with_value, slab_len}
 use Rattle.slab.proofs.SlabLemmas.{Updates-with_value}
 use Rattle.links.specs.Links.{seen_of}
 use Rattle.links.proofs.BegunLemmas.{begun_once}
-use Rattle.links.proofs.LenLemmas.{len_kept, counted_none, counted_one}
+use Rattle.links.proofs.LenLemmas.{where_some, len_kept, counted_none, counted_one}
 use Rattle.links.proofs.OwnLemmas.{own_gone, own_ended}
 use Rattle.links.proofs.serve.serve_key.Goals as goal
 
@@ -32,8 +32,19 @@ returns-in-Err-clause-own g c =
       written = c.in-Err.ensures.written;
     })
 
+pub returns-in_default-clause-ended : goal.returns-in_default-clause-ended
+returns-in_default-clause-ended g c = counted_none c.args.ends.now (slab_len c.args.links.now) (slab_len c.args.links.now) refl
+
 pub returns-in-Ok-clause-ended : goal.returns-in-Ok-clause-ended
-returns-in-Ok-clause-ended g c = counted_none c.args.ends.now (slab_len c.args.links.now) (slab_len (with_value c.args.links.now c.args.key c.serve_link.new.link)) (len_kept c.args.links.now c.args.key c.serve_link.new.link (search rules))
+returns-in-Ok-clause-ended g c =
+    let links = c.args.links.now in
+    let new = c.serve_link.new.link in
+    counted_none c.args.ends.now (slab_len links) (slab_len (with_value links c.args.key new)) (len_kept links c.args.key c.in-Some.link.now new c.in-Some.ensures.value (search rules))
 
 pub returns-in-Err-clause-ended : goal.returns-in-Err-clause-ended
-returns-in-Err-clause-ended g c = counted_one c.args.ends.now c.count.new.self (slab_len c.args.links.now) (slab_len c.try_remove.new.self) c.in-Err.end c.count.ensures (search rules)
+returns-in-Err-clause-ended g c =
+    let links = c.args.links.now in
+    let new = c.serve_link.new.link in
+    let here = Updates-with_value links c.args.key new (search rules) in
+    let kept : slab_len (with_value links c.args.key new) ≡ slab_len links = len_kept links c.args.key c.in-Some.link.now new c.in-Some.ensures.value (search rules) in
+    counted_one c.args.ends.now c.count.new.self (slab_len links) (slab_len c.try_remove.new.self) c.in-Err.end c.count.ensures (where_some c.try_remove.result new (c.try_remove.ensures.value ∙ here.changed) c.try_remove.ensures.len ∙ kept)
