@@ -1,6 +1,6 @@
 //! A worker's job on connections (RFC 7766, 6.2).
 ghost use Rattle.std.specs.Prelude.{◌≡◌, Some, IfSome};
-ghost use Rattle.conversation.specs.Served.{BeginsWith};
+ghost use Rattle.conversation.specs.Served.{Grows};
 ghost use Rattle.turns.specs.Steps.{Turned};
 
 use crate::progress::Standing;
@@ -149,14 +149,14 @@ impl<
     }
 
     /// Takes a turn, unless the worker is over; an end where it is, or the turn is the last.
-    #[tactic(auto, using(conversation::proofs::TurnLemmas::begins_itself))]
+    #[tactic(auto, using(conversation::proofs::TurnLemmas::grows_itself))]
     fn turn<R: Wait, A: Answering<Transfer>, O: ServiceLog>(
         &mut self,
         rt: &R,
         answering: &mut A,
         log: &O,
     ) -> Option<JobEnd>
-        ensures grows { BeginsWith (A.seen answering.new) (A.seen answering.old) }
+        ensures grows { Grows (A.seen answering.new) (A.seen answering.old) }
         ensures turned { Turned S.origin S.octets A.is_reply self.old.plan.allowed.addresses.now self.old.plan.limits (A.seen answering.old) self.old.turns.links (A.seen answering.new) self.new.turns.links }
         ensures number { self.new.number ≡ self.old.number }
         ensures plan { self.new.plan ≡ self.old.plan }
@@ -192,7 +192,7 @@ impl<
         answering: &mut A,
         log: &O,
     ) -> JobEnd
-        ensures grows { BeginsWith (A.seen answering.new) (A.seen answering.old) }
+        ensures grows { Grows (A.seen answering.new) (A.seen answering.old) }
         ensures turned { Turned S.origin S.octets A.is_reply self.old.plan.allowed.addresses.now self.old.plan.limits (A.seen answering.old) self.old.turns.links (A.seen answering.new) self.new.turns.links }
         ensures number { self.new.number ≡ self.old.number }
         ensures end { self.new.end ≡ Some result }

@@ -1,6 +1,6 @@
 //! A worker's job on a socket of datagrams (RFC 1035, 4.2.1).
 ghost use Rattle.std.specs.Prelude.{◌≡◌, Some};
-ghost use Rattle.conversation.specs.Served.{BeginsWith};
+ghost use Rattle.conversation.specs.Served.{Grows};
 
 use crate::progress::Standing;
 use crate::scratch::Scratch;
@@ -61,7 +61,7 @@ impl<'a> DatagramsJob<'a> {
 
     /// Answers the datagrams that come until the worker is over; fewer where one can't be received, or no version can be loaded.
     pub fn serve<R: Wait, A: Answering>(&mut self, rt: &R, answering: &mut A) -> JobEnd
-        ensures grows { BeginsWith (A.seen answering.new) (A.seen answering.old) }
+        ensures grows { Grows (A.seen answering.new) (A.seen answering.old) }
         ensures end { self.new.end ≡ Some result }
         ensures number { self.new.number ≡ self.old.number }
     {

@@ -1,6 +1,5 @@
 //! The threads of a server: each has a job on sockets, and who answers in it.
 ghost use Rattle.std.specs.Prelude.{◌≡◌, ◌≤◌, [], map, vec_len, vec_capacity, IfOk, IfErr};
-ghost use Rattle.conversation.specs.Served.{BeginsWith};
 ghost use Rattle.serve_workers.specs.Numbers.{number_of};
 ghost use Rattle.serve_workers.specs.Seats.{seat_number, seat_seen, pair_of};
 

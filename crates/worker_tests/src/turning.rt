@@ -149,18 +149,18 @@ struct Silent {
 }
 
 impl Answering<Transfer> for Silent {
-    ghost seen = { λ _. [] };
+    ghost seen = { λ _. record { published = []; buried = [] } };
 
     ghost peer = { λ silent. silent.peer };
 
     ghost is_reply = { λ _ _ _ _ _. Unit {0} };
 
-    #[tactic(auto, using(conversation::proofs::TurnLemmas::begins_itself))]
+    #[tactic(auto, using(conversation::proofs::TurnLemmas::grows_itself))]
     fn turn_to(&mut self, other: Peer, _from: SocketAddr) {
         self.peer = other;
     }
 
-    #[tactic(auto, using(conversation::proofs::TurnLemmas::begins_itself))]
+    #[tactic(auto, using(conversation::proofs::TurnLemmas::grows_itself))]
     fn reply<R: Wait>(
         &mut self,
         _rt: &R,

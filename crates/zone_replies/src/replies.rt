@@ -1,12 +1,13 @@
 //! A server as one who answers connections.
 ghost use Rattle.std.specs.Prelude.{◌≡◌, ◌≤◌, ◌⊎◌, ℕ, true, length, Some, None, IfSome, IfOk, OnErr, if◌then◌else◌};
 ghost use Rattle.dns_message.specs.Message.{message_limit};
-ghost use Rattle.zone_tree.specs.Version.{Version as PublishedVersion};
+ghost use Rattle.zone_tree.specs.Version.{Version};
 ghost use Rattle.serve_core.specs.Transfers.{is_permitted, messages_to};
 ghost use Rattle.zone_tree.specs.Zone.{soa_of};
 ghost use Rattle.dns_engine.specs.Chain.{changes_by};
 ghost use Rattle.conversation.specs.Octets.{messages_in};
-ghost use Rattle.conversation.specs.Served.{BeginsWith};
+ghost use Rattle.conversation.specs.Served.{Grows};
+ghost use Rattle.zone_service.specs.Known.{learned_by};
 ghost use Rattle.connections.specs.Kept.{messages_of};
 ghost use Rattle.connections.specs.declared.answering.Reply.{Reply as ReplyOf};
 ghost use Rattle.zone_service.specs.Replied.{IsReplied, IsUpdate, IsTransfer, HasNoAnswer};
@@ -127,9 +128,9 @@ impl<'a, 's, Z: FirstZone, N: Naming, L: ServiceLog> Replies<'a, 's, Z, N, L> {
         requires later { IsUpdate request.now ⊎ IsTransfer Z.zone self.old.peer request.now }
         requires room { message_limit ≤ length out.old }
         ensures peer { self.new.peer ≡ self.old.peer }
-        ensures grows { BeginsWith {T = PublishedVersion} self.new.reader.seen self.old.reader.seen }
+        ensures grows { Grows {T = Version} (learned_by self.new.reader) (learned_by self.old.reader) }
         ensures bound { IfOk result (λ reply. (len : ℕ) → reply ≡ ReplyOf.One len → (len ≤ message_limit) × (len ≤ length out.new)) }
-        ensures replied { IfOk result (λ reply. IsReplied Z.zone self.old.peer self.old.reader.seen self.new.reader.seen request.now (messages_of transfer_left reply out.new)) }
+        ensures replied { IfOk result (λ reply. IsReplied Z.zone self.old.peer (learned_by self.old.reader) (learned_by self.new.reader) request.now (messages_of transfer_left reply out.new)) }
         ensures spent { OnErr result (IsTransfer Z.zone self.old.peer request.now) }
     {
         let peer = self.peer;
@@ -157,19 +158,19 @@ impl<'a, 's, Z: FirstZone, N: Naming, L: ServiceLog> Replies<'a, 's, Z, N, L> {
 
 impl<'a, 's, Z: FirstZone, N: Naming, L: ServiceLog> Answering<Transfer>
     for Replies<'a, 's, Z, N, L> {
-    ghost seen = { λ replies. replies.reader.seen };
+    ghost seen = { λ replies. learned_by replies.reader };
 
     ghost peer = { λ replies. replies.peer };
 
     ghost is_reply = { λ peer known later request messages. IsReplied Z.zone peer known later request messages };
 
-    #[tactic(auto, using(conversation::proofs::TurnLemmas::begins_itself))]
+    #[tactic(auto, using(conversation::proofs::TurnLemmas::grows_itself))]
     fn turn_to(&mut self, other: Peer, from: SocketAddr) {
         self.peer = other;
         self.from = from;
     }
 
-    #[tactic(auto, using(zone_service::proofs::ReplyLemmas::limit_most, zone_service::proofs::ReplyLemmas::room_most, zone_service::proofs::ReplyLemmas::silent_replied, conversation::proofs::TurnLemmas::begins_itself))]
+    #[tactic(auto, using(zone_service::proofs::ReplyLemmas::limit_most, zone_service::proofs::ReplyLemmas::room_most, zone_service::proofs::ReplyLemmas::silent_replied, conversation::proofs::TurnLemmas::grows_itself))]
     fn reply<R: Wait>(
         &mut self,
         rt: &R,
@@ -178,11 +179,11 @@ impl<'a, 's, Z: FirstZone, N: Naming, L: ServiceLog> Answering<Transfer>
     ) -> Result<Reply<Transfer>, Spent>
         requires { message_limit ≤ length out.old }
         ensures same { self.new.peer ≡ self.old.peer }
-        ensures grows { BeginsWith {T = PublishedVersion} self.new.reader.seen self.old.reader.seen }
+        ensures grows { Grows {T = Version} (learned_by self.new.reader) (learned_by self.old.reader) }
         ensures bound { IfOk result (λ reply. (len : ℕ) → reply ≡ ReplyOf.One len → (len ≤ message_limit) × (len ≤ length out.new)) }
-        ensures reply { IfOk result (λ reply. IsReplied Z.zone self.old.peer self.old.reader.seen self.new.reader.seen request.now (messages_of transfer_left reply out.new)) }
-        // What can't be read as a query is replied to, whether a version can be loaded or not.
-        ensures spent { OnErr result (HasNoAnswer Z.zone self.old.peer request.now self.old.reader) }
+        ensures reply { IfOk result (λ reply. IsReplied Z.zone self.old.peer (learned_by self.old.reader) (learned_by self.new.reader) request.now (messages_of transfer_left reply out.new)) }
+        // What can't be read as a query is replied to, whether a version can be loaded or not. Of a transfer a `usize` may not tell the records.
+        ensures spent { OnErr result (HasNoAnswer Z.zone self.old.peer request.now self.old.reader self.new.reader ⊎ IsTransfer Z.zone self.old.peer request.now) }
     {
         let cell = self.server.cell();
         match answer_now(cell, &mut self.reader, self.peer, request, out) {
