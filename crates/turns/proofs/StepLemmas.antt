@@ -1,5 +1,5 @@
 -- Places that are taken and given back, and connections that are served, one after another.
-use Rattle.std.proofs.Common.{◌≡◌, ◌≢◌, refl, ℕ, List, Option, None, Some, option_map, sym, ap, ◌∙◌, inl, inr, ◌⊎◌, subst}
+use Rattle.std.proofs.Common.{◌≡◌, ◌≢◌, refl, ℕ, List, Option, None, Some, Result, Ok, Err, IfOk, OnErr, option_map, sym, ap, ◌∙◌, inl, inr, ◌⊎◌, subst}
 use Rattle.std.specs.declared.net.ip_addr.IpAddr.{IpAddr}
 use Rattle.std.specs.declared.net.socket_addr.SocketAddr.{SocketAddr}
 use Rattle.serve_core.specs.declared.peer.Peer.{Peer}
@@ -7,7 +7,7 @@ use Rattle.serve_core.specs.declared.transport.Transport.TheVariants.{Tcp}
 use Rattle.conversation.specs.Allowed.{IsPeer}
 use Rattle.conversation.specs.Served.{Learned, Grows}
 use Rattle.connections.specs.Kept.{nothing_kept}
-use Rattle.slab.specs.Slab.{Slab, get}
+use Rattle.slab.specs.Slab.{Slab, get, Updates}
 use Rattle.links.specs.Deadlines.{kept_at, idle_since, IsLeast}
 use Rattle.links.specs.Links.{seen_of}
 use Rattle.links.specs.declared.limits.Limits.{Limits}
@@ -52,6 +52,12 @@ module _ {S M : Type 0} (origin : S → SocketAddr) (octets : S → Option (List
         begun = begun;
       } in
       moves_once old new (begins key link vacant put began others)
+
+  -- one is put under the next key, or there is no memory for it
+  pub moves_put : {E : Type 0} (result : Result ℕ E) (from : SocketAddr) (peer : Peer) (stream : S) (old new : Slab (Link S M)) (link : Link S M) → IfOk result (λ key. get old key ≡ None) → IfOk result (λ key. Updates old new key (Some link)) → OnErr result (new ≡ record old { capacity = new.capacity })
+      → link.stream ≡ stream → link.from ≡ from → from ≡ origin stream → link.peer ≡ peer → IsPeer allowed Tcp from peer → link.conversation ≡ nothing_kept → link.begun ≡ now → Moves origin octets allowed now old new
+  moves_put (Ok key) from peer stream old new link vacant updates failed is come told same is_peer kept begun = moves_begun from peer stream old new key link vacant updates.changed updates.others is come told same is_peer kept begun
+  moves_put (Err fault) from peer stream old new link vacant updates failed is come told same is_peer kept begun = moves_wider old new new.capacity failed
 
   -- those that are over go, by limits that are the given ones or those where places are scarce
   pub sweeps_over : (limits used : Limits) (old new : Slab (Link S M)) → (used ≡ limits) ⊎ (used ≡ scarce limits) → ((key : ℕ) → get new key ≡ kept_at used now (get old key)) → Sweeps origin octets limits now old new

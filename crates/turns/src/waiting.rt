@@ -38,6 +38,13 @@ impl Waiting {
         let _ = self.keys.push(key);
     }
 
+    /// Puts keys behind the others, one after another.
+    pub(crate) fn put_all(&mut self, keys: &[usize]) {
+        for key in keys {
+            self.put(*key);
+        }
+    }
+
     /// Lets all keys go to `taken`, which is empty, and which they then wait in no more.
     pub(crate) fn take(&mut self, taken: &mut Vec<usize>) {
         mem::swap(&mut self.keys, taken);

@@ -107,13 +107,7 @@ impl<S: Blocking + Remote + Drop, M: Messages> Turns<S, M> {
     fn mark(&mut self)
         ensures { self.new.links ≡ self.old.links }
     {
-        for key in self.told.iter() {
-            let place = usize::MAX - *key;
-            match self.may_come.get_mut(place) {
-                Some(may) => *may = true,
-                None => self.waiting.put(*key),
-            }
-        }
+        mark_told(&self.told, &mut self.may_come, &mut self.waiting);
         self.told.clear();
     }
 
@@ -148,13 +142,20 @@ impl<S: Blocking + Remote + Drop, M: Messages> Turns<S, M> {
         let from = stream.address();
         let peer = plan.allowed.peer(from, Transport::Tcp);
         let link = Link::new(stream, self.alloc, peer, from, now);
-        match self.links.insert(link) {
-            Ok(key) => {
-                self.tally.begun = self.tally.begun.saturating_add(1);
-                self.waiting.put(key);
-            }
-            Err(_) => self.tally.no_room = self.tally.no_room.saturating_add(1),
-        }
+        let put = self.links.insert(link).ok();
+        self.note(put);
+    }
+
+    /// Counts a connection that has a key now, which waits for its turn; or one that got none for want of memory.
+    fn note(&mut self, put: Option<usize>)
+        ensures { self.new.links ≡ self.old.links }
+    {
+        let Some(key) = put else {
+            self.tally.no_room = self.tally.no_room.saturating_add(1);
+            return;
+        };
+        self.tally.begun = self.tally.begun.saturating_add(1);
+        self.waiting.put(key);
     }
 
     /// Gives a connection that has come a place, where there is one, and has it watched.
@@ -303,9 +304,7 @@ impl<S: Blocking + Remote + Drop, M: Messages> Turns<S, M> {
             room,
             out,
         );
-        for key in self.next.iter() {
-            self.waiting.put(*key);
-        }
+        self.waiting.put_all(&self.next);
         served.map_err(|_| TurnEnd::NoMemory)
     }
 
@@ -378,6 +377,16 @@ impl<S: Blocking + Remote + Drop, M: Messages> Turns<S, M> {
             self.turn(rt, poll, plan, places, answering, room, out)?;
         }
         unreachable!()
+    }
+}
+
+/// Marks what was told to be ready: places where connections may come in, the first one under the greatest key, and connections.
+fn mark_told(told: &[usize], may_come: &mut Vec<bool>, waiting: &mut Waiting) {
+    for key in told {
+        match may_come.get_mut(usize::MAX - *key) {
+            Some(may) => *may = true,
+            None => waiting.put(*key),
+        }
     }
 }
 

@@ -4,8 +4,8 @@ use Rattle.turns.specs.Steps.{stay}
 use Rattle.turns.proofs.StepLemmas.{moves_more}
 use Rattle.turns.proofs.worker.Turns.take_all.Goals as goal
 
-pub returns-then-now-shut_until-clause-moves : goal.returns-then-now-shut_until-clause-moves
-returns-then-now-shut_until-clause-moves g c = stay
+pub returns-then-now-self-clause-moves : goal.returns-then-now-self-clause-moves
+returns-then-now-self-clause-moves g c = stay
 
 pub loop-place-init : goal.loop-place-init
 loop-place-init g c = record { moves = stay; time = refl }

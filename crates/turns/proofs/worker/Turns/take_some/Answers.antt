@@ -16,5 +16,5 @@ loop-taken-preserved g c = record {
 pub returns-in-Some-clause-moves : goal.returns-in-Some-clause-moves
 returns-in-Some-clause-moves g c = moves_more g.S.Remote.origin g.S.Blocking.octets c.args.plan.allowed.addresses.now c.args.now c.args.self.now.links c.loop-taken.self.links c.take_one.new.self.links c.loop-taken.invariant.moves c.take_one.ensures.moves
 
-pub returns-in_err-take_one-clause-moves : goal.returns-in_err-take_one-clause-moves
-returns-in_err-take_one-clause-moves g c = moves_more g.S.Remote.origin g.S.Blocking.octets c.args.plan.allowed.addresses.now c.args.now c.args.self.now.links c.loop-taken.self.links c.take_one.new.self.links c.loop-taken.invariant.moves c.take_one.ensures.moves
+pub returns-in_err-may_come-clause-moves : goal.returns-in_err-may_come-clause-moves
+returns-in_err-may_come-clause-moves g c = moves_more g.S.Remote.origin g.S.Blocking.octets c.args.plan.allowed.addresses.now c.args.now c.args.self.now.links c.loop-taken.self.links c.take_one.new.self.links c.loop-taken.invariant.moves c.take_one.ensures.moves
