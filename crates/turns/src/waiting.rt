@@ -50,10 +50,12 @@ impl Waiting {
         }
     }
 
-    /// Puts a key that could go on into the next round, if it doesn't wait already.
-    pub(crate) fn put_after(&mut self, key: usize) {
-        if self.enters(key) {
-            let _ = self.after.push(key);
+    /// Puts keys that could go on into the next round, each if it doesn't wait already.
+    pub(crate) fn put_after(&mut self, keys: &[usize]) {
+        for key in keys {
+            if self.enters(*key) {
+                let _ = self.after.push(*key);
+            }
         }
     }
 

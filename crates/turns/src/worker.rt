@@ -304,7 +304,7 @@ impl<S: Blocking + Remote + Drop, M: Messages> Turns<S, M> {
             room,
             out,
         );
-        self.waiting.put_all(&self.next);
+        self.waiting.put_after(&self.next);
         served.map_err(|_| TurnEnd::NoMemory)
     }
 
