@@ -250,13 +250,6 @@ fn a_job_ends_by_its_poll(rt: HostRuntime) {
 fn losses_are_told_once_a_second(rt: HostRuntime) {
     let comers = [Comes::Failure; 5];
     let told = "worker 3 (TCP): 2 failed;worker 3 (TCP): 3 failed;";
-    let end = end_of(
-        &rt,
-        rt.alloc(),
-        &comers,
-        5,
-        100,
-        "worker 3 (TCP): 5 failed;",
-    );
+    let end = end_of(&rt, rt.alloc(), &comers, 5, 100, 400, told);
     assert!(rt; matches!(end, Some(JobEnd::Done(5))));
 }
