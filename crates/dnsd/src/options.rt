@@ -1,7 +1,6 @@
 //! What the options of `serve` ask for.
-ghost use Rattle.std.specs.Prelude.{◌≤◌, ◌+◌, ◌*◌, vec_len};
+ghost use Rattle.std.specs.Prelude.{◌≤◌};
 ghost use Rattle.transfer_core.specs.declared.kept.TheConstants.{KEPT};
-ghost use Rattle.dnsd.specs.declared.options.TheConstants.{MAX_THREADS};
 
 use crate::command::{CommandFault, KEEP, MAX_KEEP, number_for, option};
 use clap::{ArgAction, ArgMatches, Command as Parser};
@@ -32,7 +31,6 @@ pub struct Serve<'a> {
     pub places: usize,
     /// How long each may wait for its peer.
     pub limits: Limits,
-    ghost few_threads: { workers * (vec_len listen + 1) ≤ MAX_THREADS },
     ghost few_kept: { keep ≤ KEPT },
 }
 
@@ -46,7 +44,7 @@ const WORKERS: &str = "workers";
 const MAX_WORKERS: usize = 31;
 
 /// The most threads of all workers, since each has a reader of the zone's versions, and the engine has one more.
-const MAX_THREADS: usize = 63;
+pub const MAX_THREADS: usize = 63;
 
 /// The option for who may update and transfer.
 const ALLOW: &str = "allow";

@@ -2,7 +2,7 @@
 use crate::bound::{Unbound, WorkerSockets, bind_all, duties_of};
 use crate::descriptors;
 use crate::log::{Listening, Log, LogLine};
-use crate::options::Serve;
+use crate::options::{MAX_THREADS, Serve};
 use crate::zone_file::read_zone_file;
 use commands::{DONE, FAILED, Fault, Source, tell};
 use conversation::Allowed;
@@ -183,6 +183,9 @@ fn serve_all<R: Net + Threads + Wait + Clock + Sync>(
     let Some(duties) = duties_of(alloc, sockets, progresses.as_slice()) else {
         return Err(ServeFault::NoMemory);
     };
+    if duties.len() > MAX_THREADS {
+        return Err(ServeFault::NotStarted);
+    }
     let muster = Muster::new(duties.len());
     let plan = Plan {
         muster: &muster,
