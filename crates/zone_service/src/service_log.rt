@@ -138,24 +138,29 @@ fn write_serials<W: fmt::Write>(f: &mut Formatter<W>, serials: Option<Serials>) 
 
 /// Writes how many connections are lost, by what.
 fn write_losses<W: fmt::Write>(f: &mut Formatter<W>, losses: Losses) -> fmt::Result {
-    let kinds = [
-        (losses.failed, "failed"),
-        (losses.starved, "starved"),
-        (losses.idle, "idle too long"),
-        (losses.unfinished, "too long over a request"),
-        (losses.untaken, "too long over a reply"),
-        (losses.evicted, "idle and ended for others"),
-        (losses.turned_away, "turned away"),
-        (losses.no_room, "without room"),
-    ];
-    let mut mark = ": ";
-    for (count, kind) in kinds {
-        if count > 0 {
-            write!(f, "{mark}{count} {kind}")?;
-            mark = ", ";
-        }
-    }
+    let mark = write_kind(f, ": ", losses.failed, "failed")?;
+    let mark = write_kind(f, mark, losses.starved, "starved")?;
+    let mark = write_kind(f, mark, losses.idle, "idle too long")?;
+    let mark = write_kind(f, mark, losses.unfinished, "too long over a request")?;
+    let mark = write_kind(f, mark, losses.untaken, "too long over a reply")?;
+    let mark = write_kind(f, mark, losses.evicted, "idle and ended for others")?;
+    let mark = write_kind(f, mark, losses.turned_away, "turned away")?;
+    write_kind(f, mark, losses.no_room, "without room")?;
     Ok(())
+}
+
+/// Writes a kind of loss behind a mark, if there is any, and gives the mark for the next one.
+fn write_kind<W: fmt::Write>(
+    f: &mut Formatter<W>,
+    mark: &'static str,
+    count: u64,
+    kind: &str,
+) -> Result<&'static str, fmt::Error> {
+    if count == 0 {
+        return Ok(mark);
+    }
+    write!(f, "{mark}{count} {kind}")?;
+    Ok(", ")
 }
 
 /// Writes how a job has ended.
