@@ -5,7 +5,7 @@ use Rattle.zone_service.specs.Known.{learned_by}
 use Rattle.zone_service.proofs.NowLemmas.{now_grows}
 use Rattle.zone_replies.specs.Going.{transfer_left}
 use Rattle.zone_replies.proofs.RepliedLemmas.{later_replied}
-use Rattle.zone_replies.proofs.replies.RepliesAnswering.reply.Goals as goal
+use Rattle.zone_replies.proofs.replies.RepliesAnsweringTransfer.reply.Goals as goal
 
 pub returns-in-Bytes-clause-grows : goal.returns-in-Bytes-clause-grows
 returns-in-Bytes-clause-grows g c = now_grows g.Z.FirstZone.zone _ c.args.request.now c.args.self.now.reader c.answer_now.new.reader c.answer_now.new.out (Bytes c.in-Bytes.len) c.in-Bytes.ensures.now
