@@ -1,5 +1,5 @@
 -- What is replied on a connection.
-use Rattle.std.proofs.Common.{◌≡◌, ℕ, List, Result, Ok, Err, IfOk, sym, subst}
+use Rattle.std.proofs.Common.{◌≡◌, ℕ, List, Result, Ok, Err, IfOk, OnErr, sym, subst}
 use Rattle.dns_rdata.specs.Record.{Record}
 use Rattle.zone_tree.specs.Version.{Version}
 use Rattle.serve_core.specs.declared.peer.Peer.{Peer}
@@ -21,3 +21,8 @@ module _ {M E : Type 0} (first : List Record) (peer : Peer) (left : M → List (
       → IfOk result (λ reply. IsReplied first peer longer later request (messages_of left reply out)) → IfOk result (λ reply. IsReplied first peer shorter later request (messages_of left reply out))
   later_replied shorter longer later (Ok reply) grown replied = still_replied first peer shorter longer later request (messages_of left reply out) grown replied
   later_replied shorter longer later (Err e) grown replied = tt
+
+-- what holds anyway holds at an error
+pub err_anyway : {A E P : Type 0} (result : Result A E) → P → OnErr result P
+err_anyway (Ok a) p = tt
+err_anyway (Err e) p = p
