@@ -1,5 +1,5 @@
 -- The end of a list that a message leaves, and the messages of that.
-use Rattle.std.proofs.Common.{◌≡◌, refl, ℕ, suc, ◌+◌, ◌-◌, ◌≤◌, Bool, true, false, List, [], ◌∷◌, ◌++◌, length, take, drop, map, Option, None, Some, IfSome, MatchOption, if◌then◌else◌, not, ◌&&◌, is_some, option_map, sym, ap, ◌∙◌, subst, arith}
+use Rattle.std.proofs.Common.{◌≡◌, refl, ℕ, suc, ◌+◌, ◌-◌, ◌≤◌, Bool, true, false, List, [], ◌∷◌, ◌++◌, length, take, drop, map, Option, None, Some, IfSome, MatchOption, if◌then◌else◌, not, ◌&&◌, is_some, option_map, sym, ap, ◌∙◌, arith}
 use Rattle.std.proofs.lemmas.List.{length-drop, length-map, drop-drop, drop-map}
 use Rattle.std.specs.Option.{option_to_list}
 use Rattle.dns_rdata.specs.Record.{Record}

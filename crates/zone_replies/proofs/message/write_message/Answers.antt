@@ -1,5 +1,5 @@
 -- A message is made of the first of the records that are left, and the others stay.
-use Rattle.std.proofs.Common.{◌≡◌, ◌++◌, List, take, drop, length, map, sym, ap, ◌∙◌, arith}
+use Rattle.std.proofs.Common.{◌++◌, drop, sym, ◌∙◌, arith}
 use Rattle.std.proofs.lemmas.List.{length-take-le, take-append-le, length-map}
 use Rattle.std.specs.Option.{option_copied, option_to_list}
 use Rattle.transfer_core.specs.Packed.{spelt, listed}

@@ -1,5 +1,5 @@
 -- The records that are left are the last of the list.
-use Rattle.std.proofs.Common.{◌≡◌, ◌-◌, length, sym, ap, ◌∙◌, arith}
+use Rattle.std.proofs.Common.{length, sym, ap, ◌∙◌, arith}
 use Rattle.zone_tree.specs.Zone.{soa_of}
 use Rattle.dns_engine.specs.Chain.{changes_by}
 use Rattle.transfer_core.specs.Packed.{listed}

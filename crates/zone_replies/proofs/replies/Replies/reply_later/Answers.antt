@@ -1,9 +1,6 @@
 -- What the reader has seen grows, and a transfer's messages are those of its version.
 use Rattle.std.proofs.Common.{subst}
 use Rattle.dns_engine.specs.Replayed.{IsReplay}
-use Rattle.zone_tree.specs.Zone.{soa_of}
-use Rattle.dns_engine.specs.Chain.{changes_by}
-use Rattle.serve_core.specs.Transfers.{messages_to}
 use Rattle.zone_service.specs.Known.{learned_by}
 use Rattle.zone_service.proofs.NowLemmas.{told_grows, vain_grows, seen_grows}
 use Rattle.zone_replies.specs.Going.{transfer_left}
