@@ -9,10 +9,10 @@ use Rattle.conversation.specs.Datagrams.{Datagram, Receives, Sends, SendsOrFails
 use Rattle.conversation.specs.Exchanged.{RepliesTo, Exchanged, TurnMade, TurnsBy, EndsBy}
 use Rattle.conversation.specs.Exchanged.{none as no_exchange, next}
 use Rattle.conversation.specs.Datagrams.{by_datagram}
-use Rattle.conversation.specs.Served.{BeginsWith}
+use Rattle.conversation.specs.Served.{Learned, Grows}
 use Rattle.conversation.specs.declared.udp.DatagramsEnd.{DatagramsEnd}
 use Rattle.conversation.specs.declared.udp.DatagramsEnd.TheVariants.{Done, Device, Spent}
-use Rattle.conversation.proofs.TurnLemmas.{begins_itself, begins_more}
+use Rattle.conversation.proofs.TurnLemmas.{grows_itself, grows_more}
 
 -- a peer that asks by datagrams is itself as one that does
 pub datagram_same : (peer : Peer) → peer.transport ≡ Udp → by_datagram peer ≡ peer
@@ -28,9 +28,9 @@ pub sends_nothing : (old new : Option (List Datagram × List Datagram)) → new 
 sends_nothing None new same = tt
 sends_nothing (Some o) new same = same ∙ ap (λ l. Some (o.0, l)) (sym (append-nil o.1))
 
-module _ {T : Type 0} (IsReply : Peer → List T → List T → List ℕ → List (List ℕ) → Type 0) where
+module _ {T : Type 0} (IsReply : Peer → Learned T → Learned T → List ℕ → List (List ℕ) → Type 0) where
   -- a reply of one message
-  pub replied_one : (peer : Peer) (seen : List T) (request : List ℕ) (from : SocketAddr) (later : List T) (old : Option (List Datagram × List Datagram)) (faults : ℕ) (new : Option (List Datagram × List Datagram)) (more : ℕ) (message : List ℕ) → IsReply peer seen later request (message ∷ [])
+  pub replied_one : (peer : Peer) (seen : Learned T) (request : List ℕ) (from : SocketAddr) (later : Learned T) (old : Option (List Datagram × List Datagram)) (faults : ℕ) (new : Option (List Datagram × List Datagram)) (more : ℕ) (message : List ℕ) → IsReply peer seen later request (message ∷ [])
       → SendsOrFails old faults new more (message, from) → RepliesTo IsReply peer seen request from later old faults new more
   replied_one peer seen request from later old faults new more message is (inl out) = record {
     messages = message ∷ [];
@@ -52,7 +52,7 @@ module _ {T : Type 0} (IsReply : Peer → List T → List T → List ℕ → Lis
   }
 
   -- a reply of none
-  pub replied_none : (peer : Peer) (seen : List T) (request : List ℕ) (from : SocketAddr) (later : List T) (old : Option (List Datagram × List Datagram)) (faults : ℕ) → IsReply peer seen later request [] → RepliesTo IsReply peer seen request from later old faults old faults
+  pub replied_none : (peer : Peer) (seen : Learned T) (request : List ℕ) (from : SocketAddr) (later : Learned T) (old : Option (List Datagram × List Datagram)) (faults : ℕ) → IsReply peer seen later request [] → RepliesTo IsReply peer seen request from later old faults old faults
   replied_none peer seen request from later old faults is = record {
     messages = [];
     reply = is;
@@ -63,16 +63,16 @@ module _ {T : Type 0} (IsReply : Peer → List T → List T → List ℕ → Lis
     counted = count_none faults;
   }
 
-module _ {T : Type 0} (IsReply : Peer → List T → List T → List ℕ → List (List ℕ) → Type 0) (addresses : List IpAddr) where
+module _ {T : Type 0} (IsReply : Peer → Learned T → Learned T → List ℕ → List (List ℕ) → Type 0) (addresses : List IpAddr) where
   -- no datagram is answered yet
-  pub exchanged_none : (start : List T) (old : List Datagram × List Datagram) (faults : ℕ) → Exchanged IsReply addresses start old faults 0 start old faults
+  pub exchanged_none : (start : Learned T) (old : List Datagram × List Datagram) (faults : ℕ) → Exchanged IsReply addresses start old faults 0 start old faults
   exchanged_none start old faults = record {
     received = [];
     datagrams = [];
     failed = 0;
     last = start;
     exchanges = no_exchange;
-    grown = begins_itself start;
+    grown = grows_itself start;
     input = refl;
     output = sym (append-nil old.1);
     number = refl;
@@ -80,7 +80,7 @@ module _ {T : Type 0} (IsReply : Peer → List T → List T → List ℕ → Lis
   }
 
   -- one datagram more is answered
-  pub exchanged_more : (start seen later : List T) (old mid new : List Datagram × List Datagram) (faults done before more : ℕ) → Exchanged IsReply addresses start old faults done seen mid before → TurnMade IsReply addresses seen mid before later new more
+  pub exchanged_more : (start seen later : Learned T) (old mid new : List Datagram × List Datagram) (faults done before more : ℕ) → Exchanged IsReply addresses start old faults done seen mid before → TurnMade IsReply addresses seen mid before later new more
       → Exchanged IsReply addresses start old faults (done + 1) later new more
   exchanged_more start seen later old mid new faults done before more s t =
       let one : List Datagram = (t.request, t.from) ∷ [] in
@@ -92,22 +92,22 @@ module _ {T : Type 0} (IsReply : Peer → List T → List T → List ℕ → Lis
         datagrams = s.datagrams ++ t.datagrams;
         failed = s.failed + t.failed;
         last = later;
-        exchanges = next s.exchanges (begins_more s.last seen t.before s.grown t.begun) t.grows t.asks t.reply t.sent refl refl refl;
-        grown = begins_itself later;
+        exchanges = next s.exchanges (grows_more s.last seen t.before s.grown t.begun) t.grows t.asks t.reply t.sent refl refl refl;
+        grown = grows_itself later;
         input = s.input ∙ ap (λ l. s.received ++ l) t.input ∙ sym (append_assoc s.received one new.0);
         output = t.output ∙ ap (λ l. l ++ t.datagrams) s.output ∙ append_assoc old.1 s.datagrams t.datagrams;
         number = omega (arith, long, number, only);
         counted = count_more faults s.failed t.failed before more s.counted t.counted;
       }
 
-  exchanged_seen : (start seen later : List T) (old new : List Datagram × List Datagram) (faults done more : ℕ) → Exchanged IsReply addresses start old faults done seen new more → BeginsWith later seen → Exchanged IsReply addresses start old faults done later new more
+  exchanged_seen : (start seen later : Learned T) (old new : List Datagram × List Datagram) (faults done more : ℕ) → Exchanged IsReply addresses start old faults done seen new more → Grows later seen → Exchanged IsReply addresses start old faults done later new more
   exchanged_seen start seen later old new faults done more s grows = record {
     received = s.received;
     datagrams = s.datagrams;
     failed = s.failed;
     last = s.last;
     exchanges = s.exchanges;
-    grown = begins_more s.last seen later s.grown grows;
+    grown = grows_more s.last seen later s.grown grows;
     input = s.input;
     output = s.output;
     number = s.number;
@@ -115,43 +115,43 @@ module _ {T : Type 0} (IsReply : Peer → List T → List T → List ℕ → Lis
   }
 
   -- what is known once some datagrams are answered, where they tell themselves
-  abbrev pub Known : List T → Option (List Datagram × List Datagram) → ℕ → ℕ → List T → Option (List Datagram × List Datagram) → ℕ → Type 0
+  abbrev pub Known : Learned T → Option (List Datagram × List Datagram) → ℕ → ℕ → Learned T → Option (List Datagram × List Datagram) → ℕ → Type 0
   Known start old faults done seen new more = IfSome old (λ o. (mid : List Datagram × List Datagram) × (new ≡ Some mid) × Exchanged IsReply addresses start o faults done seen mid more)
 
-  pub known_first : (start : List T) (old : Option (List Datagram × List Datagram)) (faults : ℕ) → Known start old faults 0 start old faults
+  pub known_first : (start : Learned T) (old : Option (List Datagram × List Datagram)) (faults : ℕ) → Known start old faults 0 start old faults
   known_first start None faults = tt
   known_first start (Some o) faults = (o, refl, exchanged_none start o faults)
 
-  pub known_more : (start seen later : List T) (a b c : Option (List Datagram × List Datagram)) (faults done before more : ℕ) → Known start a faults done seen b before → IfSome b (λ o. TurnsBy IsReply addresses None seen o before later c more)
+  pub known_more : (start seen later : Learned T) (a b c : Option (List Datagram × List Datagram)) (faults done before more : ℕ) → Known start a faults done seen b before → IfSome b (λ o. TurnsBy IsReply addresses None seen o before later c more)
       → Known start a faults (done + 1) later c more
   known_more start seen later None b c faults done before more known turns = tt
   known_more start seen later (Some o) b c faults done before more known turns =
       let t = subst (λ m. IfSome m (λ o. TurnsBy IsReply addresses None seen o before later c more)) known.1 turns in
       (t.0, t.1, exchanged_more start seen later o known.0 t.0 faults done before more known.2 t.2)
 
-  ends_by : (end : DatagramsEnd) (start seen later : List T) (old mid : List Datagram × List Datagram) (new : Option (List Datagram × List Datagram)) (faults done before more most : ℕ) → done < most
+  ends_by : (end : DatagramsEnd) (start seen later : Learned T) (old mid : List Datagram × List Datagram) (new : Option (List Datagram × List Datagram)) (faults done before more most : ℕ) → done < most
       → Exchanged IsReply addresses start old faults done seen mid before → TurnsBy IsReply addresses (Some end) seen mid before later new more → EndsBy IsReply addresses end start old faults most later new more
   ends_by Done start seen later old mid new faults done before more most small s t = absurd t
   ends_by Device start seen later old mid new faults done before more most small s t =
-      (mid, done, before, t.0, small, subst (λ (l : List T). Exchanged IsReply addresses start old faults done l mid before) (sym t.1) s, t.2)
+      (mid, done, before, t.0, small, subst (λ (l : Learned T). Exchanged IsReply addresses start old faults done l mid before) (sym t.1) s, t.2)
   ends_by Spent start seen later old mid new faults done before more most small s t =
       let got = subst (λ l. Exchanged IsReply addresses start old faults done later (l, mid.1) before) t.2.1 (exchanged_seen start seen later old mid faults done before s t.0) in
       ((t.2.0, mid.1), done, t.1, t.2.2, small, subst (λ (n : ℕ). Exchanged IsReply addresses start old faults done later (t.1 ∷ t.2.0, mid.1) n) (sym t.3) got)
 
-  pub known_ends : (end : DatagramsEnd) (start seen later : List T) (a b c : Option (List Datagram × List Datagram)) (faults done before more most : ℕ) → done < most → Known start a faults done seen b before
+  pub known_ends : (end : DatagramsEnd) (start seen later : Learned T) (a b c : Option (List Datagram × List Datagram)) (faults done before more most : ℕ) → done < most → Known start a faults done seen b before
       → IfSome b (λ o. TurnsBy IsReply addresses (Some end) seen o before later c more) → IfSome a (λ o. EndsBy IsReply addresses end start o faults most later c more)
   known_ends end start seen later None b c faults done before more most small known turns = tt
   known_ends end start seen later (Some o) b c faults done before more most small known turns =
       ends_by end start seen later o known.0 c faults done before more most small known.2 (subst (λ m. IfSome m (λ o. TurnsBy IsReply addresses (Some end) seen o before later c more)) known.1 turns)
 
   -- as many are answered as may be
-  pub known_done : (start seen : List T) (a b : Option (List Datagram × List Datagram)) (faults done more most : ℕ) → done ≡ most → Known start a faults done seen b more → IfSome a (λ o. EndsBy IsReply addresses Done start o faults most seen b more)
+  pub known_done : (start seen : Learned T) (a b : Option (List Datagram × List Datagram)) (faults done more most : ℕ) → done ≡ most → Known start a faults done seen b more → IfSome a (λ o. EndsBy IsReply addresses Done start o faults most seen b more)
   known_done start seen None b faults done more most all known = tt
   known_done start seen (Some o) b faults done more most all known =
       (known.0, known.1, subst (λ (n : ℕ). Exchanged IsReply addresses start o faults n seen known.0 more) all known.2)
 
   -- a datagram that is received and answered
-  pub turn_made : (seen before later : List T) (peer : Peer) (request : List ℕ) (from : SocketAddr) (a b c : Option (List Datagram × List Datagram)) (faults mid more : ℕ) → BeginsWith before seen → BeginsWith later before → IsPeer addresses Udp from peer → Receives a b (request, from) → mid ≡ faults
+  pub turn_made : (seen before later : Learned T) (peer : Peer) (request : List ℕ) (from : SocketAddr) (a b c : Option (List Datagram × List Datagram)) (faults mid more : ℕ) → Grows before seen → Grows later before → IsPeer addresses Udp from peer → Receives a b (request, from) → mid ≡ faults
       → RepliesTo IsReply peer before request from later b mid c more → IfSome a (λ o. TurnsBy IsReply addresses None seen o faults later c more)
   turn_made seen before later peer request from None b c faults mid more begun grows asks gives same r = tt
   turn_made seen before later peer request from (Some o) b c faults mid more begun grows asks gives same r =
@@ -178,13 +178,13 @@ module _ {T : Type 0} (IsReply : Peer → List T → List T → List ℕ → Lis
       )
 
   -- a datagram that is received and gets no reply, since no version can be loaded
-  pub turn_spent : (seen later : List T) (datagram : Datagram) (a b c : Option (List Datagram × List Datagram)) (faults mid more : ℕ) → BeginsWith later seen → Receives a b datagram → mid ≡ faults → c ≡ b → more ≡ mid
+  pub turn_spent : (seen later : Learned T) (datagram : Datagram) (a b c : Option (List Datagram × List Datagram)) (faults mid more : ℕ) → Grows later seen → Receives a b datagram → mid ≡ faults → c ≡ b → more ≡ mid
       → IfSome a (λ o. TurnsBy IsReply addresses (Some Spent) seen o faults later c more)
   turn_spent seen later datagram None b c faults mid more grows gives first same then = tt
   turn_spent seen later datagram (Some o) b c faults mid more grows gives first same then =
       (grows, datagram, subst (λ m. Receives (Some o) m datagram) (sym same) gives, then ∙ first)
 
   -- no datagram is received
-  pub turn_fails : (seen : List T) (a b : Option (List Datagram × List Datagram)) (faults more : ℕ) → b ≡ a → more ≡ count_of faults 1 → IfSome a (λ o. TurnsBy IsReply addresses (Some Device) seen o faults seen b more)
+  pub turn_fails : (seen : Learned T) (a b : Option (List Datagram × List Datagram)) (faults more : ℕ) → b ≡ a → more ≡ count_of faults 1 → IfSome a (λ o. TurnsBy IsReply addresses (Some Device) seen o faults seen b more)
   turn_fails seen None b faults more same counted = tt
   turn_fails seen (Some o) b faults more same counted = (same, refl, counted)

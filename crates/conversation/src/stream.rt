@@ -7,7 +7,7 @@ ghost use Rattle.conversation.specs.Octets.{messages_in};
 ghost use Rattle.conversation.specs.Datagrams.{by_datagram};
 ghost use Rattle.conversation.specs.Turns.{Replies, IsBrokenAs};
 ghost use Rattle.conversation.specs.declared.turn.Broken.{Broken as BrokenBy};
-ghost use Rattle.conversation.specs.Served.{BeginsWith, EndsAs};
+ghost use Rattle.conversation.specs.Served.{Learned, Grows, EndsAs};
 ghost use Rattle.serve_core.specs.declared.peer.Peer.{Peer as PeerAsking};
 ghost use Rattle.conversation.specs.declared.stream.StreamEnd.{StreamEnd as End};
 
@@ -32,21 +32,22 @@ pub enum StreamEnd {
     Spent,
 }
 
-/// Who answers requests. Contracts know of it which versions it has seen published, as far as it tells them, and what a reply to a request is.
+/// Who answers requests. Contracts know of it which versions it has seen published and buried, as far as it tells them, and what a reply
+/// to a request is.
 pub trait Answering {
-    /// Versions that are known to be published, the first one first.
-    ghost seen: { Self → List Version };
+    /// What is known of the versions: those published, and the numbers of those buried.
+    ghost seen: { Self → Learned Version };
 
     /// Who asks.
     ghost peer: { Self → PeerAsking };
 
-    /// What the messages of a reply to a request are, by who asks, by such versions before the reply, and by those when it is made.
-    ghost is_reply: { PeerAsking → List Version → List Version → List ℕ → List (List ℕ) → Type 0 };
+    /// What the messages of a reply to a request are, by who asks, by what is known before the reply, and by what is when it is made.
+    ghost is_reply: { PeerAsking → Learned Version → Learned Version → List ℕ → List (List ℕ) → Type 0 };
 
     /// Turns to another peer, who asks from an address.
     fn turn_to(&mut self, other: Peer, from: SocketAddr)
         ensures other { peer self.new ≡ other }
-        ensures grows { BeginsWith (seen self.new) (seen self.old) };
+        ensures grows { Grows (seen self.new) (seen self.old) };
 
     /// Answers a request that came as a datagram: writes the one message of the reply to the front of a buffer, and gives how many
     /// octets it has; None where there is no reply. [`Spent`] where no version can be loaded.
@@ -58,7 +59,7 @@ pub trait Answering {
     ) -> Result<Option<usize>, Spent>
         requires { message_limit ≤ length out.old }
         ensures same { peer self.new ≡ peer self.old }
-        ensures grows { BeginsWith (seen self.new) (seen self.old) }
+        ensures grows { Grows (seen self.new) (seen self.old) }
         ensures bound { IfOk result (λ len. IfSome len (λ n. (n ≤ message_limit) × (n ≤ length out.new))) }
         ensures reply { IfOk result (λ len. is_reply (by_datagram (peer self.old)) (seen self.old) (seen self.new) request.now (messages_in len out.new)) };
 
@@ -76,7 +77,7 @@ pub trait Answering {
         requires reply_room { message_limit ≤ length out.old }
         requires frame_room { message_limit + 2 ≤ length frame.old }
         ensures peer { peer self.new ≡ peer self.old }
-        ensures grows { BeginsWith (seen self.new) (seen self.old) }
+        ensures grows { Grows (seen self.new) (seen self.old) }
         ensures replied { OnOk result (Replies (is_reply (peer self.old)) (seen self.old) request.now (seen self.new) (S.octets stream.old.inner) (S.octets stream.new.inner)) }
         ensures broken { IfErr result (λ broken. IsBrokenAs (is_reply (peer self.old)) broken (seen self.old) request.now (seen self.new) (S.octets stream.old.inner) (S.octets stream.new.inner)) }
         ensures same { OnOk result (stream.new.faults ≡ stream.old.faults) }
@@ -100,7 +101,7 @@ pub fn serve_stream<R: Wait, A: Answering, S: Stream, G: Gate>(
     requires reply_room { message_limit ≤ length out.old }
     requires frame_room { message_limit + 2 ≤ length frame.old }
     ensures served { IfSome (S.octets stream.old.inner) (λ o. EndsAs (A.is_reply (A.peer answering.old)) result (A.seen answering.old) o (A.seen answering.new) (S.octets stream.new.inner)) }
-    ensures grows { BeginsWith (A.seen answering.new) (A.seen answering.old) }
+    ensures grows { Grows (A.seen answering.new) (A.seen answering.old) }
     ensures device { result ≡ End.Device → stream.old.faults < stream.new.faults }
 {
     for _ in rt.forever() {

@@ -3,7 +3,7 @@ ghost use Rattle.std.specs.Prelude.{◌≡◌, ◌+◌, ◌-◌, ◌^◌, ◌<�
 ghost use Rattle.conversation.specs.Octets.{Takes};
 ghost use Rattle.dns_message.specs.Frame.{frame_of};
 ghost use Rattle.dns_message.specs.Message.{message_limit};
-ghost use Rattle.conversation.specs.Served.{BeginsWith};
+ghost use Rattle.conversation.specs.Served.{Grows};
 ghost use Rattle.conversation.specs.Turns.{TurnsAs, end_of};
 ghost use Rattle.conversation.specs.declared.turn.Broken.{Broken as BrokenBy};
 ghost use Rattle.conversation.specs.declared.stream.StreamEnd.{StreamEnd as End};
@@ -87,7 +87,7 @@ pub(crate) fn turn<R: Wait, A: Answering, S: Stream, G: Gate>(
     requires reply_room { message_limit ≤ length out.old }
     requires frame_room { message_limit + 2 ≤ length frame.old }
     ensures peer { A.peer answering.new ≡ A.peer answering.old }
-    ensures grows { BeginsWith (A.seen answering.new) (A.seen answering.old) }
+    ensures grows { Grows (A.seen answering.new) (A.seen answering.old) }
     ensures turns { IfSome (S.octets stream.old.inner) (λ o. TurnsAs (A.is_reply (A.peer answering.old)) result (A.seen answering.old) o (A.seen answering.new) (S.octets stream.new.inner)) }
     ensures same { result ≡ None → stream.new.faults ≡ stream.old.faults }
     ensures device { result ≡ Some End.Device → stream.old.faults < stream.new.faults }

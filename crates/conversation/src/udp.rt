@@ -1,7 +1,7 @@
 //! Requests as datagrams, answered one after another (RFC 1035, 4.2.1).
 ghost use Rattle.std.specs.Prelude.{◌≡◌, ◌≤◌, length, IfSome, OnOk, OnErr};
 ghost use Rattle.dns_message.specs.Message.{message_limit};
-ghost use Rattle.conversation.specs.Served.{BeginsWith};
+ghost use Rattle.conversation.specs.Served.{Grows};
 ghost use Rattle.conversation.specs.Exchanged.{RepliesTo, TurnsBy, EndsBy};
 ghost use Rattle.conversation.specs.Datagrams.{by_datagram};
 
@@ -36,7 +36,7 @@ fn reply<R: Wait, A: Answering, D: Datagrams>(
     out: &mut [u8],
 ) -> Result<(), Spent>
     requires { message_limit ≤ length out.old }
-    ensures grows { BeginsWith (A.seen answering.new) (A.seen answering.old) }
+    ensures grows { Grows (A.seen answering.new) (A.seen answering.old) }
     ensures replied { OnOk result (RepliesTo A.is_reply (by_datagram (A.peer answering.old)) (A.seen answering.old) request.now from (A.seen answering.new) (D.datagrams datagrams.old) (D.failed datagrams.old) (D.datagrams datagrams.new) (D.failed datagrams.new)) }
     ensures spent { OnErr result (D.datagrams datagrams.new ≡ D.datagrams datagrams.old) }
     ensures same { OnErr result (D.failed datagrams.new ≡ D.failed datagrams.old) }
@@ -63,7 +63,7 @@ fn turn<R: Wait, A: Answering, D: Datagrams, G: Gate>(
 ) -> Option<DatagramsEnd>
     requires request_room { message_limit ≤ length request.old }
     requires reply_room { message_limit ≤ length out.old }
-    ensures grows { BeginsWith (A.seen answering.new) (A.seen answering.old) }
+    ensures grows { Grows (A.seen answering.new) (A.seen answering.old) }
     ensures turns { IfSome (D.datagrams datagrams.old) (λ o. TurnsBy A.is_reply allowed.entry.addresses.now result (A.seen answering.old) o (D.failed datagrams.old) (A.seen answering.new) (D.datagrams datagrams.new) (D.failed datagrams.new)) }
 {
     let Some((len, from)) = datagrams.receive(request) else {
@@ -95,7 +95,7 @@ pub fn serve_udp<R: Wait, A: Answering, D: Datagrams, G: Gate>(
 ) -> DatagramsEnd
     requires request_room { message_limit ≤ length request.old }
     requires reply_room { message_limit ≤ length out.old }
-    ensures grows { BeginsWith (A.seen answering.new) (A.seen answering.old) }
+    ensures grows { Grows (A.seen answering.new) (A.seen answering.old) }
     ensures answered { IfSome (D.datagrams datagrams.old) (λ o. EndsBy A.is_reply allowed.entry.addresses.now result (A.seen answering.old) o (D.failed datagrams.old) most (A.seen answering.new) (D.datagrams datagrams.new) (D.failed datagrams.new)) }
 {
     for _done in 0..most {

@@ -1,13 +1,15 @@
 //! The versions since the one that an asker holds (RFC 1995, 4).
-ghost use Rattle.std.specs.Prelude.{◌≡◌, ◌++◌, ◌∷◌, [], true, false, IfOk};
+ghost use Rattle.std.specs.Prelude.{◌≡◌, ◌++◌, ◌∷◌, [], true, false, IfOk, OnErr};
 ghost use Rattle.dns_engine.specs.Chain.{ChainState, IsCopied};
 ghost use Rattle.dns_engine.specs.Owned.{versions_of};
+ghost use Rattle.weak_history.specs.declared.chain.Chain.TheVariants.{Spent as WantsGrant};
 
 use crate::copies::Copies;
 use crate::shared::SharedVersion;
 use crate::versions::{FirstZone, ZoneVersions};
 use snapshot_cell::{Naming, Spent};
 use std::marker::Model;
+use std::sync::Wait;
 use transfer_core::{ChainView, VersionList};
 use weak_history::{Chain, Owners};
 use zone_tree::Version;
@@ -40,10 +42,11 @@ impl VersionChain {
     }
 
     /// The versions of owners, which are given up.
-    fn whole<Z: FirstZone, N: Naming>(
+    fn whole<R: Wait, Z: FirstZone, N: Naming>(
+        rt: &R,
         owners: Owners<'_, SharedVersion, ZoneVersions<Z>, N>,
-    ) -> Result<VersionChain, Spent>
-        ensures { IfOk result (λ chain. chain ≡ record { whole = true; versions = versions_of owners.entry }) }
+    ) -> VersionChain
+        ensures { result ≡ record { whole = true; versions = versions_of owners.entry } }
     {
         let mut left = owners;
         let mut versions = Copies::new();
@@ -51,22 +54,24 @@ impl VersionChain {
             let Some(owner) = left.take_first() else {
                 unreachable!()
             };
-            versions.push(owner.get().share()?);
+            versions.push(owner.get().share(rt));
         }
-        Ok(VersionChain {
+        VersionChain {
             whole: true,
             versions,
-        })
+        }
     }
 
-    /// What a history tells, owned beside the cell. [`Spent`] where a grant was wanted for it, or a version can't be shared.
-    pub fn of<Z: FirstZone, N: Naming>(
+    /// What a history tells, owned beside the cell. [`Spent`] where a grant was wanted for it, and nowhere else.
+    pub fn of<R: Wait, Z: FirstZone, N: Naming>(
+        rt: &R,
         told: Chain<'_, SharedVersion, ZoneVersions<Z>, N>,
     ) -> Result<VersionChain, Spent>
-        ensures { IfOk result (λ chain. IsCopied told.entry chain) }
+        ensures copied { IfOk result (λ chain. IsCopied told.entry chain) }
+        ensures spent { OnErr result (told.entry ≡ WantsGrant) }
     {
         match told {
-            Chain::Whole(owners) => VersionChain::whole(owners),
+            Chain::Whole(owners) => Ok(VersionChain::whole(rt, owners)),
             Chain::Gone(_) => Ok(VersionChain::none()),
             Chain::Unknown => Ok(VersionChain::none()),
             Chain::Spent => Err(Spent),

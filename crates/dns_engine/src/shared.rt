@@ -1,10 +1,9 @@
 //! Versions that several own.
-ghost use Rattle.std.specs.Prelude.{◌≡◌, IfSome, IfOk};
+ghost use Rattle.std.specs.Prelude.{◌≡◌, IfSome};
 
-use snapshot_cell::Spent;
 use std::alloc::Global;
 use std::marker::Model;
-use std::sync::Arc;
+use std::sync::{Arc, Wait};
 use zone_tree::Version;
 
 /// A version that several own. Contracts see the version.
@@ -37,11 +36,16 @@ impl SharedVersion {
         &self.version
     }
 
-    /// One owner more of the version. [`Spent`] where its count of owners is full. It waits for nobody.
-    pub fn share(&self) -> Result<SharedVersion, Spent>
-        ensures { IfOk result (λ shared. shared ≡ self.now) }
+    /// One owner more of the version. Its count of owners is full at 2^63 - 1 of them, which no memory holds: it would wait there until
+    /// one is given up.
+    pub fn share<R: Wait>(&self, rt: &R) -> SharedVersion
+        ensures { result ≡ self.now }
     {
-        let version = self.version.clone().ok().ok_or(Spent)?;
-        Ok(SharedVersion { version })
+        for _ in rt.forever() {
+            if let Ok(version) = self.version.clone() {
+                return SharedVersion { version };
+            }
+        }
+        unreachable!()
     }
 }

@@ -56,18 +56,18 @@ struct Noting<'a> {
 }
 
 impl Answering for Noting<'_> {
-    ghost seen = { λ _. [] };
+    ghost seen = { λ _. record { published = []; buried = [] } };
 
     ghost peer = { λ noting. noting.peer };
 
     ghost is_reply = { λ _ _ _ _ _. Unit {0} };
 
-    #[tactic(auto, using(conversation::proofs::TurnLemmas::begins_itself))]
+    #[tactic(auto, using(conversation::proofs::TurnLemmas::grows_itself))]
     fn turn_to(&mut self, other: Peer, _from: SocketAddr) {
         self.peer = other;
     }
 
-    #[tactic(auto, using(conversation::proofs::TurnLemmas::begins_itself))]
+    #[tactic(auto, using(conversation::proofs::TurnLemmas::grows_itself))]
     fn answer<R: Wait>(
         &mut self,
         _rt: &R,
@@ -78,7 +78,7 @@ impl Answering for Noting<'_> {
         Ok(None)
     }
 
-    #[tactic(auto, using(conversation::proofs::TurnLemmas::begins_itself))]
+    #[tactic(auto, using(conversation::proofs::TurnLemmas::grows_itself))]
     fn answer_on<R: Wait, S: Stream>(
         &mut self,
         _rt: &R,

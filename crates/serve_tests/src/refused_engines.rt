@@ -45,14 +45,15 @@ fn sent_anew<'a, Z: FirstZone, N: Naming>(
 }
 
 /// Whether the engine's history tells what changed since the first version.
-fn tells_the_change<'a, Z: FirstZone, N: Naming>(
+fn tells_the_change<'a, R: Wait, Z: FirstZone, N: Naming>(
+    rt: &R,
     cell: &VersionCell<Z, N>,
     engine: &mut Engine<'a, Z, N>,
     reader: &mut VersionReader<N>,
 ) -> bool {
     engine.meet(cell, reader);
     let told = engine.chain(Serial(1), 1, reader);
-    match VersionChain::of(told) {
+    match VersionChain::of(rt, told) {
         Ok(chain) => engine.number() == 1 && chain.is_whole() && chain.len() == 1,
         Err(_) => false,
     }
@@ -73,7 +74,8 @@ fn engine_anew<'a, Z: FirstZone, N: Naming>(
 }
 
 /// Whether an engine publishes the update.
-fn publishes<'a, Z: FirstZone, N: Naming>(
+fn publishes<'a, R: Wait, Z: FirstZone, N: Naming>(
+    rt: &R,
     alloc: Global,
     cell: &'a VersionCell<Z, N>,
     engine: &mut Engine<'a, Z, N>,
@@ -82,7 +84,7 @@ fn publishes<'a, Z: FirstZone, N: Naming>(
     let update = update_anew(alloc)?;
     let code = sent_anew(alloc, cell, engine, &update);
     let mut reader = readers.pop()?;
-    let told = code == Rcode::NoError && tells_the_change(cell, engine, &mut reader);
+    let told = code == Rcode::NoError && tells_the_change(rt, cell, engine, &mut reader);
     let _ = readers.push(reader);
     Some(told)
 }
@@ -93,7 +95,7 @@ struct UpdateAnew;
 impl Play for UpdateAnew {
     fn play<R: Wait, Z: FirstZone, N: Naming>(
         &self,
-        _rt: &R,
+        rt: &R,
         alloc: Global,
         cell: &VersionCell<Z, N>,
         publisher: VersionPublisher<Z, N>,
@@ -108,7 +110,7 @@ impl Play for UpdateAnew {
         };
         let (told, publisher, reader) = match engine_anew(cell, publisher, reader) {
             Ok(mut engine) => {
-                let told = publishes(alloc, cell, &mut engine, &mut readers);
+                let told = publishes(rt, alloc, cell, &mut engine, &mut readers);
                 let (publisher, reader) = engine.finish();
                 (told, publisher, reader)
             }

@@ -4,6 +4,7 @@ use Rattle.std.specs.declared.net.ip_addr.IpAddr.{IpAddr}
 use Rattle.serve_core.specs.declared.peer.Peer.{Peer}
 use Rattle.conversation.specs.Datagrams.{Datagram}
 use Rattle.conversation.specs.Exchanged.{EndsBy}
+use Rattle.conversation.specs.Served.{Learned}
 use Rattle.conversation.specs.declared.udp.DatagramsEnd.{DatagramsEnd}
 use Rattle.conversation.specs.declared.udp.DatagramsEnd.TheVariants.{Done, Device, Spent}
 use Rattle.zone_service.specs.declared.service_log.JobEnd.{JobEnd}
@@ -17,7 +18,7 @@ job_end Spent most = IsSpent
 
 -- a job's datagrams are answered, so many at most, each as its peer's by the addresses that may update and transfer; and its end is told
 -- (RFC 1035, 4.2.1)
-abbrev pub JobEndsBy : {T : Type 0} → (Peer → List T → List T → List ℕ → List (List ℕ) → Type 0) → List IpAddr → JobEnd
-    → List T → List Datagram × List Datagram → ℕ → ℕ → List T → Option (List Datagram × List Datagram) → ℕ → Type 0
+abbrev pub JobEndsBy : {T : Type 0} → (Peer → Learned T → Learned T → List ℕ → List (List ℕ) → Type 0) → List IpAddr → JobEnd
+    → Learned T → List Datagram × List Datagram → ℕ → ℕ → Learned T → Option (List Datagram × List Datagram) → ℕ → Type 0
 JobEndsBy IsReply addresses told start old faults most seen new more =
     (end : DatagramsEnd) × (told ≡ job_end end most) × EndsBy IsReply addresses end start old faults most seen new more

@@ -1,7 +1,7 @@
 //! Requests on connections, answered one after another (RFC 1035, 4.2.2).
 ghost use Rattle.std.specs.Prelude.{◌≡◌, ◌-◌, ◌^◌, ◌<◌, IfSome};
 ghost use Rattle.std.specs.IoError.{raw_os_error};
-ghost use Rattle.conversation.specs.Served.{BeginsWith};
+ghost use Rattle.conversation.specs.Served.{Grows};
 ghost use Rattle.serve_workers.specs.Refused.{refused_as};
 ghost use Rattle.serve_workers.specs.ServedFor.{IsServedFor};
 
@@ -57,7 +57,7 @@ fn serve_peer<R: Wait, A: Answering, S: Stream, G: Gate>(
     scratch: &mut Scratch,
 ) -> StreamEnd
     requires { stream.old.faults < 2 ^ 64 - 1 }
-    ensures grows { BeginsWith (A.seen answering.new) (A.seen answering.old) }
+    ensures grows { Grows (A.seen answering.new) (A.seen answering.old) }
     ensures served { IfSome (S.octets stream.old.inner) (λ o. IsServedFor A.is_reply allowed.entry.addresses.now from result (A.seen answering.old) o (A.seen answering.new) (S.octets stream.new.inner)) }
 {
     answering.turn_to(allowed.peer(from, Transport::Tcp), from);
@@ -158,7 +158,7 @@ impl<'a, L: Listener, C: Clock> TcpJob<'a, L, C> {
     ) -> (StreamEnd, L::Connected)
         requires from { L.comes accepted.0 accepted.1 }
         ensures served { IfSome (L.Connected.octets accepted.0) (λ o. IsServedFor A.is_reply self.old.allowed.addresses.now accepted.1 result.0 (A.seen answering.old) o (A.seen answering.new) (L.Connected.octets result.1)) }
-        ensures grows { BeginsWith (A.seen answering.new) (A.seen answering.old) }
+        ensures grows { Grows (A.seen answering.new) (A.seen answering.old) }
         ensures number { self.new.number ≡ self.old.number }
     {
         let (stream, from) = accepted;
@@ -170,6 +170,7 @@ impl<'a, L: Listener, C: Clock> TcpJob<'a, L, C> {
     }
 
     /// Serves the connections that come, so many, those that have failed already among them; fewer where the listener is broken.
+    #[tactic(auto, using(conversation::proofs::TurnLemmas::grows_itself))]
     fn serve_all<R: Wait, A: Answering, G: Gate, O: ServiceLog>(
         &mut self,
         rt: &R,
@@ -178,15 +179,16 @@ impl<'a, L: Listener, C: Clock> TcpJob<'a, L, C> {
         log: &O,
     ) -> JobEnd
         ensures number { self.new.number ≡ self.old.number }
-        ensures grows { BeginsWith (A.seen answering.new) (A.seen answering.old) }
+        ensures grows { Grows (A.seen answering.new) (A.seen answering.old) }
     {
         for _ in 0..self.most {
             let Some((stream, from)) = self.accept(rt, log) else {
                 return JobEnd::Device;
             };
-            if let Some(stream) = stream {
-                let _ = self.serve(rt, answering, (stream, from), gate);
-            }
+            let Some(stream) = stream else {
+                continue;
+            };
+            let _ = self.serve(rt, answering, (stream, from), gate);
         }
         JobEnd::Done(self.most)
     }

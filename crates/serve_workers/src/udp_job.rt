@@ -1,7 +1,7 @@
 //! Workers that take datagrams (RFC 1035, 4.2.1).
 ghost use Rattle.std.specs.Prelude.{◌≡◌, Some, IfSome};
 ghost use Rattle.zone_service.specs.declared.service_log.JobEnd.{JobEnd as EndOfJob};
-ghost use Rattle.conversation.specs.Served.{BeginsWith};
+ghost use Rattle.conversation.specs.Served.{Grows};
 ghost use Rattle.serve_workers.specs.Ended.{job_end, JobEndsBy};
 
 use crate::scratch::Scratch;
@@ -72,7 +72,7 @@ impl<'a, D: Datagrams> UdpJob<'a, D> {
         gate: &G,
     ) -> JobEnd
         ensures served { IfSome (D.datagrams self.old.datagrams) (λ o. JobEndsBy A.is_reply self.old.allowed.addresses.now result (A.seen answering.old) o (D.failed self.old.datagrams) self.old.most (A.seen answering.new) (D.datagrams self.new.datagrams) (D.failed self.new.datagrams)) }
-        ensures grows { BeginsWith (A.seen answering.new) (A.seen answering.old) }
+        ensures grows { Grows (A.seen answering.new) (A.seen answering.old) }
         ensures end { self.new.end ≡ Some result }
         ensures same { self.new.number ≡ self.old.number }
     {
@@ -104,7 +104,7 @@ impl<D: Datagrams + Send + Drop> Job for UdpJob<'_, D> {
         log: &L,
     )
         ensures served { IfSome (D.datagrams self.old.datagrams) (λ o. (end : EndOfJob) × (self.new.end ≡ Some end) × JobEndsBy A.is_reply self.old.allowed.addresses.now end (A.seen answering.old) o (D.failed self.old.datagrams) self.old.most (A.seen answering.new) (D.datagrams self.new.datagrams) (D.failed self.new.datagrams)) }
-        ensures grows { BeginsWith (A.seen answering.new) (A.seen answering.old) }
+        ensures grows { Grows (A.seen answering.new) (A.seen answering.old) }
         ensures number { self.new.number ≡ self.old.number }
     {
         let end = self.serve(rt, answering, gate);

@@ -1,7 +1,7 @@
 //! Workers: jobs, each on a thread of its own.
 ghost use Rattle.std.specs.Prelude.{◌≡◌, ℕ, ◌≤◌, false, [], List, All, map, vec_len, vec_capacity, IfOk, IfErr, MatchResult};
 ghost use Rattle.zone_tree.specs.Version.{Version};
-ghost use Rattle.conversation.specs.Served.{BeginsWith};
+ghost use Rattle.conversation.specs.Served.{BeginsWith, Grows};
 ghost use Rattle.serve_workers.specs.GivenBack.{Each, IsReturned};
 
 use conversation::{Answering, Gate};
@@ -30,7 +30,7 @@ pub trait Job: Send + Drop {
         log: &L,
     )
         ensures number { number self.new ≡ number self.old }
-        ensures grows { BeginsWith (A.seen answering.new) (A.seen answering.old) };
+        ensures grows { Grows (A.seen answering.new) (A.seen answering.old) };
 }
 
 /// Not all jobs could be started, since a thread was refused, or there was no memory to keep track of them: the pairs come back, and

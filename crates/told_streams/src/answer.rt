@@ -1,7 +1,7 @@
 //! The requests that lie in memory, answered.
 ghost use Rattle.std.specs.Prelude.{◌+◌, ◌≤◌, length, Some};
 ghost use Rattle.dns_message.specs.Message.{message_limit};
-ghost use Rattle.conversation.specs.Served.{BeginsWith, EndsAs};
+ghost use Rattle.conversation.specs.Served.{EndsAs, Grows};
 ghost use Rattle.conversation.specs.Exchanged.{EndsBy};
 ghost use Rattle.told_streams.specs.Tape.{told as tape_told};
 ghost use Rattle.told_streams.specs.Tray.{told as tray_told};
@@ -15,7 +15,7 @@ use std::sync::Wait;
 
 /// Answers the requests of a tape one after another, until it ends, and gives how it has ended, and the tape. What is written on it behind
 /// what was is the frames of the replies, in the order of the requests: where it ends by itself all of them, and nothing is left to be
-/// read; else a beginning of them (RFC 1035, 4.2.2). What is then known to be published begins with what was.
+/// read; else a beginning of them (RFC 1035, 4.2.2). Nothing that was known is forgotten.
 pub fn answer_tape<R: Wait, A: Answering, G: Gate>(
     rt: &R,
     answering: &mut A,
@@ -29,7 +29,7 @@ pub fn answer_tape<R: Wait, A: Answering, G: Gate>(
     requires reply_room { message_limit ≤ length out.old }
     requires frame_room { message_limit + 2 ≤ length frame.old }
     ensures ends { EndsAs (A.is_reply (A.peer answering.old)) result.0 (A.seen answering.old) (tape_told tape) (A.seen answering.new) (Some (tape_told result.1)) }
-    ensures grows { BeginsWith (A.seen answering.new) (A.seen answering.old) }
+    ensures grows { Grows (A.seen answering.new) (A.seen answering.old) }
 {
     let mut stream = Counted::new(tape);
     let end = serve_stream(rt, answering, &mut stream, gate, request, out, frame);
@@ -38,7 +38,7 @@ pub fn answer_tape<R: Wait, A: Answering, G: Gate>(
 
 /// Answers the datagrams of a tray one after another, so many at most, and gives how that has ended, and the tray. What is sent is the
 /// replies in the order of the requests, each to who asked, who may update and transfer by its own address; but for those that fail to
-/// be sent, which are counted (RFC 1035, 4.2.1). What is then known to be published begins with what was.
+/// be sent, which are counted (RFC 1035, 4.2.1). Nothing that was known is forgotten.
 pub fn answer_tray<R: Wait, A: Answering, G: Gate>(
     rt: &R,
     answering: &mut A,
@@ -52,7 +52,7 @@ pub fn answer_tray<R: Wait, A: Answering, G: Gate>(
     requires request_room { message_limit ≤ length request.old }
     requires reply_room { message_limit ≤ length out.old }
     ensures ends { EndsBy A.is_reply allowed.entry.addresses.now result.0 (A.seen answering.old) (tray_told tray) tray.faults most (A.seen answering.new) (Some (tray_told result.1)) result.1.faults }
-    ensures grows { BeginsWith (A.seen answering.new) (A.seen answering.old) }
+    ensures grows { Grows (A.seen answering.new) (A.seen answering.old) }
 {
     let mut tray = tray;
     let end = serve_udp(rt, answering, &mut tray, allowed, most, gate, request, out);

@@ -24,9 +24,10 @@ use Rattle.dns_engine.specs.Entries.{entries_of}
 use Rattle.dns_engine.specs.Chain.{ChainState, IsPublished, TellsSince, changes_told, changes_by, IsCopied, HasBroken}
 use Rattle.dns_engine.proofs.ChainLemmas.{IsBehind, run_of, versions_entered, told_unknown, told_behind, told_gone, found_behind}
 use Rattle.serve_core.specs.Transfers.{is_current, list_for}
-use Rattle.conversation.specs.Served.{BeginsWith}
-use Rattle.zone_service.specs.Known.{MeetsAndAsks}
+use Rattle.conversation.specs.Served.{Grows, EndsWith}
+use Rattle.zone_service.specs.Known.{learned_by, HasTooFew, MeetsAndAsks}
 use Rattle.zone_service.specs.Replied.{TellsBy, IsChained}
+use Rattle.conversation.proofs.TurnLemmas.{grows_itself}
 
 -- who holds the served version's serial gets its SOA alone
 list_current : (zone : List Record) (a b : Option (List Record)) (query : QueryAsked) (serial : Serial) → query.serial ≡ Some serial → zone_serial zone ≡ serial.0 → list_for zone a query ≡ list_for zone b query
@@ -42,6 +43,15 @@ owned_seen entries before after owners o = ap (λ (r : ReaderState Version). r.s
 sunk_seen : (before after : ReaderState Version) (version : Numbered Version) → IsUpgraded before after version None → after.seen ≡ before.seen
 sunk_seen before after version (inl is) = ap (λ (r : ReaderState Version). r.seen) is
 sunk_seen before after version (inr is) = ap (λ (r : ReaderState Version). r.seen) is
+
+-- nor any number more buried
+owned_gone : (entries : List (Entered Version)) (before after : ReaderState Version) (owners : List (Numbered Version)) → AreOwned entries before after owners → EndsWith after.gone before.gone
+owned_gone entries before after owners o = ([], ap (λ (r : ReaderState Version). r.gone) o.spent)
+
+-- who is given none has seen a number more buried
+sunk_gone : (before after : ReaderState Version) (version : Numbered Version) → IsUpgraded before after version None → EndsWith after.gone before.gone
+sunk_gone before after version (inl is) = (version.number ∷ [], ap (λ (r : ReaderState Version). r.gone) is)
+sunk_gone before after version (inr is) = (version.number ∷ [], ap (λ (r : ReaderState Version). r.gone) is)
 
 no_rest : {X : Type 0} (front : List X) (x : X) (rest : List X) → [] ≡ front ++ x ∷ rest → ⊥
 no_rest [] x rest e = cc
@@ -59,11 +69,11 @@ module _ (first : List Record) (query : QueryAsked) (serial : Serial) (version :
   here = record { before = latest.before; newer = begun.0; history = history; place = place; number = latest.number }
 
   -- what is told, once the reader has seen what is published
-  told_by : (after : ReaderState Version) (chain : ChainState) (changes : Option (List Record)) → after.seen ≡ published
+  told_by : (after : ReaderState Version) (chain : ChainState) (changes : Option (List Record)) → after.seen ≡ published → EndsWith after.gone before.gone
       → (changes ≡ changes_told (latest.before ++ version ∷ []) begun.0 query.serial) ⊎ ((own : Serial) × (query.serial ≡ Some own) × (changes ≡ None) × HasBroken (latest.before ++ version ∷ []) begun.0 version.number own.0 after.gone)
       → list_for version.zone (changes_by (soa_of version.zone) chain) query ≡ list_for version.zone changes query → TellsBy first query version before after chain
-  told_by after chain changes saw tells list = record {
-    grown = (begun.0, saw ∙ sym begun.1);
+  told_by after chain changes saw sunk tells list = record {
+    grown = record { published = (begun.0, saw ∙ sym begun.1); buried = sunk };
     changes = changes;
     told = subst (λ (l : List Version). TellsSince first l after.gone version query.serial changes) (sym saw) (record { here = here; told = tells });
     list = list;
@@ -79,19 +89,19 @@ module _ (first : List Record) (query : QueryAsked) (serial : Serial) (version :
       → TellsBy first query version before after chain
   whole_tells after owners chain later owned copied (inl current) =
       let changes = changes_told (latest.before ++ version ∷ []) begun.0 query.serial in
-      told_by after chain changes (owned_seen later met after owners owned) (inl refl) (list_current version.zone (changes_by (soa_of version.zone) chain) changes query serial asks current.0)
+      told_by after chain changes (owned_seen later met after owners owned) (owned_gone later met after owners owned) (inl refl) (list_current version.zone (changes_by (soa_of version.zone) chain) changes query serial asks current.0)
   whole_tells after owners chain later owned copied (inr b) =
       let versions : versions_of owners ≡ b.behind = ap versions_of (owned.versions ∙ ap versions_in b.entries) ∙ versions_entered b.behind in
       let by : changes_by (soa_of version.zone) chain ≡ Some (told (soa_of version.zone) b.behind) =
       ap (changes_by (soa_of version.zone)) copied ∙ ap (λ (l : List Version). Some (told (soa_of version.zone) l)) versions in
-      told_by after chain (Some (told (soa_of version.zone) b.behind)) (owned_seen later met after owners owned)
+      told_by after chain (Some (told (soa_of version.zone) b.behind)) (owned_seen later met after owners owned) (owned_gone later met after owners owned)
       (inl (sym (ap (changes_told (latest.before ++ version ∷ []) begun.0) asks ∙ told_behind first published latest.before begun.0 version history place latest.number serial.0 later b)))
       (ap (λ (c : Option (List Record)). list_for version.zone c query) by)
 
   gone_tells : (after : ReaderState Version) (number : ℕ) (chain : ChainState) (later : List (Entered Version)) → HasGone later met after number → chain ≡ record { whole = false; versions = [] } → IsAfter later → TellsBy first query version before after chain
   gone_tells after number chain later gone copied (inl current) = absurd (no_rest gone.front gone.entry gone.rest (sym current.1 ∙ gone.split))
   gone_tells after number chain later gone copied (inr b) =
-      told_by after chain None (sunk_seen (less (length gone.front) met) after gone.entry.version gone.sunk)
+      told_by after chain None (sunk_seen (less (length gone.front) met) after gone.entry.version gone.sunk) (sunk_gone (less (length gone.front) met) after gone.entry.version gone.sunk)
       (inr (serial, asks, refl, told_gone first published latest.before begun.0 version history place latest.number serial.0 later b met after number gone)) (none_list chain copied)
 
   pub chain_tells : {C N : Type 0} (after : ReaderState Version) (asked : Chain Version C N) (chain : ChainState) → IsChain (entries_of published) serial.0 version.number met after asked → IsCopied asked chain → TellsBy first query version before after chain
@@ -100,14 +110,14 @@ module _ (first : List Record) (query : QueryAsked) (serial : Serial) (version :
   chain_tells after (Gone number) chain is copied =
       gone_tells after number chain is.0 is.2 copied (found_behind first published latest.before begun.0 version history place latest.number serial.0 is.0 is.1)
   chain_tells after Unknown chain is copied =
-      told_by after chain None (ap (λ (r : ReaderState Version). r.seen) is.1)
+      told_by after chain None (ap (λ (r : ReaderState Version). r.seen) is.1) ([], ap (λ (r : ReaderState Version). r.gone) is.1)
       (inl (sym (ap (changes_told (latest.before ++ version ∷ []) begun.0) asks ∙ told_unknown first published latest.before begun.0 version history place latest.number serial.0 is.0))) (none_list chain copied)
   chain_tells after Spent chain is copied = absurd copied
 
 -- an asker that tells no serial is told nothing
 pub none_tells : (first : List Record) (query : QueryAsked) (version : Version) (reader : ReaderState Version) (chain : ChainState) → query.serial ≡ None → IsLatest first reader.seen version → chain ≡ record { whole = false; versions = [] } → TellsBy first query version reader reader chain
 none_tells first query version reader chain none latest copied = record {
-  grown = ([], sym (append-nil reader.seen));
+  grown = grows_itself (learned_by reader);
   changes = None;
   told = record {
     here = record { before = latest.before; newer = []; history = latest.history; place = latest.ends ∙ sym (append-nil (latest.before ++ version ∷ [])); number = latest.number };
@@ -115,13 +125,6 @@ none_tells first query version reader chain none latest copied = record {
   };
   list = ap (λ (c : ChainState). list_for version.zone (changes_by (soa_of version.zone) c) query) copied;
 }
-
--- who has met what is published has seen what one had seen
-pub chain_grows : {C N : Type 0} (first : List Record) (serial number : ℕ) (before after : ReaderState Version) (asked : Chain Version C N) → MeetsAndAsks first serial number before after asked → BeginsWith after.seen before.seen
-chain_grows first serial number before after (Whole owners) m = (m.2.0, owned_seen m.3.0 (record before { seen = m.0 }) after owners m.3.2 ∙ sym m.2.1)
-chain_grows first serial number before after (Gone gone) m = (m.2.0, sunk_seen (less (length m.3.2.front) (record before { seen = m.0 })) after m.3.2.entry.version m.3.2.sunk ∙ sym m.2.1)
-chain_grows first serial number before after Unknown m = (m.2.0, ap (λ (r : ReaderState Version). r.seen) m.3.1 ∙ sym m.2.1)
-chain_grows first serial number before after Spent m = (m.2.0, ap (λ (r : ReaderState Version). r.seen) m.3.2.spent ∙ sym m.2.1)
 
 -- a chain for an IXFR
 pub chained_of : {C N E : Type 0} (result : Result ChainState E) (first : List Record) (query : QueryAsked) (serial : Serial) (version : Version) (number : ℕ) (before after : ReaderState Version) (asked : Chain Version C N) → query.serial ≡ Some serial → (query.question.rtype.0 == type_IXFR) ≡ true
@@ -136,6 +139,20 @@ chained_of (Ok chain) first query serial version number before after asked asks 
     no_both b is other = cc
 chained_of (Err e) first query serial version number before after asked asks ixfr latest same m copied = tt
 
-pub whatever : {T E P : Type 0} (result : Result T E) → P → OnErr result P
-whatever (Ok x) p = tt
-whatever (Err e) p = p
+-- and where grants are wanted for it
+pub few_of : {C N E T : Type 0} (result : Result T E) (first : List Record) (query : QueryAsked) (serial : Serial) (version : Version) (number : ℕ) (before after : ReaderState Version) (asked : Chain Version C N) → query.serial ≡ Some serial → (query.question.rtype.0 == type_IXFR) ≡ true
+    → number ≡ version.number → MeetsAndAsks first serial.0 number before after asked → OnErr result (asked ≡ Spent) → OnErr result (HasTooFew first query version before after)
+few_of (Ok chain) first query serial version number before after asked asks ixfr same m spent = tt
+few_of {C = C} {N = N} (Err e) first query serial version number before after asked asks ixfr same m spent =
+    let met = subst (λ (n : ℕ). MeetsAndAsks {C = C} {N = N} first serial.0 n before after Spent) same (subst (λ (c : Chain Version C N). MeetsAndAsks first serial.0 number before after c) spent m) in
+    record {
+      asks = ixfr;
+      serial = serial;
+      held = asks;
+      published = met.0;
+      history = met.1;
+      begun = met.2;
+      since = met.3.0;
+      found = met.3.1;
+      few = met.3.2;
+    }

@@ -28,12 +28,12 @@ use Rattle.snapshot_cell.specs.Tokens.{ReaderState}
 use Rattle.dns_engine.specs.Chain.{ChainState, changes_by}
 use Rattle.dns_rdata.specs.Numbers.{type_IXFR}
 use Rattle.zone_tree.specs.Zone.{soa_of}
-use Rattle.conversation.specs.Served.{BeginsWith}
+use Rattle.conversation.specs.Served.{Learned, Grows, BeginsWith}
 use Rattle.conversation.specs.Octets.{messages_in}
 use Rattle.conversation.specs.Turns.{Replies, IsBrokenAs}
 use Rattle.conversation.specs.declared.turn.Broken.{Broken}
 use Rattle.conversation.specs.declared.turn.Broken.TheVariants.{Spent, Failed}
-use Rattle.conversation.proofs.TurnLemmas.{begins_itself}
+use Rattle.conversation.proofs.TurnLemmas.{grows_itself}
 use Rattle.dns_engine.specs.Told.{IsTold, made, refused, unchanged, full, starved}
 use Rattle.serve_core.specs.declared.transport.Transport.{Transport}
 use Rattle.serve_core.specs.declared.transport.Transport.TheVariants.{Udp, Tcp}
@@ -47,7 +47,7 @@ use Rattle.serve_core.specs.Served.{Got, Want, ForNothing, ForReading, ForMaking
 use Rattle.dns_message.proofs.ReadLemmas.{judged}
 use Rattle.serve_core.proofs.WantLemmas.{reads-want}
 use Rattle.zone_service.specs.declared.answer.Told.{Told}
-use Rattle.zone_service.specs.Known.{HasLoaded, IsNoOlder}
+use Rattle.zone_service.specs.Known.{learned_by, HasLoaded, IsNoOlder}
 use Rattle.zone_service.proofs.KnownLemmas.{loaded_latest}
 use Rattle.zone_service.proofs.AboutLemmas.{latest_known, unmade_about, made_about, known_about, no_older}
 use Rattle.zone_service.proofs.WantedLemmas.{wanted_got}
@@ -84,7 +84,7 @@ pub heard_query : (request : List ℕ) (heard : Parsed) (query : QueryAsked) →
 heard_query request heard query tells is =
     ⊎_elim (λ (e : heard ≡ reads request). sym e ∙ is) (λ (want : IsWant request heard). absurd (no_query_wanted (header_of request) heard query want.is is)) tells
 
-no_query_told : (first : List Record) (peer : Peer) (known later : List Version) (version : Version) (said : Parsed) → IsNoQuery said → TellsFor first peer known later [] version None said
+no_query_told : (first : List Record) (peer : Peer) (known later : Learned Version) (version : Version) (said : Parsed) → IsNoQuery said → TellsFor first peer known later version None said
 no_query_told first peer known later version IsSilent plain = tt
 no_query_told first peer known later version (Fault head code) plain = tt
 no_query_told first peer known later version (BadOpt head question code dnssec_ok) plain = tt
@@ -102,13 +102,12 @@ no_query_replies zone changes peer wants (SaysUpdate update) plain = refl
 no_query_replies zone changes peer wants (NoMemory head) plain = refl
 
 -- what a request gets that is no query
-got_replied : (first : List Record) (peer : Peer) (known later : List Version) (version : Version) (request : List ℕ) (messages : List (List ℕ)) (wants : Want) → IsReplay first version → IsNoQuery (reads request) → TellsAbout first peer known later version wants (reads request)
+got_replied : (first : List Record) (peer : Peer) (known later : Learned Version) (version : Version) (request : List ℕ) (messages : List (List ℕ)) (wants : Want) → IsReplay first version → IsNoQuery (reads request) → TellsAbout first peer known later version wants (reads request)
     → messages ≡ option_to_list (got_of peer.transport peer.may_update wants version.zone (reads request)).reply → IsReplied first peer known later request messages
 got_replied first peer known later version request messages wants replayed plain about gets = record {
   version = version;
   replayed = replayed;
   changes = None;
-  gone = [];
   told = no_query_told first peer known later version (reads request) plain;
   want = wants;
   about = about;
@@ -132,7 +131,7 @@ alone_no_query (Query query) alone = alone
 alone_no_query (SaysUpdate update) alone = tt
 alone_no_query (NoMemory head) alone = tt
 
-alone_about : (first : List Record) (peer : Peer) (known later : List Version) (version : Version) (wants : Want) (said : Parsed) → IsCodeAlone said → TellsAbout first peer known later version wants said
+alone_about : (first : List Record) (peer : Peer) (known later : Learned Version) (version : Version) (wants : Want) (said : Parsed) → IsCodeAlone said → TellsAbout first peer known later version wants said
 alone_about first peer known later version wants IsSilent alone = tt
 alone_about first peer known later version wants (Fault head code) alone = tt
 alone_about first peer known later version wants (BadOpt head question code dnssec_ok) alone = tt
@@ -140,7 +139,7 @@ alone_about first peer known later version wants (Query query) alone = absurd al
 alone_about first peer known later version wants (SaysUpdate update) alone = absurd alone
 alone_about first peer known later version wants (NoMemory head) alone = tt
 
-wanted_about : (first : List Record) (peer : Peer) (known later : List Version) (version : Version) (said : Parsed) → TellsAbout first peer known later version ForReading said
+wanted_about : (first : List Record) (peer : Peer) (known later : Learned Version) (version : Version) (said : Parsed) → TellsAbout first peer known later version ForReading said
 wanted_about first peer known later version IsSilent = tt
 wanted_about first peer known later version (Fault head code) = tt
 wanted_about first peer known later version (BadOpt head question code dnssec_ok) = tt
@@ -155,27 +154,26 @@ no_other : {P : Type 0} (b : Bool) → b ≡ true → b ≡ false → P
 no_other b is other = absurd (cc)
 
 -- a query that asks for no transfer of what changed gets what is sent for it in the last of the versions that are known then
-query_replied : (first : List Record) (peer : Peer) (known later : List Version) (version : Version) (request : List ℕ) (query : QueryAsked) (messages : List (List ℕ)) → IsReplay first version → IsLatest first later version → asks_changes version.zone peer query ≡ false
+query_replied : (first : List Record) (peer : Peer) (known later : Learned Version) (version : Version) (request : List ℕ) (query : QueryAsked) (messages : List (List ℕ)) → IsReplay first version → IsLatest first later.published version → asks_changes version.zone peer query ≡ false
     → reads request ≡ Query query → messages ≡ replies_to version.zone None peer ForNothing (Query query) → IsReplied first peer known later request messages
 query_replied first peer known later version request query messages replayed latest other asked gets = record {
   version = version;
   replayed = replayed;
   changes = None;
-  gone = [];
-  told = subst (TellsFor first peer known later [] version None) (sym asked) (no_changes (asks_changes version.zone peer query) other, λ e. latest);
+  told = subst (TellsFor first peer known later version None) (sym asked) (no_changes (asks_changes version.zone peer query) other, λ e. latest);
   want = ForNothing;
   about = subst (TellsAbout first peer known later version ForNothing) (sym asked) tt;
   reply = gets ∙ ap (replies_to version.zone None peer ForNothing) (sym asked);
 }
 
 -- a transfer that is permitted in a version gets its messages, by a chain that tells what changed
-abbrev pub IsTransferred : List Record → Peer → List Version → ReaderState Version → Version → List ℕ → List (List ℕ) → Type 0
-IsTransferred first peer known after version request messages = (replied : IsReplied first peer known after.seen request messages) × (replied.version ≡ version) × (replied.gone ≡ after.gone)
+abbrev pub IsTransferred : List Record → Peer → Learned Version → ReaderState Version → Version → List ℕ → List (List ℕ) → Type 0
+IsTransferred first peer known after version request messages = (replied : IsReplied first peer known (learned_by after) request messages) × (replied.version ≡ version)
 
 messages_same : (zone : List Record) (a b : Option (List Record)) (peer : Peer) (query : QueryAsked) → list_for zone a query ≡ list_for zone b query → messages_to zone a peer query ≡ messages_to zone b peer query
 messages_same zone a b peer query same = rw same refl
 
-transferred_by : (first : List Record) (peer : Peer) (known : List Version) (before after : ReaderState Version) (version : Version) (request : List ℕ) (query : QueryAsked) (chain : ChainState) (ixfr : Bool) → (query.question.rtype.0 == type_IXFR) ≡ ixfr → IsNoOlder known version → IsReplay first version → IsLatest first before.seen version → reads request ≡ Query query
+transferred_by : (first : List Record) (peer : Peer) (known : Learned Version) (before after : ReaderState Version) (version : Version) (request : List ℕ) (query : QueryAsked) (chain : ChainState) (ixfr : Bool) → (query.question.rtype.0 == type_IXFR) ≡ ixfr → IsNoOlder known.published version → IsReplay first version → IsLatest first before.seen version → reads request ≡ Query query
     → is_permitted version.zone peer query ≡ true → IsChained first query version before after chain → IsTransferred first peer known after version request (messages_to version.zone (changes_by (soa_of version.zone) chain) peer query)
 transferred_by first peer known before after version request query chain true ixfr fresh replayed latest asked may chained =
     let t = chained.0 ixfr in
@@ -184,15 +182,13 @@ transferred_by first peer known before after version request query chain true ix
         version = version;
         replayed = replayed;
         changes = t.changes;
-        gone = after.gone;
-        told = subst (TellsFor first peer known after.seen after.gone version t.changes) (sym asked) (λ e. (fresh, t.told), no_other (asks_changes version.zone peer query) asks);
+        told = subst (TellsFor first peer known (learned_by after) version t.changes) (sym asked) (λ e. (fresh, t.told), no_other (asks_changes version.zone peer query) asks);
         want = ForNothing;
-        about = subst (TellsAbout first peer known after.seen version ForNothing) (sym asked) tt;
+        about = subst (TellsAbout first peer known (learned_by after) version ForNothing) (sym asked) tt;
         reply = messages_same version.zone (changes_by (soa_of version.zone) chain) t.changes peer query t.list
             ∙ transfer_sent version.zone t.changes peer query may
             ∙ ap (replies_to version.zone t.changes peer ForNothing) (sym asked);
       },
-      refl,
       refl,
     )
   where
@@ -206,34 +202,32 @@ transferred_by first peer known before after version request query chain false o
         version = version;
         replayed = replayed;
         changes = None;
-        gone = after.gone;
-        told = subst (TellsFor first peer known after.seen after.gone version None) (sym asked)
+        told = subst (TellsFor first peer known (learned_by after) version None) (sym asked)
             (no_changes (asks_changes version.zone peer query) asks, λ e. subst (λ (r : ReaderState Version). IsLatest first r.seen version) (sym none.0) latest);
         want = ForNothing;
-        about = subst (TellsAbout first peer known after.seen version ForNothing) (sym asked) tt;
+        about = subst (TellsAbout first peer known (learned_by after) version ForNothing) (sym asked) tt;
         reply = ap (λ (c : Option (List Record)). messages_to version.zone c peer query) same
             ∙ transfer_sent version.zone peer query may
             ∙ ap (replies_to version.zone None peer ForNothing) (sym asked);
       },
-      refl,
       refl,
     )
   where
     transfer_sent : (zone : List Record) (peer : Peer) (query : QueryAsked) → is_permitted zone peer query ≡ true → messages_to zone None peer query ≡ replies_to zone None peer ForNothing (Query query)
     transfer_sent zone peer query may = rw may refl
 
-pub transfer_replied : (first : List Record) (peer : Peer) (known : List Version) (before after : ReaderState Version) (version : Version) (request : List ℕ) (query : QueryAsked) (chain : ChainState) → IsNoOlder known version → IsReplay first version → IsLatest first before.seen version → reads request ≡ Query query
+pub transfer_replied : (first : List Record) (peer : Peer) (known : Learned Version) (before after : ReaderState Version) (version : Version) (request : List ℕ) (query : QueryAsked) (chain : ChainState) → IsNoOlder known.published version → IsReplay first version → IsLatest first before.seen version → reads request ≡ Query query
     → is_permitted version.zone peer query ≡ true → IsChained first query version before after chain → IsTransferred first peer known after version request (messages_to version.zone (changes_by (soa_of version.zone) chain) peer query)
 transfer_replied first peer known before after version request query chain fresh replayed latest asked may chained =
     transferred_by first peer known before after version request query chain (query.question.rtype.0 == type_IXFR) refl fresh replayed latest asked may chained
 
 -- what the reader has seen behind a transfer
-pub chained_grows : (first : List Record) (query : QueryAsked) (version : Version) (before after : ReaderState Version) (chain : ChainState) → IsChained first query version before after chain → BeginsWith after.seen before.seen
+pub chained_grows : (first : List Record) (query : QueryAsked) (version : Version) (before after : ReaderState Version) (chain : ChainState) → IsChained first query version before after chain → Grows (learned_by after) (learned_by before)
 chained_grows first query version before after chain chained = by (query.question.rtype.0 == type_IXFR) refl
   where
-    by : (b : Bool) → (query.question.rtype.0 == type_IXFR) ≡ b → BeginsWith after.seen before.seen
+    by : (b : Bool) → (query.question.rtype.0 == type_IXFR) ≡ b → Grows (learned_by after) (learned_by before)
     by true ixfr = (chained.0 ixfr).grown
-    by false other = subst (λ (r : ReaderState Version). BeginsWith r.seen before.seen) (sym (chained.1 other).0) (begins_itself before.seen)
+    by false other = subst (λ (r : ReaderState Version). Grows (learned_by r) (learned_by before)) (sym (chained.1 other).0) (grows_itself (learned_by before))
 
 -- the first version is a replay of no update
 abbrev pub first_version : List Record → Version
@@ -243,7 +237,7 @@ pub first_replay : (first : List Record) → IsReplay first (first_version first
 first_replay first = record { updates = []; changing = tt; zone = refl; number = refl }
 
 -- a reply that is the same in each version
-pub same_replied : (first : List Record) (peer : Peer) (known later : List Version) (version : Version) (request out octets : List ℕ) (said : Parsed) (len : ℕ) → IsReplay first version → Tells request said → IsCodeAlone said → take len out ≡ octets
+pub same_replied : (first : List Record) (peer : Peer) (known later : Learned Version) (version : Version) (request out octets : List ℕ) (said : Parsed) (len : ℕ) → IsReplay first version → Tells request said → IsCodeAlone said → take len out ≡ octets
     → got_of peer.transport peer.may_update ForNothing version.zone said ≡ record { reply = Some octets; zone = version.zone } → IsReplied first peer known later request (take len out ∷ [])
 same_replied first peer known later version request out octets said len replayed tells alone written gets =
     ⊎_elim
@@ -312,8 +306,8 @@ module _ (transport : Transport) (update : Update) (may : Bool) (out : List ℕ)
     told_said (starved taken is_code same) = (ForMaking, (fresh, latest_known first later old.held.last (known_about first later old new before saw same)), sym (said old.held.last code written ServFail is_code))
 
 -- an update's code is its reply, about the versions that are known when it is told
-pub update_replied : (first : List Record) (peer : Peer) (known later : List Version) (version : Version) (request out : List ℕ) (update : Update) (len : ℕ) (wants : Want) → IsReplay first version → reads request ≡ SaysUpdate update
-    → TellsOf first peer.may_update known later version wants update → (got_of peer.transport peer.may_update wants version.zone (SaysUpdate update)).reply ≡ Some (take len out) → IsReplied first peer known later request (take len out ∷ [])
+pub update_replied : (first : List Record) (peer : Peer) (known later : Learned Version) (version : Version) (request out : List ℕ) (update : Update) (len : ℕ) (wants : Want) → IsReplay first version → reads request ≡ SaysUpdate update
+    → TellsOf first peer.may_update known.published later.published version wants update → (got_of peer.transport peer.may_update wants version.zone (SaysUpdate update)).reply ≡ Some (take len out) → IsReplied first peer known later request (take len out ∷ [])
 update_replied first peer known later version request out update len wants replayed reading about gets =
     got_replied first peer known later version request (take len out ∷ []) wants replayed (subst IsNoQuery (sym reading) tt) (subst (TellsAbout first peer known later version wants) (sym reading) about)
     (ap option_to_list (sym gets) ∙ ap (λ (p : Parsed). option_to_list (got_of peer.transport peer.may_update wants version.zone p).reply) (sym reading))
@@ -470,23 +464,23 @@ module _ (first : List Record) (peer : Peer) (before after : ReaderState Version
       no_both : (o : _) → o ≡ Some code → o ≡ None → ⊥
       no_both o is other = cc
 
-  judged_replied : (update : Update) (t : Told) → reads request ≡ SaysUpdate update → IsJudged first update peer.may_update before after t → take len out ≡ fit (coded (heading_of_update update) t.code) (limit_of peer.transport None) → IsReplied first peer before.seen after.seen request (take len out ∷ [])
+  judged_replied : (update : Update) (t : Told) → reads request ≡ SaysUpdate update → IsJudged first update peer.may_update before after t → take len out ≡ fit (coded (heading_of_update update) t.code) (limit_of peer.transport None) → IsReplied first peer (learned_by before) (learned_by after) request (take len out ∷ [])
   judged_replied update t reading (by_engine serials asks is updated) written =
       let s = told_said peer.transport update peer.may_update out len first before.seen after.seen updated.old updated.new t.code written updated.meets.latest updated.meets_again.latest (met_seen updated.met updated.new.held.published updated.meets_again.seen)
       (no_older first before.seen updated.old.held.published updated.old.held.last updated.meets.begun updated.meets.latest) updated.told in
-      update_replied first peer before.seen after.seen updated.old.held.last request out update len s.0 updated.meets.replayed reading s.1 s.2
+      update_replied first peer (learned_by before) (learned_by after) updated.old.held.last request out update len s.0 updated.meets.replayed reading s.1 s.2
   judged_replied update t reading (in_version version may replayed loaded gives none) written =
-      update_replied first peer before.seen after.seen version request out update len ForNothing replayed reading
+      update_replied first peer (learned_by before) (learned_by after) version request out update len ForNothing replayed reading
       (unmade_about first peer.may_update before.seen after.seen version update (no_older first before.seen after.seen version loaded.begun (loaded_latest first before after (record { number = version.number; value = version }) loaded)) (loaded_latest first before after (record { number = version.number; value = version }) loaded) (λ zone taken acts changed. no_code_of version update t.code may gives taken))
       (ap (λ (g : Got). g.reply) (judged_got peer.transport version.zone update peer.may_update t.code may gives) ∙ sym (ap Some written))
 
   -- a request that can't be read as an update gets a code, whatever version is served
   said_as : (saying : Parsed) (heading other : Heading) (code : Rcode) → Tells request saying → IsCodeAlone saying → heading ≡ other
-      → got_of peer.transport peer.may_update ForNothing first saying ≡ told peer.transport other code first → take len out ≡ fit (coded heading code) (limit_of peer.transport None) → IsReplied first peer before.seen after.seen request (take len out ∷ [])
+      → got_of peer.transport peer.may_update ForNothing first saying ≡ told peer.transport other code first → take len out ≡ fit (coded heading code) (limit_of peer.transport None) → IsReplied first peer (learned_by before) (learned_by after) request (take len out ∷ [])
   said_as saying heading other code tells alone same gets written =
-      same_replied first peer before.seen after.seen (first_version first) request out (fit (coded other code) (limit_of peer.transport None)) saying len (first_replay first) tells alone (written ∙ ap (λ (h : Heading). fit (coded h code) (limit_of peer.transport None)) same) gets
+      same_replied first peer (learned_by before) (learned_by after) (first_version first) request out (fit (coded other code) (limit_of peer.transport None)) saying len (first_replay first) tells alone (written ∙ ap (λ (h : Heading). fit (coded h code) (limit_of peer.transport None)) same) gets
 
-  pub told_replied : (heading : Heading) (t : Told) → IsToldOf first peer.may_update request before after heading t → take len out ≡ fit (coded heading t.code) (limit_of peer.transport None) → IsReplied first peer before.seen after.seen request (take len out ∷ [])
+  pub told_replied : (heading : Heading) (t : Told) → IsToldOf first peer.may_update request before after heading t → take len out ≡ fit (coded heading t.code) (limit_of peer.transport None) → IsReplied first peer (learned_by before) (learned_by after) request (take len out ∷ [])
   told_replied heading t (read update reading same judged) written =
       judged_replied update t reading judged (written ∙ ap (λ (h : Heading). fit (coded h t.code) (limit_of peer.transport None)) same)
   told_replied heading t (unread head reading same none stays) written = said_as (Fault head t.code) heading (header_alone head) t.code (inl (sym reading)) tt same refl written
@@ -496,13 +490,12 @@ module _ (first : List Record) (peer : Peer) (before after : ReaderState Version
       said_as (NoMemory head) heading (header_alone head) t.code (inr want) tt same (ap (λ c. told peer.transport (header_alone head) c first) (sym code)) written
 
 -- octets that get no reply
-pub silent_replied : (first : List Record) (peer : Peer) (known later : List Version) (request : List ℕ) → reads request ≡ IsSilent → IsReplied first peer known later request []
+pub silent_replied : (first : List Record) (peer : Peer) (known later : Learned Version) (request : List ℕ) → reads request ≡ IsSilent → IsReplied first peer known later request []
 silent_replied first peer known later request silent = record {
   version = first_version first;
   replayed = first_replay first;
   changes = None;
-  gone = [];
-  told = subst (TellsFor first peer known later [] (first_version first) None) (sym silent) tt;
+  told = subst (TellsFor first peer known later (first_version first) None) (sym silent) tt;
   want = ForNothing;
   about = subst (TellsAbout first peer known later (first_version first) ForNothing) (sym silent) tt;
   reply = ap (replies_to first None peer ForNothing) (sym silent);
@@ -546,10 +539,10 @@ room_most peer = by peer.transport
 pub code_now : (first : List Record) (peer : Peer) (reader : ReaderState Version) (request out : List ℕ) (saying : Parsed) (heading own : Heading) (code : Rcode) (len : ℕ) → is_update request ≡ false → reads request ≡ saying → IsCodeAlone saying → len ≤ limit_of peer.transport None
     → limit_for peer.transport saying ≡ limit_of peer.transport None → heading ≡ own → got_of peer.transport peer.may_update ForNothing first saying ≡ told peer.transport own code first → ((zone : List Record) → IsNoTransfer zone peer saying)
     → ((version : Version) → LoadsFor first reader reader version saying) → take len out ≡ fit (coded heading code) (limit_of peer.transport None)
-    → (len ≤ limit_for peer.transport (reads request)) × (replied : IsReplied first peer reader.seen reader.seen request (take len out ∷ [])) × IsAtOnce peer request replied.version × LoadsFor first reader reader replied.version (reads request)
+    → (len ≤ limit_for peer.transport (reads request)) × (replied : IsReplied first peer (learned_by reader) (learned_by reader) request (take len out ∷ [])) × IsAtOnce peer request replied.version × LoadsFor first reader reader replied.version (reads request)
 code_now first peer reader request out saying heading own code len other reading plain short limit same gets none stays written =
     let within : len ≤ limit_for peer.transport saying = subst (λ (n : ℕ). len ≤ n) (sym limit) short in
-    let replied = same_replied first peer reader.seen reader.seen (first_version first) request out (fit (coded own code) (limit_of peer.transport None)) saying len (first_replay first) (inl (sym reading)) plain (written ∙ ap (λ (h : Heading). fit (coded h code) (limit_of peer.transport None)) same) gets in (
+    let replied = same_replied first peer (learned_by reader) (learned_by reader) (first_version first) request out (fit (coded own code) (limit_of peer.transport None)) saying len (first_replay first) (inl (sym reading)) plain (written ∙ ap (λ (h : Heading). fit (coded h code) (limit_of peer.transport None)) same) gets in (
       subst (λ p. len ≤ limit_for peer.transport p) (sym reading) within,
       replied,
       record { other = other; plain = subst (IsNoTransfer replied.version.zone peer) (sym reading) (none replied.version.zone) },
@@ -559,7 +552,7 @@ code_now first peer reader request out saying heading own code len other reading
 -- a query that is answered at once, in the version that is loaded for it
 pub query_now : (first : List Record) (peer : Peer) (before after : ReaderState Version) (version : Version) (request out : List ℕ) (query : QueryAsked) (len : ℕ) → IsReplay first version → IsLatest first after.seen version → HasLoaded first before after version → is_update request ≡ false → reads request ≡ Query query
     → is_permitted version.zone peer query ≡ false → take len out ≡ fit (reply_to_peer version.zone peer query) (limit_of peer.transport query.edns) → len ≤ limit_of peer.transport query.edns
-    → (len ≤ limit_for peer.transport (reads request)) × (replied : IsReplied first peer before.seen after.seen request (take len out ∷ [])) × IsAtOnce peer request replied.version × LoadsFor first before after replied.version (reads request)
+    → (len ≤ limit_for peer.transport (reads request)) × (replied : IsReplied first peer (learned_by before) (learned_by after) request (take len out ∷ [])) × IsAtOnce peer request replied.version × LoadsFor first before after replied.version (reads request)
 query_now first peer before after version request out query len replayed latest loaded other asked may written short =
     let gets : take len out ∷ [] ≡ replies_to version.zone None peer ForNothing (Query query) = rw (may, written) refl in
     let plain : asks_changes version.zone peer query ≡ false = rw may refl in (
@@ -568,10 +561,9 @@ query_now first peer before after version request out query len replayed latest 
         version = version;
         replayed = replayed;
         changes = None;
-        gone = [];
-        told = subst (TellsFor first peer before.seen after.seen [] version None) (sym asked) (no_changes (asks_changes version.zone peer query) plain, λ e. latest);
+        told = subst (TellsFor first peer (learned_by before) (learned_by after) version None) (sym asked) (no_changes (asks_changes version.zone peer query) plain, λ e. latest);
         want = ForNothing;
-        about = subst (TellsAbout first peer before.seen after.seen version ForNothing) (sym asked) tt;
+        about = subst (TellsAbout first peer (learned_by before) (learned_by after) version ForNothing) (sym asked) tt;
         reply = gets ∙ ap (replies_to version.zone None peer ForNothing) (sym asked);
       },
       record { other = other; plain = subst (IsNoTransfer version.zone peer) (sym asked) may },
@@ -581,13 +573,13 @@ query_now first peer before after version request out query len replayed latest 
 -- a query that is answered in the version that is loaded for it, when it was to be answered later
 pub query_served : (first : List Record) (peer : Peer) (before after : ReaderState Version) (version : Version) (request out : List ℕ) (query : QueryAsked) (len : ℕ) → IsReplay first version → IsLatest first after.seen version → HasLoaded first before after version → reads request ≡ Query query
     → is_permitted version.zone peer query ≡ false → take len out ≡ fit (reply_to_peer version.zone peer query) (limit_of peer.transport query.edns) → len ≤ limit_of peer.transport query.edns
-    → (len ≤ limit_for peer.transport (reads request)) × (replied : IsReplied first peer before.seen after.seen request (take len out ∷ [])) × IsQuery request × HasLoaded first before after replied.version
+    → (len ≤ limit_for peer.transport (reads request)) × (replied : IsReplied first peer (learned_by before) (learned_by after) request (take len out ∷ [])) × IsQuery request × HasLoaded first before after replied.version
 unfolding query_replied
 query_served first peer before after version request out query len replayed latest loaded asked may written short =
     let gets : take len out ∷ [] ≡ replies_to version.zone None peer ForNothing (Query query) = rw (may, written) refl in
     let plain : asks_changes version.zone peer query ≡ false = rw may refl in (
       subst (λ p. len ≤ limit_for peer.transport p) (sym asked) short,
-      query_replied first peer before.seen after.seen version request query (take len out ∷ []) replayed latest plain asked gets,
+      query_replied first peer (learned_by before) (learned_by after) version request query (take len out ∷ []) replayed latest plain asked gets,
       (query, asked),
       loaded,
     )
@@ -599,11 +591,11 @@ later_transfer first peer request other later = ⊎_elim (λ (asks : is_update r
     no_both : is_update request ≡ true → ⊥
     no_both asks = cc
 
--- a transfer of which no version can be had is answered by nothing
-pub spent_transfer : {T E : Type 0} (result : Result T E) (first : List Record) (peer : Peer) (request : List ℕ) (before : ReaderState Version)
-    → OnErr result (IsTransfer first peer request) → OnErr result (HasNoAnswer first peer request before)
-spent_transfer (Ok x) first peer request before t = tt
-spent_transfer (Err e) first peer request before t = inr t
+-- a transfer for which grants are wanted is answered by nothing
+pub spent_transfer : {T E : Type 0} (result : Result T E) (first : List Record) (peer : Peer) (request : List ℕ) (before after : ReaderState Version)
+    → OnErr result (IsTransfer first peer request × (after.left ≡ 0)) → OnErr result (HasNoAnswer first peer request before after)
+spent_transfer (Ok x) first peer request before after t = tt
+spent_transfer (Err e) first peer request before after t = inr t
 
 -- who knew more before knew less
 older_known : (shorter longer : List Version) (version : Version) → BeginsWith longer shorter → IsNoOlder longer version → IsNoOlder shorter version
@@ -612,42 +604,41 @@ older_known shorter longer version grown fresh =
     let long : length (shorter ++ grown.0) ≡ length shorter + length grown.0 = length-append shorter grown.0 in
     omega (arith, same, long, fresh)
 
-tells_older : (first : List Record) (peer : Peer) (shorter longer later : List Version) (gone : List ℕ) (version : Version) (changes : Option (List Record)) (said : Parsed) → BeginsWith longer shorter → TellsFor first peer longer later gone version changes said
-    → TellsFor first peer shorter later gone version changes said
-tells_older first peer shorter longer later gone version changes IsSilent grown t = tt
-tells_older first peer shorter longer later gone version changes (Fault head code) grown t = tt
-tells_older first peer shorter longer later gone version changes (BadOpt head question code dnssec_ok) grown t = tt
-tells_older first peer shorter longer later gone version changes (Query query) grown t = (λ e. (older_known shorter longer version grown (t.0 e).0, (t.0 e).1), t.1)
-tells_older first peer shorter longer later gone version changes (SaysUpdate update) grown t = tt
-tells_older first peer shorter longer later gone version changes (NoMemory head) grown t = tt
+tells_older : (first : List Record) (peer : Peer) (shorter longer later : Learned Version) (version : Version) (changes : Option (List Record)) (said : Parsed) → Grows longer shorter → TellsFor first peer longer later version changes said
+    → TellsFor first peer shorter later version changes said
+tells_older first peer shorter longer later version changes IsSilent grown t = tt
+tells_older first peer shorter longer later version changes (Fault head code) grown t = tt
+tells_older first peer shorter longer later version changes (BadOpt head question code dnssec_ok) grown t = tt
+tells_older first peer shorter longer later version changes (Query query) grown t = (λ e. (older_known shorter.published longer.published version grown.published (t.0 e).0, (t.0 e).1), t.1)
+tells_older first peer shorter longer later version changes (SaysUpdate update) grown t = tt
+tells_older first peer shorter longer later version changes (NoMemory head) grown t = tt
 
 of_older : (first : List Record) (may : Bool) (shorter longer later : List Version) (version : Version) (wants : Want) (update : Update) → BeginsWith longer shorter → TellsOf first may longer later version wants update → TellsOf first may shorter later version wants update
 of_older first may shorter longer later version ForNothing update grown t = (older_known shorter longer version grown t.0, t.1, t.2)
 of_older first may shorter longer later version ForReading update grown t = tt
 of_older first may shorter longer later version ForMaking update grown t = (older_known shorter longer version grown t.0, t.1)
 
-about_older : (first : List Record) (peer : Peer) (shorter longer later : List Version) (version : Version) (wants : Want) (said : Parsed) → BeginsWith longer shorter → TellsAbout first peer longer later version wants said → TellsAbout first peer shorter later version wants said
+about_older : (first : List Record) (peer : Peer) (shorter longer later : Learned Version) (version : Version) (wants : Want) (said : Parsed) → Grows longer shorter → TellsAbout first peer longer later version wants said → TellsAbout first peer shorter later version wants said
 about_older first peer shorter longer later version wants IsSilent grown t = tt
 about_older first peer shorter longer later version wants (Fault head code) grown t = tt
 about_older first peer shorter longer later version wants (BadOpt head question code dnssec_ok) grown t = tt
 about_older first peer shorter longer later version wants (Query query) grown t = tt
-about_older first peer shorter longer later version wants (SaysUpdate update) grown t = of_older first peer.may_update shorter longer later version wants update grown t
+about_older first peer shorter longer later version wants (SaysUpdate update) grown t = of_older first peer.may_update shorter.published longer.published later.published version wants update grown.published t
 about_older first peer shorter longer later version wants (NoMemory head) grown t = tt
 
 -- and gets the same reply
-pub still_replied : (first : List Record) (peer : Peer) (shorter longer later : List Version) (request : List ℕ) (messages : List (List ℕ)) → BeginsWith longer shorter → IsReplied first peer longer later request messages → IsReplied first peer shorter later request messages
+pub still_replied : (first : List Record) (peer : Peer) (shorter longer later : Learned Version) (request : List ℕ) (messages : List (List ℕ)) → Grows longer shorter → IsReplied first peer longer later request messages → IsReplied first peer shorter later request messages
 still_replied first peer shorter longer later request messages grown r = record {
   version = r.version;
   replayed = r.replayed;
   changes = r.changes;
-  gone = r.gone;
-  told = tells_older first peer shorter longer later r.gone r.version r.changes (reads request) grown r.told;
+  told = tells_older first peer shorter longer later r.version r.changes (reads request) grown r.told;
   want = r.want;
   about = about_older first peer shorter longer later r.version r.want (reads request) grown r.about;
   reply = r.reply;
 }
 
-module _ (first : List Record) (peer : Peer) (shorter longer later : List Version) (request : List ℕ) (a b : Option (List ℕ × List ℕ)) (grown : BeginsWith longer shorter) where
+module _ (first : List Record) (peer : Peer) (shorter longer later : Learned Version) (request : List ℕ) (a b : Option (List ℕ × List ℕ)) (grown : Grows longer shorter) where
   -- on a stream
   pub stream_replied : (result : Result (Unit {0}) Broken) → OnOk result (Replies (IsReplied first peer) longer request later a b) → OnOk result (Replies (IsReplied first peer) shorter request later a b)
   stream_replied (Ok x) r = record { messages = r.messages; reply = still_replied first peer shorter longer later request r.messages grown r.reply; written = r.written }
@@ -662,7 +653,7 @@ module _ (first : List Record) (peer : Peer) (shorter longer later : List Versio
   stream_broken (Err broken) r = broken_older broken r
 
 -- and by a datagram
-pub datagram_replied : (first : List Record) (peer : Peer) (shorter longer later : List Version) (request out : List ℕ) {E : Type 0} (result : Result (Option ℕ) E) → BeginsWith longer shorter
+pub datagram_replied : (first : List Record) (peer : Peer) (shorter longer later : Learned Version) (request out : List ℕ) {E : Type 0} (result : Result (Option ℕ) E) → Grows longer shorter
     → IfOk result (λ len. IsReplied first peer longer later request (messages_in len out)) → IfOk result (λ len. IsReplied first peer shorter later request (messages_in len out))
 datagram_replied first peer shorter longer later request out (Ok len) grown r = still_replied first peer shorter longer later request (messages_in len out) grown r
 datagram_replied first peer shorter longer later request out (Err e) grown r = tt

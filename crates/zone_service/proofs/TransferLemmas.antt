@@ -8,6 +8,7 @@ use Rattle.serve_core.specs.declared.peer.Peer.{Peer}
 use Rattle.serve_core.specs.declared.transport.Transport.{Transport}
 use Rattle.serve_core.specs.declared.transport.Transport.TheVariants.{Udp}
 use Rattle.conversation.specs.Octets.{Takes, frames_of, messages_in}
+use Rattle.conversation.specs.Served.{Learned}
 use Rattle.conversation.specs.Turns.{Replies, IsBrokenAs}
 use Rattle.conversation.specs.declared.turn.Broken.{Broken}
 use Rattle.conversation.specs.declared.turn.Broken.TheVariants.{Spent, Failed}
@@ -61,7 +62,7 @@ pub never_spent : (P : Type 0) (result : Result (Unit {0}) Broken) → IfErr res
 never_spent P (Ok x) failed is = absurd (cc)
 never_spent P (Err broken) failed is = absurd (cc)
 
-module _ {T : Type 0} (IsReply : List T → List T → List ℕ → List (List ℕ) → Type 0) (result : Result (Unit {0}) Broken) (seen : List T) (request : List ℕ) (later : List T) (messages : List (List ℕ)) (a b : Option (List ℕ × List ℕ))
+module _ {T : Type 0} (IsReply : Learned T → Learned T → List ℕ → List (List ℕ) → Type 0) (result : Result (Unit {0}) Broken) (seen : Learned T) (request : List ℕ) (later : Learned T) (messages : List (List ℕ)) (a b : Option (List ℕ × List ℕ))
     (reply : IsReply seen later request messages) where
   -- messages that are the reply are written
   pub reply_written : OnOk result (Takes a b (frames_of messages)) → OnOk result (Replies IsReply seen request later a b)

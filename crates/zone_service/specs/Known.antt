@@ -1,17 +1,25 @@
 -- What a reader has seen published, and how it comes to see more (own).
-use Rattle.std.specs.Prelude.{◌≡◌, ◌⊎◌, ℕ, ◌+◌, ◌≤◌, List, length}
+use Rattle.std.specs.Prelude.{◌≡◌, ◌⊎◌, ◌==◌, true, ℕ, ◌+◌, ◌≤◌, List, length, Some}
+use Rattle.dns_rdata.specs.Numbers.{type_IXFR}
 use Rattle.dns_rdata.specs.Record.{Record}
+use Rattle.dns_rdata.specs.declared.numbers.Serial.{Serial}
+use Rattle.dns_message.specs.declared.query.Query.{Query as QueryAsked}
 use Rattle.zone_tree.specs.Version.{Version}
 use Rattle.snapshot_cell.specs.Tokens.{ReaderState, IsLoad}
 use Rattle.counted_handles.specs.History.{IsHistory}
 use Rattle.counted_handles.specs.Ruled.{Begins}
-use Rattle.weak_history.specs.Owned.{IsChain}
+use Rattle.weak_history.specs.History.{Entered, later_entries}
+use Rattle.weak_history.specs.Owned.{AreTooMany, IsChain}
 use Rattle.weak_history.specs.declared.chain.Chain.{Chain}
-use Rattle.conversation.specs.Served.{BeginsWith}
+use Rattle.conversation.specs.Served.{Learned, Grows}
 use Rattle.dns_engine.specs.Entries.{entries_of}
 use Rattle.dns_engine.specs.Held.{EngineState, IsLatest}
 use Rattle.dns_engine.specs.Replayed.{IsReplay}
 use Rattle.dns_engine.specs.Versions.{IsFirst, IsNext}
+
+-- what a reader has learned: which versions are published, and which are buried (own)
+abbrev pub learned_by : ReaderState Version → Learned Version
+learned_by reader = record { published = reader.seen; buried = reader.gone }
 
 -- a reader has loaded a version, once: it is the last of the versions that the reader has then seen, which begin with those that it had
 -- seen; the first of them has the first zone, each further one is what some update makes of the one before it; and a grant is gone (own)
@@ -22,18 +30,13 @@ HasLoaded first before after version = IsLoad (IsFirst first) IsNext before afte
 abbrev pub HasGone : ReaderState Version → ReaderState Version → Type 0
 HasGone before after = (before.left ≡ 0) × (after ≡ before)
 
--- a reader has loaded a version, and has seen more since then, perhaps (own)
+-- a reader has loaded a version, and has learned more since then, perhaps (own)
 abbrev pub HasSeen : List Record → ReaderState Version → ReaderState Version → Version → Type 0
-HasSeen first before after version = (loaded : ReaderState Version) × HasLoaded first before loaded version × BeginsWith after.seen loaded.seen
+HasSeen first before after version = (loaded : ReaderState Version) × HasLoaded first before loaded version × Grows (learned_by after) (learned_by loaded)
 
 -- a version isn't older than the last of those that were known to be published (own)
 abbrev pub IsNoOlder : List Version → Version → Type 0
 IsNoOlder known version = length known ≤ version.number + 1
-
--- no version can be had: a reader has no grant left, and stays as it was; or it has loaded one, but can't share it, or has no grant left for one of
--- those since the asker's (own)
-abbrev pub LoadsInVain : List Record → ReaderState Version → ReaderState Version → Type 0
-LoadsInVain first before after = HasGone before after ⊎ ((version : Version) × HasSeen first before after version)
 
 -- a reader meets all that an engine has published, of which it had seen a beginning, for no grant; the engine's last version is the latest of it, the
 -- first zone with updates replayed (own)
@@ -42,6 +45,25 @@ pub record HasMet (first : List Record) (engine : EngineState) (before after : R
   pub latest : IsLatest first engine.held.published engine.held.last
   pub replayed : IsReplay first engine.held.last
   pub seen : after ≡ record before { seen = engine.held.published }
+
+-- a reader that has loaded a version meets what is published, and has fewer grants left than there are versions since the one of the serial that the
+-- asker of an IXFR holds, up to the version that is loaded: it has spent all of them (own)
+pub record HasTooFew (first : List Record) (query : QueryAsked) (version : Version) (before after : ReaderState Version) : Type 0 where
+  pub asks : (query.question.rtype.0 == type_IXFR) ≡ true
+  pub serial : Serial
+  pub held : query.serial ≡ Some serial
+  pub published : List Version
+  pub history : IsHistory (IsFirst first) IsNext published
+  pub begun : Begins before.seen published
+  pub since : List (Entered Version)
+  pub found : later_entries serial.0 version.number (entries_of published) ≡ Some since
+  pub few : AreTooMany since (record before { seen = published }) after
+
+-- a transfer can't be had for want of grants: a reader has none left, and stays as it was; or it has loaded a version, and has then too few for those
+-- since the asker's (own)
+abbrev pub LoadsInVain : List Record → QueryAsked → ReaderState Version → ReaderState Version → Type 0
+LoadsInVain first query before after =
+    HasGone before after ⊎ ((version : Version) × (loaded : ReaderState Version) × HasLoaded first before loaded version × HasTooFew first query version loaded after)
 
 -- a reader meets what is published, of which it had seen a beginning, and asks its history of the versions after the one of a serial, up to a
 -- number (own)

@@ -12,12 +12,12 @@ use Rattle.snapshot_cell.specs.Tokens.{ReaderState}
 use Rattle.dns_engine.specs.Replayed.{IsReplay}
 use Rattle.dns_engine.specs.Held.{IsLatest}
 use Rattle.dns_engine.specs.Chain.{ChainState, TellsSince, changes_by}
-use Rattle.conversation.specs.Served.{BeginsWith}
+use Rattle.conversation.specs.Served.{Learned, Grows}
 use Rattle.serve_core.specs.declared.peer.Peer.{Peer}
 use Rattle.serve_core.specs.Served.{Want, limit_for}
 use Rattle.serve_core.specs.Replies.{replies_to, IsNoTransfer}
 use Rattle.serve_core.specs.Transfers.{is_permitted, list_for, messages_to}
-use Rattle.zone_service.specs.Known.{HasLoaded, HasGone, HasSeen, IsNoOlder, LoadsInVain}
+use Rattle.zone_service.specs.Known.{learned_by, HasLoaded, HasGone, HasSeen, IsNoOlder, LoadsInVain}
 use Rattle.zone_service.specs.Updated.{TellsOf, IsUpdateTold}
 use Rattle.zone_service.specs.declared.answer.Now.{Now}
 use Rattle.zone_service.specs.declared.answer.Now.TheVariants.{Bytes, Silent, Later, Spent}
@@ -31,35 +31,34 @@ asks_changes zone peer query = is_permitted zone peer query && query.question.rt
 -- what a query is told in a version: of a transfer of what changed the list through the versions that are known to be published when the reply is
 -- made, of which the version is one that isn't older than the last that was known before, from the one of the serial that the asker holds, unless a version
 -- that it takes is known to be buried; any other query is answered in the last of those versions (RFC 1995, 4)
-abbrev pub TellsFor : List Record → Peer → List Version → List Version → List ℕ → Version → Option (List Record) → Parsed → Type 0
-TellsFor first peer known later gone version changes IsSilent = Unit {0}
-TellsFor first peer known later gone version changes (Fault head code) = Unit {0}
-TellsFor first peer known later gone version changes (BadOpt head question code dnssec_ok) = Unit {0}
-TellsFor first peer known later gone version changes (Query query) =
-    (asks_changes version.zone peer query ≡ true → IsNoOlder known version × TellsSince first later gone version query.serial changes) × (asks_changes version.zone peer query ≡ false → IsLatest first later version)
-TellsFor first peer known later gone version changes (Update update) = Unit {0}
-TellsFor first peer known later gone version changes (NoMemory head) = Unit {0}
+abbrev pub TellsFor : List Record → Peer → Learned Version → Learned Version → Version → Option (List Record) → Parsed → Type 0
+TellsFor first peer known later version changes IsSilent = Unit {0}
+TellsFor first peer known later version changes (Fault head code) = Unit {0}
+TellsFor first peer known later version changes (BadOpt head question code dnssec_ok) = Unit {0}
+TellsFor first peer known later version changes (Query query) =
+    (asks_changes version.zone peer query ≡ true → IsNoOlder known.published version × TellsSince first later.published later.buried version query.serial changes) × (asks_changes version.zone peer query ≡ false → IsLatest first later.published version)
+TellsFor first peer known later version changes (Update update) = Unit {0}
+TellsFor first peer known later version changes (NoMemory head) = Unit {0}
 
 -- what is told of an update is about the versions that are known to be published when it is told, wherever memory is wanted: so who is told that one
 -- which changes the zone is taken knows the version that it makes (RFC 2136, 3)
-abbrev pub TellsAbout : List Record → Peer → List Version → List Version → Version → Want → Parsed → Type 0
+abbrev pub TellsAbout : List Record → Peer → Learned Version → Learned Version → Version → Want → Parsed → Type 0
 TellsAbout first peer known later version want IsSilent = Unit {0}
 TellsAbout first peer known later version want (Fault head code) = Unit {0}
 TellsAbout first peer known later version want (BadOpt head question code dnssec_ok) = Unit {0}
 TellsAbout first peer known later version want (Query query) = Unit {0}
-TellsAbout first peer known later version want (Update update) = TellsOf first peer.may_update known later version want update
+TellsAbout first peer known later version want (Update update) = TellsOf first peer.may_update known.published later.published version want update
 TellsAbout first peer known later version want (NoMemory head) = Unit {0}
 
 -- messages are the reply to a request in one version, which is the first zone with updates replayed, and of a query the last of the versions
 -- that are known to be published when it is made, or of an IXFR one of them that isn't older than the last that was known before: of a transfer that is permitted its messages, of an IXFR by what these
 -- versions tell of what changed since the asker's, where none that it takes is one of those known to be buried; an update may also get what it gets
 -- where memory is wanted, and is told in one of these versions, with what it makes of that one behind it
-pub record IsReplied (first : List Record) (peer : Peer) (known later : List Version) (request : List ℕ) (messages : List (List ℕ)) : Type 0 where
+pub record IsReplied (first : List Record) (peer : Peer) (known later : Learned Version) (request : List ℕ) (messages : List (List ℕ)) : Type 0 where
   pub version : Version
   pub replayed : IsReplay first version
   pub changes : Option (List Record)
-  pub gone : List ℕ
-  pub told : TellsFor first peer known later gone version changes (reads request)
+  pub told : TellsFor first peer known later version changes (reads request)
   pub want : Want
   pub about : TellsAbout first peer known later version want (reads request)
   pub reply : messages ≡ replies_to version.zone changes peer want (reads request)
@@ -67,7 +66,7 @@ pub record IsReplied (first : List Record) (peer : Peer) (known later : List Ver
 -- a chain of versions gives the asker of an IXFR the list of what changed up to a version, through those that a reader has then seen published, which
 -- begin with those that it had seen; and where it isn't whole for want of a version, the reader has seen that one buried (RFC 1995, 4; own)
 pub record TellsBy (first : List Record) (query : QueryAsked) (version : Version) (before after : ReaderState Version) (chain : ChainState) : Type 0 where
-  pub grown : BeginsWith after.seen before.seen
+  pub grown : Grows (learned_by after) (learned_by before)
   pub changes : Option (List Record)
   pub told : TellsSince first after.seen after.gone version query.serial changes
   pub list : list_for version.zone (changes_by (soa_of version.zone) chain) query ≡ list_for version.zone changes query
@@ -115,28 +114,29 @@ LoadsFor first before after version (NoMemory head) = after ≡ before
 -- its code; and each query takes one load, but no other request
 abbrev pub IsNow : List Record → Peer → List ℕ → ReaderState Version → ReaderState Version → List ℕ → Now → Type 0
 IsNow first peer request before after out (Bytes len) =
-    (len ≤ limit_for peer.transport (reads request)) × (replied : IsReplied first peer before.seen after.seen request (take len out ∷ [])) × IsAtOnce peer request replied.version
+    (len ≤ limit_for peer.transport (reads request)) × (replied : IsReplied first peer (learned_by before) (learned_by after) request (take len out ∷ [])) × IsAtOnce peer request replied.version
     × LoadsFor first before after replied.version (reads request)
 IsNow first peer request before after out Silent = (reads request ≡ IsSilent) × (after ≡ before)
 IsNow first peer request before after out Later =
     (IsUpdate request × (after ≡ before)) ⊎ ((transfer : IsTransfer first peer request) × HasLoaded first before after transfer.version)
 IsNow first peer request before after out Spent = IsQuery request × HasGone before after
 
--- nothing is answered: to a query where its reader has no grant left, or to a transfer that is permitted, of which no version can be had (own)
-abbrev pub HasNoAnswer : List Record → Peer → List ℕ → ReaderState Version → Type 0
-HasNoAnswer first peer request before = (IsQuery request × (before.left ≡ 0)) ⊎ IsTransfer first peer request
+-- nothing is answered: to a query where its reader has no grant left; or to a transfer that is permitted, where none is left behind it (own)
+abbrev pub HasNoAnswer : List Record → Peer → List ℕ → ReaderState Version → ReaderState Version → Type 0
+HasNoAnswer first peer request before after = (IsQuery request × (before.left ≡ 0)) ⊎ (IsTransfer first peer request × (after.left ≡ 0))
 
 -- what is answered by the engine or from its versions, by a reader before and after: in a buffer a query's reply, or the code that an update gets and
--- which is told of it; or a transfer that is permitted, whose messages are the reply in a version that isn't older than what was seen; or, of a transfer alone, that no version could be owned
+-- which is told of it; or a transfer that is permitted, whose messages are the reply in a version that isn't older than what was seen; or, of a transfer
+-- that is permitted alone, that its reader wants grants for it
 abbrev pub IsServed : List Record → Peer → List ℕ → ReaderState Version → ReaderState Version → List ℕ → Served → Type 0
 IsServed first peer request before after out (Reply len) =
-    (len ≤ limit_for peer.transport (reads request)) × (replied : IsReplied first peer before.seen after.seen request (take len out ∷ [])) × IsQuery request
+    (len ≤ limit_for peer.transport (reads request)) × (replied : IsReplied first peer (learned_by before) (learned_by after) request (take len out ∷ [])) × IsQuery request
     × HasLoaded first before after replied.version
 IsServed first peer request before after out (Updated len told) =
-    (len ≤ limit_for peer.transport (reads request)) × IsReplied first peer before.seen after.seen request (take len out ∷ [])
+    (len ≤ limit_for peer.transport (reads request)) × IsReplied first peer (learned_by before) (learned_by after) request (take len out ∷ [])
     × IsUpdateTold first peer request before after (take len out) told
 IsServed first peer request before after out (Transfer version chain query) =
     (is_permitted version.zone peer query ≡ true)
-    × ((replied : IsReplied first peer before.seen after.seen request (messages_to version.zone (changes_by (soa_of version.zone) chain) peer query)) × (replied.version ≡ version) × (replied.gone ≡ after.gone))
+    × ((replied : IsReplied first peer (learned_by before) (learned_by after) request (messages_to version.zone (changes_by (soa_of version.zone) chain) peer query)) × (replied.version ≡ version))
     × (reads request ≡ Query query) × HasSeen first before after version
-IsServed first peer request before after out IsSpent = IsTransfer first peer request × LoadsInVain first before after
+IsServed first peer request before after out IsSpent = (transfer : IsTransfer first peer request) × LoadsInVain first transfer.query before after

@@ -2,9 +2,8 @@
 //! versions that it keeps: updates (RFC 2136, 3) and transfers (RFC 1995, 4; RFC 5936, 2.2).
 ghost use Rattle.std.specs.Prelude.{◌≡◌, ◌↔◌, ◌≤◌, ◌⊎◌, Some, None, false, length, IfOk, OnErr};
 ghost use Rattle.serve_core.specs.Transport.{room_of};
-ghost use Rattle.zone_tree.specs.Version.{Version as PublishedVersion};
+ghost use Rattle.zone_service.specs.Known.{HasTooFew};
 ghost use Rattle.zone_service.specs.Replied.{IsUpdate, IsQuery, IsTransfer, IsChained, IsNow, IsServed};
-ghost use Rattle.conversation.specs.Served.{BeginsWith};
 ghost use Rattle.dns_engine.specs.Held.{IsLatest};
 ghost use Rattle.zone_service.specs.declared.answer.Now.{Now as AtOnce};
 ghost use Rattle.zone_service.specs.Updated.{IsJudged, IsToldOf};
@@ -69,7 +68,7 @@ pub enum Served {
     Updated(usize, Told),
     /// The messages of a transfer of this version, which a query asks for, by those since the asker's.
     Transfer(SharedVersion, VersionChain, Query),
-    /// No version could be owned for a transfer.
+    /// The reader has no grant left for a transfer, or not one for each version since the asker's.
     Spent,
 }
 
@@ -146,9 +145,7 @@ pub fn serve_one<R: Wait, Z: FirstZone, N: Naming>(
     if !is_permitted(version, &query, peer) {
         return Served::Reply(respond_to_peer(version.zone(), &query, peer, out));
     }
-    let Ok(shared) = strong.get().share() else {
-        return Served::Spent;
-    };
+    let shared = strong.get().share(rt);
     let Ok(chain) = chain_for(rt, server, reader, &strong, &query) else {
         return Served::Spent;
     };
@@ -156,7 +153,7 @@ pub fn serve_one<R: Wait, Z: FirstZone, N: Naming>(
 }
 
 /// The versions since the one that the asker of an IXFR holds, up to one that the reader has loaded: none of another query. [`Spent`] where
-/// the reader has no grant left for one of them, or it can't be shared.
+/// the reader hasn't a grant left for each of them.
 fn chain_for<R: Wait, Z: FirstZone, N: Naming>(
     rt: &R,
     server: &Server<'_, Z, N>,
@@ -166,7 +163,7 @@ fn chain_for<R: Wait, Z: FirstZone, N: Naming>(
 ) -> Result<VersionChain, Spent>
     requires { IsLatest Z.zone reader.old.seen strong.now.value × (strong.now.value.number ≡ strong.now.number) }
     ensures chained { IfOk result (λ chain. IsChained Z.zone query.now strong.now.value reader.old reader.new chain) }
-    ensures grown { OnErr result (BeginsWith {T = PublishedVersion} reader.new.seen reader.old.seen) }
+    ensures spent { OnErr result (HasTooFew Z.zone query.now strong.now.value reader.old reader.new) }
 {
     if query.question.rtype != RType::IXFR {
         return Ok(VersionChain::none());
@@ -175,7 +172,7 @@ fn chain_for<R: Wait, Z: FirstZone, N: Naming>(
         return Ok(VersionChain::none());
     };
     let told = server.chain(rt, reader, serial, strong.number());
-    VersionChain::of(told)
+    VersionChain::of(rt, told)
 }
 
 /// What is told of a request that asks for an update, and what its reply repeats of it: FORMERR of one that can't be read

@@ -3,11 +3,12 @@ ghost use Rattle.std.specs.Prelude.{◌≡◌, ◌+◌, ◌-◌, ◌^◌, ◌<�
 ghost use Rattle.std.specs.Result.{IsErrOf};
 ghost use Rattle.dns_message.specs.Message.{message_limit};
 ghost use Rattle.zone_tree.specs.Version.{Version};
+ghost use Rattle.zone_service.specs.Known.{learned_by};
 ghost use Rattle.conversation.specs.Octets.{messages_in};
 ghost use Rattle.conversation.specs.Datagrams.{by_datagram};
 ghost use Rattle.zone_service.specs.Replied.{IsReplied, IsUpdate, IsTransfer, HasNoAnswer};
 ghost use Rattle.zone_service.specs.declared.service_log.Event.TheVariants.{Update as ToldOfUpdate};
-ghost use Rattle.conversation.specs.Served.{BeginsWith};
+ghost use Rattle.conversation.specs.Served.{Grows};
 ghost use Rattle.conversation.specs.Turns.{Replies, IsBrokenAs};
 ghost use Rattle.conversation.specs.declared.turn.Broken.{Broken as BrokenBy};
 
@@ -23,7 +24,7 @@ use std::alloc::Global;
 use std::net::SocketAddr;
 use std::sync::Wait;
 
-/// A server that answers one peer, with a worker's reader, of which contracts know what it has seen published. A log is told of updates.
+/// A server that answers one peer, with a worker's reader, of which contracts know what it has seen published and buried. A log is told of updates.
 #[derive(Drop)]
 pub struct Asked<'a, 's, Z: FirstZone, N: Naming, L> {
     server: &'a Server<'s, Z, N>,
@@ -101,12 +102,12 @@ impl<'a, 's, Z: FirstZone, N: Naming, L: ServiceLog> Asked<'a, 's, Z, N, L> {
         requires reply_room { message_limit ≤ length out.old }
         requires frame_room { message_limit + 2 ≤ length frame.old }
         ensures peer { self.new.peer ≡ self.old.peer }
-        ensures grows { BeginsWith {T = Version} self.new.reader.seen self.old.reader.seen }
-        ensures replied { OnOk result (Replies {T = Version} (IsReplied Z.zone self.old.peer) self.old.reader.seen request.now self.new.reader.seen (S.octets stream.old.inner) (S.octets stream.new.inner)) }
-        ensures broken { IfErr result (λ broken. IsBrokenAs {T = Version} (IsReplied Z.zone self.old.peer) broken self.old.reader.seen request.now self.new.reader.seen (S.octets stream.old.inner) (S.octets stream.new.inner)) }
+        ensures grows { Grows {T = Version} (learned_by self.new.reader) (learned_by self.old.reader) }
+        ensures replied { OnOk result (Replies {T = Version} (IsReplied Z.zone self.old.peer) (learned_by self.old.reader) request.now (learned_by self.new.reader) (S.octets stream.old.inner) (S.octets stream.new.inner)) }
+        ensures broken { IfErr result (λ broken. IsBrokenAs {T = Version} (IsReplied Z.zone self.old.peer) broken (learned_by self.old.reader) request.now (learned_by self.new.reader) (S.octets stream.old.inner) (S.octets stream.new.inner)) }
         ensures same { OnOk result (stream.new.faults ≡ stream.old.faults) }
         ensures counted { IsErrOf result BrokenBy.Failed → stream.old.faults < stream.new.faults }
-        ensures spent { IsErrOf result BrokenBy.Spent → IsTransfer Z.zone self.old.peer request.now }
+        ensures spent { IsErrOf result BrokenBy.Spent → IsTransfer Z.zone self.old.peer request.now × (self.new.reader.left ≡ 0) }
     {
         let peer = self.peer;
         match serve_one(
@@ -143,10 +144,10 @@ impl<'a, 's, Z: FirstZone, N: Naming, L: ServiceLog> Asked<'a, 's, Z, N, L> {
         requires datagram { peer.transport ≡ Transport.Udp }
         requires reply_room { message_limit ≤ length out.old }
         ensures peer { self.new.peer ≡ self.old.peer }
-        ensures grows { BeginsWith {T = Version} self.new.reader.seen self.old.reader.seen }
+        ensures grows { Grows {T = Version} (learned_by self.new.reader) (learned_by self.old.reader) }
         ensures bound { IfOk result (λ len. IfSome len (λ n. (n ≤ message_limit) × (n ≤ length out.new))) }
-        ensures replied { IfOk result (λ len. IsReplied Z.zone peer self.old.reader.seen self.new.reader.seen request.now (messages_in len out.new)) }
-        ensures spent { OnErr result (IsTransfer Z.zone peer request.now) }
+        ensures replied { IfOk result (λ len. IsReplied Z.zone peer (learned_by self.old.reader) (learned_by self.new.reader) request.now (messages_in len out.new)) }
+        ensures spent { OnErr result (IsTransfer Z.zone peer request.now × (self.new.reader.left ≡ 0)) }
     {
         match serve_one(
             rt,
@@ -171,19 +172,19 @@ impl<'a, 's, Z: FirstZone, N: Naming, L: ServiceLog> Asked<'a, 's, Z, N, L> {
 }
 
 impl<'a, 's, Z: FirstZone, N: Naming, L: ServiceLog> Answering for Asked<'a, 's, Z, N, L> {
-    ghost seen = { λ asked. asked.reader.seen };
+    ghost seen = { λ asked. learned_by asked.reader };
 
     ghost peer = { λ asked. asked.peer };
 
     ghost is_reply = { λ peer known later request messages. IsReplied Z.zone peer known later request messages };
 
-    #[tactic(auto, using(conversation::proofs::TurnLemmas::begins_itself))]
+    #[tactic(auto, using(conversation::proofs::TurnLemmas::grows_itself))]
     fn turn_to(&mut self, other: Peer, from: SocketAddr) {
         self.peer = other;
         self.from = from;
     }
 
-    #[tactic(auto, using(crate::proofs::ReplyLemmas::limit_most, crate::proofs::ReplyLemmas::room_most, crate::proofs::ReplyLemmas::silent_replied, conversation::proofs::TurnLemmas::begins_itself))]
+    #[tactic(auto, using(crate::proofs::ReplyLemmas::limit_most, crate::proofs::ReplyLemmas::room_most, crate::proofs::ReplyLemmas::silent_replied, conversation::proofs::TurnLemmas::grows_itself))]
     fn answer<R: Wait>(
         &mut self,
         rt: &R,
@@ -192,11 +193,11 @@ impl<'a, 's, Z: FirstZone, N: Naming, L: ServiceLog> Answering for Asked<'a, 's,
     ) -> Result<Option<usize>, Spent>
         requires { message_limit ≤ length out.old }
         ensures same { self.new.peer ≡ self.old.peer }
-        ensures grows { BeginsWith {T = Version} self.new.reader.seen self.old.reader.seen }
+        ensures grows { Grows {T = Version} (learned_by self.new.reader) (learned_by self.old.reader) }
         ensures bound { IfOk result (λ len. IfSome len (λ n. (n ≤ message_limit) × (n ≤ length out.new))) }
-        ensures reply { IfOk result (λ len. IsReplied Z.zone (by_datagram self.old.peer) self.old.reader.seen self.new.reader.seen request.now (messages_in len out.new)) }
+        ensures reply { IfOk result (λ len. IsReplied Z.zone (by_datagram self.old.peer) (learned_by self.old.reader) (learned_by self.new.reader) request.now (messages_in len out.new)) }
         // What can't be read as a query is answered, or told as silence, whether a version can be loaded or not.
-        ensures spent { OnErr result (HasNoAnswer Z.zone (by_datagram self.old.peer) request.now self.old.reader) }
+        ensures spent { OnErr result (HasNoAnswer Z.zone (by_datagram self.old.peer) request.now self.old.reader self.new.reader) }
     {
         let peer = Peer {
             transport: Transport::Udp,
@@ -211,7 +212,7 @@ impl<'a, 's, Z: FirstZone, N: Naming, L: ServiceLog> Answering for Asked<'a, 's,
         }
     }
 
-    #[tactic(auto, using(crate::proofs::ReplyLemmas::limit_most, crate::proofs::ReplyLemmas::room_most, crate::proofs::ReplyLemmas::silent_replied, conversation::proofs::TurnLemmas::begins_itself))]
+    #[tactic(auto, using(crate::proofs::ReplyLemmas::limit_most, crate::proofs::ReplyLemmas::room_most, crate::proofs::ReplyLemmas::silent_replied, conversation::proofs::TurnLemmas::grows_itself))]
     fn answer_on<R: Wait, S: Stream>(
         &mut self,
         rt: &R,
@@ -224,13 +225,13 @@ impl<'a, 's, Z: FirstZone, N: Naming, L: ServiceLog> Answering for Asked<'a, 's,
         requires reply_room { message_limit ≤ length out.old }
         requires frame_room { message_limit + 2 ≤ length frame.old }
         ensures peer { self.new.peer ≡ self.old.peer }
-        ensures grows { BeginsWith {T = Version} self.new.reader.seen self.old.reader.seen }
-        ensures replied { OnOk result (Replies {T = Version} (IsReplied Z.zone self.old.peer) self.old.reader.seen request.now self.new.reader.seen (S.octets stream.old.inner) (S.octets stream.new.inner)) }
-        ensures broken { IfErr result (λ broken. IsBrokenAs {T = Version} (IsReplied Z.zone self.old.peer) broken self.old.reader.seen request.now self.new.reader.seen (S.octets stream.old.inner) (S.octets stream.new.inner)) }
+        ensures grows { Grows {T = Version} (learned_by self.new.reader) (learned_by self.old.reader) }
+        ensures replied { OnOk result (Replies {T = Version} (IsReplied Z.zone self.old.peer) (learned_by self.old.reader) request.now (learned_by self.new.reader) (S.octets stream.old.inner) (S.octets stream.new.inner)) }
+        ensures broken { IfErr result (λ broken. IsBrokenAs {T = Version} (IsReplied Z.zone self.old.peer) broken (learned_by self.old.reader) request.now (learned_by self.new.reader) (S.octets stream.old.inner) (S.octets stream.new.inner)) }
         ensures same { OnOk result (stream.new.faults ≡ stream.old.faults) }
         ensures counted { IsErrOf result BrokenBy.Failed → stream.old.faults < stream.new.faults }
         // What can't be read as a query ends no stream by want of a version.
-        ensures spent { IsErrOf result BrokenBy.Spent → HasNoAnswer Z.zone self.old.peer request.now self.old.reader }
+        ensures spent { IsErrOf result BrokenBy.Spent → HasNoAnswer Z.zone self.old.peer request.now self.old.reader self.new.reader }
     {
         let cell = self.server.cell();
         match answer_now(cell, &mut self.reader, self.peer, request, out) {

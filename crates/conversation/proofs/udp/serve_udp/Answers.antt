@@ -1,17 +1,17 @@
 -- One datagram behind the other.
 use Rattle.std.proofs.Common.{◌≡◌, arith}
 use Rattle.conversation.proofs.ExchangeLemmas.{known_first, known_more, known_ends, known_done}
-use Rattle.conversation.proofs.TurnLemmas.{begins_itself, begins_more}
+use Rattle.conversation.proofs.TurnLemmas.{grows_itself, grows_more}
 use Rattle.conversation.proofs.udp.serve_udp.Goals as goal
 
 pub loop-done-init : goal.loop-done-init
-loop-done-init g c = (begins_itself _, known_first _ _ _ _ _)
+loop-done-init g c = (grows_itself _, known_first _ _ _ _ _)
 
 pub loop-done-preserved : goal.loop-done-preserved
-loop-done-preserved g c = (begins_more _ _ _ c.loop-done.invariant.0 c.in-None.ensures.grows, known_more _ _ _ _ _ _ _ _ _ _ _ _ c.loop-done.invariant.1 c.in-None.ensures.turns)
+loop-done-preserved g c = (grows_more _ _ _ c.loop-done.invariant.0 c.in-None.ensures.grows, known_more _ _ _ _ _ _ _ _ _ _ _ _ c.loop-done.invariant.1 c.in-None.ensures.turns)
 
 pub returns-in-Some-clause-grows : goal.returns-in-Some-clause-grows
-returns-in-Some-clause-grows g c = begins_more _ _ _ c.loop-done.invariant.0 c.in-Some.ensures.grows
+returns-in-Some-clause-grows g c = grows_more _ _ _ c.loop-done.invariant.0 c.in-Some.ensures.grows
 
 pub returns-in-Some-clause-answered : goal.returns-in-Some-clause-answered
 returns-in-Some-clause-answered g c =

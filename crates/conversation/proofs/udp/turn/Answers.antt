@@ -1,18 +1,18 @@
 -- A datagram that is received is answered as its own sender's.
-use Rattle.conversation.proofs.TurnLemmas.{begins_more}
+use Rattle.conversation.proofs.TurnLemmas.{grows_more}
 use Rattle.conversation.proofs.ExchangeLemmas.{datagram_same, turn_made, turn_spent}
 use Rattle.conversation.proofs.udp.turn.Goals as goal
 
 pub returns-in-Err-clause-grows : goal.returns-in-Err-clause-grows
-returns-in-Err-clause-grows g c = begins_more _ _ _ c.turn_to.ensures.grows c.reply-replied.ensures.grows
+returns-in-Err-clause-grows g c = grows_more _ _ _ c.turn_to.ensures.grows c.reply-replied.ensures.grows
 
 pub returns-in-Err-clause-turns : goal.returns-in-Err-clause-turns
 returns-in-Err-clause-turns g c =
-    let grows = begins_more _ _ _ c.turn_to.ensures.grows c.reply-replied.ensures.grows in
+    let grows = grows_more _ _ _ c.turn_to.ensures.grows c.reply-replied.ensures.grows in
     turn_spent g.A.Answering.is_reply c.args.allowed.addresses.now _ _ _ _ _ _ _ _ _ grows c.in-Some.ensures.receives c.in-Some.ensures.same c.in-Err.ensures.spent c.in-Err.ensures.same
 
 pub returns-clause-grows : goal.returns-clause-grows
-returns-clause-grows g c = begins_more _ _ _ c.turn_to.ensures.grows c.reply-replied.ensures.grows
+returns-clause-grows g c = grows_more _ _ _ c.turn_to.ensures.grows c.reply-replied.ensures.grows
 
 pub returns-clause-turns : goal.returns-clause-turns
 returns-clause-turns g c =

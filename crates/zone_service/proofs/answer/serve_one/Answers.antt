@@ -10,9 +10,9 @@ use Rattle.dns_engine.specs.Chain.{changes_by}
 use Rattle.dns_engine.proofs.ReplayLemmas.{last_number_of}
 use Rattle.serve_core.specs.Transfers.{is_permitted, reply_to_peer, messages_to}
 use Rattle.serve_core.specs.Transport.{limit_of}
-use Rattle.zone_service.specs.Known.{HasSeen}
+use Rattle.zone_service.specs.Known.{learned_by, HasSeen}
 use Rattle.zone_service.specs.Replied.{IsReplied}
-use Rattle.zone_service.proofs.KnownLemmas.{loads, loaded_latest, loaded_replay, has_seen, just_seen}
+use Rattle.zone_service.proofs.KnownLemmas.{loads, loaded_latest, loaded_replay, has_seen}
 use Rattle.zone_service.proofs.ReplyLemmas.{told_replied, update_limit, later_transfer, query_served, transfer_replied, chained_grows}
 use Rattle.zone_service.proofs.AboutLemmas.{no_older}
 use Rattle.zone_service.proofs.answer.serve_one.Goals as goal
@@ -43,13 +43,6 @@ returns-then-not-is_permitted g c =
     query_served first c.args.peer c.args.reader.now c.load.new.reader version c.args.request.now c.respond_to_peer.new.out query c.respond_to_peer.result (loaded_replay first _ _ c.in-Ok.strong load) (loaded_latest first _ _ c.in-Ok.strong load) (loads first _ _ c.in-Ok.strong load)
     (sym c.parse_other.ensures ∙ c.in-Query.is) refused written c.respond_to_peer.ensures.len
 
-pub returns-in_default-share : goal.returns-in_default-share
-returns-in_default-share g c =
-    let first = g.Z.FirstZone.zone in (
-      later_transfer first c.args.peer c.args.request.now (sym c.is_update.ensures ∙ c.if-is_update.false) c.requires.later,
-      inr (c.in-Ok.strong.value, just_seen first c.args.reader.now c.load.new.reader c.in-Ok.strong.value (loads first _ _ c.in-Ok.strong c.in-Ok.ensures.loaded)),
-    )
-
 pub chain_for-requires : goal.chain_for-requires
 chain_for-requires g c =
     let first = g.Z.FirstZone.zone in
@@ -58,12 +51,14 @@ chain_for-requires g c =
 
 pub returns-in_default-chain_for : goal.returns-in_default-chain_for
 returns-in_default-chain_for g c =
-    let first = g.Z.FirstZone.zone in (
-      later_transfer first c.args.peer c.args.request.now (sym c.is_update.ensures ∙ c.if-is_update.false) c.requires.later,
-      inr (
-        c.in-Ok.strong.value,
-        has_seen first c.args.reader.now c.load.new.reader c.chain_for.new.reader c.in-Ok.strong.value (loads first _ _ c.in-Ok.strong c.in-Ok.ensures.loaded) c.in_default-chain_for.ensures.grown,
-      ),
+    let first = g.Z.FirstZone.zone in
+    let query = c.in-Query.query in
+    let load = c.in-Ok.ensures.loaded in
+    let version = c.in-Ok.strong.value in
+    let permitted : is_permitted version.zone c.args.peer query ≡ true =
+    ap (λ (v : Version). is_permitted v.zone c.args.peer query) (sym (c.get-version.ensures ∙ c.get.ensures)) ∙ sym c.is_permitted.ensures ∙ c.if-not-is_permitted.false in (
+      record { query = query; asked = sym c.parse_other.ensures ∙ c.in-Query.is; version = version; replayed = loaded_replay first _ _ c.in-Ok.strong load; permitted = permitted },
+      inr (version, c.load.new.reader, loads first _ _ c.in-Ok.strong load, c.in_default-chain_for.ensures.spent),
     )
 
 pub returns : goal.returns
@@ -80,12 +75,12 @@ returns g c =
     let got = c.get-version.ensures ∙ c.get.ensures in
     let asked = sym c.parse_other.ensures ∙ c.in-Query.is in
     let permitted : is_permitted version.zone peer query ≡ true = ap (λ (v : Version). is_permitted v.zone peer query) (sym got) ∙ sym c.is_permitted.ensures ∙ c.if-not-is_permitted.false in
-    let same : version ≡ c.in-Ok-share.shared = sym (c.in-Ok-share.ensures ∙ c.get-2.ensures) in
+    let same : version ≡ c.share-shared.result = sym (c.share-shared.ensures ∙ c.get-2.ensures) in
     subst (λ (v : Version). (is_permitted v.zone peer query ≡ true)
-    × ((replied : IsReplied first peer c.args.reader.now.seen after.seen request (messages_to v.zone (changes_by (soa_of v.zone) chain) peer query)) × (replied.version ≡ v) × (replied.gone ≡ after.gone))
+    × ((replied : IsReplied first peer (learned_by c.args.reader.now) (learned_by after) request (messages_to v.zone (changes_by (soa_of v.zone) chain) peer query)) × (replied.version ≡ v))
     × (reads request ≡ Query query) × HasSeen first c.args.reader.now after v) same (
       permitted,
-      transfer_replied first peer c.args.reader.now.seen c.load.new.reader after version request query chain (no_older first c.args.reader.now.seen c.load.new.reader.seen version load.begun (loaded_latest first _ _ c.in-Ok.strong load)) (loaded_replay first _ _ c.in-Ok.strong load) (loaded_latest first _ _ c.in-Ok.strong load) asked permitted chained,
+      transfer_replied first peer (learned_by c.args.reader.now) c.load.new.reader after version request query chain (no_older first c.args.reader.now.seen c.load.new.reader.seen version load.begun (loaded_latest first _ _ c.in-Ok.strong load)) (loaded_replay first _ _ c.in-Ok.strong load) (loaded_latest first _ _ c.in-Ok.strong load) asked permitted chained,
       asked,
       has_seen first c.args.reader.now c.load.new.reader after version (loads first _ _ c.in-Ok.strong load) (chained_grows first query version c.load.new.reader after chain chained),
     )

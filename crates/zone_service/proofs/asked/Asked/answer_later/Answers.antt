@@ -6,8 +6,9 @@ use Rattle.zone_tree.specs.Zone.{soa_of}
 use Rattle.zone_tree.specs.Version.{Version}
 use Rattle.dns_engine.specs.Chain.{changes_by}
 use Rattle.serve_core.specs.Transfers.{messages_to}
+use Rattle.zone_service.specs.Known.{learned_by}
 use Rattle.zone_service.specs.Replied.{IsReplied}
-use Rattle.zone_service.proofs.NowLemmas.{told_grows, vain_grows, seen_grows}
+use Rattle.zone_service.proofs.NowLemmas.{told_grows, vain_left, vain_grows, seen_grows}
 use Rattle.zone_service.proofs.ReplyLemmas.{short_reply}
 use Rattle.zone_service.proofs.TransferLemmas.{part_of_one, never_spent, reply_written, reply_broken}
 use Rattle.zone_service.proofs.asked.Asked.answer_later.Goals as goal
@@ -31,13 +32,16 @@ returns-in-Updated-clause-broken g c = reply_broken _ c.write_frame-in-Updated.r
 
 pub returns-in-Transfer-clause-replied : goal.returns-in-Transfer-clause-replied
 returns-in-Transfer-clause-replied g c =
-    let reply = subst (λ (v : Version). IsReplied g.Z.FirstZone.zone c.args.self.now.peer c.args.self.now.reader.seen c.serve_one.new.reader.seen c.args.request.now (messages_to v.zone (changes_by (soa_of v.zone) c.in-Transfer.chain) c.args.self.now.peer c.in-Transfer.query)) (sym c.get.ensures) c.in-Transfer.ensures.1.0 in
+    let reply = subst (λ (v : Version). IsReplied g.Z.FirstZone.zone c.args.self.now.peer (learned_by c.args.self.now.reader) (learned_by c.serve_one.new.reader) c.args.request.now (messages_to v.zone (changes_by (soa_of v.zone) c.in-Transfer.chain) c.args.self.now.peer c.in-Transfer.query)) (sym c.get.ensures) c.in-Transfer.ensures.1.0 in
     reply_written _ c.send_transfer.result _ _ _ _ _ _ reply c.send_transfer.ensures.whole
 
 pub returns-in-Transfer-clause-broken : goal.returns-in-Transfer-clause-broken
 returns-in-Transfer-clause-broken g c =
-    let reply = subst (λ (v : Version). IsReplied g.Z.FirstZone.zone c.args.self.now.peer c.args.self.now.reader.seen c.serve_one.new.reader.seen c.args.request.now (messages_to v.zone (changes_by (soa_of v.zone) c.in-Transfer.chain) c.args.self.now.peer c.in-Transfer.query)) (sym c.get.ensures) c.in-Transfer.ensures.1.0 in
+    let reply = subst (λ (v : Version). IsReplied g.Z.FirstZone.zone c.args.self.now.peer (learned_by c.args.self.now.reader) (learned_by c.serve_one.new.reader) c.args.request.now (messages_to v.zone (changes_by (soa_of v.zone) c.in-Transfer.chain) c.args.self.now.peer c.in-Transfer.query)) (sym c.get.ensures) c.in-Transfer.ensures.1.0 in
     reply_broken _ c.send_transfer.result _ _ _ _ _ _ reply c.send_transfer.ensures.failed c.send_transfer.ensures.part
+
+pub returns-in-Spent-clause-spent : goal.returns-in-Spent-clause-spent
+returns-in-Spent-clause-spent g c = λ spent. (c.in-Spent.ensures.0, vain_left g.Z.FirstZone.zone c.in-Spent.ensures.0.query c.args.self.now.reader c.serve_one.new.reader c.in-Spent.ensures.1)
 
 pub returns-in-Reply-clause-spent : goal.returns-in-Reply-clause-spent
 returns-in-Reply-clause-spent g c = never_spent _ c.write_frame.result c.write_frame.ensures.failed
@@ -53,7 +57,7 @@ returns-in-Updated-clause-grows g c =
     told_grows g.Z.FirstZone.zone c.args.self.now.peer.may_update c.args.request.now c.args.self.now.reader c.serve_one.new.reader c.in-Updated.ensures.2.heading c.in-Updated.told c.in-Updated.ensures.2.tells
 
 pub returns-in-Spent-clause-grows : goal.returns-in-Spent-clause-grows
-returns-in-Spent-clause-grows g c = vain_grows g.Z.FirstZone.zone c.args.self.now.reader c.serve_one.new.reader c.in-Spent.ensures.1
+returns-in-Spent-clause-grows g c = vain_grows g.Z.FirstZone.zone c.in-Spent.ensures.0.query c.args.self.now.reader c.serve_one.new.reader c.in-Spent.ensures.1
 
 pub returns-in-Transfer-clause-grows : goal.returns-in-Transfer-clause-grows
 returns-in-Transfer-clause-grows g c = seen_grows g.Z.FirstZone.zone c.args.self.now.reader c.serve_one.new.reader c.in-Transfer.version c.in-Transfer.ensures.3

@@ -1,21 +1,22 @@
--- A transfer of which no version can be had is answered by nothing.
-use Rattle.conversation.proofs.TurnLemmas.{begins_more}
+-- A transfer for which grants are wanted is answered by nothing.
+use Rattle.conversation.proofs.TurnLemmas.{grows_more}
 use Rattle.zone_service.specs.declared.answer.Now.TheVariants.{Bytes, Later}
+use Rattle.zone_service.specs.Known.{learned_by}
 use Rattle.zone_service.proofs.NowLemmas.{now_grows}
 use Rattle.zone_service.proofs.ReplyLemmas.{spent_transfer, datagram_replied}
 use Rattle.zone_service.proofs.asked.AskedAnswering.answer.Goals as goal
 
 pub returns-in-Later-clause-spent : goal.returns-in-Later-clause-spent
-returns-in-Later-clause-spent g c = spent_transfer c.answer_datagram_later.result g.Z.FirstZone.zone _ c.args.request.now c.args.self.now.reader c.answer_datagram_later.ensures.spent
+returns-in-Later-clause-spent g c = spent_transfer c.answer_datagram_later.result g.Z.FirstZone.zone _ c.args.request.now c.args.self.now.reader c.answer_datagram_later.new.self.reader c.answer_datagram_later.ensures.spent
 
 pub returns-in-Bytes-clause-grows : goal.returns-in-Bytes-clause-grows
 returns-in-Bytes-clause-grows g c = now_grows g.Z.FirstZone.zone _ c.args.request.now c.args.self.now.reader c.answer_now.new.reader c.answer_now.new.out (Bytes c.in-Bytes.len) c.in-Bytes.ensures.now
 
 pub returns-in-Later-clause-grows : goal.returns-in-Later-clause-grows
 returns-in-Later-clause-grows g c =
-    begins_more _ _ _ (now_grows g.Z.FirstZone.zone _ c.args.request.now c.args.self.now.reader c.answer_now.new.reader c.answer_now.new.out Later c.in-Later.ensures.now) c.answer_datagram_later.ensures.grows
+    grows_more _ _ _ (now_grows g.Z.FirstZone.zone _ c.args.request.now c.args.self.now.reader c.answer_now.new.reader c.answer_now.new.out Later c.in-Later.ensures.now) c.answer_datagram_later.ensures.grows
 
 pub returns-in-Later-clause-reply : goal.returns-in-Later-clause-reply
 returns-in-Later-clause-reply g c =
     let grown = now_grows g.Z.FirstZone.zone _ c.args.request.now c.args.self.now.reader c.answer_now.new.reader c.answer_now.new.out Later c.in-Later.ensures.now in
-    datagram_replied g.Z.FirstZone.zone _ c.args.self.now.reader.seen c.answer_now.new.reader.seen _ _ _ c.answer_datagram_later.result grown c.answer_datagram_later.ensures.replied
+    datagram_replied g.Z.FirstZone.zone _ (learned_by c.args.self.now.reader) (learned_by c.answer_now.new.reader) _ _ _ c.answer_datagram_later.result grown c.answer_datagram_later.ensures.replied

@@ -2,8 +2,9 @@
 use Rattle.std.proofs.Common.{[], inr, arith}
 use Rattle.std.proofs.lemmas.List.{length-take-le}
 use Rattle.dns_message.specs.Request.{reads}
-use Rattle.conversation.proofs.TurnLemmas.{begins_more}
+use Rattle.conversation.proofs.TurnLemmas.{grows_more}
 use Rattle.zone_service.specs.declared.answer.Now.TheVariants.{Bytes, Later}
+use Rattle.zone_service.specs.Known.{learned_by}
 use Rattle.zone_service.proofs.NowLemmas.{now_grows}
 use Rattle.zone_service.proofs.ReplyLemmas.{short_reply, silent_replied, stream_replied, stream_broken}
 use Rattle.zone_service.proofs.TransferLemmas.{takes_none, never_spent}
@@ -29,14 +30,14 @@ returns-in-Bytes-clause-grows g c = now_grows g.Z.FirstZone.zone _ c.args.reques
 
 pub returns-in-Later-clause-grows : goal.returns-in-Later-clause-grows
 returns-in-Later-clause-grows g c =
-    begins_more _ _ _ (now_grows g.Z.FirstZone.zone _ c.args.request.now c.args.self.now.reader c.answer_now.new.reader c.answer_now.new.out Later c.in-Later.ensures.now) c.answer_later.ensures.grows
+    grows_more _ _ _ (now_grows g.Z.FirstZone.zone _ c.args.request.now c.args.self.now.reader c.answer_now.new.reader c.answer_now.new.out Later c.in-Later.ensures.now) c.answer_later.ensures.grows
 
 pub returns-in-Later-clause-replied : goal.returns-in-Later-clause-replied
 returns-in-Later-clause-replied g c =
     let grown = now_grows g.Z.FirstZone.zone _ c.args.request.now c.args.self.now.reader c.answer_now.new.reader c.answer_now.new.out Later c.in-Later.ensures.now in
-    stream_replied g.Z.FirstZone.zone _ c.args.self.now.reader.seen c.answer_now.new.reader.seen _ _ _ _ grown c.answer_later.result c.answer_later.ensures.replied
+    stream_replied g.Z.FirstZone.zone _ (learned_by c.args.self.now.reader) (learned_by c.answer_now.new.reader) _ _ _ _ grown c.answer_later.result c.answer_later.ensures.replied
 
 pub returns-in-Later-clause-broken : goal.returns-in-Later-clause-broken
 returns-in-Later-clause-broken g c =
     let grown = now_grows g.Z.FirstZone.zone _ c.args.request.now c.args.self.now.reader c.answer_now.new.reader c.answer_now.new.out Later c.in-Later.ensures.now in
-    stream_broken g.Z.FirstZone.zone _ c.args.self.now.reader.seen c.answer_now.new.reader.seen _ _ _ _ grown c.answer_later.result c.answer_later.ensures.broken
+    stream_broken g.Z.FirstZone.zone _ (learned_by c.args.self.now.reader) (learned_by c.answer_now.new.reader) _ _ _ _ grown c.answer_later.result c.answer_later.ensures.broken
