@@ -54,7 +54,7 @@ impl Echo {
 }
 
 impl Answering<Both> for Echo {
-    ghost seen = { λ _. [] };
+    ghost seen = { λ _. record { published = []; buried = [] } };
 
     ghost peer = { λ echo. echo.peer };
 

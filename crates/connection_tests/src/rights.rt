@@ -29,7 +29,7 @@ impl Rights {
 }
 
 impl Answering<Both> for Rights {
-    ghost seen = { λ _. [] };
+    ghost seen = { λ _. record { published = []; buried = [] } };
 
     ghost peer = { λ rights. rights.peer };
 

@@ -2,7 +2,7 @@
 ghost use Rattle.std.specs.Prelude.{◌≡◌, ℕ, ◌≤◌, List, [], ◌∷◌, length, take, IfOk, MatchOption};
 ghost use Rattle.dns_message.specs.Message.{message_limit};
 ghost use Rattle.zone_tree.specs.Version.{Version};
-ghost use Rattle.conversation.specs.Served.{BeginsWith};
+ghost use Rattle.conversation.specs.Served.{Learned, Grows};
 ghost use Rattle.serve_core.specs.declared.peer.Peer.{Peer as PeerAsking};
 ghost use Rattle.connections.specs.Kept.{messages_of};
 
@@ -35,26 +35,26 @@ pub enum Reply<M> {
 
 /// Who answers requests. Contracts know of it which versions it has seen published, as far as it tells them, and what a reply to a request is.
 pub trait Answering<M: Messages> {
-    /// Versions that are known to be published, the first one first.
-    ghost seen: { Self → List Version };
+    /// What is known of versions: those that are published, the first one first, and the numbers of those that are buried.
+    ghost seen: { Self → Learned Version };
 
     /// Who asks.
     ghost peer: { Self → PeerAsking };
 
     /// What the messages of a reply to a request are, by who asks, by such versions before the reply, and by those when it is made.
-    ghost is_reply: { PeerAsking → List Version → List Version → List ℕ → List (List ℕ) → Type 0 };
+    ghost is_reply: { PeerAsking → Learned Version → Learned Version → List ℕ → List (List ℕ) → Type 0 };
 
     /// Turns to another peer, who asks from an address.
     fn turn_to(&mut self, other: Peer, from: SocketAddr)
         ensures other { peer self.new ≡ other }
-        ensures grows { BeginsWith (seen self.new) (seen self.old) };
+        ensures grows { Grows (seen self.new) (seen self.old) };
 
     /// Makes the reply to a request: its one message at the front of a buffer, or what makes its messages. [`Spent`] where no version can be
     /// loaded.
     fn reply<R: Wait>(&mut self, rt: &R, request: &[u8], out: &mut [u8]) -> Result<Reply<M>, Spent>
         requires { message_limit ≤ length out.old }
         ensures same { peer self.new ≡ peer self.old }
-        ensures grows { BeginsWith (seen self.new) (seen self.old) }
+        ensures grows { Grows (seen self.new) (seen self.old) }
         ensures bound { IfOk result (λ reply. (len : ℕ) → reply ≡ Reply.One len → (len ≤ message_limit) × (len ≤ length out.new)) }
         ensures reply { IfOk result (λ reply. is_reply (peer self.old) (seen self.old) (seen self.new) request.now (messages_of M.left reply out.new)) };
 }

@@ -3,7 +3,7 @@ ghost use Rattle.std.specs.Prelude.{◌≡◌, ◌≢◌, ℕ, ◌+◌, ◌≤�
 ghost use Rattle.dns_message.specs.Frame.{frame_of};
 ghost use Rattle.dns_message.specs.Message.{message_limit};
 ghost use Rattle.conversation.specs.Octets.{frames_of};
-ghost use Rattle.conversation.specs.Served.{BeginsWith};
+ghost use Rattle.conversation.specs.Served.{Grows};
 ghost use Rattle.conversation.specs.Turns.{Turn};
 ghost use Rattle.connections.specs.Kept.{nothing_kept, due, IsWaiting, awaited, messages_of, one_passed, passed_behind};
 
@@ -165,7 +165,7 @@ impl<M: Messages> Conversation<M> {
     ) -> Result<bool, Broken>
         requires { message_limit ≤ length out.old }
         ensures peer { A.peer answering.new ≡ A.peer answering.old }
-        ensures grows { BeginsWith (A.seen answering.new) (A.seen answering.old) }
+        ensures grows { Grows (A.seen answering.new) (A.seen answering.old) }
         ensures turn { IfOk result (λ is_made. is_made ≡ true → Turn (A.is_reply (A.peer answering.old)) (A.seen answering.old) (self.old.held, due self.old) (A.seen answering.new) (self.new.held, due self.new)) }
         ensures passed { IfOk result (λ is_made. is_made ≡ true → self.new.passed ≡ one_passed self.old.passed) }
         ensures none { IfOk result (λ is_made. is_made ≡ false → self.new ≡ self.old) }

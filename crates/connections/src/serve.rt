@@ -1,7 +1,7 @@
 //! Octets between a stream and its conversation, by shares.
 ghost use Rattle.std.specs.Prelude.{◌≡◌, ◌↔◌, ◌<◌, ◌≤◌, [], length, IsTrue, IfErr, OnOk};
 ghost use Rattle.dns_message.specs.Message.{message_limit};
-ghost use Rattle.conversation.specs.Served.{BeginsWith};
+ghost use Rattle.conversation.specs.Served.{Grows};
 ghost use Rattle.connections.specs.Kept.{IsWaiting, told_by};
 ghost use Rattle.connections.specs.Told.{Stays, Writes, EndsTold, IsCounted, EndCounted};
 ghost use Rattle.connections.specs.Going.{Keeps, Goes, Stops};
@@ -54,7 +54,7 @@ fn answer_some<R: Wait, M: Messages, A: Answering<M>>(
 ) -> Result<(), Broken>
     requires { message_limit ≤ length out.old }
     ensures peer { A.peer answering.new ≡ A.peer answering.old }
-    ensures grows { BeginsWith (A.seen answering.new) (A.seen answering.old) }
+    ensures grows { Grows (A.seen answering.new) (A.seen answering.old) }
     ensures keeps { Keeps (A.is_reply (A.peer answering.old)) (A.seen answering.old) conversation.old (A.seen answering.new) conversation.new }
 {
     for _answered in 0..REQUESTS {
@@ -188,7 +188,7 @@ fn turn<R: Wait, M: Messages, A: Answering<M>, S: Blocking>(
     requires room { 0 < length room.old }
     requires out { message_limit ≤ length out.old }
     ensures peer { A.peer answering.new ≡ A.peer answering.old }
-    ensures grows { BeginsWith (A.seen answering.new) (A.seen answering.old) }
+    ensures grows { Grows (A.seen answering.new) (A.seen answering.old) }
     ensures goes { OnOk result (Goes (A.is_reply (A.peer answering.old)) (A.seen answering.old) (told_by conversation.old (S.octets stream.old)) (A.seen answering.new) (told_by conversation.new (S.octets stream.new))) }
     ensures stops { IfErr result (λ end. Stops (A.is_reply (A.peer answering.old)) end (A.seen answering.old) (told_by conversation.old (S.octets stream.old)) (A.seen answering.new) (S.octets stream.new)) }
     ensures written { Writes (S.octets stream.old) (S.octets stream.new) }
@@ -229,7 +229,7 @@ pub fn serve_some<R: Wait, M: Messages, A: Answering<M>, S: Blocking>(
     requires room { 0 < length room.old }
     requires out { message_limit ≤ length out.old }
     ensures peer { A.peer answering.new ≡ A.peer answering.old }
-    ensures grows { BeginsWith (A.seen answering.new) (A.seen answering.old) }
+    ensures grows { Grows (A.seen answering.new) (A.seen answering.old) }
     ensures goes { OnOk result (Goes (A.is_reply (A.peer answering.old)) (A.seen answering.old) (told_by conversation.old (S.octets stream.old)) (A.seen answering.new) (told_by conversation.new (S.octets stream.new))) }
     ensures stops { IfErr result (λ end. Stops (A.is_reply (A.peer answering.old)) end (A.seen answering.old) (told_by conversation.old (S.octets stream.old)) (A.seen answering.new) (S.octets stream.new)) }
     ensures written { Writes (S.octets stream.old) (S.octets stream.new) }

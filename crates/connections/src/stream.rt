@@ -1,7 +1,7 @@
 //! A stream that is served to its end (RFC 1035, 4.2.2).
 ghost use Rattle.std.specs.Prelude.{◌≡◌, ◌-◌, ◌^◌, ◌<◌, ◌≤◌, length, IfSome};
 ghost use Rattle.dns_message.specs.Message.{message_limit};
-ghost use Rattle.conversation.specs.Served.{BeginsWith};
+ghost use Rattle.conversation.specs.Served.{Grows};
 ghost use Rattle.connections.specs.Going.{EndsAs};
 ghost use Rattle.connections.specs.declared.stream_end.StreamEnd.{StreamEnd as End};
 
@@ -28,7 +28,7 @@ pub fn serve_stream<R: Wait, M: Messages, A: Answering<M>, S: Blocking>(
     requires room { 0 < length room.old }
     requires out { message_limit ≤ length out.old }
     ensures served { IfSome (S.octets stream.old) (λ o. EndsAs (A.is_reply (A.peer answering.old)) result (A.seen answering.old) o (A.seen answering.new) (S.octets stream.new)) }
-    ensures grows { BeginsWith (A.seen answering.new) (A.seen answering.old) }
+    ensures grows { Grows (A.seen answering.new) (A.seen answering.old) }
     ensures device { result ≡ End.Device → S.faults stream.old < S.faults stream.new }
 {
     let mut conversation: Conversation<M> = Conversation::new(alloc);

@@ -1,7 +1,7 @@
 //! A connection with who asks on it.
 ghost use Rattle.std.specs.Prelude.{◌≡◌, ◌<◌, ◌≤◌, length, IfErr, OnOk};
 ghost use Rattle.dns_message.specs.Message.{message_limit};
-ghost use Rattle.conversation.specs.Served.{BeginsWith};
+ghost use Rattle.conversation.specs.Served.{Grows};
 ghost use Rattle.connections.specs.Kept.{told_by, nothing_kept};
 ghost use Rattle.connections.specs.Told.{Writes};
 ghost use Rattle.connections.specs.Going.{Goes, Stops};
@@ -93,7 +93,7 @@ pub(crate) fn serve_link<R: Wait, S: Blocking + Drop, M: Messages, A: Answering<
     requires room { 0 < length room.old }
     requires out { message_limit ≤ length out.old }
     ensures peer { link.new.peer ≡ link.old.peer }
-    ensures grows { BeginsWith (A.seen answering.new) (A.seen answering.old) }
+    ensures grows { Grows (A.seen answering.new) (A.seen answering.old) }
     ensures goes { OnOk result (Goes (A.is_reply link.old.peer) (A.seen answering.old) (told_by link.old.conversation (S.octets link.old.stream)) (A.seen answering.new) (told_by link.new.conversation (S.octets link.new.stream))) }
     ensures stops { IfErr result (λ end. Stops (A.is_reply link.old.peer) end (A.seen answering.old) (told_by link.old.conversation (S.octets link.old.stream)) (A.seen answering.new) (S.octets link.new.stream)) }
     ensures written { Writes (S.octets link.old.stream) (S.octets link.new.stream) }

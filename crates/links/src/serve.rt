@@ -1,7 +1,7 @@
 //! Connections that are served each under its key.
 ghost use Rattle.std.specs.Prelude.{◌≡◌, ◌≢◌, ◌<◌, ◌≤◌, ℕ, length, option_map, OnErr};
 ghost use Rattle.dns_message.specs.Message.{message_limit};
-ghost use Rattle.conversation.specs.Served.{BeginsWith};
+ghost use Rattle.conversation.specs.Served.{BeginsWith, Grows};
 ghost use Rattle.slab.specs.Slab.{get, slab_len};
 ghost use Rattle.links.specs.Ends.{AreCounted};
 ghost use Rattle.links.specs.Links.{OwnServed, seen_of};
@@ -27,7 +27,7 @@ fn serve_key<R: Wait, S: Blocking + Drop, M: Messages, A: Answering<M>>(
 ) -> bool
     requires room { 0 < length room.old }
     requires out { message_limit ≤ length out.old }
-    ensures grows { BeginsWith (A.seen answering.new) (A.seen answering.old) }
+    ensures grows { Grows (A.seen answering.new) (A.seen answering.old) }
     ensures own { OwnServed A.is_reply now (A.seen answering.old) (option_map (seen_of S.octets) (get links.old key)) (A.seen answering.new) (option_map (seen_of S.octets) (get links.new key)) }
     ensures others { (other : ℕ) → other ≢ key → get links.new other ≡ get links.old other }
     ensures ended { AreCounted ends.old ends.new (slab_len links.old) (slab_len links.new) }
@@ -61,7 +61,7 @@ pub fn serve_ready<R: Wait, S: Blocking + Drop, M: Messages, A: Answering<M>>(
 ) -> Result<(), AllocError>
     requires room { 0 < length room.old }
     requires out { message_limit ≤ length out.old }
-    ensures grows { BeginsWith (A.seen answering.new) (A.seen answering.old) }
+    ensures grows { Grows (A.seen answering.new) (A.seen answering.old) }
     ensures own { (key : ℕ) → OwnServed A.is_reply now (A.seen answering.old) (option_map (seen_of S.octets) (get links.old key)) (A.seen answering.new) (option_map (seen_of S.octets) (get links.new key)) }
     ensures ended { AreCounted ends.old ends.new (slab_len links.old) (slab_len links.new) }
     ensures same { OnErr result (links.new ≡ links.old) }

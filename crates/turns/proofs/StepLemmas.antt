@@ -5,7 +5,7 @@ use Rattle.std.specs.declared.net.socket_addr.SocketAddr.{SocketAddr}
 use Rattle.serve_core.specs.declared.peer.Peer.{Peer}
 use Rattle.serve_core.specs.declared.transport.Transport.TheVariants.{Tcp}
 use Rattle.conversation.specs.Allowed.{IsPeer}
-use Rattle.conversation.specs.Served.{BeginsWith}
+use Rattle.conversation.specs.Served.{Learned, Grows}
 use Rattle.connections.specs.Kept.{nothing_kept}
 use Rattle.slab.specs.Slab.{Slab, get, Updates}
 use Rattle.links.specs.Deadlines.{kept_at, idle_since, IsLeast}
@@ -13,7 +13,7 @@ use Rattle.links.specs.Links.{seen_of}
 use Rattle.links.specs.declared.limits.Limits.{Limits}
 use Rattle.links.specs.declared.link.Link.{Link}
 use Rattle.links.proofs.OwnLemmas.{own_same}
-use Rattle.conversation.proofs.TurnLemmas.{begins_itself}
+use Rattle.conversation.proofs.TurnLemmas.{grows_itself}
 use Rattle.turns.specs.Steps.{scarce, HasBegun, Move, begins, gives, rests, Moves, stay, move, Sweeps, Serves, HasTurned}
 
 module _ {S M : Type 0} (origin : S → SocketAddr) (octets : S → Option (List ℕ × List ℕ)) (allowed : List IpAddr) (now : ℕ) where
@@ -64,20 +64,20 @@ module _ {S M : Type 0} (origin : S → SocketAddr) (octets : S → Option (List
   sweeps_over limits used old new (inl same) swept = inr (inl (subst (λ (l : Limits). (key : ℕ) → get new key ≡ kept_at l now (get old key)) same swept))
   sweeps_over limits used old new (inr same) swept = inr (inr (subst (λ (l : Limits). (key : ℕ) → get new key ≡ kept_at l now (get old key)) same swept))
 
-  module _ {T : Type 0} (IsReply : Peer → List T → List T → List ℕ → List (List ℕ) → Type 0) where
+  module _ {T : Type 0} (IsReply : Peer → Learned T → Learned T → List ℕ → List (List ℕ) → Type 0) where
     -- none is served, and maybe more is known
-    pub serves_none : (seen later : List T) (links : Slab (Link S M)) → BeginsWith later seen → Serves origin octets IsReply now seen links later links
+    pub serves_none : (seen later : Learned T) (links : Slab (Link S M)) → Grows later seen → Serves origin octets IsReply now seen links later links
     serves_none seen later links grows = λ key. own_same IsReply now seen later (option_map (seen_of octets) (get links key)) grows
 
-    pub serves_as : (seen later : List T) (old new same : Slab (Link S M)) → new ≡ same → Serves origin octets IsReply now seen old later same → Serves origin octets IsReply now seen old later new
+    pub serves_as : (seen later : Learned T) (old new same : Slab (Link S M)) → new ≡ same → Serves origin octets IsReply now seen old later same → Serves origin octets IsReply now seen old later new
     serves_as seen later old new same is own = subst (λ (s : Slab (Link S M)). Serves origin octets IsReply now seen old later s) (sym is) own
 
     -- nothing is done in a turn
-    pub turned_none : (limits : Limits) (seen : List T) (old new : Slab (Link S M)) → new ≡ old → HasTurned origin octets IsReply allowed limits now seen old seen new
-    turned_none limits seen old new same = record { come = old; served = old; first = stay; own = serves_none seen seen old (begins_itself seen); last = inl same }
+    pub turned_none : (limits : Limits) (seen : Learned T) (old new : Slab (Link S M)) → new ≡ old → HasTurned origin octets IsReply allowed limits now seen old seen new
+    turned_none limits seen old new same = record { come = old; served = old; first = stay; own = serves_none seen seen old (grows_itself seen); last = inl same }
 
     -- a turn, at the time that was told
-    pub turned_whole : (limits : Limits) (told : ℕ) (seen later : List T) (old start come served new : Slab (Link S M)) → now ≡ told → start ≡ old → Moves origin octets allowed now start come → Serves origin octets IsReply now seen come later served
+    pub turned_whole : (limits : Limits) (told : ℕ) (seen later : Learned T) (old start come served new : Slab (Link S M)) → now ≡ told → start ≡ old → Moves origin octets allowed now start come → Serves origin octets IsReply now seen come later served
         → Sweeps origin octets limits now served new → HasTurned origin octets IsReply allowed limits told seen old later new
     turned_whole limits told seen later old start come served new same still first own last =
         let moved : Moves origin octets allowed now old come = subst (λ (s : Slab (Link S M)). Moves origin octets allowed now s come) still first in

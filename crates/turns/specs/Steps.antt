@@ -5,6 +5,7 @@ use Rattle.std.specs.declared.net.socket_addr.SocketAddr.{SocketAddr}
 use Rattle.serve_core.specs.declared.peer.Peer.{Peer}
 use Rattle.serve_core.specs.declared.transport.Transport.TheVariants.{Tcp}
 use Rattle.conversation.specs.Allowed.{IsPeer}
+use Rattle.conversation.specs.Served.{Learned}
 use Rattle.connections.specs.Kept.{nothing_kept}
 use Rattle.slab.specs.Slab.{Slab, get}
 use Rattle.links.specs.Deadlines.{IsLeast, kept_at, idle_since}
@@ -44,14 +45,14 @@ module _ {S M : Type 0} (origin : S → SocketAddr) (octets : S → Option (List
 
   -- what a reply is, by who asks, the list of what is known to be published before it and that of what is when it is made, the request, and the
   -- reply's messages
-  module _ {T : Type 0} (IsReply : Peer → List T → List T → List ℕ → List (List ℕ) → Type 0) where
+  module _ {T : Type 0} (IsReply : Peer → Learned T → Learned T → List ℕ → List (List ℕ) → Type 0) where
     -- connections are served at a time, each by its own peer's rights and on its own stream
-    abbrev pub Serves : ℕ → List T → Slab (Link S M) → List T → Slab (Link S M) → Type 0
+    abbrev pub Serves : ℕ → Learned T → Slab (Link S M) → Learned T → Slab (Link S M) → Type 0
     Serves now seen old later new = (key : ℕ) → OwnServed IsReply now seen (option_map (seen_of octets) (get old key)) later (option_map (seen_of octets) (get new key))
 
     -- a turn at a time, by what is known to be published before it and behind it: places are taken; connections are served; and places are given
     -- back
-    pub record HasTurned (allowed : List IpAddr) (limits : Limits) (now : ℕ) (seen : List T) (old : Slab (Link S M)) (later : List T) (new : Slab (Link S M)) : Type 0 where
+    pub record HasTurned (allowed : List IpAddr) (limits : Limits) (now : ℕ) (seen : Learned T) (old : Slab (Link S M)) (later : Learned T) (new : Slab (Link S M)) : Type 0 where
       pub come : Slab (Link S M)
       pub served : Slab (Link S M)
       pub first : Moves allowed now old come
@@ -59,6 +60,6 @@ module _ {S M : Type 0} (origin : S → SocketAddr) (octets : S → Option (List
       pub last : Sweeps limits now served new
 
     -- turns, one behind the other
-    pub data Turned (allowed : List IpAddr) (limits : Limits) (seen : List T) (old : Slab (Link S M)) : List T → Slab (Link S M) → Type 0 where
+    pub data Turned (allowed : List IpAddr) (limits : Limits) (seen : Learned T) (old : Slab (Link S M)) : Learned T → Slab (Link S M) → Type 0 where
       unturned : Turned allowed limits seen old seen old
-      turned : {mid later : List T} {between new : Slab (Link S M)} (now : ℕ) → Turned allowed limits seen old mid between → HasTurned allowed limits now mid between later new → Turned allowed limits seen old later new
+      turned : {mid later : Learned T} {between new : Slab (Link S M)} (now : ℕ) → Turned allowed limits seen old mid between → HasTurned allowed limits now mid between later new → Turned allowed limits seen old later new

@@ -2,7 +2,7 @@
 ghost use Rattle.std.specs.Prelude.{◌≡◌, ◌<◌, ◌≤◌, ◌⊎◌, ℕ, List, length};
 ghost use Rattle.std.specs.declared.net.ip_addr.IpAddr.{IpAddr};
 ghost use Rattle.dns_message.specs.Message.{message_limit};
-ghost use Rattle.conversation.specs.Served.{BeginsWith};
+ghost use Rattle.conversation.specs.Served.{Grows};
 ghost use Rattle.turns.specs.Steps.{scarce, Moves, Sweeps, Serves, HasTurned, Turned};
 
 use crate::arrivals::{Arrivals, Refusal, Remote};
@@ -287,7 +287,7 @@ impl<S: Blocking + Remote + Drop, M: Messages> Turns<S, M> {
     ) -> Result<(), TurnEnd>
         requires room { 0 < length room.old }
         requires out { message_limit ≤ length out.old }
-        ensures grows { BeginsWith (A.seen answering.new) (A.seen answering.old) }
+        ensures grows { Grows (A.seen answering.new) (A.seen answering.old) }
         ensures own { Serves S.origin S.octets A.is_reply now (A.seen answering.old) self.old.links (A.seen answering.new) self.new.links }
     {
         self.served.clear();
@@ -335,7 +335,7 @@ impl<S: Blocking + Remote + Drop, M: Messages> Turns<S, M> {
     ) -> Result<(), TurnEnd>
         requires room { 0 < length room.old }
         requires out { message_limit ≤ length out.old }
-        ensures grows { BeginsWith (A.seen answering.new) (A.seen answering.old) }
+        ensures grows { Grows (A.seen answering.new) (A.seen answering.old) }
         ensures turned { HasTurned S.origin S.octets A.is_reply plan.entry.allowed.addresses.now plan.entry.limits (P.time poll.new) (A.seen answering.old) self.old.links (A.seen answering.new) self.new.links }
     {
         let Ok(now) = poll.wait(self.patience(), &mut self.told) else {
@@ -367,7 +367,7 @@ impl<S: Blocking + Remote + Drop, M: Messages> Turns<S, M> {
     ) -> Result<(), TurnEnd>
         requires room { 0 < length room.old }
         requires out { message_limit ≤ length out.old }
-        ensures grows { BeginsWith (A.seen answering.new) (A.seen answering.old) }
+        ensures grows { Grows (A.seen answering.new) (A.seen answering.old) }
         ensures turned { Turned S.origin S.octets A.is_reply plan.entry.allowed.addresses.now plan.entry.limits (A.seen answering.old) self.old.links (A.seen answering.new) self.new.links }
     {
         for _ in rt.forever() {

@@ -1,7 +1,7 @@
 -- One share behind the other, from the stream's beginning.
 use Rattle.std.proofs.Common.{refl, ◌∙◌, subst}
 use Rattle.serve_core.specs.declared.peer.Peer.{Peer}
-use Rattle.conversation.proofs.TurnLemmas.{begins_itself, begins_more}
+use Rattle.conversation.proofs.TurnLemmas.{grows_itself, grows_more}
 use Rattle.connections.specs.Kept.{told_by}
 use Rattle.connections.specs.Going.{Goes, Stops}
 use Rattle.connections.proofs.ToldLemmas.{stays_fresh, writes_itself, writes_more}
@@ -13,7 +13,7 @@ loop-init g c =
     let Reply = g.A.Answering.is_reply (g.A.Answering.peer c.args.answering.now) in
     let a = g.S.Blocking.octets c.args.stream.now in
     record {
-      grows = begins_itself _;
+      grows = grows_itself _;
       peer = refl;
       goes = goes_stays Reply (g.A.Answering.seen c.args.answering.now) a (told_by c.new-conversation.result a) (stays_fresh c.new-conversation.result a c.new-conversation.ensures);
       written = writes_itself _;
@@ -30,7 +30,7 @@ loop-preserved g c =
     let n = told_by c.serve_some.new.conversation (g.S.Blocking.octets c.serve_some.new.stream) in
     let step = subst (λ (peer : Peer). Goes (g.A.Answering.is_reply peer) seen b later n) so_far.peer c.in-Ok.ensures.goes in
     record {
-      grows = begins_more _ _ _ so_far.grows c.in-Ok.ensures.grows;
+      grows = grows_more _ _ _ so_far.grows c.in-Ok.ensures.grows;
       peer = c.in-Ok.ensures.peer ∙ so_far.peer;
       goes = goes_more Reply (g.A.Answering.seen c.args.answering.now) seen later (g.S.Blocking.octets c.args.stream.now) b n so_far.goes step;
       written = writes_more _ _ _ so_far.written c.in-Ok.ensures.written;
@@ -51,4 +51,4 @@ returns-in-Err-clause-served g c =
     stream_ends Reply c.in-Err.end start later a new (stops_more Reply c.in-Err.end start seen later a b new so_far.goes step) (writes_more _ _ _ so_far.written c.in-Err.ensures.written)
 
 pub returns-in-Err-clause-grows : goal.returns-in-Err-clause-grows
-returns-in-Err-clause-grows g c = begins_more _ _ _ c.loop.invariant.grows c.in-Err.ensures.grows
+returns-in-Err-clause-grows g c = grows_more _ _ _ c.loop.invariant.grows c.in-Err.ensures.grows

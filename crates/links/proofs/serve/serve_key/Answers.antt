@@ -1,6 +1,6 @@
 -- The connection under the key has gone on, or has ended; the others are as they were.
 use Rattle.std.proofs.Common.{◌≡◌, refl, ◌∙◌, rules}
-use Rattle.conversation.proofs.TurnLemmas.{begins_itself}
+use Rattle.conversation.proofs.TurnLemmas.{grows_itself}
 use Rattle.slab.specs.Slab.{get, with_value, slab_len}
 use Rattle.slab.proofs.SlabLemmas.{Updates-with_value}
 use Rattle.links.specs.Links.{seen_of}
@@ -27,7 +27,7 @@ returns-in-Err-clause-own g c =
       end = c.in-Err.end;
       known = g.A.Answering.seen c.serve_link.new.answering;
       octets = g.S.Blocking.octets c.serve_link.new.link.stream;
-      grown = begins_itself _;
+      grown = grows_itself _;
       stops = c.in-Err.ensures.stops;
       written = c.in-Err.ensures.written;
     })
