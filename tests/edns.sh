@@ -186,15 +186,20 @@ end
     exit 2
 }
 
+# Records without their TTLs, which a resolver counts down.
+kept() {
+    awk '{ $2 = ""; print }'
+}
+
 # A resolver's answers, and how it asked: each request has an OPT, none is sent again without one, and the set of a hundred comes by TCP.
 resolver() {
     local relay=$((port + 1)) at=$((port + 2))
     "$python" tests/relay.py $relay "$port" "$work/asked" &
     started+=($!)
     start_resolver $at $relay
-    check "by a resolver: a name" "$(rr web A 192.0.2.10 192.0.2.11)" "$(dig @127.0.0.1 -p $at "web.$d" A | records)"
-    check "by a resolver: an alias" "$(rr web A 192.0.2.10 192.0.2.11)" "$(dig @127.0.0.1 -p $at "www.$d" A | records)"
-    check "by a resolver: a wildcard" "$(rr p.q.dyn A 192.0.2.99)" "$(dig @127.0.0.1 -p $at "p.q.dyn.$d" A | records)"
+    check "by a resolver: a name" "$(rr web A 192.0.2.10 192.0.2.11 | kept)" "$(dig @127.0.0.1 -p $at "web.$d" A | records | kept)"
+    check "by a resolver: an alias" "$(rr web A 192.0.2.10 192.0.2.11 | kept)" "$(dig @127.0.0.1 -p $at "www.$d" A | records | kept)"
+    check "by a resolver: a wildcard" "$(rr p.q.dyn A 192.0.2.99 | kept)" "$(dig @127.0.0.1 -p $at "p.q.dyn.$d" A | records | kept)"
     check "by a resolver: a name error" NXDOMAIN "$(dig @127.0.0.1 -p $at "nope.$d" A | reply | awk 'NR == 1 { print $1 }')"
     check "by a resolver: a hundred addresses" 100 "$(dig @127.0.0.1 -p $at +tcp +short "all.$d" A | wc -l)"
     check "requests without an OPT" '' "$(grep -v ' opt$' "$work/asked" || true)"

@@ -23,7 +23,7 @@ done
 [ -x "$program" ] || { echo "interop: no program at $program: run make dnsd first" >&2; exit 2; }
 PATH=$PATH:/usr/sbin:/sbin
 needed="dig nsupdate kdig knsupdate"
-[ $transfers = no ] || needed="$needed named-compilezone named knotd nsd"
+[ $transfers = no ] || needed="$needed named-compilezone named knotd nsd dnssec-signzone dnssec-keygen"
 for command in $needed; do
     command -v "$command" >/dev/null || {
         echo "interop: no $command: it needs Debian's bind9-dnsutils, knot-dnsutils, bind9-utils, bind9, knot and nsd" >&2
@@ -440,16 +440,29 @@ taken() {
     esac
 }
 
-# Each secondary holds the zone after a transfer in whole, and after each change, which it takes as what changed.
-secondaries() {
-    local at=$port tool=nsupdate over=udp names="named knotd nsd" name want
-    declare -A ports
-    want=$(zone_with <<<"$(soa_at 1)")
+names="named knotd nsd"
+declare -A ports pids
+# Starts the three secondaries with nothing, and ends those that ran before.
+start_secondaries() {
+    local at=$port name
     for name in $names; do
+        if [ -n "${pids[$name]:-}" ]; then
+            kill "${pids[$name]}"
+            wait "${pids[$name]}" 2>/dev/null || true
+            rm -rf "${work:?}/$name"
+        fi
         at=$((at + 1))
         ports[$name]=$at
         "start_$name" "$at"
+        pids[$name]=${started[-1]}
     done
+}
+
+# Each secondary holds the zone after a transfer in whole, and after each change, which it takes as what changed.
+secondaries() {
+    local tool=nsupdate over=udp name want
+    want=$(zone_with <<<"$(soa_at 1)")
+    start_secondaries
     for name in $names; do
         reaches "${ports[$name]}" 1
         check "$name, the zone in whole" "$want" "$(held "${ports[$name]}")"
@@ -474,9 +487,18 @@ secondaries() {
     check "the server itself" "$want" "$(held "$port")"
 }
 
-# BIND as the server that has tests/types.zone, on a port.
+# BIND as the server that has tests/types.zone, on a port; and the same zone at capitals.test., where a name in data has capital letters, and
+# at signed.test., signed.
 start_primary() {
     mkdir "$work/primary"
+    { cat tests/types.zone; echo "mx MX 10 Web.Capitals.TEST."; } >"$work/primary/capitals"
+    grep -v DNSKEY tests/types.zone >"$work/primary/plain"
+    (
+        cd "$work/primary"
+        dnssec-keygen -q -a ECDSAP256SHA256 signed.test >/dev/null
+        cat K*.key >>plain
+        dnssec-signzone -q -z -o signed.test -f signed plain K*.key >/dev/null 2>&1
+    )
     cat >"$work/primary.conf" <<end
 options {
     directory "$work/primary"; pid-file none; session-keyfile none;
@@ -485,21 +507,25 @@ options {
 };
 controls { };
 zone "example.test" { type primary; file "$PWD/tests/types.zone"; };
+zone "capitals.test" { type primary; file "capitals"; };
+zone "signed.test" { type primary; file "signed"; };
 end
     named -g -n 1 -c "$work/primary.conf" >"$work/primary.log" 2>&1 &
     started+=($!)
 }
 
-# The records of a zone's transfer as octets, in order (RFC 3597, 5): the port of who sends it.
+# The records of a zone's transfer as octets, in order (RFC 3597, 5): the port of who sends it, and the zone.
 octets_at() {
-    dig @127.0.0.1 -p "$1" +noall +answer +onesoa +unknownformat "$d" axfr | plain | LC_ALL=C sort
+    dig @127.0.0.1 -p "$1" +noall +answer +onesoa +unknownformat "${2:-$d}" axfr | plain | LC_ALL=C sort
 }
 
 # The messages of that transfer in hexadecimal, a line each (RFC 1035, 4.2.2): what comes until nothing does for a second.
 messages_at() {
-    local stream
+    local stream label
+    label=$(printf '\\x%02x' "$((${#2} - 6))")${2%.test.}
     exec 3<>"/dev/tcp/127.0.0.1/$1"
-    printf '\0\x1e\x43\x21\0\0\0\1\0\0\0\0\0\0\7example\4test\0\0\xfc\0\1' >&3
+    # shellcheck disable=SC2059
+    printf "\0\\x$(printf %02x $((${#2} + 17)))\x43\x21\0\0\0\1\0\0\0\0\0\0$label\4test\0\0\xfc\0\1" >&3
     stream=$(timeout 1 cat <&3 | od -An -v -tx1 | tr -d ' \n' || true)
     exec 3>&-
     while [ -n "$stream" ]; do
@@ -509,20 +535,68 @@ messages_at() {
     done
 }
 
-# Types that dnsd doesn't know: what BIND has of them is taken in from what dig prints, and from the octets of a transfer; it is told as it
-# was taken, to dig by name and by number, and nsupdate changes it by the names that it knows (RFC 3597).
+# What the messages of a zone's transfer make of a zone that has nothing, as dnsd prints it: the port, and the zone.
+applied_at() {
+    { "$program" check - <<<"$2 3600 IN SOA . . 0 1 1 1 1"$'\n'"$2 3600 IN NS ."; echo %; messages_at "$1" "$2"; } | "$program" apply - || true
+}
+
+# What dig prints of a zone that another server has, made fit as docs/OPERATING.md says: the records of the nine types in their own words, where
+# names in any case are read, and the others as octets, without those that signing puts beside an alias.
+made_fit() {
+    dig +noall +answer +onesoa @127.0.0.1 -p "$1" "$2" axfr | awk '$4 ~ /^(A|NS|CNAME|SOA|PTR|MX|TXT|AAAA|SRV)$/'
+    dig +unknownformat +noall +answer +onesoa @127.0.0.1 -p "$1" "$2" axfr |
+        awk '$4 !~ /^TYPE(1|2|5|6|12|15|16|28|33|46|47|50|51)$/'
+}
+
+# That dnsd refuses what dig prints of a zone as it is, at which line and why: PORT ZONE CODE RECORD, the owner and type of the line.
+refuses_printed() {
+    local line
+    dig +unknownformat +noall +answer @127.0.0.1 -p "$1" "$2" axfr >"$work/printed"
+    line=$("$program" check - <"$work/printed" 2>&1 | head -1 || true)
+    check "$2 as dig prints it: $3" "$3" "$(sed -E 's/^line [0-9]+: //' <<<"$line")"
+    check "$2, the record that is told" "$4" "$(sed -n "$(tr -cd '0-9:' <<<"$line" | cut -d: -f1)p" "$work/printed" | awk '{ print $1, $4 }')"
+}
+
+# A zone that BIND has, with types that dnsd doesn't know, is brought in by what dig prints of it (RFC 3597, 5).
+brings_in() {
+    local at=$1
+    check "$d as dig prints it" "$(applied_at "$at" "$d")" \
+        "$(dig +unknownformat +noall +answer @127.0.0.1 -p "$at" "$d" axfr | "$program" check - 2>&1 || true)"
+    check "$d, made fit" "$(applied_at "$at" "$d")" "$(made_fit "$at" "$d" | "$program" check - 2>&1 || true)"
+    refuses_printed "$at" capitals.test. 'M6 BadData' 'mx.capitals.test. TYPE15'
+    check "capitals.test., made fit" "$(applied_at "$at" capitals.test.)" "$(made_fit "$at" capitals.test. | "$program" check - 2>&1 || true)"
+    refuses_printed "$at" signed.test. 'M12 Conflict' 'www.signed.test. TYPE46'
+    made_fit "$at" signed.test. >"$work/fit"
+    serve "$work/fit"
+    check "signed.test., made fit" "$(octets_at "$at" signed.test. | awk '$4 !~ /^TYPE(46|47)$/')" "$(octets_at "$port" signed.test.)"
+    unserve
+}
+
+# Each secondary holds the octets that dnsd has, with this serial; but NSD keeps the name in an SVCB record in lower case.
+hold_octets() {
+    local name want
+    for name in $names; do
+        want=$2
+        [ "$name" != nsd ] || want=${2//0357656207/0377656207} want=${want//4578616D706C650454455354/6578616D706C650474657374}
+        reaches "${ports[$name]}" "$1"
+        check "$name, octet by octet, serial $1" "$want" "$(octets_at "${ports[$name]}")"
+    done
+}
+
+# Types that dnsd doesn't know: what BIND has of them is taken in; it is told as it was taken, to dig by name and by number, and to secondaries,
+# and nsupdate changes it by the names that it knows (RFC 3597).
 any_types() {
     local at=$((port + 4)) tool=nsupdate over=udp want
     start_primary $at
     reaches $at 1
+    brings_in $at
     want=$(octets_at $at)
-    dig @127.0.0.1 -p $at +noall +answer +onesoa +unknownformat "$d" axfr | "$program" check - >"$work/printed" || true
-    { "$program" check - <<<"$d 3600 IN SOA . . 0 1 1 1 1"$'\n'"$d 3600 IN NS ."; echo %; messages_at $at; } |
-        "$program" apply - >"$work/sent" || true
-    check "BIND's zone by dig and by its messages" "$(<"$work/printed")" "$(<"$work/sent")"
+    applied_at $at "$d" >"$work/sent"
     serve "$work/sent"
+    start_secondaries
     check "BIND's zone, octet by octet" "$want" "$(octets_at "$port")"
     check "BIND's zone, as dig tells it" "$(held $at)" "$(held "$port")"
+    hold_octets 1 "$want"
     tools=dig ask "$both" "$d CAA" 'NOERROR qr aa rd' "$(rr @ CAA '0 issue "ca.example.net"' '128 ISSUEWILD ";"')"
     tools=dig ask "$both" "web.$d TYPE65280" 'NOERROR qr aa rd' "$(rr web TYPE65280 '\# 3 0A0B0C')"
     tools=dig ask "$both" "_dns.$d SVCB" 'NOERROR qr aa rd' "$(rr _dns SVCB '1 Web.Example.TEST. alpn="dot" port=853')"
@@ -530,11 +604,19 @@ any_types() {
     tools=dig ask "$both" "sub.$d DS" 'NOERROR qr rd' '' "$(rr sub NS "ns.sub.$d")" "$(rr ns.sub A 192.0.2.53)"
     change NOERROR "update add new.$d 3600 CAA 0 issue \"Ca.Example.NET\""$'\n'"update add new.$d 3600 TYPE65280 \\# 3 0a0b0c"
     holds "new.$d" CAA "$(rr new CAA '0 issue "Ca.Example.NET"')"
+    hold_octets 2 "$(octets_at "$port")"
     change NOERROR "update delete new.$d CAA 0 issue \"ca.example.net\""
     holds "new.$d" CAA "$(rr new CAA '0 issue "Ca.Example.NET"')"
     change NOERROR "update delete new.$d CAA 0 issue \"Ca.Example.NET\""
     holds "new.$d" CAA NOERROR
     holds "new.$d" TYPE65280 "$(rr new TYPE65280 '\# 3 0A0B0C')"
+    tool=knsupdate
+    change NOERROR "update delete _443._tcp.web.$d TLSA"$'\n'"update add sub.$d 3600 DS 1 13 2 $(printf 'AB%.0s' {1..32})"
+    holds "_443._tcp.web.$d" TLSA NXDOMAIN
+    hold_octets 4 "$(octets_at "$port")"
+    check "knotd, how they came" incremental "$(taken knotd)"
+    check "the server itself" "$({ grep -vE ' TYPE6 |^_443' <<<"$want"; octets_at "$port" | grep -E ' TYPE6 |^new'
+        echo "sub.$d 3600 CLASS1 TYPE43 \\# 36 00010D02$(printf 'AB%.0s' {1..24}) $(printf 'AB%.0s' {1..8})"; } | LC_ALL=C sort)" "$(octets_at "$port")"
     unserve
 }
 

@@ -82,6 +82,7 @@ TYPE65280 \# 1 0x0a␊ => line 1: M6 BadData
 TYPE65280 \# 1 "0a"␊ => line 1: M6 BadData
 TYPE65280 \# 1 0a )␊ => line 1: M7 Unclosed
 A \# 3 c00002␊ => line 1: M6 BadData
+TYPE1 \# 3 c00002␊ => line 1: M6 BadData
 TYPE1 \# 5 c000020100␊ => line 1: M6 BadData
 NS \# 2 c000␊ => line 1: M6 BadData
 NS \# 3 014100␊ => line 1: M6 BadData
@@ -182,3 +183,29 @@ update '@ SOA IN' '' 'new CNAME IN 60 00'
 expect 'an alias beside them' "$message" "$taken"
 expect 'none joins' "$asked" "$(reply 8500 new UNKNOWN 'new UNKNOWN 60 c00c41; new UNKNOWN 60 c00c61' '' ''; echo "$message")"
 run_expected "$zone" answer --origin example.test. -
+
+# a zone's text has such a record in its place, in front of web and behind what is below sub; what changed when it goes is told, and makes of the
+# zone that had it the one that is served (RFC 1995, 4)
+input=${example}'u 3600 IN TYPE65280 \# 3 0A 0b0c'$'\n'
+lines=${example%$'\n'}
+prints "${lines/$'\n'web./$'\n'u.example.test. 3600 IN TYPE65280 \\# 3 0a0b0c$'\n'web.}" check --origin example.test. -
+with_it=$said
+update '@ SOA IN' '' 'u UNKNOWN NONE 0 0a0b0c'
+deletes=$message
+since_1=123400000001000000010000076578616d706c6504746573740000fb0001c00c0006000100000000001600000000000100000000000000000000000000000000
+soa_2=c00c0006000100000e100018c02ac0300000000200001c2000000384001275000000012c
+sent=123484000001000500000000076578616d706c6504746573740000fb0001
+sent+=c00c0006000100000e100022036e7331c00c0561646d696ec00c0000000200001c2000000384001275000000012c
+sent+=c00c0006000100000e100018c02ac0300000000100001c2000000384001275000000012c
+sent+=0175c00cff00000100000e1000030a0b0c$soa_2$soa_2
+zone_text=$with_it
+answers --tcp <<end
+# the record goes
+update $deletes
+reply $taken
+# what changed
+transfer $since_1
+reply $sent
+end
+input=$with_it%$'\n'$sent$'\n'
+prints "${lines/admin.example.test. 1 /admin.example.test. 2 }" apply -
