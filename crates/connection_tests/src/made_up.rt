@@ -102,7 +102,12 @@ impl Arrivals for Comers {
 }
 
 /// So many connections, from 192.0.2.1 and 192.0.2.2 by turns, on which these octets come in pieces.
-fn comers(alloc: Global, count: u8, octets: &[u8], behind: Behind) -> Result<Comers, AllocError> {
+fn make_comers(
+    alloc: Global,
+    count: u8,
+    octets: &[u8],
+    behind: Behind,
+) -> Result<Comers, AllocError> {
     let mut left = Vec::new(alloc);
     for at in 0..count {
         let most = 1 + usize::from(at % 3);
@@ -170,7 +175,7 @@ fn each_is_answered_by_its_own_rights(rt: HostRuntime) -> Result<(), Fail> {
         now: 0,
         step: 1,
     };
-    let comers = comers(alloc, 40, &[0, 1, b'a', 0, 1, b'b'], Behind::Nothing)?;
+    let comers = make_comers(alloc, 40, &[0, 1, b'a', 0, 1, b'b'], Behind::Nothing)?;
     let tally = take_turns(
         &rt,
         alloc,
@@ -203,7 +208,7 @@ fn ends_and_delays_give_places_back(rt: HostRuntime) -> Result<(), Fail> {
         step: SECOND / 4,
     };
     // Those that end by themselves.
-    let first = comers(alloc, 7, &[0, 1, b'a'], Behind::End)?;
+    let first = make_comers(alloc, 7, &[0, 1, b'a'], Behind::End)?;
     let tally = take_turns(
         &rt,
         alloc,
@@ -218,7 +223,7 @@ fn ends_and_delays_give_places_back(rt: HostRuntime) -> Result<(), Fail> {
         (7, 7, 0)
     );
     // Those that begin a request, and bring no more.
-    let second = comers(alloc, 7, &[0, 9, b'a'], Behind::Nothing)?;
+    let second = make_comers(alloc, 7, &[0, 9, b'a'], Behind::Nothing)?;
     let tally = take_turns(
         &rt,
         alloc,
@@ -229,7 +234,7 @@ fn ends_and_delays_give_places_back(rt: HostRuntime) -> Result<(), Fail> {
         30,
     )?;
     assert_eq!(rt; (tally.begun, worker.links().len()), (14, 7));
-    let nobody = comers(alloc, 0, &[], Behind::End)?;
+    let nobody = make_comers(alloc, 0, &[], Behind::End)?;
     let tally = take_turns(
         &rt,
         alloc,
@@ -256,7 +261,7 @@ fn places_are_for_those_that_ask(rt: HostRuntime) -> Result<(), Fail> {
         step: 1,
     };
     // Four that begin a request have the places: others are turned away.
-    let busy = comers(alloc, 4, &[0, 9, b'a'], Behind::Nothing)?;
+    let busy = make_comers(alloc, 4, &[0, 9, b'a'], Behind::Nothing)?;
     take_turns(
         &rt,
         alloc,
@@ -266,7 +271,7 @@ fn places_are_for_those_that_ask(rt: HostRuntime) -> Result<(), Fail> {
         busy,
         20,
     )?;
-    let more = comers(alloc, 3, &[], Behind::Nothing)?;
+    let more = make_comers(alloc, 3, &[], Behind::Nothing)?;
     let tally = take_turns(
         &rt,
         alloc,
@@ -279,7 +284,7 @@ fn places_are_for_those_that_ask(rt: HostRuntime) -> Result<(), Fail> {
     assert_eq!(rt; (tally.begun, tally.turned_away, tally.evicted), (4, 3, 0));
     // Idle ones give theirs.
     let mut worker = Turns::new(alloc, 4, 1)?;
-    let idle = comers(alloc, 9, &[], Behind::Nothing)?;
+    let idle = make_comers(alloc, 9, &[], Behind::Nothing)?;
     let tally = take_turns(
         &rt,
         alloc,
@@ -303,7 +308,7 @@ fn want_of_room_is_waited_out(rt: HostRuntime) -> Result<(), Fail> {
         now: 0,
         step: SECOND / 4,
     };
-    let mut few = comers(alloc, 5, &[], Behind::Nothing)?;
+    let mut few = make_comers(alloc, 5, &[], Behind::Nothing)?;
     few.no_room = 3;
     let tally = take_turns(
         &rt,
@@ -365,7 +370,7 @@ fn transfers_go_on_beside_one_another(rt: HostRuntime) -> Result<(), Fail> {
         sent.extend_from_slice(&[0, 2, b'a', b'b'])?;
         replies.extend_from_slice(&[0, 1, 1, 0, 1, 2])?;
     }
-    let comers = comers(alloc, 6, &sent, Behind::Nothing)?;
+    let comers = make_comers(alloc, 6, &sent, Behind::Nothing)?;
     let mut echo = Echo::new(300);
     let tally = take_turns(&rt, alloc, &mut worker, &mut teller, &mut echo, comers, 900)?;
     assert_eq!(rt; (tally.begun, worker.links().len()), (6, 6));

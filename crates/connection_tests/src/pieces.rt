@@ -75,7 +75,7 @@ impl Pieces {
 
     /// The same, from an address of 192.0.2.0/24.
     pub(crate) fn coming_from(self, last: u8) -> Pieces
-        ensures { result.faults ≡ self.entry.faults }
+        ensures { result.faults ≡ self.faults }
     {
         Pieces {
             from: address(last),
@@ -85,7 +85,7 @@ impl Pieces {
 
     /// The same in pieces of random sizes, by a number.
     pub(crate) fn at_random(self, number: u64) -> Pieces
-        ensures { result.faults ≡ self.entry.faults }
+        ensures { result.faults ≡ self.faults }
     {
         Pieces {
             sizes: Sizes::Random(number),
@@ -95,7 +95,7 @@ impl Pieces {
 
     /// The same, which never would block where it has something to give or take.
     pub(crate) fn at_once(self) -> Pieces
-        ensures { result.faults ≡ self.entry.faults }
+        ensures { result.faults ≡ self.faults }
     {
         Pieces {
             may_block: false,
@@ -105,7 +105,7 @@ impl Pieces {
 
     /// The same, which fails once it has taken so many octets.
     pub(crate) fn that_takes(self, room: usize) -> Pieces
-        ensures { result.faults ≡ self.entry.faults }
+        ensures { result.faults ≡ self.faults }
     {
         Pieces { room, ..self }
     }
