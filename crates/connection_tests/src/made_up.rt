@@ -148,6 +148,9 @@ fn take_turns<R: Wait, P: Readiness<Pieces>, A: Answering<Both>>(
     let mut room = vec![in alloc; 0; 512]?;
     let mut out = vec![in alloc; 0; 65_535]?;
     for _turn in 0..count {
+        if room.is_empty() || out.len() < 65_535 {
+            return Err("the buffers are too short")?;
+        }
         if worker
             .turn(
                 rt,

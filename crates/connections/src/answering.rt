@@ -35,7 +35,7 @@ pub enum Reply<M> {
 
 /// Who answers requests. Contracts know of it which versions it has seen published, as far as it tells them, and what a reply to a request is.
 pub trait Answering<M: Messages> {
-    /// Versions that are known to be published, the first one first.
+    /// What is known of versions: those that are published, the first one first, and the numbers of those that are buried.
     ghost seen: { Self → Learned Version };
 
     /// Who asks.

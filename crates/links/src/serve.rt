@@ -1,7 +1,7 @@
 //! Connections that are served each under its key.
 ghost use Rattle.std.specs.Prelude.{◌≡◌, ◌≢◌, ◌<◌, ◌≤◌, ℕ, length, option_map, OnErr};
 ghost use Rattle.dns_message.specs.Message.{message_limit};
-ghost use Rattle.conversation.specs.Served.{Grows, BeginsWith};
+ghost use Rattle.conversation.specs.Served.{BeginsWith, Grows};
 ghost use Rattle.slab.specs.Slab.{get, slab_len};
 ghost use Rattle.links.specs.Ends.{AreCounted};
 ghost use Rattle.links.specs.Links.{OwnServed, seen_of};

@@ -1,6 +1,6 @@
 -- One key behind the other.
 use Rattle.std.proofs.Common.{refl, option_map, arith, get_or, ◌∷◌, []}
-use Rattle.conversation.proofs.TurnLemmas.{grows_itself, grows_more}
+use Rattle.conversation.proofs.TurnLemmas.{begins_itself, begins_more, grows_itself, grows_more}
 use Rattle.slab.specs.Slab.{get, slab_len}
 use Rattle.links.specs.Links.{seen_of}
 use Rattle.links.proofs.LenLemmas.{counted_none, counted_then}
@@ -20,7 +20,7 @@ loop-key-init g c = record {
   grows = grows_itself _;
   own = λ key. own_same g.A.Answering.is_reply c.args.now (g.A.Answering.seen c.args.answering.now) (g.A.Answering.seen c.args.answering.now) (option_map (seen_of g.S.Blocking.octets) (get c.args.links.now key)) (grows_itself _);
   ended = counted_none c.args.ends.now (slab_len c.args.links.now) (slab_len c.args.links.now) refl;
-  next = grows_itself _;
+  next = begins_itself _;
   room = omega (arith, c.in_ok-reserve.ensures.ok);
 }
 
@@ -34,6 +34,6 @@ loop-key-preserved g c =
       grows = grows_more _ _ _ so_far.grows c.serve_key.ensures.grows;
       own = own_each g.A.Answering.is_reply (seen_of g.S.Blocking.octets) c.args.now seen mid later (λ key. get c.args.links.now key) (λ key. get c.loop-key.links key) (λ key. get c.serve_key.new.links key) _ c.serve_key.ensures.grows so_far.own c.serve_key.ensures.own c.serve_key.ensures.others;
       ended = counted_then c.args.ends.now c.loop-key.ends c.serve_key.new.ends (slab_len c.args.links.now) (slab_len c.loop-key.links) (slab_len c.serve_key.new.links) so_far.ended c.serve_key.ensures.ended;
-      next = elim c.if-serve_key.branch [ then-serve_key+in-Ok w ↦ rw w.next-is (grows_more c.reserve.new.self.items c.loop-key.next.items w.push.new.self.items so_far.next (get_or c.args.keys.now c.loop-key.key-index 0 ∷ [], w.in-Ok.ensures.items)) | else-serve_key w ↦ rw w.next-is so_far.next ];
+      next = elim c.if-serve_key.branch [ then-serve_key+in-Ok w ↦ rw w.next-is (begins_more c.reserve.new.self.items c.loop-key.next.items w.push.new.self.items so_far.next (get_or c.args.keys.now c.loop-key.key-index 0 ∷ [], w.in-Ok.ensures.items)) | else-serve_key w ↦ rw w.next-is so_far.next ];
       room = elim c.if-serve_key.branch [ then-serve_key+in-Ok w ↦ rw w.next-is (omega (arith, w.in-Ok.ensures.len, w.push.ensures.capacity)) | else-serve_key w ↦ rw w.next-is (omega arith) ];
     }

@@ -1,7 +1,7 @@
 -- The connections under the keys so far are served, and there is room for the keys that are left.
 use Rattle.std.proofs.Common.{◌≡◌, ℕ, ◌+◌, ◌≤◌, length, option_map}
 use Rattle.std.specs.Vec.{vec_len, vec_capacity}
-use Rattle.conversation.specs.Served.{Grows, BeginsWith}
+use Rattle.conversation.specs.Served.{BeginsWith, Grows}
 use Rattle.slab.specs.Slab.{get, slab_len}
 use Rattle.links.specs.Ends.{AreCounted}
 use Rattle.links.specs.Links.{OwnServed, seen_of}
