@@ -10,6 +10,7 @@ pub mod ChainLemmas
 pub mod FaultLemmas
 pub mod WalkLemmas
 pub mod PackedLemmas
+pub mod PlaceLemmas
 pub mod VersionLemmas
 pub mod WindowLemmas
 pub mod RunLongestLemmas

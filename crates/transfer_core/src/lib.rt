@@ -14,6 +14,9 @@ mod laws;
 mod list;
 mod packed;
 mod packer;
+mod place;
+mod resume;
+mod step;
 mod windows;
 
 pub use chain::{ChainView, VersionList};
@@ -28,6 +31,8 @@ pub use laws::{first_faults_are_told, full_lists_are_taken, incremental_lists_ar
 pub use list::{FullList, LentRecord, SetRecords, full};
 pub use packed::messages_are_the_list;
 pub use packer::{MAX_MESSAGE, Packer, TransferRecords};
+pub use place::{ChangesPlace, Part, Place, StepPlace, ZonePlace};
+pub use resume::records_at;
 pub use windows::{
     examples_of_changes, examples_of_windows, serials_of_a_window_differ, windows_are_longest_runs,
 };

@@ -45,7 +45,7 @@ impl<'a, C: ChainView> Drop for TransferRecords<'a, C> {
 
 impl<'a, C: ChainView> TransferRecords<'a, C> {
     /// The next record.
-    fn next_record(&mut self) -> Option<LentRecord<'a>>
+    pub fn next_record(&mut self) -> Option<LentRecord<'a>>
         ensures { MatchOption result
             ((listed self.old ≡ []) × (listed self.new ≡ []))
             (λ r. listed self.old ≡ r ∷ listed self.new) }
