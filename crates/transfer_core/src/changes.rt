@@ -1,6 +1,6 @@
 //! The list of what changed since an older version (RFC 1995, 4).
 ghost use Rattle.std.specs.Iterator.{YieldsFirst, item_count};
-ghost use Rattle.std.specs.Prelude.{◌≡◌, ◌≤◌, ◌++◌, [], ◌∷◌, ℕ, List, length, drop, map, MatchOption, Ok, unwrap_or};
+ghost use Rattle.std.specs.Prelude.{◌≡◌, ◌<◌, ◌++◌, [], ◌∷◌, ℕ, List, length, drop, map, MatchOption, Ok, unwrap_or};
 ghost use Rattle.std.specs.Option.{option_copied};
 ghost use Rattle.dns_rdata.specs.Record.{Record};
 ghost use Rattle.zone_tree.specs.Zone.{soa_of};
@@ -210,6 +210,48 @@ fn part_after(version: &Version, part: Part) -> Option<Half<'_>>
     }
 }
 
+/// The list of what changed behind all versions: the SOA that is served (RFC 1995, 4).
+fn closing_list<'a, C: ChainView>(served: &'a Zone, chain: &'a C) -> ChangesList<'a, C>
+    ensures { result ≡ soa_of served.now }
+{
+    let soa = served.soa();
+    ChangesList {
+        rest: SetRecords::none(soa),
+        sets: SetsLeft {
+            sets: &[],
+            half: None,
+            versions: VersionsLeft::new(chain, chain.len()),
+            closing: Some(soa),
+        },
+    }
+}
+
+/// The list of what changed from a set of a part of the difference sequence of a version that is there.
+fn begun_list<'a, C: ChainView>(
+    served: &'a Zone,
+    chain: &'a C,
+    version: usize,
+    part: Part,
+    set: usize,
+) -> ChangesList<'a, C>
+    requires { version < length (C.versions chain.now) }
+    ensures { result ≡ steps_from part set (drop version (C.versions chain.now)) ++ soa_of served.now }
+{
+    let soa = served.soa();
+    let current = version_at(chain, version);
+    let (rest, sets) = part_left(current, part, set);
+    let half = part_after(current, part);
+    ChangesList {
+        rest,
+        sets: SetsLeft {
+            sets,
+            half,
+            versions: VersionsLeft::new(chain, version + 1),
+            closing: Some(soa),
+        },
+    }
+}
+
 /// The list of what changed from a set of a part of a version's difference sequence on: what is left of that, the difference sequences of
 /// the versions behind it, the SOA that is served (RFC 1995, 4). It takes no memory.
 pub(crate) fn changes_from<'a, C: ChainView>(
@@ -221,27 +263,8 @@ pub(crate) fn changes_from<'a, C: ChainView>(
 ) -> ChangesList<'a, C>
     ensures { result ≡ steps_from part set (drop version (C.versions chain.now)) ++ soa_of served.now }
 {
-    let soa = served.soa();
-    if version >= chain.len() {
-        return ChangesList {
-            rest: SetRecords::none(soa),
-            sets: SetsLeft {
-                sets: &[],
-                half: None,
-                versions: VersionsLeft::new(chain, version),
-                closing: Some(soa),
-            },
-        };
+    if version < chain.len() {
+        return begun_list(served, chain, version, part, set);
     }
-    let current = version_at(chain, version);
-    let (rest, sets) = part_left(current, part, set);
-    ChangesList {
-        rest,
-        sets: SetsLeft {
-            sets,
-            half: part_after(current, part),
-            versions: VersionsLeft::new(chain, version + 1),
-            closing: Some(soa),
-        },
-    }
+    closing_list(served, chain)
 }

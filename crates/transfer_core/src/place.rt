@@ -2,7 +2,9 @@
 ghost use Rattle.std.specs.Prelude.{◌≡◌, ◌≤◌, List, length, drop};
 ghost use Rattle.zone_tree.specs.Version.{Version};
 ghost use Rattle.zone_tree.specs.Zone.{soa_of};
-ghost use Rattle.transfer_core.specs.Lists.{beside_soa};
+ghost use Rattle.dns_rdata.specs.Record.{Record};
+ghost use Rattle.transfer_core.specs.Chain.{told};
+ghost use Rattle.transfer_core.specs.Lists.{full, beside_soa};
 ghost use Rattle.transfer_core.specs.Places.{zone_left, left_at};
 
 use crate::chain::ChainView;
@@ -75,26 +77,53 @@ impl Place {
         ensures { left_at zone.now (C.versions chain.now) result ≡ drop count (left_at zone.now (C.versions chain.now) self.now) }
     {
         match self {
-            Place::ZoneStart => match count.checked_sub(1) {
-                None => Place::ZoneStart,
-                Some(more) => in_zone(zone, &Name::root(), RType(0), usize::from(more)),
-            },
+            Place::ZoneStart => in_full(zone, count),
             Place::InZone(at) => {
-                let sent = usize::from(at.sent) + usize::from(count);
-                in_zone(zone, &at.owner, at.rtype, sent)
+                let passed = sum(at.sent, count);
+                in_zone(zone, &at.owner, at.rtype, passed)
             }
-            Place::ChangesStart => match count.checked_sub(1) {
-                None => Place::ChangesStart,
-                Some(more) => in_changes(zone, chain, 0, Part::Old, 0, usize::from(more)),
-            },
+            Place::ChangesStart => in_told(zone, chain, count),
             Place::InChanges(at) => {
-                let sent = usize::from(at.step.sent) + usize::from(count);
+                let sent = sum(at.step.sent, count);
                 in_changes(zone, chain, at.version, at.step.part, at.step.set, sent)
             }
             Place::LastSoa => at_close(zone, usize::from(count)),
             Place::End => Place::End,
         }
     }
+}
+
+/// How many records are sent with so many more.
+fn sum(sent: u16, count: u16) -> usize
+    ensures { (list : List Record) → drop result list ≡ drop count (drop sent list) }
+{
+    usize::from(sent) + usize::from(count)
+}
+
+/// The place behind so many records of the list of a zone in whole.
+fn in_full(zone: &Zone, count: u16) -> Place
+    ensures { (versions : List Version) → left_at zone.now versions result ≡ drop count (full zone.now) }
+{
+    if count == 0 {
+        return Place::ZoneStart;
+    }
+    // The first of them is the SOA, which is one record.
+    let _soa = zone.soa();
+    let more = usize::from(count) - 1;
+    in_zone(zone, &Name::root(), RType(0), more)
+}
+
+/// The place behind so many records of the list of what changed.
+fn in_told<C: ChainView>(zone: &Zone, chain: &C, count: u16) -> Place
+    ensures { left_at zone.now (C.versions chain.now) result ≡ drop count (told (soa_of zone.now) (C.versions chain.now)) }
+{
+    if count == 0 {
+        return Place::ChangesStart;
+    }
+    // The first of them is the SOA, which is one record.
+    let _soa = zone.soa();
+    let more = usize::from(count) - 1;
+    in_changes(zone, chain, 0, Part::Old, 0, more)
 }
 
 /// The place behind so many records of the list of a zone in whole from an owner and a type on.
@@ -123,11 +152,8 @@ pub(crate) fn at_close(zone: &Zone, sent: usize) -> Place
 {
     // It is one record.
     let _soa = zone.soa();
-    if sent == 0 {
-        Place::LastSoa
-    } else {
-        Place::End
-    }
+    let is_left = sent == 0;
+    if is_left { Place::LastSoa } else { Place::End }
 }
 
 /// How many records a set has, but for the SOA's, which have a place of their own.

@@ -1,5 +1,5 @@
 //! Places among the difference sequences of versions (RFC 1995, 4).
-ghost use Rattle.std.specs.Prelude.{◌≡◌, ◌≤◌, ◌<◌, ℕ, List, [], ◌∷◌, ◌++◌, length, drop, IfOk, IfErr, MatchOption};
+ghost use Rattle.std.specs.Prelude.{◌≡◌, ◌+◌, ◌≤◌, ◌<◌, List, [], ◌∷◌, ◌++◌, length, drop, IfOk, IfErr, MatchOption};
 ghost use Rattle.std.specs.List.{slice_index_or};
 ghost use Rattle.dns_rdata.specs.Record.{Record};
 ghost use Rattle.zone_tree.specs.Sets.{records_in};
@@ -78,17 +78,26 @@ fn pass_part(version: &Version, part: Part, from: usize, sent: usize) -> Result<
     }
 }
 
-/// Where so many records lead from a set of a version's difference sequence on: a place in it; else how many are to be passed behind it.
+/// Where so many records lead from a set of the first part of a version's difference sequence on: a place in either part; else how many
+/// are to be passed behind both.
+fn pass_both(version: &Version, from: usize, sent: usize) -> Result<StepPlace, usize>
+    ensures inside { IfOk result (λ at. (rest : List Record) → drop at.sent (step_left at.part at.set (soa_of version.now.zone) version.now.changes ++ rest) ≡ drop sent (step_left Part.Old from (soa_of version.now.zone) version.now.changes ++ rest)) }
+    ensures behind { IfErr result (λ left. (rest : List Record) → drop left rest ≡ drop sent (step_left Part.Old from (soa_of version.now.zone) version.now.changes ++ rest)) }
+{
+    match pass_part(version, Part::Old, from, sent) {
+        Ok(at) => Ok(at),
+        Err(left) => pass_part(version, Part::New, 0, left),
+    }
+}
+
+/// The same from a set of either part on.
 fn pass_step(version: &Version, part: Part, from: usize, sent: usize) -> Result<StepPlace, usize>
     ensures inside { IfOk result (λ at. (rest : List Record) → drop at.sent (step_left at.part at.set (soa_of version.now.zone) version.now.changes ++ rest) ≡ drop sent (step_left part from (soa_of version.now.zone) version.now.changes ++ rest)) }
     ensures behind { IfErr result (λ left. (rest : List Record) → drop left rest ≡ drop sent (step_left part from (soa_of version.now.zone) version.now.changes ++ rest)) }
 {
     match part {
+        Part::Old => pass_both(version, from, sent),
         Part::New => pass_part(version, Part::New, from, sent),
-        Part::Old => match pass_part(version, Part::Old, from, sent) {
-            Ok(at) => Ok(at),
-            Err(left) => pass_part(version, Part::New, 0, left),
-        },
     }
 }
 
@@ -114,16 +123,16 @@ pub(crate) fn in_changes<C: ChainView>(
 ) -> Place
     ensures { left_at zone.now (C.versions chain.now) result ≡ drop sent (steps_from part set (drop version (C.versions chain.now)) ++ soa_of zone.now) }
 {
-    let mut part = part;
-    let mut set = set;
+    let mut begun = part;
+    let mut from = set;
     let mut left = sent;
     for at in version..chain.len() {
-        match pass_step(version_at(chain, at), part, set, left) {
+        left = match pass_step(version_at(chain, at), begun, from, left) {
             Ok(step) => return Place::InChanges(ChangesPlace { version: at, step }),
-            Err(more) => left = more,
-        }
-        part = Part::Old;
-        set = 0;
+            Err(more) => more,
+        };
+        begun = Part::Old;
+        from = 0;
     }
     at_close(zone, left)
 }
