@@ -1,0 +1,23 @@
+-- What the reader has seen grows, and a reply by what it saw meanwhile is one by what it had seen.
+use Rattle.conversation.proofs.TurnLemmas.{begins_more}
+use Rattle.zone_service.specs.declared.answer.Now.TheVariants.{Bytes, Later}
+use Rattle.zone_service.proofs.NowLemmas.{now_grows}
+use Rattle.zone_service.proofs.ReplyLemmas.{spent_transfer}
+use Rattle.zone_replies.specs.Going.{transfer_left}
+use Rattle.zone_replies.proofs.RepliedLemmas.{later_replied}
+use Rattle.zone_replies.proofs.replies.RepliesAnswering.reply.Goals as goal
+
+pub returns-in-Later-clause-spent : goal.returns-in-Later-clause-spent
+returns-in-Later-clause-spent g c = spent_transfer c.reply_later.result g.Z.FirstZone.zone _ c.args.request.now c.args.self.now.reader c.reply_later.ensures.spent
+
+pub returns-in-Bytes-clause-grows : goal.returns-in-Bytes-clause-grows
+returns-in-Bytes-clause-grows g c = now_grows g.Z.FirstZone.zone _ c.args.request.now c.args.self.now.reader c.answer_now.new.reader c.answer_now.new.out (Bytes c.in-Bytes.len) c.in-Bytes.ensures.now
+
+pub returns-in-Later-clause-grows : goal.returns-in-Later-clause-grows
+returns-in-Later-clause-grows g c =
+    begins_more _ _ _ (now_grows g.Z.FirstZone.zone _ c.args.request.now c.args.self.now.reader c.answer_now.new.reader c.answer_now.new.out Later c.in-Later.ensures.now) c.reply_later.ensures.grows
+
+pub returns-in-Later-clause-reply : goal.returns-in-Later-clause-reply
+returns-in-Later-clause-reply g c =
+    let grown = now_grows g.Z.FirstZone.zone _ c.args.request.now c.args.self.now.reader c.answer_now.new.reader c.answer_now.new.out Later c.in-Later.ensures.now in
+    later_replied g.Z.FirstZone.zone _ transfer_left c.args.request.now _ c.args.self.now.reader.seen c.answer_now.new.reader.seen _ c.reply_later.result grown c.reply_later.ensures.replied
