@@ -11,6 +11,7 @@ pub mod FaultLemmas
 pub mod WalkLemmas
 pub mod PackedLemmas
 pub mod PlaceLemmas
+pub mod CountLemmas
 pub mod VersionLemmas
 pub mod WindowLemmas
 pub mod RunLongestLemmas
