@@ -6,6 +6,7 @@ use Rattle.std.specs.List.{filter, AllPairs, AllByRecursion}
 use Rattle.std.specs.List.Sorted.{IsPartitionedBy, IsPartitionPoint}
 use Rattle.std.specs.Option.{option_map}
 use Rattle.std.specs.Ordering.{nat_cmp, is_lt, is_gt, is_eq, is_le, ordering_then, ordering_reverse}
+use Rattle.std.specs.Cmp.{nat_cmp_is}
 use Rattle.std.proofs.lemmas.Bool.{cases_lt}
 use Rattle.std.proofs.lemmas.Cmp.{upto, tied_itself, nat_cmp_total}
 use Rattle.std.proofs.lemmas.List.Elements.{filter-append}
@@ -185,7 +186,7 @@ types_from sets rtype low within point =
 -- from the root and type 0 on there are all records
 zero_upto : (t : ℕ) → is_le (nat_cmp 0 t) ≡ true
 zero_upto zero = refl
-zero_upto (suc t) = refl
+zero_upto (suc t) = ap is_le (sym (nat_cmp_is 0 (suc t) Less (omega arith)))
 
 least : (ks : List (List ℕ)) (t : ℕ) → is_le (ordering_then (keys_cmp [] ks) (nat_cmp 0 t)) ≡ true
 least [] t = zero_upto t
