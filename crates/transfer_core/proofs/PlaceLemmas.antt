@@ -90,7 +90,7 @@ zone_passed left count set rest walk closing now counted within steps same =
 -- the list of a zone in whole behind its first record is that from the root and type 0 on
 pub zone_begins : (count more : ℕ) (zone : List Record) → length (soa_of zone) ≡ 1 → count ≡ more + 1 → drop count (full zone) ≡ drop more (zone_left zone [] 0)
 zone_begins count more zone one is =
-    pass_one count more (soa_of zone) (beside_soa zone ++ soa_of zone) one is ∙ ap (λ l. drop more (beside_soa l ++ soa_of zone)) (sym (from_root zone))
+    ap (drop count) (append_assoc (soa_of zone) (beside_soa zone) (soa_of zone)) ∙ pass_one count more (soa_of zone) (beside_soa zone ++ soa_of zone) one is ∙ ap (λ l. drop more (beside_soa l ++ soa_of zone)) (sym (from_root zone))
 
 -- a set of a part is passed
 pub sets_step : (left at : ℕ) (all : List (List Record)) (set : List Record) (rest : List Record) → at < length all → ((d : List Record) → slice_index_or all at d ≡ set) → length set ≤ left
@@ -146,16 +146,16 @@ module _ (part : Part) (set at left : ℕ) (v : Version) (versions : List Versio
   abbrev own : List Record
   own = step_left part set (soa_of v.zone) v.changes
 
-  abbrev behind : List Record
-  behind = told_steps (drop (at + 1) versions) ++ closing
+  abbrev further : List Record
+  further = told_steps (drop (at + 1) versions) ++ closing
 
-  pub at_version : drop left (steps_from part set (drop at versions) ++ closing) ≡ drop left (own ++ behind)
+  pub at_version : drop left (steps_from part set (drop at versions) ++ closing) ≡ drop left (own ++ further)
   at_version = ap (λ l. drop left (steps_from part set l ++ closing)) here ∙ ap (drop left) (append_assoc own (told_steps (drop (at + 1) versions)) closing)
 
-  pub version_passed : (more : ℕ) → drop more behind ≡ drop left (own ++ behind) → drop more (steps_from Old 0 (drop (at + 1) versions) ++ closing) ≡ drop left (steps_from part set (drop at versions) ++ closing)
+  pub version_passed : (more : ℕ) → drop more further ≡ drop left (own ++ further) → drop more (steps_from Old 0 (drop (at + 1) versions) ++ closing) ≡ drop left (steps_from part set (drop at versions) ++ closing)
   version_passed more passed = ap (λ l. drop more (l ++ closing)) (steps_begin (drop (at + 1) versions)) ∙ passed ∙ sym at_version
 
-  pub version_begun : (other : Part) (more sent : ℕ) → drop sent (step_left other more (soa_of v.zone) v.changes ++ behind) ≡ drop left (own ++ behind)
+  pub version_begun : (other : Part) (more sent : ℕ) → drop sent (step_left other more (soa_of v.zone) v.changes ++ further) ≡ drop left (own ++ further)
       → drop sent (steps_from other more (drop at versions) ++ closing) ≡ drop left (steps_from part set (drop at versions) ++ closing)
   version_begun other more sent led =
       ap (λ l. drop sent (steps_from other more l ++ closing)) here

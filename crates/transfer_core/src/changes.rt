@@ -1,6 +1,6 @@
 //! The list of what changed since an older version (RFC 1995, 4).
 ghost use Rattle.std.specs.Iterator.{YieldsFirst, item_count};
-ghost use Rattle.std.specs.Prelude.{◌≡◌, ◌<◌, ◌++◌, [], ◌∷◌, ℕ, List, length, drop, map, MatchOption, Ok, unwrap_or};
+ghost use Rattle.std.specs.Prelude.{◌≡◌, ◌+◌, ◌^◌, ◌<◌, ◌++◌, [], ◌∷◌, ℕ, List, length, drop, map, MatchOption, Ok, unwrap_or};
 ghost use Rattle.std.specs.Option.{option_copied};
 ghost use Rattle.dns_rdata.specs.Record.{Record};
 ghost use Rattle.zone_tree.specs.Zone.{soa_of};
@@ -234,7 +234,8 @@ fn begun_list<'a, C: ChainView>(
     part: Part,
     set: usize,
 ) -> ChangesList<'a, C>
-    requires { version < length (C.versions chain.now) }
+    requires there { version < length (C.versions chain.now) }
+    requires fits { version + 1 < 2 ^ 64 }
     ensures { result ≡ steps_from part set (drop version (C.versions chain.now)) ++ soa_of served.now }
 {
     let soa = served.soa();

@@ -1,11 +1,11 @@
 -- From an owner and a type on: the owner's own sets from the type on, and all sets of the owners behind it.
-use Rattle.std.proofs.Common.{◌≡◌, refl, sym, ap, ◌∙◌, subst, ℕ, zero, suc, ◌-◌, ◌<◌, ◌≤◌, Bool, true, false, cond, List, [], ◌∷◌, ◌++◌, length, get_or, take, drop, arith, true≢false, ⊎_elim, Option, Some, None}
+use Rattle.std.proofs.Common.{◌≡◌, refl, sym, ap, ◌∙◌, subst, ℕ, zero, suc, ◌-◌, ◌≤◌, Bool, true, false, cond, List, [], ◌∷◌, ◌++◌, length, get_or, take, drop, arith, true≢false, ⊎_elim, None}
 use Rattle.std.specs.declared.cmp.Ordering.{Ordering}
 use Rattle.std.specs.declared.cmp.Ordering.TheVariants.{Less, Equal, Greater}
-use Rattle.std.specs.List.{filter, AllPairs, AllByRecursion}
+use Rattle.std.specs.List.{filter, AllByRecursion}
 use Rattle.std.specs.List.Sorted.{IsPartitionedBy, IsPartitionPoint}
-use Rattle.std.specs.Option.{option_map}
-use Rattle.std.specs.Ordering.{nat_cmp, is_lt, is_gt, is_eq, is_le, ordering_then, ordering_reverse}
+use Rattle.std.specs.Ordering.{nat_cmp, is_lt, is_gt, is_le, ordering_then, ordering_reverse}
+use Rattle.std.specs.Cmp.{nat_cmp_is}
 use Rattle.std.proofs.lemmas.Bool.{cases_lt}
 use Rattle.std.proofs.lemmas.Cmp.{upto, tied_itself, nat_cmp_total}
 use Rattle.std.proofs.lemmas.List.Elements.{filter-append}
@@ -185,7 +185,7 @@ types_from sets rtype low within point =
 -- from the root and type 0 on there are all records
 zero_upto : (t : ℕ) → is_le (nat_cmp 0 t) ≡ true
 zero_upto zero = refl
-zero_upto (suc t) = refl
+zero_upto (suc t) = ap is_le (sym (nat_cmp_is 0 (suc t) Less (omega arith)))
 
 least : (ks : List (List ℕ)) (t : ℕ) → is_le (ordering_then (keys_cmp [] ks) (nat_cmp 0 t)) ≡ true
 least [] t = zero_upto t

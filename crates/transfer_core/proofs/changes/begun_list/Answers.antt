@@ -1,6 +1,5 @@
-use Rattle.std.proofs.Common.{◌+◌, ◌++◌, drop, ap, ◌∙◌, subst}
+use Rattle.std.proofs.Common.{◌+◌, ◌++◌, drop, ap, ◌∙◌}
 use Rattle.std.specs.Prelude.{unwrap_or, []}
-use Rattle.zone_tree.specs.Zone.{soa_of}
 use Rattle.zone_tree.specs.Sets.{records_in}
 use Rattle.transfer_core.specs.Chain.{told_steps}
 use Rattle.transfer_core.specs.Places.{steps_from}

@@ -8,5 +8,5 @@ pub returns : goal.returns
 returns c = λ versions.
     let one = ap length (sym c.soa-soa.ensures.set) ∙ c.soa-soa.ensures.one in
     c.in_zone.ensures versions
-    ∙ ap (λ name. drop (c.from.result - 1) (zone_left c.args.zone.now name 0)) c.root.ensures
-    ∙ sym (zone_begins c.args.count (c.from.result - 1) c.args.zone.now one (one_more c.args.count c.from.result c.from.ensures c.if-count-eq0.false))
+    ∙ ap (λ name. drop (c.from-more.result - 1) (zone_left c.args.zone.now name 0)) c.root.ensures
+    ∙ sym (zone_begins c.args.count (c.from-more.result - 1) c.args.zone.now one (one_more c.args.count c.from-more.result c.from-more.ensures c.if-count-eq0.false))

@@ -8,4 +8,4 @@ pub returns : goal.returns
 returns g c =
     let one = ap length (sym c.soa-soa.ensures.set) ∙ c.soa-soa.ensures.one in
     c.in_changes.ensures
-    ∙ sym (told_begins c.args.count (c.from.result - 1) (soa_of c.args.zone.now) (g.C.VersionList.versions c.args.chain.now) one (one_more c.args.count c.from.result c.from.ensures c.if-count-eq0.false))
+    ∙ sym (told_begins c.args.count (c.from-more.result - 1) (soa_of c.args.zone.now) (g.C.VersionList.versions c.args.chain.now) one (one_more c.args.count c.from-more.result c.from-more.ensures c.if-count-eq0.false))

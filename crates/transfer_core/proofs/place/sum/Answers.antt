@@ -1,4 +1,4 @@
-use Rattle.std.proofs.Common.{◌≡◌, ◌+◌, arith}
+use Rattle.std.proofs.Common.{◌+◌, arith}
 use Rattle.transfer_core.proofs.PlaceLemmas.{pass_more}
 use Rattle.transfer_core.proofs.place.sum.Goals as goal
 

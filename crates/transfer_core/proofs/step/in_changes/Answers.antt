@@ -1,5 +1,5 @@
 -- Each version's difference sequence is passed, or is where the place is.
-use Rattle.std.proofs.Common.{◌≡◌, ◌+◌, ◌≤◌, ◌++◌, drop, length, refl, sym, ap, ◌∙◌, rules}
+use Rattle.std.proofs.Common.{◌+◌, ◌≤◌, ◌++◌, drop, length, refl, sym, ap, ◌∙◌, rules}
 use Rattle.std.proofs.lemmas.List.{drop_all}
 use Rattle.zone_tree.specs.Zone.{soa_of}
 use Rattle.transfer_core.specs.Chain.{told_steps}

@@ -1,5 +1,5 @@
 -- The sets of a version's changes are the sets of their records.
-use Rattle.std.proofs.Common.{◌≡◌, ◌∷◌, Some, sym, ap, ◌∙◌}
+use Rattle.std.proofs.Common.{◌∷◌, sym, ap, ◌∙◌}
 use Rattle.std.specs.Option.{option_copied}
 use Rattle.zone_tree.specs.Zone.{soa_of}
 use Rattle.transfer_core.specs.Places.{sets_of_part}

@@ -1,5 +1,5 @@
 -- Each set is passed, or is where so many records lead.
-use Rattle.std.proofs.Common.{◌≡◌, ◌<◌, ◌≤◌, ◌∷◌, length, refl, arith, rules}
+use Rattle.std.proofs.Common.{◌<◌, ◌≤◌, ◌∷◌, length, refl, arith, rules}
 use Rattle.transfer_core.proofs.PlaceLemmas.{sets_passed, sets_over}
 use Rattle.transfer_core.proofs.step.pass_sets.Goals as goal
 

@@ -1,5 +1,5 @@
 -- The place behind a message is that behind the records that it says it has.
-use Rattle.std.proofs.Common.{◌≡◌, ◌∙◌, sym, ap, take, drop, length}
+use Rattle.std.proofs.Common.{◌≡◌, ◌≤◌, ◌∙◌, sym, ap, take, drop, length, arith}
 use Rattle.std.proofs.lemmas.List.{length-take}
 use Rattle.transfer_core.specs.Packed.{listed}
 use Rattle.transfer_core.specs.Places.{left_at}
@@ -20,4 +20,5 @@ returns-clause-message c =
     let here = ap (λ z. left_at z versions c.args.place.now) zone in
     let e = ap (messages_of_records c.args.query.now c.args.is_begun) (sym here ∙ sym c.records_at-list.ensures) ∙ sym c.packer_of-packer.ensures ∙ c.in_ok-len.ensures.0 in
     let is = ap (λ z. left_at z versions c.behind.result) (sym zone) ∙ c.behind.ensures ∙ ap (λ z. drop c.answer_count-count.result (left_at z versions c.args.place.now)) zone in
-    from_place c.args.version.now.zone versions c.args.query.now c.args.is_begun c.args.place.now c.behind.result (take c.in_ok-len.len c.next_message.new.out) c.next_message.new.self c.answer_count-count.result e ? c.answer_count-count.ensures is
+    let short : length (take c.in_ok-len.len c.next_message.new.out) ≤ 16384 = omega (arith, length-take c.in_ok-len.len c.next_message.new.out, c.in_ok-len.ensures.1) in
+    from_place c.args.version.now.zone versions c.args.query.now c.args.is_begun c.args.place.now c.behind.result (take c.in_ok-len.len c.next_message.new.out) c.next_message.new.self c.answer_count-count.result e short c.answer_count-count.ensures is

@@ -1,5 +1,5 @@
 -- The owner's own sets from the type on, and those of the owners behind it.
-use Rattle.std.proofs.Common.{◌≡◌, ◌++◌, ap, ◌∙◌, sym, subst, List}
+use Rattle.std.proofs.Common.{◌++◌, ap, ◌∙◌, sym, subst, List}
 use Rattle.std.specs.List.{filter, AllByRecursion}
 use Rattle.std.specs.Ordering.{nat_cmp, is_le}
 use Rattle.dns_rdata.specs.Record.{Record, owner_of, rtype_of}
