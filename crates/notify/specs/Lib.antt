@@ -1,0 +1,4 @@
+pub mod Notify
+pub mod Told
+pub mod Notified
+pub mod Turns
