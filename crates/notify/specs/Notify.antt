@@ -1,5 +1,5 @@
 -- A NOTIFY in octets, and the octets that answer it (RFC 1996, 3).
-use Rattle.std.specs.Prelude.{ℕ, Bool, ◌+◌, ◌*◌, ◌&&◌, ◌||◌, not, ◌==◌, List, [], ◌∷◌, ◌++◌, length, nat_lt, nat_le, Some, None, Result, Ok, Err, if◌then◌else◌}
+use Rattle.std.specs.Prelude.{ℕ, Bool, false, ◌+◌, ◌*◌, ◌&&◌, ◌||◌, not, ◌==◌, List, [], ◌∷◌, ◌++◌, length, nat_lt, nat_le, Some, None, Result, Ok, Err, if◌then◌else◌}
 use Rattle.std.specs.Int.{to_be_bytes, w16}
 use Rattle.std.specs.List.{flat_map}
 use Rattle.dns_name.specs.Name.{Name, is_same}
@@ -30,25 +30,33 @@ notify_header id answers = to_be_bytes w16 id ++ ((8 * opcode_NOTIFY + 4) ∷ 0 
 abbrev pub notify_question : List Record → Question
 notify_question zone = record { name = apex_of zone; rtype = record { 0 = type_SOA }; class = record { 0 = class_IN } }
 
--- a NOTIFY of a zone with these records in its answer section
-abbrev pub notify_with : ℕ → List Record → List Record → List ℕ
-notify_with id zone answer = notify_header id (length answer) ++ (placed (Some (notify_question zone)) answer [] 12).0
+-- a NOTIFY of an ID and a question, with these records in its answer section
+abbrev pub notify_with : ℕ → Question → List Record → List ℕ
+notify_with id question answer = notify_header id (length answer) ++ (placed (Some question) answer [] 12).0
 
--- the NOTIFY of a zone: its SOA stands in the answer section, as a hint; where that doesn't fit, the answer section is empty
--- (RFC 1035, 4.2.1; RFC 1996, 3.7)
+-- and with such records where they fit; else its answer section is empty (RFC 1035, 4.2.1; RFC 1996, 3.7)
+abbrev pub notify_within : ℕ → Question → List Record → List ℕ
+notify_within id question answer =
+    if nat_le (length (notify_with id question answer)) notify_limit then notify_with id question answer else notify_with id question []
+
+-- the NOTIFY of a zone, of an ID: the zone's SOA stands in its answer section where it fits, as a hint (RFC 1996, 3.7 and 3.8)
 unfoldable pub notify_octets : ℕ → List Record → List ℕ
-notify_octets id zone =
-    if nat_le (length (notify_with id zone (soa_of zone))) notify_limit then notify_with id zone (soa_of zone)
-    else notify_with id zone []
+notify_octets id zone = notify_within id (notify_question zone) (soa_of zone)
 
 -- whether a name was read, and is this one but for case (RFC 4343, 3)
 abbrev pub is_read_as : Name → Result (Name × ℕ) NameReadFault → Bool
 is_read_as name (Ok r) = is_same r.0 name
 is_read_as name (Err fault) = false
 
--- whether octets answer the NOTIFY of an ID for the zone at an apex: a header or more, QR 1, OPCODE NOTIFY, that ID, and where a
--- question stands behind the header, its name is the apex. The RCODE is of no matter (RFC 1996, 3.3, 3.6 and 3.12)
-unfoldable pub is_answer : Name → ℕ → List ℕ → Bool
-is_answer apex id msg =
-    not (nat_lt (length msg) 12) && is_reply msg && opcode_of msg == opcode_NOTIFY && number_at msg 0 == id
-    && (number_at msg 4 == 0 || is_read_as apex (name_at msg 12))
+-- whether a header is of a NOTIFY's reply: QR 1, and OPCODE NOTIFY (RFC 1996, 3.3)
+abbrev pub is_notify_reply : List ℕ → Bool
+is_notify_reply msg = is_reply msg && opcode_of msg == opcode_NOTIFY
+
+-- whether a header has no question behind it, or the name behind it is this one
+abbrev pub asks_no_other : Name → List ℕ → Bool
+asks_no_other apex msg = number_at msg 4 == 0 || is_read_as apex (name_at msg 12)
+
+-- whether octets answer the NOTIFY of an ID for the zone at an apex: they are a header or more, of a NOTIFY's reply, with that ID; and
+-- where a question stands behind it, its name is the apex. The RCODE is of no matter (RFC 1996, 3.3, 3.6 and 3.12)
+abbrev pub is_answer : Name → ℕ → List ℕ → Bool
+is_answer apex id msg = not (nat_lt (length msg) 12) && is_notify_reply msg && number_at msg 0 == id && asks_no_other apex msg

@@ -66,6 +66,17 @@ is_now (Some wait) = wait == 0
 abbrev pub is_due : ℕ → ℕ → Secondary → Bool
 is_due time number s = is_now (due_in time number s)
 
+-- the lesser of two waits; none of none
+abbrev pub sooner : Option ℕ → Option ℕ → Option ℕ
+sooner None b = b
+sooner (Some a) None = Some a
+sooner (Some a) (Some b) = Some (min a b)
+
+-- the least of waits; none where there is none
+abbrev pub soonest : List (Option ℕ) → Option ℕ
+soonest [] = None
+soonest (wait ∷ waits) = sooner wait (soonest waits)
+
 -- it is told of
 abbrev pub as_silent : Secondary → Secondary
 as_silent s = record s { silent = true }

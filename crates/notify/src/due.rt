@@ -10,13 +10,11 @@ pub enum Due {
     Silent(SocketAddr),
 }
 
-/// What received octets are.
+/// What is heard of a secondary.
 #[derive(Clone, Copy, PartialEq, Eq)]
 pub enum Heard {
-    /// No answer to what a secondary was told last; nothing changes by them.
-    Nothing,
-    /// A secondary's answer to what it was told last.
+    /// It has answered what it was told last.
     Answered,
-    /// The same, of one that was told of as one that doesn't answer.
+    /// It has answered again, which was told of as one that doesn't.
     Again,
 }

@@ -1,6 +1,7 @@
 //! What is known of a secondary: what it was told last, and whether it answers.
-ghost use Rattle.std.specs.Prelude.{◌≡◌};
-ghost use Rattle.notify.specs.Told.{told_next, due_in, is_due, falls_silent, as_silent, as_told, is_answered_by, as_answered};
+ghost use Rattle.std.specs.Prelude.{◌≡◌, ◌↔◌, false, IsTrue};
+ghost use Rattle.notify.specs.Told.{told_next, due_in, is_due, falls_silent, sooner, as_silent, as_told, is_answered_by, as_answered};
+ghost use Rattle.notify.specs.Turns.{IsAnsweredBy};
 
 use crate::message::is_answer;
 use dns_name::Name;
@@ -113,8 +114,15 @@ impl Secondary {
         }
     }
 
-    /// Whether octets from it answer what it was told last, for the zone at an apex, and it hasn't answered that yet.
-    pub(crate) fn is_answered_by(&self, apex: &Name, octets: &[u8]) -> bool
+    /// Whether octets from an address are an answer of it to what it was told last, for the zone at an apex.
+    pub(crate) fn answers(&self, apex: &Name, from: SocketAddr, octets: &[u8]) -> bool
+        ensures { IsTrue result ↔ IsAnsweredBy apex.now from octets.now self.now }
+    {
+        self.address == from && self.is_answered_by(apex, octets)
+    }
+
+    /// Whether octets answer what it was told last, for the zone at an apex, and it hasn't answered that yet.
+    fn is_answered_by(&self, apex: &Name, octets: &[u8]) -> bool
         ensures { result ≡ is_answered_by apex.now octets.now self.now }
     {
         match &self.telling {
@@ -140,6 +148,17 @@ impl Secondary {
             silent: false,
             ..self
         }
+    }
+}
+
+/// The lesser of two waits; None of none.
+pub(crate) fn sooner(a: Option<u64>, b: Option<u64>) -> Option<u64>
+    ensures { result ≡ sooner a b }
+{
+    match (a, b) {
+        (None, b) => b,
+        (Some(a), None) => Some(a),
+        (Some(a), Some(b)) => Some(a.min(b)),
     }
 }
 

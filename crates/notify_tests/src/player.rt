@@ -20,7 +20,7 @@ pub(crate) enum Step {
     /// Nothing is due, and one looks again in so many milliseconds.
     Quiet(Option<u64>),
     /// A secondary sends a reply with the ID of what was sent, by its place among all that was.
-    Reply(u8, usize, Heard),
+    Reply(u8, usize, Option<Heard>),
 }
 
 /// A notifier that is played with: the version that is served, and the IDs that were sent.
@@ -77,7 +77,7 @@ impl Player {
     }
 
     /// What a reply is that has the ID of what was sent.
-    fn reply(&mut self, secondary: u8, place: usize) -> Option<Heard> {
+    fn reply(&mut self, secondary: u8, place: usize) -> Option<Option<Heard>> {
         let [high, low] = *self.ids.get(place)?;
         let octets = [high, low, 0xa4, 0, 0, 0, 0, 0, 0, 0, 0, 0];
         Some(

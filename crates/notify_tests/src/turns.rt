@@ -1,15 +1,15 @@
 //! What is sent to whom as time goes (RFC 1996, 3.6).
 use crate::player::Step::{Clock, Fell, Quiet, Reply, Sent, Serve};
 use crate::player::{Step, first_wrong};
-use notify::Heard::{Again, Answered, Nothing};
+use notify::Heard::{Again, Answered};
 
 /// Two secondaries answer at once; then a newer version is served.
 const ANSWERED: &[Step] = &[
     Sent(1, 1),
     Sent(2, 1),
     Quiet(Some(1000)),
-    Reply(1, 0, Answered),
-    Reply(2, 1, Answered),
+    Reply(1, 0, Some(Answered)),
+    Reply(2, 1, Some(Answered)),
     Quiet(None),
     Clock(90_000),
     Quiet(None),
@@ -66,19 +66,19 @@ const LOST: &[Step] = &[
     Clock(9_001_000),
     Sent(1, 2),
     Quiet(Some(2000)),
-    Reply(1, 12, Again),
+    Reply(1, 12, Some(Again)),
     Quiet(None),
     Serve(3),
     Clock(9_002_000),
     Sent(1, 3),
-    Reply(1, 13, Answered),
+    Reply(1, 13, Some(Answered)),
 ];
 
 /// One that has given up forgets no other, and the other goes on.
 const ONE_IS_LOST: &[Step] = &[
     Sent(1, 1),
     Sent(2, 1),
-    Reply(2, 1, Answered),
+    Reply(2, 1, Some(Answered)),
     Clock(1000),
     Sent(1, 1),
     Clock(3000),
@@ -105,9 +105,9 @@ const ONE_IS_LOST: &[Step] = &[
     Sent(1, 2),
     Sent(2, 2),
     Quiet(Some(1000)),
-    Reply(2, 13, Answered),
+    Reply(2, 13, Some(Answered)),
     Quiet(Some(1000)),
-    Reply(1, 12, Again),
+    Reply(1, 12, Some(Again)),
     Quiet(None),
 ];
 
@@ -119,14 +119,14 @@ const LATE: &[Step] = &[
     Serve(2),
     Clock(2000),
     Sent(1, 2),
-    Reply(1, 0, Nothing),
-    Reply(1, 1, Nothing),
+    Reply(1, 0, None),
+    Reply(1, 1, None),
     Quiet(Some(1000)),
     Clock(3000),
     Sent(1, 2),
-    Reply(1, 2, Answered),
-    Reply(1, 2, Nothing),
-    Reply(1, 3, Nothing),
+    Reply(1, 2, Some(Answered)),
+    Reply(1, 2, None),
+    Reply(1, 3, None),
     Quiet(None),
 ];
 
@@ -134,11 +134,11 @@ const LATE: &[Step] = &[
 const OTHERS: &[Step] = &[
     Sent(1, 1),
     Sent(2, 1),
-    Reply(2, 0, Nothing),
-    Reply(1, 1, Nothing),
-    Reply(3, 0, Nothing),
+    Reply(2, 0, None),
+    Reply(1, 1, None),
+    Reply(3, 0, None),
     Quiet(Some(1000)),
-    Reply(1, 0, Answered),
+    Reply(1, 0, Some(Answered)),
     Clock(1000),
     Sent(2, 1),
     Quiet(Some(2000)),
@@ -169,7 +169,7 @@ const CLOCKS: &[Step] = &[
 /// Serials that go round: a version is newer by its number (RFC 1982, 3).
 const ROUND: &[Step] = &[
     Sent(1, 4_294_967_295),
-    Reply(1, 0, Answered),
+    Reply(1, 0, Some(Answered)),
     Serve(0),
     Quiet(Some(1000)),
     Clock(1000),

@@ -1,0 +1,2 @@
+pub mod NotifyLemmas
+pub mod TurnLemmas
