@@ -35,10 +35,10 @@ impl Notifier {
     pub fn new(alloc: Global, addresses: &[SocketAddr], now: u64) -> Result<Notifier, AllocError>
         ensures { IfOk result (λ n. n ≡ record { secondaries = map untold addresses.now; time = 0; clock = now }) }
     {
-        let secondaries = addresses
-            .iter()
-            .map(|address| Secondary::new(*address))
-            .collect(alloc)?;
+        let mut secondaries = Vec::new(alloc);
+        for address in addresses {
+            secondaries.push(Secondary::new(*address))?;
+        }
         Ok(Notifier {
             secondaries,
             time: 0,
