@@ -43,6 +43,12 @@ pub enum CommandFault<'a> {
     Listen(&'a str),
     /// A word of the list of addresses that may update and transfer is no address.
     Allow(&'a str),
+    /// The word for a secondary is no address.
+    Notify(&'a str),
+    /// The word is for one secondary more than can be told.
+    Secondaries(&'a str),
+    /// The word is for a secondary that another word is for.
+    SecondaryTwice(&'a str),
 }
 
 impl From<clap::Error> for CommandFault<'_> {

@@ -29,6 +29,8 @@ pub enum LogLine {
         /// How many records the zone has.
         records: usize,
     },
+    /// Secondaries are told from addresses that the system picks.
+    Routed,
     /// Something has happened.
     Event(Event),
     /// The zone isn't served any more.
@@ -67,6 +69,9 @@ impl<E: Eprint> Sink<LogLine> for ErrorLines<E> {
                     "listening on {address}: {apex} with serial {serial}, {records} records"
                 )
             }
+            Some(LogLine::Routed) => eprintln!(self.rt;
+                "NOTIFYs go out from the addresses that the system picks, since a wildcard is listened on"
+            ),
             Some(LogLine::Event(event)) => eprintln!(self.rt; "{event}"),
             Some(LogLine::Fault(fault)) => eprintln!(self.rt; "error: {fault}"),
             None => Ok(()),

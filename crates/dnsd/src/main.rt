@@ -9,6 +9,7 @@ ghost use Rattle.std.specs.Prelude.{◌≡◌, ◌⊎◌};
 
 pub mod command;
 pub mod log;
+pub mod secondaries;
 pub mod serve;
 pub mod zone_file;
 
@@ -19,6 +20,7 @@ use std::env;
 use std::io::{self, BufRead, BufReader, BufWriter, Write};
 use std::net::{Net, TcpListener, TcpStream};
 use std::process::ExitCode;
+use std::random::RandomSource;
 use std::rt::{Env, Files};
 use std::sync::Wait;
 use std::thread::Threads;
@@ -47,6 +49,7 @@ fn run_words<
         + Threads
         + Wait
         + Clock
+        + RandomSource
         + Copy
         + Send
         + Sync
@@ -91,6 +94,19 @@ fn tell_fault<R: Print + Eprint>(rt: &R, fault: &CommandFault<'_>) -> io::Result
             eprintln!(rt;
                 "error: --allow takes addresses with commas between them, as 127.0.0.1,192.0.2.7, and '{word}' is none"
             )?;
+        }
+        CommandFault::Notify(word) => {
+            eprintln!(rt;
+                "error: --notify takes an address, as 192.0.2.7, 192.0.2.7:5353 or [2001:db8::7]:53@2001:db8::1, and '{word}' is none"
+            )?;
+        }
+        CommandFault::Secondaries(word) => {
+            eprintln!(rt;
+                "error: --notify takes 32 secondaries at most, and '{word}' is one more"
+            )?;
+        }
+        CommandFault::SecondaryTwice(word) => {
+            eprintln!(rt; "error: --notify takes a secondary once, and '{word}' is there already")?;
         }
     }
     Ok(BAD_COMMAND)

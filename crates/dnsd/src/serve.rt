@@ -5,8 +5,9 @@ ghost use Rattle.dnsd.specs.declared.serve.TheConstants.{MAX_WORKERS};
 
 use crate::command::{CommandFault, KEEP, MAX_KEEP, number_for, option};
 use crate::log::{Log, LogLine};
+use crate::secondaries::{Secondary, bound_for, secondaries_of, source_of};
 use crate::zone_file::read_zone_file;
-use clap::{ArgMatches, Command as Parser};
+use clap::{ArgAction, ArgMatches, Command as Parser};
 use commands::{DONE, FAILED, Fault, Source, tell};
 use conversation::Allowed;
 use dns_name::Name;
@@ -18,6 +19,7 @@ use std::io::{self, BufReader, ErrorKind};
 use std::marker::Brand;
 use std::mem;
 use std::net::{IpAddr, Net, SocketAddr, TcpListener, TcpStream, UdpSocket};
+use std::random::RandomSource;
 use std::rt::Files;
 use std::sync::Wait;
 use std::thread::Threads;
@@ -41,6 +43,8 @@ pub struct Serve<'a> {
     pub most: u64,
     /// The addresses that may update and transfer.
     pub allowed: Vec<IpAddr>,
+    /// The secondaries that are told of each version.
+    pub secondaries: Vec<Secondary>,
     ghost few_workers: { workers ≤ MAX_WORKERS },
     ghost few_kept: { keep ≤ KEPT },
 }
@@ -56,6 +60,9 @@ const MAX_WORKERS: usize = 30;
 
 /// The option for who may update and transfer.
 const ALLOW: &str = "allow";
+
+/// The option for a secondary that is told of each version.
+const NOTIFY: &str = "notify";
 
 /// The option for after how many requests or connections a worker ends.
 const COUNT: &str = "count";
@@ -90,6 +97,13 @@ pub fn serve_options<'a>(alloc: Global, parser: Parser<'a>) -> Result<Parser<'a>
         "the addresses that may update and transfer, with commas between them",
     )
     .default_value("127.0.0.1"))?;
+    let parser = parser.arg(option(
+        alloc,
+        NOTIFY,
+        "ADDR[:PORT][@FROM]",
+        "a secondary that is told of each version by NOTIFY, from the address FROM or else the one listened on; as often as there are secondaries, at most 32",
+    )
+    .action(ArgAction::Append))?;
     parser.arg(option(
         alloc,
         COUNT,
@@ -113,6 +127,7 @@ pub fn serve_of<'a>(
     let keep = number_for(found.get_str(KEEP), KEEP, 0, MAX_KEEP, MAX_KEEP)?;
     let allowed = addresses_of(alloc, found.get_str(ALLOW).unwrap_or(""))?;
     let most = count_of(found.get_str(COUNT))?;
+    let secondaries = secondaries_of(alloc, found.get_strs(NOTIFY).unwrap_or(&[]))?;
     Ok(Serve {
         zone,
         origin,
@@ -121,6 +136,7 @@ pub fn serve_of<'a>(
         keep,
         most,
         allowed,
+        secondaries,
     })
 }
 
@@ -162,6 +178,7 @@ pub fn run_serve<
         + Threads
         + Wait
         + Clock
+        + RandomSource
         + Copy
         + Send
         + Sync
@@ -200,6 +217,7 @@ fn serve_on<
         + Threads
         + Wait
         + Clock
+        + RandomSource
         + Copy
         + Send
         + Sync
@@ -240,6 +258,7 @@ fn serve_bound<
         + Threads
         + Wait
         + Clock
+        + RandomSource
         + Copy
         + Send
         + Sync
@@ -253,8 +272,20 @@ fn serve_bound<
     address: SocketAddr,
 ) -> io::Result<u8> {
     let (listener, datagrams) = sockets;
+    let secondaries = match bound_for(rt, rt.alloc(), serve.secondaries.as_slice(), address) {
+        Ok(secondaries) => secondaries,
+        Err((secondary, fault)) => {
+            eprintln!(rt; "error: the secondary {secondary} can't be told of versions: {fault}")?;
+            return Ok(FAILED);
+        }
+    };
+    let mut seed = [0u8; 32];
+    rt.fill_bytes(&mut seed)?;
     let log = Log::start(rt, zone.apex().copy())?;
     log.add(rt, listening_line(&zone, address));
+    if is_routed(serve, address) {
+        log.add(rt, LogLine::Routed);
+    }
     let plan = Plan {
         datagrams,
         listener,
@@ -262,6 +293,8 @@ fn serve_bound<
         keep: serve.keep,
         most: serve.most,
         allowed: Allowed::new(serve.allowed.as_slice()),
+        secondaries: secondaries.as_slice(),
+        seed,
     };
     let served = serve_zone::<R, Brand, Log>(rt, rt.alloc(), zone, plan, &log);
     let status = match served {
@@ -273,6 +306,14 @@ fn serve_bound<
     };
     log.end(rt);
     Ok(status)
+}
+
+/// Whether a secondary is told from an address that the system picks, where this one is listened on.
+fn is_routed(serve: &Serve<'_>, listen: SocketAddr) -> bool {
+    serve
+        .secondaries
+        .iter()
+        .any(|secondary| source_of(secondary, listen).is_unspecified())
 }
 
 /// The line that says at which address which zone is served.

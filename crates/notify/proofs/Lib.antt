@@ -1,2 +1,3 @@
 pub mod NotifyLemmas
 pub mod TurnLemmas
+pub mod CourseLemmas

@@ -2,3 +2,4 @@ pub mod Notify
 pub mod Told
 pub mod Notified
 pub mod Turns
+pub mod Course

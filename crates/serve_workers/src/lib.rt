@@ -9,6 +9,7 @@ mod connection;
 mod ending;
 mod interrupted;
 mod listener;
+mod notify_job;
 mod scratch;
 mod service;
 mod shared_socket;
@@ -18,6 +19,7 @@ mod workers;
 
 pub use connection::{Connection, PATIENCE, TcpDevice, Timed};
 pub use listener::{Listener, SharedListener};
+pub use notify_job::{NotifyJob, NotifySocket};
 pub use scratch::Scratch;
 pub use service::{Plan, ServeFault, serve_zone};
 pub use shared_socket::SharedSocket;

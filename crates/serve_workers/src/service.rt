@@ -1,5 +1,5 @@
 //! A zone served on sockets, by workers.
-ghost use Rattle.std.specs.Prelude.{◌≡◌, ◌+◌, ◌*◌, ◌%◌, ◌<◌, ◌≤◌, ◌⊎◌, [], true, false, map, vec_len, vec_capacity, IfOk, IfErr, IfSome};
+ghost use Rattle.std.specs.Prelude.{◌≡◌, ◌+◌, ◌*◌, ◌%◌, ◌^◌, ◌<◌, ◌≤◌, ◌⊎◌, [], true, false, map, vec_len, vec_capacity, IfOk, IfErr, IfSome};
 ghost use Rattle.std.specs.List.{All, range_with_len};
 ghost use Rattle.dns_engine.specs.Held.{KEPT};
 ghost use Rattle.snapshot_cell.specs.declared.tokens.TheConstants.{READERS};
@@ -8,15 +8,17 @@ ghost use Rattle.serve_workers.specs.Numbers.{number_of, takes_datagrams};
 
 use crate::ending::{end_cell, end_named};
 use crate::listener::SharedListener;
+use crate::notify_job::{NotifyJob, NotifySocket};
 use crate::scratch::Scratch;
 use crate::shared_socket::SharedSocket;
 use crate::tcp::TcpJob;
 use crate::udp_job::UdpJob;
 use crate::workers::{Job, NotStarted, run_workers};
-use conversation::{Allowed, Answering, Gate, OpenGate};
+use conversation::{Allowed, Gate, OpenGate};
 use dns_engine::{
     FirstZone, SharedVersion, VersionCell, VersionPublisher, VersionReader, ZoneVersions,
 };
+use dns_name::Name;
 use snapshot_cell::{
     Cell, NamedCell, NamedPublisher, NamedReader, Naming, NewFault, Parts, Reader,
 };
@@ -27,8 +29,8 @@ use std::sync::Wait;
 use std::thread::Threads;
 use std::time::Clock;
 use thiserror::Error;
-use zone_service::{JobEnd, Server, ServiceLog};
-use zone_tree::{Version, Zone};
+use zone_service::{JobEnd, Notifying, Server, ServiceLog};
+use zone_tree::{Version, Zone, ZoneRead};
 
 /// How a zone is served.
 #[derive(Clone, Copy)]
@@ -37,7 +39,7 @@ pub struct Plan<'a> {
     pub datagrams: &'a UdpSocket,
     /// The listener on which connections come.
     pub listener: &'a TcpListener,
-    /// How many workers there are for each of them; twice as many and one more are at most `snapshot_cell::READERS`.
+    /// How many workers there are for each of them; twice as many and two more are at most `snapshot_cell::READERS`.
     pub workers: usize,
     /// How many versions are kept older than the last; at most `dns_engine::KEPT`.
     pub keep: usize,
@@ -45,6 +47,10 @@ pub struct Plan<'a> {
     pub most: u64,
     /// Who may update and transfer.
     pub allowed: Allowed<'a>,
+    /// The sockets of the secondaries that are told of each version.
+    pub secondaries: &'a [NotifySocket],
+    /// What the IDs of NOTIFYs are drawn by, which nobody else knows.
+    pub seed: [u8; 32],
 }
 
 /// Why a zone isn't served any more.
@@ -71,6 +77,8 @@ enum SocketJob<'a, C> {
     Datagrams(UdpJob<'a, SharedSocket<'a>>),
     /// Connections.
     Connections(TcpJob<'a, SharedListener<'a, C>, C>),
+    /// The secondaries, which are told of each version.
+    Secondaries(NotifyJob<'a, C>),
 }
 
 impl<C: Clock> SocketJob<'_, C> {
@@ -81,6 +89,7 @@ impl<C: Clock> SocketJob<'_, C> {
         let end = match self {
             SocketJob::Datagrams(job) => job.end(),
             SocketJob::Connections(job) => job.end(),
+            SocketJob::Secondaries(job) => job.end(),
         };
         match end {
             Some(JobEnd::Device) => Some(ServeFault::Device),
@@ -94,7 +103,7 @@ impl<C: Clock> SocketJob<'_, C> {
 impl<C: Clock + Sync> Job for SocketJob<'_, C> {
     ghost number = { number_of };
 
-    fn run<R: Wait, A: Answering, G: Gate, L: ServiceLog>(
+    fn run<R: Wait, A: Notifying, G: Gate, L: ServiceLog>(
         &mut self,
         rt: &R,
         answering: &mut A,
@@ -104,6 +113,7 @@ impl<C: Clock + Sync> Job for SocketJob<'_, C> {
         match self {
             SocketJob::Datagrams(job) => job.run(rt, answering, gate, log),
             SocketJob::Connections(job) => job.run(rt, answering, gate, log),
+            SocketJob::Secondaries(job) => job.run(rt, answering, gate, log),
         }
     }
 }
@@ -117,15 +127,16 @@ pub fn serve_zone<
     L: ServiceLog + Sync,
 >(rt: &R, alloc: Global, zone: Zone, plan: Plan<'_>, log: &L) -> Result<(), ServeFault>
     requires first { zone ≡ Z.zone }
-    requires workers { 2 * plan.workers + 1 ≤ READERS }
+    requires workers { 2 * plan.workers + 2 ≤ READERS }
     requires kept { plan.keep ≤ KEPT }
 {
     let workers = plan.workers.saturating_mul(2);
     let jobs = jobs_of(rt, alloc, plan, workers)?;
+    let jobs = with_secondaries(rt, alloc, plan, zone.apex().copy(), jobs)?;
     let Some(first) = SharedVersion::new(alloc, Version::first(zone)) else {
         return Err(ServeFault::NoMemory);
     };
-    let parts = match Cell::<SharedVersion, ZoneVersions<Z>>::new(alloc, workers + 1, first) {
+    let parts = match Cell::<SharedVersion, ZoneVersions<Z>>::new(alloc, jobs.len() + 1, first) {
         Ok(parts) => parts,
         Err(NewFault::TooManyReaders) => unreachable!(),
         Err(NewFault::NoMemory) => return Err(ServeFault::NoMemory),
@@ -350,4 +361,38 @@ fn pairs_of<'a, N: Naming, C: Clock>(
         pairs.push_reserved((NamedReader::of(reader), job));
     }
     pairs
+}
+
+/// Jobs, and behind them that of the secondaries, where there are any.
+fn with_secondaries<'a, R: Clock>(
+    rt: &'a R,
+    alloc: Global,
+    plan: Plan<'a>,
+    apex: Name,
+    mut jobs: Vec<SocketJob<'a, R>>,
+) -> Result<Vec<SocketJob<'a, R>>, ServeFault>
+    requires room { vec_len jobs + 1 < 2 ^ 64 }
+    ensures few { IfOk result (λ more. vec_len more ≤ vec_len jobs.entry + 1) }
+    ensures refused { IfErr result (λ fault. fault ≡ Fault.NoMemory) }
+{
+    if plan.secondaries.is_empty() {
+        return Ok(jobs);
+    }
+    let number = jobs.len() + 1;
+    let job = NotifyJob::new(
+        alloc,
+        number,
+        plan.secondaries,
+        plan.seed,
+        apex,
+        rt,
+        plan.most,
+    );
+    let Ok(job) = job else {
+        return Err(ServeFault::NoMemory);
+    };
+    if jobs.push(SocketJob::Secondaries(job)).is_err() {
+        return Err(ServeFault::NoMemory);
+    }
+    Ok(jobs)
 }

@@ -15,7 +15,7 @@ use std::net::SocketAddr;
 use std::sync::Wait;
 use std::time::{Clock, Duration};
 use std::{io, thread};
-use zone_service::{Event, JobEnd, ServiceLog};
+use zone_service::{Event, JobEnd, Notifying, ServiceLog};
 
 /// How many seconds are waited for room until the next connection is accepted (own).
 const PAUSE: u64 = 1;
@@ -195,7 +195,7 @@ impl<'a, L: Listener, C: Clock> TcpJob<'a, L, C> {
 impl<L: Listener + Send + Drop, C: Clock + Sync> Job for TcpJob<'_, L, C> {
     ghost number = { λ job. job.number };
 
-    fn run<R: Wait, A: Answering, G: Gate, O: ServiceLog>(
+    fn run<R: Wait, A: Notifying, G: Gate, O: ServiceLog>(
         &mut self,
         rt: &R,
         answering: &mut A,

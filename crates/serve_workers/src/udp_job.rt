@@ -10,7 +10,7 @@ use conversation::{Allowed, Answering, Datagrams, DatagramsEnd, Gate, serve_udp}
 use crossbeam_utils::CachePadded;
 use serve_core::Transport;
 use std::sync::Wait;
-use zone_service::{Event, JobEnd, ServiceLog};
+use zone_service::{Event, JobEnd, Notifying, ServiceLog};
 
 /// How a job has ended that answers so many requests.
 fn job_end_of(end: DatagramsEnd, most: u64) -> JobEnd
@@ -96,7 +96,7 @@ impl<'a, D: Datagrams> UdpJob<'a, D> {
 impl<D: Datagrams + Send + Drop> Job for UdpJob<'_, D> {
     ghost number = { λ job. job.number };
 
-    fn run<R: Wait, A: Answering, G: Gate, L: ServiceLog>(
+    fn run<R: Wait, A: Notifying, G: Gate, L: ServiceLog>(
         &mut self,
         rt: &R,
         answering: &mut A,

@@ -4,7 +4,7 @@ ghost use Rattle.zone_tree.specs.Version.{Version};
 ghost use Rattle.conversation.specs.Served.{BeginsWith};
 ghost use Rattle.serve_workers.specs.GivenBack.{Each, IsReturned};
 
-use conversation::{Answering, Gate};
+use conversation::Gate;
 use dns_engine::{FirstZone, VersionReader};
 use serve_core::{Peer, Transport};
 use snapshot_cell::Naming;
@@ -13,7 +13,7 @@ use std::net::{Ipv4Addr, SocketAddr, SocketAddrV4};
 use std::snapshot::Snapshot;
 use std::sync::{OnceLock, OnceToken, Wait};
 use std::thread::{self, Promise, PromisedHandle, Scope, Threads};
-use zone_service::{Asked, Server, ServiceLog};
+use zone_service::{Asked, Notifying, Server, ServiceLog};
 
 /// What a worker does.
 pub trait Job: Send + Drop {
@@ -22,7 +22,7 @@ pub trait Job: Send + Drop {
 
     /// Does it, by one who answers each peer that it is turned to. Each request goes through the gate; the log is told how the job
     /// ends.
-    fn run<R: Wait, A: Answering, G: Gate, L: ServiceLog>(
+    fn run<R: Wait, A: Notifying, G: Gate, L: ServiceLog>(
         &mut self,
         rt: &R,
         answering: &mut A,

@@ -2,7 +2,7 @@
 ghost use Rattle.std.specs.Prelude.{◌≡◌};
 ghost use Rattle.std.specs.List.{All};
 
-use conversation::{Answering, Gate};
+use conversation::Gate;
 use dns_engine::{FirstZone, Naming, SharedVersion, VersionReader, ZoneVersions};
 use played_zones::{NamedParts, end, named_parts, parts_of, server_of, zone};
 use serve_workers::{Job, run_workers};
@@ -14,7 +14,7 @@ use std::sync::Wait;
 use std::sync::atomic::{AtomicU64, Ordering};
 use std::thread::{self, Threads};
 use told_streams::{Tape, answer_tape};
-use zone_service::{NoLog, Server, ServiceLog};
+use zone_service::{NoLog, Notifying, Server, ServiceLog};
 use zone_tree::Zone;
 
 /// The query for www.example.test., type A, and its reply, each in a frame.
@@ -80,7 +80,7 @@ struct TapeJob {
 impl Job for TapeJob {
     ghost number = { λ job. job.number };
 
-    fn run<R: Wait, A: Answering, G: Gate, L: ServiceLog>(
+    fn run<R: Wait, A: Notifying, G: Gate, L: ServiceLog>(
         &mut self,
         rt: &R,
         answering: &mut A,

@@ -45,6 +45,16 @@ pub enum Event {
         /// Its number, from 1.
         worker: usize,
     },
+    /// A secondary answers no NOTIFY (RFC 1996, 3.6).
+    Silent {
+        /// Its address and its port.
+        secondary: SocketAddr,
+    },
+    /// A secondary that answered none answers again.
+    Again {
+        /// Its address and its port.
+        secondary: SocketAddr,
+    },
 }
 
 /// The zone's serial when an update is looked at, and the one after that update: the same where it has changed nothing.
@@ -92,6 +102,12 @@ impl Display for Event {
                 f,
                 "worker {worker} (TCP) has no room for a connection, and waits"
             ),
+            Event::Silent { secondary } => {
+                write!(f, "secondary {secondary} doesn't answer NOTIFY")
+            }
+            Event::Again { secondary } => {
+                write!(f, "secondary {secondary} answers NOTIFY again")
+            }
         }
     }
 }
