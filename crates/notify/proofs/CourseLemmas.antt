@@ -3,9 +3,9 @@ use Rattle.std.proofs.Common.{◌≡◌, Bool, ℕ, ◌+◌, ◌-◌, ◌<◌, �
 use Rattle.std.specs.Prelude.{nat_lt, ◌==◌, if◌then◌else◌}
 use Rattle.std.proofs.lemmas.Bool.{false≢true}
 use Rattle.std.proofs.lemmas.Bool.Decides.{nat_tests}
-use Rattle.notify.specs.Course.{Sending, sending_of, Course, FollowsOn, InOrder}
-use Rattle.notify.specs.Course.Course.{begins, passes, told, silent, answered}
-use Rattle.notify.specs.Told.{told_first, told_again, told_next, is_now, is_done_with, due_after, is_due, as_told, answered_telling}
+use Rattle.notify.specs.Course.{Sending, sending_of, Course, FollowsOn, InOrder, begins, passes, told, silent, answered}
+use Rattle.notify.specs.Notified.{untold}
+use Rattle.notify.specs.Told.{told_first, told_again, told_next, is_now, is_done_with, due_after, is_due, as_silent, as_told, answered_telling, as_answered}
 use Rattle.notify.specs.declared.secondary.Secondary.{Secondary}
 use Rattle.notify.specs.declared.secondary.Telling.{Telling}
 
@@ -64,12 +64,27 @@ answered_known [] time (Some t) known = known
 answered_known (last ∷ sent) time None known = known
 answered_known (last ∷ sent) time (Some t) known = known
 
-known_of : (sent : List Sending) (time : ℕ) (s : Secondary) → Course sent time s → InOrder sent × IsKnown sent time s.telling
-known_of _ _ _ (begins address time) = (tt, tt)
-known_of _ _ _ (passes {sent} {time} {s} later course passed) = let k = known_of sent time s course in (k.0, later_known sent time later s.telling passed k.1)
-known_of _ _ _ (told {sent} {time} {s} number id course due speaks) = next_known sent time number id s s.telling (known_of sent time s course) due
-known_of _ _ _ (silent {sent} {time} {s} number course due falls) = known_of sent time s course
-known_of _ _ _ (answered {sent} {time} {s} apex octets course is) = let k = known_of sent time s course in (k.0, answered_known sent time s.telling k.1)
+-- what is known by way of equal things
+abbrev Knows : List Sending → ℕ → Secondary → Type 0
+Knows sent time s = InOrder sent × IsKnown sent time s.telling
+
+known_as : (sent : List Sending) (time : ℕ) (s later : Secondary) → later ≡ s → Knows sent time s → Knows sent time later
+known_as sent time s later is known = subst (λ (x : Secondary). Knows sent time x) (sym is) known
+
+known_of : (sent : List Sending) (time : ℕ) (s : Secondary) → Course sent time s → Knows sent time s
+known_of sent time s (begins address none is) =
+    subst (λ (ss : List Sending). Knows ss time s) (sym none) (known_as [] time (untold address) s is (tt, tt))
+known_of sent time s (passes {sent = sent} {before = before} course passed) =
+    let k = known_of sent before s course in
+    (k.0, later_known sent before time s.telling passed k.1)
+known_of sent time s (told {sent = before} {s = was} number id course due speaks more is) =
+    let next : Telling = told_next number id time was.telling in
+    subst (λ (ss : List Sending). Knows ss time s) (sym more)
+    (known_as (sending_of next time ∷ before) time (as_told next was) s is (next_known before time number id was was.telling (known_of before time was course) due))
+known_of sent time s (silent {s = was} number course due falls is) = known_as sent time (as_silent was) s is (known_of sent time was course)
+known_of sent time s (answered {s = was} apex octets course heard is) =
+    let k = known_of sent time was course in
+    known_as sent time (as_answered was) s is (k.0, answered_known sent time was.telling k.1)
 
 pub in_order : (sent : List Sending) (time : ℕ) (s : Secondary) → Course sent time s → InOrder sent
 in_order sent time s course = (known_of sent time s course).0

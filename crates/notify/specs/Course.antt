@@ -20,12 +20,12 @@ sending_of telling time = record { number = telling.number; id = telling.id; tim
 -- all that a secondary was sent, the last first, up to a time, and what is known of it then: it is told nothing at first; time passes; what
 -- is due to it is done; and it answers
 pub data Course : List Sending → ℕ → Secondary → Type 0 where
-  begins : (address : SocketAddr) (time : ℕ) → Course [] time (untold address)
-  passes : {sent : List Sending} {time : ℕ} {s : Secondary} (later : ℕ) → Course sent time s → time ≤ later → Course sent later s
-  told : {sent : List Sending} {time : ℕ} {s : Secondary} (number id : ℕ) → Course sent time s → is_due time number s ≡ true → falls_silent s ≡ false
-      → Course (sending_of (told_next number id time s.telling) time ∷ sent) time (as_told (told_next number id time s.telling) s)
-  silent : {sent : List Sending} {time : ℕ} {s : Secondary} (number : ℕ) → Course sent time s → is_due time number s ≡ true → falls_silent s ≡ true → Course sent time (as_silent s)
-  answered : {sent : List Sending} {time : ℕ} {s : Secondary} (apex : Name) (octets : List ℕ) → Course sent time s → is_answered_by apex octets s ≡ true → Course sent time (as_answered s)
+  begins : {sent : List Sending} {time : ℕ} {s : Secondary} (address : SocketAddr) → sent ≡ [] → s ≡ untold address → Course sent time s
+  passes : {sent : List Sending} {before time : ℕ} {s : Secondary} → Course sent before s → before ≤ time → Course sent time s
+  told : {sent more : List Sending} {time : ℕ} {s later : Secondary} (number id : ℕ) → Course sent time s → is_due time number s ≡ true → falls_silent s ≡ false
+      → more ≡ sending_of (told_next number id time s.telling) time ∷ sent → later ≡ as_told (told_next number id time s.telling) s → Course more time later
+  silent : {sent : List Sending} {time : ℕ} {s later : Secondary} (number : ℕ) → Course sent time s → is_due time number s ≡ true → falls_silent s ≡ true → later ≡ as_silent s → Course sent time later
+  answered : {sent : List Sending} {time : ℕ} {s later : Secondary} (apex : Name) (octets : List ℕ) → Course sent time s → is_answered_by apex octets s ≡ true → later ≡ as_answered s → Course sent time later
 
 -- a NOTIFY is of no older version than the one before it, a second later or more, and of the same ID where it is of the same version
 pub record FollowsOn (before after : Sending) : Type 0 where
