@@ -74,7 +74,7 @@ known_as sent time s later is known = subst (λ (x : Secondary). Knows sent time
 known_of : (sent : List Sending) (time : ℕ) (s : Secondary) → Course sent time s → Knows sent time s
 known_of sent time s (begins address none is) =
     subst (λ (ss : List Sending). Knows ss time s) (sym none) (known_as [] time (untold address) s is (tt, tt))
-known_of sent time s (passes {sent = sent} {before = before} course passed) =
+known_of sent time s (passes {before = before} course passed) =
     let k = known_of sent before s course in
     (k.0, later_known sent before time s.telling passed k.1)
 known_of sent time s (told {sent = before} {s = was} number id course due speaks more is) =
