@@ -25,6 +25,9 @@ const MOST_TURNS: usize = 256;
 /// How many datagrams it takes at most from a secondary's socket before it goes on (own).
 const MOST_REPLIES: usize = 16;
 
+/// How many IDs 16 bits tell (RFC 1035, 4.1.1).
+const IDS: u32 = 65_536;
+
 /// A secondary's socket, which takes datagrams from its address alone.
 #[derive(Drop)]
 pub struct NotifySocket {
@@ -123,7 +126,7 @@ impl<'a, C: Clock> NotifyJob<'a, C> {
     ) -> Result<Option<u64>, JobEnd> {
         let mut out = [0u8; MAX_NOTIFY];
         for _ in 0..MOST_TURNS {
-            let id = self.ids.next_u32() as u16;
+            let id = (self.ids.next_u32() / IDS) as u16;
             let Ok(next) = answering.next_turn(&mut self.notifier, id, &mut out) else {
                 return Err(JobEnd::Spent);
             };

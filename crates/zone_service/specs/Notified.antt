@@ -1,6 +1,7 @@
 -- What is next for a zone's secondaries, by what is known to be published (RFC 1996, 3.1).
-use Rattle.std.specs.Prelude.{◌≡◌, ℕ, List, [], ◌∷◌, ◌++◌, map, None, Some}
+use Rattle.std.specs.Prelude.{◌≡◌, ℕ, List, map, None, Some}
 use Rattle.zone_tree.specs.Version.{Version}
+use Rattle.snapshot_cell.specs.Tokens.{IsLastOf}
 use Rattle.notify.specs.Notified.{Notified}
 use Rattle.notify.specs.Told.{due_in, soonest}
 use Rattle.notify.specs.Turns.{GoesOn}
@@ -15,4 +16,4 @@ TakesTurn version id old (Look wait) out new =
 
 -- where the last of those that are known to be published is served
 abbrev pub GoesOnBy : List Version → ℕ → Notified → NextTurn → List ℕ → Notified → Type 0
-GoesOnBy seen id old next out new = (before : List Version) × (last : Version) × (seen ≡ before ++ last ∷ []) × TakesTurn last id old next out new
+GoesOnBy seen id old next out new = (last : Version) × IsLastOf seen (record { number = last.number; value = last }) × TakesTurn last id old next out new
