@@ -156,7 +156,16 @@ update_all() {
     done
 }
 
-# All secondaries have a serial in so many milliseconds after the last update, and the server's records.
+# How many transfers in whole a secondary has had, by its log: those of as many records or octets as the first, which was one.
+whole() {
+    case $1 in
+        named) sed -nE 's/.*Transfer completed: .* ([0-9]+) records.*/\1/p' "$work/named.log" ;;
+        knotd) sed -nE 's/.*AXFR, incoming.*finished.*/1/p' "$work/knotd.log" ;;
+        nsd) sed -nE 's/.*received update to serial .* of ([0-9]+) bytes.*/\1/p' "$work/nsd.log" ;;
+    esac | awk 'NR == 1 { first = $1 } $1 >= first { count++ } END { print count + 0 }'
+}
+
+# All secondaries have a serial in so many milliseconds after the last update, and the server's records, and took only what changed.
 all_hold() {
     local name want
     for name in $names; do
@@ -169,10 +178,11 @@ all_hold() {
         echo "       $name: $(cat "$work/reached.$name") ms after the last update"
         check "$name, $1, in $3 ms" yes "$(within "$(cat "$work/reached.$name")" "$3")"
         check "$name, $1, record by record" "$want" "$(records "${ports[$name]}")"
+        check "$name, $1, by what changed alone" "${wholes[$name]}" "$(whole "$name")"
     done
 }
 
-declare -A pids waits
+declare -A pids waits wholes
 sed -E 's/^(.*SOA[[:space:]].*[[:space:]])([0-9]+)[[:space:]]+[0-9]+[[:space:]]+[0-9]+[[:space:]]+([0-9]+)[[:space:]]+([0-9]+)[[:space:]]*$/\1\2 7200 900 \3 \4/' tests/interop.zone >"$work/zone"
 grep -q ' 7200 900 ' "$work/zone" || { echo "notify: no SOA on one line in tests/interop.zone" >&2; exit 2; }
 
@@ -184,7 +194,7 @@ for name in $names; do
     last=$(now)
     check "$name, the first zone" yes "$(within "$(reached "${ports[$name]}" 1 "$last")" 30000)"
 done
-last=0
+for name in $names; do wholes[$name]=$(whole "$name"); done
 update_all 1
 all_hold "all told" $((updates + 1)) 2000
 
@@ -215,6 +225,7 @@ for name in $names; do
     last=$(now)
     check "$name, the first zone again" yes "$(within "$(reached "${ports[$name]}" 1 "$last")" 30000)"
 done
+for name in $names; do wholes[$name]=$(whole "$name"); done
 update_all 1
 all_hold "every second NOTIFY lost" $((updates + 1)) 4000
 for name in $names; do
