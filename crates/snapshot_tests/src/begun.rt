@@ -2,7 +2,7 @@
 ghost use Rattle.std.specs.Prelude.{◌≡◌, ◌<◌};
 ghost use Rattle.std.specs.List.{All};
 
-use crate::counted::{Counted, Rising, Tally};
+use played_cells::{Counted, Rising, Tally};
 use snapshot_cell::{
     Cell, NamedCell, NamedPublisher, NamedReader, Names, Naming, Parts, Publisher, Reader, Strong,
 };

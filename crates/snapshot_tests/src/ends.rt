@@ -3,8 +3,7 @@ ghost use Rattle.std.specs.Prelude.{◌≡◌, ◌+◌, ◌<◌};
 ghost use Rattle.std.specs.List.{All};
 
 use crate::begun::{Named, begun, draw, end_at, name_parts, tally_of};
-use crate::counted::{Counted, Rising, Tally};
-use crate::players::{Loader, Teller};
+use played_cells::{Counted, Loader, Rising, Tally, Teller};
 use snapshot_cell::{Cell, NamedStillOut, Naming, Parts, Publisher, Reader, StillOut};
 use std::alloc::Global;
 use std::marker::Brand;

@@ -1,7 +1,8 @@
 //! What threads do with one cell, each of them a job.
-use crate::counted::{Counted, Rising};
-use crate::players::{Loader, Ran, Teller};
-use snapshot_cell::{NamedStrong, Naming};
+use crate::begun::Named;
+use played_cells::{Counted, Loader, Rising, Teller};
+use snapshot_cell::{NamedCell, NamedPublisher, NamedReader, NamedStrong, Naming};
+use std::alloc::Global;
 use std::process::Abort;
 use std::thread;
 use std::thread::Threads;
@@ -14,6 +15,36 @@ pub(crate) const VALUES: u64 = 1_000;
 
 /// How often it is looked whether the drop sleeps, at most.
 const LOOKS: u64 = 10_000_000;
+
+/// What those who played in a thread give back.
+#[derive(Drop)]
+pub struct Ran<N: Naming> {
+    pub publisher: Option<NamedPublisher<Counted, Rising, N>>,
+    pub reader: Option<NamedReader<Counted, N>>,
+}
+
+/// The cell with all that was given back.
+pub fn gather<R: Abort, N: Naming>(
+    rt: &R,
+    alloc: Global,
+    cell: NamedCell<Counted, Rising, N>,
+    all: Vec<Option<Ran<N>>>,
+) -> Named<N> {
+    let mut readers = Vec::new(alloc);
+    let mut told = None;
+    for ran in all {
+        let Ran { publisher, reader } = ran.expect(rt, "each played as it should");
+        if let Some(reader) = reader {
+            readers.push(reader).ok().expect(rt, "memory");
+        }
+        told = told.or(publisher);
+    }
+    Named {
+        cell,
+        publisher: told.expect(rt, "a publisher"),
+        readers,
+    }
+}
 
 /// Those who go on while a drop sleeps.
 #[derive(Drop)]

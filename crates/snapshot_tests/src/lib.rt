@@ -5,8 +5,6 @@
 #[cfg(test)]
 mod begun;
 #[cfg(test)]
-mod counted;
-#[cfg(test)]
 mod ends;
 #[cfg(test)]
 mod held;
@@ -15,14 +13,8 @@ mod jobs;
 #[cfg(test)]
 mod numbers;
 #[cfg(test)]
-mod players;
-#[cfg(test)]
 mod stopped;
 #[cfg(test)]
 mod threads;
 #[cfg(test)]
 mod weak;
-#[cfg(test)]
-mod weak_players;
-#[cfg(test)]
-mod weak_threads;

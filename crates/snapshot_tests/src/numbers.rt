@@ -4,8 +4,8 @@ ghost use Rattle.std.specs.List.{All};
 ghost use Rattle.snapshot_cell.specs.Tokens.{published_next};
 
 use crate::begun::{draw_by, end};
-use crate::counted::{Counted, Rising, Tally};
 use cell_core::Follows;
+use played_cells::{Counted, Rising, Tally};
 use snapshot_cell::{Cell, Names, NewFault, Parts, Publisher, READERS, Reader, Strong};
 use std::alloc::Global;
 use std::process::Abort;

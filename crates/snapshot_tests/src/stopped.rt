@@ -3,9 +3,8 @@ ghost use Rattle.std.specs.Prelude.{◌≡◌};
 ghost use Rattle.std.specs.List.{All};
 
 use crate::begun::{Named, begun, end_at, name_parts, tally_of};
-use crate::counted::{Counted, Rising, Tally};
-use crate::jobs::{Job, Others, VALUES, run_all};
-use crate::players::{Loader, Teller, gather};
+use crate::jobs::{Job, Others, VALUES, gather, run_all};
+use played_cells::{Counted, Loader, Rising, Tally, Teller};
 use snapshot_cell::{Naming, Parts};
 use std::alloc::Global;
 use std::marker::Brand;

@@ -9,25 +9,10 @@ use Rattle.std.proofs.option.Option.TheSendSync as option
 use Rattle.std.specs.contracts.option.Option as Option
 use Rattle.snapshot_cell.proofs.SendLemmas as cell
 use Rattle.snapshot_cell.specs.declared.named.Naming as naming
-use Rattle.snapshot_tests.specs.contracts.counted.Counted as counted
-use Rattle.snapshot_tests.specs.contracts.counted.Tally as tally
+use Rattle.played_cells.proofs.SendLemmas.{tally_send, tally_sync, counted_send, counted_sync, loader_send, teller_send}
 use Rattle.snapshot_tests.specs.contracts.jobs.Job as job
-use Rattle.snapshot_tests.specs.contracts.players.Loader as loader
-use Rattle.snapshot_tests.specs.contracts.players.Ran as ran
-use Rattle.snapshot_tests.specs.contracts.players.Teller as teller
+use Rattle.snapshot_tests.specs.contracts.jobs.Ran as ran
 use Rattle.snapshot_tests.proofs.jobs.run_all.Goals as goal
-
-tally_send : IsSend tally.the_row
-tally_send = search (option.the_field_send, crossing.crosses, sendable) depth 60 fits 20000
-
-tally_sync : IsSync tally.the_row
-tally_sync = search (option.the_field_sync, crossing.crosses, sendable) depth 60 fits 20000
-
-counted_send : IsSend counted.the_row
-counted_send = search (tally_send, tally_sync, crossing.crosses, sendable) depth 60 fits 20000
-
-counted_sync : IsSync counted.the_row
-counted_sync = search (tally_send, tally_sync, crossing.crosses, sendable) depth 60 fits 20000
 
 module _ (N : RattleType) (n : naming.Ghosts N.Denot) where
   ran_send : IsSend (ran.the_row N n)
@@ -37,14 +22,8 @@ module _ (N : RattleType) (n : naming.Ghosts N.Denot) where
   back_send = search (ran_send, option.the_send, sendable) depth 60 fits 20000
 
   module _ (a : NamedLft) where
-    loader_send : IsSend (loader.the_field a N n).row
-    loader_send = search (counted_send, counted_sync, cell.crosses, crossing.crosses, sendable) depth 60 fits 20000
-
-    teller_send : IsSend (teller.the_field a N n).row
-    teller_send = search (counted_send, counted_sync, tally_send, tally_sync, cell.crosses, crossing.crosses, sendable) depth 60 fits 20000
-
     jobs_send : IsSend (job.the_row a N n)
-    jobs_send = search (loader_send, teller_send, counted_send, counted_sync, cell.crosses, sendable) depth 60 fits 20000
+    jobs_send = search (loader_send N n a, teller_send N n a, counted_send, counted_sync, cell.crosses, sendable) depth 60 fits 20000
 
 pub map_vec-requires-send-J : goal.map_vec-requires-send-J
 map_vec-requires-send-J g c κs within = param_send _ _ (arg_send _ no _ (jobs_send (param 1 g.row.N) g.N.Naming _))

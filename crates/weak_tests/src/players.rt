@@ -1,8 +1,7 @@
 //! Those who play with weak owners of one cell: a publisher that hands them out, those who raise them, and one who clones owners.
 ghost use Rattle.std.specs.Prelude.{◌≡◌, ◌+◌, ◌<◌};
 
-use crate::counted::{Counted, Rising};
-use crate::players::{Loader, TURNS, Teller};
+use played_cells::{Counted, Loader, Rising, TURNS, Teller};
 use rtrb::{Consumer, Producer, PushError};
 use snapshot_cell::{NamedStrong, NamedWeak, Naming};
 use std::alloc::Global;

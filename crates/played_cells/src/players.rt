@@ -1,77 +1,49 @@
 //! Those who play with one cell: a publisher and readers, each at its cell.
 ghost use Rattle.std.specs.Prelude.{◌≡◌, ◌+◌, ◌<◌, ◌-◌, ◌^◌, IfErr, IfSome};
 
-use crate::begun::Named;
 use crate::counted::{Counted, Rising, Tally};
 use snapshot_cell::{NamedCell, NamedPublisher, NamedReader, NamedStrong, NamedWeak, Naming};
-use std::alloc::Global;
-use std::process::Abort;
 use std::sync::Arc;
 
 /// How often a publisher that finds no slot goes on, at most.
-pub(crate) const TURNS: u64 = 10_000_000;
+pub const TURNS: u64 = 10_000_000;
 
 /// A reader that loads, at its cell.
 #[derive(Drop)]
-pub(crate) struct Loader<'a, N: Naming> {
-    pub(crate) cell: &'a NamedCell<Counted, Rising, N>,
-    pub(crate) reader: NamedReader<Counted, N>,
+pub struct Loader<'a, N: Naming> {
+    /// The cell.
+    pub cell: &'a NamedCell<Counted, Rising, N>,
+    /// The reader.
+    pub reader: NamedReader<Counted, N>,
 }
 
 /// A publisher that publishes, at its cell.
 #[derive(Drop)]
-pub(crate) struct Teller<'a, N: Naming> {
-    pub(crate) cell: &'a NamedCell<Counted, Rising, N>,
-    pub(crate) publisher: NamedPublisher<Counted, Rising, N>,
-    pub(crate) tally: Arc<Tally>,
+pub struct Teller<'a, N: Naming> {
+    /// The cell.
+    pub cell: &'a NamedCell<Counted, Rising, N>,
+    /// The publisher.
+    pub publisher: NamedPublisher<Counted, Rising, N>,
+    /// Where drops are counted.
+    pub tally: Arc<Tally>,
     ghost told: { publisher.value.number ≡ publisher.number },
-}
-
-/// What those who played in a thread give back.
-#[derive(Drop)]
-pub(crate) struct Ran<N: Naming> {
-    pub(crate) publisher: Option<NamedPublisher<Counted, Rising, N>>,
-    pub(crate) reader: Option<NamedReader<Counted, N>>,
-}
-
-/// The cell with all that was given back.
-pub(crate) fn gather<R: Abort, N: Naming>(
-    rt: &R,
-    alloc: Global,
-    cell: NamedCell<Counted, Rising, N>,
-    all: Vec<Option<Ran<N>>>,
-) -> Named<N> {
-    let mut readers = Vec::new(alloc);
-    let mut told = None;
-    for ran in all {
-        let Ran { publisher, reader } = ran.expect(rt, "each played as it should");
-        if let Some(reader) = reader {
-            readers.push(reader).ok().expect(rt, "memory");
-        }
-        told = told.or(publisher);
-    }
-    Named {
-        cell,
-        publisher: told.expect(rt, "a publisher"),
-        readers,
-    }
 }
 
 impl<'a, N: Naming> Loader<'a, N> {
     /// The reader, which leaves its cell.
-    pub(crate) fn into_reader(self) -> NamedReader<Counted, N> {
+    pub fn into_reader(self) -> NamedReader<Counted, N> {
         let Loader { cell: _, reader } = self;
         reader
     }
 
     /// One load: the owner, where its value is the one of its number.
-    pub(crate) fn load(&mut self) -> Option<NamedStrong<'a, Counted, Rising, N>> {
+    pub fn load(&mut self) -> Option<NamedStrong<'a, Counted, Rising, N>> {
         let strong = self.cell.load(&mut self.reader).ok()?;
         (strong.get().number == strong.number()).then_some(strong)
     }
 
     /// Whether each of so many owners has the value of its number, and no number is less than the one before.
-    pub(crate) fn run(&mut self, loads: u64) -> bool {
+    pub fn run(&mut self, loads: u64) -> bool {
         let mut last = 0;
         for _ in 0..loads {
             let Some(strong) = self.load() else {
@@ -88,7 +60,7 @@ impl<'a, N: Naming> Loader<'a, N> {
 
 impl<'a, N: Naming> Teller<'a, N> {
     /// The publisher, which leaves its cell.
-    pub(crate) fn into_publisher(self) -> NamedPublisher<Counted, Rising, N> {
+    pub fn into_publisher(self) -> NamedPublisher<Counted, Rising, N> {
         let Teller {
             cell: _,
             publisher,
@@ -98,7 +70,7 @@ impl<'a, N: Naming> Teller<'a, N> {
     }
 
     /// The value that is due.
-    pub(crate) fn next(&self) -> Option<Counted>
+    pub fn next(&self) -> Option<Counted>
         requires { self.now.publisher.number < 2 ^ 64 - 1 }
         ensures { IfSome result (λ value. value.number ≡ self.now.publisher.number + 1) }
     {
@@ -109,7 +81,7 @@ impl<'a, N: Naming> Teller<'a, N> {
     }
 
     /// One publication: the old version's owner, or the value where there was no slot.
-    pub(crate) fn publish(
+    pub fn publish(
         &mut self,
         value: Counted,
     ) -> Result<NamedStrong<'a, Counted, Rising, N>, Counted>
@@ -123,7 +95,7 @@ impl<'a, N: Naming> Teller<'a, N> {
     }
 
     /// A weak owner of an owner's version.
-    pub(crate) fn downgrade(
+    pub fn downgrade(
         &mut self,
         owner: &mut NamedStrong<'a, Counted, Rising, N>,
     ) -> Option<NamedWeak<'a, Counted, Rising, N>>
@@ -133,7 +105,7 @@ impl<'a, N: Naming> Teller<'a, N> {
     }
 
     /// A weak owner of an owner's version, which is let go: None where its release didn't bury it.
-    pub(crate) fn weaken(
+    pub fn weaken(
         &mut self,
         mut owner: NamedStrong<'a, Counted, Rising, N>,
     ) -> Option<NamedWeak<'a, Counted, Rising, N>>
@@ -145,7 +117,7 @@ impl<'a, N: Naming> Teller<'a, N> {
 
     /// Whether all values up to this one are published, each in turn, and each old owner had the value of its number. Where there is
     /// no slot it goes on with the same value.
-    pub(crate) fn run(&mut self, up_to: u64) -> bool {
+    pub fn run(&mut self, up_to: u64) -> bool {
         let mut refused = None;
         for _ in 0..TURNS {
             let last = self.publisher.last();

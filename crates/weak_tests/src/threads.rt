@@ -3,10 +3,9 @@ ghost use Rattle.std.specs.Prelude.{◌≡◌};
 ghost use Rattle.std.specs.List.{All};
 
 use crate::begun::{Named, begun, end_at, name_parts, tally_of};
-use crate::counted::{Counted, Rising, Tally};
-use crate::players::{Loader, Teller};
-use crate::weak::{WeakOwners, are_free, fill_weakly};
-use crate::weak_players::{Back, Copier, Raiser, Records, Sharer};
+use crate::kept::{WeakOwners, are_free, fill_weakly};
+use crate::players::{Back, Copier, Raiser, Records, Sharer};
+use played_cells::{Counted, Loader, Rising, Tally, Teller};
 use rtrb::RingBuffer;
 use snapshot_cell::{NamedCell, NamedReader, NamedWeak, Naming, Parts};
 use std::alloc::Global;
@@ -34,7 +33,7 @@ const OTHERS: u64 = 63;
 
 /// What a thread does.
 #[derive(Drop)]
-enum WeakJob<'a, N: Naming> {
+enum Job<'a, N: Naming> {
     /// Publishes all values, and hands weak owners out.
     Share(Sharer<'a, N>),
     /// Raises weak owners.
@@ -43,13 +42,13 @@ enum WeakJob<'a, N: Naming> {
     Copy(Copier<'a, N>),
 }
 
-impl<'a, N: Naming> WeakJob<'a, N> {
+impl<'a, N: Naming> Job<'a, N> {
     /// What is given back, where all went as it should.
     fn run(self) -> Option<Back<'a, N>> {
         match self {
-            WeakJob::Share(sharer) => sharer.finish(VALUES),
-            WeakJob::Raise(raiser) => raiser.finish(VALUES),
-            WeakJob::Copy(copier) => copier.finish(COPIES),
+            Job::Share(sharer) => sharer.finish(VALUES),
+            Job::Raise(raiser) => raiser.finish(VALUES),
+            Job::Copy(copier) => copier.finish(COPIES),
         }
     }
 }
@@ -61,7 +60,7 @@ fn jobs_of<'a, R: Abort, N: Naming>(
     teller: Teller<'a, N>,
     readers: Vec<NamedReader<Counted, N>>,
     records: &Arc<Records>,
-) -> Vec<WeakJob<'a, N>> {
+) -> Vec<Job<'a, N>> {
     let cell = teller.cell;
     let mut jobs = Vec::new(alloc);
     let mut rings = Vec::new(alloc);
@@ -73,13 +72,13 @@ fn jobs_of<'a, R: Abort, N: Naming>(
                 .ok()
                 .expect(rt, "memory");
             rings.push(producer).ok().expect(rt, "memory");
-            WeakJob::Raise(Raiser {
+            Job::Raise(Raiser {
                 loader,
                 ring,
                 records,
             })
         } else {
-            WeakJob::Copy(Copier { loader, records })
+            Job::Copy(Copier { loader, records })
         };
         jobs.push(job).ok().expect(rt, "memory");
     }
@@ -89,16 +88,16 @@ fn jobs_of<'a, R: Abort, N: Naming>(
         rings,
         records,
     };
-    jobs.push(WeakJob::Share(sharer)).ok().expect(rt, "memory");
+    jobs.push(Job::Share(sharer)).ok().expect(rt, "memory");
     jobs
 }
 
 /// Does each job on a thread of its own: what each gave back.
-fn run_weakly<'a, R: Abort + Threads + Sync, N: Naming + Send + Sync>(
+fn run_all<'a, R: Abort + Threads + Sync, N: Naming + Send + Sync>(
     rt: &R,
-    jobs: Vec<WeakJob<'a, N>>,
+    jobs: Vec<Job<'a, N>>,
 ) -> Vec<Option<Back<'a, N>>> {
-    thread::map_vec(rt, jobs, &WeakJob::run)
+    thread::map_vec(rt, jobs, &Job::run)
         .ok()
         .expect(rt, "memory")
 }
@@ -170,7 +169,7 @@ fn play<R: Abort + Threads + Sync, N: Naming + Send + Sync>(
         publisher,
         tally: Arc::try_clone(tally).expect(rt, "memory"),
     };
-    let ran = run_weakly(rt, jobs_of(rt, alloc, teller, readers, &records));
+    let ran = run_all(rt, jobs_of(rt, alloc, teller, readers, &records));
     assert_eq!(rt; ran.len(), RAISERS + 2);
     assert!(rt; tally.were_dropped_once(VALUES as usize));
     assert!(rt; records.tell_each_burial(VALUES as usize));
@@ -194,7 +193,7 @@ fn play<R: Abort + Threads + Sync, N: Naming + Send + Sync>(
 #[test]
 fn weak_owners_are_raised_while_versions_go(rt: HostRuntime) {
     let values = (VALUES + OTHERS) as usize + 1;
-    let tally = tally_of(&rt, rt.alloc(), values, None);
+    let tally = tally_of(&rt, rt.alloc(), values);
     let parts = begun(&rt, rt.alloc(), RAISERS + 1, &tally);
     play::<HostRuntime, Brand>(&rt, rt.alloc(), parts, &tally);
 }

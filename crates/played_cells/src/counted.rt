@@ -14,7 +14,7 @@ const NIGHT: u64 = 1 << 32;
 
 /// How often each value was dropped, and the drop that sleeps.
 #[derive(Drop)]
-pub(crate) struct Tally {
+pub struct Tally {
     drops: Vec<AtomicU64>,
     sleeper: Option<u64>,
     asleep: AtomicBool,
@@ -23,7 +23,7 @@ pub(crate) struct Tally {
 
 impl Tally {
     /// Of so many values, of which the one of the number `sleeper` sleeps in its drop. None where there is no memory.
-    pub(crate) fn new(alloc: Global, values: usize, sleeper: Option<u64>) -> Option<Tally> {
+    pub fn new(alloc: Global, values: usize, sleeper: Option<u64>) -> Option<Tally> {
         let mut drops = Vec::with_capacity(alloc, values).ok()?;
         for _ in 0..values {
             drops.push(AtomicU64::new(0)).ok()?;
@@ -37,7 +37,7 @@ impl Tally {
     }
 
     /// Of so many values, none of which sleeps in its drop, for those that share it. None where there is no memory.
-    pub(crate) fn shared(alloc: Global, values: usize) -> Option<Arc<Tally>> {
+    pub fn shared(alloc: Global, values: usize) -> Option<Arc<Tally>> {
         Arc::new(alloc, Tally::new(alloc, values, None)?).ok()
     }
 
@@ -64,17 +64,17 @@ impl Tally {
     }
 
     /// Whether a drop sleeps.
-    pub(crate) fn is_asleep(&self) -> bool {
+    pub fn is_asleep(&self) -> bool {
         self.asleep.load(SeqCst)
     }
 
     /// Wakes the drop that sleeps.
-    pub(crate) fn wake(&self) {
+    pub fn wake(&self) {
         self.called.store(true, SeqCst);
     }
 
     /// How many drops were counted.
-    pub(crate) fn drops(&self) -> u64 {
+    pub fn drops(&self) -> u64 {
         let mut sum = 0u64;
         for drops in self.drops.iter() {
             sum = sum.wrapping_add(drops.load(SeqCst));
@@ -83,7 +83,7 @@ impl Tally {
     }
 
     /// Whether the values below this number were dropped once each, and no other was.
-    pub(crate) fn were_dropped_once(&self, below: usize) -> bool {
+    pub fn were_dropped_once(&self, below: usize) -> bool {
         for (number, drops) in self.drops.iter().enumerate() {
             let due = if number < below { 1 } else { 0 };
             if drops.load(SeqCst) != due {
@@ -95,9 +95,11 @@ impl Tally {
 }
 
 /// A value that says which one it is, and counts when it is dropped.
-pub(crate) struct Counted {
-    pub(crate) number: u64,
-    pub(crate) tally: Arc<Tally>,
+pub struct Counted {
+    /// Which one it is.
+    pub number: u64,
+    /// Where its drop is counted.
+    pub tally: Arc<Tally>,
 }
 
 impl Drop for Counted {
@@ -108,7 +110,7 @@ impl Drop for Counted {
 }
 
 /// Numbers that rise by one, from 0 on.
-pub(crate) struct Rising;
+pub struct Rising;
 
 impl Follows<Counted> for Rising {
     ghost follows = { λ value next. next.number ≡ value.number + 1 };
