@@ -11,8 +11,8 @@ with socket.create_server(("127.0.0.1", 0)) as listener:
 echo "compiling dnsd; nothing is proved here (make dnsd proves it)"
 said=$(mktemp)
 trap 'rm -f "$said"; kill "$tried" 2>/dev/null || true' EXIT
-# its one worker of each transport ends after a request or a connection
-rt try -- serve --listen "127.0.0.1:$port" --workers 1 --count 1 - <../../zones/example.test.zone >"$said" 2>&1 &
+# its one worker ends after a datagram and a connection
+rt try -- serve --listen "127.0.0.1:$port" --workers 1 --count 2 - <../../zones/example.test.zone >"$said" 2>&1 &
 tried=$!
 python3 - "$port" "$tried" <<'end' || { cat "$said" >&2; exit 1; }
 import os, socket, struct, sys, time

@@ -1,6 +1,6 @@
 #!/usr/bin/env bash
 # Measures `dnsd serve` by dnsperf, beside knotd and nsd where these are installed, each with as many workers, in the same run: queries
-# a second over UDP and processor time a query (of the server alone, from /proc), queries a second over TCP; then of dnsd updates a
+# a second over UDP, and over TCP on 20 and on 50 connections, and processor time a query (of the server alone, from /proc); then of dnsd updates a
 # second, and the 99th percentile of queries' times without updates, while updates go to another dnsd on the same machine, and while as
 # many go to the one that is asked.
 # Usage: [DNSD=PROGRAM] bench/serve.sh [--seconds N] [--workers "N .."] [--port N] [--updates N] [RECORDS ..]
@@ -121,6 +121,7 @@ server:
     pidfile: ""
     rrl-ratelimit: 0
     minimal-responses: no
+    tcp-count: 1000
 remote-control:
     control-enable: no
 zone:
@@ -164,20 +165,25 @@ percentile() {
 }
 
 hertz=$(getconf CLK_TCK)
+# One server by so many clients, each with a socket or a connection: NAME WORKERS RECORDS OVER CLIENTS
+measure_over() {
+    local before after done rate lost
+    before=$(spent)
+    read -r done rate lost < <(dnsperf -m "$4" -s 127.0.0.1 -p "$port" -d "$work/questions" -l "$seconds" -c "$5" -T 1 -q $((50 * $2)) 2>/dev/null | figures)
+    after=$(spent)
+    awk -v name="$1" -v w="$2" -v n="$3" -v over="$4" -v c="$5" -v done="$done" -v rate="$rate" -v lost="$lost" -v t=$((after - before)) -v hz="$hertz" 'BEGIN {
+        printf "%s, %d workers, %d records, %s, %d clients: %d queries a second, %.2f microseconds of processor time a query, %s lost\n",
+            name, w, n, toupper(over), c, rate, 1000000 * t / hz / (done ? done : 1), lost
+    }'
+}
+
 # One server over UDP and then over TCP: NAME WORKERS RECORDS
 measure() {
-    local before after done rate lost over
+    local clients
     "start_$1" "$2"
     wait_for
-    for over in udp tcp; do
-        before=$(spent)
-        read -r done rate lost < <(dnsperf -m $over -s 127.0.0.1 -p "$port" -d "$work/questions" -l "$seconds" -c "$2" -T 1 -q $((50 * $2)) 2>/dev/null | figures)
-        after=$(spent)
-        awk -v name="$1" -v w="$2" -v n="$3" -v over=$over -v done="$done" -v rate="$rate" -v lost="$lost" -v t=$((after - before)) -v hz="$hertz" 'BEGIN {
-            printf "%s, %d workers, %d records, %s: %d queries a second, %.2f microseconds of processor time a query, %s lost\n",
-                name, w, n, toupper(over), rate, 1000000 * t / hz / (done ? done : 1), lost
-        }'
-    done
+    measure_over "$1" "$2" "$3" udp "$2"
+    for clients in 20 50; do measure_over "$1" "$2" "$3" tcp "$clients"; done
     stop
 }
 

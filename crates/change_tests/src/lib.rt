@@ -11,6 +11,8 @@ mod made;
 #[cfg(test)]
 mod outcomes;
 #[cfg(test)]
+mod places;
+#[cfg(test)]
 mod reading;
 #[cfg(test)]
 mod replies;

@@ -1,7 +1,7 @@
 //! The command line.
 ghost use Rattle.std.specs.Prelude.{◌≤◌, IfOk};
 
-use crate::serve::{Serve, serve_of, serve_options};
+use crate::options::{Serve, serve_of, serve_options};
 use clap::{Arg, ArgAction, ArgMatches, Command as Parser};
 use commands::{Command, Source};
 use dns_name::{Name, NameFault};
@@ -43,6 +43,8 @@ pub enum CommandFault<'a> {
     Listen(&'a str),
     /// A word of the list of addresses that may update and transfer is no address.
     Allow(&'a str),
+    /// So many workers, for so many addresses, ask for too many threads.
+    Threads(usize, usize),
 }
 
 impl From<clap::Error> for CommandFault<'_> {

@@ -29,16 +29,37 @@ pub enum LogLine {
         /// How many records the zone has.
         records: usize,
     },
+    /// An address for all of the machine's is listened on.
+    Wildcard(SocketAddr),
+    /// The limit of descriptors is lower than what may be wanted.
+    FewDescriptors {
+        /// The limit.
+        limit: usize,
+        /// What may be wanted.
+        wanted: usize,
+    },
     /// Something has happened.
     Event(Event),
     /// The zone isn't served any more.
     Fault(ServeFault),
 }
 
+/// What is told once all workers have begun.
+#[derive(Drop)]
+pub struct Listening {
+    /// The addresses and the ports.
+    pub addresses: Vec<SocketAddr>,
+    /// The zone's serial.
+    pub serial: Serial,
+    /// How many records the zone has.
+    pub records: usize,
+}
+
 /// The log: its lines wait for a thread that writes them, so that who adds one doesn't wait for standard error.
 #[derive(Drop)]
 pub struct Log {
     lines: Arc<LogQueue<LogLine>, Global>,
+    listening: Listening,
 }
 
 /// Standard error, for the log of the zone with this apex. What can't be written is lost.
@@ -67,6 +88,12 @@ impl<E: Eprint> Sink<LogLine> for ErrorLines<E> {
                     "listening on {address}: {apex} with serial {serial}, {records} records"
                 )
             }
+            Some(LogLine::Wildcard(address)) => eprintln!(self.rt;
+                "{address}: a datagram is answered from the address that routing picks; on a host of several addresses, name each by a --listen of its own"
+            ),
+            Some(LogLine::FewDescriptors { limit, wanted }) => eprintln!(self.rt;
+                "the limit of descriptors is {limit}, and all connections may want {wanted}"
+            ),
             Some(LogLine::Event(event)) => eprintln!(self.rt; "{event}"),
             Some(LogLine::Fault(fault)) => eprintln!(self.rt; "error: {fault}"),
             None => Ok(()),
@@ -79,6 +106,7 @@ impl Log {
     pub fn start<R: Eprint + AllocGlobal + Threads + Wait + Copy + Send + Drop + 'static>(
         rt: &R,
         apex: Name,
+        listening: Listening,
     ) -> Result<Log, AllocError> {
         let alloc = rt.alloc();
         let lines = Arc::new(alloc, LogQueue::new(alloc, MOST_WAITING)?)?;
@@ -89,7 +117,7 @@ impl Log {
             written.write_to(&rt, &mut ErrorLines { rt, apex });
         })?;
         mem::drop(writer);
-        Ok(Log { lines })
+        Ok(Log { lines, listening })
     }
 
     /// Adds a line; where the thread is so far behind that there is no room, it is counted as lost.
@@ -103,8 +131,32 @@ impl Log {
     }
 }
 
+impl Log {
+    /// Tells at which addresses the zone is served.
+    fn add_listening<R: Wait>(&self, rt: &R) {
+        let Listening {
+            addresses,
+            serial,
+            records,
+        } = &self.listening;
+        for address in addresses.iter() {
+            self.add(
+                rt,
+                LogLine::Listening {
+                    address: *address,
+                    serial: *serial,
+                    records: *records,
+                },
+            );
+        }
+    }
+}
+
 impl ServiceLog for Log {
     fn tell<R: Wait>(&self, rt: &R, event: Event) {
-        self.add(rt, LogLine::Event(event));
+        match event {
+            Event::Serving => self.add_listening(rt),
+            other => self.add(rt, LogLine::Event(other)),
+        }
     }
 }

@@ -7,8 +7,11 @@
 
 ghost use Rattle.std.specs.Prelude.{◌≡◌, ◌⊎◌};
 
+pub mod bound;
 pub mod command;
+pub mod descriptors;
 pub mod log;
+pub mod options;
 pub mod serve;
 pub mod zone_file;
 
@@ -90,6 +93,11 @@ fn tell_fault<R: Print + Eprint>(rt: &R, fault: &CommandFault<'_>) -> io::Result
         CommandFault::Allow(word) => {
             eprintln!(rt;
                 "error: --allow takes addresses with commas between them, as 127.0.0.1,192.0.2.7, and '{word}' is none"
+            )?;
+        }
+        CommandFault::Threads(workers, addresses) => {
+            eprintln!(rt;
+                "error: --workers {workers} for {addresses} addresses ask for more than 63 threads: each worker has one for TCP, and one for UDP of each address"
             )?;
         }
     }

@@ -86,7 +86,7 @@ fn copy_of(question: &Question) -> Question
 }
 
 /// The OPT of the reply to a request with an OPT; None of one without (RFC 6891, 6.1.1).
-pub(crate) fn reply_opt(edns: Option<Edns>) -> Option<Opt>
+pub fn reply_opt(edns: Option<Edns>) -> Option<Opt>
     ensures { result ≡ reply_opt edns }
 {
     Some(edns?.reply())

@@ -15,9 +15,11 @@ mod served;
 mod transfer;
 mod transport;
 
-pub use heading::{Heading, write_code};
+pub use heading::{Heading, reply_opt, write_code};
 pub use peer::Peer;
 pub use replies::replies_by_cases;
 pub use served::{Responded, respond};
-pub use transfer::{is_permitted, respond_to, respond_to_peer, transfer_reply};
+pub use transfer::{
+    is_permitted, list_for, respond_to, respond_to_peer, transfer_reply, transfer_start,
+};
 pub use transport::{TCP_LIMIT, Transport, UDP_LIMIT};

@@ -7,6 +7,7 @@ ghost use Rattle.zone_tree.specs.Zone.{soa_of};
 ghost use Rattle.transfer_core.specs.Chain.{zones_of, LeadTo, told_changes};
 ghost use Rattle.transfer_core.specs.Lists.{incremental};
 ghost use Rattle.transfer_core.specs.Packed.{listed};
+ghost use Rattle.transfer_core.specs.Places.{left_at};
 ghost use Rattle.serve_core.specs.Reply.{asks_transfer};
 ghost use Rattle.serve_core.specs.Transfers.{peer_over, is_unfit, is_permitted, reply_to_peer, is_current, list_for, messages_to};
 ghost use Rattle.serve_core.specs.Transport.{limit_of, room_of};
@@ -17,7 +18,7 @@ use crate::reply::{asks_transfer, respond_to_query, write_refused, write_unanswe
 use crate::transport::Transport;
 use dns_message::{Query, udp_limit};
 use dns_rdata::{Class, RType, Rcode, Serial};
-use transfer_core::{ChainView, Packer, SetRecords, TransferRecords, full, steps};
+use transfer_core::{ChainView, Packer, Place, TransferRecords, records_at};
 use zone_tree::{Version, ZoneRead};
 
 /// The messages of a transfer of a version's zone that a query asks for: of an IXFR from a serial that isn't less than the
@@ -58,24 +59,34 @@ pub fn is_permitted(version: &Version, query: &Query, peer: Peer) -> bool
 }
 
 /// The list of a transfer (RFC 1995, 2 and 4; RFC 5936, 2.2).
-fn list_for<'a, C: ChainView>(
+pub fn list_for<'a, C: ChainView>(
     version: &'a Version,
     chain: &'a C,
     query: &Query,
 ) -> TransferRecords<'a, C>
     ensures { listed result ≡ list_for version.now.zone (told_changes (C.whole chain.now) (soa_of version.now.zone) (C.versions chain.now)) query.now }
 {
-    let zone = version.zone();
+    records_at(
+        version.zone(),
+        chain,
+        &transfer_start(version, chain, query),
+    )
+}
+
+/// Where the list of a transfer begins (RFC 1995, 2 and 4; RFC 5936, 2.2).
+pub fn transfer_start<C: ChainView>(version: &Version, chain: &C, query: &Query) -> Place
+    ensures { left_at version.now.zone (C.versions chain.now) result ≡ list_for version.now.zone (told_changes (C.whole chain.now) (soa_of version.now.zone) (C.versions chain.now)) query.now }
+{
     if query.question.rtype == RType::AXFR {
-        return TransferRecords::Full(full(zone));
+        return Place::ZoneStart;
     }
     if is_current(version, query.serial) {
-        return TransferRecords::Set(SetRecords::new(zone.soa()));
+        return Place::LastSoa;
     }
     if chain.is_whole() {
-        return TransferRecords::Changes(steps(zone, chain));
+        return Place::ChangesStart;
     }
-    TransferRecords::Full(full(zone))
+    Place::ZoneStart
 }
 
 /// Whether a serial that is held isn't less than a version's (RFC 1995, 2; RFC 1982, 3.2).

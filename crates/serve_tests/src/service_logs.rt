@@ -4,7 +4,7 @@ use serve_core::Transport;
 use std::alloc::Global;
 use std::net::SocketAddr;
 use std::test::Fail;
-use zone_service::{Event, JobEnd, Serials};
+use zone_service::{Event, JobEnd, Losses, Serials};
 
 /// Whether an event's line is this text.
 fn is_line(alloc: Global, event: Event, line: &str) -> bool {
@@ -21,7 +21,7 @@ fn ends_of_workers(rt: HostRuntime) -> Result<(), Fail> {
         (
             Transport::Udp,
             JobEnd::Done(1000),
-            "worker 3 (UDP) has ended: 1000 requests answered",
+            "worker 3 (UDP) has ended: 1000 datagrams and connections done",
         ),
         (
             Transport::Udp,
@@ -31,12 +31,17 @@ fn ends_of_workers(rt: HostRuntime) -> Result<(), Fail> {
         (
             Transport::Tcp,
             JobEnd::Done(2),
-            "worker 3 (TCP) has ended: 2 connections served",
+            "worker 3 (TCP) has ended: 2 datagrams and connections done",
         ),
         (
             Transport::Tcp,
             JobEnd::Device,
             "worker 3 (TCP) has ended: its socket failed",
+        ),
+        (
+            Transport::Tcp,
+            JobEnd::NoMemory,
+            "worker 3 (TCP) has ended: no memory",
         ),
     ];
     for (transport, end, line) in cases {
@@ -47,8 +52,36 @@ fn ends_of_workers(rt: HostRuntime) -> Result<(), Fail> {
         };
         assert!(rt; is_line(rt.alloc(), event, line));
     }
-    let waits = "worker 4 (TCP) has no room for a connection, and waits";
-    assert!(rt; is_line(rt.alloc(), Event::NoRoom { worker: 4 }, waits));
+    Ok(())
+}
+
+// Which connections are lost: each kind by itself, and all of them.
+#[test]
+fn lost_connections(rt: HostRuntime) -> Result<(), Fail> {
+    let all = Losses {
+        failed: 1,
+        starved: 2,
+        idle: 3,
+        unfinished: 4,
+        untaken: 5,
+        evicted: 6,
+        turned_away: 7,
+        no_room: 8,
+    };
+    let one = Losses {
+        untaken: 12,
+        ..Losses::default()
+    };
+    let cases = [
+        (one, "worker 4 (TCP): 12 too long over a reply"),
+        (
+            all,
+            "worker 4 (TCP): 1 failed, 2 starved, 3 idle too long, 4 too long over a request, 5 too long over a reply, 6 idle and ended for others, 7 turned away, 8 without room",
+        ),
+    ];
+    for (losses, line) in cases {
+        assert!(rt; is_line(rt.alloc(), Event::Lost { worker: 4, losses }, line));
+    }
     Ok(())
 }
 

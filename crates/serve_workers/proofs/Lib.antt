@@ -1,5 +1,4 @@
 pub mod SendLemmas
-pub mod ConnectionLemmas
 pub mod EachLemmas
-pub mod PeerLemmas
 pub mod NumberLemmas
+pub mod TurnedLemmas

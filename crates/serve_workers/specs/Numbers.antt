@@ -1,7 +1,7 @@
 -- A job on either socket: its number, and which of the two it is on (own).
 use Rattle.std.specs.Prelude.{ℕ, Bool, true, false}
-use Rattle.serve_workers.specs.declared.service.SocketJob.{SocketJob}
-use Rattle.serve_workers.specs.declared.service.SocketJob.TheVariants.{Datagrams, Connections}
+use Rattle.serve_workers.specs.declared.threads.SocketJob.{SocketJob}
+use Rattle.serve_workers.specs.declared.threads.SocketJob.TheVariants.{Datagrams, Connections}
 
 -- the job's number
 abbrev pub number_of : {C : Type 0} → SocketJob C → ℕ

@@ -5,22 +5,24 @@
 //! `zone_service` have.
 #![tactic(auto)]
 
-mod connection;
+mod connections_job;
+mod datagrams_job;
 mod ending;
 mod interrupted;
-mod listener;
+mod progress;
 mod scratch;
 mod service;
-mod shared_socket;
-mod tcp;
+mod threads;
 mod udp_job;
+mod worker_socket;
 mod workers;
 
-pub use connection::{Connection, PATIENCE, TcpDevice, Timed};
-pub use listener::{Listener, SharedListener};
+pub use connections_job::ConnectionsJob;
+pub use datagrams_job::DatagramsJob;
+pub use progress::{Muster, Progress, Standing};
 pub use scratch::Scratch;
-pub use service::{Plan, ServeFault, serve_zone};
-pub use shared_socket::SharedSocket;
-pub use tcp::TcpJob;
+pub use service::{Duty, Plan, ServeFault, Sockets, serve_zone};
+pub use turns::Plan as ConnectionPlan;
 pub use udp_job::UdpJob;
+pub use worker_socket::WorkerSocket;
 pub use workers::{Job, NotStarted, run_workers};

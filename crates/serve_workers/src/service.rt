@@ -6,45 +6,63 @@ ghost use Rattle.snapshot_cell.specs.declared.tokens.TheConstants.{READERS};
 ghost use Rattle.serve_workers.specs.declared.service.ServeFault.{ServeFault as Fault};
 ghost use Rattle.serve_workers.specs.Numbers.{number_of, takes_datagrams};
 
+use crate::connections_job::ConnectionsJob;
+use crate::datagrams_job::DatagramsJob;
 use crate::ending::{end_cell, end_named};
-use crate::listener::SharedListener;
+use crate::progress::{Muster, Progress, Standing};
 use crate::scratch::Scratch;
-use crate::shared_socket::SharedSocket;
-use crate::tcp::TcpJob;
-use crate::udp_job::UdpJob;
-use crate::workers::{Job, NotStarted, run_workers};
-use conversation::{Allowed, Answering, Gate, OpenGate};
+use crate::threads::{SocketJob, TcpJob, run_threads};
+use crate::workers::NotStarted;
 use dns_engine::{
     FirstZone, SharedVersion, VersionCell, VersionPublisher, VersionReader, ZoneVersions,
 };
+use ready_sockets::{TcpPlace, Watch};
 use snapshot_cell::{
     Cell, NamedCell, NamedPublisher, NamedReader, Naming, NewFault, Parts, Reader,
 };
 use std::alloc::Global;
+use std::io;
 use std::marker::Brand;
-use std::net::{TcpListener, UdpSocket};
+use std::net::{Net, TcpListener, UdpSocket};
 use std::sync::Wait;
 use std::thread::Threads;
 use std::time::Clock;
 use thiserror::Error;
+use turns::{Plan as ConnectionPlan, Turns};
 use zone_service::{JobEnd, Server, ServiceLog};
 use zone_tree::{Version, Zone};
 
 /// How a zone is served.
 #[derive(Clone, Copy)]
 pub struct Plan<'a> {
-    /// The socket on which datagrams come.
-    pub datagrams: &'a UdpSocket,
-    /// The listener on which connections come.
-    pub listener: &'a TcpListener,
-    /// How many workers there are for each of them; twice as many and one more are at most `snapshot_cell::READERS`.
-    pub workers: usize,
+    /// What all threads share.
+    pub muster: &'a Muster,
     /// How many versions are kept older than the last; at most `dns_engine::KEPT`.
     pub keep: usize,
-    /// How many requests a worker answers by datagrams, or connections it serves.
-    pub most: u64,
-    /// Who may update and transfer.
-    pub allowed: Allowed<'a>,
+    /// How many connections a worker may have open.
+    pub places: usize,
+    /// How long connections may wait for their peers, and who may update and transfer.
+    pub connections: ConnectionPlan<'a>,
+}
+
+/// What one thread serves.
+#[derive(Drop)]
+pub enum Sockets {
+    /// A socket on which datagrams come.
+    Datagrams(UdpSocket),
+    /// Listeners at which connections come, which don't wait.
+    Connections(Vec<TcpListener>),
+}
+
+/// What one thread of a worker does.
+#[derive(Drop)]
+pub struct Duty<'a> {
+    /// The worker's number, from 1.
+    pub worker: usize,
+    /// What the worker's threads share.
+    pub progress: &'a Progress,
+    /// What it serves.
+    pub sockets: Sockets,
 }
 
 /// Why a zone isn't served any more.
@@ -64,19 +82,10 @@ pub enum ServeFault {
     NoMemory,
 }
 
-/// A worker's job on either socket.
-#[derive(Drop)]
-enum SocketJob<'a, C> {
-    /// Requests by datagrams.
-    Datagrams(UdpJob<'a, SharedSocket<'a>>),
-    /// Connections.
-    Connections(TcpJob<'a, SharedListener<'a, C>, C>),
-}
-
 impl<C: Clock> SocketJob<'_, C> {
     /// Why it has ended before it had done as much as it may; none where it had.
     fn fault(&self) -> Option<ServeFault>
-        ensures { IfSome result (λ fault. (fault ≡ Fault.Device) ⊎ (fault ≡ Fault.Spent)) }
+        ensures { IfSome result (λ fault. (fault ≡ Fault.Device) ⊎ (fault ≡ Fault.Spent) ⊎ (fault ≡ Fault.NoMemory)) }
     {
         let end = match self {
             SocketJob::Datagrams(job) => job.end(),
@@ -85,52 +94,43 @@ impl<C: Clock> SocketJob<'_, C> {
         match end {
             Some(JobEnd::Device) => Some(ServeFault::Device),
             Some(JobEnd::Spent) => Some(ServeFault::Spent),
+            Some(JobEnd::NoMemory) => Some(ServeFault::NoMemory),
             Some(JobEnd::Done(_)) => None,
             None => None,
         }
     }
 }
 
-impl<C: Clock + Sync> Job for SocketJob<'_, C> {
-    ghost number = { number_of };
-
-    fn run<R: Wait, A: Answering, G: Gate, L: ServiceLog>(
-        &mut self,
-        rt: &R,
-        answering: &mut A,
-        gate: &G,
-        log: &L,
-    ) {
-        match self {
-            SocketJob::Datagrams(job) => job.run(rt, answering, gate, log),
-            SocketJob::Connections(job) => job.run(rt, answering, gate, log),
-        }
-    }
-}
-
-/// Serves a zone on sockets: its workers answer queries in the version that is published last, and updates, each of which publishes
-/// the next one (RFC 1035, 4.2; RFC 2136, 3). It ends once each worker has done what it may, or has failed; then its cell is ended
-/// too. The log is told of each change, and of each end of a worker.
+/// Serves a zone on sockets: its threads answer queries in the version that is published last, and updates, each of which publishes the
+/// next one (RFC 1035, 4.2; RFC 2136, 3). It ends once each worker has done what it may, or a thread has failed; then its cell is ended too.
+/// The log is told once all threads have begun, of each change, of connections that are lost, and of each end of a thread.
 pub fn serve_zone<
-    R: Threads + Wait + Clock + Sync,
+    R: Net + Threads + Wait + Clock + Sync,
     Z: FirstZone + Send + Sync,
     L: ServiceLog + Sync,
->(rt: &R, alloc: Global, zone: Zone, plan: Plan<'_>, log: &L) -> Result<(), ServeFault>
+>(
+    rt: &R,
+    alloc: Global,
+    zone: Zone,
+    duties: Vec<Duty<'_>>,
+    plan: Plan<'_>,
+    log: &L,
+) -> Result<(), ServeFault>
     requires first { zone ≡ Z.zone }
-    requires workers { 2 * plan.workers + 1 ≤ READERS }
+    requires threads { vec_len duties + 1 ≤ READERS }
     requires kept { plan.keep ≤ KEPT }
 {
-    let workers = plan.workers.saturating_mul(2);
-    let jobs = jobs_of(rt, alloc, plan, workers)?;
+    let threads = duties.len();
+    let jobs = jobs_of(rt, alloc, duties, plan)?;
     let Some(first) = SharedVersion::new(alloc, Version::first(zone)) else {
         return Err(ServeFault::NoMemory);
     };
-    let parts = match Cell::<SharedVersion, ZoneVersions<Z>>::new(alloc, workers + 1, first) {
+    let parts = match Cell::<SharedVersion, ZoneVersions<Z>>::new(alloc, threads + 1, first) {
         Ok(parts) => parts,
         Err(NewFault::TooManyReaders) => unreachable!(),
         Err(NewFault::NoMemory) => return Err(ServeFault::NoMemory),
     };
-    serve_parts::<R, Z, Brand, L>(rt, alloc, parts, jobs, plan.keep, log)
+    serve_parts::<R, Z, Brand, L>(rt, alloc, parts, jobs, plan, log)
 }
 
 /// Serves the versions of a cell in which the first one alone is published, by jobs, with a reader for each and one for the engine,
@@ -145,7 +145,7 @@ fn serve_parts<
     alloc: Global,
     parts: Parts<SharedVersion, ZoneVersions<Z>>,
     jobs: Vec<SocketJob<'_, R>>,
-    keep: usize,
+    plan: Plan<'_>,
     log: &L,
 ) -> Result<(), ServeFault>
     requires named { parts.cell ≡ N.cell }
@@ -153,7 +153,7 @@ fn serve_parts<
     requires notes { parts.publisher.noted ≡ 0 }
     requires readers { All (λ r. (r.cell ≡ parts.cell) × (0 < r.left)) parts.readers.items }
     requires count { vec_len parts.readers ≡ vec_len jobs + 1 }
-    requires kept { keep ≤ KEPT }
+    requires kept { plan.keep ≤ KEPT }
 {
     let Parts {
         cell,
@@ -175,7 +175,7 @@ fn serve_parts<
     let (cell, publisher) = (NamedCell::of(cell), NamedPublisher::of(publisher));
     let (reader, pairs) = (NamedReader::of(reader), pairs_of(readers, jobs, pairs));
     let (served, publisher, readers) = serve_cell::<R, Z, N, L>(
-        rt, alloc, &cell, publisher, reader, pairs, back, keep, log,
+        rt, alloc, &cell, publisher, reader, pairs, back, plan, log,
     );
     end_named(rt, cell, publisher, readers);
     served
@@ -196,7 +196,7 @@ fn serve_cell<
     reader: VersionReader<N>,
     pairs: Vec<(VersionReader<N>, SocketJob<'_, R>)>,
     mut back: Vec<VersionReader<N>>,
-    keep: usize,
+    plan: Plan<'_>,
     log: &L,
 ) -> (
     Result<(), ServeFault>,
@@ -206,15 +206,15 @@ fn serve_cell<
     requires first { publisher.number ≡ 0 }
     requires notes { publisher.noted ≡ 0 }
     requires grant { 0 < reader.left }
-    requires kept { keep ≤ KEPT }
+    requires kept { plan.keep ≤ KEPT }
     requires empty { back.items ≡ [] }
     requires room { vec_len pairs < vec_capacity back }
     ensures { vec_len result.2 ≡ vec_len pairs.entry + 1 }
 {
-    let Ok(server) = Server::new(cell, publisher, reader, keep) else {
+    let Ok(server) = Server::new(cell, publisher, reader, plan.keep) else {
         unreachable!()
     };
-    let served = serve_with(rt, alloc, &server, pairs, &mut back, log);
+    let served = serve_with(rt, alloc, &server, plan.muster, pairs, &mut back, log);
     let (publisher, reader) = server.finish();
     back.push_reserved(reader);
     (served, publisher, back)
@@ -230,6 +230,7 @@ fn serve_with<
     rt: &R,
     alloc: Global,
     server: &Server<'_, Z, N>,
+    muster: &Muster,
     pairs: Vec<(VersionReader<N>, SocketJob<'_, R>)>,
     back: &mut Vec<VersionReader<N>>,
     log: &L,
@@ -239,7 +240,7 @@ fn serve_with<
     ensures count { vec_len back.new ≡ vec_len pairs.entry }
     ensures room { vec_capacity back.new ≡ vec_capacity back.old }
 {
-    match run_workers(rt, alloc, server, pairs, &OpenGate, log) {
+    match run_threads(rt, alloc, server, muster, pairs, log) {
         Ok(pairs) => {
             let fault = fault_in(&pairs);
             put_readers(pairs, back);
@@ -259,7 +260,7 @@ fn serve_with<
 fn fault_in<N: Naming, C: Clock>(
     pairs: &[(VersionReader<N>, SocketJob<'_, C>)],
 ) -> Option<ServeFault>
-    ensures { IfSome result (λ fault. (fault ≡ Fault.Device) ⊎ (fault ≡ Fault.Spent)) }
+    ensures { IfSome result (λ fault. (fault ≡ Fault.Device) ⊎ (fault ≡ Fault.Spent) ⊎ (fault ≡ Fault.NoMemory)) }
 {
     for pair in pairs {
         if let Some(fault) = pair.1.fault() {
@@ -284,44 +285,93 @@ fn put_readers<N: Naming, C: Clock>(
     }
 }
 
-/// The job of a worker, by its number: on datagrams where that is odd, else on connections.
-fn job_of<'a, R: Clock>(
+/// Where connections come in at listeners, each of them watched.
+fn places_of<C: Clock>(
+    alloc: Global,
+    watch: &mut Watch<'_, C>,
+    listeners: Vec<TcpListener>,
+) -> io::Result<Vec<TcpPlace>> {
+    let mut places = Vec::new(alloc);
+    let mut number = 0usize;
+    for listener in listeners {
+        let mut place = TcpPlace::new(mio::net::TcpListener::from_std(listener));
+        watch.watch_place(&mut place, number)?;
+        places.push(place)?;
+        number = number.saturating_add(1);
+    }
+    Ok(places)
+}
+
+/// The job of a worker, by its number, on listeners that don't wait. An error where they can't be waited on.
+fn tcp_job<'a, R: Clock + Net>(
     rt: &'a R,
+    alloc: Global,
+    worker: usize,
+    listeners: Vec<TcpListener>,
     plan: Plan<'a>,
-    number: usize,
+    standing: Standing<'a>,
     scratch: Scratch,
-) -> SocketJob<'a, R>
-    ensures number { number_of result ≡ number }
-    ensures datagrams { number % 2 ≡ 1 → takes_datagrams result ≡ true }
-    ensures connections { number % 2 ≡ 0 → takes_datagrams result ≡ false }
+) -> io::Result<TcpJob<'a, R>>
+    ensures number { IfOk result (λ job. job.number ≡ worker) }
+    ensures plan { IfOk result (λ job. job.plan ≡ plan.connections) }
 {
-    let Plan { allowed, most, .. } = plan;
-    if number % 2 == 1 {
-        let socket = SharedSocket::new(plan.datagrams);
-        SocketJob::Datagrams(UdpJob::new(number, socket, allowed, most, scratch))
-    } else {
-        let listener = SharedListener::new(plan.listener, rt);
-        SocketJob::Connections(TcpJob::new(number, listener, rt, allowed, most, scratch))
+    let count = listeners.len();
+    let mut watch = Watch::new(rt, alloc, rt)?;
+    let places = places_of(alloc, &mut watch, listeners)?;
+    let turns = Turns::new(alloc, plan.places, count)?;
+    let plan = plan.connections;
+    Ok(ConnectionsJob::new(worker, watch, places, turns, plan, standing, rt, scratch))
+}
+
+/// The job of a thread. An error where its sockets can't be waited on.
+fn job_of<'a, R: Clock + Net>(
+    rt: &'a R,
+    alloc: Global,
+    duty: Duty<'a>,
+    plan: Plan<'a>,
+    scratch: Scratch,
+) -> io::Result<SocketJob<'a, R>>
+    ensures number { IfOk result (λ job. number_of job ≡ duty.worker) }
+{
+    let Duty {
+        worker,
+        progress,
+        sockets,
+    } = duty;
+    let standing = Standing::new(plan.muster, progress);
+    match sockets {
+        Sockets::Datagrams(socket) => {
+            let allowed = plan.connections.allowed;
+            let job = DatagramsJob::new(worker, socket, allowed, standing, scratch)?;
+            Ok(SocketJob::Datagrams(job))
+        }
+        Sockets::Connections(listeners) => {
+            let job = tcp_job(rt, alloc, worker, listeners, plan, standing, scratch)?;
+            Ok(SocketJob::Connections(job))
+        }
     }
 }
 
-/// The jobs of so many workers, which are numbered from 1.
-fn jobs_of<'a, R: Clock>(
+/// The jobs of threads.
+fn jobs_of<'a, R: Clock + Net>(
     rt: &'a R,
     alloc: Global,
+    duties: Vec<Duty<'a>>,
     plan: Plan<'a>,
-    count: usize,
 ) -> Result<Vec<SocketJob<'a, R>>, ServeFault>
-    ensures numbers { IfOk result (λ jobs. map (λ job. number_of job) jobs.items ≡ range_with_len 1 count) }
-    ensures count { IfOk result (λ jobs. vec_len jobs ≡ count) }
-    ensures refused { IfErr result (λ fault. fault ≡ Fault.NoMemory) }
+    ensures numbers { IfOk result (λ jobs. map (λ job. number_of job) jobs.items ≡ map (λ duty. duty.worker) duties.items) }
+    ensures count { IfOk result (λ jobs. vec_len jobs ≡ vec_len duties) }
+    ensures refused { IfErr result (λ fault. (fault ≡ Fault.NoMemory) ⊎ (fault ≡ Fault.Device)) }
 {
     let mut jobs = Vec::new(alloc);
-    for before in 0..count {
+    for duty in duties {
         let Ok(scratch) = Scratch::new(alloc) else {
             return Err(ServeFault::NoMemory);
         };
-        if jobs.push(job_of(rt, plan, before + 1, scratch)).is_err() {
+        let Ok(job) = job_of(rt, alloc, duty, plan, scratch) else {
+            return Err(ServeFault::Device);
+        };
+        if jobs.push(job).is_err() {
             return Err(ServeFault::NoMemory);
         }
     }

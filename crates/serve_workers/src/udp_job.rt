@@ -76,7 +76,7 @@ impl<'a, D: Datagrams> UdpJob<'a, D> {
         ensures end { self.new.end ≡ Some result }
         ensures same { self.new.number ≡ self.old.number }
     {
-        let Scratch { request, reply, .. } = &mut *self.scratch;
+        let Scratch { request, reply } = &mut *self.scratch;
         let end = serve_udp(
             rt,
             answering,

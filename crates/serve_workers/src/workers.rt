@@ -39,7 +39,7 @@ pub trait Job: Send + Drop {
 pub struct NotStarted<N: Naming, J>(pub Vec<(VersionReader<N>, J)>);
 
 /// What is done on a thread.
-trait Work: Send + Drop {
+pub(crate) trait Work: Send + Drop {
     /// The work's number, which stays.
     ghost number: { Self → ℕ };
 
@@ -53,7 +53,7 @@ trait Work: Send + Drop {
 }
 
 /// Nobody's address.
-fn nobody() -> SocketAddr {
+pub(crate) fn nobody() -> SocketAddr {
     SocketAddr::V4(SocketAddrV4::new(Ipv4Addr::new(0, 0, 0, 0), 0))
 }
 
@@ -249,7 +249,11 @@ fn do_in<'s, E, R: Threads + Wait + Sync, W: Work + 's>(
 
 /// Does each work on a thread of its own, and waits for all; then gives the works back in their order. False where a thread was
 /// refused, or where there is no memory to keep track of them: none of the works has then begun.
-fn do_all<R: Threads + Wait + Sync, W: Work>(rt: &R, alloc: Global, works: Vec<W>) -> (bool, Vec<W>)
+pub(crate) fn do_all<R: Threads + Wait + Sync, W: Work>(
+    rt: &R,
+    alloc: Global,
+    works: Vec<W>,
+) -> (bool, Vec<W>)
     ensures numbers { map W.number result.1.items ≡ map W.number works.items }
     ensures seen { Each (λ given work. BeginsWith (W.seen work) (W.seen given)) works.items result.1.items }
     ensures none { result.0 ≡ false → result.1.items ≡ works.items }

@@ -253,3 +253,29 @@ module _ {K V : Type 0} (cmp : K → K → Ordering) where
         | true ↦ λ t f. absurd (some_none x f)
         | false ↦ λ t f. rw (other_is _ t) (ap (λ l. x ∷ l) (without_absent key xs f))
       ] refl e
+
+-- the pairs of greater keys, of a list that ascends, by the pair's key alone
+module _ {K V : Type 0} {cmp : K → K → Ordering} (o : IsTotalOrder cmp) (key : K) (left : List (K × V)) (pair : K × V) (right : List (K × V)) (ascends : IsAscending cmp (left ++ pair ∷ right)) where
+  parts : Around cmp left pair right
+  parts = around cmp left pair right ascends
+
+  pub above_less : is_lt (cmp key pair.0) ≡ true → pairs_above cmp key (left ++ pair ∷ right) ≡ pairs_above cmp key left ++ pair ∷ right
+  above_less f =
+      let e = less_is (cmp key pair.0) f in
+      filter-append (λ other. is_lt (cmp key other.0)) left (pair ∷ right)
+      ∙ ap (λ l. pairs_above cmp key left ++ l) (all_above cmp key (pair ∷ right) (e, each_weaker _ _ (λ other h. o.trans key pair.0 other.0 e h) right parts.above))
+
+  passed_left : IsAbove cmp key left → is_lt (cmp key pair.0) ≡ false → pairs_above cmp key (left ++ pair ∷ right) ≡ pairs_above cmp key right
+  passed_left g e = filter-append (λ other. is_lt (cmp key other.0)) left (pair ∷ right) ∙ rw (none_above cmp key left g, e) refl
+
+  above_by : (r : Ordering) → cmp key pair.0 ≡ r → is_lt r ≡ false → pairs_above cmp key (left ++ pair ∷ right) ≡ pairs_above cmp key right
+  above_by Less e f = absurd (true≢false f)
+  above_by Equal e f =
+      passed_left (each_weaker _ _ (λ other h. o.congr key pair.0 other.0 e ∙ o.antisymm pair.0 other.0 ∙ ap ordering_reverse h) left parts.below) (ap is_lt e)
+  above_by Greater e f =
+      passed_left
+      (each_weaker _ _ (λ other h. o.antisymm key other.0 ∙ ap ordering_reverse (o.trans other.0 pair.0 key h (o.antisymm pair.0 key ∙ ap ordering_reverse e))) left parts.below)
+      (ap is_lt e)
+
+  pub above_other : is_lt (cmp key pair.0) ≡ false → pairs_above cmp key (left ++ pair ∷ right) ≡ pairs_above cmp key right
+  above_other f = above_by (cmp key pair.0) refl f

@@ -1,7 +1,7 @@
 //! A tree, and what it is asked and made into.
 ghost use Rattle.std.specs.Prelude.{◌≡◌, ◌+◌, ◌*◌, ◌<◌, ◌≤◌, [], IfOk, length, None, IsTrue, ◌↔◌};
 ghost use Rattle.std.specs.Option.{option_copied};
-ghost use Rattle.shared_tree.specs.Pairs.{IsAscending, pair_at, value_at, pair_after, pairs_with, pairs_without, first_pair, IsLow};
+ghost use Rattle.shared_tree.specs.Pairs.{IsAscending, pair_at, value_at, pair_after, pairs_above, pairs_with, pairs_without, first_pair, IsLow};
 
 use crate::fault::NoMemory;
 use crate::look::{after_in, find_in, first_in};
@@ -92,6 +92,14 @@ impl<K: Ord, V> Tree<K, V> {
         ensures { result ≡ self.now.pairs }
     {
         Walk::new(&self.root)
+    }
+
+    /// The pairs whose keys are greater than a key, which the tree needn't have, in the order of their keys. It takes no
+    /// memory, and comes to its first pair on one way down.
+    pub fn walk_above<Q: Seek<K>>(&self, sought: &Q) -> Walk<'_, K, V>
+        ensures { result ≡ pairs_above K.cmp (Q.key sought.now) self.now.pairs }
+    {
+        Walk::above(&self.root, sought)
     }
 }
 

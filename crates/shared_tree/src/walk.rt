@@ -2,8 +2,10 @@
 ghost use Rattle.std.specs.Iterator.{YieldsFirstRef, item_count};
 ghost use Rattle.std.specs.Prelude.{◌≡◌, ◌+◌, ◌≤◌, [], ◌++◌, length, MatchOption};
 ghost use Rattle.shared_tree.specs.Links.{link_pairs, link_height, IsFormed, AreOnWay, pairs_on_way, IsTaken};
+ghost use Rattle.shared_tree.specs.Pairs.{IsAscending, pairs_above};
 
 use crate::node::{Link, MAX_HEIGHT, Node};
+use crate::seek::Seek;
 use arrayvec::ArrayVec;
 use std::marker::Model;
 
@@ -37,6 +39,18 @@ impl<'a, K: Ord, V> Walk<'a, K, V> {
     {
         let mut way = ArrayVec::new();
         go_down(&mut way, root);
+        Walk { way }
+    }
+
+    /// The pairs below a link whose keys are greater than a key.
+    #[tactic(auto, using(crate::proofs::WayLemmas::low_enough))]
+    pub(crate) fn above<Q: Seek<K>>(root: &'a Link<K, V>, sought: &Q) -> Walk<'a, K, V>
+        requires formed { IsFormed root.now }
+        requires ascends { IsAscending K.cmp (link_pairs root.now) }
+        ensures { result ≡ pairs_above K.cmp (Q.key sought.now) (link_pairs root.now) }
+    {
+        let mut way = ArrayVec::new();
+        go_above(&mut way, root, sought);
         Walk { way }
     }
 }
@@ -76,5 +90,26 @@ fn go_down<'a, K, V>(way: &mut Way<'a, K, V>, link: &'a Link<K, V>)
     while let Link::Fork(node) = below {
         way.push(Some(&**node));
         below = &node.left;
+    }
+}
+
+/// Puts the way down from a link to the first pair of a greater key behind a way.
+fn go_above<'a, K: Ord, V, Q: Seek<K>>(way: &mut Way<'a, K, V>, link: &'a Link<K, V>, sought: &Q)
+    requires way { AreOnWay 0 way.old.items }
+    requires formed { IsFormed link.now }
+    requires room { length way.old.items + link_height link.now ≤ MAX_HEIGHT }
+    requires ascends { IsAscending K.cmp (link_pairs link.now) }
+    ensures way { AreOnWay 0 way.new.items }
+    ensures pairs { pairs_on_way way.new.items ≡ pairs_above K.cmp (Q.key sought.now) (link_pairs link.now) ++ pairs_on_way way.old.items }
+{
+    let mut below = link;
+    while let Link::Fork(node) = below {
+        let is_above = sought.cmp_key(&node.pair.0).is_lt();
+        if is_above {
+            way.push(Some(&**node));
+            below = &node.left;
+        } else {
+            below = &node.right;
+        }
     }
 }

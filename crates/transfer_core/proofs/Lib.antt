@@ -10,6 +10,8 @@ pub mod ChainLemmas
 pub mod FaultLemmas
 pub mod WalkLemmas
 pub mod PackedLemmas
+pub mod PlaceLemmas
+pub mod CountLemmas
 pub mod VersionLemmas
 pub mod WindowLemmas
 pub mod RunLongestLemmas

@@ -48,7 +48,7 @@ behind_by head question opt front r rs true e more = rw e more
 behind_by head question opt front r rs false e more = rw e refl
 
 -- the first of the messages takes as many records as fit
-behind_filled : (head : Head) (question : Option Question) (opt : Option Opt) (front rest : List Record) → packed_behind head question opt front rest ≡ answers head question opt (filled head question opt max_message front rest).0 ∷ packed_later head (filled head question opt max_message front rest).1
+pub behind_filled : (head : Head) (question : Option Question) (opt : Option Opt) (front rest : List Record) → packed_behind head question opt front rest ≡ answers head question opt (filled head question opt max_message front rest).0 ∷ packed_later head (filled head question opt max_message front rest).1
 behind_filled head question opt front [] = refl
 behind_filled head question opt front (r ∷ rs) =
     behind_by head question opt front r rs (fits (answers head question opt (front ++ r ∷ [])) max_message) refl (behind_filled head question opt (front ++ r ∷ []) rs)

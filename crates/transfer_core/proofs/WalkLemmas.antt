@@ -7,12 +7,12 @@ use Rattle.zone_tree.specs.Sets.{records_in}
 use Rattle.zone_tree.proofs.Rising.{filter_alike, each_weaker}
 use Rattle.transfer_core.specs.Lists.{beside_soa}
 
-by_type : (set : List Record) (rtype : ℕ) (b : Bool) → All (λ r. r.rtype ≡ rtype) set → not (rtype == type_SOA) ≡ b → beside_soa set ≡ cond b set []
+pub by_type : (set : List Record) (rtype : ℕ) (b : Bool) → All (λ r. r.rtype ≡ rtype) set → not (rtype == type_SOA) ≡ b → beside_soa set ≡ cond b set []
 by_type set rtype b h e =
     filter_alike (λ r. not (r.rtype == type_SOA)) b set
     (each_weaker (λ r. r.rtype ≡ rtype) (λ r. not (r.rtype == type_SOA) ≡ b) (λ r k. ap (λ t. not (t == type_SOA)) k ∙ e) set (recursion_from_All (λ r. r.rtype ≡ rtype) set h))
 
-first_set : (set : List Record) (sets : List (List Record)) → beside_soa (records_in (set ∷ sets)) ≡ beside_soa set ++ beside_soa (records_in sets)
+pub first_set : (set : List Record) (sets : List (List Record)) → beside_soa (records_in (set ∷ sets)) ≡ beside_soa set ++ beside_soa (records_in sets)
 first_set set sets = filter-append (λ r. not (r.rtype == type_SOA)) set (records_in sets)
 
 -- a set of another type is kept, the SOA's isn't

@@ -2,6 +2,7 @@ pub mod Lists
 pub mod Chain
 pub mod Window
 pub mod Packed
+pub mod Places
 pub mod Take
 pub mod Examples
 pub mod Told

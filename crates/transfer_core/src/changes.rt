@@ -1,18 +1,22 @@
 //! The list of what changed since an older version (RFC 1995, 4).
 ghost use Rattle.std.specs.Iterator.{YieldsFirst, item_count};
-ghost use Rattle.std.specs.Prelude.{◌≡◌, ◌++◌, [], List, map, MatchOption, Ok, unwrap_or};
+ghost use Rattle.std.specs.Prelude.{◌≡◌, ◌+◌, ◌^◌, ◌<◌, ◌++◌, [], ◌∷◌, ℕ, List, length, drop, map, MatchOption, Ok, unwrap_or};
 ghost use Rattle.std.specs.Option.{option_copied};
 ghost use Rattle.dns_rdata.specs.Record.{Record};
 ghost use Rattle.zone_tree.specs.Zone.{soa_of};
 ghost use Rattle.transfer_core.specs.Chain.{zones_of, LeadTo, told_step, told};
 ghost use Rattle.transfer_core.specs.Lists.{incremental, as_sent, AreVersions};
+ghost use Rattle.transfer_core.specs.Places.{sets_of_part, step_left, steps_from};
 ghost use Rattle.transfer_core.specs.Take.{take};
+ghost use Rattle.zone_tree.specs.Sets.{records_in};
 
 use crate::chain::{ChainView, VersionsLeft};
 use crate::list::{LentRecord, SetRecords};
+use crate::place::Part;
+use crate::step::{part_of, version_at};
 use dns_rdata::RRset;
 use std::marker::Model;
-use zone_tree::{Version, ZoneRead};
+use zone_tree::{Version, Zone, ZoneRead};
 
 /// Half of a difference sequence: an SOA, and the sets that are taken out or put in (RFC 1995, 4).
 #[derive(Drop)]
@@ -170,4 +174,98 @@ impl<'a, C: ChainView> Iterator for ChangesList<'a, C> {
         self.rest = SetRecords::new(set);
         self.rest.next()
     }
+}
+
+/// A part of a difference sequence behind so many of its sets, of which its SOA is the first: that SOA, where it is left, and the sets
+/// behind it that are left.
+fn part_behind<'a>(soa: &'a RRset, sets: &'a [RRset], sent: usize) -> (SetRecords<'a>, &'a [RRset])
+    ensures { result.0 ++ records_in result.1.now ≡ records_in (drop sent (soa.now ∷ sets.now)) }
+{
+    match sent.checked_sub(1) {
+        None => (SetRecords::new(soa), sets),
+        Some(behind) => (SetRecords::none(soa), sets.get(behind..).unwrap_or(&[])),
+    }
+}
+
+/// The same of a part of a version's; of one that it hasn't nothing is left.
+fn part_left(version: &Version, part: Part, sent: usize) -> (SetRecords<'_>, &[RRset])
+    ensures { result.0 ++ records_in result.1.now ≡ records_in (drop sent (sets_of_part part (soa_of version.now.zone) version.now.changes)) }
+{
+    match part_of(version, part) {
+        Some((soa, sets)) => part_behind(soa, sets, sent),
+        None => (SetRecords::none(version.zone().soa()), &[]),
+    }
+}
+
+/// The part behind a part of a version's difference sequence; None where there is none.
+fn part_after(version: &Version, part: Part) -> Option<Half<'_>>
+    ensures { (sent : ℕ) → records_in (drop sent (sets_of_part part (soa_of version.now.zone) version.now.changes)) ++ unwrap_or result [] ≡ step_left part sent (soa_of version.now.zone) version.now.changes }
+{
+    match part {
+        Part::New => None,
+        Part::Old => {
+            let (soa, sets) = part_of(version, Part::New)?;
+            Some(Half { soa, sets })
+        }
+    }
+}
+
+/// The list of what changed behind all versions: the SOA that is served (RFC 1995, 4).
+fn closing_list<'a, C: ChainView>(served: &'a Zone, chain: &'a C) -> ChangesList<'a, C>
+    ensures { result ≡ soa_of served.now }
+{
+    let soa = served.soa();
+    ChangesList {
+        rest: SetRecords::none(soa),
+        sets: SetsLeft {
+            sets: &[],
+            half: None,
+            versions: VersionsLeft::new(chain, chain.len()),
+            closing: Some(soa),
+        },
+    }
+}
+
+/// The list of what changed from a set of a part of the difference sequence of a version that is there.
+fn begun_list<'a, C: ChainView>(
+    served: &'a Zone,
+    chain: &'a C,
+    version: usize,
+    part: Part,
+    set: usize,
+) -> ChangesList<'a, C>
+    requires there { version < length (C.versions chain.now) }
+    requires fits { version + 1 < 2 ^ 64 }
+    ensures { result ≡ steps_from part set (drop version (C.versions chain.now)) ++ soa_of served.now }
+{
+    let soa = served.soa();
+    let current = version_at(chain, version);
+    let (rest, sets) = part_left(current, part, set);
+    let half = part_after(current, part);
+    ChangesList {
+        rest,
+        sets: SetsLeft {
+            sets,
+            half,
+            versions: VersionsLeft::new(chain, version + 1),
+            closing: Some(soa),
+        },
+    }
+}
+
+/// The list of what changed from a set of a part of a version's difference sequence on: what is left of that, the difference sequences of
+/// the versions behind it, the SOA that is served (RFC 1995, 4). It takes no memory.
+pub(crate) fn changes_from<'a, C: ChainView>(
+    served: &'a Zone,
+    chain: &'a C,
+    version: usize,
+    part: Part,
+    set: usize,
+) -> ChangesList<'a, C>
+    ensures { result ≡ steps_from part set (drop version (C.versions chain.now)) ++ soa_of served.now }
+{
+    if version < chain.len() {
+        return begun_list(served, chain, version, part, set);
+    }
+    closing_list(served, chain)
 }

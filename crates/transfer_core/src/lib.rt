@@ -14,6 +14,9 @@ mod laws;
 mod list;
 mod packed;
 mod packer;
+mod place;
+mod resume;
+mod step;
 mod windows;
 
 pub use chain::{ChainView, VersionList};
@@ -26,8 +29,10 @@ pub use fault::TransferFault;
 pub use kept::{KEPT, KeptChain, Reach, WINDOW, chain_since, sizes_of_what_is_kept};
 pub use laws::{first_faults_are_told, full_lists_are_taken, incremental_lists_are_taken};
 pub use list::{FullList, LentRecord, SetRecords, full};
-pub use packed::messages_are_the_list;
-pub use packer::{MAX_MESSAGE, Packer, TransferRecords};
+pub use packed::{messages_are_the_list, messages_tell_their_records};
+pub use packer::{MAX_MESSAGE, Packer, TransferRecords, answer_count};
+pub use place::{ChangesPlace, Part, Place, StepPlace, ZonePlace};
+pub use resume::records_at;
 pub use windows::{
     examples_of_changes, examples_of_windows, serials_of_a_window_differ, windows_are_longest_runs,
 };

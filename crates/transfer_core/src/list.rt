@@ -6,11 +6,12 @@ ghost use Rattle.dns_name.specs.Name.{fold_name};
 ghost use Rattle.zone_tree.specs.Sets.{records_in};
 ghost use Rattle.zone_tree.specs.Zone.{IsZone};
 ghost use Rattle.transfer_core.specs.Lists.{full, beside_soa, records_left};
+ghost use Rattle.transfer_core.specs.Places.{zone_left};
 
-use dns_name::StoredName;
+use dns_name::{Name, StoredName};
 use dns_rdata::{RData, RRset, RType, Ttl};
 use std::marker::Model;
-use zone_tree::{Walk, ZoneRead};
+use zone_tree::{Walk, Zone, ZoneRead};
 
 /// A record of a set, lent.
 #[derive(Drop)]
@@ -92,6 +93,13 @@ impl<'a> SetRecords<'a> {
             rest: set.data(),
         }
     }
+
+    /// No record, of a set.
+    pub(crate) fn none(set: &'a RRset) -> SetRecords<'a>
+        ensures { result ≡ [] }
+    {
+        SetRecords { set, rest: &[] }
+    }
 }
 
 impl<'a> Iterator for SetRecords<'a> {
@@ -165,6 +173,19 @@ pub fn full<Z: ZoneRead>(zone: &Z) -> FullList<'_>
     FullList {
         rest: SetRecords::new(soa),
         walk: zone.walk(),
+        closing: Some(soa),
+    }
+}
+
+/// The list of a zone in whole from an owner and a type on: its other records from there on in canonical order, its SOA (RFC 5936, 2.2). It
+/// takes no memory.
+pub(crate) fn zone_from<'a>(zone: &'a Zone, owner: &Name, rtype: RType) -> FullList<'a>
+    ensures { result ≡ zone_left zone.now owner.now rtype.0 }
+{
+    let soa = zone.soa();
+    FullList {
+        rest: SetRecords::none(soa),
+        walk: zone.walk_from(owner, rtype),
         closing: Some(soa),
     }
 }

@@ -1,13 +1,14 @@
 //! The messages of a transfer: whole records, as many in each as fit (RFC 5936, 2.2).
-ghost use Rattle.std.specs.Prelude.{◌≡◌, ◌≤◌, List, [], ◌∷◌, ◌++◌, length, take, drop, map, MatchOption, IfSome, Some, None, if◌then◌else◌};
+ghost use Rattle.std.specs.Prelude.{◌≡◌, ◌≤◌, List, [], ◌∷◌, ◌++◌, length, take, drop, map, MatchOption, IfSome, Some, None, nat_le, if◌then◌else◌};
 ghost use Rattle.std.specs.Option.{option_copied, option_map, option_to_list};
 ghost use Rattle.dns_rdata.specs.Limits.{max_data};
 ghost use Rattle.dns_name.specs.Name.{IsName, is_same};
 ghost use Rattle.dns_rdata.specs.Record.{Record};
 ghost use Rattle.dns_message.specs.Answers.{sent, first_of};
+ghost use Rattle.dns_message.specs.Message.{number_at};
 ghost use Rattle.dns_message.specs.declared.write.TheConstants.{MIN_LIMIT};
 ghost use Rattle.transfer_core.specs.declared.packer.TheConstants.{MAX_MESSAGE};
-ghost use Rattle.transfer_core.specs.Packed.{spelt, listed, opt_beside, packed, octets_of, datagram_of, datagram};
+ghost use Rattle.transfer_core.specs.Packed.{spelt, listed, opt_beside, packed, packed_later, octets_of, datagram_of, datagram};
 
 use crate::chain::ChainView;
 use crate::changes::ChangesList;
@@ -45,7 +46,7 @@ impl<'a, C: ChainView> Drop for TransferRecords<'a, C> {
 
 impl<'a, C: ChainView> TransferRecords<'a, C> {
     /// The next record.
-    fn next_record(&mut self) -> Option<LentRecord<'a>>
+    pub fn next_record(&mut self) -> Option<LentRecord<'a>>
         ensures { MatchOption result
             ((listed self.old ≡ []) × (listed self.new ≡ []))
             (λ r. listed self.old ≡ r ∷ listed self.new) }
@@ -244,6 +245,21 @@ impl<'a, C: ChainView> Packer<'a, C> {
         }
     }
 
+    /// For what is left of a list that a question of this name asks for over TCP, where the first of its messages is sent (RFC 5936, 2.2;
+    /// RFC 1995, 4).
+    pub fn later(head: Head, name: &'a Name, list: TransferRecords<'a, C>) -> Packer<'a, C>
+        ensures { result ≡ octets_of (packed_later head (map (spelt name.now) (listed list.entry))) }
+    {
+        Packer {
+            head,
+            question: None,
+            opt: None,
+            soa: None,
+            limit: MAX_MESSAGE,
+            records: SpeltList::new(name, list),
+        }
+    }
+
     /// For a list that a question asks for over UDP, with the OPT of the reply, or none; the most octets of the datagram; and the
     /// set of the SOA that is sent where the list doesn't fit into so many (RFC 1995, 2; RFC 6891, 6.1.1 and 6.2.5; own).
     pub fn datagram(
@@ -298,4 +314,19 @@ impl<'a, C: ChainView> Packer<'a, C> {
         let room = &mut out[..MAX_MESSAGE];
         Some(write_answers(self.head, question, opt, &mut self.records, room))
     }
+}
+
+/// How many records the answer section of a message has, by its header (RFC 1035, 4.1.1); 0 where that is cut off.
+pub fn answer_count(message: &[u8]) -> u16
+    ensures { result ≡ (if nat_le 8 (length message.now) then number_at message.now 6 else 0) }
+{
+    told_count(message).unwrap_or(0)
+}
+
+/// The same; None where the header is cut off.
+fn told_count(message: &[u8]) -> Option<u16>
+    ensures { result ≡ (if nat_le 8 (length message.now) then Some (number_at message.now 6) else None) }
+{
+    let pair = message.get(6..)?.first_chunk::<2>()?;
+    Some(u16::from_be_bytes(*pair))
 }

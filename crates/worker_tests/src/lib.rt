@@ -1,10 +1,7 @@
-//! Tests of the workers of `serve_workers`: jobs on listeners and on streams, side by side, connections whose peers take their time, and
-//! whose rights each of them has.
+//! Tests of the workers of `serve_workers`: jobs on streams, side by side, and a job on connections over a poll that is made up.
 #![tactic(auto)]
 
 #[cfg(test)]
 mod gates;
 #[cfg(test)]
-mod listeners;
-#[cfg(test)]
-mod peers;
+mod turning;

@@ -14,4 +14,5 @@ mod transfer;
 pub use answer::{Now, Served, Told, answer_now, serve_one};
 pub use asked::Asked;
 pub use server::Server;
-pub use service_log::{Event, JobEnd, NoLog, Serials, ServiceLog};
+pub use service_log::{Event, JobEnd, Losses, NoLog, Serials, ServiceLog};
+pub use transfer::write_transfer;

@@ -31,20 +31,45 @@ pub enum Event {
         /// The zone's serials; none of an update that the engine wasn't asked for, since it can't be read or memory was wanted.
         serials: Option<Serials>,
     },
-    /// A worker has ended.
+    /// A thread of a worker has ended.
     End {
-        /// Its number, from 1.
+        /// The worker's number, from 1.
         worker: usize,
-        /// What carries its requests.
+        /// What carries the thread's requests.
         transport: Transport,
         /// How it has ended.
         end: JobEnd,
     },
-    /// A worker has no room for the connection that comes next, and waits for it (own).
-    NoRoom {
+    /// All threads of all workers have begun.
+    Serving,
+    /// Connections of a worker have ended by what an operator may wonder about, or got no place, since this was told last.
+    Lost {
         /// Its number, from 1.
         worker: usize,
+        /// How many.
+        losses: Losses,
     },
+}
+
+/// How many connections have ended by what an operator may wonder about, or got no place.
+#[derive(Clone, Copy, Default, PartialEq, Eq)]
+pub struct Losses {
+    /// Those by a read or a write that failed.
+    pub failed: u64,
+    /// Those for want of memory, or of a version.
+    pub starved: u64,
+    /// Those whose peers said nothing for too long.
+    pub idle: u64,
+    /// Those of which a request was too long in coming.
+    pub unfinished: u64,
+    /// Those whose peers took too long to take a reply.
+    pub untaken: u64,
+    /// Those that were idle and gave their places to others.
+    pub evicted: u64,
+    /// Those that got no place, since none was free, and no other was idle.
+    pub turned_away: u64,
+    /// Those that got none for want of a descriptor or of memory.
+    pub no_room: u64,
 }
 
 /// The zone's serial when an update is looked at, and the one after that update: the same where it has changed nothing.
@@ -59,12 +84,14 @@ pub struct Serials {
 /// How a worker's job has ended.
 #[derive(Clone, Copy)]
 pub enum JobEnd {
-    /// It has done as much as it may: so many requests, or connections.
+    /// Its worker has done what it may: so many datagrams and connections.
     Done(u64),
     /// Its socket has failed.
     Device,
     /// No version could be loaded.
     Spent,
+    /// A growth was refused.
+    NoMemory,
 }
 
 impl Display for Event {
@@ -86,12 +113,13 @@ impl Display for Event {
             } => {
                 let carrier = carrier_of(*transport);
                 write!(f, "worker {worker} ({carrier}) has ended: ")?;
-                write_end(f, *transport, *end)
+                write_end(f, *end)
             }
-            Event::NoRoom { worker } => write!(
-                f,
-                "worker {worker} (TCP) has no room for a connection, and waits"
-            ),
+            Event::Serving => f.write_str("all workers have begun"),
+            Event::Lost { worker, losses } => {
+                write!(f, "worker {worker} (TCP)")?;
+                write_losses(f, *losses)
+            }
         }
     }
 }
@@ -108,22 +136,40 @@ fn write_serials<W: fmt::Write>(f: &mut Formatter<W>, serials: Option<Serials>) 
     write!(f, ", serial {before} to {after}")
 }
 
-/// Writes how a job has ended.
-fn write_end<W: fmt::Write>(
+/// Writes how many connections are lost, by what.
+fn write_losses<W: fmt::Write>(f: &mut Formatter<W>, losses: Losses) -> fmt::Result {
+    let mark = write_kind(f, ": ", losses.failed, "failed")?;
+    let mark = write_kind(f, mark, losses.starved, "starved")?;
+    let mark = write_kind(f, mark, losses.idle, "idle too long")?;
+    let mark = write_kind(f, mark, losses.unfinished, "too long over a request")?;
+    let mark = write_kind(f, mark, losses.untaken, "too long over a reply")?;
+    let mark = write_kind(f, mark, losses.evicted, "idle and ended for others")?;
+    let mark = write_kind(f, mark, losses.turned_away, "turned away")?;
+    write_kind(f, mark, losses.no_room, "without room")?;
+    Ok(())
+}
+
+/// Writes a kind of loss behind a mark, if there is any, and gives the mark for the next one.
+fn write_kind<W: fmt::Write>(
     f: &mut Formatter<W>,
-    transport: Transport,
-    end: JobEnd,
-) -> fmt::Result {
+    mark: &'static str,
+    count: u64,
+    kind: &str,
+) -> Result<&'static str, fmt::Error> {
+    if count == 0 {
+        return Ok(mark);
+    }
+    write!(f, "{mark}{count} {kind}")?;
+    Ok(", ")
+}
+
+/// Writes how a job has ended.
+fn write_end<W: fmt::Write>(f: &mut Formatter<W>, end: JobEnd) -> fmt::Result {
     match end {
-        JobEnd::Done(count) => {
-            let what = match transport {
-                Transport::Udp => "requests answered",
-                Transport::Tcp => "connections served",
-            };
-            write!(f, "{count} {what}")
-        }
+        JobEnd::Done(count) => write!(f, "{count} datagrams and connections done"),
         JobEnd::Device => f.write_str("its socket failed"),
         JobEnd::Spent => f.write_str("no version could be loaded"),
+        JobEnd::NoMemory => f.write_str("no memory"),
     }
 }
 

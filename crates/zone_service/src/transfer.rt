@@ -65,7 +65,7 @@ pub(crate) fn send_transfer<S: Stream>(
 }
 
 /// Writes the one message of a transfer to the front of `out`, for a datagram (RFC 1995, 2).
-pub(crate) fn write_transfer(
+pub fn write_transfer(
     version: &Version,
     chain: &VersionChain,
     query: &Query,

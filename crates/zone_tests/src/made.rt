@@ -5,7 +5,7 @@ use dns_name::Name;
 use dns_rdata::{RData, RRset, RType, Ttl};
 use std::alloc::Global;
 use std::fmt::Display;
-use zone_tree::{Zone, ZoneRead};
+use zone_tree::{Walk, Zone, ZoneRead};
 
 const SOA: &[u8] = b"\0\0\0\0\0\x01\0\0\0\x02\0\0\0\x03\0\0\0\x04\0\0\0\x05";
 
@@ -68,10 +68,15 @@ fn is_row(set: &RRset, row: &str) -> Option<bool> {
     Some(set.owner() == name(owner)? && set.rtype() == rtype)
 }
 
-/// Whether a walk gives a set of each row, in their order.
+/// Whether a walk over a zone gives a set of each row, in their order.
 pub(crate) fn walks(zone: &Zone, rows: &str) -> Option<bool> {
+    gives(zone.walk(), rows)
+}
+
+/// Whether a walk gives a set of each row, in their order.
+pub(crate) fn gives(walk: Walk<'_>, rows: &str) -> Option<bool> {
     let mut rows = rows.split_terminator(", ");
-    for set in zone.walk() {
+    for set in walk {
         if !is_row(set, rows.next()?)? {
             return Some(false);
         }

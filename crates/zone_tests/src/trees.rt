@@ -57,6 +57,34 @@ fn counts_up(tree: &Numbers, count: u32, but: u32) -> bool {
     number == past(count, but)
 }
 
+/// Whether the pairs above each number up to a count are the greater numbers below it.
+fn are_above(tree: &Numbers, count: u32) -> bool {
+    for number in 0..count {
+        let mut next = number.saturating_add(1);
+        for pair in tree.walk_above(&number) {
+            if pair.0 != next || pair.1 != next {
+                return false;
+            }
+            next = next.saturating_add(1);
+        }
+        if next != count {
+            return false;
+        }
+    }
+    true
+}
+
+#[test]
+fn greater_keys(rt: HostRuntime) -> Result<(), &'static str> {
+    for count in [1, 2, 3, 64, 100] {
+        let tree = built_anew(rt.alloc(), count).ok_or("no tree")?;
+        if !are_above(&tree, count) || tree.walk_above(&count).next().is_some() {
+            return Err("other pairs");
+        }
+    }
+    Ok(())
+}
+
 /// The tree with one more number; None where that makes more than 84 nodes, or a tree that is higher than 20.
 fn with_number(alloc: Global, tree: &Numbers, number: u32) -> Option<Numbers> {
     let (next, made) = tree.with(alloc, number, number).ok()?;

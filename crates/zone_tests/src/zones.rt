@@ -1,6 +1,6 @@
 //! A small zone through each call, and lists that are no zone.
-use crate::made::{is_printed, sets_of, walks, zone_anew};
-use dns_rdata::Serial;
+use crate::made::{gives, is_printed, name, sets_of, walks, zone_anew};
+use dns_rdata::{RType, Serial};
 use std::alloc::Global;
 use zone_tree::{BrokenRule, Delta, NewFault, Version, Zone, ZoneRead, edit};
 
@@ -11,6 +11,34 @@ fn is_made_anew_where_memory_is_refused(rt: HostRuntime) -> Result<(), &'static 
     let zone = zone_anew(rt.alloc(), rows).ok_or("no zone")?;
     if walks(&zone, rows) != Some(true) {
         return Err("other sets");
+    }
+    Ok(())
+}
+
+/// A zone, and for names and types what it has from there on.
+const SETS: &str = "@ NS, @ SOA, a A, a MX, a TXT, c A, c AAAA";
+
+const FROM: [(&str, RType, &str); 9] = [
+    (".", RType(0), SETS),
+    ("@", RType::SOA, "@ SOA, a A, a MX, a TXT, c A, c AAAA"),
+    ("a", RType::A, "a A, a MX, a TXT, c A, c AAAA"),
+    ("A", RType::CNAME, "a MX, a TXT, c A, c AAAA"),
+    ("a", RType::TXT, "a TXT, c A, c AAAA"),
+    ("a", RType::AAAA, "c A, c AAAA"),
+    ("b", RType::TXT, "c A, c AAAA"),
+    ("c", RType::AAAA, "c AAAA"),
+    ("x.c", RType(0), ""),
+];
+
+// RFC 4034, 6.1: by owner, then type; from one that isn't there on what stands behind it.
+#[test]
+fn walks_from(rt: HostRuntime) -> Result<(), &'static str> {
+    let zone = zone_anew(rt.alloc(), SETS).ok_or("no zone")?;
+    for (owner, rtype, rows) in FROM {
+        let owner = name(owner).ok_or("no name")?;
+        if gives(zone.walk_from(&owner, rtype), rows) != Some(true) {
+            return Err(rows);
+        }
     }
     Ok(())
 }

@@ -9,6 +9,7 @@ pub mod PutLemmas
 pub mod EditLemmas
 pub mod ApexLemmas
 pub mod WalkLemmas
+pub mod FromLemmas
 pub mod CheckLemmas
 pub mod RuleLemmas
 pub mod FaultLemmas

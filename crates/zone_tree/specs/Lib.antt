@@ -4,6 +4,7 @@ pub mod Edit
 pub mod Example
 pub mod Fault
 pub mod Filed
+pub mod From
 pub mod Limits
 pub mod Patch
 pub mod Sets

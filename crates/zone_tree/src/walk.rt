@@ -40,6 +40,14 @@ impl<'a> Walk<'a> {
     {
         Walk { rest: &[], owners }
     }
+
+    /// Sets of one owner, and all sets of the owners behind it.
+    pub(crate) fn within(rest: &'a [RRset], owners: OwnersLeft<'a>) -> Walk<'a>
+        requires { AllByRecursion IsFiled owners }
+        ensures { result ≡ rest.now ++ sets_under owners.entry }
+    {
+        Walk { rest, owners }
+    }
 }
 
 impl<'a> Iterator for Walk<'a> {

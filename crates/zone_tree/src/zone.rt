@@ -14,7 +14,7 @@ use crate::change::Change;
 use crate::check::{Judged, check};
 use crate::draft::{Draft, with_changes};
 use crate::fault::{NewFault, ZoneFault};
-use crate::look::set_of_type;
+use crate::look::{set_of_type, sets_from};
 use crate::owners::{Owned, Owners, under_owners};
 use crate::read::ZoneRead;
 use crate::walk::Walk;
@@ -71,6 +71,25 @@ impl Zone {
             count,
             owners,
         })
+    }
+}
+
+impl Zone {
+    ghost use Rattle.std.specs.Prelude.{◌∷◌, ◌++◌};
+    ghost use Rattle.dns_rdata.specs.Record.{owner_of, rtype_of};
+    ghost use Rattle.zone_tree.specs.Sets.{records_in, sets_in};
+    ghost use Rattle.zone_tree.specs.From.{records_from};
+
+    /// All sets from that of an owner and a type on, each in whole, in canonical order (RFC 4034, 6.1); the zone needn't have
+    /// one of that owner and type. From one of these on there is what the walk has left there. It takes no memory.
+    pub fn walk_from(&self, owner: &Name, rtype: RType) -> Walk<'_>
+        ensures sets { result ≡ sets_in (records_from self.now owner.now rtype.0) }
+        ensures records { records_in result ≡ records_from self.now owner.now rtype.0 }
+        ensures rest { (front rest : List (List Record)) (set : List Record) → result ≡ front ++ set ∷ rest → records_from self.now (owner_of set) (rtype_of set) ≡ records_in (set ∷ rest) }
+    {
+        let sought = SoughtName::new(owner);
+        let own = sets_from(sets_of(&self.owners, &sought), rtype);
+        Walk::within(own, self.owners.walk_above(&sought))
     }
 }
 

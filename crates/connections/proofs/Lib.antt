@@ -1,0 +1,5 @@
+pub mod QueueLemmas
+pub mod FrameLemmas
+pub mod ToldLemmas
+pub mod GoingLemmas
+pub mod PassLemmas

@@ -1,0 +1,17 @@
+-- The first request that is held is answered, behind all that is to be written.
+use Rattle.std.proofs.Common.{◌≡◌, ◌+◌, ◌++◌, ◌∙◌, ap, drop, length, sym, subst}
+use Rattle.dns_message.specs.Frame.{frame_of}
+use Rattle.connections.specs.Kept.{Kept, due}
+use Rattle.connections.proofs.FrameLemmas.{turn_made}
+use Rattle.connections.proofs.machine.Conversation.answer.Goals as goal
+
+pub returns-clause-turn : goal.returns-clause-turn
+returns-clause-turn g c = λ made.
+    let held = c.args.self.now.held in
+    let request = c.in-Some.request.now in
+    let read : c.as_slice.result.now ≡ held = c.as_slice.ensures ∙ ap (λ (k : Kept). k.held) c.self.view_is in
+    let whole : held ≡ frame_of request ++ drop (2 + length request) held = subst (λ l. l ≡ frame_of request ++ drop (2 + length request) l) read c.in-Some.ensures.frame in
+    let still : c.self-2.inside.held ≡ held = ap (λ (k : Kept). k.held) c.self-2.view_is ∙ c.in-Ok-queue.ensures.held in
+    let left : c.advance.new.self ≡ drop (2 + length request) held = c.advance.ensures ∙ ap (λ l. drop (2 + length request) l) still in
+    turn_made (g.A.Answering.is_reply (g.A.Answering.peer c.args.answering.now)) _ _ _ _ _ _ request _ c.in-Ok.ensures.grows c.in-Ok.ensures.reply (whole ∙ ap (λ l. frame_of request ++ l) (sym left))
+    (ap (λ (k : Kept). due k) c.self-2.view_is ∙ c.in-Ok-queue.ensures.queued)

@@ -1,0 +1,16 @@
+-- What was answered so far still is, from the stream's beginning.
+use Rattle.std.proofs.Common.{◌≡◌}
+use Rattle.conversation.specs.Served.{Grows}
+use Rattle.connections.specs.Kept.{told_by}
+use Rattle.connections.specs.Told.{Writes}
+use Rattle.connections.specs.Going.{Goes}
+use Rattle.connections.proofs.stream.serve_stream.Given as goal
+
+abbrev pub invariant-loop : goal.invariant-loop
+invariant-loop g l = record {
+  grows : Grows (g.A.Answering.seen l.answering) (g.A.Answering.seen l.initial.answering);
+  peer : g.A.Answering.peer l.answering ≡ g.A.Answering.peer l.initial.answering;
+  goes : Goes (g.A.Answering.is_reply (g.A.Answering.peer l.initial.answering)) (g.A.Answering.seen l.initial.answering) (g.S.Blocking.octets l.initial.stream) (g.A.Answering.seen l.answering) (told_by l.conversation (g.S.Blocking.octets l.stream));
+  written : Writes (g.S.Blocking.octets l.initial.stream) (g.S.Blocking.octets l.stream);
+  same : g.S.Blocking.faults l.stream ≡ g.S.Blocking.faults l.initial.stream;
+}

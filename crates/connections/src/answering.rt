@@ -1,0 +1,60 @@
+//! Who answers the requests of connections.
+ghost use Rattle.std.specs.Prelude.{◌≡◌, ℕ, ◌≤◌, List, [], ◌∷◌, length, take, IfOk, MatchOption};
+ghost use Rattle.dns_message.specs.Message.{message_limit};
+ghost use Rattle.zone_tree.specs.Version.{Version};
+ghost use Rattle.conversation.specs.Served.{Learned, Grows};
+ghost use Rattle.serve_core.specs.declared.peer.Peer.{Peer as PeerAsking};
+ghost use Rattle.connections.specs.Kept.{messages_of};
+
+use serve_core::Peer;
+use snapshot_cell::Spent;
+use std::net::SocketAddr;
+use std::sync::Wait;
+
+/// What makes the messages of a reply one after another, as of a transfer.
+pub trait Messages: Drop {
+    /// The messages that are left.
+    ghost left: { Self → List (List ℕ) };
+
+    /// Writes the next message to the front of a buffer, and gives how many octets it has; None where none is left.
+    fn next_message(&mut self, out: &mut [u8]) -> Option<usize>
+        requires { message_limit ≤ length out.old }
+        ensures { MatchOption result ((left self.old ≡ []) × (left self.new ≡ [])) (λ len. (left self.old ≡ take len out.new ∷ left self.new) × (len ≤ length out.new) × (len ≤ message_limit)) };
+}
+
+/// The reply to a request of a connection.
+#[derive(Drop)]
+pub enum Reply<M> {
+    /// There is none.
+    Silent,
+    /// A message of so many octets, at the front of the buffer.
+    One(usize),
+    /// These messages.
+    Many(M),
+}
+
+/// Who answers requests. Contracts know of it which versions it has seen published, as far as it tells them, and what a reply to a request is.
+pub trait Answering<M: Messages> {
+    /// What is known of versions: those that are published, the first one first, and the numbers of those that are buried.
+    ghost seen: { Self → Learned Version };
+
+    /// Who asks.
+    ghost peer: { Self → PeerAsking };
+
+    /// What the messages of a reply to a request are, by who asks, by such versions before the reply, and by those when it is made.
+    ghost is_reply: { PeerAsking → Learned Version → Learned Version → List ℕ → List (List ℕ) → Type 0 };
+
+    /// Turns to another peer, who asks from an address.
+    fn turn_to(&mut self, other: Peer, from: SocketAddr)
+        ensures other { peer self.new ≡ other }
+        ensures grows { Grows (seen self.new) (seen self.old) };
+
+    /// Makes the reply to a request: its one message at the front of a buffer, or what makes its messages. [`Spent`] where no version can be
+    /// loaded.
+    fn reply<R: Wait>(&mut self, rt: &R, request: &[u8], out: &mut [u8]) -> Result<Reply<M>, Spent>
+        requires { message_limit ≤ length out.old }
+        ensures same { peer self.new ≡ peer self.old }
+        ensures grows { Grows (seen self.new) (seen self.old) }
+        ensures bound { IfOk result (λ reply. (len : ℕ) → reply ≡ Reply.One len → (len ≤ message_limit) × (len ≤ length out.new)) }
+        ensures reply { IfOk result (λ reply. is_reply (peer self.old) (seen self.old) (seen self.new) request.now (messages_of M.left reply out.new)) };
+}

@@ -1,0 +1,107 @@
+//! Octets that come at one end and go at the other.
+ghost use Rattle.std.specs.Prelude.{◌≡◌, ◌≤◌, [], ◌++◌, length, drop, IsTrue, ◌↔◌, OnOk, OnErr};
+ghost use Rattle.dns_message.specs.Frame.{frame_of};
+ghost use Rattle.dns_message.specs.Message.{message_limit};
+
+use std::alloc::{AllocError, Global};
+use std::marker::Model;
+
+/// The octets of a frame's length (RFC 1035, 4.2.2).
+pub(crate) const LENGTH: usize = 2;
+
+/// Octets in a row, those that came first in front.
+#[derive(Drop)]
+pub(crate) struct Queue {
+    octets: Vec<u8>,
+    at: usize,
+}
+
+impl Model for Queue {
+    ghost use Rattle.std.specs.Prelude.{ℕ, ◌≤◌, List, length, drop};
+
+    ghost Value = { List ℕ };
+
+    ghost view = { λ a. drop a.at a.octets.items };
+
+    ghost invariant = { λ a. a.at ≤ length a.octets.items };
+}
+
+impl Queue {
+    /// No octets.
+    pub(crate) fn new(alloc: Global) -> Queue
+        ensures { result ≡ [] }
+    {
+        Queue {
+            octets: Vec::new(alloc),
+            at: 0,
+        }
+    }
+
+    /// The octets.
+    pub(crate) fn as_slice(&self) -> &[u8]
+        ensures { result.now ≡ self.now }
+    {
+        &self.octets.as_slice()[self.at..]
+    }
+
+    /// Whether there are none.
+    pub(crate) fn is_empty(&self) -> bool
+        ensures { IsTrue result ↔ (self.now ≡ []) }
+    {
+        self.as_slice().is_empty()
+    }
+
+    /// Lets the first octets go.
+    #[tactic(auto, using(crate::proofs::QueueLemmas::advanced))]
+    pub(crate) fn advance(&mut self, count: usize)
+        requires { count ≤ length self.old }
+        ensures { self.new ≡ drop count self.old }
+    {
+        self.at += count;
+    }
+
+    /// Gives the room of octets that are gone to others, where they are as many as those that are left.
+    #[tactic(auto, using(crate::proofs::QueueLemmas::compacted))]
+    fn compact(&mut self)
+        ensures { self.new ≡ self.old }
+    {
+        let left = self.octets.len() - self.at;
+        if self.at >= left {
+            self.octets.copy_within(self.at.., 0);
+            self.octets.truncate(left);
+            self.at = 0;
+        }
+    }
+
+    /// Adds octets behind the others. Where there is no memory the octets are as they were.
+    #[tactic(auto, using(crate::proofs::QueueLemmas::pushed))]
+    pub(crate) fn push(&mut self, octets: &[u8]) -> Result<(), AllocError>
+        ensures pushed { OnOk result (self.new ≡ self.old ++ octets.now) }
+        ensures same { OnErr result (self.new ≡ self.old) }
+    {
+        self.compact();
+        self.octets.extend_from_slice(octets)
+    }
+
+    /// Adds a message's frame behind the other octets (RFC 1035, 4.2.2). Where there is no memory the octets are as they were.
+    #[tactic(auto, using(crate::proofs::QueueLemmas::pushed_both))]
+    pub(crate) fn push_frame(&mut self, message: &[u8]) -> Result<(), AllocError>
+        requires { length message.now ≤ message_limit }
+        ensures pushed { OnOk result (self.new ≡ self.old ++ frame_of message.now) }
+        ensures same { OnErr result (self.new ≡ self.old) }
+    {
+        self.compact();
+        match self.octets.reserve(LENGTH + message.len()) {
+            Ok(()) => {}
+            Err(fault) => return Err(fault),
+        }
+        let length = (message.len() as u16).to_be_bytes();
+        let Ok(()) = self.octets.extend_from_slice(&length) else {
+            unreachable!()
+        };
+        let Ok(()) = self.octets.extend_from_slice(message) else {
+            unreachable!()
+        };
+        Ok(())
+    }
+}

@@ -1,0 +1,250 @@
+//! Octets between a stream and its conversation, by shares.
+ghost use Rattle.std.specs.Prelude.{◌≡◌, ◌↔◌, ◌<◌, ◌≤◌, [], length, IsTrue, IfErr, OnOk};
+ghost use Rattle.dns_message.specs.Message.{message_limit};
+ghost use Rattle.conversation.specs.Served.{Grows};
+ghost use Rattle.connections.specs.Kept.{IsWaiting, told_by};
+ghost use Rattle.connections.specs.Told.{Stays, Writes, EndsTold, IsCounted, EndCounted};
+ghost use Rattle.connections.specs.Going.{Keeps, Goes, Stops};
+
+use crate::answering::{Answering, Messages};
+use crate::blocking::{Blocking, Fault};
+use crate::machine::{Broken, Conversation};
+use crate::stream_end::StreamEnd;
+use std::sync::Wait;
+
+/// How many requests a turn answers at most (own).
+const REQUESTS: usize = 32;
+
+/// How many writes a turn makes at most (own).
+const WRITES: usize = 4;
+
+/// How many turns a share has at most (own).
+const TURNS: usize = 2;
+
+/// How a share of the work on a connection has gone.
+#[derive(Clone, Copy)]
+pub enum Flow {
+    /// It could go on.
+    More,
+    /// The stream would block.
+    Blocked,
+    /// Nothing is to be written.
+    Done,
+}
+
+impl Flow {
+    /// Whether the stream would block.
+    pub fn is_blocked(self) -> bool
+        ensures { IsTrue result ↔ (self ≡ Flow.Blocked) }
+    {
+        match self {
+            Flow::Blocked => true,
+            Flow::More => false,
+            Flow::Done => false,
+        }
+    }
+}
+
+/// Answers requests that are held in whole, in their order, so many at most.
+fn answer_some<R: Wait, M: Messages, A: Answering<M>>(
+    rt: &R,
+    answering: &mut A,
+    conversation: &mut Conversation<M>,
+    out: &mut [u8],
+) -> Result<(), Broken>
+    requires { message_limit ≤ length out.old }
+    ensures peer { A.peer answering.new ≡ A.peer answering.old }
+    ensures grows { Grows (A.seen answering.new) (A.seen answering.old) }
+    ensures keeps { Keeps (A.is_reply (A.peer answering.old)) (A.seen answering.old) conversation.old (A.seen answering.new) conversation.new }
+{
+    for _answered in 0..REQUESTS {
+        match conversation.answer(rt, answering, out) {
+            Ok(is_made) => {
+                if !is_made {
+                    return Ok(());
+                }
+            }
+            Err(broken) => return Err(broken),
+        }
+    }
+    Ok(())
+}
+
+/// Writes the first of the octets that are ready, as many as the stream takes at once.
+fn write_ready<M: Messages, S: Blocking>(
+    conversation: &mut Conversation<M>,
+    stream: &mut S,
+) -> Result<(), Fault>
+    requires { 0 < length conversation.old.ready }
+    ensures stays { Stays (told_by conversation.old (S.octets stream.old)) (told_by conversation.new (S.octets stream.new)) }
+    ensures written { Writes (S.octets stream.old) (S.octets stream.new) }
+    ensures same { OnOk result (S.faults stream.new ≡ S.faults stream.old) }
+    ensures counted { IfErr result (λ fault. IsCounted fault (S.faults stream.old) (S.faults stream.new)) }
+{
+    match stream.write(conversation.ready()) {
+        Ok(count) => {
+            conversation.advance(count);
+            Ok(())
+        }
+        Err(fault) => Err(fault),
+    }
+}
+
+/// Writes the first of what is to be written, as much as the stream takes at once.
+fn write_some<M: Messages, S: Blocking>(
+    conversation: &mut Conversation<M>,
+    stream: &mut S,
+    out: &mut [u8],
+) -> Result<Flow, StreamEnd>
+    requires { message_limit ≤ length out.old }
+    ensures stays { OnOk result (Stays (told_by conversation.old (S.octets stream.old)) (told_by conversation.new (S.octets stream.new))) }
+    ensures ready { result ≡ Ok Flow.Done → conversation.new.ready ≡ [] }
+    ensures later { result ≡ Ok Flow.Done → conversation.new.later ≡ [] }
+    ensures ends { IfErr result (λ end. EndsTold end (told_by conversation.old (S.octets stream.old)) (S.octets stream.new)) }
+    ensures written { Writes (S.octets stream.old) (S.octets stream.new) }
+    ensures same { OnOk result (S.faults stream.new ≡ S.faults stream.old) }
+    ensures counted { IfErr result (λ end. EndCounted end (S.faults stream.old) (S.faults stream.new)) }
+{
+    match conversation.refill(out) {
+        Ok(()) => {}
+        Err(_) => return Err(StreamEnd::NoMemory),
+    }
+    if conversation.ready().is_empty() {
+        return Ok(Flow::Done);
+    }
+    match write_ready(conversation, stream) {
+        Ok(()) => Ok(Flow::More),
+        Err(Fault::Blocked) => Ok(Flow::Blocked),
+        Err(Fault::Failed) => Err(StreamEnd::Device),
+    }
+}
+
+/// Writes what is to be written, by so many writes at most.
+fn flush<M: Messages, S: Blocking>(
+    conversation: &mut Conversation<M>,
+    stream: &mut S,
+    out: &mut [u8],
+) -> Result<Flow, StreamEnd>
+    requires { message_limit ≤ length out.old }
+    ensures stays { OnOk result (Stays (told_by conversation.old (S.octets stream.old)) (told_by conversation.new (S.octets stream.new))) }
+    ensures ready { result ≡ Ok Flow.Done → conversation.new.ready ≡ [] }
+    ensures later { result ≡ Ok Flow.Done → conversation.new.later ≡ [] }
+    ensures ends { IfErr result (λ end. EndsTold end (told_by conversation.old (S.octets stream.old)) (S.octets stream.new)) }
+    ensures written { Writes (S.octets stream.old) (S.octets stream.new) }
+    ensures same { OnOk result (S.faults stream.new ≡ S.faults stream.old) }
+    ensures counted { IfErr result (λ end. EndCounted end (S.faults stream.old) (S.faults stream.new)) }
+{
+    for _written in 0..WRITES {
+        match write_some(conversation, stream, out) {
+            Ok(Flow::More) => {}
+            Ok(Flow::Blocked) => return Ok(Flow::Blocked),
+            Ok(Flow::Done) => return Ok(Flow::Done),
+            Err(end) => return Err(end),
+        }
+    }
+    Ok(Flow::More)
+}
+
+/// Reads some octets, and holds them. The stream ends in front of a frame or inside one.
+fn read_some<M: Messages, S: Blocking>(
+    conversation: &mut Conversation<M>,
+    stream: &mut S,
+    room: &mut [u8],
+) -> Result<Flow, StreamEnd>
+    requires waits { IsWaiting conversation.old }
+    requires room { 0 < length room.old }
+    ensures stays { OnOk result (Stays (told_by conversation.old (S.octets stream.old)) (told_by conversation.new (S.octets stream.new))) }
+    ensures ends { IfErr result (λ end. EndsTold end (told_by conversation.old (S.octets stream.old)) (S.octets stream.new)) }
+    ensures written { Writes (S.octets stream.old) (S.octets stream.new) }
+    ensures same { OnOk result (S.faults stream.new ≡ S.faults stream.old) }
+    ensures counted { IfErr result (λ end. EndCounted end (S.faults stream.old) (S.faults stream.new)) }
+{
+    let count = match stream.read(room) {
+        Ok(count) => count,
+        Err(Fault::Blocked) => return Ok(Flow::Blocked),
+        Err(Fault::Failed) => return Err(StreamEnd::Device),
+    };
+    if count == 0 {
+        if conversation.holds() {
+            return Err(StreamEnd::Torn);
+        }
+        return Err(StreamEnd::Clean);
+    }
+    match conversation.take(&room[..count]) {
+        Ok(()) => Ok(Flow::More),
+        Err(_) => Err(StreamEnd::NoMemory),
+    }
+}
+
+/// Answers requests that are held, writes what is to be written, and reads once, where nothing is left to be written.
+fn turn<R: Wait, M: Messages, A: Answering<M>, S: Blocking>(
+    rt: &R,
+    answering: &mut A,
+    conversation: &mut Conversation<M>,
+    stream: &mut S,
+    room: &mut [u8],
+    out: &mut [u8],
+) -> Result<Flow, StreamEnd>
+    requires room { 0 < length room.old }
+    requires out { message_limit ≤ length out.old }
+    ensures peer { A.peer answering.new ≡ A.peer answering.old }
+    ensures grows { Grows (A.seen answering.new) (A.seen answering.old) }
+    ensures goes { OnOk result (Goes (A.is_reply (A.peer answering.old)) (A.seen answering.old) (told_by conversation.old (S.octets stream.old)) (A.seen answering.new) (told_by conversation.new (S.octets stream.new))) }
+    ensures stops { IfErr result (λ end. Stops (A.is_reply (A.peer answering.old)) end (A.seen answering.old) (told_by conversation.old (S.octets stream.old)) (A.seen answering.new) (S.octets stream.new)) }
+    ensures written { Writes (S.octets stream.old) (S.octets stream.new) }
+    ensures same { OnOk result (S.faults stream.new ≡ S.faults stream.old) }
+    ensures counted { IfErr result (λ end. EndCounted end (S.faults stream.old) (S.faults stream.new)) }
+{
+    match answer_some(rt, answering, conversation, out) {
+        Ok(()) => {}
+        Err(Broken::Spent) => return Err(StreamEnd::Spent),
+        Err(Broken::NoMemory) => return Err(StreamEnd::NoMemory),
+    }
+    match flush(conversation, stream, out) {
+        Ok(Flow::Done) => {}
+        Ok(Flow::More) => return Ok(Flow::More),
+        Ok(Flow::Blocked) => return Ok(Flow::Blocked),
+        Err(end) => return Err(end),
+    }
+    if !conversation.wants() {
+        return Ok(Flow::More);
+    }
+    match read_some(conversation, stream, room) {
+        Ok(flow) => return Ok(flow),
+        Err(end) => return Err(end),
+    }
+}
+
+/// Serves a connection by a share: some turns of its conversation with its stream. Over a stream that tells its octets, what is written and
+/// what is to be is the frames of the replies to the requests that are read, in their order, each by what was known then to be published;
+/// where the stream ends by itself, all of it is written, else a beginning of it (RFC 1035, 4.2.2; RFC 7766, 6.2.1.1).
+pub fn serve_some<R: Wait, M: Messages, A: Answering<M>, S: Blocking>(
+    rt: &R,
+    answering: &mut A,
+    conversation: &mut Conversation<M>,
+    stream: &mut S,
+    room: &mut [u8],
+    out: &mut [u8],
+) -> Result<Flow, StreamEnd>
+    requires room { 0 < length room.old }
+    requires out { message_limit ≤ length out.old }
+    ensures peer { A.peer answering.new ≡ A.peer answering.old }
+    ensures grows { Grows (A.seen answering.new) (A.seen answering.old) }
+    ensures goes { OnOk result (Goes (A.is_reply (A.peer answering.old)) (A.seen answering.old) (told_by conversation.old (S.octets stream.old)) (A.seen answering.new) (told_by conversation.new (S.octets stream.new))) }
+    ensures stops { IfErr result (λ end. Stops (A.is_reply (A.peer answering.old)) end (A.seen answering.old) (told_by conversation.old (S.octets stream.old)) (A.seen answering.new) (S.octets stream.new)) }
+    ensures written { Writes (S.octets stream.old) (S.octets stream.new) }
+    ensures same { OnOk result (S.faults stream.new ≡ S.faults stream.old) }
+    ensures counted { IfErr result (λ end. EndCounted end (S.faults stream.old) (S.faults stream.new)) }
+{
+    for _turned in 0..TURNS {
+        match turn(rt, answering, conversation, stream, room, out) {
+            Ok(flow) => {
+                if flow.is_blocked() {
+                    return Ok(flow);
+                }
+            }
+            Err(end) => return Err(end),
+        }
+    }
+    Ok(Flow::More)
+}

@@ -1,0 +1,247 @@
+//! What the options of `serve` ask for.
+ghost use Rattle.std.specs.Prelude.{◌≤◌};
+ghost use Rattle.transfer_core.specs.declared.kept.TheConstants.{KEPT};
+
+use crate::command::{CommandFault, KEEP, MAX_KEEP, number_for, option};
+use clap::{ArgAction, ArgMatches, Command as Parser};
+use commands::Source;
+use dns_name::Name;
+use links::Limits;
+use std::alloc::{AllocError, Global};
+use std::net::{IpAddr, SocketAddr};
+
+/// A zone to be served, and how.
+#[derive(Drop)]
+pub struct Serve<'a> {
+    /// Where the zone's text comes from.
+    pub zone: Source<'a>,
+    /// The origin at the start of the zone's text.
+    pub origin: Name,
+    /// The addresses and the ports, each for datagrams and for connections.
+    pub listen: Vec<SocketAddr>,
+    /// How many workers there are; each has a thread for connections, and one for the datagrams of each address.
+    pub workers: usize,
+    /// How many older versions are kept beside the newest; at most [`MAX_KEEP`].
+    pub keep: usize,
+    /// After how many datagrams and connections, together, a worker ends.
+    pub most: u64,
+    /// The addresses that may update and transfer.
+    pub allowed: Vec<IpAddr>,
+    /// How many connections a worker may have open.
+    pub places: usize,
+    /// How long each may wait for its peer.
+    pub limits: Limits,
+    ghost few_kept: { keep ≤ KEPT },
+}
+
+/// The option for an address to listen on.
+const LISTEN: &str = "listen";
+
+/// The option for how many workers there are.
+const WORKERS: &str = "workers";
+
+/// The most workers.
+const MAX_WORKERS: usize = 31;
+
+/// The most threads of all workers, since each has a reader of the zone's versions, and the engine has one more.
+pub const MAX_THREADS: usize = 63;
+
+/// The option for who may update and transfer.
+const ALLOW: &str = "allow";
+
+/// The option for after how many datagrams and connections a worker ends.
+const COUNT: &str = "count";
+
+/// The option for how many connections a worker may have open.
+const CONNECTIONS: &str = "connections";
+
+/// The most connections that a worker may have open.
+const MAX_CONNECTIONS: usize = 100_000;
+
+/// The options for how many seconds a connection may be idle, and a request and the taking of a reply may take.
+const IDLE: &str = "idle";
+
+const MESSAGE: &str = "message";
+
+const REPLY: &str = "reply";
+
+/// The most seconds of each.
+const MAX_SECONDS: usize = 3_600;
+
+/// The seconds of each where the option isn't given.
+const SECONDS: usize = 10;
+
+/// The command's options.
+pub fn serve_options<'a>(alloc: Global, parser: Parser<'a>) -> Result<Parser<'a>, AllocError> {
+    let parser = parser.arg(
+        option(
+            alloc,
+            LISTEN,
+            "ADDR:PORT",
+            "an address and a port to listen on, by UDP and TCP; it may be given again for further ones",
+        )
+        .action(ArgAction::Append)
+        .required(true),
+    )?;
+    let parser = parser.arg(option(
+        alloc,
+        WORKERS,
+        "N",
+        "how many workers there are, each with a thread for TCP and one for UDP of each address; at most 63 threads",
+    )
+    .default_value("4"))?;
+    let parser = parser.arg(option(
+        alloc,
+        KEEP,
+        "N",
+        "how many older versions are kept beside the newest, at most 8",
+    )
+    .default_value("8"))?;
+    let parser = parser.arg(option(
+        alloc,
+        ALLOW,
+        "LIST",
+        "the addresses that may update and transfer, with commas between them; '' for nobody",
+    )
+    .default_value("127.0.0.1,::1"))?;
+    let parser = parser.arg(option(
+        alloc,
+        COUNT,
+        "N",
+        "after how many datagrams and connections, together, a worker ends; else never",
+    ))?;
+    with_bounds(alloc, parser)
+}
+
+/// The options that bound connections.
+fn with_bounds<'a>(alloc: Global, parser: Parser<'a>) -> Result<Parser<'a>, AllocError> {
+    let parser = parser.arg(option(
+        alloc,
+        CONNECTIONS,
+        "N",
+        "how many connections a worker has open at most, from 1 to 100000",
+    )
+    .default_value("1000"))?;
+    let parser = parser.arg(option(
+        alloc,
+        IDLE,
+        "SECONDS",
+        "how long a connection may be idle, from 1 to 3600",
+    )
+    .default_value("10"))?;
+    let parser = parser.arg(option(
+        alloc,
+        MESSAGE,
+        "SECONDS",
+        "how long a request may take to come whole, from 1 to 3600",
+    )
+    .default_value("10"))?;
+    parser.arg(option(
+        alloc,
+        REPLY,
+        "SECONDS",
+        "how long the taking of a reply, or of a part of it, may take, from 1 to 3600",
+    )
+    .default_value("10"))
+}
+
+/// What the options ask for.
+pub fn serve_of<'a>(
+    alloc: Global,
+    found: &ArgMatches<'a>,
+    zone: Source<'a>,
+    origin: Name,
+) -> Result<Serve<'a>, CommandFault<'a>> {
+    let listen = listened(alloc, found)?;
+    let workers = number_for(found.get_str(WORKERS), WORKERS, 1, MAX_WORKERS, 4)?;
+    if listen.len() >= MAX_THREADS || workers * (listen.len() + 1) > MAX_THREADS {
+        return Err(CommandFault::Threads(workers, listen.len()));
+    }
+    let keep = number_for(found.get_str(KEEP), KEEP, 0, MAX_KEEP, MAX_KEEP)?;
+    let allowed = addresses_of(alloc, found.get_str(ALLOW).unwrap_or(""))?;
+    let most = count_of(found.get_str(COUNT))?;
+    let places = number_for(
+        found.get_str(CONNECTIONS),
+        CONNECTIONS,
+        1,
+        MAX_CONNECTIONS,
+        1000,
+    )?;
+    let limits = limits_of(found)?;
+    Ok(Serve {
+        zone,
+        origin,
+        listen,
+        workers,
+        keep,
+        most,
+        allowed,
+        places,
+        limits,
+    })
+}
+
+/// The addresses and ports to listen on.
+fn listened<'a>(
+    alloc: Global,
+    found: &ArgMatches<'a>,
+) -> Result<Vec<SocketAddr>, CommandFault<'a>> {
+    let mut listen = Vec::new(alloc);
+    let Some(words) = found.get_strs(LISTEN) else {
+        return Ok(listen);
+    };
+    for word in words {
+        let Ok(address) = word.parse::<SocketAddr>() else {
+            return Err(CommandFault::Listen(*word));
+        };
+        if listen.push(address).is_err() {
+            return Err(CommandFault::from(AllocError));
+        }
+    }
+    Ok(listen)
+}
+
+/// How long connections may wait for their peers.
+fn limits_of<'a>(found: &ArgMatches<'a>) -> Result<Limits, CommandFault<'a>> {
+    Ok(Limits {
+        idle: nanos_for(found.get_str(IDLE), IDLE)?,
+        message: nanos_for(found.get_str(MESSAGE), MESSAGE)?,
+        reply: nanos_for(found.get_str(REPLY), REPLY)?,
+    })
+}
+
+/// A time in nanoseconds, by the seconds that a word gives an option.
+fn nanos_for<'a>(word: Option<&'a str>, option: &'static str) -> Result<u64, CommandFault<'a>> {
+    let seconds = number_for(word, option, 1, MAX_SECONDS, SECONDS)?;
+    Ok(seconds as u64 * 1_000_000_000)
+}
+
+/// After how many datagrams and connections a worker ends, by the option's word; without one it never does.
+fn count_of<'a>(word: Option<&'a str>) -> Result<u64, CommandFault<'a>> {
+    let Some(word) = word else {
+        return Ok(u64::MAX);
+    };
+    word.parse::<u64>().map_err(|_| CommandFault::Number {
+        option: COUNT,
+        word,
+        least: 0,
+        most: u64::MAX,
+    })
+}
+
+/// The addresses of a list with commas between them; none of an empty one.
+fn addresses_of<'a>(alloc: Global, list: &'a str) -> Result<Vec<IpAddr>, CommandFault<'a>> {
+    let mut addresses = Vec::new(alloc);
+    if list.is_empty() {
+        return Ok(addresses);
+    }
+    for word in list.split(',') {
+        let Ok(address) = word.parse::<IpAddr>() else {
+            return Err(CommandFault::Allow(word));
+        };
+        if addresses.push(address).is_err() {
+            return Err(CommandFault::from(AllocError));
+        }
+    }
+    Ok(addresses)
+}

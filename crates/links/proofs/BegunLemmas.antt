@@ -1,0 +1,18 @@
+-- Since when a peer is waited for.
+use Rattle.std.proofs.Common.{◌≡◌, ◌==◌, refl, ℕ, Bool, true, false, if◌then◌else◌, ◌∙◌, inl, inr}
+use Rattle.std.proofs.lemmas.Bool.{eqb-true}
+use Rattle.links.specs.Deadlines.{IsBegun, begun_behind}
+
+-- over two shares at one time
+pub begun_more : (now p begun q mid r later : ℕ) → IsBegun now p begun q mid → IsBegun now q mid r later → IsBegun now p begun r later
+begun_more now p begun q mid r later first (inl is) = inl is
+begun_more now p begun q mid r later (inl was) (inr second) = inl (second.1 ∙ was)
+begun_more now p begun q mid r later (inr first) (inr second) = inr (second.0 ∙ first.0, second.1 ∙ first.1)
+
+-- over one
+by_test : (now passed begun more later : ℕ) (b : Bool) → (more == passed) ≡ b → later ≡ (if b then begun else now) → IsBegun now passed begun more later
+by_test now passed begun more later true test is = inr (eqb-true more passed test, is)
+by_test now passed begun more later false test is = inl is
+
+pub begun_once : (now passed begun more later : ℕ) → later ≡ begun_behind passed more begun now → IsBegun now passed begun more later
+begun_once now passed begun more later is = by_test now passed begun more later (more == passed) refl is

@@ -1,0 +1,4 @@
+pub mod BegunLemmas
+pub mod OwnLemmas
+pub mod SweepLemmas
+pub mod LenLemmas

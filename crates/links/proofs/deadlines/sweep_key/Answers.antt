@@ -1,0 +1,14 @@
+-- One that is over is counted.
+use Rattle.std.proofs.Common.{refl, sym, ◌∙◌}
+use Rattle.slab.specs.Slab.{slab_len}
+use Rattle.links.proofs.LenLemmas.{where_some, counted_none, counted_late}
+use Rattle.links.proofs.deadlines.sweep_key.Goals as goal
+
+pub returns-in_default-clause-ended : goal.returns-in_default-clause-ended
+returns-in_default-clause-ended g c = counted_none c.args.ends.now (slab_len c.args.links.now) (slab_len c.args.links.now) refl
+
+pub returns-then-not-is_over-clause-ended : goal.returns-then-not-is_over-clause-ended
+returns-then-not-is_over-clause-ended g c = counted_none c.args.ends.now (slab_len c.args.links.now) (slab_len c.args.links.now) refl
+
+pub returns-clause-ended : goal.returns-clause-ended
+returns-clause-ended g c = counted_late c.args.ends.now c.count_late.new.self (slab_len c.args.links.now) (slab_len c.try_remove.new.self) c.awaits.result c.count_late.ensures (where_some c.try_remove.result c.in-Some.link.now (c.try_remove.ensures.value ∙ sym c.in-Some.ensures) c.try_remove.ensures.len)

@@ -1,0 +1,39 @@
+-- One key behind the other.
+use Rattle.std.proofs.Common.{refl, option_map, arith, get_or, ◌∷◌, []}
+use Rattle.conversation.proofs.TurnLemmas.{begins_itself, begins_more, grows_itself, grows_more}
+use Rattle.slab.specs.Slab.{get, slab_len}
+use Rattle.links.specs.Links.{seen_of}
+use Rattle.links.proofs.LenLemmas.{counted_none, counted_then}
+use Rattle.links.proofs.OwnLemmas.{own_same, own_each}
+use Rattle.links.proofs.serve.serve_ready.Goals as goal
+use Rattle.links.proofs.serve.serve_ready.Goals.{then-serve_key+in-Ok, else-serve_key}
+
+pub returns-in_err-reserve-clause-own : goal.returns-in_err-reserve-clause-own
+returns-in_err-reserve-clause-own g c = λ key.
+    own_same g.A.Answering.is_reply c.args.now (g.A.Answering.seen c.args.answering.now) (g.A.Answering.seen c.args.answering.now) (option_map (seen_of g.S.Blocking.octets) (get c.args.links.now key)) (grows_itself _)
+
+pub returns-in_err-reserve-clause-ended : goal.returns-in_err-reserve-clause-ended
+returns-in_err-reserve-clause-ended g c = counted_none c.args.ends.now (slab_len c.args.links.now) (slab_len c.args.links.now) refl
+
+pub loop-key-init : goal.loop-key-init
+loop-key-init g c = record {
+  grows = grows_itself _;
+  own = λ key. own_same g.A.Answering.is_reply c.args.now (g.A.Answering.seen c.args.answering.now) (g.A.Answering.seen c.args.answering.now) (option_map (seen_of g.S.Blocking.octets) (get c.args.links.now key)) (grows_itself _);
+  ended = counted_none c.args.ends.now (slab_len c.args.links.now) (slab_len c.args.links.now) refl;
+  next = begins_itself _;
+  room = omega (arith, c.in_ok-reserve.ensures.ok);
+}
+
+pub loop-key-preserved : goal.loop-key-preserved
+loop-key-preserved g c =
+    let so_far = c.loop-key.invariant in
+    let seen = g.A.Answering.seen c.args.answering.now in
+    let mid = g.A.Answering.seen c.loop-key.answering in
+    let later = g.A.Answering.seen c.serve_key.new.answering in
+    record {
+      grows = grows_more _ _ _ so_far.grows c.serve_key.ensures.grows;
+      own = own_each g.A.Answering.is_reply (seen_of g.S.Blocking.octets) c.args.now seen mid later (λ key. get c.args.links.now key) (λ key. get c.loop-key.links key) (λ key. get c.serve_key.new.links key) _ c.serve_key.ensures.grows so_far.own c.serve_key.ensures.own c.serve_key.ensures.others;
+      ended = counted_then c.args.ends.now c.loop-key.ends c.serve_key.new.ends (slab_len c.args.links.now) (slab_len c.loop-key.links) (slab_len c.serve_key.new.links) so_far.ended c.serve_key.ensures.ended;
+      next = elim c.if-serve_key.branch [ then-serve_key+in-Ok w ↦ rw w.next-is (begins_more c.reserve.new.self.items c.loop-key.next.items w.push.new.self.items so_far.next (get_or c.args.keys.now c.loop-key.key-index 0 ∷ [], w.in-Ok.ensures.items)) | else-serve_key w ↦ rw w.next-is so_far.next ];
+      room = elim c.if-serve_key.branch [ then-serve_key+in-Ok w ↦ rw w.next-is (omega (arith, w.in-Ok.ensures.len, w.push.ensures.capacity)) | else-serve_key w ↦ rw w.next-is (omega arith) ];
+    }

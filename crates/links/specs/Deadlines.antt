@@ -1,0 +1,54 @@
+-- When a connection is over (RFC 7766, 6.2.3; own). Times are nanoseconds of one clock.
+use Rattle.std.specs.Prelude.{◌≡◌, ℕ, ◌-◌, ◌<◌, ◌≤◌, ◌⊎◌, Bool, nat_le, ◌==◌, Option, None, Some, if◌then◌else◌}
+use Rattle.connections.specs.Kept.{Kept, awaited}
+use Rattle.connections.specs.declared.awaited.Awaited.{Awaited}
+use Rattle.connections.specs.declared.awaited.Awaited.TheVariants.{Request, Rest, Taking}
+use Rattle.links.specs.declared.limits.Limits.{Limits}
+use Rattle.links.specs.declared.link.Link.{Link}
+
+-- how long a peer may take: to ask again, to bring a request whole that is begun, to take what is written to it
+abbrev pub patience : Limits → Awaited → ℕ
+patience limits Request = limits.idle
+patience limits Rest = limits.message
+patience limits Taking = limits.reply
+
+-- whether a connection is over at a time, of which something was brought to its end last at another: what it waits for since then has
+-- taken as long as it may
+abbrev pub is_over : Limits → ℕ → ℕ → Kept → Bool
+is_over limits now begun kept = nat_le (patience limits (awaited kept)) (now - begun)
+
+-- since when what a connection waits for is waited for, behind a share of its work at a time: since then where its peer has brought something
+-- to its end, be that by a request or by the taking of a reply, and else as before; octets alone change nothing
+abbrev pub begun_behind : ℕ → ℕ → ℕ → ℕ → ℕ
+begun_behind passed more begun now = if more == passed then begun else now
+
+-- the same over several shares at one time
+abbrev pub IsBegun : ℕ → ℕ → ℕ → ℕ → ℕ → Type 0
+IsBegun now passed begun more later = (later ≡ now) ⊎ ((more ≡ passed) × (later ≡ begun))
+
+-- since when a connection that waits for a request does so
+abbrev pub idle_by : Awaited → ℕ → Option ℕ
+idle_by Request begun = Some begun
+idle_by Rest begun = None
+idle_by Taking begun = None
+
+module _ {S M : Type 0} where
+  -- what a sweep leaves under a key
+  abbrev pub kept_at : Limits → ℕ → Option (Link S M) → Option (Link S M)
+  kept_at limits now None = None
+  kept_at limits now (Some link) = if is_over limits now link.begun link.conversation then None else Some link
+
+  -- since when the connection under a key, if there is one, is idle
+  abbrev pub idle_since : Option (Link S M) → Option ℕ
+  idle_since None = None
+  idle_since (Some link) = idle_by (awaited link.conversation) link.begun
+
+-- of numbers that some keys have, that of a key is least; or none has one
+abbrev pub IsLeast : (ℕ → Option ℕ) → Option ℕ → Type 0
+IsLeast numbers None = (key : ℕ) → numbers key ≡ None
+IsLeast numbers (Some key) = (least : ℕ) × (numbers key ≡ Some least) × ((other number : ℕ) → numbers other ≡ Some number → least ≤ number)
+
+-- the same of the keys below an end, with the number
+abbrev pub IsLeastBelow : (ℕ → Option ℕ) → ℕ → Option (ℕ × ℕ) → Type 0
+IsLeastBelow numbers end None = (key : ℕ) → key < end → numbers key ≡ None
+IsLeastBelow numbers end (Some least) = (numbers least.0 ≡ Some least.1) × ((other number : ℕ) → other < end → numbers other ≡ Some number → least.1 ≤ number)

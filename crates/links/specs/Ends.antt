@@ -1,0 +1,35 @@
+-- How connections have ended, counted (own).
+use Rattle.std.specs.Prelude.{◌≡◌, ℕ, ◌+◌, ◌-◌, ◌^◌, min}
+use Rattle.connections.specs.declared.awaited.Awaited.{Awaited}
+use Rattle.connections.specs.declared.awaited.Awaited.TheVariants.{Request, Rest, Taking}
+use Rattle.connections.specs.declared.stream_end.StreamEnd.{StreamEnd}
+use Rattle.connections.specs.declared.stream_end.StreamEnd.TheVariants.{Clean, Torn, Device, Spent, NoMemory}
+use Rattle.links.specs.declared.ends.Ends.{Ends}
+
+-- a count with one more, up to 2^64 - 1
+abbrev pub one_up : ℕ → ℕ
+one_up count = min (count + 1) (2 ^ 64 - 1)
+
+-- one more has ended so
+abbrev pub one_more : StreamEnd → Ends → Ends
+one_more Clean ends = record ends { clean = one_up ends.clean }
+one_more Torn ends = record ends { torn = one_up ends.torn }
+one_more Device ends = record ends { device = one_up ends.device }
+one_more Spent ends = record ends { spent = one_up ends.spent }
+one_more NoMemory ends = record ends { no_memory = one_up ends.no_memory }
+
+-- one more is over, by what it waited for
+abbrev pub one_late : Awaited → Ends → Ends
+one_late Request ends = record ends { idle = one_up ends.idle }
+one_late Rest ends = record ends { message = one_up ends.message }
+one_late Taking ends = record ends { reply = one_up ends.reply }
+
+-- so many more have ended, and each is counted, by how it did, or by what it waited for too long
+pub data Counts (old : Ends) : ℕ → Ends → Type 0 where
+  none : Counts old 0 old
+  one : {number more : ℕ} {ends new : Ends} (end : StreamEnd) → Counts old number ends → more ≡ number + 1 → new ≡ one_more end ends → Counts old more new
+  late : {number more : ℕ} {ends new : Ends} (awaited : Awaited) → Counts old number ends → more ≡ number + 1 → new ≡ one_late awaited ends → Counts old more new
+
+-- as many are counted as there were connections more before
+abbrev pub AreCounted : Ends → Ends → ℕ → ℕ → Type 0
+AreCounted old new before left = (number : ℕ) × Counts old number new × (left + number ≡ before)

@@ -1,0 +1,3 @@
+pub mod Deadlines
+pub mod Ends
+pub mod Links

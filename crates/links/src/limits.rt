@@ -1,0 +1,12 @@
+//! How long a connection may wait for its peer.
+
+/// How long a connection may wait for its peer, each in nanoseconds (RFC 7766, 6.2.3; own).
+#[derive(Clone, Copy)]
+pub struct Limits {
+    /// For the next request, of which nothing has come.
+    pub idle: u64,
+    /// For a request that is begun.
+    pub message: u64,
+    /// For the taking of what is to be written.
+    pub reply: u64,
+}

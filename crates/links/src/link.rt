@@ -1,0 +1,114 @@
+//! A connection with who asks on it.
+ghost use Rattle.std.specs.Prelude.{◌≡◌, ◌<◌, ◌≤◌, length, IfErr, OnOk};
+ghost use Rattle.dns_message.specs.Message.{message_limit};
+ghost use Rattle.conversation.specs.Served.{Grows};
+ghost use Rattle.connections.specs.Kept.{told_by, nothing_kept};
+ghost use Rattle.connections.specs.Told.{Writes};
+ghost use Rattle.connections.specs.Going.{Goes, Stops};
+ghost use Rattle.links.specs.Deadlines.{patience, is_over, begun_behind};
+
+use crate::limits::Limits;
+use connections::{
+    Answering, Awaited, Blocking, Conversation, Flow, Messages, StreamEnd, serve_some,
+};
+use serve_core::Peer;
+use std::alloc::Global;
+use std::net::SocketAddr;
+use std::sync::Wait;
+
+/// A connection: its stream, what is held of it and is to be written to it, who asks, and since when its peer is waited for, in nanoseconds of
+/// a worker's clock.
+#[derive(Drop)]
+pub struct Link<S: Drop, M: Messages> {
+    pub(crate) stream: S,
+    pub(crate) conversation: Conversation<M>,
+    pub(crate) peer: Peer,
+    pub(crate) from: SocketAddr,
+    pub(crate) begun: u64,
+}
+
+impl<S: Drop, M: Messages> Link<S, M> {
+    /// A connection of which nothing is read yet: its stream, who asks on it, from where, and the time.
+    pub fn new(stream: S, alloc: Global, peer: Peer, from: SocketAddr, now: u64) -> Link<S, M>
+        ensures stream { result.stream ≡ stream }
+        ensures fresh { result.conversation ≡ nothing_kept }
+        ensures peer { result.peer ≡ peer }
+        ensures from { result.from ≡ from }
+        ensures begun { result.begun ≡ now }
+    {
+        Link {
+            stream,
+            conversation: Conversation::new(alloc),
+            peer,
+            from,
+            begun: now,
+        }
+    }
+
+    /// Its stream.
+    pub fn stream(&self) -> &S
+        ensures { result.now ≡ self.now.stream }
+    {
+        &self.stream
+    }
+
+    /// Whether it is over at a time: its peer has taken as long as it may to bring to an end what is waited for.
+    pub(crate) fn is_over(&self, limits: Limits, now: u64) -> bool
+        ensures { result ≡ is_over limits now self.now.begun self.now.conversation }
+    {
+        patience(limits, self.conversation.awaits()) <= now.saturating_sub(self.begun)
+    }
+}
+
+/// How long a peer may take for what is waited for.
+fn patience(limits: Limits, awaited: Awaited) -> u64
+    ensures { result ≡ patience limits awaited }
+{
+    match awaited {
+        Awaited::Request => limits.idle,
+        Awaited::Rest => limits.message,
+        Awaited::Taking => limits.reply,
+    }
+}
+
+/// Since when a peer is waited for behind a share: since then where it has brought something to its end, else as before.
+fn begun_by(passed: u64, more: u64, begun: u64, now: u64) -> u64
+    ensures { result ≡ begun_behind passed more begun now }
+{
+    if more == passed {
+        return begun;
+    }
+    now
+}
+
+/// Serves a connection by a share, as its peer, at a time. From then on its peer is waited for anew where it has brought something to its end.
+pub(crate) fn serve_link<R: Wait, S: Blocking + Drop, M: Messages, A: Answering<M>>(
+    rt: &R,
+    answering: &mut A,
+    link: &mut Link<S, M>,
+    now: u64,
+    room: &mut [u8],
+    out: &mut [u8],
+) -> Result<Flow, StreamEnd>
+    requires room { 0 < length room.old }
+    requires out { message_limit ≤ length out.old }
+    ensures peer { link.new.peer ≡ link.old.peer }
+    ensures grows { Grows (A.seen answering.new) (A.seen answering.old) }
+    ensures goes { OnOk result (Goes (A.is_reply link.old.peer) (A.seen answering.old) (told_by link.old.conversation (S.octets link.old.stream)) (A.seen answering.new) (told_by link.new.conversation (S.octets link.new.stream))) }
+    ensures stops { IfErr result (λ end. Stops (A.is_reply link.old.peer) end (A.seen answering.old) (told_by link.old.conversation (S.octets link.old.stream)) (A.seen answering.new) (S.octets link.new.stream)) }
+    ensures written { Writes (S.octets link.old.stream) (S.octets link.new.stream) }
+    ensures begun { link.new.begun ≡ begun_behind link.old.conversation.passed link.new.conversation.passed link.old.begun now }
+{
+    answering.turn_to(link.peer, link.from);
+    let passed = link.conversation.passed();
+    let served = serve_some(
+        rt,
+        answering,
+        &mut link.conversation,
+        &mut link.stream,
+        room,
+        out,
+    );
+    link.begun = begun_by(passed, link.conversation.passed(), link.begun, now);
+    served
+}

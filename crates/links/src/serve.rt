@@ -1,0 +1,79 @@
+//! Connections that are served each under its key.
+ghost use Rattle.std.specs.Prelude.{◌≡◌, ◌≢◌, ◌<◌, ◌≤◌, ℕ, length, option_map, OnErr};
+ghost use Rattle.dns_message.specs.Message.{message_limit};
+ghost use Rattle.conversation.specs.Served.{BeginsWith, Grows};
+ghost use Rattle.slab.specs.Slab.{get, slab_len};
+ghost use Rattle.links.specs.Ends.{AreCounted};
+ghost use Rattle.links.specs.Links.{OwnServed, seen_of};
+
+use crate::ends::Ends;
+use crate::link::{Link, serve_link};
+use connections::{Answering, Blocking, Messages};
+use slab::Slab;
+use std::alloc::AllocError;
+use std::sync::Wait;
+
+/// Serves the connection under a key, if there is one, by a share, and tells whether it could go on. One that ends is removed, and counted by
+/// how it ended.
+fn serve_key<R: Wait, S: Blocking + Drop, M: Messages, A: Answering<M>>(
+    rt: &R,
+    answering: &mut A,
+    links: &mut Slab<Link<S, M>>,
+    key: usize,
+    ends: &mut Ends,
+    now: u64,
+    room: &mut [u8],
+    out: &mut [u8],
+) -> bool
+    requires room { 0 < length room.old }
+    requires out { message_limit ≤ length out.old }
+    ensures grows { Grows (A.seen answering.new) (A.seen answering.old) }
+    ensures own { OwnServed A.is_reply now (A.seen answering.old) (option_map (seen_of S.octets) (get links.old key)) (A.seen answering.new) (option_map (seen_of S.octets) (get links.new key)) }
+    ensures others { (other : ℕ) → other ≢ key → get links.new other ≡ get links.old other }
+    ensures ended { AreCounted ends.old ends.new (slab_len links.old) (slab_len links.new) }
+{
+    let Some(link) = links.get_mut(key) else {
+        return false;
+    };
+    match serve_link(rt, answering, link, now, room, out) {
+        Ok(flow) => !flow.is_blocked(),
+        Err(end) => {
+            links.try_remove(key);
+            ends.count(end);
+            false
+        }
+    }
+}
+
+/// Serves the connections under some keys, each by a share, at a time, and puts behind `next` those keys whose connections could go on. One
+/// that ends is removed, and counted by how it ended. Each is answered by its own peer's rights, on its own stream; none appears, and none is
+/// dropped that hasn't ended, whatever the keys. Where there is no memory for the keys nothing is served.
+pub fn serve_ready<R: Wait, S: Blocking + Drop, M: Messages, A: Answering<M>>(
+    rt: &R,
+    answering: &mut A,
+    links: &mut Slab<Link<S, M>>,
+    keys: &[usize],
+    next: &mut Vec<usize>,
+    ends: &mut Ends,
+    now: u64,
+    room: &mut [u8],
+    out: &mut [u8],
+) -> Result<(), AllocError>
+    requires room { 0 < length room.old }
+    requires out { message_limit ≤ length out.old }
+    ensures grows { Grows (A.seen answering.new) (A.seen answering.old) }
+    ensures own { (key : ℕ) → OwnServed A.is_reply now (A.seen answering.old) (option_map (seen_of S.octets) (get links.old key)) (A.seen answering.new) (option_map (seen_of S.octets) (get links.new key)) }
+    ensures ended { AreCounted ends.old ends.new (slab_len links.old) (slab_len links.new) }
+    ensures same { OnErr result (links.new ≡ links.old) }
+    ensures next { BeginsWith next.new.items next.old.items }
+{
+    next.reserve(keys.len())?;
+    for key in keys {
+        if serve_key(rt, answering, links, *key, ends, now, room, out) {
+            let Ok(()) = next.push(*key) else {
+                unreachable!()
+            };
+        }
+    }
+    Ok(())
+}

@@ -1,0 +1,107 @@
+//! A TCP connection that tells whether it would block.
+ghost use Rattle.std.specs.Prelude.{◌≡◌, ◌<◌, ◌≤◌, ◌-◌, ◌^◌, List, [], length, take, None, IfOk, IfErr, OnOk, OnErr};
+ghost use Rattle.connections.specs.declared.blocking.Fault.{Fault as FaultOf};
+
+use connections::{Blocking, Fault};
+use mio::net::TcpStream;
+use std::io::{self, ErrorKind, Read, Write};
+use std::net::SocketAddr;
+use turns::Remote;
+
+/// A connection, as a stream of which contracts know no octets.
+#[derive(Drop)]
+pub struct TcpPeer {
+    pub(crate) inner: TcpStream,
+    from: SocketAddr,
+    faults: u64,
+}
+
+/// What a call that has failed did so for.
+#[derive(Clone, Copy)]
+enum Cause {
+    /// It would block.
+    Blocked,
+    /// A signal has interrupted it, before it had done anything.
+    Interrupted,
+    /// The connection has failed.
+    Failed,
+}
+
+/// For what a call has failed.
+fn cause_of(fault: &io::Error) -> Cause {
+    match fault.kind() {
+        ErrorKind::WouldBlock => Cause::Blocked,
+        ErrorKind::Interrupted => Cause::Interrupted,
+        _ => Cause::Failed,
+    }
+}
+
+impl TcpPeer {
+    /// A connection that doesn't wait, and comes from an address.
+    pub fn new(inner: TcpStream, from: SocketAddr) -> TcpPeer
+        ensures none { result.faults ≡ 0 }
+        ensures from { result.from ≡ from }
+    {
+        TcpPeer {
+            inner,
+            from,
+            faults: 0,
+        }
+    }
+
+    /// Counts a failure.
+    fn fail(&mut self) -> Fault
+        ensures counted { self.old.faults < 2 ^ 64 - 1 → self.old.faults < self.new.faults }
+        ensures failed { result ≡ FaultOf.Failed }
+    {
+        self.faults = self.faults.saturating_add(1);
+        Fault::Failed
+    }
+}
+
+impl Remote for TcpPeer {
+    ghost origin = { λ peer. peer.from };
+
+    fn address(&self) -> SocketAddr {
+        self.from
+    }
+}
+
+impl Blocking for TcpPeer {
+    ghost octets = { λ _. None };
+
+    ghost faults = { λ peer. peer.faults };
+
+    // What a signal interrupts is done again.
+    fn read(&mut self, buf: &mut [u8]) -> Result<usize, Fault> {
+        for _again in 0..u64::MAX {
+            let fault = match self.inner.read(buf) {
+                Ok(count) => return Ok(count),
+                Err(fault) => fault,
+            };
+            match cause_of(&fault) {
+                Cause::Blocked => return Err(Fault::Blocked),
+                Cause::Interrupted => {}
+                Cause::Failed => return Err(self.fail()),
+            }
+        }
+        Err(self.fail())
+    }
+
+    // A write that takes nothing is a failure.
+    fn write(&mut self, buf: &[u8]) -> Result<usize, Fault> {
+        for _again in 0..u64::MAX {
+            let fault = match self.inner.write(buf) {
+                Ok(0) => return Err(self.fail()),
+                Ok(count) => return Ok(count),
+                Err(fault) => fault,
+            };
+            match cause_of(&fault) {
+                Cause::Blocked => return Err(Fault::Blocked),
+                Cause::Interrupted => {}
+                Cause::Failed => return Err(self.fail()),
+            }
+        }
+        Err(self.fail())
+    }
+}

@@ -1,0 +1,165 @@
+//! A transfer of several messages that goes on from a place, beside the same one that `conversation` writes at once.
+use connections::serve_stream;
+use conversation::{Counted, OpenGate};
+use dns_engine::{FirstZone, Naming, VersionCell, VersionPublisher, VersionReader};
+use dns_name::Name;
+use dns_rdata::{RData, RRset, RType, Ttl};
+use played_zones::{Kept, Play, Played, asker, is_played, octets_of, server_of};
+use serve_core::{Peer, Transport};
+use std::alloc::Global;
+use std::sync::Wait;
+use told_streams::{Tape, answer_tape};
+use zone_replies::Replies;
+use zone_service::{Asked, Server};
+use zone_tree::Zone;
+
+/// The set of an owner in full or below `example.test.`, of one record.
+fn set_of(alloc: Global, owner: &str, rtype: u16, octets: &[u8]) -> Option<RRset> {
+    let origin = Name::from_text(b"example.test.", &Name::root()).ok()?;
+    let owner = Name::from_text(owner.as_bytes(), &origin).ok()?;
+    let data = RData::from_wire(alloc, RType(rtype), octets).ok()?;
+    RRset::new(alloc, &owner, Ttl(3600), data).ok()
+}
+
+/// A TXT of fifteen strings of 255 octets, and one of 200.
+fn long_text(alloc: Global) -> Option<Vec<u8>> {
+    let mut octets = Vec::new(alloc);
+    for _string in 0..15 {
+        octets.push(255).ok()?;
+        octets.extend_from_slice(&[b'x'; 255]).ok()?;
+    }
+    octets.push(200).ok()?;
+    octets.extend_from_slice(&[b'y'; 200]).ok()?;
+    Some(octets)
+}
+
+/// A zone of a hundred kilobytes.
+fn big_zone(alloc: Global) -> Option<Zone> {
+    let mut sets = Vec::new(alloc);
+    let soa =
+        "036e7331076578616d706c650474657374000561646d696e076578616d706c650474657374000000000100001c2000000384001275000000012c";
+    let ns = octets_of(alloc, "036e7331076578616d706c65047465737400")?;
+    sets.push(set_of(alloc, "example.test.", 2, &ns)?).ok()?;
+    sets.push(set_of(alloc, "example.test.", 6, &octets_of(alloc, soa)?)?)
+        .ok()?;
+    let text = long_text(alloc)?;
+    for letter in b'a'..=b'z' {
+        let owner = [letter];
+        let owner = str::from_utf8(&owner).ok()?;
+        sets.push(set_of(alloc, owner, 1, &[192, 0, 2, letter])?)
+            .ok()?;
+        sets.push(set_of(alloc, owner, 16, &text)?).ok()?;
+    }
+    Zone::new(alloc, sets).ok()
+}
+
+/// AXFR, a query for the SOA, and AXFR again (RFC 5936, 2.1).
+const REQUESTS: &str =
+    "001e123400000001000000000000076578616d706c6504746573740000fc0001001e123401000001000000000000076578616d706c6504746573740000060001001e123500000001000000000000076578616d706c6504746573740000fc0001";
+
+/// How many octets can be written.
+const ROOM: usize = 300_000;
+
+/// What `conversation` writes, by a reader that comes back.
+fn at_once<R: Wait, Z: FirstZone, N: Naming>(
+    rt: &R,
+    alloc: Global,
+    server: &Server<'_, Z, N>,
+    readers: &mut Vec<VersionReader<N>>,
+    peer: Peer,
+) -> Option<Tape> {
+    let tape = Tape::new(alloc, octets_of(alloc, REQUESTS)?, ROOM, 1_000).ok()?;
+    let log = Kept::new(alloc);
+    let mut asked = Asked::new(alloc, server, readers.pop()?, &log, peer, asker(4711));
+    let mut request = [0u8; 65_535];
+    let mut out = [0u8; 65_535];
+    let mut frame = [0u8; 65_537];
+    let (_end, tape) = answer_tape(
+        rt,
+        &mut asked,
+        tape,
+        &OpenGate,
+        &mut request,
+        &mut out,
+        &mut frame,
+    );
+    readers.push(asked.into_reader()).ok()?;
+    Some(tape)
+}
+
+/// What a connection writes, by a reader that comes back.
+fn by_places<R: Wait, Z: FirstZone, N: Naming>(
+    rt: &R,
+    alloc: Global,
+    server: &Server<'_, Z, N>,
+    readers: &mut Vec<VersionReader<N>>,
+    peer: Peer,
+) -> Option<Tape> {
+    let tape = Tape::new(alloc, octets_of(alloc, REQUESTS)?, ROOM, 1_000).ok()?;
+    let log = Kept::new(alloc);
+    let mut replies = Replies::new(alloc, server, readers.pop()?, &log, peer, asker(4711));
+    let mut room = [0u8; 4_096];
+    let mut out = [0u8; 65_535];
+    let mut stream = Counted::new(tape);
+    let _end = serve_stream(rt, alloc, &mut replies, &mut stream, &mut room, &mut out);
+    readers.push(replies.into_reader()).ok()?;
+    Some(stream.inner)
+}
+
+/// Whether both write the same, and more than two zones.
+fn is_same<R: Wait, Z: FirstZone, N: Naming>(
+    rt: &R,
+    alloc: Global,
+    server: &Server<'_, Z, N>,
+    readers: &mut Vec<VersionReader<N>>,
+) -> Option<bool> {
+    let peer = Peer::over(Transport::Tcp, true);
+    let one = at_once(rt, alloc, server, readers, peer)?;
+    let other = by_places(rt, alloc, server, readers, peer)?;
+    Some(one.written() == other.written() && one.written().len() > 200_000)
+}
+
+/// Both ways.
+struct BothWays;
+
+impl Play for BothWays {
+    fn play<R: Wait, Z: FirstZone, N: Naming>(
+        &self,
+        rt: &R,
+        alloc: Global,
+        cell: &VersionCell<Z, N>,
+        publisher: VersionPublisher<Z, N>,
+        mut readers: Vec<VersionReader<N>>,
+    ) -> Played<Z, N> {
+        let Some(reader) = readers.pop() else {
+            return Played {
+                told: None,
+                publisher,
+                readers,
+            };
+        };
+        let (told, publisher, reader) = match server_of(cell, publisher, reader) {
+            Ok(server) => {
+                let told = is_same(rt, alloc, &server, &mut readers);
+                let (publisher, reader) = server.finish();
+                (told, publisher, reader)
+            }
+            Err(refused) => (None, refused.publisher, refused.reader),
+        };
+        let _ = readers.push(reader);
+        Played {
+            told,
+            publisher,
+            readers,
+        }
+    }
+}
+
+#[test]
+fn a_transfer_goes_on_from_its_places(rt: HostRuntime) {
+    let told = match big_zone(rt.alloc()) {
+        Some(zone) => is_played(&rt, rt.alloc(), zone, &BothWays),
+        None => None,
+    };
+    assert_eq!(rt; told, Some(true));
+}

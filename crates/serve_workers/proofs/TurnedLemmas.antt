@@ -1,0 +1,20 @@
+-- Turns that are taken one behind the other.
+use Rattle.std.proofs.Common.{ℕ, List, Option}
+use Rattle.conversation.specs.Served.{Learned}
+use Rattle.std.specs.declared.net.ip_addr.IpAddr.{IpAddr}
+use Rattle.std.specs.declared.net.socket_addr.SocketAddr.{SocketAddr}
+use Rattle.serve_core.specs.declared.peer.Peer.{Peer}
+use Rattle.slab.specs.Slab.{Slab}
+use Rattle.links.specs.declared.limits.Limits.{Limits}
+use Rattle.links.specs.declared.link.Link.{Link}
+use Rattle.turns.specs.Steps.{HasTurned, Turned, unturned, turned}
+
+module _ {S M T : Type 0} (origin : S → SocketAddr) (octets : S → Option (List ℕ × List ℕ)) (IsReply : Peer → Learned T → Learned T → List ℕ → List (List ℕ) → Type 0) (allowed : List IpAddr) (limits : Limits) where
+  -- turns behind others
+  pub turned_more : (seen mid later : Learned T) (old between new : Slab (Link S M)) → Turned origin octets IsReply allowed limits seen old mid between → Turned origin octets IsReply allowed limits mid between later new → Turned origin octets IsReply allowed limits seen old later new
+  turned_more seen mid later old between new so_far unturned = so_far
+  turned_more seen mid later old between new so_far (turned now more last) = turned now (turned_more seen mid _ old between _ so_far more) last
+
+  -- one turn alone
+  pub one_turned : (now : ℕ) (seen later : Learned T) (old new : Slab (Link S M)) → HasTurned origin octets IsReply allowed limits now seen old later new → Turned origin octets IsReply allowed limits seen old later new
+  one_turned now seen later old new has = turned now unturned has

@@ -1,0 +1,17 @@
+-- A thread's work may be sent to it, and the jobs come back with their numbers.
+use denote.Exit.{no}
+use denote.Param.{param}
+use denote.Param.Send.{param_send, arg_send, sendable}
+use Rattle.serve_workers.proofs.SendLemmas.{thread_send}
+use Rattle.serve_workers.proofs.EachLemmas.{numbers_along}
+use Rattle.serve_workers.proofs.threads.run_threads.Goals as goal
+
+pub do_all-started-requires-send-W : goal.do_all-started-requires-send-W
+do_all-started-requires-send-W g c κs within =
+    param_send _ _
+    (arg_send _ no _
+    (thread_send _ _ (param 1 g.row.Z) (param 2 g.row.N) (param 3 g.row.L) (param 4 g.row.C) g.Z.FirstZone g.N.Naming
+    (search (c.type_bounds.sync-L, sendable)) (search (c.type_bounds.sync-C, sendable))))
+
+pub returns-then-started-clause-done : goal.returns-then-started-clause-done
+returns-then-started-clause-done g c = numbers_along _ _ _ _ _ _ c.put_back.ensures.pairs c.do_all-started.ensures.numbers c.put_threads.ensures.pairs

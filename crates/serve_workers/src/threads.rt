@@ -1,0 +1,222 @@
+//! The threads of a server: each has a job on sockets, and who answers in it.
+ghost use Rattle.std.specs.Prelude.{◌≡◌, ◌≤◌, [], map, vec_len, vec_capacity, IfOk, IfErr};
+ghost use Rattle.serve_workers.specs.Numbers.{number_of};
+ghost use Rattle.serve_workers.specs.Seats.{seat_number, seat_seen, pair_of};
+
+use crate::connections_job::ConnectionsJob;
+use crate::datagrams_job::DatagramsJob;
+use crate::progress::Muster;
+use crate::workers::{NotStarted, Work, do_all, nobody};
+use dns_engine::{FirstZone, VersionReader};
+use ready_sockets::{TcpPeer, TcpPlace, Watch};
+use serve_core::{Peer, Transport};
+use snapshot_cell::Naming;
+use std::alloc::Global;
+use std::sync::Wait;
+use std::thread::Threads;
+use std::time::Clock;
+use zone_replies::Replies;
+use zone_service::{Asked, Event, JobEnd, Server, ServiceLog};
+
+/// A job on TCP connections of the system's.
+pub type TcpJob<'a, C> = ConnectionsJob<'a, TcpPeer, Watch<'a, C>, TcpPlace, C>;
+
+/// A thread's job on sockets.
+#[derive(Drop)]
+pub enum SocketJob<'a, C> {
+    /// Requests by datagrams.
+    Datagrams(DatagramsJob<'a>),
+    /// Connections.
+    Connections(TcpJob<'a, C>),
+}
+
+/// A thread's job, and who answers in it by a reader.
+#[derive(Drop)]
+enum Seat<'g, 's, Z: FirstZone, N: Naming, L, C> {
+    /// On a socket of datagrams.
+    Datagrams(Asked<'g, 's, Z, N, L>, DatagramsJob<'g>),
+    /// On listeners.
+    Connections(Replies<'g, 's, Z, N, L>, TcpJob<'g, C>),
+}
+
+impl<'g, 's, Z: FirstZone, N: Naming, L: ServiceLog, C: Clock> Seat<'g, 's, Z, N, L, C> {
+    /// A job with a reader.
+    fn of(
+        alloc: Global,
+        server: &'g Server<'s, Z, N>,
+        log: &'g L,
+        reader: VersionReader<N>,
+        job: SocketJob<'g, C>,
+    ) -> Seat<'g, 's, Z, N, L, C>
+        ensures { pair_of result ≡ (reader, job) }
+    {
+        let peer = Peer::over(Transport::Udp, false);
+        match job {
+            SocketJob::Datagrams(job) => {
+                Seat::Datagrams(Asked::new(alloc, server, reader, log, peer, nobody()), job)
+            }
+            SocketJob::Connections(job) => {
+                Seat::Connections(
+                    Replies::new(alloc, server, reader, log, peer, nobody()),
+                    job,
+                )
+            }
+        }
+    }
+
+    /// The job and its reader.
+    fn into_pair(self) -> (VersionReader<N>, SocketJob<'g, C>)
+        ensures { result ≡ pair_of self.entry }
+    {
+        match self {
+            Seat::Datagrams(asked, job) => (asked.into_reader(), SocketJob::Datagrams(job)),
+            Seat::Connections(replies, job) => {
+                (replies.into_reader(), SocketJob::Connections(job))
+            }
+        }
+    }
+
+    /// What carries its requests.
+    fn transport(&self) -> Transport {
+        match self {
+            Seat::Datagrams(_, _) => Transport::Udp,
+            Seat::Connections(_, _) => Transport::Tcp,
+        }
+    }
+
+    /// Its job's number.
+    fn number(&self) -> usize
+        ensures { result ≡ seat_number self.now }
+    {
+        match self {
+            Seat::Datagrams(_, job) => job.number,
+            Seat::Connections(_, job) => job.number,
+        }
+    }
+}
+
+/// A thread of a server.
+#[derive(Drop)]
+struct ServerThread<'g, 's, Z: FirstZone, N: Naming, L, C> {
+    seat: Seat<'g, 's, Z, N, L, C>,
+    muster: &'g Muster,
+    log: &'g L,
+}
+
+/// Whether a job has done what it might.
+fn is_done(end: JobEnd) -> bool {
+    match end {
+        JobEnd::Done(_) => true,
+        JobEnd::Device => false,
+        JobEnd::Spent => false,
+        JobEnd::NoMemory => false,
+    }
+}
+
+impl<
+    'g,
+    's,
+    Z: FirstZone + Send + Sync,
+    N: Naming + Send + Sync,
+    L: ServiceLog + Sync,
+    C: Clock + Sync,
+> Work for ServerThread<'g, 's, Z, N, L, C> {
+    ghost number = { λ thread. seat_number thread.seat };
+
+    ghost seen = { λ thread. seat_seen thread.seat };
+
+    // A thread that has not done what it might ends the server.
+    fn work<R: Wait>(&mut self, rt: &R) {
+        if self.muster.begin() {
+            self.log.tell(rt, Event::Serving);
+        }
+        let end = match &mut self.seat {
+            Seat::Datagrams(asked, job) => job.serve(rt, asked),
+            Seat::Connections(replies, job) => job.serve(rt, replies, self.log),
+        };
+        if !is_done(end) {
+            self.muster.end();
+        }
+        let (worker, transport) = (self.seat.number(), self.seat.transport());
+        self.log.tell(
+            rt,
+            Event::End {
+                worker,
+                transport,
+                end,
+            },
+        );
+    }
+}
+
+/// Puts the threads of pairs into `threads`, which has room for them.
+fn put_threads<'g, 's, Z: FirstZone, N: Naming, L: ServiceLog, C: Clock>(
+    alloc: Global,
+    server: &'g Server<'s, Z, N>,
+    muster: &'g Muster,
+    log: &'g L,
+    pairs: Vec<(VersionReader<N>, SocketJob<'g, C>)>,
+    threads: &mut Vec<ServerThread<'g, 's, Z, N, L, C>>,
+)
+    requires room { vec_len pairs ≤ vec_capacity threads.old }
+    requires empty { threads.old.items ≡ [] }
+    ensures pairs { map (λ thread. pair_of thread.seat) threads.new.items ≡ pairs.items }
+{
+    for (reader, job) in pairs {
+        let seat = Seat::of(alloc, server, log, reader, job);
+        threads.push_reserved(ServerThread { seat, muster, log });
+    }
+}
+
+/// Puts the pairs of threads into `back`, which has room for them.
+fn put_back<'g, Z: FirstZone, N: Naming, L: ServiceLog, C: Clock>(
+    done: Vec<ServerThread<'g, '_, Z, N, L, C>>,
+    back: &mut Vec<(VersionReader<N>, SocketJob<'g, C>)>,
+)
+    requires room { vec_len done ≤ vec_capacity back.old }
+    requires empty { back.old.items ≡ [] }
+    ensures pairs { back.new.items ≡ map (λ thread. pair_of thread.seat) done.entry.items }
+{
+    for ServerThread { seat, .. } in done {
+        back.push_reserved(seat.into_pair());
+    }
+}
+
+/// Does each job on a thread of its own, with a reader, and waits for all; then gives the pairs back in their order. No job begins until each has
+/// its thread, and the log is told once all have begun. [`NotStarted`] where a thread was refused, or where there was no memory to keep track of
+/// them: no job has begun, and the pairs come back as they were given.
+pub(crate) fn run_threads<
+    'g,
+    's,
+    R: Threads + Wait + Sync,
+    Z: FirstZone + Send + Sync,
+    N: Naming + Send + Sync,
+    L: ServiceLog + Sync,
+    C: Clock + Sync,
+>(
+    rt: &R,
+    alloc: Global,
+    server: &'g Server<'s, Z, N>,
+    muster: &'g Muster,
+    pairs: Vec<(VersionReader<N>, SocketJob<'g, C>)>,
+    log: &'g L,
+) -> Result<Vec<(VersionReader<N>, SocketJob<'g, C>)>, NotStarted<N, SocketJob<'g, C>>>
+    ensures done { IfOk result (λ back. map (λ pair. number_of pair.1) back.items ≡ map (λ pair. number_of pair.1) pairs.items) }
+    ensures none { IfErr result (λ refused. refused.0.items ≡ pairs.items) }
+{
+    let count = pairs.len();
+    let Ok(mut threads) = Vec::with_capacity(alloc, count) else {
+        return Err(NotStarted(pairs));
+    };
+    let Ok(mut back) = Vec::with_capacity(alloc, count) else {
+        return Err(NotStarted(pairs));
+    };
+    put_threads(alloc, server, muster, log, pairs, &mut threads);
+    let (started, done) = do_all(rt, alloc, threads);
+    put_back(done, &mut back);
+    if started {
+        Ok(back)
+    } else {
+        Err(NotStarted(back))
+    }
+}

@@ -1,0 +1,13 @@
+-- The octets stand from their place on, and all others stay.
+use Rattle.std.proofs.Common.{◌+◌, ◌++◌, length, take, arith}
+use borrow.Rule.Slice.PartMut.{Post-is}
+use Rattle.mio.specs.SockAddr.{put}
+use Rattle.sockets.proofs.address.put.Goals as goal
+
+pub returns : goal.returns
+unfolding put
+returns c =
+    let at = c.args.at in
+    let raw = c.args.raw.now in
+    let after = Post-is at (at + length c.args.octets.now) raw (omega arith) in
+    λ i. take at raw ++ (c.copy_from_slice.ensures.after i ++ after i)

@@ -1,0 +1,85 @@
+-- Places that are taken and given back, and connections that are served, one after another.
+use Rattle.std.proofs.Common.{◌≡◌, ◌≢◌, refl, ℕ, List, Option, None, Some, Result, Ok, Err, IfOk, OnErr, option_map, sym, ap, ◌∙◌, inl, inr, ◌⊎◌, subst}
+use Rattle.std.specs.declared.net.ip_addr.IpAddr.{IpAddr}
+use Rattle.std.specs.declared.net.socket_addr.SocketAddr.{SocketAddr}
+use Rattle.serve_core.specs.declared.peer.Peer.{Peer}
+use Rattle.serve_core.specs.declared.transport.Transport.TheVariants.{Tcp}
+use Rattle.conversation.specs.Allowed.{IsPeer}
+use Rattle.conversation.specs.Served.{Learned, Grows}
+use Rattle.connections.specs.Kept.{nothing_kept}
+use Rattle.slab.specs.Slab.{Slab, get, Updates}
+use Rattle.links.specs.Deadlines.{kept_at, idle_since, IsLeast}
+use Rattle.links.specs.Links.{seen_of}
+use Rattle.links.specs.declared.limits.Limits.{Limits}
+use Rattle.links.specs.declared.link.Link.{Link}
+use Rattle.links.proofs.OwnLemmas.{own_same}
+use Rattle.conversation.proofs.TurnLemmas.{grows_itself}
+use Rattle.turns.specs.Steps.{scarce, HasBegun, Move, begins, gives, rests, Moves, stay, move, Sweeps, Serves, HasTurned}
+
+module _ {S M : Type 0} (origin : S → SocketAddr) (octets : S → Option (List ℕ × List ℕ)) (allowed : List IpAddr) (now : ℕ) where
+  pub moves_more : (a b c : Slab (Link S M)) → Moves origin octets allowed now a b → Moves origin octets allowed now b c → Moves origin octets allowed now a c
+  moves_more a b c first stay = first
+  moves_more a b c first (move {between = mid} second one) = move (moves_more a b mid first second) one
+
+  pub moves_once : (a b : Slab (Link S M)) → Move origin octets allowed now a b → Moves origin octets allowed now a b
+  moves_once a b one = move stay one
+
+  -- nothing is moved
+  pub moves_same : (old new : Slab (Link S M)) → new ≡ old → Moves origin octets allowed now old new
+  moves_same old new same = moves_once old new (rests (λ key. ap (λ (s : Slab (Link S M)). get s key) same))
+
+  -- behind moves nothing is moved
+  pub moves_as : (old new same : Slab (Link S M)) → new ≡ same → Moves origin octets allowed now old same → Moves origin octets allowed now old new
+  moves_as old new same is moved = subst (λ (s : Slab (Link S M)). Moves origin octets allowed now old s) (sym is) moved
+
+  -- there is room for more
+  pub moves_wider : (old new : Slab (Link S M)) (capacity : ℕ) → new ≡ record old { capacity = capacity } → Moves origin octets allowed now old new
+  moves_wider old new capacity same = moves_once old new (rests (λ key. ap (λ (s : Slab (Link S M)). get s key) same))
+
+  -- the longest idle one goes
+  pub moves_made : (old new : Slab (Link S M)) (key : ℕ) → IsLeast (λ k. idle_since (get old k)) (Some key) → get new key ≡ None → ((other : ℕ) → other ≢ key → get new other ≡ get old other) → Moves origin octets allowed now old new
+  moves_made old new key least none others = moves_once old new (gives key least none others)
+
+  -- one begins
+  pub moves_begun : (from : SocketAddr) (peer : Peer) (stream : S) (old new : Slab (Link S M)) (key : ℕ) (link : Link S M) → get old key ≡ None → get new key ≡ Some link → ((other : ℕ) → other ≢ key → get new other ≡ get old other)
+      → link.stream ≡ stream → link.from ≡ from → from ≡ origin stream → link.peer ≡ peer → IsPeer allowed Tcp from peer → link.conversation ≡ nothing_kept → link.begun ≡ now → Moves origin octets allowed now old new
+  moves_begun from peer stream old new key link vacant put others is come told same is_peer kept begun =
+      let here : from ≡ origin link.stream = told ∙ ap origin (sym is) in
+      let began : HasBegun origin octets allowed now link = record {
+        from = come ∙ here;
+        peer = subst (λ (p : Peer). IsPeer allowed Tcp (origin link.stream) p) (sym same) (subst (λ (a : SocketAddr). IsPeer allowed Tcp a peer) here is_peer);
+        kept = kept;
+        begun = begun;
+      } in
+      moves_once old new (begins key link vacant put began others)
+
+  -- one is put under the next key, or there is no memory for it
+  pub moves_put : {E : Type 0} (result : Result ℕ E) (from : SocketAddr) (peer : Peer) (stream : S) (old new : Slab (Link S M)) (link : Link S M) → IfOk result (λ key. get old key ≡ None) → IfOk result (λ key. Updates old new key (Some link)) → OnErr result (new ≡ record old { capacity = new.capacity })
+      → link.stream ≡ stream → link.from ≡ from → from ≡ origin stream → link.peer ≡ peer → IsPeer allowed Tcp from peer → link.conversation ≡ nothing_kept → link.begun ≡ now → Moves origin octets allowed now old new
+  moves_put (Ok key) from peer stream old new link vacant updates failed is come told same is_peer kept begun = moves_begun from peer stream old new key link vacant updates.changed updates.others is come told same is_peer kept begun
+  moves_put (Err fault) from peer stream old new link vacant updates failed is come told same is_peer kept begun = moves_wider old new new.capacity failed
+
+  -- those that are over go, by limits that are the given ones or those where places are scarce
+  pub sweeps_over : (limits used : Limits) (old new : Slab (Link S M)) → (used ≡ limits) ⊎ (used ≡ scarce limits) → ((key : ℕ) → get new key ≡ kept_at used now (get old key)) → Sweeps origin octets limits now old new
+  sweeps_over limits used old new (inl same) swept = inr (inl (subst (λ (l : Limits). (key : ℕ) → get new key ≡ kept_at l now (get old key)) same swept))
+  sweeps_over limits used old new (inr same) swept = inr (inr (subst (λ (l : Limits). (key : ℕ) → get new key ≡ kept_at l now (get old key)) same swept))
+
+  module _ {T : Type 0} (IsReply : Peer → Learned T → Learned T → List ℕ → List (List ℕ) → Type 0) where
+    -- none is served, and maybe more is known
+    pub serves_none : (seen later : Learned T) (links : Slab (Link S M)) → Grows later seen → Serves origin octets IsReply now seen links later links
+    serves_none seen later links grows = λ key. own_same IsReply now seen later (option_map (seen_of octets) (get links key)) grows
+
+    pub serves_as : (seen later : Learned T) (old new same : Slab (Link S M)) → new ≡ same → Serves origin octets IsReply now seen old later same → Serves origin octets IsReply now seen old later new
+    serves_as seen later old new same is own = subst (λ (s : Slab (Link S M)). Serves origin octets IsReply now seen old later s) (sym is) own
+
+    -- nothing is done in a turn
+    pub turned_none : (limits : Limits) (seen : Learned T) (old new : Slab (Link S M)) → new ≡ old → HasTurned origin octets IsReply allowed limits now seen old seen new
+    turned_none limits seen old new same = record { come = old; served = old; first = stay; own = serves_none seen seen old (grows_itself seen); last = inl same }
+
+    -- a turn, at the time that was told
+    pub turned_whole : (limits : Limits) (told : ℕ) (seen later : Learned T) (old start come served new : Slab (Link S M)) → now ≡ told → start ≡ old → Moves origin octets allowed now start come → Serves origin octets IsReply now seen come later served
+        → Sweeps origin octets limits now served new → HasTurned origin octets IsReply allowed limits told seen old later new
+    turned_whole limits told seen later old start come served new same still first own last =
+        let moved : Moves origin octets allowed now old come = subst (λ (s : Slab (Link S M)). Moves origin octets allowed now s come) still first in
+        let made : HasTurned origin octets IsReply allowed limits now seen old later new = record { come = come; served = served; first = moved; own = own; last = last } in
+        subst (λ (n : ℕ). HasTurned origin octets IsReply allowed limits n seen old later new) same made

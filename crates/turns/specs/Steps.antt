@@ -1,0 +1,66 @@
+-- What becomes of a worker's connections, from one state to the next (RFC 7766, 6.2; own).
+use Rattle.std.specs.Prelude.{◌≡◌, ◌≢◌, ℕ, ◌/◌, ◌⊎◌, List, Option, None, Some, option_map}
+use Rattle.conversation.specs.Served.{Learned}
+use Rattle.std.specs.declared.net.ip_addr.IpAddr.{IpAddr}
+use Rattle.std.specs.declared.net.socket_addr.SocketAddr.{SocketAddr}
+use Rattle.serve_core.specs.declared.peer.Peer.{Peer}
+use Rattle.serve_core.specs.declared.transport.Transport.TheVariants.{Tcp}
+use Rattle.conversation.specs.Allowed.{IsPeer}
+use Rattle.conversation.specs.Served.{Learned}
+use Rattle.connections.specs.Kept.{nothing_kept}
+use Rattle.slab.specs.Slab.{Slab, get}
+use Rattle.links.specs.Deadlines.{IsLeast, kept_at, idle_since}
+use Rattle.links.specs.Links.{OwnServed, seen_of}
+use Rattle.links.specs.declared.limits.Limits.{Limits}
+use Rattle.links.specs.declared.link.Link.{Link}
+
+-- the limits where places are scarce: idle ones have a quarter of their time (RFC 7766, 6.2.3; own)
+abbrev pub scarce : Limits → Limits
+scarce limits = record limits { idle = limits.idle / 4 }
+
+-- the address that a stream comes from, and what its octets are, as far as it tells them
+module _ {S M : Type 0} (origin : S → SocketAddr) (octets : S → Option (List ℕ × List ℕ)) where
+  -- a connection has begun at a time: who asks on it is the peer of the address that its stream comes from, by that alone, and nothing is
+  -- kept of it
+  pub record HasBegun (allowed : List IpAddr) (now : ℕ) (link : Link S M) : Type 0 where
+    pub from : link.from ≡ origin link.stream
+    pub peer : IsPeer allowed Tcp (origin link.stream) link.peer
+    pub kept : link.conversation ≡ nothing_kept
+    pub begun : link.begun ≡ now
+
+  -- a place is taken, or given to another: a connection begins under a key that had none; the one that is idle longest gives its place; or all
+  -- rests
+  pub data Move (allowed : List IpAddr) (now : ℕ) (old new : Slab (Link S M)) : Type 0 where
+    begins : (key : ℕ) (link : Link S M) → get old key ≡ None → get new key ≡ Some link → HasBegun allowed now link → ((other : ℕ) → other ≢ key → get new other ≡ get old other) → Move allowed now old new
+    gives : (key : ℕ) → IsLeast (λ k. idle_since (get old k)) (Some key) → get new key ≡ None → ((other : ℕ) → other ≢ key → get new other ≡ get old other) → Move allowed now old new
+    rests : ((key : ℕ) → get new key ≡ get old key) → Move allowed now old new
+
+  -- so many such moves, one behind the other
+  pub data Moves (allowed : List IpAddr) (now : ℕ) (old : Slab (Link S M)) : Slab (Link S M) → Type 0 where
+    stay : Moves allowed now old old
+    move : {between new : Slab (Link S M)} → Moves allowed now old between → Move allowed now between new → Moves allowed now old new
+
+  -- places are given back at a time: by those that are over by the limits, or by those where places are scarce; or all rests
+  abbrev pub Sweeps : Limits → ℕ → Slab (Link S M) → Slab (Link S M) → Type 0
+  Sweeps limits now old new = (new ≡ old) ⊎ ((key : ℕ) → get new key ≡ kept_at limits now (get old key)) ⊎ ((key : ℕ) → get new key ≡ kept_at (scarce limits) now (get old key))
+
+  -- what a reply is, by who asks, the list of what is known to be published before it and that of what is when it is made, the request, and the
+  -- reply's messages
+  module _ {T : Type 0} (IsReply : Peer → Learned T → Learned T → List ℕ → List (List ℕ) → Type 0) where
+    -- connections are served at a time, each by its own peer's rights and on its own stream
+    abbrev pub Serves : ℕ → Learned T → Slab (Link S M) → Learned T → Slab (Link S M) → Type 0
+    Serves now seen old later new = (key : ℕ) → OwnServed IsReply now seen (option_map (seen_of octets) (get old key)) later (option_map (seen_of octets) (get new key))
+
+    -- a turn at a time, by what is known to be published before it and behind it: places are taken; connections are served; and places are given
+    -- back
+    pub record HasTurned (allowed : List IpAddr) (limits : Limits) (now : ℕ) (seen : Learned T) (old : Slab (Link S M)) (later : Learned T) (new : Slab (Link S M)) : Type 0 where
+      pub come : Slab (Link S M)
+      pub served : Slab (Link S M)
+      pub first : Moves allowed now old come
+      pub own : Serves now seen come later served
+      pub last : Sweeps limits now served new
+
+    -- turns, one behind the other
+    pub data Turned (allowed : List IpAddr) (limits : Limits) (seen : Learned T) (old : Slab (Link S M)) : Learned T → Slab (Link S M) → Type 0 where
+      unturned : Turned allowed limits seen old seen old
+      turned : {mid later : Learned T} {between new : Slab (Link S M)} (now : ℕ) → Turned allowed limits seen old mid between → HasTurned allowed limits now mid between later new → Turned allowed limits seen old later new

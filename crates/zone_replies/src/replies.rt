@@ -1,0 +1,196 @@
+//! A server as one who answers connections.
+ghost use Rattle.std.specs.Prelude.{◌≡◌, ◌≤◌, ◌⊎◌, ℕ, true, length, Some, None, IfSome, IfOk, OnErr, if◌then◌else◌};
+ghost use Rattle.dns_message.specs.Message.{message_limit};
+ghost use Rattle.zone_tree.specs.Version.{Version};
+ghost use Rattle.serve_core.specs.Transfers.{is_permitted, messages_to};
+ghost use Rattle.zone_tree.specs.Zone.{soa_of};
+ghost use Rattle.dns_engine.specs.Chain.{changes_by};
+ghost use Rattle.conversation.specs.Octets.{messages_in};
+ghost use Rattle.conversation.specs.Served.{Grows};
+ghost use Rattle.zone_service.specs.Known.{learned_by};
+ghost use Rattle.connections.specs.Kept.{messages_of};
+ghost use Rattle.connections.specs.declared.answering.Reply.{Reply as ReplyOf};
+ghost use Rattle.zone_service.specs.Replied.{IsReplied, IsUpdate, IsTransfer, HasNoAnswer};
+ghost use Rattle.zone_service.specs.declared.service_log.Event.TheVariants.{Update as ToldOfUpdate};
+ghost use Rattle.zone_replies.specs.Going.{transfer_left};
+
+use crate::transfer::Transfer;
+use connections::{Answering, Reply};
+use dns_engine::{FirstZone, SharedVersion, VersionChain, VersionReader};
+use dns_message::Query;
+use serve_core::{Peer, Transport};
+use snapshot_cell::{Naming, Spent};
+use std::alloc::Global;
+use std::net::SocketAddr;
+use std::sync::Wait;
+use zone_service::{
+    Event, Now, Served, Server, ServiceLog, Told, answer_now, serve_one, write_transfer,
+};
+
+/// A server that answers the peers of connections, with a worker's reader, of which contracts know what it has seen published. A log is told of
+/// updates.
+#[derive(Drop)]
+pub struct Replies<'a, 's, Z: FirstZone, N: Naming, L> {
+    server: &'a Server<'s, Z, N>,
+    reader: VersionReader<N>,
+    log: &'a L,
+    alloc: Global,
+    peer: Peer,
+    from: SocketAddr,
+}
+
+/// The reply to a query for a transfer that is permitted in a version, by those since the asker's: over a stream what makes its messages, for a
+/// datagram its one message. [`Spent`] where a `usize` doesn't tell how many records it has.
+fn reply_transfer(
+    version: SharedVersion,
+    chain: VersionChain,
+    query: Query,
+    peer: Peer,
+    out: &mut [u8],
+) -> Result<Reply<Transfer>, Spent>
+    requires permitted { is_permitted version.zone peer query ≡ true }
+    requires room { message_limit ≤ length out.old }
+    ensures bound { IfOk result (λ reply. (len : ℕ) → reply ≡ ReplyOf.One len → (len ≤ message_limit) × (len ≤ length out.new)) }
+    ensures messages { IfOk result (λ reply. messages_of transfer_left reply out.new ≡ messages_to version.zone (changes_by (soa_of version.zone) chain) peer query) }
+{
+    match peer.transport {
+        Transport::Tcp => match Transfer::new(version, chain, query) {
+            Some(transfer) => Ok(Reply::Many(transfer)),
+            None => Err(Spent),
+        },
+        Transport::Udp => match write_transfer(version.get(), &chain, &query, peer, out) {
+            Some(len) => Ok(Reply::One(len)),
+            None => Ok(Reply::Silent),
+        },
+    }
+}
+
+impl<'a, 's, Z: FirstZone, N: Naming, L: ServiceLog> Replies<'a, 's, Z, N, L> {
+    /// A server that answers peers, with a reader; to begin with this peer, who asks from an address.
+    pub fn new(
+        alloc: Global,
+        server: &'a Server<'s, Z, N>,
+        reader: VersionReader<N>,
+        log: &'a L,
+        peer: Peer,
+        from: SocketAddr,
+    ) -> Replies<'a, 's, Z, N, L>
+        ensures reader { result.reader ≡ reader }
+        ensures peer { result.peer ≡ peer }
+    {
+        Replies {
+            server,
+            reader,
+            log,
+            alloc,
+            peer,
+            from,
+        }
+    }
+
+    /// Its reader, with which it answers no more.
+    pub fn into_reader(self) -> VersionReader<N>
+        ensures { result ≡ self.entry.reader }
+    {
+        self.reader
+    }
+
+    /// What the log is told of an update: its code and its serials, where the peer may update; nothing of others, who could fill the
+    /// log (own).
+    fn event_of(&self, told: Told) -> Option<Event>
+        ensures { result ≡ (if self.now.peer.may_update then Some (ToldOfUpdate self.now.from told.code told.serials) else None) }
+    {
+        if !self.peer.may_update {
+            return None;
+        }
+        Some(Event::Update {
+            from: self.from,
+            code: told.code,
+            serials: told.serials,
+        })
+    }
+
+    /// Tells the log of an update, where it is told of it.
+    fn tell<R: Wait>(&self, rt: &R, told: Told) {
+        if let Some(event) = self.event_of(told) {
+            self.log.tell(rt, event);
+        }
+    }
+
+    /// The reply to an update, or to a query for a transfer that is permitted.
+    #[tactic(auto, using(zone_service::proofs::ReplyLemmas::limit_most, zone_service::proofs::ReplyLemmas::room_most))]
+    fn reply_later<R: Wait>(
+        &mut self,
+        rt: &R,
+        request: &[u8],
+        out: &mut [u8],
+    ) -> Result<Reply<Transfer>, Spent>
+        requires later { IsUpdate request.now ⊎ IsTransfer Z.zone self.old.peer request.now }
+        requires room { message_limit ≤ length out.old }
+        ensures peer { self.new.peer ≡ self.old.peer }
+        ensures grows { Grows {T = Version} (learned_by self.new.reader) (learned_by self.old.reader) }
+        ensures bound { IfOk result (λ reply. (len : ℕ) → reply ≡ ReplyOf.One len → (len ≤ message_limit) × (len ≤ length out.new)) }
+        ensures replied { IfOk result (λ reply. IsReplied Z.zone self.old.peer (learned_by self.old.reader) (learned_by self.new.reader) request.now (messages_of transfer_left reply out.new)) }
+        ensures spent { OnErr result (IsTransfer Z.zone self.old.peer request.now) }
+    {
+        let peer = self.peer;
+        match serve_one(
+            rt,
+            self.alloc,
+            self.server,
+            &mut self.reader,
+            peer,
+            request,
+            out,
+        ) {
+            Served::Reply(len) => Ok(Reply::One(len)),
+            Served::Updated(len, told) => {
+                self.tell(rt, told);
+                Ok(Reply::One(len))
+            }
+            Served::Transfer(version, chain, query) => {
+                reply_transfer(version, chain, query, peer, out)
+            },
+            Served::Spent => Err(Spent),
+        }
+    }
+}
+
+impl<'a, 's, Z: FirstZone, N: Naming, L: ServiceLog> Answering<Transfer>
+    for Replies<'a, 's, Z, N, L> {
+    ghost seen = { λ replies. learned_by replies.reader };
+
+    ghost peer = { λ replies. replies.peer };
+
+    ghost is_reply = { λ peer known later request messages. IsReplied Z.zone peer known later request messages };
+
+    #[tactic(auto, using(conversation::proofs::TurnLemmas::grows_itself))]
+    fn turn_to(&mut self, other: Peer, from: SocketAddr) {
+        self.peer = other;
+        self.from = from;
+    }
+
+    #[tactic(auto, using(zone_service::proofs::ReplyLemmas::limit_most, zone_service::proofs::ReplyLemmas::room_most, zone_service::proofs::ReplyLemmas::silent_replied, conversation::proofs::TurnLemmas::grows_itself))]
+    fn reply<R: Wait>(
+        &mut self,
+        rt: &R,
+        request: &[u8],
+        out: &mut [u8],
+    ) -> Result<Reply<Transfer>, Spent>
+        requires { message_limit ≤ length out.old }
+        ensures same { self.new.peer ≡ self.old.peer }
+        ensures grows { Grows {T = Version} (learned_by self.new.reader) (learned_by self.old.reader) }
+        ensures bound { IfOk result (λ reply. (len : ℕ) → reply ≡ ReplyOf.One len → (len ≤ message_limit) × (len ≤ length out.new)) }
+        ensures reply { IfOk result (λ reply. IsReplied Z.zone self.old.peer (learned_by self.old.reader) (learned_by self.new.reader) request.now (messages_of transfer_left reply out.new)) }
+        // What can't be read as a query is replied to, whether a version can be loaded or not. Of a transfer a `usize` may not tell the records.
+        ensures spent { OnErr result (HasNoAnswer Z.zone self.old.peer request.now self.old.reader self.new.reader ⊎ IsTransfer Z.zone self.old.peer request.now) }
+    {
+        let cell = self.server.cell();
+        match answer_now(cell, &mut self.reader, self.peer, request, out) {
+            Now::Bytes(len) => Ok(Reply::One(len)),
+            Now::Silent => Ok(Reply::Silent),
+            Now::Later => self.reply_later(rt, request, out),
+            Now::Spent => Err(Spent),
+        }
+    }
+}
