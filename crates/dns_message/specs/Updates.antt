@@ -19,7 +19,7 @@ use Rattle.dns_message.specs.declared.update.Section.TheVariants.{Prerequisites,
 use Rattle.dns_message.specs.declared.update.Update.{Update}
 use Rattle.dns_message.specs.declared.update.ZoneEntry.{ZoneEntry}
 
--- whether the data of a record of an update are read: those of class IN and of class NONE are, of the types that are served;
+-- whether the data of a record of an update are read: those of class IN and of class NONE are, of each type but a metatype;
 -- but a prerequisite of class NONE may have none, and says so that a set doesn't exist (RFC 2136, 2.4 and 2.5)
 abbrev pub is_looked_at : Section → Entry → Bool
 is_looked_at Prerequisites entry =

@@ -3,7 +3,7 @@ use Rattle.std.specs.Prelude.{ℕ, ◌^◌, nat_lt, if◌then◌else◌, List}
 use Rattle.dns_name.specs.Name.{Name}
 
 -- a record as it is sent: its owner, the numbers of its type and of its class, its TTL of 32 bits, and the octets of its
--- data, which can be none, or those of a type that isn't served (RFC 1035, 4.1.3; RFC 2136, 2.4 and 2.5)
+-- data, which can be none, or those of a metatype (RFC 1035, 4.1.3; RFC 2136, 2.4 and 2.5)
 pub record RawRecord : Type 0 where
   pub owner : Name
   pub rtype : ℕ

@@ -40,8 +40,8 @@ impl Model for RawRecord {
 }
 
 impl RType {
-    /// Whether octets, of any number, are data of the type, names in full; none are of a type that isn't served
-    /// (RFC 1035, 3.3 and 3.4.1; RFC 2782; RFC 3596, 2.2). It takes no memory.
+    /// Whether octets, of any number, are data of the type, names in full; none are of a metatype (RFC 1035, 3.3 and
+    /// 3.4.1; RFC 2782; RFC 3596, 2.2; RFC 3597, 3). It takes no memory.
     pub fn has_data(self, octets: &[u8]) -> bool
         ensures { result ≡ is_some (data_of self.0 octets.now) }
     {
@@ -49,8 +49,8 @@ impl RType {
     }
 
     /// The data octets that these octets, of any number, spell for the type, names in full: the same octets with the names
-    /// in lower case. None where they haven't the type's form, and of a type that isn't served (RFC 1035, 3.3 and 3.4.1;
-    /// RFC 2782; RFC 3596, 2.2). An `Err` only where a growth was refused.
+    /// in lower case. None where they haven't the type's form, and of a metatype (RFC 1035, 3.3 and 3.4.1; RFC 2782;
+    /// RFC 3596, 2.2; RFC 3597, 3). An `Err` only where a growth was refused.
     pub fn data_octets(self, alloc: Global, octets: &[u8]) -> Result<Option<Vec<u8>>, AllocError>
         ensures { IfOk result (λ found. option_map (λ own. own.items) found ≡ data_of self.0 octets.now) }
     {

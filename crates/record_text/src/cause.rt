@@ -20,7 +20,7 @@ pub enum Cause {
     Number,
     /// A class other than IN.
     BadClass,
-    /// A word that is no type served.
+    /// A word that is no type that a record of a zone has.
     UnknownType,
     /// Too few or too many words, or data not of its form.
     BadData,

@@ -11,7 +11,7 @@ use std::fmt;
 /// the first fault that it has (RFC 1995, 4; RFC 5936, 2.2).
 #[derive(Clone, Copy, Debug, PartialEq, Eq)]
 pub enum TransferFault {
-    /// It isn't such a list: a record of another class, or of a type that isn't served or data without its form; no SOA
+    /// It isn't such a list: a record of another class, of a metatype, or of data without its type's form; no SOA
     /// first, none that closes the list or another one, records behind it.
     Broken,
     /// It begins at another zone: an old SOA has another serial than the zone, a deletion isn't there, an addition is

@@ -57,7 +57,7 @@ fn octets_in_zone(alloc: Global, rtype: RType, octets: &[u8]) -> Result<Option<V
 
 impl HeldRecord {
     /// A sent record as it enters a zone: its owner and the names in its data in lower case. None where it isn't of class
-    /// IN, its type isn't served, or its data haven't that type's form (RFC 1035, 3.3; RFC 4343, 3; own). An `Err` only
+    /// IN, its type is a metatype, or its data haven't that type's form (RFC 1035, 3.3; RFC 4343, 3; own). An `Err` only
     /// where a growth was refused.
     pub(crate) fn entered(alloc: Global, sent: &RawRecord) -> Result<Option<HeldRecord>, AllocError>
         ensures { IfOk result (λ found. found ≡ entered sent.now) }
