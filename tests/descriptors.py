@@ -167,7 +167,7 @@ def out_of_descriptors(server):
     clients = [connected() for _ in range(CLIENTS)]
     served, waiting = [], []
     for client in clients:
-        (served if is_answered(client, 1 if not waiting else 0.02) else waiting).append(client)
+        (served if is_answered(client, 2 if not waiting else 0.02) else waiting).append(client)
     if len(served) != LIMIT - before:
         faults.append(f"{len(served)} connections are answered, where {LIMIT - before} descriptors were left")
     time.sleep(max(0, began + 5 - time.time()))
