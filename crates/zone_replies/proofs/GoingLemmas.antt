@@ -19,11 +19,6 @@ use Rattle.serve_core.specs.Transport.{is_stream}
 use Rattle.serve_core.specs.Transfers.{list_for, messages_to}
 use Rattle.zone_replies.specs.Left.{question_left, messages_of_records, messages_from}
 
--- over a stream the messages of a transfer are those of its list
-pub stream_messages : (zone : List Record) (changes : Option (List Record)) (peer : Peer) (query : Query) → peer.transport ≡ Tcp → octets_of (packed query.head query.question (reply_opt query.edns) (list_for zone changes query)) ≡ messages_to zone changes peer query
-stream_messages zone changes peer query is =
-    ap (λ b. if b then octets_of (packed query.head query.question (reply_opt query.edns) (list_for zone changes query)) else datagram query.head query.question (reply_opt query.edns) (udp_limit query.edns) (list_for zone changes query) (soa_of zone) ∷ []) (sym (ap is_stream is))
-
 -- what a message leaves are the messages of the records behind those that it has
 pub left_behind : (query : Query) (begun : Bool) (records : List Record) (octets : List ℕ) (later : List (List ℕ)) (count : ℕ) → messages_of_records query begun records ≡ octets ∷ later → length octets ≤ max_message
     → count ≡ (if nat_le 8 (length octets) then number_at octets 6 else 0) → later ≡ messages_of_records query true (drop count records)
