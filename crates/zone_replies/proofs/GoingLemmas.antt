@@ -1,22 +1,16 @@
 -- The messages of a transfer from a place on.
-use Rattle.std.proofs.Common.{◌≡◌, refl, sym, ap, ◌∙◌, ℕ, ◌≤◌, Bool, true, false, List, [], ◌∷◌, length, take, drop, map, Option, None, Some, MatchOption, if◌then◌else◌, nat_le, arith}
+use Rattle.std.proofs.Common.{◌≡◌, sym, ap, ◌∙◌, ℕ, ◌≤◌, Bool, true, List, ◌∷◌, length, drop, map, if◌then◌else◌, nat_le, arith}
 use Rattle.std.proofs.lemmas.Bool.{le-leb}
 use Rattle.std.proofs.lemmas.List.{drop-map}
 use Rattle.dns_rdata.specs.Record.{Record}
 use Rattle.dns_message.specs.Message.{number_at}
-use Rattle.dns_message.specs.Opt.{udp_limit}
 use Rattle.dns_message.specs.declared.query.Query.{Query}
-use Rattle.zone_tree.specs.Zone.{soa_of}
 use Rattle.zone_tree.specs.Version.{Version}
-use Rattle.transfer_core.specs.Packed.{max_message, spelt, packed, packed_later, octets_of, datagram}
+use Rattle.transfer_core.specs.Packed.{max_message, spelt, packed_later, octets_of}
 use Rattle.transfer_core.specs.Places.{left_at}
 use Rattle.transfer_core.specs.declared.place.Place.{Place}
 use Rattle.transfer_core.proofs.CountLemmas.{tells}
-use Rattle.serve_core.specs.declared.peer.Peer.{Peer}
-use Rattle.serve_core.specs.declared.transport.Transport.TheVariants.{Tcp}
 use Rattle.serve_core.specs.Heading.{reply_opt}
-use Rattle.serve_core.specs.Transport.{is_stream}
-use Rattle.serve_core.specs.Transfers.{list_for, messages_to}
 use Rattle.zone_replies.specs.Left.{question_left, messages_of_records, messages_from}
 
 -- what a message leaves are the messages of the records behind those that it has

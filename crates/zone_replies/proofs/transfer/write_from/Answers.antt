@@ -1,5 +1,5 @@
 -- The place behind a message is that behind the records that it says it has.
-use Rattle.std.proofs.Common.{◌≡◌, ◌≤◌, ◌∙◌, sym, ap, take, drop, length, arith}
+use Rattle.std.proofs.Common.{◌≤◌, ◌∙◌, sym, ap, take, drop, length, arith}
 use Rattle.std.proofs.lemmas.List.{length-take-le}
 use Rattle.transfer_core.specs.Places.{left_at}
 use Rattle.zone_replies.specs.Left.{messages_of_records}
