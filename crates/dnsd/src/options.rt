@@ -3,6 +3,7 @@ ghost use Rattle.std.specs.Prelude.{◌≤◌};
 ghost use Rattle.transfer_core.specs.declared.kept.TheConstants.{KEPT};
 
 use crate::command::{CommandFault, KEEP, MAX_KEEP, number_for, option};
+use crate::secondaries::{Secondary, secondaries_of, with_notify};
 use clap::{ArgAction, ArgMatches, Command as Parser};
 use commands::Source;
 use dns_name::Name;
@@ -31,6 +32,8 @@ pub struct Serve<'a> {
     pub places: usize,
     /// How long each may wait for its peer.
     pub limits: Limits,
+    /// The secondaries that are told of each version; a thread tells them.
+    pub secondaries: Vec<Secondary>,
     ghost few_kept: { keep ≤ KEPT },
 }
 
@@ -110,7 +113,7 @@ pub fn serve_options<'a>(alloc: Global, parser: Parser<'a>) -> Result<Parser<'a>
         "N",
         "after how many datagrams and connections, together, a worker ends; else never",
     ))?;
-    with_bounds(alloc, parser)
+    with_bounds(alloc, with_notify(alloc, parser)?)
 }
 
 /// The options that bound connections.
@@ -154,7 +157,9 @@ pub fn serve_of<'a>(
 ) -> Result<Serve<'a>, CommandFault<'a>> {
     let listen = listened(alloc, found)?;
     let workers = number_for(found.get_str(WORKERS), WORKERS, 1, MAX_WORKERS, 4)?;
-    if listen.len() >= MAX_THREADS || workers * (listen.len() + 1) > MAX_THREADS {
+    let secondaries = secondaries_of(alloc, found)?;
+    let threads = MAX_THREADS - usize::from(!secondaries.is_empty());
+    if listen.len() >= threads || workers * (listen.len() + 1) > threads {
         return Err(CommandFault::Threads(workers, listen.len()));
     }
     let keep = number_for(found.get_str(KEEP), KEEP, 0, MAX_KEEP, MAX_KEEP)?;
@@ -178,6 +183,7 @@ pub fn serve_of<'a>(
         allowed,
         places,
         limits,
+        secondaries,
     })
 }
 

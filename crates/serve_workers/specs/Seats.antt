@@ -4,14 +4,15 @@ use Rattle.zone_tree.specs.Version.{Version}
 use Rattle.snapshot_cell.specs.declared.named.NamedReader.{NamedReader}
 use Rattle.serve_workers.specs.Numbers.{number_of}
 use Rattle.serve_workers.specs.declared.threads.SocketJob.{SocketJob}
-use Rattle.serve_workers.specs.declared.threads.SocketJob.TheVariants.{Datagrams as OnDatagrams, Connections as OnConnections}
+use Rattle.serve_workers.specs.declared.threads.SocketJob.TheVariants.{Datagrams as OnDatagrams, Connections as OnConnections, Secondaries as OnSecondaries}
 use Rattle.serve_workers.specs.declared.threads.Seat.{Seat}
-use Rattle.serve_workers.specs.declared.threads.Seat.TheVariants.{Datagrams, Connections}
+use Rattle.serve_workers.specs.declared.threads.Seat.TheVariants.{Datagrams, Connections, Secondaries}
 
 -- its reader and its job
 abbrev pub pair_of : {Z N L C : Type 0} → Seat Z N L C → NamedReader Version N × SocketJob C
 pair_of (Datagrams asked job) = (asked.reader, OnDatagrams job)
 pair_of (Connections replies job) = (replies.reader, OnConnections job)
+pair_of (Secondaries asked job) = (asked.reader, OnSecondaries job)
 
 -- its job's number
 abbrev pub seat_number : {Z N L C : Type 0} → Seat Z N L C → ℕ

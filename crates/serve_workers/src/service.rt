@@ -9,6 +9,7 @@ ghost use Rattle.serve_workers.specs.Numbers.{number_of, takes_datagrams};
 use crate::connections_job::ConnectionsJob;
 use crate::datagrams_job::DatagramsJob;
 use crate::ending::{end_cell, end_named};
+use crate::notify_job::{NotifyJob, Secondaries};
 use crate::progress::{Muster, Progress, Standing};
 use crate::scratch::Scratch;
 use crate::threads::{SocketJob, TcpJob, run_threads};
@@ -52,6 +53,8 @@ pub enum Sockets {
     Datagrams(UdpSocket),
     /// Listeners at which connections come, which don't wait.
     Connections(Vec<TcpListener>),
+    /// The secondaries that are told of each version.
+    Secondaries(Secondaries),
 }
 
 /// What one thread of a worker does.
@@ -90,6 +93,7 @@ impl<C: Clock> SocketJob<'_, C> {
         let end = match self {
             SocketJob::Datagrams(job) => job.end(),
             SocketJob::Connections(job) => job.end(),
+            SocketJob::Secondaries(job) => job.end(),
         };
         match end {
             Some(JobEnd::Device) => Some(ServeFault::Device),
@@ -348,6 +352,10 @@ fn job_of<'a, R: Clock + Net>(
         Sockets::Connections(listeners) => {
             let job = tcp_job(rt, alloc, worker, listeners, plan, standing, scratch)?;
             Ok(SocketJob::Connections(job))
+        }
+        Sockets::Secondaries(secondaries) => {
+            let job = NotifyJob::new(alloc, worker, secondaries, rt, plan.muster)?;
+            Ok(SocketJob::Secondaries(job))
         }
     }
 }

@@ -5,6 +5,7 @@ ghost use Rattle.serve_workers.specs.Seats.{seat_number, seat_seen, pair_of};
 
 use crate::connections_job::ConnectionsJob;
 use crate::datagrams_job::DatagramsJob;
+use crate::notify_job::NotifyJob;
 use crate::progress::Muster;
 use crate::workers::{NotStarted, Work, do_all, nobody};
 use dns_engine::{FirstZone, VersionReader};
@@ -28,6 +29,8 @@ pub enum SocketJob<'a, C> {
     Datagrams(DatagramsJob<'a>),
     /// Connections.
     Connections(TcpJob<'a, C>),
+    /// The secondaries, which are told of each version.
+    Secondaries(NotifyJob<'a, C>),
 }
 
 /// A thread's job, and who answers in it by a reader.
@@ -37,6 +40,8 @@ enum Seat<'g, 's, Z: FirstZone, N: Naming, L, C> {
     Datagrams(Asked<'g, 's, Z, N, L>, DatagramsJob<'g>),
     /// On listeners.
     Connections(Replies<'g, 's, Z, N, L>, TcpJob<'g, C>),
+    /// On secondaries' sockets.
+    Secondaries(Asked<'g, 's, Z, N, L>, NotifyJob<'g, C>),
 }
 
 impl<'g, 's, Z: FirstZone, N: Naming, L: ServiceLog, C: Clock> Seat<'g, 's, Z, N, L, C> {
@@ -61,6 +66,9 @@ impl<'g, 's, Z: FirstZone, N: Naming, L: ServiceLog, C: Clock> Seat<'g, 's, Z, N
                     job,
                 )
             }
+            SocketJob::Secondaries(job) => {
+                Seat::Secondaries(Asked::new(alloc, server, reader, log, peer, nobody()), job)
+            }
         }
     }
 
@@ -73,14 +81,24 @@ impl<'g, 's, Z: FirstZone, N: Naming, L: ServiceLog, C: Clock> Seat<'g, 's, Z, N
             Seat::Connections(replies, job) => {
                 (replies.into_reader(), SocketJob::Connections(job))
             }
+            Seat::Secondaries(asked, job) => {
+                (asked.into_reader(), SocketJob::Secondaries(job))
+            }
         }
     }
 
-    /// What carries its requests.
-    fn transport(&self) -> Transport {
-        match self {
+    /// What is told of its end.
+    fn event_of(&self, end: JobEnd) -> Event {
+        let worker = self.number();
+        let transport = match self {
             Seat::Datagrams(_, _) => Transport::Udp,
             Seat::Connections(_, _) => Transport::Tcp,
+            Seat::Secondaries(_, _) => return Event::Untold { end },
+        };
+        Event::End {
+            worker,
+            transport,
+            end,
         }
     }
 
@@ -91,6 +109,7 @@ impl<'g, 's, Z: FirstZone, N: Naming, L: ServiceLog, C: Clock> Seat<'g, 's, Z, N
         match self {
             Seat::Datagrams(_, job) => job.number,
             Seat::Connections(_, job) => job.number,
+            Seat::Secondaries(_, job) => job.number,
         }
     }
 }
@@ -133,19 +152,13 @@ impl<
         let end = match &mut self.seat {
             Seat::Datagrams(asked, job) => job.serve(rt, asked),
             Seat::Connections(replies, job) => job.serve(rt, replies, self.log),
+            Seat::Secondaries(asked, job) => job.serve(rt, asked, self.log),
         };
+        self.muster.leave();
         if !is_done(end) {
             self.muster.end();
         }
-        let (worker, transport) = (self.seat.number(), self.seat.transport());
-        self.log.tell(
-            rt,
-            Event::End {
-                worker,
-                transport,
-                end,
-            },
-        );
+        self.log.tell(rt, self.seat.event_of(end));
     }
 }
 

@@ -1,0 +1,3 @@
+pub mod NotifyLemmas
+pub mod TurnLemmas
+pub mod CourseLemmas
