@@ -3,3 +3,4 @@ pub mod Told
 pub mod Notified
 pub mod Turns
 pub mod Course
+pub mod Runs

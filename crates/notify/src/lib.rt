@@ -11,7 +11,7 @@ mod notifier;
 mod secondary;
 
 pub use due::{Due, Heard};
-pub use laws::told_in_order;
+pub use laws::{runs_are_courses, told_in_order};
 pub use message::{MAX_NOTIFY, is_answer, write_notify};
 pub use notifier::Notifier;
 pub use secondary::{MAX_COPIES, Secondary, Telling};
