@@ -1,7 +1,7 @@
 #!/usr/bin/env bash
 # Tries `dnsd serve --notify` with BIND, Knot and NSD as secondaries of a zone whose refresh is two hours: they must hold the last of a
-# hundred updates within two seconds of it, record by record; with every second NOTIFY lost within four; and one that was stopped in
-# between within four seconds of its own start (RFC 1996). It prints a line a check and a count, and its status is 1 where one failed.
+# hundred updates within two seconds of it, record by record; with every second NOTIFY lost within four; and each that is stopped in
+# between, and started again, within four seconds of its own start (RFC 1996). It prints a line a check and a count, and its status is 1 where one failed.
 # It listens on 127.0.0.1 alone, and ends what it starts.
 # Usage: [DNSD=PROGRAM] tests/notify.sh [--port N] [--updates N]
 #   --port N       dnsd listens on N (by default 16353), and the secondaries and what stands between on the eight behind it
@@ -129,12 +129,13 @@ records() {
 # Milliseconds since some time ago.
 now() { date +%s%3N; }
 
-# Waits until a server has a serial, and tells how long after a time that was: PORT SERIAL SINCE. At most half a minute.
+# Waits until a server has a serial or a greater one, and tells how long after a time that was: PORT SERIAL SINCE. At most half a minute.
 reached() {
-    local began
+    local began held
     began=$(now)
     while [ $(($(now) - began)) -lt 30000 ]; do
-        if [ "$(serial "$1")" = "$2" ]; then
+        held=$(serial "$1")
+        if [ "${held:-0}" -ge "$2" ]; then
             echo $(($(now) - $3))
             return
         fi
@@ -198,19 +199,30 @@ for name in $names; do wholes[$name]=$(whole "$name"); done
 update_all 1
 all_hold "all told" $((updates + 1)) 2000
 
-# one is stopped, and started again after some updates
-kill "${pids[knotd]}"; wait "${pids[knotd]}" 2>/dev/null || true
-half=$updates
-updates=10
-update_all $((half + 1))
-start_knotd
-last=$(now)
-check "knotd, started again, in 4000 ms" yes "$(within "$(reached "${ports[knotd]}" $((half + 11)) "$last")" 4000)"
-check "knotd, started again, record by record" "$(records "$port")" "$(records "${ports[knotd]}")"
+# each is stopped, and started again while updates go on
+for name in $names; do kill "${pids[$name]}"; done
+for name in $names; do wait "${pids[$name]}" 2>/dev/null || true; done
+all=$updates
+updates=30
+(update_all $((all + 1)); echo "$last" >"$work/last") &
+updating=$!
+while [ "$(serial "$port")" -lt $((all + 11)) ]; do sleep 0.1; done
+for name in $names; do
+    want=$(serial "$port")
+    last=$(now)
+    "start_$name"
+    check "$name, started again, in 4000 ms" yes "$(within "$(reached "${ports[$name]}" "$want" "$last")" 4000)"
+done
+wait "$updating"
+last=$(cat "$work/last")
+updates=$all
+for name in $names; do
+    check "$name, started again, the last of all" yes "$(within "$(reached "${ports[$name]}" $((all + 31)) "$last")" 2000)"
+    check "$name, started again, record by record" "$(records "$port")" "$(records "${ports[$name]}")"
+done
 unserve
 
 # the same with every second NOTIFY lost
-updates=$half
 for name in $names; do
     python3 tests/dropping.py "${between[$name]}" "${ports[$name]}" "$work/$name.dropped" &
     started+=($!)

@@ -22,7 +22,7 @@ use Rattle.zone_service.specs.declared.answer.Now.TheVariants.{Bytes, Silent, La
 use Rattle.zone_service.proofs.ReplyLemmas.{update_is_no_query}
 
 -- who has loaded has seen what one had seen, and perhaps more
-load_grows : (first : List Record) (before after : ReaderState Version) (version : Version) → HasLoaded first before after version → Grows (learned_by after) (learned_by before)
+pub load_grows : (first : List Record) (before after : ReaderState Version) (version : Version) → HasLoaded first before after version → Grows (learned_by after) (learned_by before)
 load_grows first before after version load = record { published = (load.begun.0, sym load.begun.1); buried = ([], load.gone) }
 
 same_grows : (before after : ReaderState Version) → after ≡ before → Grows (learned_by after) (learned_by before)

@@ -1,5 +1,5 @@
 //! Who goes on with what is due to a zone's secondaries, by the version that is published last (RFC 1996, 3.1).
-ghost use Rattle.std.specs.Prelude.{◌≤◌, length, IfOk};
+ghost use Rattle.std.specs.Prelude.{◌≡◌, ◌≤◌, length, IfOk, OnErr};
 ghost use Rattle.notify.specs.Notify.{notify_limit};
 ghost use Rattle.conversation.specs.Served.{Grows};
 ghost use Rattle.zone_service.specs.Notified.{GoesOnBy};
@@ -20,7 +20,7 @@ pub enum NextTurn {
 /// Who goes on with what is due to a zone's secondaries.
 pub trait Notifying: Answering {
     /// What is next for the secondaries, where the version that is published last is served. A NOTIFY of it is written to the front of
-    /// `out`. [`Spent`] where no version can be loaded.
+    /// `out`. [`Spent`] where no version can be loaded: nothing is known of them then that wasn't before.
     fn next_turn(
         &mut self,
         notifier: &mut Notifier,
@@ -29,5 +29,6 @@ pub trait Notifying: Answering {
     ) -> Result<NextTurn, Spent>
         requires { notify_limit ≤ length out.old }
         ensures grows { Grows (seen self.new) (seen self.old) }
-        ensures next { IfOk result (λ next. GoesOnBy (seen self.new).published id notifier.old next out.new notifier.new) };
+        ensures next { IfOk result (λ next. GoesOnBy (seen self.new).published id notifier.old next out.new notifier.new) }
+        ensures none { OnErr result (notifier.new ≡ notifier.old) };
 }
