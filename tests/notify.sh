@@ -166,7 +166,7 @@ whole() {
     esac | awk 'NR == 1 { first = $1 } $1 >= first { count++ } END { print count + 0 }'
 }
 
-# All secondaries have a serial in so many milliseconds after the last update, and the server's records, and took only what changed.
+# All secondaries have a serial in so many milliseconds after the last update, and the server's records.
 all_hold() {
     local name want
     for name in $names; do
@@ -179,8 +179,13 @@ all_hold() {
         echo "       $name: $(cat "$work/reached.$name") ms after the last update"
         check "$name, $1, in $3 ms" yes "$(within "$(cat "$work/reached.$name")" "$3")"
         check "$name, $1, record by record" "$want" "$(records "${ports[$name]}")"
-        check "$name, $1, by what changed alone" "${wholes[$name]}" "$(whole "$name")"
     done
+}
+
+# And they took only what changed.
+by_changes() {
+    local name
+    for name in $names; do check "$name, $1, by what changed alone" "${wholes[$name]}" "$(whole "$name")"; done
 }
 
 declare -A pids waits wholes
@@ -198,6 +203,7 @@ done
 for name in $names; do wholes[$name]=$(whole "$name"); done
 update_all 1
 all_hold "all told" $((updates + 1)) 2000
+by_changes "all told"
 
 # each is stopped, and started again while updates go on
 for name in $names; do kill "${pids[$name]}"; done
@@ -216,10 +222,7 @@ done
 wait "$updating"
 last=$(cat "$work/last")
 updates=$all
-for name in $names; do
-    check "$name, started again, the last of all" yes "$(within "$(reached "${ports[$name]}" $((all + 31)) "$last")" 2000)"
-    check "$name, started again, record by record" "$(records "$port")" "$(records "${ports[$name]}")"
-done
+all_hold "started again" $((all + 31)) 2000
 unserve
 
 # the same with every second NOTIFY lost
@@ -240,6 +243,7 @@ done
 for name in $names; do wholes[$name]=$(whole "$name"); done
 update_all 1
 all_hold "every second NOTIFY lost" $((updates + 1)) 4000
+by_changes "every second NOTIFY lost"
 for name in $names; do
     echo "       $name: $(grep -c passed "$work/$name.dropped") passed, $(grep -c dropped "$work/$name.dropped") dropped"
 done
