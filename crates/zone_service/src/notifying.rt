@@ -28,7 +28,7 @@ pub trait Notifying: Answering {
         out: &mut [u8],
     ) -> Result<NextTurn, Spent>
         requires { notify_limit ≤ length out.old }
-        ensures grows { Grows (seen self.new) (seen self.old) }
-        ensures next { IfOk result (λ next. GoesOnBy (seen self.new).published id notifier.old next out.new notifier.new) }
+        ensures grows { Grows (Self.seen self.new) (Self.seen self.old) }
+        ensures next { IfOk result (λ next. GoesOnBy (Self.seen self.new).published id notifier.old next out.new notifier.new) }
         ensures none { OnErr result (notifier.new ≡ notifier.old) };
 }
