@@ -170,25 +170,6 @@ impl<'a, C: Clock> NotifyJob<'a, C> {
         }
     }
 
-    /// Takes what has come from the secondaries.
-    fn take_replies<R: Wait, L: ServiceLog>(&mut self, rt: &R, log: &L)
-        ensures number { self.new.number ≡ self.old.number }
-    {
-        let mut octets = [0u8; MAX_NOTIFY];
-        for socket in self.sockets.iter() {
-            for _ in 0..MOST_REPLIES {
-                let Some(len) = socket.receive(&mut octets) else {
-                    break;
-                };
-                let secondary = socket.address;
-                let heard = self.notifier.receive(&self.apex, secondary, &octets[..len]);
-                if heard == Some(Heard::Again) {
-                    log.tell(rt, Event::Again { secondary });
-                }
-            }
-        }
-    }
-
     /// Tells what is due, and takes what has come; then waits until something may be due. An end where no version can be loaded, or where the
     /// other threads had ended before: what they published last is told once more then.
     fn look<R: Wait, A: Notifying, L: ServiceLog>(
@@ -206,7 +187,7 @@ impl<'a, C: Clock> NotifyJob<'a, C> {
             Ok(wait) => wait.unwrap_or(LONGEST_LOOK).min(LONGEST_LOOK),
             Err(end) => return Some(end),
         };
-        self.take_replies(rt, log);
+        take_replies(rt, self.sockets.as_slice(), &mut self.notifier, &self.apex, log);
         if is_over {
             return Some(JobEnd::Done(self.sent));
         }
@@ -232,6 +213,28 @@ impl<'a, C: Clock> NotifyJob<'a, C> {
             }
         }
         unreachable!()
+    }
+}
+
+/// Takes what has come from the secondaries of a zone at an apex.
+fn take_replies<R: Wait, L: ServiceLog>(
+    rt: &R,
+    sockets: &[NotifySocket],
+    notifier: &mut Notifier,
+    apex: &Name,
+    log: &L,
+) {
+    let mut octets = [0u8; MAX_NOTIFY];
+    for socket in sockets {
+        for _ in 0..MOST_REPLIES {
+            let Some(len) = socket.receive(&mut octets) else {
+                break;
+            };
+            let secondary = socket.address;
+            if notifier.receive(apex, secondary, &octets[..len]) == Some(Heard::Again) {
+                log.tell(rt, Event::Again { secondary });
+            }
+        }
     }
 }
 
