@@ -1,7 +1,7 @@
 -- A thread's job, and who answers in it (own).
 use Rattle.std.specs.Prelude.{ℕ, List, Option}
 use Rattle.zone_tree.specs.Version.{Version}
-use Rattle.snapshot_cell.specs.declared.named.NamedReader.{NamedReader}
+use Rattle.snapshot_cell.specs.Tokens.{ReaderState}
 use Rattle.zone_service.specs.declared.service_log.JobEnd.{JobEnd}
 use Rattle.serve_workers.specs.Numbers.{number_of, end_of}
 use Rattle.serve_workers.specs.declared.threads.SocketJob.{SocketJob}
@@ -10,7 +10,7 @@ use Rattle.serve_workers.specs.declared.threads.Seat.{Seat}
 use Rattle.serve_workers.specs.declared.threads.Seat.TheVariants.{Datagrams, Connections, Secondaries}
 
 -- its reader and its job
-abbrev pub pair_of : {Z N L C : Type 0} → Seat Z N L C → NamedReader Version N × SocketJob C
+abbrev pub pair_of : {Z N L C : Type 0} → Seat Z N L C → ReaderState Version × SocketJob C
 pair_of (Datagrams asked job) = (asked.reader, OnDatagrams job)
 pair_of (Connections replies job) = (replies.reader, OnConnections job)
 pair_of (Secondaries asked job) = (asked.reader, OnSecondaries job)
