@@ -31,15 +31,13 @@ pub struct Secondary {
 
 /// The option, beside others.
 pub fn with_notify<'a>(alloc: Global, parser: Parser<'a>) -> Result<Parser<'a>, AllocError> {
-    parser.arg(
-        option(
-            alloc,
-            NOTIFY,
-            "ADDR[:PORT][@FROM]",
-            "a secondary that is told of each version by NOTIFY, from the address FROM or else the first of its family that is listened on; it may be given again for further ones, at most 32",
-        )
-        .action(ArgAction::Append),
+    parser.arg(option(
+        alloc,
+        NOTIFY,
+        "ADDR[:PORT][@FROM]",
+        "a secondary that is told of each version by NOTIFY, from the address FROM or else the first of its family that is listened on; it may be given again for further ones, at most 32",
     )
+    .action(ArgAction::Append))
 }
 
 /// The secondaries of the option's words, each `ADDR[:PORT][@FROM]`; at most [`MAX_SECONDARIES`], no two at one address.

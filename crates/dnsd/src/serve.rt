@@ -139,7 +139,8 @@ fn serve_bound<
     addresses: Vec<SocketAddr>,
 ) -> io::Result<u8> {
     let (told, listen) = (serve.secondaries.as_slice(), serve.listen.as_slice());
-    let Some(secondaries) = secondaries_for(rt, rt.alloc(), told, listen, zone.apex().copy())? else {
+    let Some(secondaries) = secondaries_for(rt, rt.alloc(), told, listen, zone.apex().copy())?
+    else {
         return Ok(FAILED);
     };
     let listening = Listening {

@@ -187,7 +187,13 @@ impl<'a, C: Clock> NotifyJob<'a, C> {
             Ok(wait) => wait.unwrap_or(LONGEST_LOOK).min(LONGEST_LOOK),
             Err(end) => return Some(end),
         };
-        take_replies(rt, self.sockets.as_slice(), &mut self.notifier, &self.apex, log);
+        take_replies(
+            rt,
+            self.sockets.as_slice(),
+            &mut self.notifier,
+            &self.apex,
+            log,
+        );
         if is_over {
             return Some(JobEnd::Done(self.sent));
         }

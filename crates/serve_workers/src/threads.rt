@@ -84,9 +84,7 @@ impl<'g, 's, Z: FirstZone, N: Naming, L: ServiceLog, C: Clock> Seat<'g, 's, Z, N
             Seat::Connections(replies, job) => {
                 (replies.into_reader(), SocketJob::Connections(job))
             }
-            Seat::Secondaries(asked, job) => {
-                (asked.into_reader(), SocketJob::Secondaries(job))
-            }
+            Seat::Secondaries(asked, job) => { (asked.into_reader(), SocketJob::Secondaries(job)) }
         }
     }
 
