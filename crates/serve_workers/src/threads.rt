@@ -33,13 +33,49 @@ pub enum SocketJob<'a, C> {
     Connections(TcpJob<'a, C>),
 }
 
+/// A job on a socket of datagrams, and who answers in it by a reader.
+#[derive(Drop)]
+struct DatagramsSeat<'g, 's, Z: FirstZone, N: Naming, L> {
+    asked: Asked<'g, 's, Z, N, L>,
+    job: DatagramsJob<'g, WorkerSocket<'g>>,
+}
+
+impl<'g, 's, Z: FirstZone, N: Naming, L: ServiceLog> DatagramsSeat<'g, 's, Z, N, L> {
+    /// Does its job, and gives how that has ended.
+    fn serve<R: Wait>(&mut self, rt: &R) -> JobEnd
+        ensures number { self.new.job.number ≡ self.old.job.number }
+        ensures seen { BeginsWith self.new.asked.reader.seen self.old.asked.reader.seen }
+        ensures end { self.new.job.end ≡ Some result }
+    {
+        self.job.serve(rt, &mut self.asked)
+    }
+}
+
+/// A job on connections, and who answers in it by a reader.
+#[derive(Drop)]
+struct ConnectionsSeat<'g, 's, Z: FirstZone, N: Naming, L, C> {
+    replies: Replies<'g, 's, Z, N, L>,
+    job: TcpJob<'g, C>,
+}
+
+impl<'g, 's, Z: FirstZone, N: Naming, L: ServiceLog, C: Clock> ConnectionsSeat<'g, 's, Z, N, L, C> {
+    /// Does its job, and gives how that has ended.
+    fn serve<R: Wait>(&mut self, rt: &R, log: &L) -> JobEnd
+        ensures number { self.new.job.number ≡ self.old.job.number }
+        ensures seen { BeginsWith self.new.replies.reader.seen self.old.replies.reader.seen }
+        ensures end { self.new.job.end ≡ Some result }
+    {
+        self.job.serve(rt, &mut self.replies, log)
+    }
+}
+
 /// A thread's job, and who answers in it by a reader.
 #[derive(Drop)]
 enum Seat<'g, 's, Z: FirstZone, N: Naming, L, C> {
     /// On a socket of datagrams.
-    Datagrams(Asked<'g, 's, Z, N, L>, DatagramsJob<'g, WorkerSocket<'g>>),
+    Datagrams(DatagramsSeat<'g, 's, Z, N, L>),
     /// On listeners.
-    Connections(Replies<'g, 's, Z, N, L>, TcpJob<'g, C>),
+    Connections(ConnectionsSeat<'g, 's, Z, N, L, C>),
 }
 
 impl<'g, 's, Z: FirstZone, N: Naming, L: ServiceLog, C: Clock> Seat<'g, 's, Z, N, L, C> {
@@ -56,13 +92,12 @@ impl<'g, 's, Z: FirstZone, N: Naming, L: ServiceLog, C: Clock> Seat<'g, 's, Z, N
         let peer = Peer::over(Transport::Udp, false);
         match job {
             SocketJob::Datagrams(job) => {
-                Seat::Datagrams(Asked::new(alloc, server, reader, log, peer, nobody()), job)
+                let asked = Asked::new(alloc, server, reader, log, peer, nobody());
+                Seat::Datagrams(DatagramsSeat { asked, job })
             }
             SocketJob::Connections(job) => {
-                Seat::Connections(
-                    Replies::new(alloc, server, reader, log, peer, nobody()),
-                    job,
-                )
+                let replies = Replies::new(alloc, server, reader, log, peer, nobody());
+                Seat::Connections(ConnectionsSeat { replies, job })
             }
         }
     }
@@ -72,8 +107,10 @@ impl<'g, 's, Z: FirstZone, N: Naming, L: ServiceLog, C: Clock> Seat<'g, 's, Z, N
         ensures { result ≡ pair_of self.entry }
     {
         match self {
-            Seat::Datagrams(asked, job) => (asked.into_reader(), SocketJob::Datagrams(job)),
-            Seat::Connections(replies, job) => {
+            Seat::Datagrams(DatagramsSeat { asked, job }) => {
+                (asked.into_reader(), SocketJob::Datagrams(job))
+            }
+            Seat::Connections(ConnectionsSeat { replies, job }) => {
                 (replies.into_reader(), SocketJob::Connections(job))
             }
         }
@@ -82,8 +119,8 @@ impl<'g, 's, Z: FirstZone, N: Naming, L: ServiceLog, C: Clock> Seat<'g, 's, Z, N
     /// What carries its requests.
     fn transport(&self) -> Transport {
         match self {
-            Seat::Datagrams(_, _) => Transport::Udp,
-            Seat::Connections(_, _) => Transport::Tcp,
+            Seat::Datagrams(_) => Transport::Udp,
+            Seat::Connections(_) => Transport::Tcp,
         }
     }
 
@@ -94,8 +131,8 @@ impl<'g, 's, Z: FirstZone, N: Naming, L: ServiceLog, C: Clock> Seat<'g, 's, Z, N
         ensures end { seat_end self.new ≡ Some result }
     {
         match self {
-            Seat::Datagrams(asked, job) => job.serve(rt, asked),
-            Seat::Connections(replies, job) => job.serve(rt, replies, log),
+            Seat::Datagrams(seat) => seat.serve(rt),
+            Seat::Connections(seat) => seat.serve(rt, log),
         }
     }
 
@@ -104,8 +141,8 @@ impl<'g, 's, Z: FirstZone, N: Naming, L: ServiceLog, C: Clock> Seat<'g, 's, Z, N
         ensures { result ≡ seat_number self.now }
     {
         match self {
-            Seat::Datagrams(_, job) => job.number,
-            Seat::Connections(_, job) => job.number,
+            Seat::Datagrams(seat) => seat.job.number,
+            Seat::Connections(seat) => seat.job.number,
         }
     }
 }
