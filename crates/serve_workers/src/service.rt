@@ -277,6 +277,14 @@ fn fault_in<N: Naming, C: Clock>(
     None
 }
 
+/// The reader of a pair, whose job is over.
+fn reader_of<N: Naming, C: Clock>(pair: (VersionReader<N>, SocketJob<'_, C>)) -> VersionReader<N>
+    ensures { result ≡ pair.entry.0 }
+{
+    let (reader, _job) = pair;
+    reader
+}
+
 /// Puts the readers of pairs into `back`, which has room for them.
 fn put_readers<N: Naming, C: Clock>(
     pairs: Vec<(VersionReader<N>, SocketJob<'_, C>)>,
@@ -287,8 +295,8 @@ fn put_readers<N: Naming, C: Clock>(
     ensures readers { back.new.items ≡ map (λ pair. pair.0) pairs.entry.items }
     ensures room { vec_capacity back.new ≡ vec_capacity back.old }
 {
-    for (reader, _job) in pairs {
-        back.push_reserved(reader);
+    for pair in pairs {
+        back.push_reserved(reader_of(pair));
     }
 }
 

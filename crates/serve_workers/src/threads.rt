@@ -36,15 +36,69 @@ pub enum SocketJob<'a, C> {
     Secondaries(NotifyJob<'a, C>),
 }
 
+/// A job on a socket of datagrams, and who answers in it by a reader.
+#[derive(Drop)]
+struct DatagramsSeat<'g, 's, Z: FirstZone, N: Naming, L> {
+    asked: Asked<'g, 's, Z, N, L>,
+    job: DatagramsJob<'g, WorkerSocket<'g>>,
+}
+
+impl<'g, 's, Z: FirstZone, N: Naming, L: ServiceLog> DatagramsSeat<'g, 's, Z, N, L> {
+    /// Does its job, and gives how that has ended.
+    fn serve<R: Wait>(&mut self, rt: &R) -> JobEnd
+        ensures number { self.new.job.number ≡ self.old.job.number }
+        ensures seen { BeginsWith self.new.asked.reader.seen self.old.asked.reader.seen }
+        ensures end { self.new.job.end ≡ Some result }
+    {
+        self.job.serve(rt, &mut self.asked)
+    }
+}
+
+/// A job on connections, and who answers in it by a reader.
+#[derive(Drop)]
+struct ConnectionsSeat<'g, 's, Z: FirstZone, N: Naming, L, C> {
+    replies: Replies<'g, 's, Z, N, L>,
+    job: TcpJob<'g, C>,
+}
+
+impl<'g, 's, Z: FirstZone, N: Naming, L: ServiceLog, C: Clock> ConnectionsSeat<'g, 's, Z, N, L, C> {
+    /// Does its job, and gives how that has ended.
+    fn serve<R: Wait>(&mut self, rt: &R, log: &L) -> JobEnd
+        ensures number { self.new.job.number ≡ self.old.job.number }
+        ensures seen { BeginsWith self.new.replies.reader.seen self.old.replies.reader.seen }
+        ensures end { self.new.job.end ≡ Some result }
+    {
+        self.job.serve(rt, &mut self.replies, log)
+    }
+}
+
+/// A job that tells secondaries, and who loads in it by a reader.
+#[derive(Drop)]
+struct SecondariesSeat<'g, 's, Z: FirstZone, N: Naming, L, C> {
+    asked: Asked<'g, 's, Z, N, L>,
+    job: NotifyJob<'g, C>,
+}
+
+impl<'g, 's, Z: FirstZone, N: Naming, L: ServiceLog, C: Clock> SecondariesSeat<'g, 's, Z, N, L, C> {
+    /// Does its job, and gives how that has ended.
+    fn serve<R: Wait>(&mut self, rt: &R, log: &L) -> JobEnd
+        ensures number { self.new.job.number ≡ self.old.job.number }
+        ensures seen { BeginsWith self.new.asked.reader.seen self.old.asked.reader.seen }
+        ensures end { self.new.job.end ≡ Some result }
+    {
+        self.job.serve(rt, &mut self.asked, log)
+    }
+}
+
 /// A thread's job, and who answers in it by a reader.
 #[derive(Drop)]
 enum Seat<'g, 's, Z: FirstZone, N: Naming, L, C> {
     /// On a socket of datagrams.
-    Datagrams(Asked<'g, 's, Z, N, L>, DatagramsJob<'g, WorkerSocket<'g>>),
+    Datagrams(DatagramsSeat<'g, 's, Z, N, L>),
     /// On listeners.
-    Connections(Replies<'g, 's, Z, N, L>, TcpJob<'g, C>),
+    Connections(ConnectionsSeat<'g, 's, Z, N, L, C>),
     /// On secondaries' sockets.
-    Secondaries(Asked<'g, 's, Z, N, L>, NotifyJob<'g, C>),
+    Secondaries(SecondariesSeat<'g, 's, Z, N, L, C>),
 }
 
 impl<'g, 's, Z: FirstZone, N: Naming, L: ServiceLog, C: Clock> Seat<'g, 's, Z, N, L, C> {
@@ -61,16 +115,16 @@ impl<'g, 's, Z: FirstZone, N: Naming, L: ServiceLog, C: Clock> Seat<'g, 's, Z, N
         let peer = Peer::over(Transport::Udp, false);
         match job {
             SocketJob::Datagrams(job) => {
-                Seat::Datagrams(Asked::new(alloc, server, reader, log, peer, nobody()), job)
+                let asked = Asked::new(alloc, server, reader, log, peer, nobody());
+                Seat::Datagrams(DatagramsSeat { asked, job })
             }
             SocketJob::Connections(job) => {
-                Seat::Connections(
-                    Replies::new(alloc, server, reader, log, peer, nobody()),
-                    job,
-                )
+                let replies = Replies::new(alloc, server, reader, log, peer, nobody());
+                Seat::Connections(ConnectionsSeat { replies, job })
             }
             SocketJob::Secondaries(job) => {
-                Seat::Secondaries(Asked::new(alloc, server, reader, log, peer, nobody()), job)
+                let asked = Asked::new(alloc, server, reader, log, peer, nobody());
+                Seat::Secondaries(SecondariesSeat { asked, job })
             }
         }
     }
@@ -80,11 +134,15 @@ impl<'g, 's, Z: FirstZone, N: Naming, L: ServiceLog, C: Clock> Seat<'g, 's, Z, N
         ensures { result ≡ pair_of self.entry }
     {
         match self {
-            Seat::Datagrams(asked, job) => (asked.into_reader(), SocketJob::Datagrams(job)),
-            Seat::Connections(replies, job) => {
+            Seat::Datagrams(DatagramsSeat { asked, job }) => {
+                (asked.into_reader(), SocketJob::Datagrams(job))
+            }
+            Seat::Connections(ConnectionsSeat { replies, job }) => {
                 (replies.into_reader(), SocketJob::Connections(job))
             }
-            Seat::Secondaries(asked, job) => { (asked.into_reader(), SocketJob::Secondaries(job)) }
+            Seat::Secondaries(SecondariesSeat { asked, job }) => {
+                (asked.into_reader(), SocketJob::Secondaries(job))
+            }
         }
     }
 
@@ -92,9 +150,9 @@ impl<'g, 's, Z: FirstZone, N: Naming, L: ServiceLog, C: Clock> Seat<'g, 's, Z, N
     fn event_of(&self, end: JobEnd) -> Event {
         let worker = self.number();
         let transport = match self {
-            Seat::Datagrams(_, _) => Transport::Udp,
-            Seat::Connections(_, _) => Transport::Tcp,
-            Seat::Secondaries(_, _) => return Event::Untold { end },
+            Seat::Datagrams(_) => Transport::Udp,
+            Seat::Connections(_) => Transport::Tcp,
+            Seat::Secondaries(_) => return Event::Untold { end },
         };
         Event::End {
             worker,
@@ -110,9 +168,9 @@ impl<'g, 's, Z: FirstZone, N: Naming, L: ServiceLog, C: Clock> Seat<'g, 's, Z, N
         ensures end { seat_end self.new ≡ Some result }
     {
         match self {
-            Seat::Datagrams(asked, job) => job.serve(rt, asked),
-            Seat::Connections(replies, job) => job.serve(rt, replies, log),
-            Seat::Secondaries(asked, job) => job.serve(rt, asked, log),
+            Seat::Datagrams(seat) => seat.serve(rt),
+            Seat::Connections(seat) => seat.serve(rt, log),
+            Seat::Secondaries(seat) => seat.serve(rt, log),
         }
     }
 
@@ -121,9 +179,9 @@ impl<'g, 's, Z: FirstZone, N: Naming, L: ServiceLog, C: Clock> Seat<'g, 's, Z, N
         ensures { result ≡ seat_number self.now }
     {
         match self {
-            Seat::Datagrams(_, job) => job.number,
-            Seat::Connections(_, job) => job.number,
-            Seat::Secondaries(_, job) => job.number,
+            Seat::Datagrams(seat) => seat.job.number,
+            Seat::Connections(seat) => seat.job.number,
+            Seat::Secondaries(seat) => seat.job.number,
         }
     }
 }
