@@ -1,5 +1,6 @@
 //! The command line.
-ghost use Rattle.std.specs.Prelude.{◌≤◌, IfOk};
+ghost use Rattle.std.specs.Prelude.{◌≡◌, ◌≤◌, IsNone, IfOk};
+ghost use Rattle.std.specs.Result.{IsOkAnd};
 
 use crate::options::{Serve, serve_of, serve_options};
 use clap::{Arg, ArgAction, ArgMatches, Command as Parser};
@@ -45,6 +46,12 @@ pub enum CommandFault<'a> {
     Allow(&'a str),
     /// So many workers, for so many addresses, ask for too many threads.
     Threads(usize, usize),
+    /// The word for a secondary is no address.
+    Notify(&'a str),
+    /// The word is for one secondary more than can be told.
+    Secondaries(&'a str),
+    /// The word is for a secondary that another word is for.
+    SecondaryTwice(&'a str),
 }
 
 impl From<clap::Error> for CommandFault<'_> {
@@ -147,6 +154,7 @@ pub fn number_for<'a>(
 ) -> Result<usize, CommandFault<'a>>
     ensures least { least ≤ own → IfOk result (λ number. least ≤ number) }
     ensures most { own ≤ most → IfOk result (λ number. number ≤ most) }
+    ensures own { IsNone word.entry → IsOkAnd result (λ number. number ≡ own) }
 {
     let Some(word) = word else {
         return Ok(own);

@@ -1,17 +1,19 @@
 //! A zone served on sockets, by workers.
-ghost use Rattle.std.specs.Prelude.{◌≡◌, ◌+◌, ◌*◌, ◌%◌, ◌<◌, ◌≤◌, ◌⊎◌, [], true, false, map, vec_len, vec_capacity, IfOk, IfErr, IfSome};
-ghost use Rattle.std.specs.List.{All, range_with_len};
+ghost use Rattle.std.specs.Prelude.{◌≡◌, ◌+◌, ◌*◌, ◌%◌, ◌<◌, ◌≤◌, ◌⊎◌, [], true, false, map, vec_len, vec_capacity, None, Some, IfOk, IfErr, MatchOption};
+ghost use Rattle.std.specs.List.{All, Any};
 ghost use Rattle.dns_engine.specs.Held.{KEPT};
 ghost use Rattle.snapshot_cell.specs.declared.tokens.TheConstants.{READERS};
 ghost use Rattle.serve_workers.specs.declared.service.ServeFault.{ServeFault as Fault};
-ghost use Rattle.serve_workers.specs.Numbers.{number_of, takes_datagrams};
+ghost use Rattle.serve_workers.specs.Numbers.{number_of, takes_datagrams, are_datagrams, HasRights, end_of, fault_by};
 
 use crate::connections_job::ConnectionsJob;
 use crate::datagrams_job::DatagramsJob;
 use crate::ending::{end_cell, end_named};
+use crate::notify_job::{NotifyJob, Secondaries};
 use crate::progress::{Muster, Progress, Standing};
 use crate::scratch::Scratch;
 use crate::threads::{SocketJob, TcpJob, run_threads};
+use crate::worker_socket::WorkerSocket;
 use crate::workers::NotStarted;
 use dns_engine::{
     FirstZone, SharedVersion, VersionCell, VersionPublisher, VersionReader, ZoneVersions,
@@ -52,6 +54,8 @@ pub enum Sockets {
     Datagrams(UdpSocket),
     /// Listeners at which connections come, which don't wait.
     Connections(Vec<TcpListener>),
+    /// The secondaries that are told of each version.
+    Secondaries(Secondaries),
 }
 
 /// What one thread of a worker does.
@@ -85,11 +89,12 @@ pub enum ServeFault {
 impl<C: Clock> SocketJob<'_, C> {
     /// Why it has ended before it had done as much as it may; none where it had.
     fn fault(&self) -> Option<ServeFault>
-        ensures { IfSome result (λ fault. (fault ≡ Fault.Device) ⊎ (fault ≡ Fault.Spent) ⊎ (fault ≡ Fault.NoMemory)) }
+        ensures { result ≡ fault_by (end_of self.now) }
     {
         let end = match self {
             SocketJob::Datagrams(job) => job.end(),
             SocketJob::Connections(job) => job.end(),
+            SocketJob::Secondaries(job) => job.end(),
         };
         match end {
             Some(JobEnd::Device) => Some(ServeFault::Device),
@@ -260,7 +265,9 @@ fn serve_with<
 fn fault_in<N: Naming, C: Clock>(
     pairs: &[(VersionReader<N>, SocketJob<'_, C>)],
 ) -> Option<ServeFault>
-    ensures { IfSome result (λ fault. (fault ≡ Fault.Device) ⊎ (fault ≡ Fault.Spent) ⊎ (fault ≡ Fault.NoMemory)) }
+    ensures { MatchOption result
+        (All (λ pair. fault_by (end_of pair.1) ≡ None) pairs.now)
+        (λ fault. Any (λ pair. fault_by (end_of pair.1) ≡ Some fault) pairs.now) }
 {
     for pair in pairs {
         if let Some(fault) = pair.1.fault() {
@@ -268,6 +275,14 @@ fn fault_in<N: Naming, C: Clock>(
         }
     }
     None
+}
+
+/// The reader of a pair, whose job is over.
+fn reader_of<N: Naming, C: Clock>(pair: (VersionReader<N>, SocketJob<'_, C>)) -> VersionReader<N>
+    ensures { result ≡ pair.entry.0 }
+{
+    let (reader, _job) = pair;
+    reader
 }
 
 /// Puts the readers of pairs into `back`, which has room for them.
@@ -280,8 +295,8 @@ fn put_readers<N: Naming, C: Clock>(
     ensures readers { back.new.items ≡ map (λ pair. pair.0) pairs.entry.items }
     ensures room { vec_capacity back.new ≡ vec_capacity back.old }
 {
-    for (reader, _job) in pairs {
-        back.push_reserved(reader);
+    for pair in pairs {
+        back.push_reserved(reader_of(pair));
     }
 }
 
@@ -290,7 +305,9 @@ fn places_of<C: Clock>(
     alloc: Global,
     watch: &mut Watch<'_, C>,
     listeners: Vec<TcpListener>,
-) -> io::Result<Vec<TcpPlace>> {
+) -> io::Result<Vec<TcpPlace>>
+    ensures { IfOk result (λ places. vec_len places ≡ vec_len listeners) }
+{
     let mut places = Vec::new(alloc);
     let mut number = 0usize;
     for listener in listeners {
@@ -313,7 +330,7 @@ fn tcp_job<'a, R: Clock + Net>(
     scratch: Scratch,
 ) -> io::Result<TcpJob<'a, R>>
     ensures number { IfOk result (λ job. job.number ≡ worker) }
-    ensures plan { IfOk result (λ job. job.plan ≡ plan.connections) }
+    ensures plan { IfOk result (λ job. job.plan ≡ plan.entry.connections) }
 {
     let count = listeners.len();
     let mut watch = Watch::new(rt, alloc, rt)?;
@@ -331,7 +348,9 @@ fn job_of<'a, R: Clock + Net>(
     plan: Plan<'a>,
     scratch: Scratch,
 ) -> io::Result<SocketJob<'a, R>>
-    ensures number { IfOk result (λ job. number_of job ≡ duty.worker) }
+    ensures number { IfOk result (λ job. number_of job ≡ duty.entry.worker) }
+    ensures kind { IfOk result (λ job. takes_datagrams job ≡ are_datagrams duty.entry.sockets) }
+    ensures rights { IfOk result (λ job. HasRights plan.entry.connections.allowed.addresses.now job) }
 {
     let Duty {
         worker,
@@ -342,12 +361,17 @@ fn job_of<'a, R: Clock + Net>(
     match sockets {
         Sockets::Datagrams(socket) => {
             let allowed = plan.connections.allowed;
-            let job = DatagramsJob::new(worker, socket, allowed, standing, scratch)?;
+            let socket = WorkerSocket::new(socket, standing)?;
+            let job = DatagramsJob::new(worker, socket, allowed, standing, scratch);
             Ok(SocketJob::Datagrams(job))
         }
         Sockets::Connections(listeners) => {
             let job = tcp_job(rt, alloc, worker, listeners, plan, standing, scratch)?;
             Ok(SocketJob::Connections(job))
+        }
+        Sockets::Secondaries(secondaries) => {
+            let job = NotifyJob::new(alloc, worker, secondaries, rt, plan.muster)?;
+            Ok(SocketJob::Secondaries(job))
         }
     }
 }
@@ -359,8 +383,10 @@ fn jobs_of<'a, R: Clock + Net>(
     duties: Vec<Duty<'a>>,
     plan: Plan<'a>,
 ) -> Result<Vec<SocketJob<'a, R>>, ServeFault>
-    ensures numbers { IfOk result (λ jobs. map (λ job. number_of job) jobs.items ≡ map (λ duty. duty.worker) duties.items) }
-    ensures count { IfOk result (λ jobs. vec_len jobs ≡ vec_len duties) }
+    ensures numbers { IfOk result (λ jobs. map (λ job. number_of job) jobs.items ≡ map (λ duty. duty.worker) duties.entry.items) }
+    ensures kinds { IfOk result (λ jobs. map (λ job. takes_datagrams job) jobs.items ≡ map (λ duty. are_datagrams duty.sockets) duties.entry.items) }
+    ensures rights { IfOk result (λ jobs. All (λ job. HasRights plan.entry.connections.allowed.addresses.now job) jobs.items) }
+    ensures count { IfOk result (λ jobs. vec_len jobs ≡ vec_len duties.entry) }
     ensures refused { IfErr result (λ fault. (fault ≡ Fault.NoMemory) ⊎ (fault ≡ Fault.Device)) }
 {
     let mut jobs = Vec::new(alloc);

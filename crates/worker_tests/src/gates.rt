@@ -80,6 +80,8 @@ struct TapeJob {
 impl Job for TapeJob {
     ghost number = { λ job. job.number };
 
+    ghost is_done = { λ _. Unit {0} };
+
     fn run<R: Wait, A: Answering, G: Gate, L: ServiceLog>(
         &mut self,
         rt: &R,

@@ -13,11 +13,13 @@ ghost use Rattle.conversation.specs.Turns.{Replies, IsBrokenAs};
 ghost use Rattle.conversation.specs.declared.turn.Broken.{Broken as BrokenBy};
 
 use crate::answer::{Now, Served, Told, answer_now, serve_one};
+use crate::notifying::{NextTurn, Notifying};
 use crate::server::Server;
 use crate::service_log::{Event, ServiceLog};
 use crate::transfer::{send_transfer, write_transfer};
 use conversation::{Answering, Broken, Counted, Stream, write_frame};
 use dns_engine::{FirstZone, VersionReader};
+use notify::Notifier;
 use serve_core::{Peer, Transport};
 use snapshot_cell::{Naming, Spent};
 use std::alloc::Global;
@@ -239,6 +241,22 @@ impl<'a, 's, Z: FirstZone, N: Naming, L: ServiceLog> Answering for Asked<'a, 's,
             Now::Silent => Ok(()),
             Now::Later => self.answer_later(rt, stream, request, out, frame),
             Now::Spent => Err(Broken::Spent),
+        }
+    }
+}
+
+impl<'a, 's, Z: FirstZone, N: Naming, L: ServiceLog> Notifying for Asked<'a, 's, Z, N, L> {
+    fn next_turn(
+        &mut self,
+        notifier: &mut Notifier,
+        id: u16,
+        out: &mut [u8],
+    ) -> Result<NextTurn, Spent> {
+        let strong = self.server.cell().load(&mut self.reader)?;
+        let version = strong.get().get();
+        match notifier.next(version, id, out) {
+            Some(due) => Ok(NextTurn::Due(due)),
+            None => Ok(NextTurn::Look(notifier.next_look(version.number()))),
         }
     }
 }

@@ -7,12 +7,14 @@
 
 mod answer;
 mod asked;
+mod notifying;
 mod server;
 mod service_log;
 mod transfer;
 
 pub use answer::{Now, Served, Told, answer_now, serve_one};
 pub use asked::Asked;
+pub use notifying::{NextTurn, Notifying};
 pub use server::Server;
 pub use service_log::{Event, JobEnd, Losses, NoLog, Serials, ServiceLog};
 pub use transfer::write_transfer;
