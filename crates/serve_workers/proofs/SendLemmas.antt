@@ -1,7 +1,9 @@
 -- A worker may be sent to a thread, and so may a thread's work.
 use denote.RattleType.{RattleType}
 use denote.Ref.{NamedLft}
-use denote.Param.Send.{IsSend, IsSync, sendable}
+use denote.Param.Send.{IsSend, IsSync, recorded_send, struct_send, enum_send, sendable}
+use denote.Struct.Declared.{shape}
+use denote.Enum.Declared as enum
 use Rattle.arrayvec.proofs.array_vec.ArrayVec.TheSendSync as array_vec
 use Rattle.arrayvec.proofs.cells.Cells.TheSendSync as cells
 use Rattle.std.proofs.Crossing as crossing
@@ -19,10 +21,12 @@ use Rattle.zone_service.specs.contracts.asked.Asked as asked
 use Rattle.zone_replies.specs.contracts.replies.Replies as replies
 use Rattle.zone_replies.specs.contracts.transfer.Transfer as transfer
 use Rattle.serve_workers.specs.contracts.connections_job.ConnectionsJob as connections
-use Rattle.serve_workers.specs.contracts.datagrams_job.DatagramsJob as datagrams
 use Rattle.serve_workers.specs.contracts.notify_job.NotifyJob as telling
-use Rattle.serve_workers.specs.contracts.worker_socket.WorkerSocket as socket
 use Rattle.serve_workers.specs.contracts.workers.Worker as worker
+use Rattle.serve_workers.specs.contracts.threads.ConnectionsSeat as connections_seat
+use Rattle.serve_workers.specs.contracts.threads.DatagramsSeat as datagrams_seat
+use Rattle.serve_workers.specs.contracts.threads.SecondariesSeat as secondaries_seat
+use Rattle.serve_workers.specs.contracts.threads.Seat as seat
 use Rattle.serve_workers.specs.contracts.threads.ServerThread as thread
 
 pub worker_send : (a b : NamedLft) (T N J G L : RattleType) (g : Ghosts T.Denot) (n : naming.Ghosts N.Denot) → IsSend J → IsSync G → IsSync L → IsSend (worker.the_row a b T N J G L n g)
@@ -41,24 +45,35 @@ peer_send = search (crossing.crosses, sendable) depth 60 fits 20000
 place_send : IsSend place.the_row
 place_send = search (crossing.crosses, sendable) depth 60 fits 20000
 
-socket_send : (a : NamedLft) → IsSend (socket.the_row a)
-socket_send a = search (crossing.crosses, sendable) depth 60 fits 20000
-
-datagrams_send : (a : NamedLft) (D : RattleType) → IsSend D → IsSend (datagrams.the_row a D)
-datagrams_send a D sends = search (crossing.crosses, sendable) depth 60 fits 20000
-
-connections_send : (a : NamedLft) (S P L C : RattleType) → IsSend S → IsSend P → IsSend L → IsSync C → IsSend (connections.the_row a S P L C)
+connections_send : (a : NamedLft) (S P L C : RattleType) → IsSend S → IsSend P → IsSend L → IsSync C → IsSend (connections.the_field a S P L C).row
 connections_send a S P L C peers polls places ticks = search (transfer_send, global.the_field_send, crossing.crosses, sendable) depth 60 fits 20000
 
-telling_send : (a : NamedLft) (C : RattleType) → IsSync C → IsSend (telling.the_row a C)
+tcp_send : (a : NamedLft) (C : RattleType) → IsSync C → IsSend (connections.the_field a peer.the_row (watch.the_row a C) place.the_row C).row
+tcp_send a C ticks = connections_send a peer.the_row (watch.the_row a C) place.the_row C peer_send (watch_send a C ticks) place_send ticks
+
+telling_send : (a : NamedLft) (C : RattleType) → IsSync C → IsSend (telling.the_field a C).row
 telling_send a C ticks = search (global.the_field_send, crossing.crosses, sendable) depth 60 fits 20000
 
-asked_send : (a b : NamedLft) (T N L : RattleType) (g : Ghosts T.Denot) (n : naming.Ghosts N.Denot) → IsSync L → IsSend (asked.the_row a b T N L n g)
+asked_send : (a b : NamedLft) (T N L : RattleType) (g : Ghosts T.Denot) (n : naming.Ghosts N.Denot) → IsSync L → IsSend (asked.the_field a b T N L n g).row
 asked_send a b T N L g n hears = search (server_sync, global.the_field_send, cell.crosses, crossing.crosses, sendable) depth 60 fits 20000
 
-replies_send : (a b : NamedLft) (T N L : RattleType) (g : Ghosts T.Denot) (n : naming.Ghosts N.Denot) → IsSync L → IsSend (replies.the_row a b T N L n g)
+replies_send : (a b : NamedLft) (T N L : RattleType) (g : Ghosts T.Denot) (n : naming.Ghosts N.Denot) → IsSync L → IsSend (replies.the_field a b T N L n g).row
 replies_send a b T N L g n hears = search (server_sync, global.the_field_send, cell.crosses, crossing.crosses, sendable) depth 60 fits 20000
+
+datagrams_seat_send : (a b : NamedLft) (T N L : RattleType) (g : Ghosts T.Denot) (n : naming.Ghosts N.Denot) → IsSync L → IsSend (datagrams_seat.the_field a b T N L n g).row
+datagrams_seat_send a b T N L g n hears = search (server_sync, global.the_field_send, cell.crosses, crossing.crosses, sendable) depth 60 fits 20000
+
+connections_seat_send : (a b : NamedLft) (T N L C : RattleType) (g : Ghosts T.Denot) (n : naming.Ghosts N.Denot) → IsSync L → IsSync C → IsSend (connections_seat.the_field a b T N L C n g).row
+connections_seat_send a b T N L C g n hears ticks = struct_send (shape (connections_seat.the_type a b T N L C n g)) (replies_send a b T N L g n hears, (tcp_send a C ticks, tt))
+
+secondaries_seat_send : (a b : NamedLft) (T N L C : RattleType) (g : Ghosts T.Denot) (n : naming.Ghosts N.Denot) → IsSync L → IsSync C → IsSend (secondaries_seat.the_field a b T N L C n g).row
+secondaries_seat_send a b T N L C g n hears ticks = struct_send (shape (secondaries_seat.the_type a b T N L C n g)) (asked_send a b T N L g n hears, (telling_send a C ticks, tt))
+
+seat_send : (a b : NamedLft) (T N L C : RattleType) (g : Ghosts T.Denot) (n : naming.Ghosts N.Denot) → IsSync L → IsSync C → IsSend (seat.the_field a b T N L C n g).row
+seat_send a b T N L C g n hears ticks =
+    enum_send (enum.shape (seat.the_type a b T N L C n g)) ((datagrams_seat_send a b T N L g n hears, tt), ((connections_seat_send a b T N L C g n hears ticks, tt), ((secondaries_seat_send a b T N L C g n hears ticks, tt), tt)))
 
 pub thread_send : (a b : NamedLft) (T N L C : RattleType) (g : Ghosts T.Denot) (n : naming.Ghosts N.Denot) → IsSync L → IsSync C → IsSend (thread.the_row a b T N L C n g)
 thread_send a b T N L C g n hears ticks =
-    search (asked_send, replies_send, datagrams_send, connections_send, telling_send, peer_send, place_send, socket_send, watch_send, crossing.crosses, sendable) depth 60 fits 20000
+    recorded_send (thread.the_field a b T N L C n g).row _ _ (thread.the_type a b T N L C n g).to_one
+    (struct_send (shape (thread.the_type a b T N L C n g)) (seat_send a b T N L C g n hears ticks, (search (crossing.crosses, sendable) depth 60 fits 20000, (search sendable depth 60 fits 20000, tt))))

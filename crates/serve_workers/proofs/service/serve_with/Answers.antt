@@ -6,7 +6,7 @@ use Rattle.serve_workers.proofs.ListLemmas.{length_alike}
 use Rattle.serve_workers.proofs.service.serve_with.Goals as goal
 
 pub put_readers-requires-clause-room : goal.put_readers-requires-clause-room
-put_readers-requires-clause-room g c κs within =
+put_readers-requires-clause-room g c =
     let same : vec_len c.in-Ok.pairs ≡ vec_len c.args.pairs = c.in-Ok.pairs.ok.0 ∙ length_alike (λ pair. number_of pair.1) _ _ c.in-Ok.ensures.numbers ∙ sym c.args.pairs.ok.0 in omega (arith, same, c.requires.room)
 
 pub returns-in-Some-clause-count : goal.returns-in-Some-clause-count
