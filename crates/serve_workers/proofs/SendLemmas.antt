@@ -37,7 +37,7 @@ transfer_send : IsSend transfer.the_row
 transfer_send = search (engine.crosses, array_vec.the_send, cells.the_field_send, option.the_field_send, option.the_send, crossing.crosses, sendable) depth 60 fits 20000
 
 watch_send : (a : NamedLft) (C : RattleType) → IsSync C → IsSend (watch.the_row a C)
-watch_send a C ticks = search (global.the_field_send, crossing.crosses, sendable) depth 60 fits 20000
+watch_send a C ticks = search (crossing.crosses, sendable) depth 60 fits 20000
 
 peer_send : IsSend peer.the_row
 peer_send = search (crossing.crosses, sendable) depth 60 fits 20000
