@@ -3,7 +3,7 @@ use Rattle.std.proofs.Common.{rules, ◌≡◌, [], ◌∷◌, ◌++◌, All, sy
 use Rattle.std.proofs.lemmas.List.{map_push}
 use Rattle.std.proofs.lemmas.List.Elements.{All-push}
 use Rattle.std.specs.Vec.Iter.{into_iter_items}
-use Rattle.serve_workers.specs.Numbers.{number_of, takes_datagrams, are_datagrams, rights_of}
+use Rattle.serve_workers.specs.Numbers.{number_of, takes_datagrams, are_datagrams, HasRights}
 use Rattle.serve_workers.proofs.ListLemmas.{map_more, put_well}
 use Rattle.serve_workers.proofs.service.jobs_of.Goals as goal
 
@@ -17,6 +17,6 @@ loop-duty-preserved g c =
       kinds =
           map_more (λ job. takes_datagrams job) _ _ _ _ _ pushed c.loop-duty.invariant.kinds c.in-Ok-job_of.ensures.kind ∙ sym (map_push (λ duty. are_datagrams duty.sockets) c.loop-duty.yielded c.in-Some.duty);
       rights =
-          subst (λ jobs. All (λ job. rights_of job ≡ c.args.plan.connections.allowed.addresses.now) jobs) (sym pushed)
-          (All-push (λ job. rights_of job ≡ c.args.plan.connections.allowed.addresses.now) c.loop-duty.jobs.items c.in-Ok-job_of.job c.loop-duty.invariant.rights c.in-Ok-job_of.ensures.rights);
+          subst (λ jobs. All (λ job. HasRights c.args.plan.connections.allowed.addresses.now job) jobs) (sym pushed)
+          (All-push (λ job. HasRights c.args.plan.connections.allowed.addresses.now job) c.loop-duty.jobs.items c.in-Ok-job_of.job c.loop-duty.invariant.rights c.in-Ok-job_of.ensures.rights);
     }
