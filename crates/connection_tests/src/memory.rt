@@ -8,7 +8,7 @@ use connections::{StreamEnd, serve_stream};
 use links::{Ends, Link, serve_ready};
 use serve_core::{Peer, Transport};
 use slab::Slab;
-use std::alloc::Global;
+use std::alloc::{AllocError, Global};
 use std::net::{Ipv4Addr, SocketAddr, SocketAddrV4};
 use std::sync::Wait;
 use turns::Turns;
@@ -53,14 +53,14 @@ fn stream(alloc: Global, script: &Script, behind: Behind) -> Option<Pieces>
     stream.with_memory(1_000).ok()
 }
 
-/// How a stream ends that is served; None where there is no memory for what it is served by.
-fn end_of<R: Wait>(rt: &R, alloc: Global, stream: &mut Pieces) -> Option<StreamEnd>
+/// How a stream ends that is served; an `AllocError` where there is no memory for what it is served by.
+fn end_of<R: Wait>(rt: &R, alloc: Global, stream: &mut Pieces) -> Result<StreamEnd, AllocError>
     requires { stream.old.faults ≡ 0 }
 {
-    let mut room = vec![in alloc; 0; 64].ok()?;
-    let mut out = vec![in alloc; 0; 65_535].ok()?;
+    let mut room = vec![in alloc; 0; 64]?;
+    let mut out = vec![in alloc; 0; 65_535]?;
     let mut echo = Echo::new(9);
-    Some(serve_stream(rt, alloc, &mut echo, stream, &mut room, &mut out))
+    Ok(serve_stream(rt, alloc, &mut echo, stream, &mut room, &mut out))
 }
 
 /// Whether all replies are written to a stream that is served to its end; or a beginning of them, where that is want of memory. None there,
@@ -68,7 +68,7 @@ fn end_of<R: Wait>(rt: &R, alloc: Global, stream: &mut Pieces) -> Option<StreamE
 fn is_served<R: Wait>(rt: &R, alloc: Global) -> Option<bool> {
     let script = some_requests(alloc)?;
     let mut stream = stream(alloc, &script, Behind::End)?;
-    let end = end_of(rt, alloc, &mut stream)?;
+    let end = end_of(rt, alloc, &mut stream).ok()?;
     let replies = script.replies.as_slice();
     match end {
         StreamEnd::Clean => Some(stream.written() == replies),
