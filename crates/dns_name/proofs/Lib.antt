@@ -1,3 +1,4 @@
+pub mod FrontLemmas
 pub mod GatherLemmas
 pub mod LabelLemmas
 pub mod LawLemmas
@@ -9,3 +10,4 @@ pub mod SameLemmas
 pub mod StoredLemmas
 pub mod TextLemmas
 pub mod NamedLemmas
+pub mod SoughtLemmas

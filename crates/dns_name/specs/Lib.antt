@@ -1,3 +1,4 @@
+pub mod Front
 pub mod Gather
 pub mod Kept
 pub mod Labels

@@ -48,6 +48,11 @@ parent_of (label ∷ name) = Some name
 abbrev pub is_under : Name → Name → Bool
 is_under name other = list_any (λ ancestor. is_same ancestor other) (self_and_ancestors name)
 
+-- whether a name, where there is one, is under another
+abbrev pub is_one_under : Option Name → Name → Bool
+is_one_under None other = false
+is_one_under (Some name) other = is_under name other
+
 -- the canonical order of names: by their labels from the rightmost on, each folded and compared octet by
 -- octet, a name before those that have more labels to its left (RFC 4034, 6.1)
 abbrev pub canonical_cmp : Name → Name → Ordering
