@@ -7,6 +7,7 @@ use Rattle.std.proofs.lemmas.Grind.{flat_map-append}
 use Rattle.std.proofs.lemmas.List.{reverse-append, reverse-reverse, length-append, length-map, length-reverse, length-take-le, map-append, take_at, drop_at, take-append-le, take-append-drop}
 use Rattle.std.proofs.lemmas.List.Elements.{All-tail}
 use Rattle.dns_name.specs.Name.{IsLabel, IsName, fold_name, is_under, is_one_under, wire_of, self_and_ancestors, parent_of}
+use Rattle.dns_name.specs.Sought.{IsCommon, IsCommonWith}
 use Rattle.dns_name.specs.Stored.{stored_octet, stored_label, stored_of, name_stored, IsStored}
 use Rattle.dns_name.proofs.StoredLemmas.{labels_back, front_from_under, under_from_front}
 
@@ -163,13 +164,6 @@ find_behind p [] [] here none = rw here refl
 find_behind p [] (label ∷ name) here none = rw here refl
 find_behind p (label ∷ front) name here none = rw (none [] front label refl) (find_behind p front name here (λ xs ys l e. none (label ∷ xs) ys l (ap (λ (ls : List (List ℕ)). label ∷ ls) e)))
 
--- so many octets, and no more, are what two names' octets begin with
-pub record IsCommon (own other : List ℕ) (k : ℕ) : Type 0 where
-  pub within : k ≤ length own
-  pub others : k ≤ length other
-  pub same : take k own ≡ take k other
-  pub apart : k < length own → k < length other → get_or own k 0 ≡ get_or other k 0 → ⊥
-
 -- what both begin with isn't longer
 common_most : (both r s : List ℕ) (k : ℕ) → IsCommon (both ++ r) (both ++ s) k → length both ≤ k
 common_most both r s k h =
@@ -243,11 +237,6 @@ module _ (octets : List ℕ) (k most : ℕ) (h : IsStored octets) (at : IsAncest
       let size : length labels ≡ length ys + 1 = ap length (reverse-append (label ∷ []) ys) ∙ length-append (reverse ys) (label ∷ []) ∙ ap (λ (n : ℕ). n + 1) (length-reverse ys) in
       no_more octets (stored_of other) (take k octets) (octets_of (reverse xs)) front.0 labels most own (omega arith) own_is other_is common le
       (λ j ge lt zero_at. none j (omega (arith, at.len)) lt zero_at))
-
--- the same of a name that there may be: nothing is common with none
-abbrev pub IsCommonWith : List ℕ → Option (List (List ℕ)) → ℕ → Type 0
-IsCommonWith octets None own = own ≡ 0
-IsCommonWith octets (Some other) own = IsCommon octets (stored_of other) own
 
 both_false : (a b : Bool) → a ≡ false → b ≡ false → (a || b) ≡ false
 both_false true b e f = e

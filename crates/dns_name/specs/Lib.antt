@@ -4,5 +4,6 @@ pub mod Kept
 pub mod Labels
 pub mod Name
 pub mod Order
+pub mod Sought
 pub mod Stored
 pub mod Text

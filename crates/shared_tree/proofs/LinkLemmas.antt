@@ -23,9 +23,9 @@ doubled d l r size_l size_r hl hr h left right =
 -- a link higher than 2 d has at least 2^d pairs
 pub size_of : {K V : Type 0} (link : Link K V) → IsFormed link → (d : ℕ) → 2 * d < link_height link → 2 ^ d ≤ length (link_pairs link)
 size_of Leaf f d h = absurd (omega arith)
-size_of (Fork' p left pair right s) f zero h = omega (arith, length-append (link_pairs left) (pair.value ∷ link_pairs right))
-size_of (Fork' p left pair right s) f (suc d) h =
-    rw (length-append (link_pairs left) (pair.value ∷ link_pairs right))
+size_of (Fork' p entry left right s) f zero h = omega (arith, length-append (link_pairs left) (entry.pair.value ∷ link_pairs right))
+size_of (Fork' p entry left right s) f (suc d) h =
+    rw (length-append (link_pairs left) (entry.pair.value ∷ link_pairs right))
     (doubled d (link_height left) (link_height right) _ _ f.1.0 f.1.1 h (size_of left f.2 d) (size_of right f.3 d))
 
 pub is_low : {K V : Type 0} (link : Link K V) → IsFormed link → IsLow (link_height link) (length (link_pairs link))

@@ -22,7 +22,7 @@ fn numbers(alloc: Global, count: u32) -> Result<Vec<(u32, u32)>, AllocError>
 
 /// The same as a tree; None where memory is refused.
 fn built(alloc: Global, count: u32) -> Option<Numbers> {
-    Tree::from_sorted(alloc, numbers(alloc, count).ok()?).ok()
+    Tree::from_sorted(alloc, 0, numbers(alloc, count).ok()?).ok()
 }
 
 /// The same, made anew where memory is refused.

@@ -11,11 +11,11 @@ returns-in_ok-left-in-Less-clause-pairs g t c q =
     let n = c.in-Fork.node.value in
     let key = g.Q.Seek.key c.args.sought.now in
     let whole = rw c.in-Fork.is at q in
-    let e : g.K.Ord.cmp key n.pair.value.0 ≡ Less = cc in
-    let here = less_here g.met.K.Ord.total key (link_pairs n.left) n.pair.value (link_pairs n.right) whole e in
-    let side = left_ascends g.met.K.Ord.total key (link_pairs n.left) n.pair.value (link_pairs n.right) whole in
+    let e : g.K.Ord.cmp key n.entry.pair.value.0 ≡ Less = cc in
+    let here = less_here g.met.K.Ord.total key (link_pairs n.left) n.entry.pair.value (link_pairs n.right) whole e in
+    let side = left_ascends g.met.K.Ord.total key (link_pairs n.left) n.entry.pair.value (link_pairs n.right) whole in
     let rest : link_pairs c.in_ok-left-in-Less.left ≡ pairs_without g.K.Ord.cmp key (link_pairs n.left) = (rw c.deref-in-Less.ensures at c.in_ok-left-in-Less.ensures.pairs) side in
-    let all : pairs_without g.K.Ord.cmp key (link_pairs c.args.link.now) ≡ link_pairs c.in_ok-left-in-Less.left ++ n.pair.value ∷ link_pairs n.right = rw (c.in-Fork.is, rest) here.gone in
+    let all : pairs_without g.K.Ord.cmp key (link_pairs c.args.link.now) ≡ link_pairs c.in_ok-left-in-Less.left ++ n.entry.pair.value ∷ link_pairs n.right = rw (c.in-Fork.is, rest) here.gone in
     rw all (rw c.deref-in-Less-2.ensures at c.with_left.ensures.pairs)
 
 -- the key is the node's: both sides are left
@@ -24,8 +24,8 @@ returns-in-Equal-clause-pairs g t c q =
     let n = c.in-Fork.node.value in
     let key = g.Q.Seek.key c.args.sought.now in
     let whole = rw c.in-Fork.is at q in
-    let e : g.K.Ord.cmp key n.pair.value.0 ≡ Equal = cc in
-    let here = equal_here g.met.K.Ord.total key (link_pairs n.left) n.pair.value (link_pairs n.right) whole e in
+    let e : g.K.Ord.cmp key n.entry.pair.value.0 ≡ Equal = cc in
+    let here = equal_here g.met.K.Ord.total key (link_pairs n.left) n.entry.pair.value (link_pairs n.right) whole e in
     let all : pairs_without g.K.Ord.cmp key (link_pairs c.args.link.now) ≡ link_pairs n.left ++ link_pairs n.right = rw c.in-Fork.is here.gone in
     rw all (rw c.deref-in-Equal.ensures at c.without_top.ensures.pairs)
 
@@ -35,9 +35,9 @@ returns-in_ok-right-in-Greater-clause-pairs g t c q =
     let n = c.in-Fork.node.value in
     let key = g.Q.Seek.key c.args.sought.now in
     let whole = rw c.in-Fork.is at q in
-    let e : g.K.Ord.cmp key n.pair.value.0 ≡ Greater = cc in
-    let here = greater_here g.met.K.Ord.total key (link_pairs n.left) n.pair.value (link_pairs n.right) whole e in
-    let side = right_ascends g.met.K.Ord.total key (link_pairs n.left) n.pair.value (link_pairs n.right) whole in
+    let e : g.K.Ord.cmp key n.entry.pair.value.0 ≡ Greater = cc in
+    let here = greater_here g.met.K.Ord.total key (link_pairs n.left) n.entry.pair.value (link_pairs n.right) whole e in
+    let side = right_ascends g.met.K.Ord.total key (link_pairs n.left) n.entry.pair.value (link_pairs n.right) whole in
     let rest : link_pairs c.in_ok-right-in-Greater.right ≡ pairs_without g.K.Ord.cmp key (link_pairs n.right) = (rw c.deref-in-Greater.ensures at c.in_ok-right-in-Greater.ensures.pairs) side in
-    let all : pairs_without g.K.Ord.cmp key (link_pairs c.args.link.now) ≡ link_pairs n.left ++ n.pair.value ∷ link_pairs c.in_ok-right-in-Greater.right = rw (c.in-Fork.is, rest) here.gone in
+    let all : pairs_without g.K.Ord.cmp key (link_pairs c.args.link.now) ≡ link_pairs n.left ++ n.entry.pair.value ∷ link_pairs c.in_ok-right-in-Greater.right = rw (c.in-Fork.is, rest) here.gone in
     rw all (rw c.deref-in-Greater-2.ensures at c.with_right.ensures.pairs)
