@@ -1,6 +1,6 @@
 -- What a name is, which names are the same, which is under which, and their order. A name is the list of its
 -- labels, the leftmost first, and a label the list of its octets; the root has no label (RFC 1034, 3.1).
-use Rattle.std.specs.Prelude.{ℕ, zero, suc, ◌<◌, ◌≤◌, Bool, List, [], ◌∷◌, ◌++◌, length, take, map, reverse, All, nat_lt, nat_le, if◌then◌else◌, Option, Some, None, option_map, option_and_then, bytes_eq}
+use Rattle.std.specs.Prelude.{false, ℕ, zero, suc, ◌<◌, ◌≤◌, Bool, List, [], ◌∷◌, ◌++◌, length, take, map, reverse, All, nat_lt, nat_le, if◌then◌else◌, Option, Some, None, option_map, option_and_then, bytes_eq}
 use Rattle.std.specs.List.{list_any}
 use Rattle.std.specs.Char.{to_ascii_lowercase}
 use Rattle.std.specs.Cmp.Lexicographic.{slice_cmp, pointwise}

@@ -1,7 +1,7 @@
 use Rattle.std.proofs.Common.{◌∙◌}
 use Rattle.dns_name.specs.Front.{front_of}
 use Rattle.dns_name.proofs.StoredLemmas.{stored_is}
-use Rattle.dns_name.proofs.front.SoughtName.front.Goals as goal
+use Rattle.dns_name.proofs.stored.SoughtName.front.Goals as goal
 
 pub returns : goal.returns
 returns c =
