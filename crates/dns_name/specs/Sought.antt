@@ -1,5 +1,5 @@
 -- How many octets two stored names begin with (own).
-use Rattle.std.specs.Prelude.{◌≡◌, ℕ, ◌<◌, ◌≤◌, List, length, take, slice_index, Option, Some, None, ⊥}
+use Rattle.std.specs.Prelude.{◌≡◌, ℕ, ◌<◌, ◌≤◌, List, length, take, slice_index, Option, Some, None}
 use Rattle.dns_name.specs.Name.{Name}
 use Rattle.dns_name.specs.Stored.{stored_of}
 

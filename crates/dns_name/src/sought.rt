@@ -61,7 +61,7 @@ fn common_len(own: &[u8], other: &[u8]) -> usize
 
 /// How many octets a stored name begins with, where there is one, of those that octets begin with.
 fn common_with(own: &[u8], other: Option<&StoredName>) -> usize
-    ensures common { IsCommonWith own.now (option_copied other) result }
+    ensures common { IsCommonWith own.now (option_copied other.entry) result }
     ensures within { result ≤ length own.now }
 {
     match other {
@@ -150,12 +150,8 @@ impl<'r> Sought<'r> {
 
     /// Of the name and its ancestors, the one with most labels that one of two stored names is under; the root where there are none
     /// (RFC 4592, 3.3.1).
-    pub fn closest(
-        &self,
-        before: Option<&StoredName>,
-        behind: Option<&StoredName>,
-    ) -> Sought<'r>
-        ensures { result ≡ unwrap_or (find (λ a. is_one_under (option_copied before) a || is_one_under (option_copied behind) a) (self_and_ancestors self.now)) [] }
+    pub fn closest(&self, before: Option<&StoredName>, behind: Option<&StoredName>) -> Sought<'r>
+        ensures { result ≡ unwrap_or (find (λ a. is_one_under (option_copied before.entry) a || is_one_under (option_copied behind.entry) a) (self_and_ancestors self.now)) [] }
     {
         let common = common_with(self.octets, before).max(common_with(self.octets, behind));
         let len = whole_len(self.octets, common);

@@ -2,7 +2,7 @@ use Rattle.std.proofs.Common.{◌≡◌, ◌∙◌, List, ℕ, [], ◌++◌, rev
 use Rattle.std.specs.List.{flat_map}
 use Rattle.dns_name.specs.Labels.{labels_in, IsWhole}
 use Rattle.dns_name.specs.Name.{IsName, fold_name, wire_of}
-use Rattle.dns_name.specs.Stored.{stored_label, stored_of, name_stored}
+use Rattle.dns_name.specs.Stored.{stored_label, stored_of, name_stored, IsStored}
 use Rattle.dns_name.proofs.LabelLemmas.{IsWhole-wire_of, labels_in-wire_of, AreOctets-fold}
 use Rattle.dns_name.proofs.LawLemmas.{fold-IsName}
 use Rattle.dns_name.proofs.StoredLemmas.{name_back, IsStored-of}
@@ -21,10 +21,10 @@ pub invariant_of-result : goal.invariant_of-result
 invariant_of-result c =
     let wire = c.wire-octets.ensures in
     let is = made_of _ _ _ c.args.name.now c.clear.ensures c.put_all_folded.ensures.octets wire.octets wire.lawful in
-    rw is (IsStored-of c.args.name.now (fold-IsName c.args.name.now wire.lawful).0 (AreOctets-fold c.args.name.now wire.bytes))
+    subst IsStored (sym (c.as_slice.ensures.value ∙ is)) (IsStored-of c.args.name.now (fold-IsName c.args.name.now wire.lawful).0 (AreOctets-fold c.args.name.now wire.bytes))
 
 pub returns : goal.returns
 returns c =
     let wire = c.wire-octets.ensures in
     let is = made_of _ _ _ c.args.name.now c.clear.ensures c.put_all_folded.ensures.octets wire.octets wire.lawful in
-    ap name_stored is ∙ name_back c.args.name.now
+    ap name_stored (c.as_slice.ensures.value ∙ is) ∙ name_back c.args.name.now
