@@ -1,0 +1,96 @@
+-- Heads: how their octets lie, and that they are read in one way.
+use Rattle.std.proofs.Common.{◌≡◌, ◌≢◌, ℕ, ◌+◌, ◌^◌, ◌<◌, ◌≤◌, List, [], ◌∷◌, ◌++◌, length, take, drop, refl, sym, ap, ◌∙◌, subst, append_assoc, length-append, arith}
+use Rattle.std.specs.Int.{w32, w64, to_be_bytes}
+use Rattle.std.proofs.lemmas.List.{take_at, drop_at, take-append-le}
+use Rattle.sha2.specs.Sha256.{sha256}
+use Rattle.sha2.proofs.Facts256.{length-sha256}
+use Rattle.journal.specs.declared.heads.Head.{Head}
+use Rattle.journal.specs.declared.heads.TextSum.{TextSum}
+use Rattle.journal.specs.declared.heads.HeadFault.{HeadFault}
+use Rattle.journal.specs.declared.heads.HeadFault.TheVariants.{Short, Foreign, WrongSum}
+use Rattle.journal.specs.Head.{name, sum_octets, head_text, salt_of, head_of, head_len, IsSum, IsHead, IsHeadFault}
+use Rattle.journal.proofs.PartLemmas.{same_parts, same_number_4, same_number_8}
+
+-- eight parts, one behind another
+in_a_row : (a b c d e f g h rest : List ℕ) → (a ++ (b ++ (c ++ ((d ++ e) ++ (f ++ (g ++ h)))))) ++ rest ≡ a ++ (b ++ (c ++ (d ++ (e ++ (f ++ (g ++ (h ++ rest)))))))
+in_a_row a b c d e f g h rest = simp append_assoc
+
+-- a head's parts, in front of what stands behind its text
+pub text_parts : (head : Head) (rest : List ℕ) → head_text head ++ rest
+    ≡ name ++ (to_be_bytes w64 head.number ++ (head.random ++ (to_be_bytes w64 head.text.len ++ (head.text.sum ++ (to_be_bytes w32 head.serial ++ (to_be_bytes w64 head.origin.len ++ (head.origin.sum ++ rest)))))))
+unfolding head_text
+text_parts head rest = in_a_row name (to_be_bytes w64 head.number) head.random (to_be_bytes w64 head.text.len) head.text.sum (to_be_bytes w32 head.serial) (to_be_bytes w64 head.origin.len) head.origin.sum rest
+
+-- how many octets its text has
+long_in_all : (a b c d e f g h : List ℕ) → length a ≡ 16 → length b ≡ 8 → length c ≡ 16 → length d ≡ 8 → length e ≡ 32 → length f ≡ 4 → length g ≡ 8 → length h ≡ 32
+    → length (a ++ (b ++ (c ++ ((d ++ e) ++ (f ++ (g ++ h)))))) ≡ 124
+long_in_all a b c d e f g h la lb lc ld le lf lg lh = simp length-append (omega arith)
+
+pub text_long : (head : Head) → IsHead head → length (head_text head) ≡ 124
+unfolding head_text
+text_long head is = long_in_all name (to_be_bytes w64 head.number) head.random (to_be_bytes w64 head.text.len) head.text.sum (to_be_bytes w32 head.serial) (to_be_bytes w64 head.origin.len) head.origin.sum
+    refl refl is.random refl is.text.1 refl refl is.origin.1
+
+-- a head and what stands behind it
+pub head_split : (head : Head) (rest : List ℕ) → head_of head ++ rest ≡ head_text head ++ (salt_of head ++ rest)
+unfolding head_of
+head_split head rest = append_assoc (head_text head) (salt_of head) rest
+
+pub salt_long : (head : Head) → length (salt_of head) ≡ 32
+unfolding salt_of
+salt_long head = length-sha256 (head_text head)
+
+pub salt_is : (head : Head) → salt_of head ≡ sha256 (head_text head)
+unfolding salt_of
+salt_is head = refl
+
+pub head_long : (head : Head) → IsHead head → length (head_of head) ≡ 156
+unfolding head_of
+head_long head is = omega (arith, length-append (head_text head) (salt_of head), text_long head is, salt_long head)
+
+-- what is equal in its fields is equal
+same_of_5 : {A B C D E F : Type 0} (make : A → B → C → D → E → F) (a a' : A) (b b' : B) (c c' : C) (d d' : D) (e e' : E)
+    → a ≡ a' → b ≡ b' → c ≡ c' → d ≡ d' → e ≡ e' → make a b c d e ≡ make a' b' c' d' e'
+same_of_5 make a a' b b' c c' d d' e e' p q r s t = cc
+
+same_of_2 : {A B C : Type 0} (make : A → B → C) (a a' : A) (b b' : B) → a ≡ a' → b ≡ b' → make a b ≡ make a' b'
+same_of_2 make a a' b b' p q = cc
+
+pub same_head : (head other : Head) → head.number ≡ other.number → head.random ≡ other.random → head.text ≡ other.text → head.serial ≡ other.serial → head.origin ≡ other.origin → head ≡ other
+same_head head other = same_of_5 (λ (number : ℕ) (random : List ℕ) (text : TextSum) (serial : ℕ) (origin : TextSum). record { number = number; random = random; text = text; serial = serial; origin = origin })
+    head.number other.number head.random other.random head.text other.text head.serial other.serial head.origin other.origin
+
+pub same_sum : (text other : TextSum) → text.len ≡ other.len → text.sum ≡ other.sum → text ≡ other
+same_sum text other = same_of_2 (λ (len : ℕ) (sum : List ℕ). record { len = len; sum = sum }) text.len other.len text.sum other.sum
+
+-- octets begin with one head at most
+pub one_head : (head other : Head) (rest left : List ℕ) → IsHead head → IsHead other → head_of head ++ rest ≡ head_of other ++ left → (head ≡ other) × (rest ≡ left)
+one_head head other rest left is so e =
+    let texts : head_text head ++ (salt_of head ++ rest) ≡ head_text other ++ (salt_of other ++ left) = sym (head_split head rest) ∙ (e ∙ head_split other left) in
+    let p0 = same_parts name _ name _ refl (sym (text_parts head (salt_of head ++ rest)) ∙ (texts ∙ text_parts other (salt_of other ++ left))) in
+    let p1 = same_parts (to_be_bytes w64 head.number) _ (to_be_bytes w64 other.number) _ refl p0.1 in
+    let p2 = same_parts head.random _ other.random _ (is.random ∙ sym so.random) p1.1 in
+    let p3 = same_parts (to_be_bytes w64 head.text.len) _ (to_be_bytes w64 other.text.len) _ refl p2.1 in
+    let p4 = same_parts head.text.sum _ other.text.sum _ (is.text.1 ∙ sym so.text.1) p3.1 in
+    let p5 = same_parts (to_be_bytes w32 head.serial) _ (to_be_bytes w32 other.serial) _ refl p4.1 in
+    let p6 = same_parts (to_be_bytes w64 head.origin.len) _ (to_be_bytes w64 other.origin.len) _ refl p5.1 in
+    let p7 = same_parts head.origin.sum _ other.origin.sum _ (is.origin.1 ∙ sym so.origin.1) p6.1 in
+    let p8 = same_parts (salt_of head) rest (salt_of other) left (salt_long head ∙ sym (salt_long other)) p7.1 in
+    (same_head head other
+        (same_number_8 head.number other.number is.number so.number p1.0)
+        p2.0
+        (same_sum head.text other.text (same_number_8 head.text.len other.text.len is.text.0 so.text.0 p3.0) p4.0)
+        (same_number_4 head.serial other.serial is.serial so.serial p5.0)
+        (same_sum head.origin other.origin (same_number_8 head.origin.len other.origin.len is.origin.0 so.origin.0 p6.0) p7.0),
+    p8.1)
+
+-- a head is no fault
+pub no_fault : (head : Head) (rest : List ℕ) (fault : HeadFault) → IsHead head → IsHeadFault (head_of head ++ rest) fault → ⊥
+no_fault head rest Short is short = omega (arith, short, length-append (head_of head) rest, head_long head is)
+no_fault head rest Foreign is foreign =
+    foreign.1 (ap (λ (o : List ℕ). take 16 o) (head_split head rest ∙ text_parts head (salt_of head ++ rest)) ∙ take_at name _ 16 refl)
+no_fault head rest WrongSum is wrong =
+    let text : take 124 (head_of head ++ rest) ≡ head_text head = ap (λ (o : List ℕ). take 124 o) (head_split head rest) ∙ take_at (head_text head) (salt_of head ++ rest) 124 (text_long head is) in
+    let behind : drop 124 (head_of head ++ rest) ≡ salt_of head ++ rest = ap (λ (o : List ℕ). drop 124 o) (head_split head rest) ∙ drop_at (head_text head) (salt_of head ++ rest) 124 (text_long head is) in
+    let sum : take 32 (drop 124 (head_of head ++ rest)) ≡ salt_of head = ap (λ (o : List ℕ). take 32 o) behind ∙ take_at (salt_of head) rest 32 (salt_long head) in
+    wrong.2 (sum ∙ (salt_is head ∙ ap sha256 (sym text)))

@@ -1,0 +1,6 @@
+pub mod PartLemmas
+pub mod FrameLemmas
+pub mod FramesLemmas
+pub mod BatchLemmas
+pub mod HeadLemmas
+pub mod RecoveredLemmas
