@@ -76,6 +76,11 @@ pub record Leads (salt : List ℕ) (number size told : ℕ) (behind body rest : 
   pub is_size : size ≡ length body
   pub is_number : told ≡ number
   pub is_behind : behind ≡ body ++ (sha256 (salt ++ text_of number body) ++ rest)
+  pub long : length behind ≡ length body + 32 + length rest
+
+-- how many octets a body, its sum and what stands behind it have
+behind_long : (body sum rest : List ℕ) → length sum ≡ 32 → length (body ++ (sum ++ rest)) ≡ length body + 32 + length rest
+behind_long body sum rest long = simp length-append (omega arith)
 
 pub frame_leads : (salt octets : List ℕ) (size told : ℕ) (after behind : List ℕ) → size < 2 ^ 32 → told < 2 ^ 64
     → octets ≡ to_be_bytes w32 size ++ after → after ≡ to_be_bytes w64 told ++ behind
@@ -89,6 +94,7 @@ frame_leads salt octets size told after behind small fits first second number bo
       is_size = same_number_4 size (length body) small frame.short four.0;
       is_number = same_number_8 told number fits frame.counted eight.0;
       is_behind = eight.1;
+      long = ap length eight.1 ∙ behind_long body sum rest (length-sha256 _);
     }
 
 -- a frame's text stands in front of its sum

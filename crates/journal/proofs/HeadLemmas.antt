@@ -94,3 +94,37 @@ no_fault head rest WrongSum is wrong =
     let behind : drop 124 (head_of head ++ rest) ≡ salt_of head ++ rest = ap (λ (o : List ℕ). drop 124 o) (head_split head rest) ∙ drop_at (head_text head) (salt_of head ++ rest) 124 (text_long head is) in
     let sum : take 32 (drop 124 (head_of head ++ rest)) ≡ salt_of head = ap (λ (o : List ℕ). take 32 o) behind ∙ take_at (salt_of head) rest 32 (salt_long head) in
     wrong.2 (sum ∙ (salt_is head ∙ ap sha256 (sym text)))
+
+-- parts that are read one behind another, the first of which is the name, are a head's text
+nested_text : (a b c d e f rest : List ℕ) → a ++ (b ++ (c ++ (d ++ (e ++ (f ++ rest))))) ≡ (a ++ (b ++ (c ++ (d ++ (e ++ f))))) ++ rest
+nested_text a b c d e f rest = simp append_assoc
+
+pub split_is : (octets p r0 r1 r2 r3 r4 r5 left : List ℕ) (head : Head)
+    → length p ≡ 16 → octets ≡ p ++ r0 → r0 ≡ to_be_bytes w64 head.number ++ r1 → r1 ≡ head.random ++ r2 → r2 ≡ sum_octets head.text ++ r3
+    → r3 ≡ to_be_bytes w32 head.serial ++ r4 → r4 ≡ sum_octets head.origin ++ r5 → r5 ≡ left
+    → take 16 octets ≡ name → octets ≡ head_text head ++ left
+unfolding head_text
+split_is octets p r0 r1 r2 r3 r4 r5 left head long e0 e1 e2 e3 e4 e5 e6 is_name =
+    let named : p ≡ name = sym (ap (λ (o : List ℕ). take 16 o) e0 ∙ take_at p r0 16 long) ∙ is_name in
+    e0 ∙ (ap (λ (o : List ℕ). o ++ r0) named
+    ∙ (ap (λ (o : List ℕ). name ++ o) (e1 ∙ ap (λ (o : List ℕ). to_be_bytes w64 head.number ++ o) (e2 ∙ ap (λ (o : List ℕ). head.random ++ o) (e3
+        ∙ ap (λ (o : List ℕ). sum_octets head.text ++ o) (e4 ∙ ap (λ (o : List ℕ). to_be_bytes w32 head.serial ++ o) (e5 ∙ ap (λ (o : List ℕ). sum_octets head.origin ++ o) e6)))))
+    ∙ nested_text name (to_be_bytes w64 head.number) head.random (sum_octets head.text) (to_be_bytes w32 head.serial) (sum_octets head.origin) left))
+
+-- parts that are put one behind another are a head's
+written_text : (a b c d e f : List ℕ) → ((((a ++ b) ++ c) ++ d) ++ e) ++ f ≡ a ++ (b ++ (c ++ (d ++ (e ++ f))))
+written_text a b c d e f = simp append_assoc
+
+pub head_written : (head : Head) (number serial text salt all : List ℕ)
+    → number ≡ to_be_bytes w64 head.number → serial ≡ to_be_bytes w32 head.serial
+    → text ≡ ((((name ++ number) ++ head.random) ++ sum_octets head.text) ++ serial) ++ sum_octets head.origin
+    → salt ≡ sha256 text → all ≡ text ++ salt → (all ≡ head_of head) × (salt ≡ salt_of head)
+unfolding head_of head_text salt_of
+head_written head number serial text salt all is_number is_serial is_text is_salt is_all =
+    let is_head : text ≡ head_text head =
+        is_text
+        ∙ (ap (λ (o : List ℕ). ((((name ++ o) ++ head.random) ++ sum_octets head.text) ++ serial) ++ sum_octets head.origin) is_number
+        ∙ (ap (λ (o : List ℕ). ((((name ++ to_be_bytes w64 head.number) ++ head.random) ++ sum_octets head.text) ++ o) ++ sum_octets head.origin) is_serial
+        ∙ written_text name (to_be_bytes w64 head.number) head.random (sum_octets head.text) (to_be_bytes w32 head.serial) (sum_octets head.origin))) in
+    let is_salt_of : salt ≡ sha256 (head_text head) = is_salt ∙ ap sha256 is_head in
+    (is_all ∙ (ap (λ (o : List ℕ). o ++ salt) is_head ∙ ap (λ (o : List ℕ). head_text head ++ o) is_salt_of), is_salt_of)

@@ -1,7 +1,9 @@
 -- Lists that are made of parts, and numbers as octets.
-use Rattle.std.proofs.Common.{◌≡◌, ℕ, ◌+◌, ◌^◌, ◌<◌, List, ◌++◌, length, take, drop, refl, sym, ap, ◌∙◌, append_assoc, length-append, arith}
+use Rattle.std.proofs.Common.{◌≡◌, ℕ, ◌+◌, ◌^◌, ◌<◌, List, ◌++◌, length, take, drop, get_or, ◌≤◌, ◌⊎◌, inl, inr, subst, refl, sym, ap, ◌∙◌, append_assoc, length-append, arith, Bool, true, false, [], ◌∷◌, map, Bor}
+use Rattle.std.specs.List.{IsSplitAt}
 use Rattle.std.specs.Int.{w16, w32, w64, to_be_bytes, from_be_bytes}
-use Rattle.std.proofs.lemmas.List.{take_at, drop_at}
+use Rattle.std.proofs.lemmas.List.{take_at, drop_at, take-append-drop, get_or_append_left, get_or_past, map_push}
+use Rattle.std.proofs.lemmas.Bool.{cases_lt}
 use Rattle.std.proofs.lemmas.Nat.{from_be_bytes-to_be_bytes_2, from_be_bytes-to_be_bytes_4, from_be_bytes-to_be_bytes_8}
 
 -- two fronts of one length in one list are the same, and so is what stands behind them
@@ -28,3 +30,24 @@ same_number_4 m n small fits e = sym (from_be_bytes-to_be_bytes_4 m small) ∙ (
 
 pub same_number_8 : (m n : ℕ) → m < 2 ^ 64 → n < 2 ^ 64 → to_be_bytes w64 m ≡ to_be_bytes w64 n → m ≡ n
 same_number_8 m n small fits e = sym (from_be_bytes-to_be_bytes_8 m small) ∙ (ap (from_be_bytes w64) e ∙ from_be_bytes-to_be_bytes_8 n fits)
+
+-- octets in front of others are octets
+pub front_small : (octets part rest : List ℕ) → octets ≡ part ++ rest → ((i : ℕ) → get_or octets i 0 < 256) → (i : ℕ) → get_or part i 0 < 256
+front_small octets part rest e small i = by_place (cases_lt i (length part))
+  where
+    by_place : (i < length part) ⊎ (length part ≤ i) → get_or part i 0 < 256
+    by_place (inl less) = subst (λ (n : ℕ). n < 256) (ap (λ (o : List ℕ). get_or o i 0) e ∙ get_or_append_left part rest 0 i less) (small i)
+    by_place (inr more) = subst (λ (n : ℕ). n < 256) (sym (get_or_past part i 0 more)) (omega arith)
+
+-- octets that are split are their two parts
+pub split_again : (octets : List ℕ) (place : ℕ) (front back : List ℕ) → IsSplitAt octets place front back → octets ≡ front ++ back
+split_again octets place front back split =
+    sym (take-append-drop place octets) ∙ (ap (λ (o : List ℕ). o ++ drop place octets) (sym split.1) ∙ ap (λ (o : List ℕ). front ++ o) (sym split.2))
+
+-- false isn't true
+pub not_so : false ≡ true → ⊥
+not_so h = cc
+
+-- what is lent in a list with one more
+pub lent_more : (xs ys : List (Bor (List ℕ))) (x : Bor (List ℕ)) → ys ≡ xs ++ x ∷ [] → map (λ (b : Bor (List ℕ)). b.now) ys ≡ map (λ (b : Bor (List ℕ)). b.now) xs ++ x.now ∷ []
+lent_more xs ys x e = ap (λ (zs : List (Bor (List ℕ))). map (λ (b : Bor (List ℕ)). b.now) zs) e ∙ map_push (λ (b : Bor (List ℕ)). b.now) xs x

@@ -14,9 +14,7 @@ pub fn put_update(batch: &mut Vec<u8>, update: &[u8]) -> Result<(), AllocError>
 {
     batch.reserve(2 + update.len())?;
     let len = update.len() as u16;
-    for octet in len.to_be_bytes() {
-        batch.push_reserved(octet);
-    }
+    batch.extend_from_slice(&len.to_be_bytes())?;
     batch.extend_from_slice(update)
 }
 

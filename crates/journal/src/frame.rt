@@ -63,22 +63,14 @@ pub(crate) fn frame_among<'a>(
         ((number : ℕ) → low ≤ number → number ≤ high → NoFrame salt.now number octets.now)
         (λ r. (low ≤ r.0) × (r.0 ≤ high) × IsFrame salt.now r.0 octets.now r.1.now r.2.now) }
 {
-    let Some((size, behind_size)) = first_u32(octets) else {
-        return None;
-    };
-    let Some((number, behind_number)) = first_u64(behind_size) else {
-        return None;
-    };
+    let (size, behind_size) = first_u32(octets)?;
+    let (number, behind_number) = first_u64(behind_size)?;
     if number < low || high < number {
         return None;
     }
-    let Some((body, behind_body)) = behind_number.split_at_checked(size as usize) else {
-        return None;
-    };
-    let Some((sum, rest)) = first_part::<SUM>(behind_body) else {
-        return None;
-    };
-    if !is_sum_of(&sum, salt, &octets[..LEAD + size as usize]) {
+    let (body, behind_body) = behind_number.split_at_checked(size as usize)?;
+    let (sum, rest) = first_part::<SUM>(behind_body)?;
+    if !is_sum_of(sum, salt, &octets[..LEAD + size as usize]) {
         return None;
     }
     Some((number, body, rest))

@@ -46,16 +46,15 @@ pub fn read_head(octets: &[u8]) -> Result<(Head, [u8; SUM], &[u8]), HeadFault>
     ensures read { IfOk result (λ r. IsHead r.0 × (r.1 ≡ salt_of r.0) × (octets.now ≡ head_of r.0 ++ r.2.now)) }
     ensures refused { IfErr result (λ fault. IsHeadFault octets.now fault) }
 {
-    let Some((head, sum, rest)) = split_head(octets) else {
-        return Err(HeadFault::Short);
-    };
+    let (head, sum, rest) = split_head(octets).ok_or(HeadFault::Short)?;
     if &octets[..NAME.len()] != NAME.as_slice() {
         return Err(HeadFault::Foreign);
     }
-    if !is_digest(&sum, &octets[..TEXT]) {
+    if !is_digest(sum, &octets[..TEXT]) {
         return Err(HeadFault::WrongSum);
     }
-    Ok((head, sum, rest))
+    let salt = *sum;
+    Ok((head, salt, rest))
 }
 
 /// Whether it is the SHA-256 of octets (FIPS 180-4, 6.2).
@@ -67,9 +66,9 @@ fn is_digest(sum: &[u8; SUM], octets: &[u8]) -> bool
 
 /// A head's parts, if the octets in front of them are its name: what it says, its sum, and what stands behind it; None where the octets
 /// are fewer than a head has.
-fn split_head(octets: &[u8]) -> Option<(Head, [u8; SUM], &[u8])>
+fn split_head(octets: &[u8]) -> Option<(Head, &[u8; SUM], &[u8])>
     ensures { MatchOption result (length octets.now < head_len)
-        (λ r. (head_len ≤ length octets.now) × IsHead r.0 × (length r.1 ≡ 32) × (take 16 octets.now ≡ name → octets.now ≡ head_text r.0 ++ (r.1 ++ r.2.now))) }
+        (λ r. (head_len ≤ length octets.now) × IsHead r.0 × (length r.1.now ≡ 32) × (take 16 octets.now ≡ name → octets.now ≡ head_text r.0 ++ (r.1.now ++ r.2.now))) }
 {
     let (_, rest) = first_part::<16>(octets)?;
     let (number, rest) = first_u64(rest)?;
@@ -78,6 +77,7 @@ fn split_head(octets: &[u8]) -> Option<(Head, [u8; SUM], &[u8])>
     let (serial, rest) = first_u32(rest)?;
     let (origin, rest) = first_sum(rest)?;
     let (sum, rest) = first_part::<SUM>(rest)?;
+    let random = *random;
     let head = Head {
         number,
         random,
@@ -94,5 +94,6 @@ fn first_sum(octets: &[u8]) -> Option<(TextSum, &[u8])>
 {
     let (len, rest) = first_u64(octets)?;
     let (sum, rest) = first_part::<SUM>(rest)?;
+    let sum = *sum;
     Some((TextSum { len, sum }, rest))
 }

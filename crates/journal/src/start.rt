@@ -1,5 +1,6 @@
 //! What a start takes of a zone text and a journal (own).
 ghost use Rattle.std.specs.Prelude.{◌≡◌, ℕ, List, map, IfOk, IfErr};
+ghost use Rattle.journal.specs.declared.start.Refused.TheVariants.{BadHead, NoMemory};
 ghost use Rattle.journal.specs.Head.{salt_of};
 ghost use Rattle.journal.specs.Recovered.{AreBatches, updates_in, IsRefusedBatch, IsRecovered, IsRefused};
 
@@ -9,7 +10,7 @@ use crate::frames::read_all;
 use crate::head_octets::read_head;
 use crate::heads::{Head, HeadFault};
 use crate::tails::{Tail, tail_of};
-use std::alloc::Global;
+use std::alloc::{AllocError, Global};
 
 /// What a start has of a journal.
 #[derive(Drop)]
@@ -43,22 +44,33 @@ pub enum Refused {
     NoMemory,
 }
 
+impl From<HeadFault> for Refused {
+    ghost from_gives = { λ fault refused. refused ≡ BadHead fault };
+
+    fn from(fault: HeadFault) -> Refused {
+        Refused::BadHead(fault)
+    }
+}
+
+impl From<AllocError> for Refused {
+    ghost from_gives = { λ _ refused. refused ≡ NoMemory };
+
+    fn from(_: AllocError) -> Refused {
+        Refused::NoMemory
+    }
+}
+
 /// The updates of a zone text's journal: those of all batches that follow one another from the first on. It takes memory.
 pub fn recover<'a>(alloc: Global, text: &[u8], journal: &'a [u8]) -> Result<Recovered<'a>, Refused>
     ensures recovered { IfOk result (λ r. (r.salt ≡ salt_of r.head)
         × IsRecovered text.now journal.now r.head (map (λ update. update.now) r.updates.items) r.number r.end r.torn) }
     ensures refused { IfErr result (λ why. IsRefused text.now journal.now why) }
 {
-    let (head, salt, behind) = match read_head(journal) {
-        Ok(read) => read,
-        Err(fault) => return Err(Refused::BadHead(fault)),
-    };
+    let (head, salt, behind) = read_head(journal)?;
     if !head.text.is_of(text) {
         return Err(Refused::OtherText);
     }
-    let Ok((bodies, rest)) = read_all(alloc, &salt, behind) else {
-        return Err(Refused::NoMemory);
-    };
+    let (bodies, rest) = read_all(alloc, &salt, behind)?;
     let number = bodies.len() as u64;
     let end = journal.len() - rest.len();
     let torn = match tail_of(&salt, number, rest) {
@@ -85,15 +97,10 @@ fn updates_of<'a>(alloc: Global, bodies: &[&'a [u8]]) -> Result<Vec<&'a [u8]>, R
 {
     let mut updates = Vec::new(alloc);
     for (number, body) in bodies.iter().enumerate() {
-        let Ok(found) = read_batch(alloc, body) else {
-            return Err(Refused::NoMemory);
-        };
-        let Some(batch) = found else {
+        let Some(batch) = read_batch(alloc, body)? else {
             return Err(Refused::NoBatch(number as u64));
         };
-        if updates.extend_from_slice(&batch).is_err() {
-            return Err(Refused::NoMemory);
-        }
+        updates.extend_from_slice(&batch)?;
     }
     Ok(updates)
 }
