@@ -84,11 +84,17 @@ one_head head other rest left is so e =
         (same_sum head.origin other.origin (same_number_8 head.origin.len other.origin.len is.origin.0 so.origin.0 p6.0) p7.0),
     p8.1)
 
+-- octets that begin with a head's text begin with the name
+pub name_first : (head : Head) (rest : List ℕ) → take 16 (head_text head ++ rest) ≡ name
+name_first head rest =
+    ap (λ (o : List ℕ). take 16 o) (text_parts head rest)
+    ∙ take_at name (to_be_bytes w64 head.number ++ (head.random ++ (to_be_bytes w64 head.text.len ++ (head.text.sum ++ (to_be_bytes w32 head.serial ++ (to_be_bytes w64 head.origin.len ++ (head.origin.sum ++ rest))))))) 16 refl
+
 -- a head is no fault
 pub no_fault : (head : Head) (rest : List ℕ) (fault : HeadFault) → IsHead head → IsHeadFault (head_of head ++ rest) fault → ⊥
 no_fault head rest Short is short = omega (arith, short, length-append (head_of head) rest, head_long head is)
 no_fault head rest Foreign is foreign =
-    foreign.1 (ap (λ (o : List ℕ). take 16 o) (head_split head rest ∙ text_parts head (salt_of head ++ rest)) ∙ take_at name _ 16 refl)
+    foreign.1 (ap (λ (o : List ℕ). take 16 o) (head_split head rest) ∙ name_first head (salt_of head ++ rest))
 no_fault head rest WrongSum is wrong =
     let text : take 124 (head_of head ++ rest) ≡ head_text head = ap (λ (o : List ℕ). take 124 o) (head_split head rest) ∙ take_at (head_text head) (salt_of head ++ rest) 124 (text_long head is) in
     let behind : drop 124 (head_of head ++ rest) ≡ salt_of head ++ rest = ap (λ (o : List ℕ). drop 124 o) (head_split head rest) ∙ drop_at (head_text head) (salt_of head ++ rest) 124 (text_long head is) in
@@ -128,3 +134,16 @@ head_written head number serial text salt all is_number is_serial is_text is_sal
         ∙ written_text name (to_be_bytes w64 head.number) head.random (sum_octets head.text) (to_be_bytes w32 head.serial) (sum_octets head.origin))) in
     let is_salt_of : salt ≡ sha256 (head_text head) = is_salt ∙ ap sha256 is_head in
     (is_all ∙ (ap (λ (o : List ℕ). o ++ salt) is_head ∙ ap (λ (o : List ℕ). head_text head ++ o) is_salt_of), is_salt_of)
+
+-- octets whose sum is that of the head's text begin with a head
+pub head_read : (head : Head) (octets sum rest : List ℕ) → IsHead head → octets ≡ head_text head ++ (sum ++ rest) → sum ≡ sha256 (take 124 octets)
+    → (sum ≡ salt_of head) × (octets ≡ head_of head ++ rest)
+head_read head octets sum rest is whole is_sum =
+    let text : take 124 octets ≡ head_text head = ap (λ (o : List ℕ). take 124 o) whole ∙ take_at (head_text head) (sum ++ rest) 124 (text_long head is) in
+    let salt : sum ≡ salt_of head = is_sum ∙ (ap sha256 text ∙ sym (salt_is head)) in
+    (salt, whole ∙ (ap (λ (o : List ℕ). head_text head ++ (o ++ rest)) salt ∙ sym (head_split head rest)))
+
+-- where a head's sum stands
+pub sum_stands : (head : Head) (octets sum rest : List ℕ) → IsHead head → octets ≡ head_text head ++ (sum ++ rest) → length sum ≡ 32 → take 32 (drop 124 octets) ≡ sum
+sum_stands head octets sum rest is whole long =
+    ap (λ (o : List ℕ). take 32 o) (ap (λ (o : List ℕ). drop 124 o) whole ∙ drop_at (head_text head) (sum ++ rest) 124 (text_long head is)) ∙ take_at sum rest 32 long

@@ -114,7 +114,8 @@ whole_read head other batches bodies rest is fit opened =
 none_later : (salt : List ℕ) (next place : ℕ) → BeginsLater salt next (drop place []) → ⊥
 none_later salt next place later =
     let shows = frame_shows salt later.number (drop place []) later.body later.left later.frame in
-    omega (arith, shows.long, ap length (drop_all place [] (omega arith)))
+    let none : drop {A = ℕ} place [] ≡ [] = drop_all {X = ℕ} place [] (omega arith) in
+    omega (arith, shows.long, ap (λ (o : List ℕ). length o) none)
 
 not_torn : (salt : List ℕ) (next : ℕ) (torn : Bool) → IsTail salt next [] (if torn then Torn else Blank) → torn ≡ false
 not_torn salt next true tail = absurd (tail.0 (All-nil (λ (octet : ℕ). octet ≡ 0)))

@@ -38,11 +38,13 @@ pub fn read_batch<'a>(alloc: Global, octets: &'a [u8]) -> Result<Option<Vec<&'a 
     let mut updates = Vec::new(alloc);
     let mut rest = octets;
     while !rest.is_empty() {
-        let Some((update, behind)) = first_update(rest) else {
-            return Ok(None);
-        };
-        updates.push(update)?;
-        rest = behind;
+        match first_update(rest) {
+            Some((update, behind)) => {
+                updates.push(update)?;
+                rest = behind;
+            }
+            None => return Ok(None),
+        }
     }
     Ok(Some(updates))
 }

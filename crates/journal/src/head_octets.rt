@@ -46,7 +46,9 @@ pub fn read_head(octets: &[u8]) -> Result<(Head, [u8; SUM], &[u8]), HeadFault>
     ensures read { IfOk result (λ r. IsHead r.0 × (r.1 ≡ salt_of r.0) × (octets.now ≡ head_of r.0 ++ r.2.now)) }
     ensures refused { IfErr result (λ fault. IsHeadFault octets.now fault) }
 {
-    let (head, sum, rest) = split_head(octets).ok_or(HeadFault::Short)?;
+    let Some((head, sum, rest)) = split_head(octets) else {
+        return Err(HeadFault::Short);
+    };
     if &octets[..NAME.len()] != NAME.as_slice() {
         return Err(HeadFault::Foreign);
     }
