@@ -1,4 +1,5 @@
-use Rattle.std.proofs.Common.{◌≡◌, take, drop, refl, sym, ◌∙◌, rules}
+use Rattle.std.proofs.Common.{◌≡◌, take, drop, refl, sym, ◌∙◌, arith, rules}
+use Rattle.std.proofs.lemmas.List.{length-take-le}
 use Rattle.journal.specs.Head.{name}
 use Rattle.journal.proofs.PartLemmas.{not_so}
 use Rattle.journal.proofs.HeadLemmas.{head_read, sum_stands}
@@ -15,3 +16,6 @@ returns-clause-read c =
     let named : take 16 c.args.octets.now ≡ name = search rules in
     let read = head_read c.in-Some.head c.args.octets.now c.in-Some.sum.now c.in-Some.rest.now c.in-Some.ensures.1 (c.in-Some.ensures.3 named) (c.if-not-is_digest.ensures.0 refl) in
     (c.in-Some.ensures.1, read.0, read.1)
+
+pub slice_bounds-is_digest-end : goal.slice_bounds-is_digest-end
+slice_bounds-is_digest-end c = sym (length-take-le 124 c.args.octets.now (omega (arith, c.in-Some.ensures.0)))
