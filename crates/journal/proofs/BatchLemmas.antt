@@ -26,16 +26,17 @@ counted_long update = two_more (to_be_bytes w16 (length update)) update refl
 pub one_update : (update rest other left : List ℕ) → IsShort update → IsShort other → counted update ++ rest ≡ counted other ++ left → (update ≡ other) × (rest ≡ left)
 one_update update rest other left short small e =
     let parts = same_parts (to_be_bytes w16 (length update)) (update ++ rest) (to_be_bytes w16 (length other)) (other ++ left) refl
-        (sym (counted_parts update rest) ∙ (e ∙ counted_parts other left)) in
+    (sym (counted_parts update rest) ∙ (e ∙ counted_parts other left)) in
     same_parts update rest other left (same_number_2 (length update) (length other) short small parts.0) parts.1
 
 -- octets that begin with a length and as many octets begin with an update, and if they begin with one then so
 pub update_from : (octets : List ℕ) (size : ℕ) (after update rest : List ℕ) → size < 2 ^ 16
     → octets ≡ to_be_bytes w16 size ++ after → after ≡ update ++ rest → length update ≡ size → IsShort update × (octets ≡ counted update ++ rest)
-update_from octets size after update rest small first second is_size =
-    (subst (λ (n : ℕ). n < 2 ^ 16) (sym is_size) small,
-    first ∙ (ap (λ (o : List ℕ). to_be_bytes w16 size ++ o) second
-    ∙ (ap (λ (n : ℕ). to_be_bytes w16 n ++ (update ++ rest)) (sym is_size) ∙ sym (counted_parts update rest))))
+update_from octets size after update rest small first second is_size = (
+  subst (λ (n : ℕ). n < 2 ^ 16) (sym is_size) small,
+  first ∙ (ap (λ (o : List ℕ). to_be_bytes w16 size ++ o) second
+      ∙ (ap (λ (n : ℕ). to_be_bytes w16 n ++ (update ++ rest)) (sym is_size) ∙ sym (counted_parts update rest))),
+)
 
 pub update_leads : (octets : List ℕ) (size : ℕ) (after update rest : List ℕ) → size < 2 ^ 16
     → octets ≡ to_be_bytes w16 size ++ after → IsShort update → octets ≡ counted update ++ rest → (size ≡ length update) × (after ≡ update ++ rest)
@@ -76,12 +77,12 @@ pub one_more_read : (octets : List ℕ) (updates all : List (List ℕ)) (rest up
     → ReadSoFar octets updates rest → IsShort update × (rest ≡ counted update ++ behind) → all ≡ updates ++ update ∷ [] → ReadSoFar octets all behind
 one_more_read octets updates all rest update behind so_far found is_all =
     let longer : batch_of (updates ++ update ∷ []) ≡ batch_of updates ++ counted update =
-        flat_map-append counted updates (update ∷ []) ∙ ap (λ (o : List ℕ). batch_of updates ++ o) (append-nil (counted update)) in
+    flat_map-append counted updates (update ∷ []) ∙ ap (λ (o : List ℕ). batch_of updates ++ o) (append-nil (counted update)) in
     record {
       short = All-same IsShort all (updates ++ update ∷ []) is_all (All-push IsShort updates update so_far.short found.0);
       spelt = so_far.spelt ∙ (ap (λ (o : List ℕ). batch_of updates ++ o) found.1
-        ∙ (sym (append_assoc (batch_of updates) (counted update) behind)
-        ∙ ap (λ (o : List ℕ). o ++ behind) (sym longer ∙ ap batch_of (sym is_all))));
+          ∙ (sym (append_assoc (batch_of updates) (counted update) behind)
+          ∙ ap (λ (o : List ℕ). o ++ behind) (sym longer ∙ ap batch_of (sym is_all))));
     }
 
 pub all_read : (octets : List ℕ) (updates : List (List ℕ)) (rest : List ℕ) → ReadSoFar octets updates rest → length rest ≡ 0 → IsBatch octets updates
@@ -96,7 +97,7 @@ behind_read (update ∷ updates) [] rest short small e =
     absurd (none_in_two [] update (batch_of updates ++ rest) (omega arith) (sym e ∙ append_assoc (counted update) (batch_of updates) rest))
 behind_read (update ∷ updates) (other ∷ others) rest short small e =
     let same = one_update update (batch_of updates ++ rest) other (batch_of others) (All-head IsShort update updates short) (All-head IsShort other others small)
-        (sym (append_assoc (counted update) (batch_of updates) rest) ∙ e) in
+    (sym (append_assoc (counted update) (batch_of updates) rest) ∙ e) in
     behind_read updates others rest (All-tail IsShort update updates short) (All-tail IsShort other others small) same.1
 
 -- so octets are no batch where those left begin with no update

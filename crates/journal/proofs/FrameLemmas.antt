@@ -151,9 +151,9 @@ pub frame_written : (salt body : List ℕ) (number : ℕ) (four eight text sum a
 unfolding framed
 frame_written salt body number four eight text sum all is_four is_eight is_text is_sum is_all =
     let is_text_of : text ≡ text_of number body =
-        is_text
-        ∙ (ap (λ (o : List ℕ). (o ++ eight) ++ body) is_four
-        ∙ (ap (λ (o : List ℕ). (to_be_bytes w32 (length body) ++ o) ++ body) is_eight
-        ∙ (append_assoc (to_be_bytes w32 (length body)) (to_be_bytes w64 number) body ∙ sym (text_parts number body)))) in
+    is_text
+    ∙ (ap (λ (o : List ℕ). (o ++ eight) ++ body) is_four
+    ∙ (ap (λ (o : List ℕ). (to_be_bytes w32 (length body) ++ o) ++ body) is_eight
+    ∙ (append_assoc (to_be_bytes w32 (length body)) (to_be_bytes w64 number) body ∙ sym (text_parts number body)))) in
     let is_sum_of : sum ≡ sha256 (salt ++ text_of number body) = is_sum ∙ ap (λ (o : List ℕ). sha256 (salt ++ o)) is_text_of in
     is_all ∙ (ap (λ (o : List ℕ). o ++ sum) is_text_of ∙ ap (λ (o : List ℕ). text_of number body ++ o) is_sum_of)

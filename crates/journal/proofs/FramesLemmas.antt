@@ -18,28 +18,28 @@ count_more number len = omega arith
 pub more_read : (salt : List ℕ) (number : ℕ) (octets behind body : List ℕ) (bodies : List (List ℕ)) (rest : List ℕ)
     → IsFrame salt number octets body behind → IsRead salt (number + 1) behind bodies rest → IsRead salt number octets (body ∷ bodies) rest
 more_read salt number octets behind body bodies rest frame read = record {
-      spelt = frame.spelt ∙ (ap (λ (o : List ℕ). framed salt number body ++ o) read.spelt ∙ sym (append_assoc (framed salt number body) (frames_of salt (number + 1) bodies) rest));
-      fit = (frame.short, frame.counted, read.fit);
-      no_more = subst (λ (n : ℕ). NoFrame salt n rest) (sym (count_more number (length bodies))) read.no_more;
-    }
+  spelt = frame.spelt ∙ (ap (λ (o : List ℕ). framed salt number body ++ o) read.spelt ∙ sym (append_assoc (framed salt number body) (frames_of salt (number + 1) bodies) rest));
+  fit = (frame.short, frame.counted, read.fit);
+  no_more = subst (λ (n : ℕ). NoFrame salt n rest) (sym (count_more number (length bodies))) read.no_more;
+}
 
 -- the first of the frames
 pub first_frame : (salt : List ℕ) (number : ℕ) (octets body : List ℕ) (bodies : List (List ℕ)) (rest : List ℕ)
     → IsRead salt number octets (body ∷ bodies) rest → IsFrame salt number octets body (frames_of salt (number + 1) bodies ++ rest)
 first_frame salt number octets body bodies rest read = record {
-      short = read.fit.0;
-      counted = read.fit.1;
-      spelt = read.spelt ∙ append_assoc (framed salt number body) (frames_of salt (number + 1) bodies) rest;
-    }
+  short = read.fit.0;
+  counted = read.fit.1;
+  spelt = read.spelt ∙ append_assoc (framed salt number body) (frames_of salt (number + 1) bodies) rest;
+}
 
 -- those behind it
 pub later_frames : (salt : List ℕ) (number : ℕ) (octets body : List ℕ) (bodies : List (List ℕ)) (rest : List ℕ)
     → IsRead salt number octets (body ∷ bodies) rest → IsRead salt (number + 1) (frames_of salt (number + 1) bodies ++ rest) bodies rest
 later_frames salt number octets body bodies rest read = record {
-      spelt = refl;
-      fit = read.fit.2;
-      no_more = subst (λ (n : ℕ). NoFrame salt n rest) (count_more number (length bodies)) read.no_more;
-    }
+  spelt = refl;
+  fit = read.fit.2;
+  no_more = subst (λ (n : ℕ). NoFrame salt n rest) (count_more number (length bodies)) read.no_more;
+}
 
 -- octets that begin with no frame are read as none
 pub none_read : (salt : List ℕ) (number : ℕ) (octets : List ℕ) → NoFrame salt number octets → IsRead salt number octets [] octets
@@ -53,10 +53,10 @@ read_as_none salt number octets rest read =
 -- what is written is read again
 pub written_read : (salt : List ℕ) (number : ℕ) (bodies : List (List ℕ)) → Fit number bodies → IsRead salt number (frames_of salt number bodies) bodies []
 written_read salt number bodies fit = record {
-      spelt = sym (append-nil (frames_of salt number bodies));
-      fit = fit;
-      no_more = none_in_few salt (number + length bodies) [] (omega arith);
-    }
+  spelt = sym (append-nil (frames_of salt number bodies));
+  fit = fit;
+  no_more = none_in_few salt (number + length bodies) [] (omega arith);
+}
 
 -- two lists whose first ones and whose others are the same
 joined : (x y : List ℕ) (xs ys : List (List ℕ)) → x ≡ y → xs ≡ ys → x ∷ xs ≡ y ∷ ys
@@ -72,7 +72,7 @@ read_once salt number octets (body ∷ bodies) rest [] left one two =
     absurd (read_as_none salt number octets left two _ _ (first_frame salt number octets body bodies rest one))
 read_once salt number octets (body ∷ bodies) rest (other ∷ others) left one two =
     let same = one_frame salt number number octets body (frames_of salt (number + 1) bodies ++ rest) other (frames_of salt (number + 1) others ++ left)
-        (first_frame salt number octets body bodies rest one) (first_frame salt number octets other others left two) in
+    (first_frame salt number octets body bodies rest one) (first_frame salt number octets other others left two) in
     let behind = subst (λ (o : List ℕ). IsRead salt (number + 1) o others left) (sym same.2) (later_frames salt number octets other others left two) in
     let more = read_once salt (number + 1) (frames_of salt (number + 1) bodies ++ rest) bodies rest others left (later_frames salt number octets body bodies rest one) behind in
     (joined body other bodies others same.1 more.0, more.1)
@@ -83,8 +83,8 @@ pub frames-append : (salt : List ℕ) (number : ℕ) (bodies others : List (List
 frames-append salt number [] others = ap (λ (n : ℕ). frames_of salt n others) (sym (add-zero number))
 frames-append salt number (body ∷ bodies) others =
     ap (λ (o : List ℕ). framed salt number body ++ o)
-        (frames-append salt (number + 1) bodies others
-        ∙ ap (λ (n : ℕ). frames_of salt (number + 1) bodies ++ frames_of salt n others) (sym (count_more number (length bodies))))
+    (frames-append salt (number + 1) bodies others
+    ∙ ap (λ (n : ℕ). frames_of salt (number + 1) bodies ++ frames_of salt n others) (sym (count_more number (length bodies))))
     ∙ sym (append_assoc (framed salt number body) (frames_of salt (number + 1) bodies) (frames_of salt (number + suc (length bodies)) others))
 
 -- one more frame behind others
@@ -119,7 +119,7 @@ synced_first salt number (body ∷ bodies) [] left rest fit read =
 synced_first salt number (body ∷ bodies) (other ∷ others) left rest fit read =
     let octets : List ℕ = frames_of salt number (body ∷ bodies) ++ left in
     let same = one_frame salt number number octets other (frames_of salt (number + 1) others ++ rest) body (frames_of salt (number + 1) bodies ++ left)
-        (first_frame salt number octets other others rest read) (leads salt number body bodies left fit) in
+    (first_frame salt number octets other others rest read) (leads salt number body bodies left fit) in
     let next = subst (λ (o : List ℕ). IsRead salt (number + 1) o others rest) same.2 (later_frames salt number octets other others rest read) in
     let more = synced_first salt (number + 1) bodies others left rest fit.2 next in
     (more.0, joined_more other body others bodies more.0 same.1 more.1)
@@ -130,10 +130,10 @@ cut_none : (salt : List ℕ) (number n : ℕ) (body behind : List ℕ) → lengt
 cut_none salt number n body behind short counted cut found rest frame =
     let octets : List ℕ = framed salt number body ++ behind in
     let whole : IsFrame salt number octets found (rest ++ drop n octets) = record {
-          short = frame.short;
-          counted = frame.counted;
-          spelt = sym (take-append-drop n octets) ∙ (ap (λ (o : List ℕ). o ++ drop n octets) frame.spelt ∙ append_assoc (framed salt number found) rest (drop n octets));
-        } in
+      short = frame.short;
+      counted = frame.counted;
+      spelt = sym (take-append-drop n octets) ∙ (ap (λ (o : List ℕ). o ++ drop n octets) frame.spelt ∙ append_assoc (framed salt number found) rest (drop n octets));
+    } in
     let same = one_frame salt number number octets found (rest ++ drop n octets) body behind whole (record { short = short; counted = counted; spelt = refl }) in
     let shown = frame_shows salt number (take n octets) found rest frame in
     omega (arith, shown.long, length-take n octets, ap length same.1, framed_long salt number body)
@@ -178,13 +178,13 @@ pub more_so_far : (salt octets : List ℕ) (number : ℕ) (bodies all : List (Li
 more_so_far salt octets number bodies all rest body behind so_far is_number frame is_all =
     let shows = frame_shows salt number rest body behind frame in
     let longer : SoFar salt octets (bodies ++ body ∷ []) behind = record {
-          spelt = so_far.spelt
-            ∙ (ap (λ (o : List ℕ). frames_of salt 0 bodies ++ o) frame.spelt
-            ∙ (sym (append_assoc (frames_of salt 0 bodies) (framed salt number body) behind)
-            ∙ ap (λ (o : List ℕ). o ++ behind) (sym (frames_push salt number bodies body is_number))));
-          fit = fit_more 0 bodies body so_far.fit frame.short (subst (λ (n : ℕ). n < 2 ^ 64) (is_number ∙ omega arith) frame.counted);
-          few = omega (arith, so_far.few, shows.long, length-append bodies (body ∷ []));
-        } in
+      spelt = so_far.spelt
+          ∙ (ap (λ (o : List ℕ). frames_of salt 0 bodies ++ o) frame.spelt
+          ∙ (sym (append_assoc (frames_of salt 0 bodies) (framed salt number body) behind)
+          ∙ ap (λ (o : List ℕ). o ++ behind) (sym (frames_push salt number bodies body is_number))));
+      fit = fit_more 0 bodies body so_far.fit frame.short (subst (λ (n : ℕ). n < 2 ^ 64) (is_number ∙ omega arith) frame.counted);
+      few = omega (arith, so_far.few, shows.long, length-append bodies (body ∷ []));
+    } in
     subst (λ (bs : List (List ℕ)). SoFar salt octets bs behind) (sym is_all) longer
 
 pub all_read : (salt octets : List ℕ) (number : ℕ) (bodies : List (List ℕ)) (rest : List ℕ)

@@ -75,14 +75,15 @@ one_head head other rest left is so e =
     let p5 = same_parts (to_be_bytes w32 head.serial) _ (to_be_bytes w32 other.serial) _ refl p4.1 in
     let p6 = same_parts (to_be_bytes w64 head.origin.len) _ (to_be_bytes w64 other.origin.len) _ refl p5.1 in
     let p7 = same_parts head.origin.sum _ other.origin.sum _ (is.origin.1 ∙ sym so.origin.1) p6.1 in
-    let p8 = same_parts (salt_of head) rest (salt_of other) left (salt_long head ∙ sym (salt_long other)) p7.1 in
-    (same_head head other
-        (same_number_8 head.number other.number is.number so.number p1.0)
-        p2.0
-        (same_sum head.text other.text (same_number_8 head.text.len other.text.len is.text.0 so.text.0 p3.0) p4.0)
-        (same_number_4 head.serial other.serial is.serial so.serial p5.0)
-        (same_sum head.origin other.origin (same_number_8 head.origin.len other.origin.len is.origin.0 so.origin.0 p6.0) p7.0),
-    p8.1)
+    let p8 = same_parts (salt_of head) rest (salt_of other) left (salt_long head ∙ sym (salt_long other)) p7.1 in (
+      same_head head other
+          (same_number_8 head.number other.number is.number so.number p1.0)
+          p2.0
+          (same_sum head.text other.text (same_number_8 head.text.len other.text.len is.text.0 so.text.0 p3.0) p4.0)
+          (same_number_4 head.serial other.serial is.serial so.serial p5.0)
+          (same_sum head.origin other.origin (same_number_8 head.origin.len other.origin.len is.origin.0 so.origin.0 p6.0) p7.0),
+      p8.1,
+    )
 
 -- octets that begin with a head's text begin with the name
 pub name_first : (head : Head) (rest : List ℕ) → take 16 (head_text head ++ rest) ≡ name
@@ -114,7 +115,7 @@ split_is octets p r0 r1 r2 r3 r4 r5 left head long e0 e1 e2 e3 e4 e5 e6 is_name 
     let named : p ≡ name = sym (ap (λ (o : List ℕ). take 16 o) e0 ∙ take_at p r0 16 long) ∙ is_name in
     e0 ∙ (ap (λ (o : List ℕ). o ++ r0) named
     ∙ (ap (λ (o : List ℕ). name ++ o) (e1 ∙ ap (λ (o : List ℕ). to_be_bytes w64 head.number ++ o) (e2 ∙ ap (λ (o : List ℕ). head.random ++ o) (e3
-        ∙ ap (λ (o : List ℕ). sum_octets head.text ++ o) (e4 ∙ ap (λ (o : List ℕ). to_be_bytes w32 head.serial ++ o) (e5 ∙ ap (λ (o : List ℕ). sum_octets head.origin ++ o) e6)))))
+    ∙ ap (λ (o : List ℕ). sum_octets head.text ++ o) (e4 ∙ ap (λ (o : List ℕ). to_be_bytes w32 head.serial ++ o) (e5 ∙ ap (λ (o : List ℕ). sum_octets head.origin ++ o) e6)))))
     ∙ nested_text name (to_be_bytes w64 head.number) head.random (sum_octets head.text) (to_be_bytes w32 head.serial) (sum_octets head.origin) left))
 
 -- parts that are put one behind another are a head's
@@ -128,10 +129,10 @@ pub head_written : (head : Head) (number serial text salt all : List ℕ)
 unfolding head_of head_text salt_of
 head_written head number serial text salt all is_number is_serial is_text is_salt is_all =
     let is_head : text ≡ head_text head =
-        is_text
-        ∙ (ap (λ (o : List ℕ). ((((name ++ o) ++ head.random) ++ sum_octets head.text) ++ serial) ++ sum_octets head.origin) is_number
-        ∙ (ap (λ (o : List ℕ). ((((name ++ to_be_bytes w64 head.number) ++ head.random) ++ sum_octets head.text) ++ o) ++ sum_octets head.origin) is_serial
-        ∙ written_text name (to_be_bytes w64 head.number) head.random (sum_octets head.text) (to_be_bytes w32 head.serial) (sum_octets head.origin))) in
+    is_text
+    ∙ (ap (λ (o : List ℕ). ((((name ++ o) ++ head.random) ++ sum_octets head.text) ++ serial) ++ sum_octets head.origin) is_number
+    ∙ (ap (λ (o : List ℕ). ((((name ++ to_be_bytes w64 head.number) ++ head.random) ++ sum_octets head.text) ++ o) ++ sum_octets head.origin) is_serial
+    ∙ written_text name (to_be_bytes w64 head.number) head.random (sum_octets head.text) (to_be_bytes w32 head.serial) (sum_octets head.origin))) in
     let is_salt_of : salt ≡ sha256 (head_text head) = is_salt ∙ ap sha256 is_head in
     (is_all ∙ (ap (λ (o : List ℕ). o ++ salt) is_head ∙ ap (λ (o : List ℕ). head_text head ++ o) is_salt_of), is_salt_of)
 

@@ -54,9 +54,9 @@ batches_first [] found more short small e = (found, refl)
 batches_first (batch ∷ batches) [] more short small e = absurd (no_end (batch_of batch) (map batch_of batches ++ more) e)
 batches_first (batch ∷ batches) (first ∷ found) more short small e =
     let same = batch_once first batch (All-head (All IsShort) first found small) (All-head (All IsShort) batch batches short)
-        (first_same (batch_of first) (batch_of batch) (map batch_of found) (map batch_of batches ++ more) e) in
+    (first_same (batch_of first) (batch_of batch) (map batch_of found) (map batch_of batches ++ more) e) in
     let rest = batches_first batches found more (All-tail (All IsShort) batch batches short) (All-tail (All IsShort) first found small)
-        (others_same (batch_of first) (batch_of batch) (map batch_of found) (map batch_of batches ++ more) e) in
+    (others_same (batch_of first) (batch_of batch) (map batch_of found) (map batch_of batches ++ more) e) in
     (rest.0, more_first first batch found batches rest.0 same rest.1)
 
 -- batches whose octets are the same are the same
@@ -66,9 +66,9 @@ same_batches [] (first ∷ found) short small e = absurd (no_end (batch_of first
 same_batches (batch ∷ batches) [] short small e = absurd (no_end (batch_of batch) (map batch_of batches) (sym e))
 same_batches (batch ∷ batches) (first ∷ found) short small e =
     let same = batch_once batch first (All-head (All IsShort) batch batches short) (All-head (All IsShort) first found small)
-        (first_same (batch_of batch) (batch_of first) (map batch_of batches) (map batch_of found) e) in
+    (first_same (batch_of batch) (batch_of first) (map batch_of batches) (map batch_of found) e) in
     let more = same_batches batches found (All-tail (All IsShort) batch batches short) (All-tail (All IsShort) first found small)
-        (others_same (batch_of batch) (batch_of first) (map batch_of batches) (map batch_of found) e) in
+    (others_same (batch_of batch) (batch_of first) (map batch_of batches) (map batch_of found) e) in
     joined batch first batches found same more
   where
     joined : (f b : List (List ℕ)) (fs bs : List (List (List ℕ))) → f ≡ b → fs ≡ bs → f ∷ fs ≡ b ∷ bs
@@ -128,10 +128,11 @@ pub written_recovered : (text : List ℕ) (head other : Head) (batches : List (L
     → (other ≡ head) × (updates ≡ updates_in batches) × (torn ≡ false)
 written_recovered text head other batches updates number end torn is fit short found =
     let whole = whole_read head other batches found.bodies found.rest is fit found.opened in
-    let same = same_batches found.batches batches found.are_batches.short short (sym found.are_batches.spelt ∙ whole.1) in
-    (sym whole.0,
-    found.all ∙ ap updates_in same,
-    not_torn (salt_of other) number torn (subst (λ (o : List ℕ). IsTail (salt_of other) number o (if torn then Torn else Blank)) whole.2 found.tail))
+    let same = same_batches found.batches batches found.are_batches.short short (sym found.are_batches.spelt ∙ whole.1) in (
+      sym whole.0,
+      found.all ∙ ap updates_in same,
+      not_torn (salt_of other) number torn (subst (λ (o : List ℕ). IsTail (salt_of other) number o (if torn then Torn else Blank)) whole.2 found.tail),
+    )
 
 -- and is refused for want of memory alone
 pub written_accepted : (text : List ℕ) (head : Head) (batches : List (List (List ℕ))) (why : Refused)
@@ -145,7 +146,7 @@ written_accepted text head batches OtherText is same fit short refused =
 written_accepted text head batches (Damaged at) is same fit short refused =
     let whole = whole_read head refused.head batches refused.bodies refused.rest is fit refused.opened in
     absurd (none_later (salt_of refused.head) (length refused.bodies) refused.place
-        (subst (λ (o : List ℕ). BeginsLater (salt_of refused.head) (length refused.bodies) (drop refused.place o)) whole.2 refused.later.0))
+    (subst (λ (o : List ℕ). BeginsLater (salt_of refused.head) (length refused.bodies) (drop refused.place o)) whole.2 refused.later.0))
 written_accepted text head batches (NoBatch number) is same fit short refused =
     let whole = whole_read head refused.0 batches refused.1 refused.2 is fit refused.3 in
     let batch = is_one batches number refused.4.body short (ap (λ (bs : List (List ℕ)). slice_get bs number) (sym whole.1) ∙ refused.4.stands) in

@@ -23,7 +23,8 @@ pub use head_octets::{read_head, write_head};
 pub use heads::{Head, HeadFault, TextSum};
 pub use laws::{
     each_cut_is_a_beginning, octets_are_read_once, one_frame, one_head, what_is_written_is_read,
-    what_is_written_is_recovered, what_was_synced_is_read_first, what_was_synced_is_recovered_first,
+    what_is_written_is_recovered, what_was_synced_is_read_first,
+    what_was_synced_is_recovered_first,
 };
 pub use start::{Recovered, Refused};
 pub use tails::{Tail, tail_of};

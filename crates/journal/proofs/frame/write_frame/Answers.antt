@@ -10,4 +10,4 @@ returns c =
     let three = pushed c.args.body.now two c.in_ok-extend_from_slice-3.was c.extend_from_slice-3.ensures.items in
     let four = pushed c.salted_sum-sum.result (sym c.deref.ensures.value) c.in_ok-extend_from_slice-4.was c.extend_from_slice-4.ensures.items in
     frame_written c.args.salt.now c.args.body.now c.args.number c.to_be_bytes.result c.to_be_bytes-2.result c.deref.result.now c.salted_sum-sum.result _
-        c.to_be_bytes.ensures c.to_be_bytes-2.ensures (c.deref.ensures.value ∙ three) c.salted_sum-sum.ensures four
+    c.to_be_bytes.ensures c.to_be_bytes-2.ensures (c.deref.ensures.value ∙ three) c.salted_sum-sum.ensures four

@@ -7,9 +7,12 @@ use Rattle.journal.proofs.head_octets.read_head.Goals as goal
 
 pub returns-then-not-is_digest-clause-refused : goal.returns-then-not-is_digest-clause-refused
 returns-then-not-is_digest-clause-refused c =
-    let named : take 16 c.args.octets.now ≡ name = search rules in
-    (c.in-Some.ensures.0, named, λ e. not_so (c.if-not-is_digest.ensures.1
-        (sym (sum_stands c.in-Some.head c.args.octets.now c.in-Some.sum.now c.in-Some.rest.now c.in-Some.ensures.1 (c.in-Some.ensures.3 named) c.in-Some.ensures.2) ∙ e)))
+    let named : take 16 c.args.octets.now ≡ name = search rules in (
+      c.in-Some.ensures.0,
+      named,
+      λ e. not_so (c.if-not-is_digest.ensures.1
+          (sym (sum_stands c.in-Some.head c.args.octets.now c.in-Some.sum.now c.in-Some.rest.now c.in-Some.ensures.1 (c.in-Some.ensures.3 named) c.in-Some.ensures.2) ∙ e)),
+    )
 
 pub returns-clause-read : goal.returns-clause-read
 returns-clause-read c =

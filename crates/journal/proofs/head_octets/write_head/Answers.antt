@@ -14,4 +14,4 @@ returns c =
     let six = c.in_ok-put_sum-2.ensures ∙ ap (λ (o : List ℕ). o ++ sum_octets c.args.head.now.origin) five in
     let all = pushed c.digest-salt.result (sym c.as_slice.ensures.value) c.in_ok-extend_from_slice-5.was c.extend_from_slice-5.ensures.items in
     head_written c.args.head.now c.to_be_bytes.result c.to_be_bytes-2.result c.as_slice.result.now c.digest-salt.result c.extend_from_slice-5.new.self.items
-        c.to_be_bytes.ensures c.to_be_bytes-2.ensures (c.as_slice.ensures.value ∙ six) c.digest-salt.ensures all
+    c.to_be_bytes.ensures c.to_be_bytes-2.ensures (c.as_slice.ensures.value ∙ six) c.digest-salt.ensures all
