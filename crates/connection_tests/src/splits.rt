@@ -1,6 +1,7 @@
 //! Two frames that come in each pair of pieces, and go in octets.
 use crate::echo::{Both, Echo};
 use connections::Conversation;
+use conversation::OpenGate;
 use std::process::Abort;
 use std::sync::Wait;
 use std::test::Fail;
@@ -21,7 +22,7 @@ fn feed<R: Wait + Abort>(
     conversation.take(octets)?;
     for _ in 0..4 {
         assert!(rt; out.len() >= 65_535);
-        if conversation.answer(rt, echo, out).is_err() {
+        if conversation.answer(rt, echo, &OpenGate, out).is_err() {
             return Err("no reply is made")?;
         }
     }

@@ -1,4 +1,4 @@
-//! Tests of the workers of `serve_workers`: jobs on streams, side by side, and a job on connections over a poll that is made up.
+//! Tests of the workers of `serve_workers`: jobs on datagrams, side by side, and a job on connections over a poll that is made up.
 #![tactic(auto)]
 
 #[cfg(test)]
