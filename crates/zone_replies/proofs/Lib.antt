@@ -1,2 +1,2 @@
-pub mod LeftLemmas
+pub mod GoingLemmas
 pub mod RepliedLemmas

@@ -1,15 +1,13 @@
 -- What is left of a transfer over a stream that goes on from a place (RFC 1995, 4; RFC 5936, 2.2).
-use Rattle.std.specs.Prelude.{ℕ, ◌-◌, Bool, true, false, List, length, drop, map, Option, None, Some}
+use Rattle.std.specs.Prelude.{ℕ, Bool, true, false, List, map, Option, None, Some}
 use Rattle.dns_rdata.specs.Record.{Record}
 use Rattle.dns_message.specs.declared.query.Query.{Query}
 use Rattle.dns_message.specs.declared.query.Question.{Question}
+use Rattle.zone_tree.specs.Version.{Version}
 use Rattle.transfer_core.specs.Packed.{spelt, packed_from, octets_of}
+use Rattle.transfer_core.specs.Places.{left_at}
+use Rattle.transfer_core.specs.declared.place.Place.{Place}
 use Rattle.serve_core.specs.Heading.{reply_opt}
-use Rattle.serve_core.specs.Transfers.{list_for}
-
--- the last of a list, so many
-abbrev pub last_of : {T : Type 0} → ℕ → List T → List T
-last_of count list = drop (length list - count) list
 
 -- the question that is still to be sent: the query's, until the first message is
 abbrev pub question_left : Bool → Query → Option Question
@@ -21,7 +19,6 @@ question_left false query = Some query.question
 abbrev pub messages_of_records : Query → Bool → List Record → List (List ℕ)
 messages_of_records query begun records = octets_of (packed_from query.head (question_left begun query) (reply_opt query.edns) (map (spelt query.question.name) records))
 
--- the messages that are left of a transfer in a zone, by what changed since the asker's, whether a message is sent, and how many of its records
--- are left
-abbrev pub messages_from : List Record → Option (List Record) → Query → Bool → ℕ → List (List ℕ)
-messages_from zone changes query begun left = messages_of_records query begun (last_of left (list_for zone changes query))
+-- the messages that are left of a transfer in a zone, by the versions that lead to it, whether a message is sent, and the place in its list
+abbrev pub messages_from : List Record → List Version → Query → Bool → Place → List (List ℕ)
+messages_from zone versions query begun place = messages_of_records query begun (left_at zone versions place)

@@ -4,9 +4,6 @@
 //! its versions and makes its messages one after another, whenever the connection has taken the one before.
 #![tactic(auto)]
 
-mod left_list;
-mod list;
-mod message;
 mod replies;
 mod transfer;
 

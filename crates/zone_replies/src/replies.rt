@@ -39,27 +39,24 @@ pub struct Replies<'a, 's, Z: FirstZone, N: Naming, L> {
 }
 
 /// The reply to a query for a transfer that is permitted in a version, by those since the asker's: over a stream what makes its messages, for a
-/// datagram its one message. [`Spent`] where a `usize` doesn't tell how many records it has.
+/// datagram its one message.
 fn reply_transfer(
     version: SharedVersion,
     chain: VersionChain,
     query: Query,
     peer: Peer,
     out: &mut [u8],
-) -> Result<Reply<Transfer>, Spent>
+) -> Reply<Transfer>
     requires permitted { is_permitted version.zone peer query ≡ true }
     requires room { message_limit ≤ length out.old }
-    ensures bound { IfOk result (λ reply. (len : ℕ) → reply ≡ ReplyOf.One len → (len ≤ message_limit) × (len ≤ length out.new)) }
-    ensures messages { IfOk result (λ reply. messages_of transfer_left reply out.new ≡ messages_to version.zone (changes_by (soa_of version.zone) chain) peer query) }
+    ensures bound { (len : ℕ) → result ≡ ReplyOf.One len → (len ≤ message_limit) × (len ≤ length out.new) }
+    ensures messages { messages_of transfer_left result out.new ≡ messages_to version.zone (changes_by (soa_of version.zone) chain) peer query }
 {
     match peer.transport {
-        Transport::Tcp => match Transfer::new(version, chain, query) {
-            Some(transfer) => Ok(Reply::Many(transfer)),
-            None => Err(Spent),
-        },
+        Transport::Tcp => Reply::Many(Transfer::new(version, chain, query)),
         Transport::Udp => match write_transfer(version.get(), &chain, &query, peer, out) {
-            Some(len) => Ok(Reply::One(len)),
-            None => Ok(Reply::Silent),
+            Some(len) => Reply::One(len),
+            None => Reply::Silent,
         },
     }
 }
@@ -108,7 +105,7 @@ impl<'a, 's, Z: FirstZone, N: Naming, L: ServiceLog> Replies<'a, 's, Z, N, L> {
         ensures grows { Grows {T = Version} (learned_by self.new.reader) (learned_by self.old.reader) }
         ensures bound { IfOk result (λ reply. (len : ℕ) → reply ≡ ReplyOf.One len → (len ≤ message_limit) × (len ≤ length out.new)) }
         ensures replied { IfOk result (λ reply. IsReplied Z.zone self.old.peer (learned_by self.old.reader) (learned_by self.new.reader) request.now (messages_of transfer_left reply out.new)) }
-        ensures spent { OnErr result (IsTransfer Z.zone self.old.peer request.now) }
+        ensures spent { OnErr result (IsTransfer Z.zone self.old.peer request.now × (self.new.reader.left ≡ 0)) }
     {
         let peer = self.peer;
         match serve_one(
@@ -126,8 +123,8 @@ impl<'a, 's, Z: FirstZone, N: Naming, L: ServiceLog> Replies<'a, 's, Z, N, L> {
                 Ok(Reply::One(len))
             }
             Served::Transfer(version, chain, query) => {
-                reply_transfer(version, chain, query, peer, out)
-            },
+                Ok(reply_transfer(version, chain, query, peer, out))
+            }
             Served::Spent => Err(Spent),
         }
     }
@@ -159,8 +156,8 @@ impl<'a, 's, Z: FirstZone, N: Naming, L: ServiceLog> Answering<Transfer>
         ensures grows { Grows {T = Version} (learned_by self.new.reader) (learned_by self.old.reader) }
         ensures bound { IfOk result (λ reply. (len : ℕ) → reply ≡ ReplyOf.One len → (len ≤ message_limit) × (len ≤ length out.new)) }
         ensures reply { IfOk result (λ reply. IsReplied Z.zone self.old.peer (learned_by self.old.reader) (learned_by self.new.reader) request.now (messages_of transfer_left reply out.new)) }
-        // What can't be read as a query is replied to, whether a version can be loaded or not. Of a transfer a `usize` may not tell the records.
-        ensures spent { OnErr result (HasNoAnswer Z.zone self.old.peer request.now self.old.reader self.new.reader ⊎ IsTransfer Z.zone self.old.peer request.now) }
+        // What can't be read as a query is replied to, whether a version can be loaded or not.
+        ensures spent { OnErr result (HasNoAnswer Z.zone self.old.peer request.now self.old.reader self.new.reader) }
     {
         let cell = self.server.cell();
         match answer_now(cell, &mut self.reader, self.peer, request, out) {

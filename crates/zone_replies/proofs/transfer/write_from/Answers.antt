@@ -1,23 +1,24 @@
--- The records that are left are the last of the list.
-use Rattle.std.proofs.Common.{length, sym, ap, ◌∙◌, arith}
-use Rattle.zone_tree.specs.Zone.{soa_of}
-use Rattle.dns_engine.specs.Chain.{changes_by}
-use Rattle.transfer_core.specs.Packed.{listed}
-use Rattle.serve_core.specs.Transfers.{list_for}
-use Rattle.zone_replies.proofs.LeftLemmas.{last_behind, length-last_of, from_place}
+-- The place behind a message is that behind the records that it says it has.
+use Rattle.std.proofs.Common.{◌≤◌, ◌∙◌, sym, ap, take, drop, length, arith}
+use Rattle.std.proofs.lemmas.List.{length-take-le}
+use Rattle.transfer_core.specs.Places.{left_at}
+use Rattle.zone_replies.specs.Left.{messages_of_records}
+use Rattle.zone_replies.proofs.GoingLemmas.{from_place}
 use Rattle.zone_replies.proofs.transfer.write_from.Goals as goal
 
-pub write_message-requires-clause-counted : goal.write_message-requires-clause-counted
-write_message-requires-clause-counted c =
-    let zone = c.args.version.now.zone in
-    let all = list_for zone (changes_by (soa_of zone) c.args.chain.now) c.args.query.now in
-    let is = last_behind c.args.total c.args.left all (listed c.list_from-list.result) c.requires.counted c.list_from-list.ensures in
-    sym (length-last_of c.args.left all (omega (arith, c.requires.counted, c.requires.within))) ∙ ap length (sym is)
+pub returns-in_err-len-clause-message : goal.returns-in_err-len-clause-message
+returns-in_err-len-clause-message c =
+    let here = ap (λ zone. left_at zone c.args.chain.now.versions c.args.place.now) c.zone-zone.ensures in
+    rw c.from_residual.ensures (ap (messages_of_records c.args.query.now c.args.is_begun) (sym here ∙ sym c.records_at-list.ensures) ∙ sym c.packer_of-packer.ensures ∙ c.in_err-len.ensures.message.0)
 
 pub returns-clause-message : goal.returns-clause-message
 returns-clause-message c =
-    let zone = c.args.version.now.zone in
-    let changes = changes_by (soa_of zone) c.args.chain.now in
-    let all = list_for zone changes c.args.query.now in
-    let is = last_behind c.args.total c.args.left all (listed c.list_from-list.result) c.requires.counted c.list_from-list.ensures in
-    from_place c.write_message.result zone changes c.args.query.now c.args.is_begun c.args.left (listed c.list_from-list.result) c.write_message.new.out is (omega (arith, c.requires.counted, c.requires.within)) c.write_message.ensures.fewer c.write_message.ensures.message
+    let versions = c.args.chain.now.versions in
+    let zone = c.zone-zone.ensures in
+    let octets = take c.in_ok-len.len c.next_message.new.out in
+    let here = ap (λ z. left_at z versions c.args.place.now) zone in
+    let made = ap (messages_of_records c.args.query.now c.args.is_begun) (sym here ∙ sym c.records_at-list.ensures) ∙ sym c.packer_of-packer.ensures ∙ c.in_ok-len.ensures.message.0 in
+    let behind = ap (λ z. left_at z versions c.behind.result) (sym zone) ∙ c.behind.ensures ∙ ap (λ z. drop c.answer_count-count.result (left_at z versions c.args.place.now)) zone in
+    let size = length-take-le c.in_ok-len.len c.next_message.new.out (omega (arith, c.in_ok-len.ensures.message.1, c.next_message.auto.out, c.requires)) in
+    let short : length octets ≤ 16384 = omega (arith, size, c.in_ok-len.ensures.message.1) in
+    from_place c.args.version.now.zone versions c.args.query.now c.args.is_begun c.args.place.now c.behind.result octets c.next_message.new.self c.answer_count-count.result made short c.answer_count-count.ensures behind

@@ -3,6 +3,7 @@ use Rattle.conversation.proofs.TurnLemmas.{grows_more}
 use Rattle.zone_service.specs.declared.answer.Now.TheVariants.{Bytes, Later}
 use Rattle.zone_service.specs.Known.{learned_by}
 use Rattle.zone_service.proofs.NowLemmas.{now_grows}
+use Rattle.zone_service.proofs.ReplyLemmas.{spent_transfer}
 use Rattle.zone_replies.specs.Going.{transfer_left}
 use Rattle.zone_replies.proofs.RepliedLemmas.{later_replied}
 use Rattle.zone_replies.proofs.replies.RepliesAnsweringTransfer.reply.Goals as goal
@@ -18,3 +19,6 @@ pub returns-in-Later-clause-reply : goal.returns-in-Later-clause-reply
 returns-in-Later-clause-reply g c =
     let grown = now_grows g.Z.FirstZone.zone _ c.args.request.now c.args.self.now.reader c.answer_now.new.reader c.answer_now.new.out Later c.in-Later.ensures.now in
     later_replied g.Z.FirstZone.zone _ transfer_left c.args.request.now _ (learned_by c.args.self.now.reader) (learned_by c.answer_now.new.reader) _ c.reply_later.result grown c.reply_later.ensures.replied
+
+pub returns-in-Later-clause-spent : goal.returns-in-Later-clause-spent
+returns-in-Later-clause-spent g c = spent_transfer c.reply_later.result g.Z.FirstZone.zone _ c.args.request.now c.args.self.now.reader c.reply_later.new.self.reader c.reply_later.ensures.spent
