@@ -1,9 +1,7 @@
-//! A worker's turns over a poll that is made up: it tells readiness that isn't there, of keys that nobody has, and its time is the test's.
-ghost use Rattle.std.specs.Prelude.{[]};
+//! Polls that are made up: they tell readiness that isn't there, of keys that nobody has, and their time is the test's.
 
-use crate::echo::{Both, Echo};
+use crate::echo::Both;
 use crate::pieces::{Behind, Pieces};
-use crate::rights::Rights;
 use connections::{Answering, Blocking};
 use conversation::Allowed;
 use links::Limits;
@@ -14,19 +12,19 @@ use std::test::Fail;
 use turns::{Arrivals, NotWatched, Plan, Readiness, Refusal, Tally, Turns};
 
 /// A second, in nanoseconds.
-const SECOND: u64 = 1_000_000_000;
+pub(crate) const SECOND: u64 = 1_000_000_000;
 
 /// Who may update: 192.0.2.1 alone.
-fn may() -> [IpAddr; 1] {
+pub(crate) fn may() -> [IpAddr; 1] {
     [IpAddr::V4(Ipv4Addr::new(192, 0, 2, 1))]
 }
 
 /// A poll that tells every key under so many at each turn, one that nobody has, and the first place where connections come in.
 #[derive(Drop)]
-struct Teller {
-    keys: usize,
-    now: u64,
-    step: u64,
+pub(crate) struct Teller {
+    pub(crate) keys: usize,
+    pub(crate) now: u64,
+    pub(crate) step: u64,
 }
 
 impl<S: Blocking> Readiness<S> for Teller {
@@ -52,9 +50,9 @@ impl<S: Blocking> Readiness<S> for Teller {
 
 /// A poll that tells each key once, when it is watched, and of no place where connections come in.
 #[derive(Drop)]
-struct Once {
-    told: Vec<usize>,
-    now: u64,
+pub(crate) struct Once {
+    pub(crate) told: Vec<usize>,
+    pub(crate) now: u64,
 }
 
 impl<S: Blocking> Readiness<S> for Once {
@@ -76,10 +74,10 @@ impl<S: Blocking> Readiness<S> for Once {
 
 /// Connections that come one after another, with a failed one behind each; and one for which there is no room, where that is wanted.
 #[derive(Drop)]
-struct Comers {
-    left: Vec<Pieces>,
-    is_odd: bool,
-    no_room: u32,
+pub(crate) struct Comers {
+    pub(crate) left: Vec<Pieces>,
+    pub(crate) is_odd: bool,
+    pub(crate) no_room: u32,
 }
 
 impl Arrivals for Comers {
@@ -102,7 +100,7 @@ impl Arrivals for Comers {
 }
 
 /// So many connections, from 192.0.2.1 and 192.0.2.2 by turns, on which these octets come in pieces.
-fn make_comers(
+pub(crate) fn make_comers(
     alloc: Global,
     count: u8,
     octets: &[u8],
@@ -121,7 +119,7 @@ fn make_comers(
 }
 
 /// Ten seconds for everything, and who may update.
-fn plan(addresses: &[IpAddr]) -> Plan<'_> {
+pub(crate) fn plan(addresses: &[IpAddr]) -> Plan<'_> {
     Plan {
         limits: Limits {
             idle: 10 * SECOND,
@@ -132,8 +130,41 @@ fn plan(addresses: &[IpAddr]) -> Plan<'_> {
     }
 }
 
-/// Takes so many turns, and gives what has become of the connections.
-fn take_turns<R: Wait, P: Readiness<Pieces>, A: Answering<Both>>(
+/// Takes so many turns, and gives what has become of the connections; None where one has failed, or there is no memory.
+pub(crate) fn turned<R: Wait, P: Readiness<Pieces>, A: Answering<Both>>(
+    rt: &R,
+    alloc: Global,
+    worker: &mut Turns<Pieces, Both>,
+    poll: &mut P,
+    answering: &mut A,
+    comers: Comers,
+    count: usize,
+) -> Option<Tally> {
+    let addresses = may();
+    let mut places = Vec::new(alloc);
+    places.push(comers).ok()?;
+    let mut room = vec![in alloc; 0; 512].ok()?;
+    let mut out = vec![in alloc; 0; 65_535].ok()?;
+    for _turn in 0..count {
+        if room.is_empty() || out.len() < 65_535 {
+            return None;
+        }
+        let turned = worker.turn(
+            rt,
+            poll,
+            plan(&addresses),
+            &mut places,
+            answering,
+            &mut room,
+            &mut out,
+        );
+        turned.ok()?;
+    }
+    Some(worker.tally())
+}
+
+/// The same, which must not fail.
+pub(crate) fn take_turns<R: Wait, P: Readiness<Pieces>, A: Answering<Both>>(
     rt: &R,
     alloc: Global,
     worker: &mut Turns<Pieces, Both>,
@@ -142,243 +173,6 @@ fn take_turns<R: Wait, P: Readiness<Pieces>, A: Answering<Both>>(
     comers: Comers,
     count: usize,
 ) -> Result<Tally, Fail> {
-    let addresses = may();
-    let mut places = Vec::new(alloc);
-    places.push(comers)?;
-    let mut room = vec![in alloc; 0; 512]?;
-    let mut out = vec![in alloc; 0; 65_535]?;
-    for _turn in 0..count {
-        if room.is_empty() || out.len() < 65_535 {
-            return Err("the buffers are too short")?;
-        }
-        if worker
-            .turn(
-                rt,
-                poll,
-                plan(&addresses),
-                &mut places,
-                answering,
-                &mut room,
-                &mut out,
-            )
-            .is_err()
-        {
-            return Err("a turn has failed")?;
-        }
-    }
-    Ok(worker.tally())
-}
-
-#[test]
-fn each_is_answered_by_its_own_rights(rt: HostRuntime) -> Result<(), Fail> {
-    let alloc = rt.alloc();
-    let mut worker = Turns::new(alloc, 64, 1)?;
-    let mut teller = Teller {
-        keys: 64,
-        now: 0,
-        step: 1,
-    };
-    let comers = make_comers(alloc, 40, &[0, 1, b'a', 0, 1, b'b'], Behind::Nothing)?;
-    let tally = take_turns(
-        &rt,
-        alloc,
-        &mut worker,
-        &mut teller,
-        &mut Rights::new(),
-        comers,
-        60,
-    )?;
-    assert_eq!(rt; tally.begun, 40);
-    assert_eq!(rt; worker.links().len(), 40);
-    let mut may = 0;
-    for (_key, link) in worker.links().iter() {
-        let written = link.stream().written();
-        let octet = u8::from(written == [0, 1, 1, 0, 1, 1].as_slice());
-        assert!(rt; written == [0, 1, octet, 0, 1, octet].as_slice());
-        may += usize::from(octet);
-    }
-    assert_eq!(rt; may, 20);
-    Ok(())
-}
-
-#[test]
-fn ends_and_delays_give_places_back(rt: HostRuntime) -> Result<(), Fail> {
-    let alloc = rt.alloc();
-    let mut worker = Turns::new(alloc, 8, 1)?;
-    let mut teller = Teller {
-        keys: 8,
-        now: 0,
-        step: SECOND / 4,
-    };
-    // Those that end by themselves.
-    let first = make_comers(alloc, 7, &[0, 1, b'a'], Behind::End)?;
-    let tally = take_turns(
-        &rt,
-        alloc,
-        &mut worker,
-        &mut teller,
-        &mut Rights::new(),
-        first,
-        60,
-    )?;
-    assert_eq!(rt;
-        (tally.begun, tally.ends.clean, worker.links().len()),
-        (7, 7, 0)
-    );
-    // Those that begin a request, and bring no more.
-    let second = make_comers(alloc, 7, &[0, 9, b'a'], Behind::Nothing)?;
-    let tally = take_turns(
-        &rt,
-        alloc,
-        &mut worker,
-        &mut teller,
-        &mut Rights::new(),
-        second,
-        30,
-    )?;
-    assert_eq!(rt; (tally.begun, worker.links().len()), (14, 7));
-    let nobody = make_comers(alloc, 0, &[], Behind::End)?;
-    let tally = take_turns(
-        &rt,
-        alloc,
-        &mut worker,
-        &mut teller,
-        &mut Rights::new(),
-        nobody,
-        60,
-    )?;
-    assert_eq!(rt;
-        (tally.ends.message, tally.ends.late(), worker.links().len()),
-        (7, 7, 0)
-    );
-    Ok(())
-}
-
-#[test]
-fn places_are_for_those_that_ask(rt: HostRuntime) -> Result<(), Fail> {
-    let alloc = rt.alloc();
-    let mut worker = Turns::new(alloc, 4, 1)?;
-    let mut teller = Teller {
-        keys: 4,
-        now: 0,
-        step: 1,
-    };
-    // Four that begin a request have the places: others are turned away.
-    let busy = make_comers(alloc, 4, &[0, 9, b'a'], Behind::Nothing)?;
-    take_turns(
-        &rt,
-        alloc,
-        &mut worker,
-        &mut teller,
-        &mut Rights::new(),
-        busy,
-        20,
-    )?;
-    let more = make_comers(alloc, 3, &[], Behind::Nothing)?;
-    let tally = take_turns(
-        &rt,
-        alloc,
-        &mut worker,
-        &mut teller,
-        &mut Rights::new(),
-        more,
-        20,
-    )?;
-    assert_eq!(rt; (tally.begun, tally.turned_away, tally.evicted), (4, 3, 0));
-    // Idle ones give theirs.
-    let mut worker = Turns::new(alloc, 4, 1)?;
-    let idle = make_comers(alloc, 9, &[], Behind::Nothing)?;
-    let tally = take_turns(
-        &rt,
-        alloc,
-        &mut worker,
-        &mut teller,
-        &mut Rights::new(),
-        idle,
-        20,
-    )?;
-    assert_eq!(rt; (tally.begun, tally.turned_away, tally.evicted), (9, 0, 5));
-    assert_eq!(rt; worker.links().len(), 4);
-    Ok(())
-}
-
-#[test]
-fn want_of_room_is_waited_out(rt: HostRuntime) -> Result<(), Fail> {
-    let alloc = rt.alloc();
-    let mut worker = Turns::new(alloc, 8, 1)?;
-    let mut teller = Teller {
-        keys: 8,
-        now: 0,
-        step: SECOND / 4,
-    };
-    let mut few = make_comers(alloc, 5, &[], Behind::Nothing)?;
-    few.no_room = 3;
-    let tally = take_turns(
-        &rt,
-        alloc,
-        &mut worker,
-        &mut teller,
-        &mut Rights::new(),
-        few,
-        30,
-    )?;
-    assert_eq!(rt; (tally.begun, tally.no_room), (5, 3));
-    Ok(())
-}
-
-#[test]
-fn what_is_told_once_is_served_to_its_end(rt: HostRuntime) -> Result<(), Fail> {
-    let alloc = rt.alloc();
-    let mut worker = Turns::new(alloc, 8, 1)?;
-    let mut once = Once {
-        told: Vec::new(alloc),
-        now: 0,
-    };
-    let mut sent = Vec::new(alloc);
-    for _request in 0..1_000u32 {
-        sent.extend_from_slice(&[0, 1, b'a'])?;
-    }
-    let mut left = Vec::new(alloc);
-    for last in 1..6u8 {
-        let stream = Pieces::new(alloc, &sent, 700, Behind::Nothing)?;
-        left.push(stream.at_once().coming_from(last))?;
-    }
-    let comers = Comers {
-        left,
-        is_odd: false,
-        no_room: 0,
-    };
-    let mut rights = Rights::new();
-    let tally = take_turns(&rt, alloc, &mut worker, &mut once, &mut rights, comers, 60)?;
-    assert_eq!(rt; (tally.begun, worker.links().len()), (5, 5));
-    for (key, link) in worker.links().iter() {
-        assert_eq!(rt; link.stream().written().len(), 3_000, "under {key}");
-    }
-    Ok(())
-}
-
-#[test]
-fn transfers_go_on_beside_one_another(rt: HostRuntime) -> Result<(), Fail> {
-    let alloc = rt.alloc();
-    let mut worker = Turns::new(alloc, 8, 1)?;
-    let mut teller = Teller {
-        keys: 8,
-        now: 0,
-        step: 1,
-    };
-    // A request of two octets has two messages for a reply.
-    let mut sent = Vec::new(alloc);
-    let mut replies = Vec::new(alloc);
-    for _request in 0..50u32 {
-        sent.extend_from_slice(&[0, 2, b'a', b'b'])?;
-        replies.extend_from_slice(&[0, 1, 1, 0, 1, 2])?;
-    }
-    let comers = make_comers(alloc, 6, &sent, Behind::Nothing)?;
-    let mut echo = Echo::new(300);
-    let tally = take_turns(&rt, alloc, &mut worker, &mut teller, &mut echo, comers, 900)?;
-    assert_eq!(rt; (tally.begun, worker.links().len()), (6, 6));
-    for (key, link) in worker.links().iter() {
-        assert_eq!(rt; link.stream().written(), replies.as_slice(), "under {key}");
-    }
-    Ok(())
+    let tally = turned(rt, alloc, worker, poll, answering, comers, count);
+    Ok(tally.ok_or("a turn has failed")?)
 }

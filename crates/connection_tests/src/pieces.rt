@@ -100,6 +100,13 @@ impl Pieces {
         Pieces { room, ..self }
     }
 
+    /// The same, with memory for so many octets that are written.
+    pub(crate) fn with_memory(self, octets: usize) -> Result<Pieces, AllocError> {
+        let mut pieces = self;
+        pieces.written.reserve(octets)?;
+        Ok(pieces)
+    }
+
     /// Whether it blocks now, as it does every other time where it may.
     fn blocks(&mut self) -> bool
         ensures { self.new.faults ≡ self.old.faults }

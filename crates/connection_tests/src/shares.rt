@@ -10,7 +10,7 @@ use std::sync::Wait;
 use std::test::Fail;
 
 /// Serves a stream share after share, and says how it ends.
-fn end_of<R: Wait>(
+pub(crate) fn end_of<R: Wait>(
     rt: &R,
     alloc: Global,
     echo: &mut Echo,
@@ -46,28 +46,77 @@ fn served<R: Wait>(
     Ok((end, stream.written().to_vec(alloc)?))
 }
 
+/// Four requests: one of an octet, one of two, whose reply has two messages, one of none, which has no reply, and one of an octet.
+const SENT: [u8; 12] = [0, 1, b'a', 0, 2, b'b', b'c', 0, 0, 0, 1, b'd'];
+
+/// Their replies.
+const REPLIES: [u8; 12] = [0, 1, b'a', 0, 1, 1, 0, 1, 2, 0, 1, b'd'];
+
+/// How a stream ends that has so many octets of the requests, and how many octets of the replies are written: in front of a request, within
+/// its length, or within its message.
+const ENDS: [(usize, StreamEnd, usize); 13] = [
+    (0, StreamEnd::Clean, 0),
+    (1, StreamEnd::Torn, 0),
+    (2, StreamEnd::Torn, 0),
+    (3, StreamEnd::Clean, 3),
+    (4, StreamEnd::Torn, 3),
+    (5, StreamEnd::Torn, 3),
+    (6, StreamEnd::Torn, 3),
+    (7, StreamEnd::Clean, 9),
+    (8, StreamEnd::Torn, 9),
+    (9, StreamEnd::Clean, 9),
+    (10, StreamEnd::Torn, 9),
+    (11, StreamEnd::Torn, 9),
+    (12, StreamEnd::Clean, 12),
+];
+
+/// Whether a stream of so many octets of the requests ends as it should where this is behind them, whatever pieces they come and go in.
+fn ends_so<R: Wait>(
+    rt: &R,
+    alloc: Global,
+    sent: &[u8],
+    behind: Behind,
+    wanted: (StreamEnd, &[u8]),
+) -> Result<bool, Fail> {
+    for most in 1..14usize {
+        let stream = Pieces::new(alloc, sent, most, behind)?;
+        let (end, gone) = served(rt, alloc, stream, 4)?;
+        if end != wanted.0 || gone.as_slice() != wanted.1 {
+            return Ok(false);
+        }
+    }
+    Ok(true)
+}
+
 #[test]
 fn streams_end_in_each_way(rt: HostRuntime) -> Result<(), Fail> {
-    // A request of two octets has two messages for a reply, one of none has none.
-    let sent = [0, 1, b'a', 0, 2, b'b', b'c', 0, 0, 0, 1, b'd'];
-    let replies = [0, 1, b'a', 0, 1, 1, 0, 1, 2, 0, 1, b'd'];
-    let cases = [
-        (12usize, Behind::End, 4u32, StreamEnd::Clean, 12usize),
-        (11, Behind::End, 4, StreamEnd::Torn, 9),
-        (10, Behind::End, 4, StreamEnd::Torn, 9),
-        (9, Behind::End, 4, StreamEnd::Clean, 9),
-        (4, Behind::Failure, 4, StreamEnd::Device, 3),
-        (12, Behind::End, 0, StreamEnd::Spent, 0),
-    ];
-    for (len, behind, requests, wanted, written) in cases {
-        for most in 1..13usize {
-            let stream = Pieces::new(rt.alloc(), &sent[..len], most, behind)?;
+    for (len, end, replied) in ENDS {
+        let sent = SENT.get(..len).ok_or("a length")?;
+        let written = REPLIES.get(..replied).ok_or("a length")?;
+        let is_so = ends_so(&rt, rt.alloc(), sent, Behind::End, (end, written))?;
+        assert!(rt; is_so, "an end behind {len} octets");
+        let failed = (StreamEnd::Device, written);
+        let is_so = ends_so(&rt, rt.alloc(), sent, Behind::Failure, failed)?;
+        assert!(rt; is_so, "a failure behind {len} octets");
+    }
+    Ok(())
+}
+
+#[test]
+fn streams_end_where_no_version_is_loaded(rt: HostRuntime) -> Result<(), Fail> {
+    // What is answered before may be written.
+    for (requests, replied) in [(0, 0usize), (1, 3), (2, 9), (3, 9)] {
+        let replies = REPLIES.get(..replied).ok_or("a length")?;
+        for most in 1..14usize {
+            let stream = Pieces::new(rt.alloc(), &SENT, most, Behind::End)?;
             let (end, gone) = served(&rt, rt.alloc(), stream, requests)?;
-            assert!(rt; end == wanted, "{len} octets by {most}");
-            assert_eq!(rt;
-                gone.as_slice(),
-                &replies[..written],
-                "{len} octets by {most}"
+            assert!(rt;
+                end == StreamEnd::Spent,
+                "behind {requests} requests by {most}"
+            );
+            assert!(rt;
+                replies.starts_with(gone.as_slice()),
+                "behind {requests} requests by {most}"
             );
         }
     }
@@ -98,11 +147,9 @@ fn many_requests_that_come_at_once_are_answered_in_order(rt: HostRuntime) -> Res
 
 #[test]
 fn a_write_that_fails_leaves_a_beginning(rt: HostRuntime) -> Result<(), Fail> {
-    let sent = [0, 1, b'a', 0, 2, b'b', b'c', 0, 0, 0, 1, b'd'];
-    let replies = [0, 1, b'a', 0, 1, 1, 0, 1, 2, 0, 1, b'd'];
     for taken in 0..13usize {
         for most in 1..13usize {
-            let stream = Pieces::new(rt.alloc(), &sent, most, Behind::End)?.that_takes(taken);
+            let stream = Pieces::new(rt.alloc(), &SENT, most, Behind::End)?.that_takes(taken);
             let (end, gone) = served(&rt, rt.alloc(), stream, 4)?;
             let wanted = if taken < 12 {
                 StreamEnd::Device
@@ -112,7 +159,7 @@ fn a_write_that_fails_leaves_a_beginning(rt: HostRuntime) -> Result<(), Fail> {
             assert!(rt; end == wanted, "{taken} octets by {most}");
             assert_eq!(rt;
                 gone.as_slice(),
-                &replies[..taken],
+                &REPLIES[..taken],
                 "{taken} octets by {most}"
             );
         }
