@@ -1,5 +1,6 @@
 //! The command line.
-ghost use Rattle.std.specs.Prelude.{◌≤◌, IfOk};
+ghost use Rattle.std.specs.Prelude.{◌≡◌, ◌≤◌, IsNone, IfOk};
+ghost use Rattle.std.specs.Result.{IsOkAnd};
 
 use crate::options::{Serve, serve_of, serve_options};
 use clap::{Arg, ArgAction, ArgMatches, Command as Parser};
@@ -147,6 +148,7 @@ pub fn number_for<'a>(
 ) -> Result<usize, CommandFault<'a>>
     ensures least { least ≤ own → IfOk result (λ number. least ≤ number) }
     ensures most { own ≤ most → IfOk result (λ number. number ≤ most) }
+    ensures own { IsNone word.entry → IsOkAnd result (λ number. number ≡ own) }
 {
     let Some(word) = word else {
         return Ok(own);

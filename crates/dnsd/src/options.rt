@@ -1,5 +1,7 @@
 //! What the options of `serve` ask for.
-ghost use Rattle.std.specs.Prelude.{◌≤◌};
+ghost use Rattle.std.specs.Prelude.{◌≡◌, ◌+◌, ◌*◌, ◌-◌, ◌^◌, ◌<◌, ◌≤◌, [], vec_len, IsNone, IfOk};
+ghost use Rattle.std.specs.Result.{IsOkAnd};
+ghost use Rattle.dnsd.specs.Patience.{IsPatience};
 ghost use Rattle.transfer_core.specs.declared.kept.TheConstants.{KEPT};
 
 use crate::command::{CommandFault, KEEP, MAX_KEEP, number_for, option};
@@ -32,6 +34,13 @@ pub struct Serve<'a> {
     /// How long each may wait for its peer.
     pub limits: Limits,
     ghost few_kept: { keep ≤ KEPT },
+    ghost some_workers: { 0 < workers },
+    ghost few_threads: { workers * (vec_len listen + 1) ≤ 63 },
+    ghost some_places: { 0 < places },
+    ghost few_places: { places ≤ 100000 },
+    ghost idle: { IsPatience limits.idle },
+    ghost message: { IsPatience limits.message },
+    ghost reply: { IsPatience limits.reply },
 }
 
 /// The option for an address to listen on.
@@ -202,7 +211,11 @@ fn listened<'a>(
 }
 
 /// How long connections may wait for their peers.
-fn limits_of<'a>(found: &ArgMatches<'a>) -> Result<Limits, CommandFault<'a>> {
+fn limits_of<'a>(found: &ArgMatches<'a>) -> Result<Limits, CommandFault<'a>>
+    ensures idle { IfOk result (λ limits. IsPatience limits.idle) }
+    ensures message { IfOk result (λ limits. IsPatience limits.message) }
+    ensures reply { IfOk result (λ limits. IsPatience limits.reply) }
+{
     Ok(Limits {
         idle: nanos_for(found.get_str(IDLE), IDLE)?,
         message: nanos_for(found.get_str(MESSAGE), MESSAGE)?,
@@ -211,13 +224,17 @@ fn limits_of<'a>(found: &ArgMatches<'a>) -> Result<Limits, CommandFault<'a>> {
 }
 
 /// A time in nanoseconds, by the seconds that a word gives an option.
-fn nanos_for<'a>(word: Option<&'a str>, option: &'static str) -> Result<u64, CommandFault<'a>> {
+fn nanos_for<'a>(word: Option<&'a str>, option: &'static str) -> Result<u64, CommandFault<'a>>
+    ensures { IfOk result (λ nanos. IsPatience nanos) }
+{
     let seconds = number_for(word, option, 1, MAX_SECONDS, SECONDS)?;
     Ok(seconds as u64 * 1_000_000_000)
 }
 
 /// After how many datagrams and connections a worker ends, by the option's word; without one it never does.
-fn count_of<'a>(word: Option<&'a str>) -> Result<u64, CommandFault<'a>> {
+fn count_of<'a>(word: Option<&'a str>) -> Result<u64, CommandFault<'a>>
+    ensures { IsNone word.entry → IsOkAnd result (λ most. most ≡ 2 ^ 64 - 1) }
+{
     let Some(word) = word else {
         return Ok(u64::MAX);
     };
@@ -230,7 +247,9 @@ fn count_of<'a>(word: Option<&'a str>) -> Result<u64, CommandFault<'a>> {
 }
 
 /// The addresses of a list with commas between them; none of an empty one.
-fn addresses_of<'a>(alloc: Global, list: &'a str) -> Result<Vec<IpAddr>, CommandFault<'a>> {
+fn addresses_of<'a>(alloc: Global, list: &'a str) -> Result<Vec<IpAddr>, CommandFault<'a>>
+    ensures { list.entry.now ≡ [] → IsOkAnd result (λ addresses. addresses.items ≡ []) }
+{
     let mut addresses = Vec::new(alloc);
     if list.is_empty() {
         return Ok(addresses);

@@ -1,6 +1,6 @@
 -- Lists whose elements belong together one by one.
 use Rattle.std.proofs.Common.{◌≡◌, refl, ℕ, length, arith, append-nil, Bool, List, [], ◌∷◌, ◌++◌, Result, Ok, Err, MatchResult, All, map, sym, ap, subst, ◌∙◌}
-use Rattle.std.proofs.lemmas.List.Elements.{All-nil, All-cons, All-head, All-tail}
+use Rattle.std.proofs.lemmas.List.Elements.{All-nil, All-cons, All-head, All-tail, All-map}
 use Rattle.std.proofs.lemmas.Simd.{map-map}
 use Rattle.serve_workers.specs.GivenBack.{Each, none, one, IsGivenBack, IsReturned}
 
@@ -33,22 +33,22 @@ each_second R P holds _ _ none = All-nil P
 each_second R P holds _ _ (one {x = x} {xs = xs} {y = y} {ys = ys} first all) = All-cons P y ys (holds x y first) (each_second R P holds xs ys all)
 
 -- a work that is begun, and what comes back of it
-pub ended : {H B W T : Type 0} (number : W → ℕ) (seen : W → List T) (lock : ℕ) (lock_of : H → ℕ) (given_of : H → W) (told_of : B → ℕ) (may_of : B → Bool) (work_of : B → W)
+pub ended : {H B W T : Type 0} (number : W → ℕ) (seen : W → List T) (IsDone : W → Type 0) (lock : ℕ) (lock_of : H → ℕ) (given_of : H → W) (told_of : B → ℕ) (may_of : B → Bool) (work_of : B → W)
     → (given : W) (begun : Result H B) (back : B)
-    → MatchResult begun (λ h. (lock_of h ≡ lock) × (given_of h ≡ given)) (λ b. IsReturned number seen lock given (told_of b) (may_of b) (work_of b))
-    → MatchResult begun (λ h. IsReturned number seen (lock_of h) (given_of h) (told_of back) (may_of back) (work_of back)) (λ b. back ≡ b)
-    → IsReturned number seen lock given (told_of back) (may_of back) (work_of back)
-ended number seen lock lock_of given_of told_of may_of work_of given (Ok h) back first then =
-    let own = subst (λ g. IsGivenBack number seen g (may_of back) (work_of back)) first.1 then.1 in
+    → MatchResult begun (λ h. (lock_of h ≡ lock) × (given_of h ≡ given)) (λ b. IsReturned number seen IsDone lock given (told_of b) (may_of b) (work_of b))
+    → MatchResult begun (λ h. IsReturned number seen IsDone (lock_of h) (given_of h) (told_of back) (may_of back) (work_of back)) (λ b. back ≡ b)
+    → IsReturned number seen IsDone lock given (told_of back) (may_of back) (work_of back)
+ended number seen IsDone lock lock_of given_of told_of may_of work_of given (Ok h) back first then =
+    let own = subst (λ g. IsGivenBack number seen IsDone g (may_of back) (work_of back)) first.1 then.1 in
     (then.0 ∙ first.0, own)
-ended number seen lock lock_of given_of told_of may_of work_of given (Err b) back first then =
-    subst (λ c. IsReturned number seen lock given (told_of c) (may_of c) (work_of c)) (sym then) first
+ended number seen IsDone lock lock_of given_of told_of may_of work_of given (Err b) back first then =
+    subst (λ c. IsReturned number seen IsDone lock given (told_of c) (may_of c) (work_of c)) (sym then) first
 
 -- what comes back as another work does that is the same, where both were told the same
-pub given_along : {W T : Type 0} (number : W → ℕ) (seen : W → List T) (given : W) (own told : Bool) (back work : W) → own ≡ told → work ≡ back → IsGivenBack number seen given own back → IsGivenBack number seen given told work
-given_along number seen given own told back work same is r =
-    let with_told = subst (λ (b : Bool). IsGivenBack number seen given b back) same r in
-    subst (λ w. IsGivenBack number seen given told w) (sym is) with_told
+pub given_along : {W T : Type 0} (number : W → ℕ) (seen : W → List T) (IsDone : W → Type 0) (given : W) (own told : Bool) (back work : W) → own ≡ told → work ≡ back → IsGivenBack number seen IsDone given own back → IsGivenBack number seen IsDone given told work
+given_along number seen IsDone given own told back work same is r =
+    let with_told = subst (λ (b : Bool). IsGivenBack number seen IsDone given b back) same r in
+    subst (λ w. IsGivenBack number seen IsDone given told w) (sym is) with_told
 
 -- what is related one by one is so by a wider relation
 pub each_wider : {A B : Type 0} (R S : A → B → Type 0) → ((x : A) (y : B) → R x y → S x y) → (xs : List A) (ys : List B) → Each R xs ys → Each S xs ys
@@ -88,3 +88,7 @@ each_map S f _ _ (one first all) = one first (each_map S f _ _ all)
 -- what is put in and taken out again stays related, where what it is put in does
 pub each_put : {P W : Type 0} (S : P → P → Type 0) (pair_of : W → P) (pairs back : List P) (works done : List W) → back ≡ map pair_of done → Each (λ given work. S (pair_of given) (pair_of work)) works done → map pair_of works ≡ pairs → Each S pairs back
 each_put S pair_of pairs back works done out all in' = subst (λ l. Each S pairs l) (sym out) (subst (λ l. Each S l (map pair_of done)) in' (each_map S pair_of works done all))
+
+-- what holds of each that is put in holds of each that is taken out
+pub all_put : {P W : Type 0} (Q : P → Type 0) (pair_of : W → P) (back : List P) (done : List W) → back ≡ map pair_of done → All (λ w. Q (pair_of w)) done → All Q back
+all_put Q pair_of back done out all = subst (All Q) (sym out) (All-map Q pair_of done all)

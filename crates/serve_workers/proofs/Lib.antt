@@ -1,4 +1,4 @@
 pub mod SendLemmas
 pub mod EachLemmas
-pub mod NumberLemmas
+pub mod ListLemmas
 pub mod TurnedLemmas

@@ -1,5 +1,5 @@
 -- Turns that are taken one behind the other.
-use Rattle.std.proofs.Common.{ℕ, List, Option}
+use Rattle.std.proofs.Common.{◌≡◌, ℕ, List, Option, sym, subst}
 use Rattle.conversation.specs.Served.{Learned}
 use Rattle.std.specs.declared.net.ip_addr.IpAddr.{IpAddr}
 use Rattle.std.specs.declared.net.socket_addr.SocketAddr.{SocketAddr}
@@ -15,6 +15,7 @@ module _ {S M T : Type 0} (origin : S → SocketAddr) (octets : S → Option (Li
   turned_more seen mid later old between new so_far unturned = so_far
   turned_more seen mid later old between new so_far (turned now more last) = turned now (turned_more seen mid _ old between _ so_far more) last
 
-  -- one turn alone
-  pub one_turned : (now : ℕ) (seen later : Learned T) (old new : Slab (Link S M)) → HasTurned origin octets IsReply allowed limits now seen old later new → Turned origin octets IsReply allowed limits seen old later new
-  one_turned now seen later old new has = turned now unturned has
+  -- one turn alone, behind which the connections stay
+  pub one_turned : (now : ℕ) (seen later : Learned T) (old mid new : Slab (Link S M)) → HasTurned origin octets IsReply allowed limits now seen old later mid → new ≡ mid → Turned origin octets IsReply allowed limits seen old later new
+  one_turned now seen later old mid new has same =
+      subst (λ (links : Slab (Link S M)). Turned origin octets IsReply allowed limits seen old later links) (sym same) (turned now unturned has)

@@ -1,8 +1,9 @@
 -- A thread's job, and who answers in it (own).
-use Rattle.std.specs.Prelude.{ℕ, List}
+use Rattle.std.specs.Prelude.{ℕ, List, Option}
 use Rattle.zone_tree.specs.Version.{Version}
 use Rattle.snapshot_cell.specs.declared.named.NamedReader.{NamedReader}
-use Rattle.serve_workers.specs.Numbers.{number_of}
+use Rattle.zone_service.specs.declared.service_log.JobEnd.{JobEnd}
+use Rattle.serve_workers.specs.Numbers.{number_of, end_of}
 use Rattle.serve_workers.specs.declared.threads.SocketJob.{SocketJob}
 use Rattle.serve_workers.specs.declared.threads.SocketJob.TheVariants.{Datagrams as OnDatagrams, Connections as OnConnections}
 use Rattle.serve_workers.specs.declared.threads.Seat.{Seat}
@@ -20,3 +21,7 @@ seat_number seat = number_of (pair_of seat).1
 -- the versions that its reader has seen published, the first one first
 abbrev pub seat_seen : {Z N L C : Type 0} → Seat Z N L C → List Version
 seat_seen seat = (pair_of seat).0.seen
+
+-- its job's end; none where it hasn't ended
+abbrev pub seat_end : {Z N L C : Type 0} → Seat Z N L C → Option JobEnd
+seat_end seat = end_of (pair_of seat).1

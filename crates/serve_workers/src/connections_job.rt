@@ -1,7 +1,9 @@
 //! A worker's job on connections (RFC 7766, 6.2).
-ghost use Rattle.std.specs.Prelude.{◌≡◌, Some, IfSome};
+ghost use Rattle.std.specs.Prelude.{◌≡◌, ◌⊎◌, Some};
 ghost use Rattle.conversation.specs.Served.{Grows};
 ghost use Rattle.turns.specs.Steps.{Turned};
+ghost use Rattle.serve_workers.specs.Ended.{end_by};
+ghost use Rattle.serve_workers.specs.Lost.{lost_of, lost_since};
 
 use crate::progress::Standing;
 use crate::scratch::Scratch;
@@ -36,7 +38,9 @@ pub struct ConnectionsJob<'a, S: Drop, P, L, C> {
 }
 
 /// How many connections are lost so far.
-fn losses_in(tally: Tally) -> Losses {
+fn losses_in(tally: Tally) -> Losses
+    ensures { result ≡ lost_of tally }
+{
     Losses {
         failed: tally.ends.device,
         starved: tally.ends.spent.saturating_add(tally.ends.no_memory),
@@ -50,7 +54,9 @@ fn losses_in(tally: Tally) -> Losses {
 }
 
 /// How many more there are than before.
-fn losses_since(before: Losses, now: Losses) -> Losses {
+fn losses_since(before: Losses, now: Losses) -> Losses
+    ensures { result ≡ lost_since before now }
+{
     Losses {
         failed: now.failed.saturating_sub(before.failed),
         starved: now.starved.saturating_sub(before.starved),
@@ -60,6 +66,16 @@ fn losses_since(before: Losses, now: Losses) -> Losses {
         evicted: now.evicted.saturating_sub(before.evicted),
         turned_away: now.turned_away.saturating_sub(before.turned_away),
         no_room: now.no_room.saturating_sub(before.no_room),
+    }
+}
+
+/// How a job ends of which no more turn can be taken.
+fn end_of(end: TurnEnd) -> JobEnd
+    ensures { result ≡ end_by end }
+{
+    match end {
+        TurnEnd::Device => JobEnd::Device,
+        TurnEnd::NoMemory => JobEnd::NoMemory,
     }
 }
 
@@ -88,7 +104,7 @@ impl<
         scratch: Scratch,
     ) -> ConnectionsJob<'a, S, P, L, C>
         ensures number { result.number ≡ number }
-        ensures plan { result.plan ≡ plan }
+        ensures plan { result.plan ≡ plan.entry }
         ensures turns { result.turns ≡ turns }
     {
         ConnectionsJob {
@@ -129,6 +145,7 @@ impl<
 
     /// Tells of connections that are lost, once a second at most.
     fn tell<R: Wait, O: ServiceLog>(&mut self, rt: &R, log: &O, tally: Tally)
+        ensures told { (self.new.told ≡ self.old.told) ⊎ (self.new.told ≡ lost_of tally) }
         ensures number { self.new.number ≡ self.old.number }
         ensures plan { self.new.plan ≡ self.old.plan }
         ensures turns { self.new.turns ≡ self.old.turns }
@@ -179,8 +196,7 @@ impl<
         self.tell(rt, log, tally);
         match taken {
             Ok(()) => None,
-            Err(TurnEnd::Device) => Some(JobEnd::Device),
-            Err(TurnEnd::NoMemory) => Some(JobEnd::NoMemory),
+            Err(end) => Some(end_of(end)),
         }
     }
 
@@ -195,6 +211,7 @@ impl<
         ensures grows { Grows (A.seen answering.new) (A.seen answering.old) }
         ensures turned { Turned S.origin S.octets A.is_reply self.old.plan.allowed.addresses.now self.old.plan.limits (A.seen answering.old) self.old.turns.links (A.seen answering.new) self.new.turns.links }
         ensures number { self.new.number ≡ self.old.number }
+        ensures plan { self.new.plan ≡ self.old.plan }
         ensures end { self.new.end ≡ Some result }
     {
         for _ in rt.forever() {

@@ -1,8 +1,9 @@
 //! The running server: workers on sockets, each on a thread of its own.
 //!
-//! [`serve_zone`] serves a zone by workers on a socket of datagrams and on a listener. [`run_workers`] does each worker's job on a thread
-//! of its own; a [`Connection`] ends where its peer takes too long. What is answered, and what is written then, `conversation` and
-//! `zone_service` have.
+//! [`serve_zone`] serves a zone on sockets. A worker has a thread for each of its sockets of datagrams, which does a [`DatagramsJob`], and one for
+//! all of its listeners, which does a [`ConnectionsJob`]: turns over the connections that come there. All threads begin, or none; one that fails
+//! ends the server. [`run_workers`] does jobs of any kind, each on a thread of its own. What is answered, and what is written then,
+//! `conversation`, `turns` and `zone_service` have.
 #![tactic(auto)]
 
 mod connections_job;

@@ -1,10 +1,10 @@
 //! A zone served on sockets, by workers.
-ghost use Rattle.std.specs.Prelude.{◌≡◌, ◌+◌, ◌*◌, ◌%◌, ◌<◌, ◌≤◌, ◌⊎◌, [], true, false, map, vec_len, vec_capacity, IfOk, IfErr, IfSome};
-ghost use Rattle.std.specs.List.{All, range_with_len};
+ghost use Rattle.std.specs.Prelude.{◌≡◌, ◌+◌, ◌*◌, ◌%◌, ◌<◌, ◌≤◌, ◌⊎◌, [], true, false, map, vec_len, vec_capacity, None, Some, IfOk, IfErr, MatchOption};
+ghost use Rattle.std.specs.List.{All, Any};
 ghost use Rattle.dns_engine.specs.Held.{KEPT};
 ghost use Rattle.snapshot_cell.specs.declared.tokens.TheConstants.{READERS};
 ghost use Rattle.serve_workers.specs.declared.service.ServeFault.{ServeFault as Fault};
-ghost use Rattle.serve_workers.specs.Numbers.{number_of, takes_datagrams};
+ghost use Rattle.serve_workers.specs.Numbers.{number_of, takes_datagrams, are_datagrams, rights_of, end_of, fault_by};
 
 use crate::connections_job::ConnectionsJob;
 use crate::datagrams_job::DatagramsJob;
@@ -12,6 +12,7 @@ use crate::ending::{end_cell, end_named};
 use crate::progress::{Muster, Progress, Standing};
 use crate::scratch::Scratch;
 use crate::threads::{SocketJob, TcpJob, run_threads};
+use crate::worker_socket::WorkerSocket;
 use crate::workers::NotStarted;
 use dns_engine::{
     FirstZone, SharedVersion, VersionCell, VersionPublisher, VersionReader, ZoneVersions,
@@ -85,7 +86,7 @@ pub enum ServeFault {
 impl<C: Clock> SocketJob<'_, C> {
     /// Why it has ended before it had done as much as it may; none where it had.
     fn fault(&self) -> Option<ServeFault>
-        ensures { IfSome result (λ fault. (fault ≡ Fault.Device) ⊎ (fault ≡ Fault.Spent) ⊎ (fault ≡ Fault.NoMemory)) }
+        ensures { result ≡ fault_by (end_of self.now) }
     {
         let end = match self {
             SocketJob::Datagrams(job) => job.end(),
@@ -260,7 +261,9 @@ fn serve_with<
 fn fault_in<N: Naming, C: Clock>(
     pairs: &[(VersionReader<N>, SocketJob<'_, C>)],
 ) -> Option<ServeFault>
-    ensures { IfSome result (λ fault. (fault ≡ Fault.Device) ⊎ (fault ≡ Fault.Spent) ⊎ (fault ≡ Fault.NoMemory)) }
+    ensures { MatchOption result
+        (All (λ pair. fault_by (end_of pair.1) ≡ None) pairs.now)
+        (λ fault. Any (λ pair. fault_by (end_of pair.1) ≡ Some fault) pairs.now) }
 {
     for pair in pairs {
         if let Some(fault) = pair.1.fault() {
@@ -290,7 +293,9 @@ fn places_of<C: Clock>(
     alloc: Global,
     watch: &mut Watch<'_, C>,
     listeners: Vec<TcpListener>,
-) -> io::Result<Vec<TcpPlace>> {
+) -> io::Result<Vec<TcpPlace>>
+    ensures { IfOk result (λ places. vec_len places ≡ vec_len listeners) }
+{
     let mut places = Vec::new(alloc);
     let mut number = 0usize;
     for listener in listeners {
@@ -313,7 +318,7 @@ fn tcp_job<'a, R: Clock + Net>(
     scratch: Scratch,
 ) -> io::Result<TcpJob<'a, R>>
     ensures number { IfOk result (λ job. job.number ≡ worker) }
-    ensures plan { IfOk result (λ job. job.plan ≡ plan.connections) }
+    ensures plan { IfOk result (λ job. job.plan ≡ plan.entry.connections) }
 {
     let count = listeners.len();
     let mut watch = Watch::new(rt, alloc, rt)?;
@@ -331,7 +336,9 @@ fn job_of<'a, R: Clock + Net>(
     plan: Plan<'a>,
     scratch: Scratch,
 ) -> io::Result<SocketJob<'a, R>>
-    ensures number { IfOk result (λ job. number_of job ≡ duty.worker) }
+    ensures number { IfOk result (λ job. number_of job ≡ duty.entry.worker) }
+    ensures kind { IfOk result (λ job. takes_datagrams job ≡ are_datagrams duty.entry.sockets) }
+    ensures rights { IfOk result (λ job. rights_of job ≡ plan.entry.connections.allowed.addresses.now) }
 {
     let Duty {
         worker,
@@ -342,7 +349,8 @@ fn job_of<'a, R: Clock + Net>(
     match sockets {
         Sockets::Datagrams(socket) => {
             let allowed = plan.connections.allowed;
-            let job = DatagramsJob::new(worker, socket, allowed, standing, scratch)?;
+            let socket = WorkerSocket::new(socket, standing)?;
+            let job = DatagramsJob::new(worker, socket, allowed, standing, scratch);
             Ok(SocketJob::Datagrams(job))
         }
         Sockets::Connections(listeners) => {
@@ -359,8 +367,10 @@ fn jobs_of<'a, R: Clock + Net>(
     duties: Vec<Duty<'a>>,
     plan: Plan<'a>,
 ) -> Result<Vec<SocketJob<'a, R>>, ServeFault>
-    ensures numbers { IfOk result (λ jobs. map (λ job. number_of job) jobs.items ≡ map (λ duty. duty.worker) duties.items) }
-    ensures count { IfOk result (λ jobs. vec_len jobs ≡ vec_len duties) }
+    ensures numbers { IfOk result (λ jobs. map (λ job. number_of job) jobs.items ≡ map (λ duty. duty.worker) duties.entry.items) }
+    ensures kinds { IfOk result (λ jobs. map (λ job. takes_datagrams job) jobs.items ≡ map (λ duty. are_datagrams duty.sockets) duties.entry.items) }
+    ensures rights { IfOk result (λ jobs. All (λ job. rights_of job ≡ plan.entry.connections.allowed.addresses.now) jobs.items) }
+    ensures count { IfOk result (λ jobs. vec_len jobs ≡ vec_len duties.entry) }
     ensures refused { IfErr result (λ fault. (fault ≡ Fault.NoMemory) ⊎ (fault ≡ Fault.Device)) }
 {
     let mut jobs = Vec::new(alloc);

@@ -1,11 +1,14 @@
 //! The threads of a server: each has a job on sockets, and who answers in it.
-ghost use Rattle.std.specs.Prelude.{◌≡◌, ◌≤◌, [], map, vec_len, vec_capacity, IfOk, IfErr};
-ghost use Rattle.serve_workers.specs.Numbers.{number_of};
-ghost use Rattle.serve_workers.specs.Seats.{seat_number, seat_seen, pair_of};
+ghost use Rattle.std.specs.Prelude.{◌≡◌, ◌≤◌, [], All, map, vec_len, vec_capacity, Some, IsSome, IfOk, IfErr};
+ghost use Rattle.conversation.specs.Served.{BeginsWith};
+ghost use Rattle.serve_workers.specs.GivenBack.{Each};
+ghost use Rattle.serve_workers.specs.Numbers.{number_of, end_of};
+ghost use Rattle.serve_workers.specs.Seats.{seat_number, seat_seen, seat_end, pair_of};
 
 use crate::connections_job::ConnectionsJob;
 use crate::datagrams_job::DatagramsJob;
 use crate::progress::Muster;
+use crate::worker_socket::WorkerSocket;
 use crate::workers::{NotStarted, Work, do_all, nobody};
 use dns_engine::{FirstZone, VersionReader};
 use ready_sockets::{TcpPeer, TcpPlace, Watch};
@@ -25,7 +28,7 @@ pub type TcpJob<'a, C> = ConnectionsJob<'a, TcpPeer, Watch<'a, C>, TcpPlace, C>;
 #[derive(Drop)]
 pub enum SocketJob<'a, C> {
     /// Requests by datagrams.
-    Datagrams(DatagramsJob<'a>),
+    Datagrams(DatagramsJob<'a, WorkerSocket<'a>>),
     /// Connections.
     Connections(TcpJob<'a, C>),
 }
@@ -34,7 +37,7 @@ pub enum SocketJob<'a, C> {
 #[derive(Drop)]
 enum Seat<'g, 's, Z: FirstZone, N: Naming, L, C> {
     /// On a socket of datagrams.
-    Datagrams(Asked<'g, 's, Z, N, L>, DatagramsJob<'g>),
+    Datagrams(Asked<'g, 's, Z, N, L>, DatagramsJob<'g, WorkerSocket<'g>>),
     /// On listeners.
     Connections(Replies<'g, 's, Z, N, L>, TcpJob<'g, C>),
 }
@@ -48,7 +51,7 @@ impl<'g, 's, Z: FirstZone, N: Naming, L: ServiceLog, C: Clock> Seat<'g, 's, Z, N
         reader: VersionReader<N>,
         job: SocketJob<'g, C>,
     ) -> Seat<'g, 's, Z, N, L, C>
-        ensures { pair_of result ≡ (reader, job) }
+        ensures { pair_of result ≡ (reader, job.entry) }
     {
         let peer = Peer::over(Transport::Udp, false);
         match job {
@@ -81,6 +84,18 @@ impl<'g, 's, Z: FirstZone, N: Naming, L: ServiceLog, C: Clock> Seat<'g, 's, Z, N
         match self {
             Seat::Datagrams(_, _) => Transport::Udp,
             Seat::Connections(_, _) => Transport::Tcp,
+        }
+    }
+
+    /// Does its job, and gives how that has ended.
+    fn serve<R: Wait>(&mut self, rt: &R, log: &L) -> JobEnd
+        ensures number { seat_number self.new ≡ seat_number self.old }
+        ensures seen { BeginsWith (seat_seen self.new) (seat_seen self.old) }
+        ensures end { seat_end self.new ≡ Some result }
+    {
+        match self {
+            Seat::Datagrams(asked, job) => job.serve(rt, asked),
+            Seat::Connections(replies, job) => job.serve(rt, replies, log),
         }
     }
 
@@ -125,15 +140,14 @@ impl<
 
     ghost seen = { λ thread. seat_seen thread.seat };
 
+    ghost is_done = { λ thread. IsSome (seat_end thread.seat) };
+
     // A thread that has not done what it might ends the server.
     fn work<R: Wait>(&mut self, rt: &R) {
         if self.muster.begin() {
             self.log.tell(rt, Event::Serving);
         }
-        let end = match &mut self.seat {
-            Seat::Datagrams(asked, job) => job.serve(rt, asked),
-            Seat::Connections(replies, job) => job.serve(rt, replies, self.log),
-        };
+        let end = self.seat.serve(rt, self.log);
         if !is_done(end) {
             self.muster.end();
         }
@@ -160,7 +174,7 @@ fn put_threads<'g, 's, Z: FirstZone, N: Naming, L: ServiceLog, C: Clock>(
 )
     requires room { vec_len pairs ≤ vec_capacity threads.old }
     requires empty { threads.old.items ≡ [] }
-    ensures pairs { map (λ thread. pair_of thread.seat) threads.new.items ≡ pairs.items }
+    ensures pairs { map (λ thread. pair_of thread.seat) threads.new.items ≡ pairs.entry.items }
 {
     for (reader, job) in pairs {
         let seat = Seat::of(alloc, server, log, reader, job);
@@ -182,8 +196,8 @@ fn put_back<'g, Z: FirstZone, N: Naming, L: ServiceLog, C: Clock>(
     }
 }
 
-/// Does each job on a thread of its own, with a reader, and waits for all; then gives the pairs back in their order. No job begins until each has
-/// its thread, and the log is told once all have begun. [`NotStarted`] where a thread was refused, or where there was no memory to keep track of
+/// Does each job on a thread of its own, with a reader, and waits for all; then gives the pairs back in their order: each job has ended, and what
+/// its reader has seen published begins with what it had seen. No job begins until each has its thread, and the log is told once all have begun. [`NotStarted`] where a thread was refused, or where there was no memory to keep track of
 /// them: no job has begun, and the pairs come back as they were given.
 pub(crate) fn run_threads<
     'g,
@@ -201,8 +215,10 @@ pub(crate) fn run_threads<
     pairs: Vec<(VersionReader<N>, SocketJob<'g, C>)>,
     log: &'g L,
 ) -> Result<Vec<(VersionReader<N>, SocketJob<'g, C>)>, NotStarted<N, SocketJob<'g, C>>>
-    ensures done { IfOk result (λ back. map (λ pair. number_of pair.1) back.items ≡ map (λ pair. number_of pair.1) pairs.items) }
-    ensures none { IfErr result (λ refused. refused.0.items ≡ pairs.items) }
+    ensures numbers { IfOk result (λ back. map (λ pair. number_of pair.1) back.items ≡ map (λ pair. number_of pair.1) pairs.entry.items) }
+    ensures done { IfOk result (λ back. All (λ pair. IsSome (end_of pair.1)) back.items) }
+    ensures seen { IfOk result (λ back. Each (λ given pair. BeginsWith pair.0.seen given.0.seen) pairs.entry.items back.items) }
+    ensures none { IfErr result (λ refused. refused.0.items ≡ pairs.entry.items) }
 {
     let count = pairs.len();
     let Ok(mut threads) = Vec::with_capacity(alloc, count) else {

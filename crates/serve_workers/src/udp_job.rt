@@ -1,5 +1,5 @@
 //! Workers that take datagrams (RFC 1035, 4.2.1).
-ghost use Rattle.std.specs.Prelude.{◌≡◌, Some, IfSome};
+ghost use Rattle.std.specs.Prelude.{◌≡◌, Some, IfSome, IsSome};
 ghost use Rattle.zone_service.specs.declared.service_log.JobEnd.{JobEnd as EndOfJob};
 ghost use Rattle.conversation.specs.Served.{Grows};
 ghost use Rattle.serve_workers.specs.Ended.{job_end, JobEndsBy};
@@ -45,6 +45,7 @@ impl<'a, D: Datagrams> UdpJob<'a, D> {
     ) -> UdpJob<'a, D>
         ensures number { result.number ≡ number }
         ensures allowed { result.allowed ≡ allowed.entry }
+        ensures most { result.most ≡ most }
     {
         UdpJob {
             number,
@@ -96,6 +97,8 @@ impl<'a, D: Datagrams> UdpJob<'a, D> {
 impl<D: Datagrams + Send + Drop> Job for UdpJob<'_, D> {
     ghost number = { λ job. job.number };
 
+    ghost is_done = { λ job. IsSome job.end };
+
     fn run<R: Wait, A: Answering, G: Gate, L: ServiceLog>(
         &mut self,
         rt: &R,
@@ -106,6 +109,7 @@ impl<D: Datagrams + Send + Drop> Job for UdpJob<'_, D> {
         ensures served { IfSome (D.datagrams self.old.datagrams) (λ o. (end : EndOfJob) × (self.new.end ≡ Some end) × JobEndsBy A.is_reply self.old.allowed.addresses.now end (A.seen answering.old) o (D.failed self.old.datagrams) self.old.most (A.seen answering.new) (D.datagrams self.new.datagrams) (D.failed self.new.datagrams)) }
         ensures grows { Grows (A.seen answering.new) (A.seen answering.old) }
         ensures number { self.new.number ≡ self.old.number }
+        ensures done { IsSome self.new.end }
     {
         let end = self.serve(rt, answering, gate);
         let (worker, transport) = (self.number, Transport::Udp);

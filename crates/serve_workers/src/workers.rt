@@ -1,5 +1,5 @@
 //! Workers: jobs, each on a thread of its own.
-ghost use Rattle.std.specs.Prelude.{◌≡◌, ℕ, ◌≤◌, false, [], List, All, map, vec_len, vec_capacity, IfOk, IfErr, MatchResult};
+ghost use Rattle.std.specs.Prelude.{◌≡◌, ℕ, ◌≤◌, true, false, [], List, All, map, vec_len, vec_capacity, IfOk, IfErr, MatchResult};
 ghost use Rattle.zone_tree.specs.Version.{Version};
 ghost use Rattle.conversation.specs.Served.{BeginsWith, Grows};
 ghost use Rattle.serve_workers.specs.GivenBack.{Each, IsReturned};
@@ -20,6 +20,9 @@ pub trait Job: Send + Drop {
     /// The job's number, which stays.
     ghost number: { Self → ℕ };
 
+    /// What holds of a job that has been done.
+    ghost is_done: { Self → Type 0 };
+
     /// Does it, by one who answers each peer that it is turned to. Each request goes through the gate; the log is told how the job
     /// ends.
     fn run<R: Wait, A: Answering, G: Gate, L: ServiceLog>(
@@ -30,6 +33,7 @@ pub trait Job: Send + Drop {
         log: &L,
     )
         ensures number { number self.new ≡ number self.old }
+        ensures done { is_done self.new }
         ensures grows { Grows (A.seen answering.new) (A.seen answering.old) };
 }
 
@@ -46,9 +50,13 @@ pub(crate) trait Work: Send + Drop {
     /// The versions that its reader has seen published, the first one first.
     ghost seen: { Self → List Version };
 
+    /// What holds of a work that has been done.
+    ghost is_done: { Self → Type 0 };
+
     /// Does it.
     fn work<R: Wait>(&mut self, rt: &R)
         ensures number { number self.new ≡ number self.old }
+        ensures done { is_done self.new }
         ensures grows { BeginsWith (seen self.new) (seen self.old) };
 }
 
@@ -79,6 +87,8 @@ impl<
 
     ghost seen = { λ worker. worker.asked.reader.seen };
 
+    ghost is_done = { λ worker. J.is_done worker.job };
+
     fn work<R: Wait>(&mut self, rt: &R) {
         self.job.run(rt, &mut self.asked, self.gate, self.log);
     }
@@ -99,12 +109,12 @@ struct Given<'m, W> {
 }
 
 impl<'m, W: Work> Promise<Returned<'m, W>> for Given<'m, W> {
-    ghost kept_by = { λ given back. IsReturned W.number W.seen given.may.now.id given.work.value back.told.of back.told.value back.work };
+    ghost kept_by = { λ given back. IsReturned W.number W.seen W.is_done given.may.now.id given.work.value back.told.of back.told.value back.work };
 }
 
 /// Does a work once all threads have been started; not at all where one was refused.
 fn do_one<'m, R: Wait, W: Work>(rt: &R, may: &'m OnceLock<bool>, mut work: W) -> Returned<'m, W>
-    ensures { IsReturned W.number W.seen may.entry.now.id work result.told.of result.told.value result.work }
+    ensures { IsReturned W.number W.seen W.is_done may.entry.now.id work result.told.of result.told.value result.work }
 {
     may.wait(rt);
     let told = may.init(rt, || false);
@@ -126,7 +136,7 @@ fn begin<'s, E, R: Threads + Wait + Sync, W: Work + 's>(
 ) -> Begun<'s, W>
     ensures { MatchResult result
         (λ handle. (handle.promise.may.now.id ≡ may.entry.now.id) × (handle.promise.work.value ≡ work))
-        (λ back. IsReturned W.number W.seen may.entry.now.id work back.told.of back.told.value back.work) }
+        (λ back. IsReturned W.number W.seen W.is_done may.entry.now.id work back.told.of back.told.value back.work) }
 {
     let given = Given {
         may,
@@ -156,7 +166,7 @@ fn begin_all<'s, E, R: Threads + Wait + Sync, W: Work + 's>(
     ensures count { vec_len result ≡ vec_len works }
     ensures begun { Each (λ given one. MatchResult one
         (λ handle. (handle.promise.may.now.id ≡ may.entry.now.id) × (handle.promise.work.value ≡ given))
-        (λ back. IsReturned W.number W.seen may.entry.now.id given back.told.of back.told.value back.work)) works.items result.items }
+        (λ back. IsReturned W.number W.seen W.is_done may.entry.now.id given back.told.of back.told.value back.work)) works.items result.items }
 {
     for work in works {
         begun.push_reserved(begin(rt, scope, may, work));
@@ -167,7 +177,7 @@ fn begin_all<'s, E, R: Threads + Wait + Sync, W: Work + 's>(
 /// Waits for a work.
 fn end<'s, R: Threads, W: Work>(rt: &R, begun: Begun<'s, W>) -> Returned<'s, W>
     ensures { MatchResult begun.entry
-        (λ handle. IsReturned W.number W.seen handle.promise.may.now.id handle.promise.work.value result.told.of result.told.value result.work)
+        (λ handle. IsReturned W.number W.seen W.is_done handle.promise.may.now.id handle.promise.work.value result.told.of result.told.value result.work)
         (λ back. result ≡ back) }
 {
     match begun {
@@ -187,7 +197,7 @@ fn end_all<'s, R: Threads, W: Work>(
     requires len { vec_len returned ≡ 0 }
     ensures count { vec_len result ≡ vec_len begun.entry }
     ensures ended { Each (λ one back. MatchResult one
-        (λ handle. IsReturned W.number W.seen handle.promise.may.now.id handle.promise.work.value back.told.of back.told.value back.work)
+        (λ handle. IsReturned W.number W.seen W.is_done handle.promise.may.now.id handle.promise.work.value back.told.of back.told.value back.work)
         (λ given. back ≡ given)) begun.entry.items result.items }
 {
     for one in begun {
@@ -228,6 +238,7 @@ fn do_in<'s, E, R: Threads + Wait + Sync, W: Work + 's>(
 ) -> (bool, Vec<W>)
     ensures numbers { map W.number result.1.items ≡ map W.number works.items }
     ensures seen { Each (λ given work. BeginsWith (W.seen work) (W.seen given)) works.items result.1.items }
+    ensures done { result.0 ≡ true → All W.is_done result.1.items }
     ensures none { result.0 ≡ false → result.1.items ≡ works.items }
 {
     let count = works.len();
@@ -256,6 +267,7 @@ pub(crate) fn do_all<R: Threads + Wait + Sync, W: Work>(
 ) -> (bool, Vec<W>)
     ensures numbers { map W.number result.1.items ≡ map W.number works.items }
     ensures seen { Each (λ given work. BeginsWith (W.seen work) (W.seen given)) works.items result.1.items }
+    ensures done { result.0 ≡ true → All W.is_done result.1.items }
     ensures none { result.0 ≡ false → result.1.items ≡ works.items }
 {
     let may = &OnceLock::new();
@@ -265,6 +277,7 @@ pub(crate) fn do_all<R: Threads + Wait + Sync, W: Work>(
         |scope|
             ensures numbers { map W.number result.1.items ≡ map W.number works.items }
             ensures seen { Each (λ given work. BeginsWith (W.seen work) (W.seen given)) works.items result.1.items }
+            ensures done { result.0 ≡ true → All W.is_done result.1.items }
             ensures none { result.0 ≡ false → result.1.items ≡ works.items }
         { do_in(rt, alloc, scope, may, works) },
     )
@@ -329,7 +342,8 @@ pub fn run_workers<
     gate: &'g G,
     log: &'g L,
 ) -> Result<Vec<(VersionReader<N>, J)>, NotStarted<N, J>>
-    ensures done { IfOk result (λ back. map (λ pair. J.number pair.1) back.items ≡ map (λ pair. J.number pair.1) pairs.items) }
+    ensures numbers { IfOk result (λ back. map (λ pair. J.number pair.1) back.items ≡ map (λ pair. J.number pair.1) pairs.items) }
+    ensures done { IfOk result (λ back. All (λ pair. J.is_done pair.1) back.items) }
     ensures seen { IfOk result (λ back. Each (λ given pair. BeginsWith pair.0.seen given.0.seen) pairs.items back.items) }
     ensures none { IfErr result (λ refused. refused.0.items ≡ pairs.items) }
 {

@@ -80,6 +80,8 @@ struct TrayJob {
 impl Job for TrayJob {
     ghost number = { λ job. job.number };
 
+    ghost is_done = { λ _. Unit {0} };
+
     #[tactic(auto, using(conversation::proofs::TurnLemmas::grows_itself))]
     fn run<R: Wait, A: Answering, G: Gate, L: ServiceLog>(
         &mut self,

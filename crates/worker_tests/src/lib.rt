@@ -1,6 +1,9 @@
-//! Tests of the workers of `serve_workers`: jobs on datagrams, side by side, and a job on connections over a poll that is made up.
+//! Tests of the workers of `serve_workers`: jobs on datagrams, side by side; a job on connections over a poll that is made up; and how a server
+//! ends, over sockets of the system's.
 #![tactic(auto)]
 
+#[cfg(test)]
+mod ending;
 #[cfg(test)]
 mod gates;
 #[cfg(test)]

@@ -1,11 +1,14 @@
--- The jobs so far have their numbers.
-use Rattle.std.proofs.Common.{◌≡◌, map, vec_len}
-use Rattle.std.specs.List.{range_with_len}
-use Rattle.serve_workers.specs.Numbers.{number_of}
+-- The jobs so far are those of the duties so far.
+use Rattle.std.proofs.Common.{◌≡◌, ◌+◌, ◌++◌, All, map, vec_len}
+use Rattle.std.specs.Vec.Iter.{into_iter_len, into_iter_items}
+use Rattle.serve_workers.specs.Numbers.{number_of, takes_datagrams, are_datagrams, rights_of}
 use Rattle.serve_workers.proofs.service.jobs_of.Given as goal
 
-abbrev pub invariant-loop-before : goal.invariant-loop-before
-invariant-loop-before g l = record {
-  numbers : map (λ job. number_of job) l.jobs.items ≡ range_with_len 1 l.before;
-  count : vec_len l.jobs ≡ l.before;
+abbrev pub invariant-loop-duty : goal.invariant-loop-duty
+invariant-loop-duty g l = record {
+  left : l.yielded ++ into_iter_items l.duty-iterator ≡ l.fn.duties.items;
+  count : vec_len l.jobs + into_iter_len l.duty-iterator ≡ vec_len l.fn.duties;
+  numbers : map (λ job. number_of job) l.jobs.items ≡ map (λ duty. duty.worker) l.yielded;
+  kinds : map (λ job. takes_datagrams job) l.jobs.items ≡ map (λ duty. are_datagrams duty.sockets) l.yielded;
+  rights : All (λ job. rights_of job ≡ l.fn.plan.connections.allowed.addresses.now) l.jobs.items;
 }

@@ -1,9 +1,12 @@
--- A thread's work may be sent to it, and the jobs come back with their numbers.
+-- A thread's work may be sent to it, and the jobs come back with their numbers, done, and with their readers.
 use denote.Exit.{no}
 use denote.Param.{param}
 use denote.Param.Send.{param_send, arg_send, sendable}
+use Rattle.std.proofs.Common.{IsSome}
+use Rattle.serve_workers.specs.Numbers.{end_of}
+use Rattle.serve_workers.specs.Seats.{pair_of}
 use Rattle.serve_workers.proofs.SendLemmas.{thread_send}
-use Rattle.serve_workers.proofs.EachLemmas.{numbers_along}
+use Rattle.serve_workers.proofs.EachLemmas.{numbers_along, each_put, all_put}
 use Rattle.serve_workers.proofs.threads.run_threads.Goals as goal
 
 pub do_all-started-requires-send-W : goal.do_all-started-requires-send-W
@@ -13,5 +16,11 @@ do_all-started-requires-send-W g c κs within =
     (thread_send _ _ (param 1 g.row.Z) (param 2 g.row.N) (param 3 g.row.L) (param 4 g.row.C) g.Z.FirstZone g.N.Naming
     (search (c.type_bounds.sync-L, sendable)) (search (c.type_bounds.sync-C, sendable))))
 
+pub returns-then-started-clause-numbers : goal.returns-then-started-clause-numbers
+returns-then-started-clause-numbers g c = numbers_along _ _ _ _ _ _ c.put_back.ensures.pairs c.do_all-started.ensures.numbers c.put_threads.ensures.pairs
+
 pub returns-then-started-clause-done : goal.returns-then-started-clause-done
-returns-then-started-clause-done g c = numbers_along _ _ _ _ _ _ c.put_back.ensures.pairs c.do_all-started.ensures.numbers c.put_threads.ensures.pairs
+returns-then-started-clause-done g c = all_put (λ pair. IsSome (end_of pair.1)) (λ thread. pair_of thread.seat) _ _ c.put_back.ensures.pairs (c.do_all-started.ensures.done c.if-started.true)
+
+pub returns-then-started-clause-seen : goal.returns-then-started-clause-seen
+returns-then-started-clause-seen g c = each_put _ _ _ _ _ _ c.put_back.ensures.pairs c.do_all-started.ensures.seen c.put_threads.ensures.pairs

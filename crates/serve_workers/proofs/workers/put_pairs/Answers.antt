@@ -2,7 +2,7 @@
 use Rattle.std.proofs.Common.{rules, ◌≡◌, ◌∷◌, [], ◌++◌, map, refl, sym, ap, ◌∙◌, append_assoc}
 use Rattle.std.specs.Vec.Iter.{into_iter_items}
 use Rattle.serve_workers.proofs.EachLemmas.{all_taken}
-use Rattle.serve_workers.proofs.NumberLemmas.{map_more}
+use Rattle.serve_workers.proofs.ListLemmas.{map_more}
 use Rattle.serve_workers.proofs.workers.put_pairs.Goals as goal
 
 pub loop-asked-init : goal.loop-asked-init

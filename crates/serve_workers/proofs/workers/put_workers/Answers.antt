@@ -1,6 +1,6 @@
 -- One pair more is put.
 use Rattle.std.proofs.Common.{rules, ap}
-use Rattle.serve_workers.proofs.NumberLemmas.{map_more}
+use Rattle.serve_workers.proofs.ListLemmas.{map_more}
 use Rattle.serve_workers.proofs.workers.put_workers.Goals as goal
 
 pub loop-reader-preserved : goal.loop-reader-preserved

@@ -1,9 +1,9 @@
--- A worker may be sent to its thread, and the jobs come back with their numbers, and with their readers.
+-- A worker may be sent to its thread, and the jobs come back with their numbers, done, and with their readers.
 use denote.Exit.{no}
 use denote.Param.{param}
 use denote.Param.Send.{param_send, arg_send, sendable}
 use Rattle.serve_workers.proofs.SendLemmas.{worker_send}
-use Rattle.serve_workers.proofs.EachLemmas.{numbers_along, each_put}
+use Rattle.serve_workers.proofs.EachLemmas.{numbers_along, each_put, all_put}
 use Rattle.serve_workers.proofs.workers.run_workers.Goals as goal
 
 pub do_all-started-requires-send-W : goal.do_all-started-requires-send-W
@@ -13,8 +13,11 @@ do_all-started-requires-send-W g c κs within =
     (worker_send _ _ (param 1 g.row.Z) (param 2 g.row.N) (param 3 g.row.J) (param 4 g.row.G) (param 5 g.row.L) g.Z.FirstZone g.N.Naming
     (search (c.type_bounds.send-J, sendable)) (search (c.type_bounds.sync-G, sendable)) (search (c.type_bounds.sync-L, sendable))))
 
-pub returns-then-started-clause-done : goal.returns-then-started-clause-done
-returns-then-started-clause-done g c = numbers_along _ _ _ _ _ _ c.put_pairs.ensures.pairs c.do_all-started.ensures.numbers c.put_workers.ensures.pairs
+pub returns-then-started-clause-numbers : goal.returns-then-started-clause-numbers
+returns-then-started-clause-numbers g c = numbers_along _ _ _ _ _ _ c.put_pairs.ensures.pairs c.do_all-started.ensures.numbers c.put_workers.ensures.pairs
 
 pub returns-then-started-clause-seen : goal.returns-then-started-clause-seen
 returns-then-started-clause-seen g c = each_put _ _ _ _ _ _ c.put_pairs.ensures.pairs c.do_all-started.ensures.seen c.put_workers.ensures.pairs
+
+pub returns-then-started-clause-done : goal.returns-then-started-clause-done
+returns-then-started-clause-done g c = all_put (λ pair. g.J.Job.is_done pair.1) (λ worker. (worker.asked.reader, worker.job)) _ _ c.put_pairs.ensures.pairs (c.do_all-started.ensures.done c.if-started.true)

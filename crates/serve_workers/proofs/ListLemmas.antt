@@ -1,16 +1,6 @@
--- Numbers one after the other.
-use Rattle.std.proofs.Common.{◌≡◌, ℕ, zero, suc, ◌+◌, Bool, true, false, not, if◌then◌else◌, List, [], ◌∷◌, ◌++◌, map, append_assoc, arith, sym, ap, ◌∙◌}
+-- Lists that grow at their end, and what is taken off their front.
+use Rattle.std.proofs.Common.{◌≡◌, Bool, true, false, not, if◌then◌else◌, List, [], ◌∷◌, ◌++◌, map, append_assoc, sym, ap, ◌∙◌}
 use Rattle.std.proofs.lemmas.List.{map_push}
-use Rattle.std.specs.List.{range_with_len}
-
--- one number more, at the end
-numbers_suc : (a n j : ℕ) → a + n ≡ j → range_with_len a (suc n) ≡ range_with_len a n ++ j ∷ []
-numbers_suc a zero j last = let same : a ≡ j = omega arith in ap (λ k. k ∷ []) same
-numbers_suc a (suc n) j last = ap (λ l. a ∷ l) (numbers_suc (a + 1) n j (omega arith))
-
--- the same, of a count that goes on by one
-pub numbers_more : (a n more j : ℕ) → n + 1 ≡ more → a + n ≡ j → range_with_len a more ≡ range_with_len a n ++ j ∷ []
-numbers_more a n more j next last = let on : more ≡ suc n = omega arith in ap (range_with_len a) on ∙ numbers_suc a n j last
 
 -- one more of a list, of which each has something
 pub map_more : {A B : Type 0} (f : A → B) (xs more : List A) (x : A) (ys : List B) (y : B) → more ≡ xs ++ x ∷ [] → map f xs ≡ ys → f x ≡ y → map f more ≡ ys ++ y ∷ []
