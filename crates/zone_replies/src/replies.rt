@@ -5,7 +5,6 @@ ghost use Rattle.zone_tree.specs.Version.{Version};
 ghost use Rattle.serve_core.specs.Transfers.{is_permitted, messages_to};
 ghost use Rattle.zone_tree.specs.Zone.{soa_of};
 ghost use Rattle.dns_engine.specs.Chain.{changes_by};
-ghost use Rattle.conversation.specs.Octets.{messages_in};
 ghost use Rattle.conversation.specs.Served.{Grows};
 ghost use Rattle.zone_service.specs.Known.{learned_by};
 ghost use Rattle.connections.specs.Kept.{messages_of};
