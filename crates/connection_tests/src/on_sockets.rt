@@ -17,7 +17,7 @@ use std::time::Clock;
 use turns::{NotWatched, Readiness, Tally, Turns};
 
 /// How many octets a reply has.
-const LARGE: usize = 60_000;
+const LARGE: usize = 65_535;
 
 /// One who gives for each request a message of [`LARGE`] octets, each of them the request's first.
 #[derive(Drop)]
@@ -194,7 +194,7 @@ fn what_a_client_did_not_take_goes_on_when_it_does(rt: HostRuntime) -> Result<()
     }
     client.write_all(&sent)?;
     client.shutdown(Shutdown::Write)?;
-    // 18 MB are more than the system keeps for a client that reads nothing.
+    // 19 MB are more than the system keeps for a client that reads nothing.
     for _turn in 0..1_000u32 {
         running.turn(&rt)?;
     }

@@ -129,7 +129,7 @@ fn what_is_not_watched_gets_no_place(rt: HostRuntime) -> Result<(), Fail> {
         waits: 5,
         watches: false,
     };
-    let comers: Comers = make_comers(alloc, 3, &[0, 1, b'a'], Behind::Nothing)?;
+    let comers = make_comers(alloc, 3, &[0, 1, b'a'], Behind::Nothing)?;
     let mut rights = Rights::new();
     let tally = take_turns(
         &rt,
@@ -142,5 +142,29 @@ fn what_is_not_watched_gets_no_place(rt: HostRuntime) -> Result<(), Fail> {
     )?;
     assert_eq!(rt; (tally.begun, tally.no_room), (0, 3));
     assert!(rt; worker.links().is_empty());
+    Ok(())
+}
+
+#[test]
+fn what_begins_is_served_before_it_is_told(rt: HostRuntime) -> Result<(), Fail> {
+    let alloc = rt.alloc();
+    let mut worker = Turns::new(alloc, 8, 1)?;
+    let mut failing = Failing {
+        waits: 20,
+        watches: true,
+    };
+    let mut left = Vec::new(alloc);
+    for last in 1..6u8 {
+        let stream = Pieces::new(alloc, &[0, 1, b'a'], 1, Behind::End)?;
+        left.push(stream.at_once().coming_from(last))?;
+    }
+    let comers = Comers {
+        left,
+        is_odd: false,
+        no_room: 0,
+    };
+    let mut rights = Rights::new();
+    let tally = take_turns(&rt, alloc, &mut worker, &mut failing, &mut rights, comers, 20)?;
+    assert_eq!(rt; (tally.begun, tally.ends.clean), (5, 5));
     Ok(())
 }
