@@ -2,7 +2,7 @@
 use crate::echo::{Both, Echo};
 use crate::made_up::{Comers, Teller, turned};
 use crate::pieces::{Behind, Pieces};
-use crate::shares::end_of;
+use crate::shares::serve_to_end;
 use conversation::StreamEnd;
 use links::{Ends, Link, serve_ready};
 use serve_core::{Peer, Transport};
@@ -50,16 +50,22 @@ fn stream(alloc: Global, script: &Script, behind: Behind) -> Option<Pieces> {
     stream.with_memory(1_000).ok()
 }
 
+/// How a stream ends that is served; None where there is no memory for what it is served by.
+fn end_of<R: Wait>(rt: &R, alloc: Global, stream: &mut Pieces) -> Option<StreamEnd> {
+    let mut room = vec![in alloc; 0; 64].ok()?;
+    let mut out = vec![in alloc; 0; 65_535].ok()?;
+    let mut echo = Echo::new(9);
+    Some(serve_to_end(rt, alloc, &mut echo, stream, &mut room, &mut out))
+}
+
 /// Whether all replies are written to a stream that is served to its end; or a beginning of them, where that is want of memory. None there,
 /// and where there is no memory for the stream.
 fn is_served<R: Wait>(rt: &R, alloc: Global) -> Option<bool> {
     let script = some_requests(alloc)?;
     let mut stream = stream(alloc, &script, Behind::End)?;
-    let mut room = vec![in alloc; 0; 64].ok()?;
-    let mut out = vec![in alloc; 0; 65_535].ok()?;
-    let mut echo = Echo::new(9);
+    let end = end_of(rt, alloc, &mut stream)?;
     let replies = script.replies.as_slice();
-    match end_of(rt, alloc, &mut echo, &mut stream, &mut room, &mut out) {
+    match end {
         StreamEnd::Clean => Some(stream.written() == replies),
         StreamEnd::NoMemory if replies.starts_with(stream.written()) => None,
         _ => Some(false),

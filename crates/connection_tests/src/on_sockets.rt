@@ -16,10 +16,10 @@ use std::test::Fail;
 use std::time::Clock;
 use turns::{NotWatched, Readiness, Tally, Turns};
 
-/// How many octets a reply has.
+/// How many octets a reply has: as many as a message may (RFC 1035, 4.2.2).
 const LARGE: usize = 65_535;
 
-/// One who gives for each request a message of [`LARGE`] octets, each of them the request's first.
+/// One who gives for each request a message of [`LARGE`] octets, the request's first one in front.
 #[derive(Drop)]
 struct Large {
     peer: Peer,
@@ -42,8 +42,7 @@ impl Answering<Both> for Large {
         request: &[u8],
         out: &mut [u8],
     ) -> Result<Reply<Both>, Spent> {
-        let octet = request.first().copied().unwrap_or(0);
-        out[..LARGE].fill(octet);
+        out[0] = request.first().copied().unwrap_or(0);
         Ok(Reply::One(LARGE))
     }
 }

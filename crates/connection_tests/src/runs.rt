@@ -164,7 +164,15 @@ fn what_begins_is_served_before_it_is_told(rt: HostRuntime) -> Result<(), Fail> 
         no_room: 0,
     };
     let mut rights = Rights::new();
-    let tally = take_turns(&rt, alloc, &mut worker, &mut failing, &mut rights, comers, 20)?;
+    let tally = take_turns(
+        &rt,
+        alloc,
+        &mut worker,
+        &mut failing,
+        &mut rights,
+        comers,
+        20,
+    )?;
     assert_eq!(rt; (tally.begun, tally.ends.clean), (5, 5));
     Ok(())
 }

@@ -10,7 +10,7 @@ use std::sync::Wait;
 use std::test::Fail;
 
 /// Serves a stream share after share, and says how it ends.
-pub(crate) fn end_of<R: Wait>(
+pub(crate) fn serve_to_end<R: Wait>(
     rt: &R,
     alloc: Global,
     echo: &mut Echo,
@@ -42,7 +42,7 @@ fn served<R: Wait>(
     let mut out = vec![in alloc; 0; 65_535]?;
     let mut echo = Echo::new(requests);
     let mut stream = stream;
-    let end = end_of(rt, alloc, &mut echo, &mut stream, &mut room, &mut out);
+    let end = serve_to_end(rt, alloc, &mut echo, &mut stream, &mut room, &mut out);
     Ok((end, stream.written().to_vec(alloc)?))
 }
 
