@@ -620,6 +620,12 @@ any_types() {
     unserve
 }
 
+# Secondaries that are told of each version (RFC 1996), by a script of their own, whose lines stand here too.
+told() {
+    DNSD=$program tests/notify.sh --port $((port + 1000)) 2>&1 | tee "$work/told" || true
+    check "all of tests/notify.sh" 0 "$(sed -nE '$s/.* passed, ([0-9]+) failed$/\1/p' "$work/told")"
+}
+
 serve tests/interop.zone
 questions
 unserve
@@ -637,6 +643,7 @@ if [ $transfers = yes ]; then
     fi
     unserve
     any_types
+    told
 fi
 echo "$passed checks passed, $failed failed"
 [ $failed -eq 0 ]

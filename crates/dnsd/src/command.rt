@@ -46,6 +46,12 @@ pub enum CommandFault<'a> {
     Allow(&'a str),
     /// So many workers, for so many addresses, ask for too many threads.
     Threads(usize, usize),
+    /// The word for a secondary is no address.
+    Notify(&'a str),
+    /// The word is for one secondary more than can be told.
+    Secondaries(&'a str),
+    /// The word is for a secondary that another word is for.
+    SecondaryTwice(&'a str),
 }
 
 impl From<clap::Error> for CommandFault<'_> {

@@ -38,6 +38,8 @@ pub enum LogLine {
         /// What may be wanted.
         wanted: usize,
     },
+    /// Secondaries are told from addresses that routing picks.
+    Routed,
     /// Something has happened.
     Event(Event),
     /// The zone isn't served any more.
@@ -93,6 +95,9 @@ impl<E: Eprint> Sink<LogLine> for ErrorLines<E> {
             ),
             Some(LogLine::FewDescriptors { limit, wanted }) => eprintln!(self.rt;
                 "the limit of descriptors is {limit}, and all connections may want {wanted}"
+            ),
+            Some(LogLine::Routed) => eprintln!(self.rt;
+                "some secondaries are told from the address that routing picks, since no other of their family is listened on; name it as --notify ADDR@FROM"
             ),
             Some(LogLine::Event(event)) => eprintln!(self.rt; "{event}"),
             Some(LogLine::Fault(fault)) => eprintln!(self.rt; "error: {fault}"),

@@ -12,6 +12,7 @@ pub mod command;
 pub mod descriptors;
 pub mod log;
 pub mod options;
+pub mod secondaries;
 pub mod serve;
 pub mod zone_file;
 
@@ -22,6 +23,7 @@ use std::env;
 use std::io::{self, BufRead, BufReader, BufWriter, Write};
 use std::net::{Net, TcpListener, TcpStream};
 use std::process::ExitCode;
+use std::random::RandomSource;
 use std::rt::{Env, Files};
 use std::sync::Wait;
 use std::thread::Threads;
@@ -50,6 +52,7 @@ fn run_words<
         + Threads
         + Wait
         + Clock
+        + RandomSource
         + Copy
         + Send
         + Sync
@@ -97,8 +100,21 @@ fn tell_fault<R: Print + Eprint>(rt: &R, fault: &CommandFault<'_>) -> io::Result
         }
         CommandFault::Threads(workers, addresses) => {
             eprintln!(rt;
-                "error: --workers {workers} for {addresses} addresses ask for more than 63 threads: each worker has one for TCP, and one for UDP of each address"
+                "error: --workers {workers} for {addresses} addresses ask for more than 63 threads: each worker has one for TCP, and one for UDP of each address; --notify has one more"
             )?;
+        }
+        CommandFault::Notify(word) => {
+            eprintln!(rt;
+                "error: --notify takes an address, as 192.0.2.7, 192.0.2.7:5353 or [2001:db8::7]:53@2001:db8::1, and '{word}' is none"
+            )?;
+        }
+        CommandFault::Secondaries(word) => {
+            eprintln!(rt;
+                "error: --notify takes 32 secondaries at most, and '{word}' is one more"
+            )?;
+        }
+        CommandFault::SecondaryTwice(word) => {
+            eprintln!(rt; "error: --notify takes a secondary once, and '{word}' is there already")?;
         }
     }
     Ok(BAD_COMMAND)

@@ -5,6 +5,7 @@ ghost use Rattle.dnsd.specs.Patience.{IsPatience};
 ghost use Rattle.transfer_core.specs.declared.kept.TheConstants.{KEPT};
 
 use crate::command::{CommandFault, KEEP, MAX_KEEP, number_for, option};
+use crate::secondaries::{Secondary, secondaries_of, with_notify};
 use clap::{ArgAction, ArgMatches, Command as Parser};
 use commands::Source;
 use dns_name::Name;
@@ -33,6 +34,8 @@ pub struct Serve<'a> {
     pub places: usize,
     /// How long each may wait for its peer.
     pub limits: Limits,
+    /// The secondaries that are told of each version; a thread tells them.
+    pub secondaries: Vec<Secondary>,
     ghost few_kept: { keep ≤ KEPT },
     ghost some_workers: { 0 < workers },
     ghost few_threads: { workers * (vec_len listen + 1) ≤ 63 },
@@ -119,7 +122,7 @@ pub fn serve_options<'a>(alloc: Global, parser: Parser<'a>) -> Result<Parser<'a>
         "N",
         "after how many datagrams and connections, together, a worker ends; else never",
     ))?;
-    with_bounds(alloc, parser)
+    with_bounds(alloc, with_notify(alloc, parser)?)
 }
 
 /// The options that bound connections.
@@ -163,7 +166,9 @@ pub fn serve_of<'a>(
 ) -> Result<Serve<'a>, CommandFault<'a>> {
     let listen = listened(alloc, found)?;
     let workers = number_for(found.get_str(WORKERS), WORKERS, 1, MAX_WORKERS, 4)?;
-    if listen.len() >= MAX_THREADS || workers * (listen.len() + 1) > MAX_THREADS {
+    let secondaries = secondaries_of(alloc, found)?;
+    let threads = threads_beside(secondaries.as_slice());
+    if listen.len() >= threads || workers * (listen.len() + 1) > threads {
         return Err(CommandFault::Threads(workers, listen.len()));
     }
     let keep = number_for(found.get_str(KEEP), KEEP, 0, MAX_KEEP, MAX_KEEP)?;
@@ -187,7 +192,19 @@ pub fn serve_of<'a>(
         allowed,
         places,
         limits,
+        secondaries,
     })
+}
+
+/// The most threads of all workers, beside the one that tells secondaries, where there are any.
+fn threads_beside(secondaries: &[Secondary]) -> usize
+    ensures { result ≤ 63 }
+{
+    if secondaries.is_empty() {
+        MAX_THREADS
+    } else {
+        MAX_THREADS - 1
+    }
 }
 
 /// The addresses and ports to listen on.

@@ -3,17 +3,19 @@ use crate::bound::{Unbound, WorkerSockets, bind_all, duties_of};
 use crate::descriptors;
 use crate::log::{Listening, Log, LogLine};
 use crate::options::{MAX_THREADS, Serve};
+use crate::secondaries::{is_routed, put_secondaries, secondaries_for};
 use crate::zone_file::read_zone_file;
 use commands::{DONE, FAILED, Fault, Source, tell};
 use conversation::Allowed;
 use line_io::read_zone_text;
 use master_file::read_zone;
-use serve_workers::{ConnectionPlan, Muster, Plan, Progress, ServeFault, serve_zone};
+use serve_workers::{ConnectionPlan, Muster, Plan, Progress, Secondaries, ServeFault, serve_zone};
 use std::alloc::Global;
 use std::io::{self, BufReader, ErrorKind};
 use std::marker::Brand;
 use std::mem;
 use std::net::{Net, SocketAddr, TcpListener, TcpStream};
+use std::random::RandomSource;
 use std::rt::Files;
 use std::sync::Wait;
 use std::thread::Threads;
@@ -31,6 +33,7 @@ pub fn run_serve<
         + Threads
         + Wait
         + Clock
+        + RandomSource
         + Copy
         + Send
         + Sync
@@ -70,6 +73,7 @@ fn serve_on<
         + Threads
         + Wait
         + Clock
+        + RandomSource
         + Copy
         + Send
         + Sync
@@ -121,6 +125,7 @@ fn serve_bound<
         + Threads
         + Wait
         + Clock
+        + RandomSource
         + Copy
         + Send
         + Sync
@@ -133,6 +138,11 @@ fn serve_bound<
     sockets: Vec<WorkerSockets>,
     addresses: Vec<SocketAddr>,
 ) -> io::Result<u8> {
+    let (told, listen) = (serve.secondaries.as_slice(), serve.listen.as_slice());
+    let Some(secondaries) = secondaries_for(rt, rt.alloc(), told, listen, zone.apex().copy())?
+    else {
+        return Ok(FAILED);
+    };
     let listening = Listening {
         addresses,
         serial: zone.serial(),
@@ -140,7 +150,7 @@ fn serve_bound<
     };
     let log = Log::start(rt, zone.apex().copy(), listening)?;
     warn(rt, serve, &log);
-    let status = match serve_all(rt, rt.alloc(), serve, zone, sockets, &log) {
+    let status = match serve_all(rt, rt.alloc(), serve, zone, sockets, secondaries, &log) {
         Ok(()) => DONE,
         Err(fault) => {
             log.add(rt, LogLine::Fault(fault));
@@ -158,6 +168,9 @@ fn warn<R: Files + AllocGlobal + Wait>(rt: &R, serve: &Serve<'_>, log: &Log) {
             log.add(rt, LogLine::Wildcard(*address));
         }
     }
+    if is_routed(serve.secondaries.as_slice(), serve.listen.as_slice()) {
+        log.add(rt, LogLine::Routed);
+    }
     let wanted = descriptors::wanted(serve.workers, serve.places, serve.listen.len());
     match descriptors::limit(rt) {
         Some(limit) if limit < wanted => log.add(rt, LogLine::FewDescriptors { limit, wanted }),
@@ -172,6 +185,7 @@ fn serve_all<R: Net + Threads + Wait + Clock + Sync>(
     serve: &Serve<'_>,
     zone: Zone,
     sockets: Vec<WorkerSockets>,
+    secondaries: Secondaries,
     log: &Log,
 ) -> Result<(), ServeFault> {
     let mut progresses = Vec::new(alloc);
@@ -180,9 +194,13 @@ fn serve_all<R: Net + Threads + Wait + Clock + Sync>(
             return Err(ServeFault::NoMemory);
         }
     }
-    let Some(duties) = duties_of(alloc, sockets, progresses.as_slice()) else {
+    let telling = Progress::new(u64::MAX);
+    let Some(mut duties) = duties_of(alloc, sockets, progresses.as_slice()) else {
         return Err(ServeFault::NoMemory);
     };
+    if put_secondaries(&mut duties, &telling, secondaries).is_none() {
+        return Err(ServeFault::NoMemory);
+    }
     if duties.len() > MAX_THREADS {
         return Err(ServeFault::NotStarted);
     }

@@ -124,3 +124,33 @@ fn updates(rt: HostRuntime) -> Result<(), Fail> {
     assert!(rt; is_line(rt.alloc(), unread, line));
     Ok(())
 }
+
+// Secondaries that answer no NOTIFY, or do again, and how their telling ends.
+#[test]
+fn secondaries(rt: HostRuntime) -> Result<(), Fail> {
+    let secondary = "192.0.2.7:53".parse::<SocketAddr>()?;
+    let cases = [
+        (
+            Event::Silent { secondary },
+            "secondary 192.0.2.7:53 doesn't answer NOTIFY",
+        ),
+        (
+            Event::Again { secondary },
+            "secondary 192.0.2.7:53 answers NOTIFY again",
+        ),
+        (
+            Event::Untold {
+                end: JobEnd::Done(3),
+            },
+            "secondaries are told no more: 3 NOTIFYs sent",
+        ),
+        (
+            Event::Untold { end: JobEnd::Spent },
+            "secondaries are told no more: no version could be loaded",
+        ),
+    ];
+    for (event, line) in cases {
+        assert!(rt; is_line(rt.alloc(), event, line));
+    }
+    Ok(())
+}

@@ -1,6 +1,6 @@
 -- Lists that grow at their end, and what is taken off their front.
-use Rattle.std.proofs.Common.{◌≡◌, Bool, true, false, not, if◌then◌else◌, List, [], ◌∷◌, ◌++◌, map, append_assoc, sym, ap, ◌∙◌}
-use Rattle.std.proofs.lemmas.List.{map_push}
+use Rattle.std.proofs.Common.{◌≡◌, Bool, true, false, not, if◌then◌else◌, List, [], ◌∷◌, ◌++◌, length, map, append_assoc, sym, ap, ◌∙◌}
+use Rattle.std.proofs.lemmas.List.{map_push, length-map}
 
 -- one more of a list, of which each has something
 pub map_more : {A B : Type 0} (f : A → B) (xs more : List A) (x : A) (ys : List B) (y : B) → more ≡ xs ++ x ∷ [] → map f xs ≡ ys → f x ≡ y → map f more ≡ ys ++ y ∷ []
@@ -16,3 +16,7 @@ pub put_well : {A : Type 0} (well failed : Bool) (more longer same : List A) →
 put_well true failed more longer same put is well = put
 put_well false true more longer same put is well = absurd (cc)
 put_well false false more longer same put is well = absurd (cc)
+
+-- lists of which each has the same have one length
+pub length_alike : {A B : Type 0} (f : A → B) (xs ys : List A) → map f xs ≡ map f ys → length xs ≡ length ys
+length_alike f xs ys same = sym (length-map xs f) ∙ ap length same ∙ length-map ys f

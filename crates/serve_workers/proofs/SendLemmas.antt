@@ -1,20 +1,79 @@
--- A worker may be sent to a thread.
+-- A worker may be sent to a thread, and so may a thread's work.
 use denote.RattleType.{RattleType}
 use denote.Ref.{NamedLft}
-use denote.Param.Send.{IsSend, IsSync, sendable}
+use denote.Param.Send.{IsSend, IsSync, recorded_send, struct_send, enum_send, sendable}
+use denote.Struct.Declared.{shape}
+use denote.Enum.Declared as enum
+use Rattle.arrayvec.proofs.array_vec.ArrayVec.TheSendSync as array_vec
+use Rattle.arrayvec.proofs.cells.Cells.TheSendSync as cells
 use Rattle.std.proofs.Crossing as crossing
 use Rattle.std.proofs.alloc.Global.TheSendSync as global
+use Rattle.std.proofs.option.Option.TheSendSync as option
 use Rattle.snapshot_cell.proofs.SendLemmas as cell
 use Rattle.snapshot_cell.specs.declared.named.Naming as naming
+use Rattle.dns_engine.proofs.SendLemmas as engine
 use Rattle.dns_engine.specs.declared.versions.FirstZone.{Ghosts}
+use Rattle.ready_sockets.specs.contracts.peer.TcpPeer as peer
+use Rattle.ready_sockets.specs.contracts.place.TcpPlace as place
+use Rattle.ready_sockets.specs.contracts.watch.Watch as watch
 use Rattle.zone_service.proofs.SendLemmas.{server_sync}
+use Rattle.zone_service.specs.contracts.asked.Asked as asked
+use Rattle.zone_replies.specs.contracts.replies.Replies as replies
+use Rattle.zone_replies.specs.contracts.transfer.Transfer as transfer
+use Rattle.serve_workers.specs.contracts.connections_job.ConnectionsJob as connections
+use Rattle.serve_workers.specs.contracts.notify_job.NotifyJob as telling
 use Rattle.serve_workers.specs.contracts.workers.Worker as worker
+use Rattle.serve_workers.specs.contracts.threads.ConnectionsSeat as connections_seat
+use Rattle.serve_workers.specs.contracts.threads.DatagramsSeat as datagrams_seat
+use Rattle.serve_workers.specs.contracts.threads.SecondariesSeat as secondaries_seat
+use Rattle.serve_workers.specs.contracts.threads.Seat as seat
 use Rattle.serve_workers.specs.contracts.threads.ServerThread as thread
 
 pub worker_send : (a b : NamedLft) (T N J G L : RattleType) (g : Ghosts T.Denot) (n : naming.Ghosts N.Denot) → IsSend J → IsSync G → IsSync L → IsSend (worker.the_row a b T N J G L n g)
 worker_send a b T N J G L g n sends shares hears =
     search (server_sync, global.the_field_send, cell.crosses, crossing.crosses, sendable) depth 60 fits 20000
 
+transfer_send : IsSend transfer.the_row
+transfer_send = search (engine.crosses, array_vec.the_send, cells.the_field_send, option.the_field_send, option.the_send, crossing.crosses, sendable) depth 60 fits 20000
+
+watch_send : (a : NamedLft) (C : RattleType) → IsSync C → IsSend (watch.the_row a C)
+watch_send a C ticks = search (crossing.crosses, sendable) depth 60 fits 20000
+
+peer_send : IsSend peer.the_row
+peer_send = search (crossing.crosses, sendable) depth 60 fits 20000
+
+place_send : IsSend place.the_row
+place_send = search (crossing.crosses, sendable) depth 60 fits 20000
+
+connections_send : (a : NamedLft) (S P L C : RattleType) → IsSend S → IsSend P → IsSend L → IsSync C → IsSend (connections.the_field a S P L C).row
+connections_send a S P L C peers polls places ticks = search (transfer_send, global.the_field_send, crossing.crosses, sendable) depth 60 fits 20000
+
+tcp_send : (a : NamedLft) (C : RattleType) → IsSync C → IsSend (connections.the_field a peer.the_row (watch.the_row a C) place.the_row C).row
+tcp_send a C ticks = connections_send a peer.the_row (watch.the_row a C) place.the_row C peer_send (watch_send a C ticks) place_send ticks
+
+telling_send : (a : NamedLft) (C : RattleType) → IsSync C → IsSend (telling.the_field a C).row
+telling_send a C ticks = search (global.the_field_send, crossing.crosses, sendable) depth 60 fits 20000
+
+asked_send : (a b : NamedLft) (T N L : RattleType) (g : Ghosts T.Denot) (n : naming.Ghosts N.Denot) → IsSync L → IsSend (asked.the_field a b T N L n g).row
+asked_send a b T N L g n hears = search (server_sync, global.the_field_send, cell.crosses, crossing.crosses, sendable) depth 60 fits 20000
+
+replies_send : (a b : NamedLft) (T N L : RattleType) (g : Ghosts T.Denot) (n : naming.Ghosts N.Denot) → IsSync L → IsSend (replies.the_field a b T N L n g).row
+replies_send a b T N L g n hears = search (server_sync, global.the_field_send, cell.crosses, crossing.crosses, sendable) depth 60 fits 20000
+
+datagrams_seat_send : (a b : NamedLft) (T N L : RattleType) (g : Ghosts T.Denot) (n : naming.Ghosts N.Denot) → IsSync L → IsSend (datagrams_seat.the_field a b T N L n g).row
+datagrams_seat_send a b T N L g n hears = search (server_sync, global.the_field_send, cell.crosses, crossing.crosses, sendable) depth 60 fits 20000
+
+connections_seat_send : (a b : NamedLft) (T N L C : RattleType) (g : Ghosts T.Denot) (n : naming.Ghosts N.Denot) → IsSync L → IsSync C → IsSend (connections_seat.the_field a b T N L C n g).row
+connections_seat_send a b T N L C g n hears ticks = struct_send (shape (connections_seat.the_type a b T N L C n g)) (replies_send a b T N L g n hears, (tcp_send a C ticks, tt))
+
+secondaries_seat_send : (a b : NamedLft) (T N L C : RattleType) (g : Ghosts T.Denot) (n : naming.Ghosts N.Denot) → IsSync L → IsSync C → IsSend (secondaries_seat.the_field a b T N L C n g).row
+secondaries_seat_send a b T N L C g n hears ticks = struct_send (shape (secondaries_seat.the_type a b T N L C n g)) (asked_send a b T N L g n hears, (telling_send a C ticks, tt))
+
+seat_send : (a b : NamedLft) (T N L C : RattleType) (g : Ghosts T.Denot) (n : naming.Ghosts N.Denot) → IsSync L → IsSync C → IsSend (seat.the_field a b T N L C n g).row
+seat_send a b T N L C g n hears ticks =
+    enum_send (enum.shape (seat.the_type a b T N L C n g)) ((datagrams_seat_send a b T N L g n hears, tt), ((connections_seat_send a b T N L C g n hears ticks, tt), ((secondaries_seat_send a b T N L C g n hears ticks, tt), tt)))
+
 pub thread_send : (a b : NamedLft) (T N L C : RattleType) (g : Ghosts T.Denot) (n : naming.Ghosts N.Denot) → IsSync L → IsSync C → IsSend (thread.the_row a b T N L C n g)
 thread_send a b T N L C g n hears ticks =
-    search (server_sync, global.the_field_send, cell.crosses, crossing.crosses, sendable) depth 60 fits 20000
+    recorded_send (thread.the_field a b T N L C n g).row _ _ (thread.the_type a b T N L C n g).to_one
+    (struct_send (shape (thread.the_type a b T N L C n g)) (seat_send a b T N L C g n hears ticks, (search (crossing.crosses, sendable) depth 60 fits 20000, (search sendable depth 60 fits 20000, tt))))

@@ -7,15 +7,16 @@ use Rattle.serve_core.specs.declared.peer.Peer.{Peer}
 use Rattle.slab.specs.Slab.{Slab}
 use Rattle.links.specs.declared.limits.Limits.{Limits}
 use Rattle.links.specs.declared.link.Link.{Link}
+use Rattle.turns.specs.declared.worker.Turns.{Turns}
 use Rattle.turns.specs.Steps.{HasTurned, Turned, unturned, turned}
 
 module _ {S M T : Type 0} (origin : S → SocketAddr) (octets : S → Option (List ℕ × List ℕ)) (IsReply : Peer → Learned T → Learned T → List ℕ → List (List ℕ) → Type 0) (allowed : List IpAddr) (limits : Limits) where
   -- turns behind others
-  pub turned_more : (seen mid later : Learned T) (old between new : Slab (Link S M)) → Turned origin octets IsReply allowed limits seen old mid between → Turned origin octets IsReply allowed limits mid between later new → Turned origin octets IsReply allowed limits seen old later new
-  turned_more seen mid later old between new so_far unturned = so_far
-  turned_more seen mid later old between new so_far (turned now more last) = turned now (turned_more seen mid _ old between _ so_far more) last
+  pub turned_more : (seen mid : Learned T) (old between : Slab (Link S M)) (later : Learned T) (new : Slab (Link S M)) → Turned origin octets IsReply allowed limits seen old mid between → Turned origin octets IsReply allowed limits mid between later new → Turned origin octets IsReply allowed limits seen old later new
+  turned_more seen mid old between later new so_far unturned = so_far
+  turned_more seen mid old between later new so_far (turned now more last) = turned now (turned_more seen mid old between _ _ so_far more) last
 
   -- one turn alone, behind which the connections stay
-  pub one_turned : (now : ℕ) (seen later : Learned T) (old mid new : Slab (Link S M)) → HasTurned origin octets IsReply allowed limits now seen old later mid → new ≡ mid → Turned origin octets IsReply allowed limits seen old later new
+  pub one_turned : (now : ℕ) (seen later : Learned T) (old : Slab (Link S M)) (mid new : Turns S M) → HasTurned origin octets IsReply allowed limits now seen old later mid.links → new ≡ mid → Turned origin octets IsReply allowed limits seen old later new.links
   one_turned now seen later old mid new has same =
-      subst (λ (links : Slab (Link S M)). Turned origin octets IsReply allowed limits seen old later links) (sym same) (turned now unturned has)
+      subst (λ (turns : Turns S M). Turned origin octets IsReply allowed limits seen old later turns.links) (sym same) (turned now unturned has)

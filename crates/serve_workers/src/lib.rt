@@ -10,6 +10,7 @@ mod connections_job;
 mod datagrams_job;
 mod ending;
 mod interrupted;
+mod notify_job;
 mod progress;
 mod scratch;
 mod service;
@@ -20,6 +21,7 @@ mod workers;
 
 pub use connections_job::ConnectionsJob;
 pub use datagrams_job::DatagramsJob;
+pub use notify_job::{NotifyJob, NotifySocket, Secondaries};
 pub use progress::{Muster, Progress, Standing};
 pub use scratch::Scratch;
 pub use service::{Duty, Plan, ServeFault, Sockets, serve_zone};

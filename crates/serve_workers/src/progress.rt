@@ -4,11 +4,12 @@ ghost use Rattle.std.specs.Prelude.{◌≡◌};
 use crossbeam_utils::CachePadded;
 use std::sync::atomic::{AtomicBool, AtomicU64, AtomicUsize, Ordering};
 
-/// What all threads of a server share: how many have begun, and whether the server is to end.
+/// What all threads of a server share: how many have begun and have ended, and whether the server is to end.
 #[derive(Drop)]
 pub struct Muster {
     threads: usize,
     begun: AtomicUsize,
+    ended: AtomicUsize,
     is_ending: AtomicBool,
 }
 
@@ -20,6 +21,7 @@ impl Muster {
         Muster {
             threads,
             begun: AtomicUsize::new(0),
+            ended: AtomicUsize::new(0),
             is_ending: AtomicBool::new(false),
         }
     }
@@ -27,6 +29,16 @@ impl Muster {
     /// One more thread has begun. Whether all have by this.
     pub(crate) fn begin(&self) -> bool {
         self.begun.fetch_add(1, Ordering::SeqCst).saturating_add(1) == self.threads
+    }
+
+    /// One more thread has ended.
+    pub(crate) fn leave(&self) {
+        self.ended.fetch_add(1, Ordering::SeqCst);
+    }
+
+    /// Whether all threads but one have ended.
+    pub(crate) fn has_one_left(&self) -> bool {
+        self.ended.load(Ordering::SeqCst).saturating_add(1) >= self.threads
     }
 
     /// The server is to end, since a thread has ended for a reason of its own.

@@ -4,11 +4,12 @@ ghost use Rattle.std.specs.List.{All, Any};
 ghost use Rattle.dns_engine.specs.Held.{KEPT};
 ghost use Rattle.snapshot_cell.specs.declared.tokens.TheConstants.{READERS};
 ghost use Rattle.serve_workers.specs.declared.service.ServeFault.{ServeFault as Fault};
-ghost use Rattle.serve_workers.specs.Numbers.{number_of, takes_datagrams, are_datagrams, rights_of, end_of, fault_by};
+ghost use Rattle.serve_workers.specs.Numbers.{number_of, takes_datagrams, are_datagrams, HasRights, end_of, fault_by};
 
 use crate::connections_job::ConnectionsJob;
 use crate::datagrams_job::DatagramsJob;
 use crate::ending::{end_cell, end_named};
+use crate::notify_job::{NotifyJob, Secondaries};
 use crate::progress::{Muster, Progress, Standing};
 use crate::scratch::Scratch;
 use crate::threads::{SocketJob, TcpJob, run_threads};
@@ -53,6 +54,8 @@ pub enum Sockets {
     Datagrams(UdpSocket),
     /// Listeners at which connections come, which don't wait.
     Connections(Vec<TcpListener>),
+    /// The secondaries that are told of each version.
+    Secondaries(Secondaries),
 }
 
 /// What one thread of a worker does.
@@ -91,6 +94,7 @@ impl<C: Clock> SocketJob<'_, C> {
         let end = match self {
             SocketJob::Datagrams(job) => job.end(),
             SocketJob::Connections(job) => job.end(),
+            SocketJob::Secondaries(job) => job.end(),
         };
         match end {
             Some(JobEnd::Device) => Some(ServeFault::Device),
@@ -273,6 +277,14 @@ fn fault_in<N: Naming, C: Clock>(
     None
 }
 
+/// The reader of a pair, whose job is over.
+fn reader_of<N: Naming, C: Clock>(pair: (VersionReader<N>, SocketJob<'_, C>)) -> VersionReader<N>
+    ensures { result ≡ pair.entry.0 }
+{
+    let (reader, _job) = pair;
+    reader
+}
+
 /// Puts the readers of pairs into `back`, which has room for them.
 fn put_readers<N: Naming, C: Clock>(
     pairs: Vec<(VersionReader<N>, SocketJob<'_, C>)>,
@@ -283,8 +295,8 @@ fn put_readers<N: Naming, C: Clock>(
     ensures readers { back.new.items ≡ map (λ pair. pair.0) pairs.entry.items }
     ensures room { vec_capacity back.new ≡ vec_capacity back.old }
 {
-    for (reader, _job) in pairs {
-        back.push_reserved(reader);
+    for pair in pairs {
+        back.push_reserved(reader_of(pair));
     }
 }
 
@@ -338,7 +350,7 @@ fn job_of<'a, R: Clock + Net>(
 ) -> io::Result<SocketJob<'a, R>>
     ensures number { IfOk result (λ job. number_of job ≡ duty.entry.worker) }
     ensures kind { IfOk result (λ job. takes_datagrams job ≡ are_datagrams duty.entry.sockets) }
-    ensures rights { IfOk result (λ job. rights_of job ≡ plan.entry.connections.allowed.addresses.now) }
+    ensures rights { IfOk result (λ job. HasRights plan.entry.connections.allowed.addresses.now job) }
 {
     let Duty {
         worker,
@@ -357,6 +369,10 @@ fn job_of<'a, R: Clock + Net>(
             let job = tcp_job(rt, alloc, worker, listeners, plan, standing, scratch)?;
             Ok(SocketJob::Connections(job))
         }
+        Sockets::Secondaries(secondaries) => {
+            let job = NotifyJob::new(alloc, worker, secondaries, rt, plan.muster)?;
+            Ok(SocketJob::Secondaries(job))
+        }
     }
 }
 
@@ -369,7 +385,7 @@ fn jobs_of<'a, R: Clock + Net>(
 ) -> Result<Vec<SocketJob<'a, R>>, ServeFault>
     ensures numbers { IfOk result (λ jobs. map (λ job. number_of job) jobs.items ≡ map (λ duty. duty.worker) duties.entry.items) }
     ensures kinds { IfOk result (λ jobs. map (λ job. takes_datagrams job) jobs.items ≡ map (λ duty. are_datagrams duty.sockets) duties.entry.items) }
-    ensures rights { IfOk result (λ jobs. All (λ job. rights_of job ≡ plan.entry.connections.allowed.addresses.now) jobs.items) }
+    ensures rights { IfOk result (λ jobs. All (λ job. HasRights plan.entry.connections.allowed.addresses.now job) jobs.items) }
     ensures count { IfOk result (λ jobs. vec_len jobs ≡ vec_len duties.entry) }
     ensures refused { IfErr result (λ fault. (fault ≡ Fault.NoMemory) ⊎ (fault ≡ Fault.Device)) }
 {

@@ -7,6 +7,7 @@ ghost use Rattle.serve_workers.specs.Seats.{seat_number, seat_seen, seat_end, pa
 
 use crate::connections_job::ConnectionsJob;
 use crate::datagrams_job::DatagramsJob;
+use crate::notify_job::NotifyJob;
 use crate::progress::Muster;
 use crate::worker_socket::WorkerSocket;
 use crate::workers::{NotStarted, Work, do_all, nobody};
@@ -31,15 +32,73 @@ pub enum SocketJob<'a, C> {
     Datagrams(DatagramsJob<'a, WorkerSocket<'a>>),
     /// Connections.
     Connections(TcpJob<'a, C>),
+    /// The secondaries, which are told of each version.
+    Secondaries(NotifyJob<'a, C>),
+}
+
+/// A job on a socket of datagrams, and who answers in it by a reader.
+#[derive(Drop)]
+struct DatagramsSeat<'g, 's, Z: FirstZone, N: Naming, L> {
+    asked: Asked<'g, 's, Z, N, L>,
+    job: DatagramsJob<'g, WorkerSocket<'g>>,
+}
+
+impl<'g, 's, Z: FirstZone, N: Naming, L: ServiceLog> DatagramsSeat<'g, 's, Z, N, L> {
+    /// Does its job, and gives how that has ended.
+    fn serve<R: Wait>(&mut self, rt: &R) -> JobEnd
+        ensures number { self.new.job.number ≡ self.old.job.number }
+        ensures seen { BeginsWith self.new.asked.reader.seen self.old.asked.reader.seen }
+        ensures end { self.new.job.end ≡ Some result }
+    {
+        self.job.serve(rt, &mut self.asked)
+    }
+}
+
+/// A job on connections, and who answers in it by a reader.
+#[derive(Drop)]
+struct ConnectionsSeat<'g, 's, Z: FirstZone, N: Naming, L, C> {
+    replies: Replies<'g, 's, Z, N, L>,
+    job: TcpJob<'g, C>,
+}
+
+impl<'g, 's, Z: FirstZone, N: Naming, L: ServiceLog, C: Clock> ConnectionsSeat<'g, 's, Z, N, L, C> {
+    /// Does its job, and gives how that has ended.
+    fn serve<R: Wait>(&mut self, rt: &R, log: &L) -> JobEnd
+        ensures number { self.new.job.number ≡ self.old.job.number }
+        ensures seen { BeginsWith self.new.replies.reader.seen self.old.replies.reader.seen }
+        ensures end { self.new.job.end ≡ Some result }
+    {
+        self.job.serve(rt, &mut self.replies, log)
+    }
+}
+
+/// A job that tells secondaries, and who loads in it by a reader.
+#[derive(Drop)]
+struct SecondariesSeat<'g, 's, Z: FirstZone, N: Naming, L, C> {
+    asked: Asked<'g, 's, Z, N, L>,
+    job: NotifyJob<'g, C>,
+}
+
+impl<'g, 's, Z: FirstZone, N: Naming, L: ServiceLog, C: Clock> SecondariesSeat<'g, 's, Z, N, L, C> {
+    /// Does its job, and gives how that has ended.
+    fn serve<R: Wait>(&mut self, rt: &R, log: &L) -> JobEnd
+        ensures number { self.new.job.number ≡ self.old.job.number }
+        ensures seen { BeginsWith self.new.asked.reader.seen self.old.asked.reader.seen }
+        ensures end { self.new.job.end ≡ Some result }
+    {
+        self.job.serve(rt, &mut self.asked, log)
+    }
 }
 
 /// A thread's job, and who answers in it by a reader.
 #[derive(Drop)]
 enum Seat<'g, 's, Z: FirstZone, N: Naming, L, C> {
     /// On a socket of datagrams.
-    Datagrams(Asked<'g, 's, Z, N, L>, DatagramsJob<'g, WorkerSocket<'g>>),
+    Datagrams(DatagramsSeat<'g, 's, Z, N, L>),
     /// On listeners.
-    Connections(Replies<'g, 's, Z, N, L>, TcpJob<'g, C>),
+    Connections(ConnectionsSeat<'g, 's, Z, N, L, C>),
+    /// On secondaries' sockets.
+    Secondaries(SecondariesSeat<'g, 's, Z, N, L, C>),
 }
 
 impl<'g, 's, Z: FirstZone, N: Naming, L: ServiceLog, C: Clock> Seat<'g, 's, Z, N, L, C> {
@@ -56,13 +115,16 @@ impl<'g, 's, Z: FirstZone, N: Naming, L: ServiceLog, C: Clock> Seat<'g, 's, Z, N
         let peer = Peer::over(Transport::Udp, false);
         match job {
             SocketJob::Datagrams(job) => {
-                Seat::Datagrams(Asked::new(alloc, server, reader, log, peer, nobody()), job)
+                let asked = Asked::new(alloc, server, reader, log, peer, nobody());
+                Seat::Datagrams(DatagramsSeat { asked, job })
             }
             SocketJob::Connections(job) => {
-                Seat::Connections(
-                    Replies::new(alloc, server, reader, log, peer, nobody()),
-                    job,
-                )
+                let replies = Replies::new(alloc, server, reader, log, peer, nobody());
+                Seat::Connections(ConnectionsSeat { replies, job })
+            }
+            SocketJob::Secondaries(job) => {
+                let asked = Asked::new(alloc, server, reader, log, peer, nobody());
+                Seat::Secondaries(SecondariesSeat { asked, job })
             }
         }
     }
@@ -72,18 +134,30 @@ impl<'g, 's, Z: FirstZone, N: Naming, L: ServiceLog, C: Clock> Seat<'g, 's, Z, N
         ensures { result ≡ pair_of self.entry }
     {
         match self {
-            Seat::Datagrams(asked, job) => (asked.into_reader(), SocketJob::Datagrams(job)),
-            Seat::Connections(replies, job) => {
+            Seat::Datagrams(DatagramsSeat { asked, job }) => {
+                (asked.into_reader(), SocketJob::Datagrams(job))
+            }
+            Seat::Connections(ConnectionsSeat { replies, job }) => {
                 (replies.into_reader(), SocketJob::Connections(job))
+            }
+            Seat::Secondaries(SecondariesSeat { asked, job }) => {
+                (asked.into_reader(), SocketJob::Secondaries(job))
             }
         }
     }
 
-    /// What carries its requests.
-    fn transport(&self) -> Transport {
-        match self {
-            Seat::Datagrams(_, _) => Transport::Udp,
-            Seat::Connections(_, _) => Transport::Tcp,
+    /// What is told of its end.
+    fn event_of(&self, end: JobEnd) -> Event {
+        let worker = self.number();
+        let transport = match self {
+            Seat::Datagrams(_) => Transport::Udp,
+            Seat::Connections(_) => Transport::Tcp,
+            Seat::Secondaries(_) => return Event::Untold { end },
+        };
+        Event::End {
+            worker,
+            transport,
+            end,
         }
     }
 
@@ -94,8 +168,9 @@ impl<'g, 's, Z: FirstZone, N: Naming, L: ServiceLog, C: Clock> Seat<'g, 's, Z, N
         ensures end { seat_end self.new ≡ Some result }
     {
         match self {
-            Seat::Datagrams(asked, job) => job.serve(rt, asked),
-            Seat::Connections(replies, job) => job.serve(rt, replies, log),
+            Seat::Datagrams(seat) => seat.serve(rt),
+            Seat::Connections(seat) => seat.serve(rt, log),
+            Seat::Secondaries(seat) => seat.serve(rt, log),
         }
     }
 
@@ -104,8 +179,9 @@ impl<'g, 's, Z: FirstZone, N: Naming, L: ServiceLog, C: Clock> Seat<'g, 's, Z, N
         ensures { result ≡ seat_number self.now }
     {
         match self {
-            Seat::Datagrams(_, job) => job.number,
-            Seat::Connections(_, job) => job.number,
+            Seat::Datagrams(seat) => seat.job.number,
+            Seat::Connections(seat) => seat.job.number,
+            Seat::Secondaries(seat) => seat.job.number,
         }
     }
 }
@@ -148,18 +224,11 @@ impl<
             self.log.tell(rt, Event::Serving);
         }
         let end = self.seat.serve(rt, self.log);
+        self.muster.leave();
         if !is_done(end) {
             self.muster.end();
         }
-        let (worker, transport) = (self.seat.number(), self.seat.transport());
-        self.log.tell(
-            rt,
-            Event::End {
-                worker,
-                transport,
-                end,
-            },
-        );
+        self.log.tell(rt, self.seat.event_of(end));
     }
 }
 

@@ -6,3 +6,4 @@ pub mod TransferLemmas
 pub mod ChainLemmas
 pub mod WantedLemmas
 pub mod AboutLemmas
+pub mod NotifiedLemmas

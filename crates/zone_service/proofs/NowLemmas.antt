@@ -22,10 +22,10 @@ use Rattle.zone_service.specs.declared.answer.Now.TheVariants.{Bytes, Silent, La
 use Rattle.zone_service.proofs.ReplyLemmas.{update_is_no_query}
 
 -- who has loaded has seen what one had seen, and perhaps more
-load_grows : (first : List Record) (before after : ReaderState Version) (version : Version) → HasLoaded first before after version → Grows (learned_by after) (learned_by before)
+pub load_grows : (first : List Record) (before after : ReaderState Version) (version : Version) → HasLoaded first before after version → Grows (learned_by after) (learned_by before)
 load_grows first before after version load = record { published = (load.begun.0, sym load.begun.1); buried = ([], load.gone) }
 
-same_grows : (before after : ReaderState Version) → after ≡ before → Grows (learned_by after) (learned_by before)
+pub same_grows : (before after : ReaderState Version) → after ≡ before → Grows (learned_by after) (learned_by before)
 same_grows before after same = subst (λ (r : ReaderState Version). Grows (learned_by r) (learned_by before)) (sym same) (grows_itself (learned_by before))
 
 loads_grow : (first : List Record) (before after : ReaderState Version) (version : Version) (said : Parsed) → LoadsFor first before after version said → Grows (learned_by after) (learned_by before)

@@ -1,3 +1,4 @@
 pub mod Known
+pub mod Notified
 pub mod Updated
 pub mod Replied

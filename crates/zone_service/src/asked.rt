@@ -9,12 +9,14 @@ ghost use Rattle.zone_service.specs.Replied.{IsReplied, IsUpdate, IsTransfer, Ha
 ghost use Rattle.conversation.specs.Served.{Grows};
 
 use crate::answer::{Now, Served, answer_now, serve_one};
+use crate::notifying::{NextTurn, Notifying};
 use crate::server::Server;
 use crate::service_log::ServiceLog;
 use crate::telling::tell_update;
 use crate::transfer::write_transfer;
 use conversation::Answering;
 use dns_engine::{FirstZone, VersionReader};
+use notify::Notifier;
 use serve_core::{Peer, Transport};
 use snapshot_cell::{Naming, Spent};
 use std::alloc::Global;
@@ -140,6 +142,22 @@ impl<'a, 's, Z: FirstZone, N: Naming, L: ServiceLog> Answering for Asked<'a, 's,
             Now::Silent => Ok(None),
             Now::Later => self.answer_datagram_later(rt, peer, request, out),
             Now::Spent => Err(Spent),
+        }
+    }
+}
+
+impl<'a, 's, Z: FirstZone, N: Naming, L: ServiceLog> Notifying for Asked<'a, 's, Z, N, L> {
+    fn next_turn(
+        &mut self,
+        notifier: &mut Notifier,
+        id: u16,
+        out: &mut [u8],
+    ) -> Result<NextTurn, Spent> {
+        let strong = self.server.cell().load(&mut self.reader)?;
+        let version = strong.get().get();
+        match notifier.next(version, id, out) {
+            Some(due) => Ok(NextTurn::Due(due)),
+            None => Ok(NextTurn::Look(notifier.next_look(version.number()))),
         }
     }
 }

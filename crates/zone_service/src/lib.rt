@@ -7,6 +7,7 @@
 
 mod answer;
 mod asked;
+mod notifying;
 mod server;
 mod service_log;
 mod telling;
@@ -14,6 +15,7 @@ mod transfer;
 
 pub use answer::{Now, Served, Told, answer_now, serve_one};
 pub use asked::Asked;
+pub use notifying::{NextTurn, Notifying};
 pub use server::Server;
 pub use service_log::{Event, JobEnd, Losses, NoLog, Serials, ServiceLog};
 pub use telling::tell_update;

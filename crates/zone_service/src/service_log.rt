@@ -49,6 +49,21 @@ pub enum Event {
         /// How many.
         losses: Losses,
     },
+    /// A secondary answers no NOTIFY (RFC 1996, 3.6).
+    Silent {
+        /// Its address and its port.
+        secondary: SocketAddr,
+    },
+    /// A secondary that answered none answers again.
+    Again {
+        /// Its address and its port.
+        secondary: SocketAddr,
+    },
+    /// The thread that tells secondaries has ended.
+    Untold {
+        /// How it has ended.
+        end: JobEnd,
+    },
 }
 
 /// How many connections have ended by what an operator may wonder about, or got no place.
@@ -84,7 +99,7 @@ pub struct Serials {
 /// How a worker's job has ended.
 #[derive(Clone, Copy)]
 pub enum JobEnd {
-    /// Its worker has done what it may: so many datagrams and connections.
+    /// Its worker has done what it may: so many datagrams and connections, or NOTIFYs.
     Done(u64),
     /// Its socket has failed.
     Device,
@@ -119,6 +134,16 @@ impl Display for Event {
             Event::Lost { worker, losses } => {
                 write!(f, "worker {worker} (TCP)")?;
                 write_losses(f, *losses)
+            }
+            Event::Silent { secondary } => {
+                write!(f, "secondary {secondary} doesn't answer NOTIFY")
+            }
+            Event::Again { secondary } => {
+                write!(f, "secondary {secondary} answers NOTIFY again")
+            }
+            Event::Untold { end } => {
+                f.write_str("secondaries are told no more: ")?;
+                write_untold(f, *end)
             }
         }
     }
@@ -170,6 +195,14 @@ fn write_end<W: fmt::Write>(f: &mut Formatter<W>, end: JobEnd) -> fmt::Result {
         JobEnd::Device => f.write_str("its socket failed"),
         JobEnd::Spent => f.write_str("no version could be loaded"),
         JobEnd::NoMemory => f.write_str("no memory"),
+    }
+}
+
+/// Writes how the telling of secondaries has ended.
+fn write_untold<W: fmt::Write>(f: &mut Formatter<W>, end: JobEnd) -> fmt::Result {
+    match end {
+        JobEnd::Done(count) => write!(f, "{count} NOTIFYs sent"),
+        other => write_end(f, other),
     }
 }
 

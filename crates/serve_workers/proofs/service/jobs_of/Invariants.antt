@@ -1,7 +1,7 @@
 -- The jobs so far are those of the duties so far.
 use Rattle.std.proofs.Common.{◌≡◌, ◌+◌, ◌++◌, All, map, vec_len}
 use Rattle.std.specs.Vec.Iter.{into_iter_len, into_iter_items}
-use Rattle.serve_workers.specs.Numbers.{number_of, takes_datagrams, are_datagrams, rights_of}
+use Rattle.serve_workers.specs.Numbers.{number_of, takes_datagrams, are_datagrams, HasRights}
 use Rattle.serve_workers.proofs.service.jobs_of.Given as goal
 
 abbrev pub invariant-loop-duty : goal.invariant-loop-duty
@@ -10,5 +10,5 @@ invariant-loop-duty g l = record {
   count : vec_len l.jobs + into_iter_len l.duty-iterator ≡ vec_len l.fn.duties;
   numbers : map (λ job. number_of job) l.jobs.items ≡ map (λ duty. duty.worker) l.yielded;
   kinds : map (λ job. takes_datagrams job) l.jobs.items ≡ map (λ duty. are_datagrams duty.sockets) l.yielded;
-  rights : All (λ job. rights_of job ≡ l.fn.plan.connections.allowed.addresses.now) l.jobs.items;
+  rights : All (λ job. HasRights l.fn.plan.connections.allowed.addresses.now job) l.jobs.items;
 }

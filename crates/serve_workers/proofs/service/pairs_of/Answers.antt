@@ -2,6 +2,7 @@
 use Rattle.std.proofs.Common.{rules, ◌≡◌, [], ◌∷◌, ◌++◌, map, sym, ap, ◌∙◌, append_assoc}
 use Rattle.std.proofs.lemmas.List.Elements.{All-head, All-rest, All-same}
 use Rattle.std.specs.Vec.Iter.{into_iter_items}
+use Rattle.serve_workers.proofs.EachLemmas.{all_taken}
 use Rattle.serve_workers.proofs.ListLemmas.{map_more, map_taken}
 use Rattle.serve_workers.proofs.service.pairs_of.Goals as goal
 
@@ -29,3 +30,7 @@ loop-reader-preserved g c = record {
   count = search rules;
   room = search rules;
 }
+
+pub returns-clause-jobs : goal.returns-clause-jobs
+returns-clause-jobs g c =
+    all_taken _ (into_iter_items c.loop-reader.jobs) c.args.jobs.items c.loop-reader.invariant.jobs (sym c.loop-reader.jobs.rest.ok.0 ∙ c.loop-reader.invariant.same ∙ c.in-None.ensures.steps.0)

@@ -20,3 +20,14 @@ loop-preserved g c =
       number = c.turn.ensures.number ∙ c.loop.invariant.number;
       plan = c.turn.ensures.plan ∙ c.loop.invariant.plan;
     }
+
+pub returns-in-Some-turn-clause-grows : goal.returns-in-Some-turn-clause-grows
+returns-in-Some-turn-clause-grows g c = grows_more _ _ _ c.loop.invariant.grows c.turn.ensures.grows
+
+pub returns-in-Some-turn-clause-turned : goal.returns-in-Some-turn-clause-turned
+returns-in-Some-turn-clause-turned g c =
+    let turned = subst
+    (λ (p : Plan). Turned g.S.Remote.origin g.S.Blocking.octets g.A.Answering.is_reply p.allowed.addresses.now p.limits (g.A.Answering.seen c.loop.answering) c.loop.self.turns.links (g.A.Answering.seen c.turn.new.answering) c.turn.new.self.turns.links)
+    c.loop.invariant.plan
+    c.turn.ensures.turned in
+    turned_more _ _ _ _ _ _ _ _ _ _ _ c.loop.invariant.turned turned

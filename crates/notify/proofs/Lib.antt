@@ -1,0 +1,4 @@
+pub mod NotifyLemmas
+pub mod TurnLemmas
+pub mod CourseLemmas
+pub mod RunLemmas

@@ -1,0 +1,6 @@
+pub mod Notify
+pub mod Told
+pub mod Notified
+pub mod Turns
+pub mod Course
+pub mod Runs
