@@ -57,8 +57,8 @@ row 2 "'a..b' is no name for --origin" answer --origin a..b -
 # what serve takes
 input=
 row 2 "--listen takes an address and a port, as 127.0.0.1:5353 or [::1]:5353, and 'localhost' is none" serve --listen localhost "$zone"
-row 2 "--workers takes a number from 1 to 30, and '0' is none" serve --listen 127.0.0.1:0 --workers 0 "$zone"
-row 2 "--workers takes a number from 1 to 30, and '31' is none" serve --listen 127.0.0.1:0 --workers 31 "$zone"
+row 2 "--workers takes a number from 1 to 31, and '0' is none" serve --listen 127.0.0.1:0 --workers 0 "$zone"
+row 2 "--workers takes a number from 1 to 31, and '32' is none" serve --listen 127.0.0.1:0 --workers 32 "$zone"
 row 2 "--keep takes a number from 0 to 8, and '9' is none" serve --listen 127.0.0.1:0 --keep 9 "$zone"
 row 2 "--count takes a number from 0 to 18446744073709551615, and '-' is none" serve --listen 127.0.0.1:0 --count - "$zone"
 row 2 "--allow takes addresses with commas between them, as 127.0.0.1,192.0.2.7, and 'x' is none" serve --listen 127.0.0.1:0 --allow 127.0.0.1,x "$zone"
