@@ -1,11 +1,11 @@
 #!/usr/bin/env bash
 # Measures `dnsd serve` by dnsperf, beside knotd and nsd where these are installed, each with as many workers, in the same run: queries
-# a second over UDP, and over TCP on 20 and on 50 connections, and processor time a query (of the server alone, from /proc); then of dnsd updates a
-# second, and the 99th percentile of queries' times without updates, while updates go to another dnsd on the same machine, and while as
+# a second over UDP, and over TCP on 20 and on 50 connections, and processor time a query (of the server alone, from /proc); then of dnsd the same
+# with 3,000 places a worker, without and beside idle connections that are opened anew as they end, updates a second, and the 99th percentile of queries' times without updates, while updates go to another dnsd on the same machine, and while as
 # many go to the one that is asked.
-# Usage: [DNSD=PROGRAM] bench/serve.sh [--seconds N] [--workers "N .."] [--port N] [--updates N] [RECORDS ..]
-#   by default 5 seconds a figure, 1, 2 and 4 workers, ports 15453 and 15454, at most 10000 updates a second beside queries, and zones of
-#   1000 and 1000000 records
+# Usage: [DNSD=PROGRAM] bench/serve.sh [--seconds N] [--workers "N .."] [--port N] [--updates N] [--idle N] [RECORDS ..]
+#   by default 5 seconds a figure, 1, 2 and 4 workers, ports 15453 and 15454, at most 10000 updates a second beside queries, 2000 idle
+#   connections, and zones of 1000 and 1000000 records
 # It needs Debian's dnsperf, and knot and nsd for the figures beside. `make dnsd` builds the program.
 set -euo pipefail
 cd "$(dirname "$0")/.."
@@ -14,6 +14,7 @@ seconds=5
 workers="1 2 4"
 port=15453
 most=10000
+idle=2000
 sizes=()
 while [ $# -gt 0 ]; do
     case $1 in
@@ -21,6 +22,7 @@ while [ $# -gt 0 ]; do
         --workers) workers=$2; shift 2 ;;
         --port) port=$2; shift 2 ;;
         --updates) most=$2; shift 2 ;;
+        --idle) idle=$2; shift 2 ;;
         *) sizes+=("$1"); shift ;;
     esac
 done
@@ -28,16 +30,20 @@ done
 PATH=$PATH:/usr/sbin:/sbin
 command -v dnsperf >/dev/null || { echo "bench: no dnsperf: it is Debian's package dnsperf" >&2; exit 1; }
 
+ulimit -n 10000
+
 server=
 second=
+peers=
 stop() {
     local one
-    for one in $server $second; do
+    for one in $server $second $peers; do
         kill "$one" 2>/dev/null || true
         wait "$one" 2>/dev/null || true
     done
     server=
     second=
+    peers=
 }
 trap 'stop; rm -rf "$work"' EXIT
 
@@ -76,8 +82,11 @@ print(round(taken / (time.time() - began)))
 PY
 }
 
+# dnsd of so many workers, with further options: WORKERS [OPTION ..]
 start_dnsd() {
-    "$program" serve --listen "127.0.0.1:$port" --workers "$1" "$work/zone" 2>"$work/log" &
+    local w=$1
+    shift
+    "$program" serve --listen "127.0.0.1:$port" --workers "$w" "$@" "$work/zone" 2>"$work/log" &
     server=$!
 }
 
@@ -187,6 +196,23 @@ measure() {
     stop
 }
 
+# dnsd with 3,000 places a worker, alone and beside idle connections: WORKERS RECORDS
+measure_idle() {
+    local clients
+    start_dnsd "$1" --connections 3000
+    wait_for
+    for clients in 20 50; do measure_over "dnsd alone" "$1" "$2" tcp "$clients"; done
+    bench/idle.py "$port" "$idle" "$server" >"$work/idle" &
+    peers=$!
+    until [ -s "$work/idle" ]; do sleep 0.1; done
+    for clients in 20 50; do measure_over "dnsd beside $idle idle connections" "$1" "$2" tcp "$clients"; done
+    kill "$peers"
+    wait "$peers" || true
+    peers=
+    paste -sd ' ' "$work/idle"
+    stop
+}
+
 # The 99th percentile of 2000 queries a second, while at most so many updates a second go to a port, where one is given: [PORT]
 beside() {
     local updater=
@@ -228,6 +254,7 @@ for records in "${sizes[@]}"; do
             if command -v $other >/dev/null; then measure $other "$w" "$records"; fi
         done
     done
+    for w in $workers; do measure_idle "$w" "$records"; done
     # a zone of a million records is full (a limit of its own): the records that updates add need room
     [ "$records" -lt 1000000 ] || { records=999000 && zone "$records" >"$work/zone"; }
     measure_updates 4 "$records"
