@@ -20,6 +20,7 @@ mod walk;
 
 pub use fault::NoMemory;
 pub use laws::{examples, one_key_changes};
+pub use look::Around;
 pub use seek::Seek;
 pub use tree::Tree;
 pub use walk::Walk;

@@ -1,12 +1,23 @@
 //! What a key finds, on one way down.
-ghost use Rattle.std.specs.Prelude.{◌≡◌};
+ghost use Rattle.std.specs.Prelude.{◌≡◌, IsNone};
 ghost use Rattle.std.specs.Option.{option_copied};
 ghost use Rattle.shared_tree.specs.Links.{link_pairs};
-ghost use Rattle.shared_tree.specs.Pairs.{IsAscending, pair_at, pair_after, first_pair};
+ghost use Rattle.shared_tree.specs.Pairs.{IsAscending, pair_at, pair_after, pair_before, first_pair};
 
 use crate::node::Link;
 use crate::seek::Seek;
 use std::cmp::Ordering;
+
+/// The pair of a key, or else the pairs next to it: that of the greatest key that is less, and that of the least key that is greater.
+#[derive(Drop)]
+pub struct Around<'a, K, V> {
+    /// The pair of the key.
+    pub at: Option<&'a (K, V)>,
+    /// Where the tree has no pair of the key, that of the greatest key that is less.
+    pub before: Option<&'a (K, V)>,
+    /// Where the tree has no pair of the key, that of the least key that is greater.
+    pub behind: Option<&'a (K, V)>,
+}
 
 /// The pair of a key.
 pub(crate) fn find_in<'a, K: Ord, V, Q: Seek<K>>(
@@ -22,6 +33,45 @@ pub(crate) fn find_in<'a, K: Ord, V, Q: Seek<K>>(
             Ordering::Equal => Some(&*node.pair),
             Ordering::Greater => find_in(&node.right, sought),
         },
+    }
+}
+
+/// The pair of a key, or else the pairs next to it, by one way down.
+pub(crate) fn around_in<'a, K: Ord, V, Q: Seek<K>>(
+    link: &'a Link<K, V>,
+    sought: &Q,
+) -> Around<'a, K, V>
+    requires { IsAscending K.cmp (link_pairs link.now) }
+    ensures at { option_copied result.at ≡ pair_at K.cmp (Q.key sought.now) (link_pairs link.now) }
+    ensures before { IsNone result.at → option_copied result.before ≡ pair_before K.cmp (Q.key sought.now) (link_pairs link.now) }
+    ensures behind { IsNone result.at → option_copied result.behind ≡ pair_after K.cmp (Q.key sought.now) (link_pairs link.now) }
+{
+    let mut below = link;
+    let mut before = None;
+    let mut behind = None;
+    while let Link::Fork(node) = below {
+        match sought.cmp_key(&node.pair.0) {
+            Ordering::Less => {
+                behind = Some(&*node.pair);
+                below = &node.left;
+            }
+            Ordering::Equal => {
+                return Around {
+                    at: Some(&*node.pair),
+                    before,
+                    behind,
+                };
+            }
+            Ordering::Greater => {
+                before = Some(&*node.pair);
+                below = &node.right;
+            }
+        }
+    }
+    Around {
+        at: None,
+        before,
+        behind,
     }
 }
 

@@ -1,10 +1,10 @@
 //! A tree, and what it is asked and made into.
-ghost use Rattle.std.specs.Prelude.{◌≡◌, ◌+◌, ◌*◌, ◌<◌, ◌≤◌, [], IfOk, length, None, IsTrue, ◌↔◌};
+ghost use Rattle.std.specs.Prelude.{◌≡◌, ◌+◌, ◌*◌, ◌<◌, ◌≤◌, [], IfOk, IsNone, length, None, IsTrue, ◌↔◌};
 ghost use Rattle.std.specs.Option.{option_copied};
-ghost use Rattle.shared_tree.specs.Pairs.{IsAscending, pair_at, value_at, pair_after, pairs_above, pairs_with, pairs_without, first_pair, IsLow};
+ghost use Rattle.shared_tree.specs.Pairs.{IsAscending, pair_at, value_at, pair_before, pair_after, pairs_above, pairs_with, pairs_without, first_pair, IsLow};
 
 use crate::fault::NoMemory;
-use crate::look::{after_in, find_in, first_in};
+use crate::look::{Around, after_in, around_in, find_in, first_in};
 use crate::node::{Link, Maker};
 use crate::seek::Seek;
 use crate::walk::Walk;
@@ -71,6 +71,15 @@ impl<K: Ord, V> Tree<K, V> {
             Some(pair) => Some(&pair.1),
             None => None,
         }
+    }
+
+    /// The pair of a key, or else the pairs next to it, by one way down.
+    pub fn around<Q: Seek<K>>(&self, sought: &Q) -> Around<'_, K, V>
+        ensures at { option_copied result.at ≡ pair_at K.cmp (Q.key sought.now) self.now.pairs }
+        ensures before { IsNone result.at → option_copied result.before ≡ pair_before K.cmp (Q.key sought.now) self.now.pairs }
+        ensures behind { IsNone result.at → option_copied result.behind ≡ pair_after K.cmp (Q.key sought.now) self.now.pairs }
+    {
+        around_in(&self.root, sought)
     }
 
     /// The pair of the least key that is greater than a key, which the tree needn't have.
