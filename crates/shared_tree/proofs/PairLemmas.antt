@@ -1,14 +1,15 @@
 -- What the words on pairs give of two lists with a pair between them, by where a key stands.
-use Rattle.std.proofs.Common.{◌≡◌, refl, sym, ap, ◌∙◌, Bool, true, false, List, [], ◌∷◌, ◌++◌, append_assoc, append-nil, Option, Some, None, cond, true≢false}
+use Rattle.std.proofs.Common.{◌≡◌, refl, sym, ap, ◌∙◌, Bool, true, false, List, [], ◌∷◌, ◌++◌, reverse, subst, append_assoc, append-nil, Option, Some, None, cond, true≢false}
 use Rattle.std.specs.Option.{option_or}
 use Rattle.std.specs.List.{filter, find, AllByRecursion}
 use Rattle.std.specs.declared.cmp.Ordering.{Ordering}
 use Rattle.std.specs.declared.cmp.Ordering.TheVariants.{Less, Equal, Greater}
 use Rattle.std.specs.Ordering.{is_lt, is_gt, is_eq, is_ne, ordering_reverse}
 use Rattle.std.specs.Cmp.{IsTotalOrder}
+use Rattle.std.proofs.lemmas.List.{reverse-append}
 use Rattle.std.proofs.lemmas.List.Elements.{filter-append}
 use Rattle.std.proofs.lemmas.List.Folds.{find-append}
-use Rattle.shared_tree.specs.Pairs.{IsAscending, pairs_below, pairs_above, pair_at, pair_after, pairs_with, pairs_without}
+use Rattle.shared_tree.specs.Pairs.{IsAscending, pairs_below, pairs_above, pair_at, pair_before, pair_after, pairs_with, pairs_without}
 
 -- facts by recursion on a list
 module _ {X : Type 0} where
@@ -27,6 +28,10 @@ module _ {X : Type 0} where
   pub each_behind : (P : X → Type 0) (xs ys : List X) → AllByRecursion P (xs ++ ys) → AllByRecursion P ys
   each_behind P [] ys h = h
   each_behind P (x ∷ xs) ys h = each_behind P xs ys h.1
+
+  pub each_reverse : (P : X → Type 0) (xs : List X) → AllByRecursion P xs → AllByRecursion P (reverse xs)
+  each_reverse P [] h = tt
+  each_reverse P (x ∷ xs) h = subst (AllByRecursion P) (sym (reverse-append (x ∷ []) xs)) (each_append P (reverse xs) (x ∷ []) (each_reverse P xs h.1) (h.0, tt))
 
   pub each_filtered : (P : X → Type 0) (p : X → Bool) (xs : List X) → AllByRecursion P xs → AllByRecursion P (filter p xs)
   each_filtered P p [] h = tt
@@ -78,6 +83,10 @@ or_none : {X : Type 0} (o : Option X) → option_or o None ≡ o
 or_none None = refl
 or_none (Some x) = refl
 
+pub or_some : {X : Type 0} (o p : Option X) (x : X) → option_or (option_or o (Some x)) p ≡ option_or o (Some x)
+or_some None p x = refl
+or_some (Some y) p x = refl
+
 -- where a key stands to all pairs of a list
 abbrev pub IsBelow : {K V : Type 0} → (K → K → Ordering) → K → List (K × V) → Type 0
 IsBelow cmp key xs = AllByRecursion (λ pair. cmp key pair.0 ≡ Less) xs
@@ -107,6 +116,9 @@ module _ {K V : Type 0} (cmp : K → K → Ordering) (key : K) where
   pub none_after : (xs : List (K × V)) → IsAbove cmp key xs → pair_after cmp key xs ≡ None
   none_after xs h = find_none (λ pair. is_lt (cmp key pair.0)) xs (each_weaker _ _ (λ pair e. ap is_lt e) xs h)
 
+  pub none_before : (xs : List (K × V)) → IsBelow cmp key xs → pair_before cmp key xs ≡ None
+  none_before xs h = find_none (λ pair. is_gt (cmp key pair.0)) (reverse xs) (each_reverse _ xs (each_weaker _ _ (λ pair e. ap is_gt e) xs h))
+
   kept_below : (xs : List (K × V)) → IsBelow cmp key xs → pairs_without cmp key xs ≡ xs
   kept_below xs h = filter_all (λ pair. is_ne (cmp key pair.0)) xs (each_weaker _ _ (λ pair e. ap is_ne e) xs h)
 
@@ -118,6 +130,7 @@ module _ {K V : Type 0} (cmp : K → K → Ordering) (key : K) where
     pub record AtLess : Type 0 where
       pub at : pair_at cmp key (left ++ pair ∷ right) ≡ pair_at cmp key left
       pub after : pair_after cmp key (left ++ pair ∷ right) ≡ option_or (pair_after cmp key left) (Some pair)
+      pub before : pair_before cmp key (left ++ pair ∷ right) ≡ pair_before cmp key left
       pub put : (value : V) → pairs_with cmp key value (left ++ pair ∷ right) ≡ pairs_with cmp key value left ++ pair ∷ right
       pub gone : pairs_without cmp key (left ++ pair ∷ right) ≡ pairs_without cmp key left ++ pair ∷ right
 
@@ -125,6 +138,9 @@ module _ {K V : Type 0} (cmp : K → K → Ordering) (key : K) where
     at_less e h = record {
       at = find-append (λ other. is_eq (cmp key other.0)) left (pair ∷ right) ∙ ap (option_or (pair_at cmp key left)) (none_at_below (pair ∷ right) (e, h)) ∙ or_none (pair_at cmp key left);
       after = find-append (λ other. is_lt (cmp key other.0)) left (pair ∷ right) ∙ ap (λ b. option_or (pair_after cmp key left) (cond b (Some pair) (pair_after cmp key right))) (ap is_lt e);
+      before =
+          ap (find (λ other. is_gt (cmp key other.0))) (reverse-append left (pair ∷ right)) ∙ find-append (λ other. is_gt (cmp key other.0)) (reverse (pair ∷ right)) (reverse left)
+          ∙ ap (λ o. option_or o (pair_before cmp key left)) (none_before (pair ∷ right) (e, h));
       put = λ value.
           let below : pairs_below cmp key (left ++ pair ∷ right) ≡ pairs_below cmp key left =
           filter-append (λ other. is_gt (cmp key other.0)) left (pair ∷ right) ∙ ap (λ l. pairs_below cmp key left ++ l) (none_below (pair ∷ right) (e, h)) ∙ append-nil _ in
@@ -157,6 +173,7 @@ module _ {K V : Type 0} (cmp : K → K → Ordering) (key : K) where
     -- where the key is greater than the pair's and than all before
     pub record AtGreater : Type 0 where
       pub at : pair_at cmp key (left ++ pair ∷ right) ≡ pair_at cmp key right
+      pub before : pair_before cmp key (left ++ pair ∷ right) ≡ option_or (pair_before cmp key right) (Some pair)
       pub after : pair_after cmp key (left ++ pair ∷ right) ≡ pair_after cmp key right
       pub put : (value : V) → pairs_with cmp key value (left ++ pair ∷ right) ≡ left ++ pair ∷ pairs_with cmp key value right
       pub gone : pairs_without cmp key (left ++ pair ∷ right) ≡ left ++ pair ∷ pairs_without cmp key right
@@ -164,6 +181,12 @@ module _ {K V : Type 0} (cmp : K → K → Ordering) (key : K) where
     pub at_greater : IsAbove cmp key left → cmp key pair.0 ≡ Greater → AtGreater
     at_greater g e = record {
       at = find-append (λ other. is_eq (cmp key other.0)) left (pair ∷ right) ∙ rw (none_at_above left g) (ap (λ b. cond b (Some pair) (pair_at cmp key right)) (ap is_eq e));
+      before =
+          ap (find (λ other. is_gt (cmp key other.0))) (reverse-append left (pair ∷ right)) ∙ find-append (λ other. is_gt (cmp key other.0)) (reverse (pair ∷ right)) (reverse left)
+          ∙ ap (λ o. option_or o (pair_before cmp key left))
+          (ap (find (λ other. is_gt (cmp key other.0))) (reverse-append (pair ∷ []) right) ∙ find-append (λ other. is_gt (cmp key other.0)) (reverse right) (pair ∷ [])
+          ∙ ap (λ b. option_or (pair_before cmp key right) (cond b (Some pair) None)) (ap is_gt e))
+          ∙ or_some (pair_before cmp key right) (pair_before cmp key left) pair;
       after = find-append (λ other. is_lt (cmp key other.0)) left (pair ∷ right) ∙ rw (none_after left g) (ap (λ b. cond b (Some pair) (pair_after cmp key right)) (ap is_lt e));
       put = λ value.
           let below : pairs_below cmp key (left ++ pair ∷ right) ≡ left ++ pair ∷ pairs_below cmp key right =

@@ -1,6 +1,6 @@
 -- A map as the list of its pairs in the order of their keys, and what is asked of it and made of it (own). cmp is the
 -- order of the keys.
-use Rattle.std.specs.Prelude.{◌≡◌, ℕ, ◌*◌, ◌^◌, ◌<◌, ◌≤◌, List, [], ◌∷◌, ◌++◌, Option, None, Some}
+use Rattle.std.specs.Prelude.{◌≡◌, ℕ, ◌*◌, ◌^◌, ◌<◌, ◌≤◌, List, [], ◌∷◌, ◌++◌, reverse, Option, None, Some}
 use Rattle.std.specs.Option.{option_map}
 use Rattle.std.specs.List.{filter, find, AllByRecursion}
 use Rattle.std.specs.declared.cmp.Ordering.{Ordering}
@@ -36,6 +36,10 @@ module _ {K V : Type 0} (cmp : K → K → Ordering) where
   -- the value of a key (own)
   abbrev pub value_at : K → List (K × V) → Option V
   value_at key pairs = option_map (λ pair. pair.1) (pair_at key pairs)
+
+  -- the pair of the greatest key that is less (own)
+  abbrev pub pair_before : K → List (K × V) → Option (K × V)
+  pair_before key pairs = find (λ pair. is_gt (cmp key pair.0)) (reverse pairs)
 
   -- the pair of the least key that is greater (own)
   abbrev pub pair_after : K → List (K × V) → Option (K × V)
