@@ -10,7 +10,8 @@ use Rattle.dns_name.specs.Labels.{labels_in, IsWhole, IsFirstLabel}
 use Rattle.dns_name.specs.Name.{IsLabel, IsName, asterisk, fold_name, is_same, is_under, wire_of}
 use Rattle.dns_name.specs.Order.{is_same_Decides}
 use Rattle.dns_name.specs.Stored.{stored_octet, stored_label, stored_of, name_stored, IsStored}
-use Rattle.dns_name.proofs.LabelLemmas.{IsLabel_each, wire_of-labels_in}
+use Rattle.dns_name.proofs.LabelLemmas.{AreOctets-fold, AreOctets-name, IsLabel_each, labels_in-wire_of, wire_of-labels_in}
+use Rattle.dns_name.proofs.LawLemmas.{fold-IsName}
 use Rattle.dns_name.proofs.SameLemmas.{ends_step, is_under_level}
 use Rattle.dns_name.proofs.StoredLemmas.{either_way, front_from_under, name_back, same_at, stored_of-cons, IsStored-of}
 
@@ -127,3 +128,22 @@ level_at r own others name other e f under test =
     let octets : own ≡ others = no_rest own others front.0 (e ∙ front.1 ∙ ap (λ (os : List ℕ). os ++ front.0) (sym f)) (level_true (length own) (length others) (sym test ∙ t)) in
     sym (same_at own others name other e f) ∙ (bytes_eq-Decides own others).1 octets)
     (λ t. test ∙ true_level (length own) (length others) (ap length (e ∙ same_stored name other t ∙ sym f)))
+
+-- octets that stand for a name, of the octets in which it is written
+pub record IsSoughtOf (octets wire : List ℕ) : Type 0 where
+  pub stored : IsStored octets
+  pub named : name_stored octets ≡ fold_name (labels_in wire)
+
+pub sought_of : (octets wire : List ℕ) → IsWhole wire → IsName (labels_in wire) → All (λ octet. octet < 256) wire → octets ≡ stored_of (labels_in wire) → IsSoughtOf octets wire
+sought_of octets wire whole lawful each is =
+    let bytes = AreOctets-name (labels_in wire) (subst (All (λ octet. octet < 256)) (sym (wire_of-labels_in wire whole)) each) in
+    let named = ap name_stored is ∙ name_back (labels_in wire) in
+    let folded = (fold-IsName (labels_in wire) lawful).0 in
+    record {
+      stored = subst IsStored (sym is) (IsStored-of (labels_in wire) folded (AreOctets-fold (labels_in wire) bytes));
+      named = named;
+    }
+
+-- the labels of a name's octets are the name
+pub wire_named : (octets : List ℕ) (name : List (List ℕ)) → octets ≡ wire_of name → IsName name → labels_in octets ≡ name
+wire_named octets name e lawful = ap labels_in e ∙ labels_in-wire_of name lawful.labels

@@ -4,7 +4,7 @@ ghost use Rattle.std.specs.Char.{to_ascii_lowercase};
 ghost use Rattle.std.specs.List.{flat_map};
 ghost use Rattle.std.specs.Option.{option_copied};
 ghost use Rattle.dns_name.specs.Labels.{labels_in, IsWhole};
-ghost use Rattle.dns_name.specs.Name.{wire_of, fold_name, is_one_under, is_same, is_under, canonical_cmp, parent_of, self_and_ancestors, asterisk};
+ghost use Rattle.dns_name.specs.Name.{IsName, wire_of, fold_name, is_one_under, is_same, is_under, canonical_cmp, parent_of, self_and_ancestors, asterisk};
 ghost use Rattle.dns_name.specs.Sought.{IsCommonWith};
 ghost use Rattle.dns_name.specs.Stored.{stored_label, stored_of, name_stored, IsStored};
 
@@ -137,7 +137,15 @@ impl<'r> Sought<'r> {
     pub fn new(name: &Name, room: &'r mut SoughtRoom) -> Sought<'r>
         ensures { result ≡ fold_name name.now }
     {
-        let octets = name.wire();
+        Sought::of_wire(name.wire(), room)
+    }
+
+    /// The name in lower case that is written in full in these octets, which is put in the room in place of what is there (RFC 1035, 3.1).
+    pub fn of_wire(octets: &[u8], room: &'r mut SoughtRoom) -> Sought<'r>
+        requires whole { IsWhole octets.now }
+        requires lawful { IsName (labels_in octets.now) }
+        ensures { result ≡ fold_name (labels_in octets.now) }
+    {
         room.clear();
         put_all_folded(room, octets);
         Sought {
@@ -152,7 +160,23 @@ impl<'r> Sought<'r> {
         requires under { is_under name.now apex.now ≡ true }
         ensures { result ≡ fold_name name.now }
     {
-        let (octets, base) = (name.wire(), apex.wire());
+        Sought::below_of_wire(top, apex, name.wire(), room)
+    }
+
+    /// The same of a name that is written in full in these octets (RFC 1035, 3.1).
+    pub fn below_of_wire(
+        top: &Sought<'_>,
+        apex: &Name,
+        octets: &[u8],
+        room: &'r mut SoughtRoom,
+    ) -> Sought<'r>
+        requires top { top.now ≡ fold_name apex.now }
+        requires whole { IsWhole octets.now }
+        requires lawful { IsName (labels_in octets.now) }
+        requires under { is_under (labels_in octets.now) apex.now ≡ true }
+        ensures { result ≡ fold_name (labels_in octets.now) }
+    {
+        let base = apex.wire();
         put_octets(room, top.octets());
         put_below(room, octets, base);
         Sought {

@@ -1,4 +1,4 @@
-use Rattle.std.proofs.Common.{◌≡◌, ◌∙◌, sym, ap, ℕ, length, max, unwrap_or, [], ◌||◌, arith}
+use Rattle.std.proofs.Common.{◌∙◌, sym, ap, unwrap_or, [], ◌||◌, arith}
 use Rattle.std.specs.List.{find}
 use Rattle.std.specs.Option.{option_copied}
 use Rattle.dns_name.specs.Name.{is_one_under, self_and_ancestors}
