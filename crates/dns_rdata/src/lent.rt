@@ -1,11 +1,12 @@
 //! Names lent from where they stand.
-ghost use Rattle.std.specs.Prelude.{◌≡◌, [], IfSome, unwrap_or};
+ghost use Rattle.std.specs.Prelude.{true, ◌≡◌, ◌==◌, if◌then◌else◌, [], None, IfSome, unwrap_or};
 ghost use Rattle.dns_name.specs.Labels.{IsWire};
+ghost use Rattle.dns_name.specs.Name.{fold_name, is_under};
 ghost use Rattle.dns_rdata.specs.Data.{target_of};
 ghost use Rattle.dns_rdata.specs.Numbers.{type_CNAME};
 
 use crate::data::RData;
-use dns_name::{Name, StoredName};
+use dns_name::{Name, Sought, SoughtRoom, StoredName};
 use std::marker::Model;
 
 /// The octets of the root (RFC 1035, 3.1).
@@ -91,6 +92,38 @@ impl<'a> LentName<'a> {
         }
     }
 
+    /// The name in lower case as it is sought, put in the room in place of what is there.
+    pub fn sought<'r>(&self, room: &'r mut SoughtRoom) -> Sought<'r>
+        ensures { result ≡ fold_name self.now }
+    {
+        match &self.source {
+            Source::Root => Sought::of_wire(ROOT, room),
+            Source::Name(name) => Sought::new(name, room),
+            Source::Stored(name) => Sought::new(&name.to_name(), room),
+            Source::Target(rdata) => Sought::of_wire(octets_of(rdata), room),
+        }
+    }
+
+    /// The same, where it is under an apex that is sought in that form and spelt here: only the labels in front of the apex are put behind
+    /// its octets.
+    pub fn sought_below<'r>(
+        &self,
+        top: &Sought<'_>,
+        apex: &Name,
+        room: &'r mut SoughtRoom,
+    ) -> Sought<'r>
+        requires top { top.now ≡ fold_name apex.now }
+        requires under { is_under self.now apex.now ≡ true }
+        ensures { result ≡ fold_name self.now }
+    {
+        match &self.source {
+            Source::Root => Sought::of_wire(ROOT, room),
+            Source::Name(name) => Sought::below(top, apex, name, room),
+            Source::Stored(name) => Sought::below(top, apex, &name.to_name(), room),
+            Source::Target(rdata) => Sought::below_of_wire(top, apex, octets_of(rdata), room),
+        }
+    }
+
     /// The name itself. It takes no memory.
     pub fn to_name(&self) -> Name
         ensures { result ≡ self.now }
@@ -102,4 +135,11 @@ impl<'a> LentName<'a> {
             Source::Target(rdata) => rdata.target().unwrap_or(Name::root()),
         }
     }
+}
+
+/// The octets of the name that an alias stands for; those of the root of data of another type (RFC 1035, 3.3.1).
+fn octets_of(rdata: &RData) -> &[u8]
+    ensures { IsWire result.now (unwrap_or (if rdata.now.rtype == type_CNAME then target_of rdata.now.octets else None) []) }
+{
+    rdata.target_octets().unwrap_or(ROOT)
 }

@@ -92,12 +92,14 @@ fn has_numbers(soa: &RData) -> Option<bool> {
     let numbers = soa.soa()?;
     let times = (numbers.refresh, numbers.retry, numbers.expire);
     let ends = numbers.serial == Serial(20) && numbers.minimum == Ttl(60);
-    Some(ends && times == (7200, 600, 3_600_000) && soa.target().is_none())
+    let no_target = soa.target().is_none() && soa.target_octets().is_none();
+    Some(ends && times == (7200, 600, 3_600_000) && no_target)
 }
 
 /// Whether an alias has this target, and no numbers.
 fn has_target(alias: &RData, want: &[u8]) -> Option<bool> {
-    Some(alias.target()?.wire() == want && alias.soa().is_none())
+    let spelt = alias.target()?.wire() == want && alias.target_octets()? == want;
+    Some(spelt && alias.soa().is_none())
 }
 
 /// Whether the SOA of RFC 1035, 5.3, has its numbers.

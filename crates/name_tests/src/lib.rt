@@ -14,4 +14,6 @@ mod reading;
 #[cfg(test)]
 mod sets;
 #[cfg(test)]
+mod sought;
+#[cfg(test)]
 mod writing;
