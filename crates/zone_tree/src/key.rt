@@ -5,7 +5,7 @@ ghost use Rattle.std.specs.Prelude.{◌≡◌, IfOk, refl};
 ghost use Rattle.dns_name.specs.Name.{canonical_cmp, fold_name, is_same, is_under};
 ghost use Rattle.dns_name.specs.Order.{canonical_total, is_same_equiv, is_same_tied};
 
-use dns_name::{Name, SoughtName, StoredName};
+use dns_name::{Name, Sought, SoughtName, StoredName};
 use shared_tree::Seek;
 use std::alloc::{AllocError, Global};
 use std::cmp::Ordering;
@@ -50,6 +50,13 @@ impl OwnerKey {
         self.name.to_name()
     }
 
+    /// The owner as it is kept.
+    pub(crate) fn stored(&self) -> &StoredName
+        ensures { result.now ≡ self.now }
+    {
+        &self.name
+    }
+
     /// Whether it is the key of an owner (RFC 4343, 3).
     pub(crate) fn is_of(&self, owner: &StoredName) -> bool
         ensures { result ≡ is_same self.now owner.now }
@@ -70,6 +77,14 @@ impl Seek<OwnerKey> for SoughtName {
 
     fn cmp_key(&self, other: &OwnerKey) -> Ordering {
         self.order(&other.name)
+    }
+}
+
+impl<'r> Seek<OwnerKey> for Sought<'r> {
+    ghost key = { λ name. name };
+
+    fn cmp_key(&self, other: &OwnerKey) -> Ordering {
+        Sought::order(self, &other.name)
     }
 }
 
