@@ -1,7 +1,9 @@
--- How low a link is that is formed.
-use Rattle.std.proofs.Common.{inl, inr, ◌≡◌, ℕ, zero, suc, ◌+◌, ◌*◌, ◌^◌, ◌<◌, ◌≤◌, max, List, [], ◌∷◌, ◌++◌, length, length-append, arith, ap}
+-- How low a link is that is formed, and what an equal entry or node says of numbers.
+use Rattle.std.proofs.Common.{inl, inr, ◌≡◌, ◌∙◌, sym, subst, ℕ, zero, suc, ◌+◌, ◌*◌, ◌^◌, ◌<◌, ◌≤◌, max, List, [], ◌∷◌, ◌++◌, length, length-append, arith, ap}
+use Rattle.shared_tree.specs.declared.node.Entry.{Entry}
 use Rattle.shared_tree.specs.declared.node.Link.{Link, Leaf, Fork'}
-use Rattle.shared_tree.specs.Links.{link_pairs, link_height, IsFormed, IsHalved}
+use Rattle.shared_tree.specs.declared.node.Node.{Node}
+use Rattle.shared_tree.specs.Links.{link_pairs, link_height, IsFormed, IsHalved, IsFronted, AreFronted, AreFrontedAt}
 use Rattle.std.proofs.lemmas.Bool.{cases_lt}
 use Rattle.std.proofs.Math.Pow.{pow_mono}
 use Rattle.std.proofs.Math.Nat.{pow-succ'}
@@ -23,9 +25,9 @@ doubled d l r size_l size_r hl hr h left right =
 -- a link higher than 2 d has at least 2^d pairs
 pub size_of : {K V : Type 0} (link : Link K V) → IsFormed link → (d : ℕ) → 2 * d < link_height link → 2 ^ d ≤ length (link_pairs link)
 size_of Leaf f d h = absurd (omega arith)
-size_of (Fork' p left pair right s) f zero h = omega (arith, length-append (link_pairs left) (pair.value ∷ link_pairs right))
-size_of (Fork' p left pair right s) f (suc d) h =
-    rw (length-append (link_pairs left) (pair.value ∷ link_pairs right))
+size_of (Fork' p entry left right s) f zero h = omega (arith, length-append (link_pairs left) (entry.pair.value ∷ link_pairs right))
+size_of (Fork' p entry left right s) f (suc d) h =
+    rw (length-append (link_pairs left) (entry.pair.value ∷ link_pairs right))
     (doubled d (link_height left) (link_height right) _ _ f.1.0 f.1.1 h (size_of left f.2 d) (size_of right f.3 d))
 
 pub is_low : {K V : Type 0} (link : Link K V) → IsFormed link → IsLow (link_height link) (length (link_pairs link))
@@ -61,3 +63,17 @@ module _ (a b l r : ℕ) (left : IsHalved l a) (right : IsHalved r b) (le : b �
         level_right = omega (arith, right_no_higher);
         whole = rw (same, f) (omega (arith, left.0), omega (arith, left.1));
       }
+
+-- an entry, or a node, that is equal to another has its key's number, or its keys' numbers, where that one has
+module _ {K V : Type 0} (front : K → ℕ) where
+  pub entry_fronted : (new old : Entry K V) → new.front ≡ old.front → new.pair.value ≡ old.pair.value → IsFronted front old → IsFronted front new
+  entry_fronted new old number pair h = number ∙ h ∙ ap (λ p. front p.0) (sym pair)
+
+  pub node_fronted : {new old : Node K V} → new ≡ old → AreFrontedAt front old → AreFrontedAt front new
+  node_fronted e h = subst (AreFrontedAt front) (sym e) h
+
+  pub left_fronted : {new old : Node K V} → new ≡ old → AreFrontedAt front old → AreFronted front new.left
+  left_fronted e h = (node_fronted e h).1
+
+  pub right_fronted : {new old : Node K V} → new ≡ old → AreFrontedAt front old → AreFronted front new.right
+  right_fronted e h = (node_fronted e h).2

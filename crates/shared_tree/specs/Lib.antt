@@ -1,2 +1,3 @@
+pub mod Fronts
 pub mod Links
 pub mod Pairs

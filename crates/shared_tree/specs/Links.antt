@@ -3,18 +3,19 @@ use Rattle.std.specs.Prelude.{◌≡◌, ℕ, suc, ◌+◌, ◌*◌, ◌^◌, �
 use Rattle.std.specs.Borrow.{Bor}
 use Rattle.std.specs.declared.cmp.Ordering.{Ordering}
 use Rattle.shared_tree.specs.Pairs.{TreeView, IsAscending}
+use Rattle.shared_tree.specs.declared.node.Entry.{Entry}
 use Rattle.shared_tree.specs.declared.node.Link.{Link, Leaf, Fork'}
 use Rattle.shared_tree.specs.declared.node.Node.{Node}
 
 -- the pairs below a link, from the left to the right (own)
 abbrev pub link_pairs : {K V : Type 0} → Link K V → List (K × V)
 link_pairs Leaf = []
-link_pairs (Fork' p left pair right h) = link_pairs left ++ pair.value ∷ link_pairs right
+link_pairs (Fork' p entry left right h) = link_pairs left ++ entry.pair.value ∷ link_pairs right
 
 -- how many nodes stand on the longest way down (own)
 abbrev pub link_height : {K V : Type 0} → Link K V → ℕ
 link_height Leaf = 0
-link_height (Fork' p left pair right h) = max (link_height left) (link_height right) + 1
+link_height (Fork' p entry left right h) = max (link_height left) (link_height right) + 1
 
 -- neither of two sides is higher than the other by more than one (own)
 abbrev pub IsLevel : {K V : Type 0} → Link K V → Link K V → Type 0
@@ -23,8 +24,17 @@ IsLevel left right = (link_height left ≤ link_height right + 1) × (link_heigh
 -- at each node the two sides are level, and the height that it says is its own and at most 64 (own)
 abbrev pub IsFormed : {K V : Type 0} → Link K V → Type 0
 IsFormed Leaf = Unit {0}
-IsFormed (Fork' p left pair right h) =
+IsFormed (Fork' p entry left right h) =
     (h ≡ max (link_height left) (link_height right) + 1) × IsLevel left right × IsFormed left × IsFormed right × (h ≤ 64)
+
+-- the number that an entry has is its key's (own)
+abbrev pub IsFronted : {K V : Type 0} → (K → ℕ) → Entry K V → Type 0
+IsFronted front entry = entry.front ≡ front entry.pair.value.0
+
+-- so it is at each node (own)
+abbrev pub AreFronted : {K V : Type 0} → (K → ℕ) → Link K V → Type 0
+AreFronted front Leaf = Unit {0}
+AreFronted front (Fork' p entry left right h) = IsFronted front entry × AreFronted front left × AreFronted front right
 
 -- two formed sides, neither higher than the other by more than two: they can be joined, and are level then (own)
 abbrev pub AreJoinable : {K V : Type 0} → Link K V → Link K V → Type 0
@@ -39,13 +49,16 @@ IsJoined left right link =
 
 -- of a node what these words say of its link (own)
 abbrev pub node_pairs : {K V : Type 0} → Node K V → List (K × V)
-node_pairs node = link_pairs node.left ++ node.pair.value ∷ link_pairs node.right
+node_pairs node = link_pairs node.left ++ node.entry.pair.value ∷ link_pairs node.right
 
 abbrev pub node_height : {K V : Type 0} → Node K V → ℕ
 node_height node = max (link_height node.left) (link_height node.right) + 1
 
 abbrev pub IsFormedNode : {K V : Type 0} → Node K V → Type 0
 IsFormedNode node = IsLevel node.left node.right × IsFormed node.left × IsFormed node.right
+
+abbrev pub AreFrontedAt : {K V : Type 0} → (K → ℕ) → Node K V → Type 0
+AreFrontedAt front node = IsFronted front node.entry × AreFronted front node.left × AreFronted front node.right
 
 -- a formed node on the left, or on the right, and a formed side that is lower by two (own)
 abbrev pub IsHighLeft : {K V : Type 0} → Node K V → Link K V → Type 0
@@ -71,10 +84,11 @@ IsGrown old new = (link_height old ≤ link_height new) × (link_height new ≤ 
 abbrev pub IsShrunk : {K V : Type 0} → Link K V → Link K V → Type 0
 IsShrunk old new = (link_height old ≤ link_height new + 1) × (link_height new ≤ link_height old)
 
--- what keeps a tree: its keys ascend, and it is formed (own)
-pub record IsTree {K V : Type 0} (cmp : K → K → Ordering) (root : Link K V) : Type 0 where
+-- what keeps a tree: its keys ascend, it is formed, and each number is its key's (own)
+pub record IsTree {K V : Type 0} (cmp : K → K → Ordering) (front : K → ℕ) (root : Link K V) : Type 0 where
   pub ascends : IsAscending cmp (link_pairs root)
   pub formed : IsFormed root
+  pub fronted : AreFronted front root
 
 -- how a tree is seen (own)
 abbrev pub view_of : {K V : Type 0} → Link K V → TreeView K V
@@ -89,7 +103,7 @@ IsHalved height count = (count < 2 ^ height) × (2 ^ height ≤ max 1 (2 * count
 abbrev pub pairs_on_way : {K V : Type 0} → List (Option (Bor (Node K V))) → List (K × V)
 pairs_on_way [] = []
 pairs_on_way (None ∷ way) = pairs_on_way way
-pairs_on_way (Some node ∷ way) = pairs_on_way way ++ node.now.pair.value ∷ link_pairs node.now.right
+pairs_on_way (Some node ∷ way) = pairs_on_way way ++ node.now.entry.pair.value ∷ link_pairs node.now.right
 
 -- nodes on a way, of which so many stand above: what stands on the right of each is formed, and no way down from there has
 -- more than 64 nodes (own)

@@ -1,10 +1,9 @@
 //! Two sides and a pair between them, brought level by turning the higher side.
-ghost use Rattle.std.specs.Prelude.{◌≡◌, ◌+◌, ◌<◌, ◌≤◌, ◌++◌, ◌∷◌, IfOk, max};
-ghost use Rattle.shared_tree.specs.Links.{link_pairs, link_height, IsFormed, IsLevel, AreJoinable, IsJoined, IsHighLeft, IsHighRight, IsBentLeft, IsBentRight, node_pairs};
+ghost use Rattle.std.specs.Prelude.{◌≡◌, ℕ, ◌+◌, ◌<◌, ◌≤◌, ◌++◌, ◌∷◌, IfOk, max};
+ghost use Rattle.shared_tree.specs.Links.{link_pairs, link_height, IsFormed, IsLevel, AreJoinable, IsJoined, IsHighLeft, IsHighRight, IsBentLeft, IsBentRight, node_pairs, IsFronted, AreFronted, AreFrontedAt};
 
 use crate::fault::NoMemory;
-use crate::node::{Link, Maker, Node, share_pair};
-use std::sync::Arc;
+use crate::node::{Entry, Link, Maker, Node, share_entry};
 
 impl Maker {
     /// The pairs of two sides with a pair between them, level where neither side is higher by more than two. It makes at
@@ -12,26 +11,27 @@ impl Maker {
     pub(crate) fn join<K: Drop, V: Drop>(
         &mut self,
         left: Link<K, V>,
-        pair: Arc<(K, V)>,
+        entry: Entry<K, V>,
         right: Link<K, V>,
     ) -> Result<Link<K, V>, NoMemory>
-        ensures pairs { IfOk result (λ link. link_pairs link ≡ link_pairs left ++ pair.value ∷ link_pairs right) }
+        ensures pairs { IfOk result (λ link. link_pairs link ≡ link_pairs left ++ entry.pair.value ∷ link_pairs right) }
         ensures formed { AreJoinable left right → IfOk result (λ link. IsFormed link) }
         ensures height { AreJoinable left right → IfOk result (λ link. IsJoined left right link) }
+        ensures fronted { (front : K → ℕ) → IsFronted front entry → AreFronted front left → AreFronted front right → IfOk result (λ link. AreFronted front link) }
         ensures counted { IfOk result (λ _. self.old.made < self.new.made) }
         ensures at_most_three { self.new.made ≤ self.old.made + 3 }
     {
         if let Link::Fork(node) = &left {
             if left.height() > right.height().saturating_add(1) {
-                return self.turn_right(node, &pair, &right);
+                return self.turn_right(node, &entry, &right);
             }
         }
         if let Link::Fork(node) = &right {
             if right.height() > left.height().saturating_add(1) {
-                return self.turn_left(&left, &pair, node);
+                return self.turn_left(&left, &entry, node);
             }
         }
-        self.fork(left, pair, right)
+        self.fork(left, entry, right)
     }
 
     /// `join` of a left side with a node's pair and right side, which stay with the node, and get one owner more.
@@ -41,13 +41,14 @@ impl Maker {
         left: Link<K, V>,
         node: &Node<K, V>,
     ) -> Result<Link<K, V>, NoMemory>
-        ensures pairs { IfOk result (λ link. link_pairs link ≡ link_pairs left ++ node.now.pair.value ∷ link_pairs node.now.right) }
+        ensures pairs { IfOk result (λ link. link_pairs link ≡ link_pairs left ++ node.now.entry.pair.value ∷ link_pairs node.now.right) }
         ensures formed { AreJoinable left node.now.right → IfOk result (λ link. IsFormed link) }
         ensures height { AreJoinable left node.now.right → IfOk result (λ link. IsJoined left node.now.right link) }
+        ensures fronted { (front : K → ℕ) → AreFronted front left → AreFrontedAt front node.now → IfOk result (λ link. AreFronted front link) }
         ensures counted { IfOk result (λ _. self.old.made < self.new.made) }
         ensures at_most_three { self.new.made ≤ self.old.made + 3 }
     {
-        self.join(left, share_pair(&node.pair)?, node.right.share()?)
+        self.join(left, share_entry(&node.entry)?, node.right.share()?)
     }
 
     /// `join` of a node's left side and pair, which stay with the node, and get one owner more, with a right side.
@@ -57,13 +58,14 @@ impl Maker {
         node: &Node<K, V>,
         right: Link<K, V>,
     ) -> Result<Link<K, V>, NoMemory>
-        ensures pairs { IfOk result (λ link. link_pairs link ≡ link_pairs node.now.left ++ node.now.pair.value ∷ link_pairs right) }
+        ensures pairs { IfOk result (λ link. link_pairs link ≡ link_pairs node.now.left ++ node.now.entry.pair.value ∷ link_pairs right) }
         ensures formed { AreJoinable node.now.left right → IfOk result (λ link. IsFormed link) }
         ensures height { AreJoinable node.now.left right → IfOk result (λ link. IsJoined node.now.left right link) }
+        ensures fronted { (front : K → ℕ) → AreFrontedAt front node.now → AreFronted front right → IfOk result (λ link. AreFronted front link) }
         ensures counted { IfOk result (λ _. self.old.made < self.new.made) }
         ensures at_most_three { self.new.made ≤ self.old.made + 3 }
     {
-        self.join(node.left.share()?, share_pair(&node.pair)?, right)
+        self.join(node.left.share()?, share_entry(&node.entry)?, right)
     }
 
     /// `fork` where the pair and both sides stay with their owners, and get one more. `NoMemory` also where one of them can't be
@@ -71,39 +73,41 @@ impl Maker {
     fn fork_shared<K: Drop, V: Drop>(
         &mut self,
         left: &Link<K, V>,
-        pair: &Arc<(K, V)>,
+        entry: &Entry<K, V>,
         right: &Link<K, V>,
     ) -> Result<Link<K, V>, NoMemory>
-        ensures pairs { IfOk result (λ link. link_pairs link ≡ link_pairs left.now ++ pair.now.value ∷ link_pairs right.now) }
+        ensures pairs { IfOk result (λ link. link_pairs link ≡ link_pairs left.now ++ entry.now.pair.value ∷ link_pairs right.now) }
         ensures height { IfOk result (λ link. link_height link ≡ max (link_height left.now) (link_height right.now) + 1) }
         ensures formed { IsFormed left.now → IsFormed right.now → IsLevel left.now right.now → IfOk result (λ link. IsFormed link) }
+        ensures fronted { (front : K → ℕ) → IsFronted front entry.now → AreFronted front left.now → AreFronted front right.now → IfOk result (λ link. AreFronted front link) }
         ensures counted { IfOk result (λ _. self.new.made ≡ self.old.made + 1) }
         ensures at_most_one { self.new.made ≤ self.old.made + 1 }
     {
-        self.fork(left.share()?, share_pair(pair)?, right.share()?)
+        self.fork(left.share()?, share_entry(entry)?, right.share()?)
     }
 
     /// `join` where the left side, a node, is higher by two: it gives its right side to the pair.
     fn turn_right<K: Drop, V: Drop>(
         &mut self,
         node: &Node<K, V>,
-        pair: &Arc<(K, V)>,
+        entry: &Entry<K, V>,
         right: &Link<K, V>,
     ) -> Result<Link<K, V>, NoMemory>
-        ensures pairs { IfOk result (λ link. link_pairs link ≡ node_pairs node.now ++ pair.now.value ∷ link_pairs right.now) }
+        ensures pairs { IfOk result (λ link. link_pairs link ≡ node_pairs node.now ++ entry.now.pair.value ∷ link_pairs right.now) }
         ensures formed { IsHighLeft node.now right.now → IfOk result (λ link. IsFormed link) }
         ensures low { IsHighLeft node.now right.now → IfOk result (λ link. link_height right.now + 2 ≤ link_height link) }
         ensures high { IsHighLeft node.now right.now → IfOk result (λ link. link_height link ≤ link_height right.now + 3) }
+        ensures fronted { (front : K → ℕ) → AreFrontedAt front node.now → IsFronted front entry.now → AreFronted front right.now → IfOk result (λ link. AreFronted front link) }
         ensures counted { IfOk result (λ _. self.old.made < self.new.made) }
         ensures at_most_three { self.new.made ≤ self.old.made + 3 }
     {
         if let Link::Fork(inner) = &node.right {
             if node.right.height() > node.left.height() {
-                return self.turn_right_twice(node, inner, pair, right);
+                return self.turn_right_twice(node, inner, entry, right);
             }
         }
-        let lower = self.fork_shared(&node.right, pair, right)?;
-        self.fork(node.left.share()?, share_pair(&node.pair)?, lower)
+        let lower = self.fork_shared(&node.right, entry, right)?;
+        self.fork(node.left.share()?, share_entry(&node.entry)?, lower)
     }
 
     /// `turn_right` where the node's right side, `inner`, is its higher one: `inner` comes to the top.
@@ -111,59 +115,62 @@ impl Maker {
         &mut self,
         node: &Node<K, V>,
         inner: &Node<K, V>,
-        pair: &Arc<(K, V)>,
+        entry: &Entry<K, V>,
         right: &Link<K, V>,
     ) -> Result<Link<K, V>, NoMemory>
-        ensures pairs { IfOk result (λ link. link_pairs link ≡ link_pairs node.now.left ++ node.now.pair.value ∷ node_pairs inner.now ++ pair.now.value ∷ link_pairs right.now) }
+        ensures pairs { IfOk result (λ link. link_pairs link ≡ link_pairs node.now.left ++ node.now.entry.pair.value ∷ node_pairs inner.now ++ entry.now.pair.value ∷ link_pairs right.now) }
         ensures formed { IsBentLeft node.now inner.now right.now → IfOk result (λ link. IsFormed link) }
         ensures height { IsBentLeft node.now inner.now right.now → IfOk result (λ link. link_height link ≡ link_height right.now + 2) }
+        ensures fronted { (front : K → ℕ) → AreFrontedAt front node.now → AreFrontedAt front inner.now → IsFronted front entry.now → AreFronted front right.now → IfOk result (λ link. AreFronted front link) }
         ensures counted { IfOk result (λ _. self.old.made < self.new.made) }
         ensures at_most_three { self.new.made ≤ self.old.made + 3 }
     {
-        let upper_left = self.fork_shared(&node.left, &node.pair, &inner.left)?;
-        let upper_right = self.fork_shared(&inner.right, pair, right)?;
-        self.fork(upper_left, share_pair(&inner.pair)?, upper_right)
+        let upper_left = self.fork_shared(&node.left, &node.entry, &inner.left)?;
+        let upper_right = self.fork_shared(&inner.right, entry, right)?;
+        self.fork(upper_left, share_entry(&inner.entry)?, upper_right)
     }
 
     /// `join` where the right side, a node, is higher by two: it gives its left side to the pair.
     fn turn_left<K: Drop, V: Drop>(
         &mut self,
         left: &Link<K, V>,
-        pair: &Arc<(K, V)>,
+        entry: &Entry<K, V>,
         node: &Node<K, V>,
     ) -> Result<Link<K, V>, NoMemory>
-        ensures pairs { IfOk result (λ link. link_pairs link ≡ link_pairs left.now ++ pair.now.value ∷ node_pairs node.now) }
+        ensures pairs { IfOk result (λ link. link_pairs link ≡ link_pairs left.now ++ entry.now.pair.value ∷ node_pairs node.now) }
         ensures formed { IsHighRight left.now node.now → IfOk result (λ link. IsFormed link) }
         ensures low { IsHighRight left.now node.now → IfOk result (λ link. link_height left.now + 2 ≤ link_height link) }
         ensures high { IsHighRight left.now node.now → IfOk result (λ link. link_height link ≤ link_height left.now + 3) }
+        ensures fronted { (front : K → ℕ) → AreFronted front left.now → IsFronted front entry.now → AreFrontedAt front node.now → IfOk result (λ link. AreFronted front link) }
         ensures counted { IfOk result (λ _. self.old.made < self.new.made) }
         ensures at_most_three { self.new.made ≤ self.old.made + 3 }
     {
         if let Link::Fork(inner) = &node.left {
             if node.left.height() > node.right.height() {
-                return self.turn_left_twice(left, pair, inner, node);
+                return self.turn_left_twice(left, entry, inner, node);
             }
         }
-        let lower = self.fork_shared(left, pair, &node.left)?;
-        self.fork(lower, share_pair(&node.pair)?, node.right.share()?)
+        let lower = self.fork_shared(left, entry, &node.left)?;
+        self.fork(lower, share_entry(&node.entry)?, node.right.share()?)
     }
 
     /// `turn_left` where the node's left side, `inner`, is its higher one: `inner` comes to the top.
     fn turn_left_twice<K: Drop, V: Drop>(
         &mut self,
         left: &Link<K, V>,
-        pair: &Arc<(K, V)>,
+        entry: &Entry<K, V>,
         inner: &Node<K, V>,
         node: &Node<K, V>,
     ) -> Result<Link<K, V>, NoMemory>
-        ensures pairs { IfOk result (λ link. link_pairs link ≡ link_pairs left.now ++ pair.now.value ∷ (node_pairs inner.now ++ node.now.pair.value ∷ link_pairs node.now.right)) }
+        ensures pairs { IfOk result (λ link. link_pairs link ≡ link_pairs left.now ++ entry.now.pair.value ∷ (node_pairs inner.now ++ node.now.entry.pair.value ∷ link_pairs node.now.right)) }
         ensures formed { IsBentRight left.now inner.now node.now → IfOk result (λ link. IsFormed link) }
         ensures height { IsBentRight left.now inner.now node.now → IfOk result (λ link. link_height link ≡ link_height left.now + 2) }
+        ensures fronted { (front : K → ℕ) → AreFronted front left.now → IsFronted front entry.now → AreFrontedAt front inner.now → AreFrontedAt front node.now → IfOk result (λ link. AreFronted front link) }
         ensures counted { IfOk result (λ _. self.old.made < self.new.made) }
         ensures at_most_three { self.new.made ≤ self.old.made + 3 }
     {
-        let upper_left = self.fork_shared(left, pair, &inner.left)?;
-        let upper_right = self.fork_shared(&inner.right, &node.pair, &node.right)?;
-        self.fork(upper_left, share_pair(&inner.pair)?, upper_right)
+        let upper_left = self.fork_shared(left, entry, &inner.left)?;
+        let upper_right = self.fork_shared(&inner.right, &node.entry, &node.right)?;
+        self.fork(upper_left, share_entry(&inner.entry)?, upper_right)
     }
 }

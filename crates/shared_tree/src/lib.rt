@@ -9,6 +9,7 @@
 
 mod build;
 mod fault;
+mod front;
 mod join;
 mod laws;
 mod look;
@@ -19,6 +20,7 @@ mod tree;
 mod walk;
 
 pub use fault::NoMemory;
+pub use front::Front;
 pub use laws::{examples, one_key_changes};
 pub use look::Around;
 pub use seek::Seek;

@@ -1,6 +1,7 @@
 //! One node: a pair between what stands on its left and what stands on its right, and the one call that makes a node.
 ghost use Rattle.std.specs.Prelude.{◌≡◌, ◌+◌, ◌-◌, ◌<◌, ◌≤◌, ◌^◌, ◌++◌, ◌∷◌, IfOk, max};
-ghost use Rattle.shared_tree.specs.Links.{link_pairs, link_height, IsFormed, IsLevel};
+ghost use Rattle.std.specs.Prelude.{ℕ};
+ghost use Rattle.shared_tree.specs.Links.{link_pairs, link_height, IsFormed, IsLevel, IsFronted, AreFronted};
 
 use crate::fault::NoMemory;
 use std::alloc::{AllocError, Global};
@@ -19,12 +20,20 @@ pub(crate) enum Link<K, V> {
     Fork(Arc<Node<K, V>>),
 }
 
-/// A pair, with those of lesser keys on its left and those of greater keys on its right.
+/// A pair, and the number that stands in front of its key, which most often tells how a sought key stands to it.
+#[derive(Drop)]
+pub(crate) struct Entry<K, V> {
+    pub(crate) front: u64,
+    pub(crate) pair: Arc<(K, V)>,
+}
+
+/// A pair, with those of lesser keys on its left and those of greater keys on its right. What a way down reads of each node
+/// stands first.
 #[cycle(tree)]
 #[derive(Drop)]
 pub(crate) struct Node<K, V> {
+    pub(crate) entry: Entry<K, V>,
     pub(crate) left: Link<K, V>,
-    pub(crate) pair: Arc<(K, V)>,
     pub(crate) right: Link<K, V>,
     /// How many nodes stand on the longest way down, this one counted. Private, so that no other module makes a node.
     height: u8,
@@ -46,6 +55,7 @@ impl<K, V> Link<K, V> {
         ensures pairs { IfOk result (λ link. link_pairs link ≡ link_pairs self.now) }
         ensures height { IfOk result (λ link. link_height link ≡ link_height self.now) }
         ensures formed { IsFormed self.now → IfOk result (λ link. IsFormed link) }
+        ensures fronted { (front : K → ℕ) → AreFronted front self.now → IfOk result (λ link. AreFronted front link) }
     {
         match self {
             Link::Leaf => Ok(Link::Leaf),
@@ -54,11 +64,16 @@ impl<K, V> Link<K, V> {
     }
 }
 
-/// One more owner of the same pair. `NoMemory` where the count of its owners is full.
-pub(crate) fn share_pair<K, V>(pair: &Arc<(K, V)>) -> Result<Arc<(K, V)>, NoMemory>
-    ensures { IfOk result (λ shared. shared.value ≡ pair.now.value) }
+/// The same number, and one more owner of the same pair. `NoMemory` where the count of its owners is full.
+pub(crate) fn share_entry<K, V>(entry: &Entry<K, V>) -> Result<Entry<K, V>, NoMemory>
+    ensures front { IfOk result (λ shared. shared.front ≡ entry.now.front) }
+    ensures pair { IfOk result (λ shared. shared.pair.value ≡ entry.now.pair.value) }
 {
-    Ok(Arc::try_clone(pair)?)
+    let pair = Arc::try_clone(&entry.pair)?;
+    Ok(Entry {
+        front: entry.front,
+        pair,
+    })
 }
 
 /// Makes the nodes of one call, and counts them.
@@ -93,12 +108,13 @@ impl Maker {
     pub(crate) fn fork<K: Drop, V: Drop>(
         &mut self,
         left: Link<K, V>,
-        pair: Arc<(K, V)>,
+        entry: Entry<K, V>,
         right: Link<K, V>,
     ) -> Result<Link<K, V>, NoMemory>
-        ensures pairs { IfOk result (λ link. link_pairs link ≡ link_pairs left ++ pair.value ∷ link_pairs right) }
+        ensures pairs { IfOk result (λ link. link_pairs link ≡ link_pairs left ++ entry.pair.value ∷ link_pairs right) }
         ensures height { IfOk result (λ link. link_height link ≡ max (link_height left) (link_height right) + 1) }
         ensures formed { IsFormed left → IsFormed right → IsLevel left right → IfOk result (λ link. IsFormed link) }
+        ensures fronted { (front : K → ℕ) → IsFronted front entry → AreFronted front left → AreFronted front right → IfOk result (λ link. AreFronted front link) }
         ensures counted { IfOk result (λ _. self.new.made ≡ self.old.made + 1) }
         ensures at_most_one { self.new.made ≤ self.old.made + 1 }
     {
@@ -111,8 +127,8 @@ impl Maker {
         let node = Arc::new(
             self.alloc,
             Node {
+                entry,
                 left,
-                pair,
                 right,
                 height,
             },

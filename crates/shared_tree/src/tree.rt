@@ -1,43 +1,48 @@
 //! A tree, and what it is asked and made into.
-ghost use Rattle.std.specs.Prelude.{◌≡◌, ◌+◌, ◌*◌, ◌<◌, ◌≤◌, [], IfOk, IsNone, length, None, IsTrue, ◌↔◌};
+ghost use Rattle.std.specs.Prelude.{◌≡◌, ◌+◌, ◌*◌, ◌<◌, ◌≤◌, [], IfOk, length, None, IsNone, IsTrue, ◌↔◌};
 ghost use Rattle.std.specs.Option.{option_copied};
 ghost use Rattle.shared_tree.specs.Pairs.{IsAscending, pair_at, value_at, pair_before, pair_after, pairs_above, pairs_with, pairs_without, first_pair, IsLow};
 
 use crate::fault::NoMemory;
+use crate::front::{Base, Front};
 use crate::look::{Around, after_in, around_in, find_in, first_in};
 use crate::node::{Link, Maker};
 use crate::seek::Seek;
 use crate::walk::Walk;
-use std::alloc::{AllocError, Global};
+use std::alloc::Global;
 use std::marker::Model;
-use std::sync::Arc;
 
 /// A sorted map. A tree is never changed: a change makes another tree, which shares with this one all that is the same,
 /// and each owner of either may drop it when it likes. Contracts see its pairs, whose keys ascend by `K`'s order, and
 /// its height.
 #[derive(Drop)]
-pub struct Tree<K: Ord, V> {
+pub struct Tree<K: Front, V> {
     root: Link<K, V>,
+    base: Base<K>,
 }
 
-impl<K: Ord, V> Model for Tree<K, V> {
+impl<K: Front, V> Model for Tree<K, V> {
     ghost use Rattle.shared_tree.specs.Pairs.{TreeView};
+    ghost use Rattle.shared_tree.specs.Fronts.{front_at};
     ghost use Rattle.shared_tree.specs.Links.{view_of, IsTree};
 
     ghost Value = { TreeView K V };
 
     ghost view = { λ tree. view_of tree.root };
 
-    ghost invariant = { λ tree. IsTree K.cmp tree.root };
+    ghost invariant = { λ tree. IsTree K.cmp (front_at K.front tree.base) tree.root };
 }
 
-impl<K: Ord, V> Tree<K, V> {
+impl<K: Front, V> Tree<K, V> {
     /// The tree of no pair. It takes no memory.
     pub fn new() -> Tree<K, V>
         ensures pairs { result.pairs ≡ [] }
         ensures height { result.height ≡ 0 }
     {
-        Tree { root: Link::Leaf }
+        Tree {
+            root: Link::Leaf,
+            base: Base::unsaid(),
+        }
     }
 
     /// Whether it has no pair.
@@ -60,7 +65,7 @@ impl<K: Ord, V> Tree<K, V> {
     pub fn pair<Q: Seek<K>>(&self, sought: &Q) -> Option<&(K, V)>
         ensures { option_copied result ≡ pair_at K.cmp (Q.key sought.now) self.now.pairs }
     {
-        find_in(&self.root, sought)
+        find_in(&self.root, &self.base, sought)
     }
 
     /// The value of a key.
@@ -79,7 +84,7 @@ impl<K: Ord, V> Tree<K, V> {
         ensures before { IsNone result.at → option_copied result.before ≡ pair_before K.cmp (Q.key sought.now) self.now.pairs }
         ensures behind { IsNone result.at → option_copied result.behind ≡ pair_after K.cmp (Q.key sought.now) self.now.pairs }
     {
-        around_in(&self.root, sought)
+        around_in(&self.root, &self.base, sought)
     }
 
     /// The pair of the least key that is greater than a key, which the tree needn't have.
@@ -112,18 +117,19 @@ impl<K: Ord, V> Tree<K, V> {
     }
 }
 
-impl<K: Ord + Drop, V: Drop> Tree<K, V> {
-    /// The tree of pairs whose keys ascend, each less than the next. It makes a node a pair. `NoMemory` where memory is
-    /// refused; the pairs are then gone.
-    pub fn from_sorted(alloc: Global, pairs: Vec<(K, V)>) -> Result<Tree<K, V>, NoMemory>
+impl<K: Front + Drop, V: Drop> Tree<K, V> {
+    /// The tree of pairs whose keys ascend, each less than the next; most of them begin as `base` does. It makes a node a pair.
+    /// `NoMemory` where memory is refused; the pairs are then gone.
+    pub fn from_sorted(alloc: Global, base: K, pairs: Vec<(K, V)>) -> Result<Tree<K, V>, NoMemory>
         requires { IsAscending K.cmp pairs.items }
         ensures pairs { IfOk result (λ tree. tree.pairs ≡ pairs.items) }
     {
         let mut pairs = pairs;
         let count = pairs.len();
+        let base = Base::new(alloc, base)?;
         let mut maker = Maker::new(alloc);
-        let root = maker.build(&mut pairs, count)?;
-        Ok(Tree { root })
+        let root = maker.build(&base, &mut pairs, count)?;
+        Ok(Tree { root, base })
     }
 
     /// The tree with a pair in place, whatever pair its key had, and how many nodes were made: one at the least, and at
@@ -133,10 +139,11 @@ impl<K: Ord + Drop, V: Drop> Tree<K, V> {
         ensures pairs { IfOk result (λ new. new.0.pairs ≡ pairs_with K.cmp key value self.now.pairs) }
         ensures made { IfOk result (λ new. (0 < new.1) × (new.1 ≤ 4 * (self.now.height + 1))) }
     {
+        let base = self.base.share()?;
         let mut maker = Maker::new(alloc);
-        let pair = Arc::new(alloc, (key, value)).map_err(AllocError::from)?;
-        let root = maker.with(&self.root, pair)?;
-        Ok((Tree { root }, maker.made()))
+        let entry = maker.entry(&base, (key, value))?;
+        let root = maker.with(&self.root, entry)?;
+        Ok((Tree { root, base }, maker.made()))
     }
 
     /// The tree without the pair of a key, and how many nodes were made: at most four for each level of this tree and
@@ -151,12 +158,13 @@ impl<K: Ord + Drop, V: Drop> Tree<K, V> {
         ensures absent { pair_at K.cmp (Q.key sought.now) self.now.pairs ≡ None → IfOk result (λ new. (new.0 ≡ self.now) × (new.1 ≡ 0)) }
         ensures made { IfOk result (λ new. new.1 ≤ 4 * (self.now.height + 1)) }
     {
-        match find_in(&self.root, sought) {
+        match find_in(&self.root, &self.base, sought) {
             None => Ok((self.share()?, 0)),
             Some(_) => {
+                let base = self.base.share()?;
                 let mut maker = Maker::new(alloc);
                 let root = maker.without(&self.root, sought)?;
-                Ok((Tree { root }, maker.made()))
+                Ok((Tree { root, base }, maker.made()))
             }
         }
     }
@@ -165,7 +173,8 @@ impl<K: Ord + Drop, V: Drop> Tree<K, V> {
     pub fn share(&self) -> Result<Tree<K, V>, NoMemory>
         ensures { IfOk result (λ new. new ≡ self.now) }
     {
+        let base = self.base.share()?;
         let root = self.root.share()?;
-        Ok(Tree { root })
+        Ok(Tree { root, base })
     }
 }

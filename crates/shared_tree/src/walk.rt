@@ -4,6 +4,7 @@ ghost use Rattle.std.specs.Prelude.{◌≡◌, ◌+◌, ◌≤◌, [], ◌++◌,
 ghost use Rattle.shared_tree.specs.Links.{link_pairs, link_height, IsFormed, AreOnWay, pairs_on_way, IsTaken};
 ghost use Rattle.shared_tree.specs.Pairs.{IsAscending, pairs_above};
 
+use crate::front::Front;
 use crate::node::{Link, MAX_HEIGHT, Node};
 use crate::seek::Seek;
 use arrayvec::ArrayVec;
@@ -41,7 +42,9 @@ impl<'a, K: Ord, V> Walk<'a, K, V> {
         go_down(&mut way, root);
         Walk { way }
     }
+}
 
+impl<'a, K: Front, V> Walk<'a, K, V> {
     /// The pairs below a link whose keys are greater than a key.
     #[tactic(auto, using(crate::proofs::WayLemmas::low_enough))]
     pub(crate) fn above<Q: Seek<K>>(root: &'a Link<K, V>, sought: &Q) -> Walk<'a, K, V>
@@ -65,7 +68,7 @@ impl<'a, K: Ord, V> Iterator for Walk<'a, K, V> {
     fn next(&mut self) -> Option<&'a (K, V)> {
         let node = take_lowest(&mut self.way)?;
         go_down(&mut self.way, &node.right);
-        Some(&*node.pair)
+        Some(&*node.entry.pair)
     }
 }
 
@@ -94,7 +97,7 @@ fn go_down<'a, K, V>(way: &mut Way<'a, K, V>, link: &'a Link<K, V>)
 }
 
 /// Puts the way down from a link to the first pair of a greater key behind a way.
-fn go_above<'a, K: Ord, V, Q: Seek<K>>(way: &mut Way<'a, K, V>, link: &'a Link<K, V>, sought: &Q)
+fn go_above<'a, K: Front, V, Q: Seek<K>>(way: &mut Way<'a, K, V>, link: &'a Link<K, V>, sought: &Q)
     requires way { AreOnWay 0 way.old.items }
     requires formed { IsFormed link.now }
     requires room { length way.old.items + link_height link.now ≤ MAX_HEIGHT }
@@ -104,7 +107,7 @@ fn go_above<'a, K: Ord, V, Q: Seek<K>>(way: &mut Way<'a, K, V>, link: &'a Link<K
 {
     let mut below = link;
     while let Link::Fork(node) = below {
-        let is_above = sought.cmp_key(&node.pair.0).is_lt();
+        let is_above = sought.cmp_key(&node.entry.pair.0).is_lt();
         if is_above {
             way.push(Some(&**node));
             below = &node.left;

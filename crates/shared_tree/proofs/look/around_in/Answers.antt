@@ -1,7 +1,8 @@
 use Rattle.std.proofs.Common.{◌≡◌, ◌∙◌, sym, ap, subst, Some}
 use Rattle.std.specs.Option.{option_or, option_copied}
 use Rattle.std.specs.declared.cmp.Ordering.TheVariants.{Less, Equal, Greater}
-use Rattle.shared_tree.specs.Links.{link_pairs}
+use Rattle.shared_tree.specs.Fronts.{front_at}
+use Rattle.shared_tree.specs.Links.{link_pairs, AreFronted}
 use Rattle.shared_tree.specs.Pairs.{IsAscending, pair_before, pair_after}
 use Rattle.shared_tree.specs.declared.node.Node.{Node}
 use Rattle.shared_tree.proofs.PairLemmas.{less_here, equal_here, greater_here, left_ascends, right_ascends, or_some}
@@ -15,17 +16,19 @@ loop-below-preserved-in-Less g c =
     let key = g.Q.Seek.key c.args.sought.now in
     let whole = rw c.in-Fork.is at c.loop-below.invariant.ascends in
     let at = rw c.in-Fork.is at c.loop-below.invariant.at in
-    let e : cmp key n.pair.value.0 ≡ Less = cc in
-    let here = less_here g.met.K.Ord.total key (link_pairs n.left) n.pair.value (link_pairs n.right) whole e in
+    let e : cmp key n.entry.pair.value.0 ≡ Less = cc in
+    let here = less_here g.met.K.Ord.total key (link_pairs n.left) n.entry.pair.value (link_pairs n.right) whole e in
+    let fronted = rw c.in-Fork.is at c.loop-below.invariant.fronted in
     let before = rw c.in-Fork.is at c.loop-below.invariant.before in
     let behind = rw c.in-Fork.is at c.loop-below.invariant.behind in
-    let is : c.deref-in-Less-2.result.now ≡ n.pair.value = cc in
+    let is : c.deref-in-Less-2.result.now ≡ n.entry.pair.value = cc in
     let sides = c.deref-in-Less-3.ensures in
     record {
-      ascends = subst (λ (node : Node g.row.K.Denot g.row.V.Denot). IsAscending cmp (link_pairs node.left)) (sym sides) (left_ascends g.met.K.Ord.total key (link_pairs n.left) n.pair.value (link_pairs n.right) whole);
+      ascends = subst (λ (node : Node g.row.K.Denot g.row.V.Denot). IsAscending cmp (link_pairs node.left)) (sym sides) (left_ascends g.met.K.Ord.total key (link_pairs n.left) n.entry.pair.value (link_pairs n.right) whole);
+      fronted = subst (λ (node : Node g.row.K.Denot g.row.V.Denot). AreFronted (front_at g.K.Front.front c.args.base.now) node.left) (sym sides) fronted.1;
       at = rw sides (sym here.at ∙ at);
       before = rw sides (ap (λ o. option_or o (option_copied c.loop-below.before)) (sym here.before) ∙ before);
-      behind = rw (sides, is) (sym (or_some (pair_after cmp key (link_pairs n.left)) (option_copied c.loop-below.behind) n.pair.value) ∙ ap (λ o. option_or o (option_copied c.loop-below.behind)) (sym here.after) ∙ behind);
+      behind = rw (sides, is) (sym (or_some (pair_after cmp key (link_pairs n.left)) (option_copied c.loop-below.behind) n.entry.pair.value) ∙ ap (λ o. option_or o (option_copied c.loop-below.behind)) (sym here.after) ∙ behind);
     }
 
 -- the key is the node's
@@ -36,9 +39,9 @@ returns-in-Equal-clause-at g c =
     let key = g.Q.Seek.key c.args.sought.now in
     let whole = rw c.in-Fork.is at c.loop-below.invariant.ascends in
     let at = rw c.in-Fork.is at c.loop-below.invariant.at in
-    let e : cmp key n.pair.value.0 ≡ Equal = cc in
-    let here = equal_here g.met.K.Ord.total key (link_pairs n.left) n.pair.value (link_pairs n.right) whole e in
-    let is : c.deref-in-Equal-2.result.now ≡ n.pair.value = cc in
+    let e : cmp key n.entry.pair.value.0 ≡ Equal = cc in
+    let here = equal_here g.met.K.Ord.total key (link_pairs n.left) n.entry.pair.value (link_pairs n.right) whole e in
+    let is : c.deref-in-Equal-2.result.now ≡ n.entry.pair.value = cc in
     ap Some is ∙ sym here.at ∙ at
 
 -- the key is greater than the node's: its pair is on the right, or the node's comes before it
@@ -49,15 +52,17 @@ loop-below-preserved g c =
     let key = g.Q.Seek.key c.args.sought.now in
     let whole = rw c.in-Fork.is at c.loop-below.invariant.ascends in
     let at = rw c.in-Fork.is at c.loop-below.invariant.at in
-    let e : cmp key n.pair.value.0 ≡ Greater = cc in
-    let here = greater_here g.met.K.Ord.total key (link_pairs n.left) n.pair.value (link_pairs n.right) whole e in
+    let e : cmp key n.entry.pair.value.0 ≡ Greater = cc in
+    let here = greater_here g.met.K.Ord.total key (link_pairs n.left) n.entry.pair.value (link_pairs n.right) whole e in
+    let fronted = rw c.in-Fork.is at c.loop-below.invariant.fronted in
     let before = rw c.in-Fork.is at c.loop-below.invariant.before in
     let behind = rw c.in-Fork.is at c.loop-below.invariant.behind in
-    let is : c.deref-in-Greater-2.result.now ≡ n.pair.value = cc in
+    let is : c.deref-in-Greater-2.result.now ≡ n.entry.pair.value = cc in
     let sides = c.deref-in-Greater-3.ensures in
     record {
-      ascends = subst (λ (node : Node g.row.K.Denot g.row.V.Denot). IsAscending cmp (link_pairs node.right)) (sym sides) (right_ascends g.met.K.Ord.total key (link_pairs n.left) n.pair.value (link_pairs n.right) whole);
+      ascends = subst (λ (node : Node g.row.K.Denot g.row.V.Denot). IsAscending cmp (link_pairs node.right)) (sym sides) (right_ascends g.met.K.Ord.total key (link_pairs n.left) n.entry.pair.value (link_pairs n.right) whole);
+      fronted = subst (λ (node : Node g.row.K.Denot g.row.V.Denot). AreFronted (front_at g.K.Front.front c.args.base.now) node.right) (sym sides) fronted.2;
       at = rw sides (sym here.at ∙ at);
-      before = rw (sides, is) (sym (or_some (pair_before cmp key (link_pairs n.right)) (option_copied c.loop-below.before) n.pair.value) ∙ ap (λ o. option_or o (option_copied c.loop-below.before)) (sym here.before) ∙ before);
+      before = rw (sides, is) (sym (or_some (pair_before cmp key (link_pairs n.right)) (option_copied c.loop-below.before) n.entry.pair.value) ∙ ap (λ o. option_or o (option_copied c.loop-below.before)) (sym here.before) ∙ before);
       behind = rw sides (ap (λ o. option_or o (option_copied c.loop-below.behind)) (sym here.after) ∙ behind);
     }

@@ -18,22 +18,22 @@ loop-below-preserved-then-is_above g c =
     let room : length way + (max (link_height n.left) (link_height n.right) + 1) ≤ 64 = rw c.in-Fork.is at c.loop-below.invariant.room in
     let whole = rw c.in-Fork.is at c.loop-below.invariant.ascends in
     let same = rw c.in-Fork.is at c.loop-below.invariant.same in
-    let less : is_lt (cmp key n.pair.value.0) ≡ true = cc in
-    let above = above_less g.met.K.Ord.total key (link_pairs n.left) n.pair.value (link_pairs n.right) whole less in
+    let less : is_lt (cmp key n.entry.pair.value.0) ≡ true = cc in
+    let above = above_less g.met.K.Ord.total key (link_pairs n.left) n.entry.pair.value (link_pairs n.right) whole less in
     let right = subst (λ (node : Node g.row.K.Denot g.row.V.Denot). IsFormed node.right) (sym c.deref-then-is_above.ensures) formed.3 in
     let free : 0 + length way + link_height n.right < 64 = omega arith in
     let low = subst (λ (node : Node g.row.K.Denot g.row.V.Denot). 0 + length way + link_height node.right < 64) (sym c.deref-then-is_above.ensures) free in
     let put = c.push.ensures.items in
     let len = ap length put ∙ length-append way (Some c.deref-then-is_above.result ∷ []) in
     let pairs = ap pairs_on_way put ∙ pairs_put way c.deref-then-is_above.result in
-    let here : pairs_on_way c.push.new.self.items ≡ n.pair.value ∷ link_pairs n.right ++ pairs_on_way way = rw c.deref-then-is_above.ensures at pairs in
+    let here : pairs_on_way c.push.new.self.items ≡ n.entry.pair.value ∷ link_pairs n.right ++ pairs_on_way way = rw c.deref-then-is_above.ensures at pairs in
     let lefts = c.deref-then-is_above-2.ensures in
     record {
       on_way = subst (AreOnWay 0) (sym put) (way_put 0 way c.deref-then-is_above.result c.loop-below.invariant.on_way right low);
       formed = subst (λ (node : Node g.row.K.Denot g.row.V.Denot). IsFormed node.left) (sym lefts) formed.2;
       room = subst (λ (node : Node g.row.K.Denot g.row.V.Denot). length c.push.new.self.items + link_height node.left ≤ 64) (sym lefts) (omega arith);
-      ascends = subst (λ (node : Node g.row.K.Denot g.row.V.Denot). IsAscending cmp (link_pairs node.left)) (sym lefts) (left_ascends g.met.K.Ord.total key (link_pairs n.left) n.pair.value (link_pairs n.right) whole);
-      same = rw (lefts, here) (sym (append_assoc (pairs_above cmp key (link_pairs n.left)) (n.pair.value ∷ link_pairs n.right) (pairs_on_way way)) ∙ ap (λ l. l ++ pairs_on_way way) (sym above) ∙ same);
+      ascends = subst (λ (node : Node g.row.K.Denot g.row.V.Denot). IsAscending cmp (link_pairs node.left)) (sym lefts) (left_ascends g.met.K.Ord.total key (link_pairs n.left) n.entry.pair.value (link_pairs n.right) whole);
+      same = rw (lefts, here) (sym (append_assoc (pairs_above cmp key (link_pairs n.left)) (n.entry.pair.value ∷ link_pairs n.right) (pairs_on_way way)) ∙ ap (λ l. l ++ pairs_on_way way) (sym above) ∙ same);
     }
 
 -- what is on the left is passed, and the right side is what is below
@@ -47,13 +47,13 @@ loop-below-preserved g c =
     let room : length way + (max (link_height n.left) (link_height n.right) + 1) ≤ 64 = rw c.in-Fork.is at c.loop-below.invariant.room in
     let whole = rw c.in-Fork.is at c.loop-below.invariant.ascends in
     let same = rw c.in-Fork.is at c.loop-below.invariant.same in
-    let other : is_lt (cmp key n.pair.value.0) ≡ false = cc in
-    let above = above_other g.met.K.Ord.total key (link_pairs n.left) n.pair.value (link_pairs n.right) whole other in
+    let other : is_lt (cmp key n.entry.pair.value.0) ≡ false = cc in
+    let above = above_other g.met.K.Ord.total key (link_pairs n.left) n.entry.pair.value (link_pairs n.right) whole other in
     let rights = c.deref-else-is_above.ensures in
     record {
       on_way = c.loop-below.invariant.on_way;
       formed = subst (λ (node : Node g.row.K.Denot g.row.V.Denot). IsFormed node.right) (sym rights) formed.3;
       room = subst (λ (node : Node g.row.K.Denot g.row.V.Denot). length way + link_height node.right ≤ 64) (sym rights) (omega arith);
-      ascends = subst (λ (node : Node g.row.K.Denot g.row.V.Denot). IsAscending cmp (link_pairs node.right)) (sym rights) (right_ascends g.met.K.Ord.total key (link_pairs n.left) n.pair.value (link_pairs n.right) whole);
+      ascends = subst (λ (node : Node g.row.K.Denot g.row.V.Denot). IsAscending cmp (link_pairs node.right)) (sym rights) (right_ascends g.met.K.Ord.total key (link_pairs n.left) n.entry.pair.value (link_pairs n.right) whole);
       same = rw rights (ap (λ l. l ++ pairs_on_way way) (sym above) ∙ same);
     }

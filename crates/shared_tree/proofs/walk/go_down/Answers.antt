@@ -18,11 +18,11 @@ loop-below-preserved g c =
     let put = c.push.ensures.items in
     let len = ap length put ∙ length-append way (Some c.deref.result ∷ []) in
     let pairs = ap pairs_on_way put ∙ pairs_put way c.deref.result in
-    let here : pairs_on_way c.push.new.self.items ≡ n.pair.value ∷ link_pairs n.right ++ pairs_on_way way = rw c.deref.ensures at pairs in
+    let here : pairs_on_way c.push.new.self.items ≡ n.entry.pair.value ∷ link_pairs n.right ++ pairs_on_way way = rw c.deref.ensures at pairs in
     let lefts = c.deref-in-Fork.ensures in
     record {
       on_way = subst (AreOnWay 0) (sym put) (way_put 0 way c.deref.result c.loop-below.invariant.on_way right low);
       formed = subst (λ (node : Node g.row.K.Denot g.row.V.Denot). IsFormed node.left) (sym lefts) formed.2;
       room = subst (λ (node : Node g.row.K.Denot g.row.V.Denot). length c.push.new.self.items + link_height node.left ≤ 64) (sym lefts) (omega arith);
-      same = rw (lefts, here) (sym (append_assoc (link_pairs n.left) (n.pair.value ∷ link_pairs n.right) (pairs_on_way way)) ∙ same);
+      same = rw (lefts, here) (sym (append_assoc (link_pairs n.left) (n.entry.pair.value ∷ link_pairs n.right) (pairs_on_way way)) ∙ same);
     }

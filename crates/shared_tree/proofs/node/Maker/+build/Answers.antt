@@ -1,5 +1,6 @@
 use Rattle.std.proofs.Common.{◌≡◌, ◌+◌, ◌-◌, ◌/◌, ◌≤◌, vec_len, arith, subst, max}
 use Rattle.std.proofs.lemmas.Result.{IfOk-weaker}
+use Rattle.shared_tree.specs.Fronts.{front_at}
 use Rattle.shared_tree.specs.Links.{link_height, IsHalved}
 use Rattle.shared_tree.proofs.LinkLemmas.{halves}
 use Rattle.shared_tree.proofs.node.Maker.+build.Goals as goal
@@ -26,3 +27,8 @@ returns-clause-height g t c fits =
     let top = max (link_height c.in_ok-left.left) (link_height c.in_ok-right.right) + 1 in
     IfOk-weaker c.fork.result (λ link. link_height link ≡ top) (λ link. IsHalved (link_height link) n)
     (λ link e. let is : link_height link ≡ top = e in rw is (subst (IsHalved top) all sides.whole)) c.fork.ensures.height
+
+-- each number is told of its key
+pub returns-clause-fronted : goal.returns-clause-fronted
+returns-clause-fronted g t c =
+    c.fork.ensures.fronted (front_at g.K.Front.front c.args.base.now) c.in_ok-entry.ensures.front c.in_ok-left.ensures.fronted c.in_ok-right.ensures.fronted

@@ -1,0 +1,57 @@
+use Rattle.std.proofs.Common.{◌≡◌, ◌∙◌, sym, ap, subst, Some}
+use Rattle.std.specs.declared.cmp.Ordering.TheVariants.{Less, Equal, Greater}
+use Rattle.shared_tree.specs.Fronts.{front_at}
+use Rattle.shared_tree.specs.Links.{link_pairs, AreFronted}
+use Rattle.shared_tree.specs.Pairs.{IsAscending}
+use Rattle.shared_tree.specs.declared.node.Node.{Node}
+use Rattle.shared_tree.proofs.PairLemmas.{less_here, equal_here, greater_here, left_ascends, right_ascends}
+use Rattle.shared_tree.proofs.look.find_in.Goals as goal
+
+-- the key is less than the node's: its pair is on the left
+pub loop-below-preserved-in-Less : goal.loop-below-preserved-in-Less
+loop-below-preserved-in-Less g c =
+    let n = c.in-Fork.node.value in
+    let cmp = g.K.Ord.cmp in
+    let key = g.Q.Seek.key c.args.sought.now in
+    let whole = rw c.in-Fork.is at c.loop-below.invariant.ascends in
+    let at = rw c.in-Fork.is at c.loop-below.invariant.at in
+    let e : cmp key n.entry.pair.value.0 ≡ Less = cc in
+    let here = less_here g.met.K.Ord.total key (link_pairs n.left) n.entry.pair.value (link_pairs n.right) whole e in
+    let fronted = rw c.in-Fork.is at c.loop-below.invariant.fronted in
+    let sides = c.deref-in-Less.ensures in
+    record {
+      ascends = subst (λ (node : Node g.row.K.Denot g.row.V.Denot). IsAscending cmp (link_pairs node.left)) (sym sides) (left_ascends g.met.K.Ord.total key (link_pairs n.left) n.entry.pair.value (link_pairs n.right) whole);
+      fronted = subst (λ (node : Node g.row.K.Denot g.row.V.Denot). AreFronted (front_at g.K.Front.front c.args.base.now) node.left) (sym sides) fronted.1;
+      at = rw sides (sym here.at ∙ at);
+    }
+
+-- the key is the node's
+pub returns-in-Equal : goal.returns-in-Equal
+returns-in-Equal g c =
+    let n = c.in-Fork.node.value in
+    let cmp = g.K.Ord.cmp in
+    let key = g.Q.Seek.key c.args.sought.now in
+    let whole = rw c.in-Fork.is at c.loop-below.invariant.ascends in
+    let at = rw c.in-Fork.is at c.loop-below.invariant.at in
+    let e : cmp key n.entry.pair.value.0 ≡ Equal = cc in
+    let here = equal_here g.met.K.Ord.total key (link_pairs n.left) n.entry.pair.value (link_pairs n.right) whole e in
+    let is : c.deref-in-Equal-2.result.now ≡ n.entry.pair.value = cc in
+    ap Some is ∙ sym here.at ∙ at
+
+-- the key is greater than the node's: its pair is on the right
+pub loop-below-preserved : goal.loop-below-preserved
+loop-below-preserved g c =
+    let n = c.in-Fork.node.value in
+    let cmp = g.K.Ord.cmp in
+    let key = g.Q.Seek.key c.args.sought.now in
+    let whole = rw c.in-Fork.is at c.loop-below.invariant.ascends in
+    let at = rw c.in-Fork.is at c.loop-below.invariant.at in
+    let e : cmp key n.entry.pair.value.0 ≡ Greater = cc in
+    let here = greater_here g.met.K.Ord.total key (link_pairs n.left) n.entry.pair.value (link_pairs n.right) whole e in
+    let fronted = rw c.in-Fork.is at c.loop-below.invariant.fronted in
+    let sides = c.deref-in-Greater.ensures in
+    record {
+      ascends = subst (λ (node : Node g.row.K.Denot g.row.V.Denot). IsAscending cmp (link_pairs node.right)) (sym sides) (right_ascends g.met.K.Ord.total key (link_pairs n.left) n.entry.pair.value (link_pairs n.right) whole);
+      fronted = subst (λ (node : Node g.row.K.Denot g.row.V.Denot). AreFronted (front_at g.K.Front.front c.args.base.now) node.right) (sym sides) fronted.2;
+      at = rw sides (sym here.at ∙ at);
+    }
