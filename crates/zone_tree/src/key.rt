@@ -2,11 +2,13 @@
 ghost use Rattle.std.specs.Cmp.{partial_equiv_from_equiv, partial_order_from_agreeing_total};
 ghost use Rattle.std.specs.Ordering.{as_partial_cmp};
 ghost use Rattle.std.specs.Prelude.{◌≡◌, IfOk, refl};
+ghost use Rattle.dns_name.specs.Front.{name_front};
 ghost use Rattle.dns_name.specs.Name.{canonical_cmp, fold_name, is_same, is_under};
 ghost use Rattle.dns_name.specs.Order.{canonical_total, is_same_equiv, is_same_tied};
+ghost use Rattle.dns_name.proofs.FrontLemmas.{name_lower};
 
 use dns_name::{Name, Sought, SoughtName, StoredName};
-use shared_tree::Seek;
+use shared_tree::{Front, Seek};
 use std::alloc::{AllocError, Global};
 use std::cmp::Ordering;
 use std::marker::Model;
@@ -78,6 +80,20 @@ impl Seek<OwnerKey> for SoughtName {
     fn cmp_key(&self, other: &OwnerKey) -> Ordering {
         self.order(&other.name)
     }
+
+    fn key_front(&self, base: &OwnerKey) -> u64 {
+        self.front(&base.name)
+    }
+}
+
+impl Front for OwnerKey {
+    ghost front = { name_front };
+
+    fn front(&self, base: &OwnerKey) -> u64 {
+        self.name.front(&base.name)
+    }
+
+    ghost lower = { name_lower };
 }
 
 impl<'r> Seek<OwnerKey> for Sought<'r> {
@@ -85,6 +101,10 @@ impl<'r> Seek<OwnerKey> for Sought<'r> {
 
     fn cmp_key(&self, other: &OwnerKey) -> Ordering {
         Sought::order(self, &other.name)
+    }
+
+    fn key_front(&self, base: &OwnerKey) -> u64 {
+        Sought::front(self, &base.name)
     }
 }
 

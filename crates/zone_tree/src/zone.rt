@@ -66,7 +66,8 @@ impl Zone {
         ensures no_memory { IsErrOf result NewFault.NoMemory → IsZone (records_in sets.items) }
     {
         let Judged { apex, count } = check(&sets).map_err(NewFault::Broken)?;
-        let owners = Tree::from_sorted(alloc, under_owners(alloc, sets)?)?;
+        let base = OwnerKey::new(alloc, &apex)?;
+        let owners = Tree::from_sorted(alloc, base, under_owners(alloc, sets)?)?;
         Ok(Zone {
             apex,
             count,
