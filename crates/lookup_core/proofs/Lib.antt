@@ -4,6 +4,8 @@ pub mod PlaceLemmas
 pub mod WalkLemmas
 pub mod AliasLemmas
 pub mod SectionLemmas
+pub mod FoldLemmas
+pub mod DownLemmas
 pub mod LawLemmas
 pub mod AdditionalLemmas
 pub mod AdditionLemmas

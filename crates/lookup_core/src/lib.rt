@@ -12,6 +12,7 @@ mod examples;
 mod laws;
 mod look;
 mod matched;
+mod places;
 mod question;
 mod sections;
 mod sets;
@@ -26,6 +27,6 @@ pub use laws::{
     additions_are_addresses, chains_are_short, names_without_existence, owners_are_reached,
 };
 pub use matched::Place;
+pub use places::place;
 pub use question::answer;
 pub use sections::Answer;
-pub use walk::place;

@@ -5,6 +5,7 @@ ghost use Rattle.lookup_core.specs.Shown.{sections_shown};
 
 use crate::additional::additional_of;
 use crate::aliases::{Chain, End, follow};
+use crate::look::look_up;
 use crate::sections::{Answer, authority_of, is_referral, rcode_of};
 use dns_name::Name;
 use dns_rdata::RType;
@@ -18,10 +19,11 @@ use zone_tree::ZoneRead;
 pub fn answer<'z, Z: ZoneRead>(zone: &'z Z, name: &'z Name, rtype: RType) -> Answer<'z>
     ensures { sections_shown result ≡ sections (Z.records zone.now) name.now rtype.0 }
 {
+    let first = look_up(zone, name, rtype);
     let Chain {
         aliases: mut answer,
         end,
-    } = follow(zone, name, rtype);
+    } = follow(zone, name, rtype, first);
     let rcode = rcode_of(&end);
     let below_cut = is_referral(&end);
     let authority = authority_of(zone, &end);
