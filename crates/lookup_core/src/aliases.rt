@@ -92,7 +92,7 @@ pub(crate) fn follow<'z, Z: ZoneRead>(
 }
 
 /// Sets under the name searched, with their own TTLs (RFC 4592, 3.3).
-fn under<'z>(name: LentName<'z>, sets: &'z [RRset]) -> Shown<'z>
+pub(crate) fn under<'z>(name: LentName<'z>, sets: &'z [RRset]) -> Shown<'z>
     ensures owner { result.owner ≡ name.entry }
     ensures records { records_shown result ≡ owned_by name.entry (flat_map (λ set. set) sets.now) }
 {
