@@ -10,7 +10,7 @@ trap 'rm -rf "$work"' EXIT
 mkdir -p "$work/crates/tree_bench/src" "$work/crates/shared_tree"
 cp -r crates/shared_tree/{src,specs,proofs} "$work/crates/shared_tree/"
 [ ! -d crates/shared_tree/out ] || cp -r crates/shared_tree/out "$work/crates/shared_tree/"
-printf 'shared_tree: thiserror\ntree_bench: shared_tree\n' > "$work/crates.txt"
+printf 'shared_tree: arrayvec thiserror\ntree_bench: shared_tree\n' > "$work/crates.txt"
 cat > "$work/crates/tree_bench/src/main.rt" <<'RT'
 //! Times a tree's calls.
 #![tactic(auto)]
@@ -22,15 +22,15 @@ use std::rt::Env;
 use std::time::Instant;
 
 /// Keys in no order, no two equal: the number times an odd constant.
-fn key(number: u64) -> u64 {
-    number.wrapping_mul(0x9e37_79b9_7f4a_7c15)
+fn key(number: u32) -> u32 {
+    number.wrapping_mul(0x9e37_79b1)
 }
 
 fn main(rt: HostRuntime) -> io::Result<()> {
     let alloc = rt.alloc();
     let words: Vec<String> = env::args(&rt)?.collect(alloc)?;
     for word in words.iter().skip(1) {
-        let count = word.as_str().parse::<u64>().unwrap_or(0);
+        let count = word.as_str().parse::<u32>().unwrap_or(0);
         let mut tree = Tree::new();
         let mut made = 0u64;
         let mut most = 0u64;
@@ -49,7 +49,7 @@ fn main(rt: HostRuntime) -> io::Result<()> {
         }
         let put = start.elapsed(&rt)?.as_nanos();
         let start = Instant::now(&rt)?;
-        let mut found = 0u64;
+        let mut found = 0u32;
         for number in 0..count {
             if let Some(value) = tree.get(&key(number)) {
                 found = found.saturating_add(*value & 1);
@@ -57,7 +57,7 @@ fn main(rt: HostRuntime) -> io::Result<()> {
         }
         let got = start.elapsed(&rt)?.as_nanos();
         let keys = u128::from(count.max(1));
-        let tenths = made.saturating_mul(10) / count.max(1);
+        let tenths = made.saturating_mul(10) / u64::from(count.max(1));
         let height = tree.height();
         println!(rt; "{count:9} keys, height {height:2}: with {:5} ns, {}.{} nodes, at most {most} of {bound}; get {:5} ns ({found} odd)",
             put / keys, tenths / 10, tenths % 10, got / keys)?;

@@ -3,7 +3,7 @@ ghost use Rattle.std.specs.Prelude.{IfOk, ℕ};
 ghost use Rattle.std.specs.Ordering.{nat_cmp};
 ghost use Rattle.shared_tree.specs.Pairs.{IsAscending};
 
-use shared_tree::{Tree, Walk};
+use shared_tree::{Front, Tree, Walk};
 use std::alloc::{AllocError, Global};
 
 /// A map whose keys are the numbers below some count, each with itself.
@@ -22,7 +22,7 @@ fn numbers(alloc: Global, count: u32) -> Result<Vec<(u32, u32)>, AllocError>
 
 /// The same as a tree; None where memory is refused.
 fn built(alloc: Global, count: u32) -> Option<Numbers> {
-    Tree::from_sorted(alloc, numbers(alloc, count).ok()?).ok()
+    Tree::from_sorted(alloc, 0, numbers(alloc, count).ok()?).ok()
 }
 
 /// The same, made anew where memory is refused.
@@ -224,6 +224,50 @@ fn finds_what_comes_after(rt: HostRuntime) -> Result<(), &'static str> {
     Ok(())
 }
 
+/// The numbers next to each from 0 to 7 that is none of 2, 4 and 6.
+const NEXT_TO: [(u32, Option<u32>, Option<u32>); 5] = [
+    (0, None, Some(2)),
+    (1, None, Some(2)),
+    (3, Some(2), Some(4)),
+    (5, Some(4), Some(6)),
+    (7, Some(6), None),
+];
+
+/// Whether a tree has these, and none between them.
+fn stand_around(tree: &Numbers) -> bool {
+    for (number, before, behind) in NEXT_TO {
+        let found = tree.around(&number);
+        let next = number_of(found.before) == before && number_of(found.behind) == behind;
+        if found.at.is_some() || !next {
+            return false;
+        }
+    }
+    true
+}
+
+/// Whether a tree of the numbers below a count has each, and none above the last.
+fn each_is_around(tree: &Numbers, count: u32) -> bool {
+    for number in 0..count {
+        if number_of(tree.around(&number).at) != Some(number) {
+            return false;
+        }
+    }
+    let found = tree.around(&count);
+    let last = number_of(found.before) == count.checked_sub(1);
+    found.at.is_none() && last && found.behind.is_none()
+}
+
+// One tree was made of no base, so that no number tells its keys apart, and one of a base.
+#[test]
+fn finds_what_stands_around(rt: HostRuntime) -> Result<(), &'static str> {
+    let three = of_three(rt.alloc()).ok_or("no tree")?;
+    let many = built_anew(rt.alloc(), 100).ok_or("no tree")?;
+    if !stand_around(&three) || !each_is_around(&many, 100) {
+        return Err("another number");
+    }
+    Ok(())
+}
+
 // A million has twenty binary digits; a tree that is halved at each node is no higher than as many.
 #[test]
 fn a_million_pairs_are_dropped(rt: HostRuntime) -> Result<(), &'static str> {
@@ -276,7 +320,7 @@ fn goes_on_where_memory_is_refused(rt: HostRuntime) -> Result<(), &'static str> 
 fn goes_between_threads<T: Send + Sync>() {}
 
 // A tree, and a walk over it, go between threads where their keys and values do.
-fn trees_go_between_threads<K: Ord + Send + Sync, V: Send + Sync>() {
+fn trees_go_between_threads<K: Front + Send + Sync, V: Send + Sync>() {
     goes_between_threads::<Tree<K, V>>();
     goes_between_threads::<Walk<'_, K, V>>();
 }
