@@ -19,13 +19,13 @@ sed "s/RECORDS/$records/" > "$work/crates/search_bench/src/main.rt" <<'RT'
 //! Answers queries for the hosts of a zone, and prints how often the zone was searched for a name.
 #![tactic(auto)]
 
-use dns_name::Name;
+use dns_name::{Name, Sought};
 use dns_rdata::{RData, RRset, RType, Ttl};
 use lookup_core::answer;
 use std::alloc::Global;
 use std::cell::Cell;
 use std::io;
-use zone_tree::{Walk, Zone, ZoneRead};
+use zone_tree::{Near, Walk, Zone, ZoneRead};
 
 /// The data of an SOA of serial 1, and of an NS.
 const SOA: &[u8] = b"\0\0\0\0\0\x01\0\0\x1c\x20\0\0\x03\x84\0\x12\x75\0\0\0\x01\x2c";
@@ -62,6 +62,16 @@ impl ZoneRead for Counted {
     fn rrsets_at(&self, owner: &Name) -> &[RRset] {
         self.count();
         self.zone.rrsets_at(owner)
+    }
+
+    fn sets_at(&self, owner: &Sought<'_>) -> &[RRset] {
+        self.count();
+        self.zone.sets_at(owner)
+    }
+
+    fn around<'r>(&self, name: &Sought<'r>) -> Near<'_, 'r> {
+        self.count();
+        self.zone.around(name)
     }
 
     fn exists(&self, name: &Name) -> bool {

@@ -35,7 +35,7 @@ is_no_name-found_at zone at name rtype =
     (λ _. by_test (λ l. is_no_name l ≡ false) (is_none_of (data_at zone at rtype)) NoData (Data (owned_by name (data_at zone at rtype))) (λ _. refl) (λ _. refl))
 
 -- what is found, by where the name stands
-abbrev look_by : List Record → List (List ℕ) → ℕ → Place → Look
+abbrev pub look_by : List Record → List (List ℕ) → ℕ → Place → Look
 look_by zone name rtype p =
     elim p [
       | place.Cut cut ↦ Cut cut

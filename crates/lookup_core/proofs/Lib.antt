@@ -1,9 +1,11 @@
 pub mod ApexLemmas
 pub mod SetLemmas
-pub mod PlaceLemmas
 pub mod WalkLemmas
 pub mod AliasLemmas
 pub mod SectionLemmas
+pub mod FoldLemmas
+pub mod DownLemmas
 pub mod LawLemmas
+pub mod FirstLemmas
 pub mod AdditionalLemmas
 pub mod AdditionLemmas

@@ -5,6 +5,7 @@ pub mod Additional
 pub mod Sections
 pub mod Examples
 pub mod Shown
+pub mod First
 pub mod Laws
 pub use Rattle.zone_tree.specs.Zone
 pub use Rattle.dns_name.specs.Name

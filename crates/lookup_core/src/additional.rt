@@ -204,7 +204,7 @@ fn host_in(rdata: &RData) -> Option<Name>
 
 /// Whether the addresses of names in data of a type come along: NS, MX and SRV, which have one name (RFC 1035, 3.3.9 and
 /// 3.3.11; RFC 2782).
-fn has_hosts(rtype: RType) -> bool
+pub(crate) fn has_hosts(rtype: RType) -> bool
     ensures { result ≡ has_hosts rtype.0 }
 {
     rtype == RType::NS || rtype == RType::MX || rtype == RType::SRV

@@ -6,9 +6,9 @@ ghost use Rattle.dns_rdata.specs.Numbers.{type_CNAME};
 ghost use Rattle.dns_rdata.specs.Record.{rtype_of};
 ghost use Rattle.dns_rdata.specs.Shown.{records_shown};
 ghost use Rattle.lookup_core.specs.Place.{is_none_of};
-ghost use Rattle.lookup_core.specs.Look.{owned_by};
+ghost use Rattle.lookup_core.specs.Look.{look, owned_by};
 ghost use Rattle.lookup_core.specs.Chain.{target, is_final, chain};
-ghost use Rattle.lookup_core.specs.Shown.{section_shown, searched_before, chain_shown};
+ghost use Rattle.lookup_core.specs.Shown.{section_shown, searched_before, chain_shown, look_shown, AreServersOfEnd, HasItsServers};
 
 use crate::look::{Look, look_up};
 use arrayvec::ArrayVec;
@@ -26,8 +26,8 @@ pub const MOST_SHOWN: usize = MOST_ALIASES + 1;
 /// The end of a chain of aliases.
 #[derive(Drop)]
 pub(crate) enum End<'z> {
-    /// A referral: the last name looked up is at or below this zone cut.
-    Cut(Name),
+    /// A referral: this is the last name looked up, and the NS set of the zone cut that it is at or below.
+    Cut(LentName<'z>, &'z RRset),
     /// Data of the type asked.
     Data(Shown<'z>),
     /// The last name exists, without data of the type asked.
@@ -45,17 +45,26 @@ pub(crate) struct Chain<'z> {
     pub(crate) end: End<'z>,
 }
 
-/// The chain from the name asked. It stops at a target outside the zone, at one already searched, or after
-/// [`MOST_ALIASES`] aliases (own).
-pub(crate) fn follow<'z, Z: ZoneRead>(zone: &'z Z, name: &'z Name, rtype: RType) -> Chain<'z>
+/// The chain from the name asked, at which this was found. It stops at a target outside the zone, at one already searched,
+/// or after [`MOST_ALIASES`] aliases (own).
+pub(crate) fn follow<'z, Z: ZoneRead>(
+    zone: &'z Z,
+    name: &'z Name,
+    rtype: RType,
+    first: Look<'z>,
+) -> Chain<'z>
+    requires seen { look_shown name.now first ≡ look (Z.records zone.now) name.now rtype.0 }
+    requires servers { HasItsServers (Z.records zone.now) name.now first }
     ensures chain { chain_shown result ≡ chain (Z.records zone.now) name.now rtype.0 }
     ensures few { length result.aliases.items ≤ MOST_ALIASES }
     ensures some { is_none_of (section_shown result.aliases.items) ≡ (length result.aliases.items == 0) }
+    ensures servers { AreServersOfEnd (Z.records zone.now) result.end }
 {
     let mut aliases = ArrayVec::new();
     let mut searched = LentName::spelt(name);
+    let mut found = first;
     for _ in 0..MOST_ALIASES {
-        let end = match look_up(zone, &searched, rtype) {
+        let end = match found {
             Look::Alias(alias) => {
                 let target = target(alias);
                 aliases.push(under(searched, slice::from_ref(alias)));
@@ -65,10 +74,11 @@ pub(crate) fn follow<'z, Z: ZoneRead>(zone: &'z Z, name: &'z Name, rtype: RType)
                         end: End::Stop,
                     };
                 }
+                found = look_up(zone, &target.to_name(), rtype);
                 searched = target;
                 continue;
             }
-            Look::Cut(cut) => End::Cut(cut),
+            Look::Cut(servers) => End::Cut(searched, servers),
             Look::Data(sets) => End::Data(under(searched, sets)),
             Look::NoData => End::NoData,
             Look::NoName => End::NoName,
@@ -82,7 +92,7 @@ pub(crate) fn follow<'z, Z: ZoneRead>(zone: &'z Z, name: &'z Name, rtype: RType)
 }
 
 /// Sets under the name searched, with their own TTLs (RFC 4592, 3.3).
-fn under<'z>(name: LentName<'z>, sets: &'z [RRset]) -> Shown<'z>
+pub(crate) fn under<'z>(name: LentName<'z>, sets: &'z [RRset]) -> Shown<'z>
     ensures owner { result.owner ≡ name.entry }
     ensures records { records_shown result ≡ owned_by name.entry (flat_map (λ set. set) sets.now) }
 {

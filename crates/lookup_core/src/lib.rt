@@ -9,9 +9,11 @@
 mod additional;
 mod aliases;
 mod examples;
+mod first;
 mod laws;
 mod look;
 mod matched;
+mod places;
 mod question;
 mod sections;
 mod sets;
@@ -22,10 +24,11 @@ pub use aliases::{MOST_ALIASES, MOST_SHOWN};
 pub use examples::{
     examples_are_zones, examples_of_answers, examples_of_chains, examples_of_wildcards,
 };
+pub use first::{First, More, first_look};
 pub use laws::{
     additions_are_addresses, chains_are_short, names_without_existence, owners_are_reached,
 };
 pub use matched::Place;
-pub use question::answer;
+pub use places::place;
+pub use question::{answer, answer_from};
 pub use sections::Answer;
-pub use walk::place;

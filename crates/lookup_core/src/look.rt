@@ -3,21 +3,21 @@ ghost use Rattle.std.specs.Prelude.{◌≡◌, ◌↔◌, ℕ, List, [], IsNone,
 ghost use Rattle.std.specs.List.{flat_map};
 ghost use Rattle.dns_rdata.specs.Record.{Record};
 ghost use Rattle.lookup_core.specs.Look.{look, found_at, data_at, follows_aliases};
-ghost use Rattle.lookup_core.specs.Shown.{AreAllAt, look_shown};
+ghost use Rattle.lookup_core.specs.Shown.{AreAllAt, HasItsServers, look_shown};
 
 use crate::matched::Matched;
 use crate::sets::set_of;
 use crate::walk::match_down;
 use dns_name::Name;
-use dns_rdata::{LentName, RRset, RType};
+use dns_rdata::{RRset, RType};
 use std::slice;
 use zone_tree::ZoneRead;
 
 /// What is found at a name, under that name.
 #[derive(Drop)]
 pub(crate) enum Look<'z> {
-    /// A zone cut at or above the name.
-    Cut(Name),
+    /// A zone cut at or above the name: its NS set.
+    Cut(&'z RRset),
     /// An alias, for a type that follows aliases.
     Alias(&'z RRset),
     /// Data of the type asked: at least one set.
@@ -30,14 +30,14 @@ pub(crate) enum Look<'z> {
 
 /// What is found at a name: what the records there say, else those at the source of synthesis (RFC 1034, 4.3.2, step 3;
 /// RFC 4592, 3.3).
-pub(crate) fn look_up<'z, Z: ZoneRead>(zone: &'z Z, name: &LentName<'_>, rtype: RType) -> Look<'z>
-    ensures { look_shown name.now result ≡ look (Z.records zone.now) name.now rtype.0 }
+pub(crate) fn look_up<'z, Z: ZoneRead>(zone: &'z Z, name: &Name, rtype: RType) -> Look<'z>
+    ensures look { look_shown name.now result ≡ look (Z.records zone.now) name.now rtype.0 }
+    ensures servers { HasItsServers (Z.records zone.now) name.now result }
 {
-    let name = name.to_name();
-    match match_down(zone, &name) {
-        Matched::Cut(cut) => Look::Cut(cut),
+    match match_down(zone, name) {
+        Matched::Cut(servers) => Look::Cut(servers),
         Matched::Exact(sets) => found_in(sets, rtype),
-        Matched::Wild(source) => found_in(zone.rrsets_at(&source), rtype),
+        Matched::Wild(sets) => found_in(sets, rtype),
         Matched::Missing => Look::NoName,
     }
 }

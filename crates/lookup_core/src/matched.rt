@@ -20,12 +20,12 @@ pub enum Place {
 /// Where a name at or below the apex stands, with the sets that were found there.
 #[derive(Drop)]
 pub(crate) enum Matched<'z> {
-    /// It is at or below a zone cut: this one, the first on the way down from the apex.
-    Cut(Name),
+    /// It is at or below a zone cut: the first on the way down from the apex has this NS set.
+    Cut(&'z RRset),
     /// It exists, and these are its sets, each in whole: none where it owns nothing (RFC 4592, 2.2.2).
     Exact(&'z [RRset]),
-    /// It doesn't exist, and this source of synthesis does.
-    Wild(Name),
+    /// It doesn't exist, and the source of synthesis does, with these sets.
+    Wild(&'z [RRset]),
     /// Neither it nor the source of synthesis exists.
     Missing,
 }

@@ -1,10 +1,13 @@
 //! From a question to its answer (RFC 1034, 4.3.2).
 ghost use Rattle.std.specs.Prelude.{◌≡◌};
+ghost use Rattle.lookup_core.specs.First.{IsSeen};
 ghost use Rattle.lookup_core.specs.Sections.{sections};
 ghost use Rattle.lookup_core.specs.Shown.{sections_shown};
 
 use crate::additional::additional_of;
 use crate::aliases::{Chain, End, follow};
+use crate::first::More;
+use crate::look::look_up;
 use crate::sections::{Answer, authority_of, is_referral, rcode_of};
 use dns_name::Name;
 use dns_rdata::RType;
@@ -18,10 +21,24 @@ use zone_tree::ZoneRead;
 pub fn answer<'z, Z: ZoneRead>(zone: &'z Z, name: &'z Name, rtype: RType) -> Answer<'z>
     ensures { sections_shown result ≡ sections (Z.records zone.now) name.now rtype.0 }
 {
+    let look = look_up(zone, name, rtype);
+    answer_from(zone, name, rtype, More { look })
+}
+
+/// The same answer, from what a first look found.
+pub fn answer_from<'z, Z: ZoneRead>(
+    zone: &'z Z,
+    name: &'z Name,
+    rtype: RType,
+    first: More<'z>,
+) -> Answer<'z>
+    requires { IsSeen (Z.records zone.now) name.now rtype.0 first.look }
+    ensures { sections_shown result ≡ sections (Z.records zone.now) name.now rtype.0 }
+{
     let Chain {
         aliases: mut answer,
         end,
-    } = follow(zone, name, rtype);
+    } = follow(zone, name, rtype, first.look);
     let rcode = rcode_of(&end);
     let below_cut = is_referral(&end);
     let authority = authority_of(zone, &end);

@@ -5,12 +5,12 @@ ghost use Rattle.dns_rdata.specs.Data.{minimum_of};
 ghost use Rattle.dns_rdata.specs.Record.{owner_of, rtype_of};
 ghost use Rattle.dns_rdata.specs.Shown.{records_shown};
 ghost use Rattle.lookup_core.specs.Sections.{rcode_of, is_referral, authority_of, negative_soa};
-ghost use Rattle.lookup_core.specs.Shown.{section_shown, end_shown};
+ghost use Rattle.lookup_core.specs.Shown.{section_shown, end_shown, AreServersOfEnd};
 
 use crate::additional::MOST_ADDITIONAL;
 use crate::aliases::{End, MOST_SHOWN};
 use arrayvec::ArrayVec;
-use dns_rdata::{LentName, RRset, RType, Rcode, Shown, Ttl};
+use dns_rdata::{LentName, RRset, Rcode, Shown, Ttl};
 use std::slice;
 use zone_tree::ZoneRead;
 
@@ -37,7 +37,7 @@ pub(crate) fn rcode_of(end: &End<'_>) -> Rcode
 {
     match end {
         End::NoName => Rcode::NxDomain,
-        End::Cut(_) | End::Data(_) | End::NoData | End::Stop => Rcode::NoError,
+        End::Cut(..) | End::Data(_) | End::NoData | End::Stop => Rcode::NoError,
     }
 }
 
@@ -46,23 +46,20 @@ pub(crate) fn is_referral(end: &End<'_>) -> bool
     ensures { result ≡ is_referral (end_shown end.now) }
 {
     match end {
-        End::Cut(_) => true,
+        End::Cut(..) => true,
         End::Data(_) | End::NoData | End::NoName | End::Stop => false,
     }
 }
 
 /// The authority section: the NS set of the zone cut in a referral, the SOA where there is no data or no name, else
 /// nothing (RFC 1034, 4.3.2, steps 3b and 3c; RFC 2308, 2.1 and 2.2; own).
-pub(crate) fn authority_of<'z, Z: ZoneRead>(zone: &'z Z, end: &End<'_>) -> ArrayVec<Shown<'z>, 1>
+pub(crate) fn authority_of<'z, Z: ZoneRead>(zone: &'z Z, end: &End<'z>) -> ArrayVec<Shown<'z>, 1>
+    requires { AreServersOfEnd (Z.records zone.now) end.now }
     ensures { section_shown result.items ≡ authority_of (Z.records zone.now) (end_shown end.now) }
 {
     let mut authority = ArrayVec::new();
     match end {
-        End::Cut(cut) => {
-            if let Some(servers) = zone.rrset(cut, RType::NS) {
-                authority.push(standing(servers));
-            }
-        }
+        End::Cut(_, servers) => authority.push(standing(*servers)),
         End::NoData | End::NoName => authority.push(negative_soa(zone)),
         End::Data(_) | End::Stop => {}
     }
@@ -88,7 +85,7 @@ pub(crate) fn negative_soa<Z: ZoneRead>(zone: &Z) -> Shown<'_>
 {
     let soa = zone.soa();
     Shown {
-        owner: LentName::stored(soa.stored_owner()),
+        owner: LentName::spelt(zone.apex()),
         ttl: Some(negative_ttl(soa)),
         sets: slice::from_ref(soa),
     }

@@ -1,134 +1,104 @@
-//! From the apex to a name (RFC 1034, 4.3.2, steps 2 and 3; RFC 4592, 2.2.3 and 3.3.1).
+//! From a name up to the closest that exists, and on to the apex (RFC 1034, 4.3.2, step 3; RFC 4592, 3.3.1).
 //!
-//! The zone is searched once for each name between the apex and the name asked, and once for that name: what is at the
-//! apex or above it is known, since the records are a zone.
-ghost use Rattle.std.specs.Prelude.{◌≡◌, ◌≤◌, length, reverse, drop, IfSome};
-ghost use Rattle.std.specs.List.{find};
-ghost use Rattle.dns_name.specs.Name.{wire_of, self_and_ancestors};
-ghost use Rattle.zone_tree.specs.Zone.{IsZone, apex_of, exists};
-ghost use Rattle.lookup_core.specs.Place.{place, place_below, is_cut, cut_of, closest_encloser, source_of};
-ghost use Rattle.lookup_core.specs.Shown.{AreAllAt, place_shown, HasItsSets};
+//! The zone is searched once for the name, which tells as well which of its ancestors is the closest that exists. Zone cuts
+//! are sought from that one on, by a search for each name that is left below the apex; and where the name doesn't exist, the
+//! source of synthesis is searched. What is at the apex or above it is known, since the records are a zone.
+ghost use Rattle.std.specs.Prelude.{◌≡◌, ◌≤◌, false, true, ◌∷◌, length, IsNone, IfSome};
+ghost use Rattle.std.specs.Option.{option_copied, option_map};
+ghost use Rattle.dns_name.specs.Name.{asterisk, is_under, wire_of};
+ghost use Rattle.dns_rdata.specs.Numbers.{type_NS};
+ghost use Rattle.zone_tree.specs.Zone.{IsZone, apex_of, exists, rrset_of};
+ghost use Rattle.lookup_core.specs.Place.{cut_of};
+ghost use Rattle.lookup_core.specs.Shown.{AreAllAt, AreAllAtSource, IsMatched};
 
-use crate::matched::{Matched, Place};
+use crate::matched::Matched;
 use crate::sets::set_of;
-use dns_name::{MAX_BELOW_ASTERISK, MAX_NAME, Name};
+use arrayvec::ArrayVec;
+use dns_name::{MAX_BELOW_ASTERISK, MAX_NAME, Name, Sought, SoughtRoom};
 use dns_rdata::{RRset, RType};
-use zone_tree::ZoneRead;
-
-/// Where a name stands in a zone (RFC 1034, 4.3.2, steps 2 and 3). No memory is taken.
-pub fn place<Z: ZoneRead>(zone: &Z, name: &Name) -> Place
-    ensures { result ≡ place (Z.records zone.now) name.now }
-{
-    if !name.is_under(zone.apex()) {
-        return Place::Outside;
-    }
-    match match_down(zone, name) {
-        Matched::Cut(cut) => Place::Cut(cut),
-        Matched::Exact(_) => Place::Exact,
-        Matched::Wild(source) => Place::Wild(source),
-        Matched::Missing => Place::Missing,
-    }
-}
+use zone_tree::{Near, ZoneRead};
 
 /// Where a name stands on the way down from the apex (RFC 1034, 4.3.2, step 3).
 pub(crate) fn match_down<'z, Z: ZoneRead>(zone: &'z Z, name: &Name) -> Matched<'z>
-    ensures place { place_shown result ≡ place_below (Z.records zone.now) name.now }
-    ensures sets { HasItsSets (Z.records zone.now) name.now result }
+    ensures { IsMatched (Z.records zone.now) name.now result }
 {
-    if let Some(cut) = cut_above(zone, name) {
-        return Matched::Cut(cut);
+    prove!(name.wire().len() <= MAX_NAME);
+    let mut room: SoughtRoom = ArrayVec::new();
+    let sought = Sought::new(name, &mut room);
+    let near = zone.around(&sought);
+    let there = sought.is_level(&near.closest);
+    let own = own_sets(&near, there);
+    let top = Sought::stored(zone.soa().stored_owner());
+    if let Some(servers) = cut_of(zone, &top, &near.closest, own) {
+        return Matched::Cut(servers);
     }
-    let sets = zone.rrsets_at(name);
-    if is_cut(zone, name, sets) {
-        return Matched::Cut(name.copy());
+    if there {
+        return Matched::Exact(near.sets);
     }
-    if owns_or_exists(zone, name, sets) {
-        return Matched::Exact(sets);
-    }
-    match source_of(zone, name) {
-        Some(source) if zone.exists(&source) => Matched::Wild(source),
-        _ => Matched::Missing,
+    match source_sets(zone, &near.closest) {
+        Some(sets) => Matched::Wild(sets),
+        None => Matched::Missing,
     }
 }
 
-/// Whether a name that has these sets is a zone cut: another name than the apex that owns NS (RFC 2181, 6).
-fn is_cut<Z: ZoneRead>(zone: &Z, name: &Name, sets: &[RRset]) -> bool
-    requires { AreAllAt (Z.records zone.now) name.now sets.now }
-    ensures { result ≡ is_cut (Z.records zone.now) name.now }
+/// All sets of the closest of a name and its ancestors that exist, where it is the name itself.
+fn own_sets<'z>(near: &Near<'z, '_>, there: bool) -> Option<&'z [RRset]>
+    ensures { IfSome result (λ sets. (there ≡ true) × (sets.now ≡ near.now.sets.now)) }
 {
-    name != zone.apex() && set_of(sets, RType::NS).is_some()
+    if there { Some(near.sets) } else { None }
 }
 
-/// Whether a name that has these sets exists: without any it does where a name below it owns some (RFC 4592, 2.2.3).
-fn owns_or_exists<Z: ZoneRead>(zone: &Z, name: &Name, sets: &[RRset]) -> bool
-    requires { AreAllAt (Z.records zone.now) name.now sets.now }
-    ensures { result ≡ exists (Z.records zone.now) name.now }
-{
-    !sets.is_empty() || zone.exists(name)
-}
-
-/// The first zone cut on the way down from the apex to the parent of the name.
-fn cut_above<Z: ZoneRead>(zone: &Z, name: &Name) -> Option<Name>
-    ensures { result ≡ find (is_cut (Z.records zone.now)) (reverse (drop 1 (self_and_ancestors name.now))) }
-{
-    let above = name.parent()?;
-    cut_of(zone, &above)
-}
-
-/// The first zone cut on the way down from the apex to the name (RFC 1034, 4.3.2, step 3b).
-fn cut_of<Z: ZoneRead>(zone: &Z, name: &Name) -> Option<Name>
-    ensures { result ≡ cut_of (Z.records zone.now) name.now }
+/// The NS set of the first zone cut on the way down from the apex to a name, whose own sets may be known (RFC 1034, 4.3.2,
+/// step 3b).
+fn cut_of<'z, Z: ZoneRead>(
+    zone: &'z Z,
+    top: &Sought<'_>,
+    name: &Sought<'_>,
+    own: Option<&'z [RRset]>,
+) -> Option<&'z RRset>
+    requires lawful { IsZone (Z.records zone.now) }
+    requires top { top.now ≡ apex_of (Z.records zone.now) }
+    requires own { IfSome own (λ sets. AreAllAt (Z.records zone.now) name.now sets.now) }
+    ensures { option_copied result ≡ option_map (λ cut. rrset_of (Z.records zone.now) cut type_NS) (cut_of (Z.records zone.now) name.now) }
 {
     // The apex is no zone cut, and no name above it owns a record.
-    if apex(zone).is_under(name) {
+    if name.is_above(top) {
         return None;
     }
     let above = name.parent()?;
-    if let Some(cut) = cut_of(zone, &above) {
-        return Some(cut);
+    if let Some(servers) = cut_of(zone, top, &above, None) {
+        return Some(servers);
     }
-    if zone.rrset(name, RType::NS).is_some() {
-        return Some(name.copy());
+    set_of(known_sets(zone, name, own), RType::NS)
+}
+
+/// All sets at a name, which may be known.
+fn known_sets<'z, Z: ZoneRead>(
+    zone: &'z Z,
+    name: &Sought<'_>,
+    own: Option<&'z [RRset]>,
+) -> &'z [RRset]
+    requires { IfSome own (λ sets. AreAllAt (Z.records zone.now) name.now sets.now) }
+    ensures { AreAllAt (Z.records zone.now) name.now result.now }
+{
+    match own {
+        Some(sets) => sets,
+        None => zone.sets_at(name),
     }
-    None
 }
 
-/// The source of synthesis: `*` in front of the closest encloser (RFC 4592, 3.3.1).
-fn source_of<Z: ZoneRead>(zone: &Z, name: &Name) -> Option<Name>
-    ensures { result ≡ source_of (Z.records zone.now) name.now }
+/// All sets at the source of synthesis, `*` in front of the closest encloser; None where it doesn't exist (RFC 4592, 3.3.1).
+fn source_sets<'z, Z: ZoneRead>(zone: &'z Z, encloser: &Sought<'_>) -> Option<&'z [RRset]>
+    requires { length (wire_of encloser.now) ≤ MAX_BELOW_ASTERISK }
+    ensures none { IsNone result → exists (Z.records zone.now) (asterisk ∷ encloser.now) ≡ false }
+    ensures some { IfSome result (λ sets. AreAllAtSource (Z.records zone.now) (asterisk ∷ encloser.now) sets.now) }
 {
-    closest_encloser(zone, name)?.with_asterisk()
-}
-
-/// Of the name's ancestors that exist, the one with most labels (RFC 4592, 3.3.1). `*` fits in front of it, since the
-/// name has a label more.
-fn closest_encloser<Z: ZoneRead>(zone: &Z, name: &Name) -> Option<Name>
-    ensures is { result ≡ closest_encloser (Z.records zone.now) name.now }
-    ensures has_room { IfSome result (λ encloser. length (wire_of encloser) ≤ MAX_BELOW_ASTERISK) }
-{
-    prove!(name.wire().len() <= MAX_NAME);
-    let mut at = name.parent();
-    while let Some(ancestor) = at {
-        if exists(zone, &ancestor) {
-            return Some(ancestor);
-        }
-        at = ancestor.parent();
+    let mut room: SoughtRoom = ArrayVec::new();
+    let source = encloser.with_asterisk(&mut room);
+    let near = zone.around(&source);
+    if source.is_level(&near.closest) {
+        Some(near.sets)
+    } else {
+        None
     }
-    None
-}
-
-/// Whether a name exists: the apex and the names above it do, since the SOA stands at the apex (RFC 4592, 2.2.3).
-fn exists<Z: ZoneRead>(zone: &Z, name: &Name) -> bool
-    ensures { result ≡ exists (Z.records zone.now) name.now }
-{
-    apex(zone).is_under(name) || zone.exists(name)
-}
-
-/// The apex of the zone that the records are.
-fn apex<Z: ZoneRead>(zone: &Z) -> &Name
-    ensures name { result.now ≡ apex_of (Z.records zone.now) }
-    ensures lawful { IsZone (Z.records zone.now) }
-{
-    let _soa = zone.soa();
-    zone.apex()
 }

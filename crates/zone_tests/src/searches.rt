@@ -1,11 +1,11 @@
 //! How often an answer searches the zone, and how the names of places are spelt.
 use crate::made::{data_of, name, set_of, sets_of};
-use dns_name::Name;
+use dns_name::{Name, Sought};
 use dns_rdata::{RData, RRset, RType, Ttl};
 use lookup_core::{Place, answer, place};
 use std::alloc::Global;
 use std::cell::Cell;
-use zone_tree::{Walk, Zone, ZoneRead};
+use zone_tree::{Near, Walk, Zone, ZoneRead};
 
 /// Sets in front of the exchanges of `mail`, and behind them: an empty non-terminal `b`, a wildcard below `dyn`, zone cuts, one below the other, and
 /// an alias of `web`.
@@ -62,6 +62,16 @@ impl ZoneRead for Counted {
         self.zone.rrsets_at(owner)
     }
 
+    fn sets_at(&self, owner: &Sought<'_>) -> &[RRset] {
+        self.count();
+        self.zone.sets_at(owner)
+    }
+
+    fn around<'r>(&self, name: &Sought<'r>) -> Near<'_, 'r> {
+        self.count();
+        self.zone.around(name)
+    }
+
     fn exists(&self, name: &Name) -> bool {
         self.count();
         self.zone.exists(name)
@@ -76,11 +86,11 @@ impl ZoneRead for Counted {
     }
 }
 
-/// A name, a type, and how many searches they want. A name that owns records wants as many as it has labels below the apex,
-/// and one at the apex. `www` wants those of the alias and of its target, `mail` those of the exchanges and of the names of
-/// both hosts. At `y.z.sub` a zone cut ends the way down; then come its servers, and the host of one. Of `b`, without
-/// records, it is asked whether the name exists; of `nope`, which doesn't, whether the source of synthesis does; of `zz.b`
-/// which of the names above it do; of `p.dyn` what the wildcard owns.
+/// A name, a type, and how many searches they want: one for the name, which tells as well what exists above it, and one for
+/// each name between the apex and the closest of it and its ancestors that exist, that one apart where it is the name. `www` wants those of
+/// the alias and of its target, `mail` those of the exchanges and of the names of both hosts. At `y.z.sub` a zone cut ends the
+/// way down; then comes the host of one of its servers. Of `nope`, `zz.b` and `p.dyn`, which don't exist, the source of synthesis
+/// is searched as well.
 const SEARCHES: &str = "\
 example. SOA 1\n\
 web A 1\n\
@@ -91,10 +101,10 @@ x.e.dyn A 3\n\
 www A 2\n\
 mail MX 3\n\
 y.z.sub A 3\n\
-b A 2\n\
-nope A 3\n\
-zz.b A 5\n\
-p.dyn A 6\n";
+b A 1\n\
+nope A 2\n\
+zz.b A 3\n\
+p.dyn A 3\n";
 
 /// The type of a word; ANY where it is no word of a row.
 fn rtype_of(word: &str) -> RType {

@@ -1,4 +1,5 @@
 pub mod NameOrder
+pub mod NearLemmas
 pub mod Rising
 pub mod SetLemmas
 pub mod LookLemmas

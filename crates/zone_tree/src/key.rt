@@ -7,7 +7,7 @@ ghost use Rattle.dns_name.specs.Name.{canonical_cmp, fold_name, is_same, is_unde
 ghost use Rattle.dns_name.specs.Order.{canonical_total, is_same_equiv, is_same_tied};
 ghost use Rattle.dns_name.proofs.FrontLemmas.{name_lower};
 
-use dns_name::{Name, SoughtName, StoredName};
+use dns_name::{Name, Sought, SoughtName, StoredName};
 use shared_tree::{Front, Seek};
 use std::alloc::{AllocError, Global};
 use std::cmp::Ordering;
@@ -52,6 +52,13 @@ impl OwnerKey {
         self.name.to_name()
     }
 
+    /// The owner as it is kept.
+    pub(crate) fn stored(&self) -> &StoredName
+        ensures { result.now ≡ self.now }
+    {
+        &self.name
+    }
+
     /// Whether it is the key of an owner (RFC 4343, 3).
     pub(crate) fn is_of(&self, owner: &StoredName) -> bool
         ensures { result ≡ is_same self.now owner.now }
@@ -87,6 +94,18 @@ impl Front for OwnerKey {
     }
 
     ghost lower = { name_lower };
+}
+
+impl<'r> Seek<OwnerKey> for Sought<'r> {
+    ghost key = { λ name. name };
+
+    fn cmp_key(&self, other: &OwnerKey) -> Ordering {
+        Sought::order(self, &other.name)
+    }
+
+    fn key_front(&self, base: &OwnerKey) -> u64 {
+        Sought::front(self, &base.name)
+    }
 }
 
 impl PartialEq for OwnerKey {

@@ -31,7 +31,7 @@ pub use laws::{
     changes_give_the_next, example_is_a_zone, examples, names_that_exist, same_records, soa_at_apex,
 };
 pub use parts::{Apex, find_apex, has_conflict};
-pub use read::ZoneRead;
+pub use read::{Near, ZoneRead};
 pub use rules::has_asterisk;
 pub use version::{Version, serial_in};
 pub use walk::Walk;

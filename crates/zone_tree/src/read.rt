@@ -1,13 +1,23 @@
 //! What a search asks of a zone.
-ghost use Rattle.std.specs.Prelude.{◌≡◌, ◌↔◌, List, [], length, IsNone, IfSome};
-ghost use Rattle.std.specs.List.{flat_map};
+ghost use Rattle.std.specs.Prelude.{◌≡◌, ◌↔◌, List, [], length, IsNone, IfSome, Some};
+ghost use Rattle.std.specs.List.{find, flat_map};
+ghost use Rattle.dns_name.specs.Name.{self_and_ancestors};
 ghost use Rattle.dns_rdata.specs.Record.{Record};
 ghost use Rattle.zone_tree.specs.Zone.{IsZone, rrset_of, rrsets_of, exists, soa_of, apex_of};
 ghost use Rattle.zone_tree.specs.Sets.{AreWhole, sets_in};
 
 use crate::walk::Walk;
-use dns_name::Name;
+use dns_name::{Name, Sought};
 use dns_rdata::{RRset, RType};
+
+/// What stands at a name, and what exists above it.
+#[derive(Drop)]
+pub struct Near<'z, 'r> {
+    /// All sets of the name, each in whole, by type number: none where it owns nothing.
+    pub sets: &'z [RRset],
+    /// Of the name and its ancestors that exist, the one with most labels (RFC 4592, 3.3.1).
+    pub closest: Sought<'r>,
+}
 
 /// A zone that can be searched. Contracts see the list of its records, which are a zone.
 pub trait ZoneRead {
@@ -26,6 +36,17 @@ pub trait ZoneRead {
     fn rrsets_at(&self, owner: &Name) -> &[RRset]
         ensures records { flat_map (λ set. set) result.now ≡ rrsets_of (records self.now) owner.now }
         ensures whole { AreWhole (records self.now) result.now };
+
+    /// All sets of an owner that is sought, each in whole, by type number.
+    fn sets_at(&self, owner: &Sought<'_>) -> &[RRset]
+        ensures records { flat_map (λ set. set) result.now ≡ rrsets_of (records self.now) owner.now }
+        ensures whole { AreWhole (records self.now) result.now };
+
+    /// All sets of a name, and the closest of it and its ancestors that exist, by one search.
+    fn around<'r>(&self, name: &Sought<'r>) -> Near<'_, 'r>
+        ensures records { flat_map (λ set. set) result.sets.now ≡ rrsets_of (records self.now) name.now }
+        ensures whole { AreWhole (records self.now) result.sets.now }
+        ensures closest { find (exists (records self.now)) (self_and_ancestors name.now) ≡ Some result.closest };
 
     /// Whether a name exists: it or a name below it owns a record (RFC 4592, 2.2.3).
     fn exists(&self, name: &Name) -> bool

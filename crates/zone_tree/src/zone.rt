@@ -17,11 +17,11 @@ use crate::fault::{NewFault, ZoneFault};
 use crate::key::OwnerKey;
 use crate::look::{set_of_type, sets_from};
 use crate::owners::{Owned, Owners, under_owners};
-use crate::read::ZoneRead;
+use crate::read::{Near, ZoneRead};
 use crate::walk::Walk;
-use dns_name::{Name, SoughtName};
+use dns_name::{Name, Sought, SoughtName, StoredName};
 use dns_rdata::{RRset, RType};
-use shared_tree::Tree;
+use shared_tree::{Seek, Tree};
 use std::alloc::Global;
 use std::marker::Model;
 
@@ -110,6 +110,28 @@ impl ZoneRead for Zone {
         sets_at(&self.owners, owner)
     }
 
+    fn sets_at(&self, owner: &Sought<'_>) -> &[RRset] {
+        sets_of(&self.owners, owner)
+    }
+
+    fn around<'r>(&self, name: &Sought<'r>) -> Near<'_, 'r> {
+        let found = self.owners.around(name);
+        match found.at {
+            Some(pair) => Near {
+                sets: pair.1.as_slice(),
+                closest: name.same(),
+            },
+            None => {
+                let before = owner_in(found.before);
+                let behind = owner_in(found.behind);
+                Near {
+                    sets: &[],
+                    closest: name.closest(before, behind),
+                }
+            }
+        }
+    }
+
     fn exists(&self, name: &Name) -> bool {
         let sought = SoughtName::new(name);
         if self.owners.get(&sought).is_some() {
@@ -134,6 +156,16 @@ impl ZoneRead for Zone {
     }
 }
 
+/// The owner of a pair, as it is kept.
+fn owner_in<'a>(pair: Option<&'a Owned>) -> Option<&'a StoredName>
+    ensures { option_copied result ≡ option_map (λ pair. pair.0) (option_copied pair.entry) }
+{
+    match pair {
+        Some(pair) => Some(pair.0.stored()),
+        None => None,
+    }
+}
+
 /// That a zone may have so many records.
 fn check_limit(count: usize) -> Result<(), ZoneFault>
     ensures few { OnOk result (count ≤ max_records) }
@@ -153,8 +185,8 @@ pub(crate) fn sets_at<'a>(owners: &'a Owners, owner: &Name) -> &'a [RRset]
 }
 
 /// The sets of an owner that is sought.
-fn sets_of<'a>(owners: &'a Owners, owner: &SoughtName) -> &'a [RRset]
-    ensures { result.now ≡ items_of (value_at canonical_cmp owner.now owners.now.pairs) }
+fn sets_of<'a, Q: Seek<OwnerKey>>(owners: &'a Owners, owner: &Q) -> &'a [RRset]
+    ensures { result.now ≡ items_of (value_at canonical_cmp (Q.key owner.now) owners.now.pairs) }
 {
     match owners.get(owner) {
         Some(sets) => sets.as_slice(),

@@ -1,3 +1,5 @@
+use Rattle.std.proofs.Common.{sym, ap, ◌∙◌}
+use Rattle.dns_rdata.specs.Record.{owner_of}
 use Rattle.lookup_core.proofs.SectionLemmas.{rtype_of-soa_of, negative_soa-shown}
 use Rattle.lookup_core.proofs.sections.negative_soa.Goals as goal
 
@@ -6,5 +8,5 @@ negative_ttl-requires-clause-typed g c = rtype_of-soa_of (g.Z.ZoneRead.records c
 
 pub returns : goal.returns
 returns g c =
-    rw (c.stored.ensures, c.stored_owner.ensures.of)
+    rw (c.spelt.ensures ∙ c.apex.ensures ∙ ap owner_of (sym c.soa-soa.ensures.set))
     (negative_soa-shown (g.Z.ZoneRead.records c.args.zone.now) c.soa-soa.result.now c.from_ref.result.now c.negative_ttl.result.0 c.soa-soa.ensures.set c.from_ref.ensures.value c.soa-soa.ensures.one c.negative_ttl.ensures)

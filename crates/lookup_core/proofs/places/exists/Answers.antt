@@ -1,7 +1,7 @@
 use Rattle.std.proofs.Common.{sym, ap, ◌∙◌}
 use Rattle.dns_name.specs.Name.{is_under}
 use Rattle.lookup_core.proofs.ApexLemmas.{exists_above}
-use Rattle.lookup_core.proofs.walk.exists.Goals as goal
+use Rattle.lookup_core.proofs.places.exists.Goals as goal
 
 -- the name is the apex, or above it
 pub returns-then-is_under : goal.returns-then-is_under

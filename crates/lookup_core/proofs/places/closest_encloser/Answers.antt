@@ -2,7 +2,7 @@ use Rattle.std.proofs.Common.{sym, ap, ◌∙◌}
 use Rattle.std.specs.List.{find}
 use Rattle.zone_tree.specs.Zone.{exists}
 use Rattle.lookup_core.proofs.WalkLemmas.{names_from, find-self_and_ancestors}
-use Rattle.lookup_core.proofs.walk.closest_encloser.Goals as goal
+use Rattle.lookup_core.proofs.places.closest_encloser.Goals as goal
 
 -- the name in hand exists
 pub returns-then-exists-clause-is : goal.returns-then-exists-clause-is

@@ -4,7 +4,7 @@ use Rattle.dns_name.specs.Name.{wire_of}
 use Rattle.zone_tree.specs.Zone.{exists}
 use Rattle.lookup_core.specs.Place.{closest_encloser}
 use Rattle.lookup_core.proofs.WalkLemmas.{names_from}
-use Rattle.lookup_core.proofs.walk.closest_encloser.Given as goal
+use Rattle.lookup_core.proofs.places.closest_encloser.Given as goal
 
 -- the first of the names to come that exists is the closest encloser; `*` fits in front of each
 abbrev pub invariant-loop-at : goal.invariant-loop-at
