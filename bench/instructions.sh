@@ -24,7 +24,7 @@ cat > "$bench/src/main.rt" <<'RT'
 #![tactic(auto)]
 ghost use Rattle.std.specs.Prelude.{◌≤◌, length};
 
-use dns_message::{Parsed, is_update, parse_other};
+use dns_message::{Query, Said, is_update, parse_into};
 use dns_name::Name;
 use master_file::read_zone;
 use serve_core::{Peer, Transport, is_permitted, respond_to_peer};
@@ -54,28 +54,30 @@ fn requests_of(alloc: Global, text: &[u8]) -> Option<Vec<Vec<u8>>> {
 }
 
 /// How many octets the reply to a request has.
-fn answer_one(version: &Version, request: &[u8], out: &mut [u8]) -> usize
+fn answer_one(version: &Version, query: &mut Query, request: &[u8], out: &mut [u8]) -> usize
     requires { 1232 ≤ length out.old }
 {
     if is_update(request) {
         return 0;
     }
-    let Parsed::Query(query) = parse_other(request) else {
-        return 0;
-    };
+    match parse_into(request, query) {
+        Said::Query => {}
+        _ => return 0,
+    }
     let peer = Peer::over(Transport::Udp, false);
-    if is_permitted(version, &query, peer) {
+    if is_permitted(version, query, peer) {
         return 0;
     }
-    respond_to_peer(version.zone(), &query, peer, out)
+    respond_to_peer(version.zone(), query, peer, out)
 }
 
 /// How many octets the replies to requests have.
 fn answer_all(version: &Version, requests: &[Vec<u8>]) -> u64 {
+    let mut query = Query::blank();
     let mut out = [0; 1232];
     let mut sum = 0u64;
     for request in requests {
-        let len = answer_one(version, request.as_slice(), &mut out);
+        let len = answer_one(version, &mut query, request.as_slice(), &mut out);
         sum = sum.wrapping_add(len as u64);
     }
     sum
