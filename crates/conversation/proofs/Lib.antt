@@ -1,3 +1,4 @@
+pub mod AllowedLemmas
 pub mod StreamLemmas
 pub mod TurnLemmas
 pub mod ExchangeLemmas

@@ -3,7 +3,7 @@ ghost use Rattle.std.specs.Prelude.{◌≡◌, ◌↔◌, IsTrue};
 ghost use Rattle.conversation.specs.Allowed.{AreOne, IsAllowed, IsPeer};
 
 use serve_core::{Peer, Transport};
-use std::net::{IpAddr, SocketAddr};
+use std::net::{IpAddr, Ipv4Addr, SocketAddr};
 
 /// The addresses whose peers may update the zone and have it sent (RFC 2136, 3.3; RFC 5936, 5).
 #[derive(Clone, Copy)]
@@ -45,5 +45,17 @@ fn has_address(addresses: &[IpAddr], address: IpAddr) -> bool
 fn is_one(a: IpAddr, b: IpAddr) -> bool
     ensures { IsTrue result ↔ AreOne a b }
 {
-    a.to_canonical() == b.to_canonical()
+    match (a, b) {
+        (IpAddr::V4(a), IpAddr::V4(b)) => is_same(a, b),
+        _ => a.to_canonical() == b.to_canonical(),
+    }
+}
+
+/// Whether two addresses of IPv4 are the same, by the numbers that their octets make.
+fn is_same(a: Ipv4Addr, b: Ipv4Addr) -> bool
+    ensures { IsTrue result ↔ (a ≡ b) }
+{
+    let own = a.octets();
+    let other = b.octets();
+    u32::from_be_bytes(own) == u32::from_be_bytes(other)
 }

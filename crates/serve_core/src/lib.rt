@@ -20,6 +20,6 @@ pub use peer::Peer;
 pub use replies::replies_by_cases;
 pub use served::{Responded, respond};
 pub use transfer::{
-    is_permitted, list_for, respond_to, respond_to_peer, transfer_reply, transfer_start,
+    is_permitted, list_for, respond_by, respond_to, respond_to_peer, transfer_reply, transfer_start,
 };
 pub use transport::{TCP_LIMIT, Transport, UDP_LIMIT};

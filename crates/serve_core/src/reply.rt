@@ -8,14 +8,16 @@ ghost use Rattle.serve_core.specs.Transport.{limit_of, room_of};
 
 use crate::heading::reply_opt;
 use crate::transport::Transport;
-use dns_message::{Query, Question, Reply, write_reply};
+use dns_message::{Query, Question, Reply, write_reply, write_reply_by};
 use dns_rdata::{Class, RType, Rcode};
 use lookup_core::answer;
+use wire_names::NameWriter;
 use zone_tree::ZoneRead;
 
 /// Writes the reply to a query that asks for no transfer, or not in class IN, over a transport to the front of `out`, and gives how
 /// many octets it has: the first refusal that holds, else the zone's answer (RFC 1034, 4.3.2; own).
 pub(crate) fn respond_to_query<Z: ZoneRead>(
+    names: &mut NameWriter,
     zone: &Z,
     query: &Query,
     transport: Transport,
@@ -36,7 +38,7 @@ pub(crate) fn respond_to_query<Z: ZoneRead>(
     if !question.name.is_under(zone.apex()) {
         return write_refused(query, Rcode::Refused, transport, out);
     }
-    write_answer(zone, query, transport, out)
+    write_answer(names, zone, query, transport, out)
 }
 
 /// Whether a question asks for a transfer (RFC 1995, 4; RFC 5936, 2).
@@ -47,7 +49,13 @@ pub(crate) fn asks_transfer(question: &Question) -> bool
 }
 
 /// Writes the zone's answer to a query (RFC 1034, 4.3.2).
-fn write_answer<Z: ZoneRead>(zone: &Z, query: &Query, transport: Transport, out: &mut [u8]) -> usize
+fn write_answer<Z: ZoneRead>(
+    names: &mut NameWriter,
+    zone: &Z,
+    query: &Query,
+    transport: Transport,
+    out: &mut [u8],
+) -> usize
     requires { room_of transport ≤ length out.old }
     ensures octets { take result out.new ≡ fit (answered_in (Z.records zone.now) query.now) (limit_of transport query.now.edns) }
     ensures len { result ≤ limit_of transport query.now.edns }
@@ -65,7 +73,7 @@ fn write_answer<Z: ZoneRead>(zone: &Z, query: &Query, transport: Transport, out:
         opt: reply_opt(query.edns),
         below_cut: found.below_cut,
     };
-    write_reply(&reply, transport.limit(query.edns), out)
+    write_reply_by(names, &reply, transport.limit(query.edns), out)
 }
 
 /// Writes a code that refuses a query, with the question.

@@ -19,6 +19,7 @@ use crate::transport::Transport;
 use dns_message::{Query, udp_limit};
 use dns_rdata::{Class, RType, Rcode, Serial};
 use transfer_core::{ChainView, Packer, Place, TransferRecords, records_at};
+use wire_names::NameWriter;
 use zone_tree::{Version, ZoneRead};
 
 /// The messages of a transfer of a version's zone that a query asks for: of an IXFR from a serial that isn't less than the
@@ -124,9 +125,27 @@ pub fn respond_to_peer<Z: ZoneRead>(zone: &Z, query: &Query, peer: Peer, out: &m
     ensures octets { take result out.new ≡ fit (reply_to_peer (Z.records zone.now) peer query.now) (limit_of peer.transport query.now.edns) }
     ensures len { result ≤ limit_of peer.transport query.now.edns }
 {
+    let mut names = NameWriter::new();
+    respond_by(&mut names, zone, query, peer, out)
+}
+
+/// Writes the reply to a query that isn't for a transfer that is sent, as [`respond_to_peer`] does, by a writer of names that the
+/// caller keeps.
+pub fn respond_by<Z: ZoneRead>(
+    names: &mut NameWriter,
+    zone: &Z,
+    query: &Query,
+    peer: Peer,
+    out: &mut [u8],
+) -> usize
+    requires room { room_of peer.transport ≤ length out.old }
+    requires no_transfer { is_permitted (Z.records zone.now) peer query.now ≡ false }
+    ensures octets { take result out.new ≡ fit (reply_to_peer (Z.records zone.now) peer query.now) (limit_of peer.transport query.now.edns) }
+    ensures len { result ≤ limit_of peer.transport query.now.edns }
+{
     let question = &query.question;
     if question.class != Class::IN || !asks_transfer(question) {
-        return respond_to_query(zone, query, peer.transport, out);
+        return respond_to_query(names, zone, query, peer.transport, out);
     }
     refuse_transfer(zone, query, peer, out)
 }

@@ -5,6 +5,7 @@ pub mod GrammarLemmas
 pub mod KeyLemmas
 pub mod LongerLemmas
 pub mod OverwrittenLemmas
+pub mod PlainLemmas
 pub mod ReadLemmas
 pub mod TableLemmas
 pub mod WrittenLemmas

@@ -6,10 +6,12 @@
 mod laws;
 mod part;
 mod read;
+mod read_into;
 mod table;
 mod write;
 
 pub use laws::{examples, name_at_is, one_fault, one_reading, table_stays, written_is_spelt};
 pub use part::NameReadFault;
 pub use read::read_name;
+pub use read_into::read_name_into;
 pub use write::NameWriter;

@@ -3,8 +3,8 @@ use Rattle.std.proofs.Common.{◌≡◌}
 use Rattle.serve_core.specs.Reply.{reply_to}
 use Rattle.serve_core.specs.Transfers.{reply_to_peer}
 use Rattle.serve_core.proofs.TransferLemmas.{of_other_class, of_no_transfer}
-use Rattle.serve_core.proofs.transfer.respond_to_peer.Goals.{then-ne-via-then-ne, then-ne-via-else-ne+then-not-asks_transfer}
-use Rattle.serve_core.proofs.transfer.respond_to_peer.Goals as goal
+use Rattle.serve_core.proofs.transfer.respond_by.Goals.{then-ne-via-then-ne, then-ne-via-else-ne+then-not-asks_transfer}
+use Rattle.serve_core.proofs.transfer.respond_by.Goals as goal
 
 pub returns-then-ne-clause-octets : goal.returns-then-ne-clause-octets
 returns-then-ne-clause-octets g c =
