@@ -1,3 +1,2 @@
-pub mod StreamLemmas
 pub mod TurnLemmas
 pub mod ExchangeLemmas

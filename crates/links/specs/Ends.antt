@@ -1,9 +1,9 @@
 -- How connections have ended, counted (own).
 use Rattle.std.specs.Prelude.{◌≡◌, ℕ, ◌+◌, ◌-◌, ◌^◌, min}
+use Rattle.conversation.specs.declared.stream_end.StreamEnd.{StreamEnd}
+use Rattle.conversation.specs.declared.stream_end.StreamEnd.TheVariants.{Clean, Torn, Device, Spent, NoMemory}
 use Rattle.connections.specs.declared.awaited.Awaited.{Awaited}
 use Rattle.connections.specs.declared.awaited.Awaited.TheVariants.{Request, Rest, Taking}
-use Rattle.connections.specs.declared.stream_end.StreamEnd.{StreamEnd}
-use Rattle.connections.specs.declared.stream_end.StreamEnd.TheVariants.{Clean, Torn, Device, Spent, NoMemory}
 use Rattle.links.specs.declared.ends.Ends.{Ends}
 
 -- a count with one more, up to 2^64 - 1

@@ -2,10 +2,10 @@
 use Rattle.std.specs.Prelude.{◌≡◌, ℕ, List, Option, None, Some, ⊤, if◌then◌else◌}
 use Rattle.serve_core.specs.declared.peer.Peer.{Peer}
 use Rattle.conversation.specs.Served.{Learned, Grows}
+use Rattle.conversation.specs.declared.stream_end.StreamEnd.{StreamEnd}
 use Rattle.connections.specs.Kept.{Kept, told_by, awaited}
 use Rattle.connections.specs.Told.{Writes}
 use Rattle.connections.specs.Going.{Goes, Stops}
-use Rattle.connections.specs.declared.stream_end.StreamEnd.{StreamEnd}
 use Rattle.links.specs.Deadlines.{IsBegun, is_over}
 use Rattle.links.specs.Ends.{one_late}
 use Rattle.links.specs.declared.ends.Ends.{Ends}

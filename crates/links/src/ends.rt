@@ -2,7 +2,8 @@
 ghost use Rattle.std.specs.Prelude.{◌≡◌};
 ghost use Rattle.links.specs.Ends.{one_more, one_late};
 
-use connections::{Awaited, StreamEnd};
+use connections::Awaited;
+use conversation::StreamEnd;
 
 /// How many connections have ended, by how they did; at most 2^64 - 1 of each are counted.
 #[derive(Clone, Copy, Default, PartialEq, Eq, Debug)]

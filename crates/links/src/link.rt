@@ -8,9 +8,8 @@ ghost use Rattle.connections.specs.Going.{Goes, Stops};
 ghost use Rattle.links.specs.Deadlines.{patience, is_over, begun_behind};
 
 use crate::limits::Limits;
-use connections::{
-    Answering, Awaited, Blocking, Conversation, Flow, Messages, StreamEnd, serve_some,
-};
+use connections::{Answering, Awaited, Blocking, Conversation, Flow, Messages, serve_some};
+use conversation::{OpenGate, StreamEnd};
 use serve_core::Peer;
 use std::alloc::Global;
 use std::net::SocketAddr;
@@ -106,6 +105,7 @@ pub(crate) fn serve_link<R: Wait, S: Blocking + Drop, M: Messages, A: Answering<
         answering,
         &mut link.conversation,
         &mut link.stream,
+        &OpenGate,
         room,
         out,
     );

@@ -1,4 +1,4 @@
-//! How a connection ends.
+//! How a stream ends.
 
 /// How the requests of a stream end.
 #[derive(Clone, Copy, PartialEq, Eq)]
