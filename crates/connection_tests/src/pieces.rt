@@ -156,11 +156,13 @@ impl Remote for Pieces {
 }
 
 impl Blocking for Pieces {
-    ghost use Rattle.std.specs.Prelude.{None};
+    ghost use Rattle.std.specs.Prelude.{None, ⊤};
 
     ghost octets = { λ _. None };
 
     ghost faults = { λ pieces. pieces.faults };
+
+    ghost would_block = { λ _. ⊤ };
 
     fn read(&mut self, buf: &mut [u8]) -> Result<usize, Fault> {
         if self.blocks() {

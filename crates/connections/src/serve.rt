@@ -5,6 +5,7 @@ ghost use Rattle.conversation.specs.Served.{Grows};
 ghost use Rattle.connections.specs.Kept.{IsWaiting, told_by};
 ghost use Rattle.connections.specs.Told.{Stays, Writes, EndsTold, IsCounted, EndCounted};
 ghost use Rattle.connections.specs.Going.{Keeps, Goes, Stops};
+ghost use Rattle.connections.specs.declared.blocking.Fault.{Fault as FaultOf};
 
 use crate::answering::{Answering, Messages};
 use crate::blocking::{Blocking, Fault};
@@ -81,6 +82,7 @@ fn write_ready<M: Messages, S: Blocking>(
     ensures written { Writes (S.octets stream.old) (S.octets stream.new) }
     ensures same { OnOk result (S.faults stream.new ≡ S.faults stream.old) }
     ensures counted { IfErr result (λ fault. IsCounted fault (S.faults stream.old) (S.faults stream.new)) }
+    ensures blocked { IfErr result (λ fault. fault ≡ FaultOf.Blocked → S.would_block stream.new) }
 {
     match stream.write(conversation.ready()) {
         Ok(count) => {
@@ -105,6 +107,7 @@ fn write_some<M: Messages, S: Blocking>(
     ensures written { Writes (S.octets stream.old) (S.octets stream.new) }
     ensures same { OnOk result (S.faults stream.new ≡ S.faults stream.old) }
     ensures counted { IfErr result (λ end. EndCounted end (S.faults stream.old) (S.faults stream.new)) }
+    ensures blocked { result ≡ Ok Flow.Blocked → S.would_block stream.new }
 {
     match conversation.refill(out) {
         Ok(()) => {}
@@ -134,6 +137,7 @@ fn flush<M: Messages, S: Blocking>(
     ensures written { Writes (S.octets stream.old) (S.octets stream.new) }
     ensures same { OnOk result (S.faults stream.new ≡ S.faults stream.old) }
     ensures counted { IfErr result (λ end. EndCounted end (S.faults stream.old) (S.faults stream.new)) }
+    ensures blocked { result ≡ Ok Flow.Blocked → S.would_block stream.new }
 {
     for _written in 0..WRITES {
         match write_some(conversation, stream, out) {
@@ -159,6 +163,7 @@ fn read_some<M: Messages, S: Blocking>(
     ensures written { Writes (S.octets stream.old) (S.octets stream.new) }
     ensures same { OnOk result (S.faults stream.new ≡ S.faults stream.old) }
     ensures counted { IfErr result (λ end. EndCounted end (S.faults stream.old) (S.faults stream.new)) }
+    ensures blocked { result ≡ Ok Flow.Blocked → S.would_block stream.new }
 {
     let count = match stream.read(room) {
         Ok(count) => count,
@@ -196,6 +201,7 @@ fn turn<R: Wait, M: Messages, A: Answering<M>, S: Blocking, G: Gate>(
     ensures written { Writes (S.octets stream.old) (S.octets stream.new) }
     ensures same { OnOk result (S.faults stream.new ≡ S.faults stream.old) }
     ensures counted { IfErr result (λ end. EndCounted end (S.faults stream.old) (S.faults stream.new)) }
+    ensures blocked { result ≡ Ok Flow.Blocked → S.would_block stream.new }
 {
     match answer_some(rt, answering, conversation, gate, out) {
         Ok(()) => {}
@@ -239,6 +245,7 @@ pub fn serve_some<R: Wait, M: Messages, A: Answering<M>, S: Blocking, G: Gate>(
     ensures written { Writes (S.octets stream.old) (S.octets stream.new) }
     ensures same { OnOk result (S.faults stream.new ≡ S.faults stream.old) }
     ensures counted { IfErr result (λ end. EndCounted end (S.faults stream.old) (S.faults stream.new)) }
+    ensures blocked { result ≡ Ok Flow.Blocked → S.would_block stream.new }
 {
     for _turned in 0..TURNS {
         match turn(rt, answering, conversation, stream, gate, room, out) {

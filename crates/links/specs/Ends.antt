@@ -24,6 +24,14 @@ one_late Request ends = record ends { idle = one_up ends.idle }
 one_late Rest ends = record ends { message = one_up ends.message }
 one_late Taking ends = record ends { reply = one_up ends.reply }
 
+-- how many are over in all, up to 2^64 - 1
+abbrev pub late_of : Ends → ℕ
+late_of ends = min (ends.idle + ends.message + ends.reply) (2 ^ 64 - 1)
+
+-- how many have ended in all, up to 2^64 - 1
+abbrev pub all_of : Ends → ℕ
+all_of ends = min (ends.clean + ends.torn + ends.device + ends.spent + ends.no_memory + ends.idle + ends.message + ends.reply) (2 ^ 64 - 1)
+
 -- so many more have ended, and each is counted, by how it did, or by what it waited for too long
 pub data Counts (old : Ends) : ℕ → Ends → Type 0 where
   none : Counts old 0 old

@@ -97,6 +97,7 @@ pub(crate) fn serve_link<R: Wait, S: Blocking + Drop, M: Messages, A: Answering<
     ensures stops { IfErr result (λ end. Stops (A.is_reply link.old.peer) end (A.seen answering.old) (told_by link.old.conversation (S.octets link.old.stream)) (A.seen answering.new) (S.octets link.new.stream)) }
     ensures written { Writes (S.octets link.old.stream) (S.octets link.new.stream) }
     ensures begun { link.new.begun ≡ begun_behind link.old.conversation.passed link.new.conversation.passed link.old.begun now }
+    ensures blocked { result ≡ Ok Flow.Blocked → S.would_block link.new.stream }
 {
     answering.turn_to(link.peer, link.from);
     let passed = link.conversation.passed();
