@@ -1,10 +1,9 @@
 //! Want of memory: what holds where each request for it is refused in turn, as `refused.sh` does.
-ghost use Rattle.std.specs.Prelude.{◌≡◌, IfSome};
-
 use crate::echo::{Both, Echo};
 use crate::made_up::{Comers, Teller, turned};
 use crate::pieces::{Behind, Pieces};
-use connections::{StreamEnd, serve_stream};
+use crate::shares::serve_to_end;
+use conversation::StreamEnd;
 use links::{Ends, Link, serve_ready};
 use serve_core::{Peer, Transport};
 use slab::Slab;
@@ -46,21 +45,17 @@ fn some_requests(alloc: Global) -> Option<Script> {
 }
 
 /// A stream of a script's requests, with memory for all its replies; None where there is none.
-fn stream(alloc: Global, script: &Script, behind: Behind) -> Option<Pieces>
-    ensures { IfSome result (λ stream. stream.faults ≡ 0) }
-{
+fn stream(alloc: Global, script: &Script, behind: Behind) -> Option<Pieces> {
     let stream = Pieces::new(alloc, script.sent.as_slice(), 70, behind).ok()?;
     stream.with_memory(1_000).ok()
 }
 
 /// How a stream ends that is served; an `AllocError` where there is no memory for what it is served by.
-fn end_of<R: Wait>(rt: &R, alloc: Global, stream: &mut Pieces) -> Result<StreamEnd, AllocError>
-    requires { stream.old.faults ≡ 0 }
-{
+fn end_of<R: Wait>(rt: &R, alloc: Global, stream: &mut Pieces) -> Result<StreamEnd, AllocError> {
     let mut room = vec![in alloc; 0; 64]?;
     let mut out = vec![in alloc; 0; 65_535]?;
     let mut echo = Echo::new(9);
-    Ok(serve_stream(rt, alloc, &mut echo, stream, &mut room, &mut out))
+    Ok(serve_to_end(rt, alloc, &mut echo, stream, &mut room, &mut out))
 }
 
 /// Whether all replies are written to a stream that is served to its end; or a beginning of them, where that is want of memory. None there,

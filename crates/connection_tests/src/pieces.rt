@@ -1,5 +1,5 @@
 //! A stream in memory that gives and takes its octets in pieces, and would block before each of them; or fails once it has taken so many.
-ghost use Rattle.std.specs.Prelude.{◌≡◌, ◌<◌, ◌-◌, ◌^◌, IfOk};
+ghost use Rattle.std.specs.Prelude.{◌≡◌, ◌<◌, ◌-◌, ◌^◌};
 ghost use Rattle.connections.specs.declared.blocking.Fault.{Fault as FaultOf};
 
 use connections::{Blocking, Fault};
@@ -54,9 +54,7 @@ impl Pieces {
         octets: &[u8],
         most: usize,
         behind: Behind,
-    ) -> Result<Pieces, AllocError>
-        ensures { IfOk result (λ pieces. pieces.faults ≡ 0) }
-    {
+    ) -> Result<Pieces, AllocError> {
         let mut held = Vec::new(alloc);
         held.extend_from_slice(octets)?;
         Ok(Pieces {
@@ -74,9 +72,7 @@ impl Pieces {
     }
 
     /// The same, from an address of 192.0.2.0/24.
-    pub(crate) fn coming_from(self, last: u8) -> Pieces
-        ensures { result.faults ≡ self.faults }
-    {
+    pub(crate) fn coming_from(self, last: u8) -> Pieces {
         Pieces {
             from: address(last),
             ..self
@@ -84,9 +80,7 @@ impl Pieces {
     }
 
     /// The same in pieces of random sizes, by a number.
-    pub(crate) fn at_random(self, number: u64) -> Pieces
-        ensures { result.faults ≡ self.faults }
-    {
+    pub(crate) fn at_random(self, number: u64) -> Pieces {
         Pieces {
             sizes: Sizes::Random(number),
             ..self
@@ -94,9 +88,7 @@ impl Pieces {
     }
 
     /// The same, which never would block where it has something to give or take.
-    pub(crate) fn at_once(self) -> Pieces
-        ensures { result.faults ≡ self.faults }
-    {
+    pub(crate) fn at_once(self) -> Pieces {
         Pieces {
             may_block: false,
             ..self
@@ -104,16 +96,12 @@ impl Pieces {
     }
 
     /// The same, which fails once it has taken so many octets.
-    pub(crate) fn that_takes(self, room: usize) -> Pieces
-        ensures { result.faults ≡ self.faults }
-    {
+    pub(crate) fn that_takes(self, room: usize) -> Pieces {
         Pieces { room, ..self }
     }
 
     /// The same, with memory for so many octets that are written.
-    pub(crate) fn with_memory(self, octets: usize) -> Result<Pieces, AllocError>
-        ensures { IfOk result (λ pieces. pieces.faults ≡ self.faults) }
-    {
+    pub(crate) fn with_memory(self, octets: usize) -> Result<Pieces, AllocError> {
         let mut pieces = self;
         pieces.written.reserve(octets)?;
         Ok(pieces)
@@ -168,11 +156,13 @@ impl Remote for Pieces {
 }
 
 impl Blocking for Pieces {
-    ghost use Rattle.std.specs.Prelude.{None};
+    ghost use Rattle.std.specs.Prelude.{None, ⊤};
 
     ghost octets = { λ _. None };
 
     ghost faults = { λ pieces. pieces.faults };
+
+    ghost would_block = { λ _. ⊤ };
 
     fn read(&mut self, buf: &mut [u8]) -> Result<usize, Fault> {
         if self.blocks() {

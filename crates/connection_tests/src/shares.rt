@@ -1,12 +1,35 @@
 //! Streams that are served by shares, to each of their ends.
-ghost use Rattle.std.specs.Prelude.{◌≡◌};
+ghost use Rattle.std.specs.Prelude.{◌<◌, ◌≤◌, length};
 
 use crate::echo::Echo;
 use crate::pieces::{Behind, Pieces};
-use connections::{StreamEnd, serve_stream};
+use connections::{Conversation, serve_some};
+use conversation::{OpenGate, StreamEnd};
 use std::alloc::Global;
 use std::sync::Wait;
 use std::test::Fail;
+
+/// Serves a stream share after share, and says how it ends.
+pub(crate) fn serve_to_end<R: Wait>(
+    rt: &R,
+    alloc: Global,
+    echo: &mut Echo,
+    stream: &mut Pieces,
+    room: &mut [u8],
+    out: &mut [u8],
+) -> StreamEnd
+    requires room { 0 < length room.old }
+    requires out { 65535 ≤ length out.old }
+{
+    let mut conversation = Conversation::new(alloc);
+    for _ in rt.forever() {
+        match serve_some(rt, echo, &mut conversation, stream, &OpenGate, room, out) {
+            Ok(_) => {}
+            Err(end) => return end,
+        }
+    }
+    unreachable!()
+}
 
 /// Serves a stream, of which so many requests are answered, and says how it ends and what is written.
 fn served<R: Wait>(
@@ -14,14 +37,12 @@ fn served<R: Wait>(
     alloc: Global,
     stream: Pieces,
     requests: u32,
-) -> Result<(StreamEnd, Vec<u8>), Fail>
-    requires { stream.faults ≡ 0 }
-{
+) -> Result<(StreamEnd, Vec<u8>), Fail> {
     let mut room = vec![in alloc; 0; 4_096]?;
     let mut out = vec![in alloc; 0; 65_535]?;
     let mut echo = Echo::new(requests);
     let mut stream = stream;
-    let end = serve_stream(rt, alloc, &mut echo, &mut stream, &mut room, &mut out);
+    let end = serve_to_end(rt, alloc, &mut echo, &mut stream, &mut room, &mut out);
     Ok((end, stream.written().to_vec(alloc)?))
 }
 

@@ -3,6 +3,7 @@ ghost use Rattle.std.specs.Prelude.{◌<◌, ◌≤◌, length};
 
 use crate::echo::{Both, Echo};
 use connections::Conversation;
+use conversation::OpenGate;
 use std::alloc::{AllocError, Global};
 use std::process::Abort;
 use std::sync::Wait;
@@ -55,7 +56,7 @@ fn go_on<R: Wait>(
 ) -> Result<bool, Fail>
     requires { 65535 ≤ length out.old }
 {
-    if conversation.answer(rt, echo, out).is_err() {
+    if conversation.answer(rt, echo, &OpenGate, out).is_err() {
         return Err("no reply is made")?;
     }
     let ready = conversation.ready();

@@ -2,14 +2,14 @@
 use Rattle.std.proofs.Common.{◌≡◌, refl, ℕ, List, [], ◌++◌, Option, None, Some, IfSome, sym, ap, ◌∙◌, subst, append_assoc}
 use Rattle.dns_message.specs.Frame.{frame_of}
 use Rattle.conversation.specs.Octets.{frames_of}
-use Rattle.conversation.specs.Served.{Learned, Grows, Served}
+use Rattle.conversation.specs.Served.{Learned, Grows, Served, EndsAs}
 use Rattle.conversation.specs.Turns.{Turn}
 use Rattle.conversation.proofs.TurnLemmas.{grows_more, served_more, known_first}
+use Rattle.conversation.specs.declared.stream_end.StreamEnd.{StreamEnd}
+use Rattle.conversation.specs.declared.stream_end.StreamEnd.TheVariants.{Clean, Torn, Device, Spent, NoMemory}
 use Rattle.connections.specs.Kept.{Kept, due, told_by}
 use Rattle.connections.specs.Told.{Stays, Writes, EndsTold}
-use Rattle.connections.specs.Going.{Known, Goes, Keeps, PartlyTold, Ends, Stops, EndsAs}
-use Rattle.connections.specs.declared.stream_end.StreamEnd.{StreamEnd}
-use Rattle.connections.specs.declared.stream_end.StreamEnd.TheVariants.{Clean, Torn, Device, Spent, NoMemory}
+use Rattle.connections.specs.Going.{Known, Goes, Keeps, PartlyTold, Ends, Stops}
 
 abbrev written_of : Option (List ℕ × List ℕ) → List ℕ
 written_of None = []

@@ -1,10 +1,10 @@
 -- What stays told when octets move, and what an end leaves.
 use Rattle.std.proofs.Common.{◌≡◌, ◌≢◌, refl, ℕ, List, [], ◌++◌, Option, None, Some, take, drop, sym, ap, ◌∙◌, subst, append_assoc, append-nil, take-append-drop}
 use Rattle.conversation.specs.Octets.{Gives, Takes, IsAtEnd, IsTorn, frames_of}
+use Rattle.conversation.specs.declared.stream_end.StreamEnd.{StreamEnd}
+use Rattle.conversation.specs.declared.stream_end.StreamEnd.TheVariants.{Clean, Torn, Device, Spent, NoMemory}
 use Rattle.connections.specs.Kept.{Kept, due, told_by, nothing_kept, IsWaiting}
 use Rattle.connections.specs.Told.{Stays, Writes, EndsTold}
-use Rattle.connections.specs.declared.stream_end.StreamEnd.{StreamEnd}
-use Rattle.connections.specs.declared.stream_end.StreamEnd.TheVariants.{Clean, Torn, Device, Spent, NoMemory}
 
 pub stays_itself : (a : Option (List ℕ × List ℕ)) → Stays a a
 stays_itself None = tt

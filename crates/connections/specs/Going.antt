@@ -1,10 +1,9 @@
 -- How a connection goes on, and how it ends: the replies to its requests, in their order (RFC 1035, 4.2.2; RFC 7766, 6.2.1.1).
 use Rattle.std.specs.Prelude.{◌≡◌, ℕ, List, ◌++◌, Option, Some, IfSome}
-use Rattle.conversation.specs.Served.{Learned, Served, PartlyServed, EndsAs as EndsByThen}
-use Rattle.conversation.specs.declared.stream.StreamEnd.TheVariants.{Clean as CleanThen, Torn as TornThen, Device as DeviceThen, Spent as SpentThen}
+use Rattle.conversation.specs.Served.{Learned, Served, EndsAs}
+use Rattle.conversation.specs.declared.stream_end.StreamEnd.{StreamEnd}
+use Rattle.conversation.specs.declared.stream_end.StreamEnd.TheVariants.{Clean, Torn, Device, Spent, NoMemory}
 use Rattle.connections.specs.Kept.{Kept, told_by}
-use Rattle.connections.specs.declared.stream_end.StreamEnd.{StreamEnd}
-use Rattle.connections.specs.declared.stream_end.StreamEnd.TheVariants.{Clean, Torn, Device, Spent, NoMemory}
 
 -- what a reply is, by the list of what is known to be published before it and that of what is when it is made, the request, and the reply's
 -- messages
@@ -33,8 +32,8 @@ module _ {T : Type 0} (IsReply : Learned T → Learned T → List ℕ → List (
 
   -- how a connection ends, from some state of its stream: all is answered and written but for a torn frame, or a beginning of it is
   abbrev pub Ends : StreamEnd → Learned T → List ℕ × List ℕ → Learned T → Option (List ℕ × List ℕ) → Type 0
-  Ends Clean start old seen new = EndsByThen IsReply CleanThen start old seen new
-  Ends Torn start old seen new = EndsByThen IsReply TornThen start old seen new
+  Ends Clean start old seen new = EndsAs IsReply Clean start old seen new
+  Ends Torn start old seen new = EndsAs IsReply Torn start old seen new
   Ends Device start old seen new = PartlyTold start old seen new
   Ends Spent start old seen new = PartlyTold start old seen new
   Ends NoMemory start old seen new = PartlyTold start old seen new
@@ -42,12 +41,3 @@ module _ {T : Type 0} (IsReply : Learned T → Learned T → List ℕ → List (
   -- a connection ends, from whichever state it began
   abbrev pub Stops : StreamEnd → Learned T → Option (List ℕ × List ℕ) → Learned T → Option (List ℕ × List ℕ) → Type 0
   Stops end seen told later new = (start : Learned T) (old : Option (List ℕ × List ℕ)) → Known start old seen told → IfSome old (λ o. Ends end start o later new)
-
-  -- how a stream ends: with all its frames answered, nothing or a torn frame behind them, and nothing left to be read; else with a beginning
-  -- of the replies written
-  abbrev pub EndsAs : StreamEnd → Learned T → List ℕ × List ℕ → Learned T → Option (List ℕ × List ℕ) → Type 0
-  EndsAs Clean start old seen new = EndsByThen IsReply CleanThen start old seen new
-  EndsAs Torn start old seen new = EndsByThen IsReply TornThen start old seen new
-  EndsAs Device start old seen new = EndsByThen IsReply DeviceThen start old seen new
-  EndsAs Spent start old seen new = EndsByThen IsReply SpentThen start old seen new
-  EndsAs NoMemory start old seen new = PartlyServed IsReply start old seen new

@@ -1,10 +1,10 @@
 -- What becomes of a stream that tells its octets (own).
-use Rattle.std.specs.Prelude.{◌≡◌, ℕ, ◌-◌, ◌^◌, ◌<◌, List, [], ◌++◌, Option, Some, IfSome, ⊤}
+use Rattle.std.specs.Prelude.{◌≡◌, ℕ, ◌-◌, ◌^◌, ◌<◌, List, [], ◌++◌, Option, Some, IfSome}
 use Rattle.conversation.specs.Octets.{IsTorn}
+use Rattle.conversation.specs.declared.stream_end.StreamEnd.{StreamEnd}
+use Rattle.conversation.specs.declared.stream_end.StreamEnd.TheVariants.{Clean, Torn, Device, Spent, NoMemory}
 use Rattle.connections.specs.declared.blocking.Fault.{Fault}
 use Rattle.connections.specs.declared.blocking.Fault.TheVariants.{Blocked, Failed}
-use Rattle.connections.specs.declared.stream_end.StreamEnd.{StreamEnd}
-use Rattle.connections.specs.declared.stream_end.StreamEnd.TheVariants.{Clean, Torn, Device, Spent, NoMemory}
 
 -- a stream is told as it was
 abbrev pub Stays : Option (List ℕ × List ℕ) → Option (List ℕ × List ℕ) → Type 0
@@ -28,10 +28,10 @@ abbrev pub IsCounted : Fault → ℕ → ℕ → Type 0
 IsCounted Blocked faults more = more ≡ faults
 IsCounted Failed faults more = faults < 2 ^ 64 - 1 → faults < more
 
--- an end and the count of failures: one by the device is counted
+-- an end and the count of failures: one by the device is counted, and nothing has failed at any other
 abbrev pub EndCounted : StreamEnd → ℕ → ℕ → Type 0
 EndCounted Device faults more = faults < 2 ^ 64 - 1 → faults < more
-EndCounted Clean faults more = ⊤
-EndCounted Torn faults more = ⊤
-EndCounted Spent faults more = ⊤
-EndCounted NoMemory faults more = ⊤
+EndCounted Clean faults more = more ≡ faults
+EndCounted Torn faults more = more ≡ faults
+EndCounted Spent faults more = more ≡ faults
+EndCounted NoMemory faults more = more ≡ faults

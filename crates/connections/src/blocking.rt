@@ -2,6 +2,7 @@
 ghost use Rattle.std.specs.Prelude.{◌≡◌, ℕ, ◌<◌, ◌≤◌, List, [], length, take, Option, IfOk, IfErr, OnOk, OnErr};
 ghost use Rattle.conversation.specs.Octets.{Gives, Takes, IsAtEnd};
 ghost use Rattle.connections.specs.Told.{IsCounted};
+ghost use Rattle.connections.specs.declared.blocking.Fault.{Fault as FaultOf};
 
 use conversation::{Counted, DeviceFailed, Stream};
 
@@ -23,6 +24,9 @@ pub trait Blocking {
     /// How many reads and writes have failed; at most 2^64 - 1 are counted.
     ghost faults: { Self → ℕ };
 
+    /// That it would block, as it has told.
+    ghost would_block: { Self → Type 0 };
+
     /// Reads some octets to the front of a buffer, and gives how many; 0 only where nothing is left, if the buffer isn't empty.
     fn read(&mut self, buf: &mut [u8]) -> Result<usize, Fault>
         ensures bound { IfOk result (λ n. n ≤ length buf.new) }
@@ -30,7 +34,8 @@ pub trait Blocking {
         ensures end { IfOk result (λ n. n ≡ 0 → 0 < length buf.new → IsAtEnd (octets self.new)) }
         ensures same { OnOk result (faults self.new ≡ faults self.old) }
         ensures failed { OnErr result (Gives (octets self.old) (octets self.new) []) }
-        ensures counted { IfErr result (λ fault. IsCounted fault (faults self.old) (faults self.new)) };
+        ensures counted { IfErr result (λ fault. IsCounted fault (faults self.old) (faults self.new)) }
+        ensures blocked { IfErr result (λ fault. fault ≡ FaultOf.Blocked → would_block self.new) };
 
     /// Writes the first of some octets, and gives how many: at least 1.
     fn write(&mut self, buf: &[u8]) -> Result<usize, Fault>
@@ -39,13 +44,17 @@ pub trait Blocking {
         ensures takes { IfOk result (λ n. Takes (octets self.old) (octets self.new) (take n buf.now)) }
         ensures same { OnOk result (faults self.new ≡ faults self.old) }
         ensures failed { OnErr result (Takes (octets self.old) (octets self.new) []) }
-        ensures counted { IfErr result (λ fault. IsCounted fault (faults self.old) (faults self.new)) };
+        ensures counted { IfErr result (λ fault. IsCounted fault (faults self.old) (faults self.new)) }
+        ensures blocked { IfErr result (λ fault. fault ≡ FaultOf.Blocked → would_block self.new) };
 }
 
 impl<S: Stream> Blocking for Counted<S> {
     ghost octets = { λ stream. S.octets stream.inner };
 
     ghost faults = { λ stream. stream.faults };
+
+    // It waits.
+    ghost would_block = { λ _. ⊥ };
 
     fn read(&mut self, buf: &mut [u8]) -> Result<usize, Fault> {
         match Counted::read(self, buf) {

@@ -13,7 +13,6 @@ mod machine;
 mod queue;
 mod serve;
 mod stream;
-mod stream_end;
 
 pub use answering::{Answering, Messages, Reply};
 pub use awaited::Awaited;
@@ -21,4 +20,3 @@ pub use blocking::{Blocking, Fault};
 pub use machine::{Broken, Conversation};
 pub use serve::{Flow, serve_some};
 pub use stream::serve_stream;
-pub use stream_end::StreamEnd;

@@ -10,6 +10,7 @@ ghost use Rattle.connections.specs.Kept.{nothing_kept, due, IsWaiting, awaited, 
 use crate::answering::{Answering, Messages, Reply};
 use crate::awaited::Awaited;
 use crate::queue::{LENGTH, Queue};
+use conversation::Gate;
 use dns_message::take_frame;
 use std::alloc::{AllocError, Global};
 use std::marker::Model;
@@ -155,12 +156,13 @@ impl<M: Messages> Conversation<M> {
         }
     }
 
-    /// Answers the first request that is held in whole, and puts the reply behind what is to be written. False, and all as it was, where
-    /// none is, or so much is to be written that this goes first.
-    pub fn answer<R: Wait, A: Answering<M>>(
+    /// Answers the first request that is held in whole, and puts the reply behind what is to be written. It goes through the gate, which is
+    /// left once the reply is made. False, and all as it was, where none is, or so much is to be written that this goes first.
+    pub fn answer<R: Wait, A: Answering<M>, G: Gate>(
         &mut self,
         rt: &R,
         answering: &mut A,
+        gate: &G,
         out: &mut [u8],
     ) -> Result<bool, Broken>
         requires { message_limit ≤ length out.old }
@@ -178,7 +180,10 @@ impl<M: Messages> Conversation<M> {
             return Ok(false);
         };
         let count = LENGTH + request.len();
-        let reply = match answering.reply(rt, request, out) {
+        gate.enter();
+        let made = answering.reply(rt, request, out);
+        gate.leave();
+        let reply = match made {
             Ok(reply) => reply,
             Err(_) => return Err(Broken::Spent),
         };

@@ -5,11 +5,12 @@ ghost use Rattle.conversation.specs.Served.{Grows};
 ghost use Rattle.connections.specs.Kept.{IsWaiting, told_by};
 ghost use Rattle.connections.specs.Told.{Stays, Writes, EndsTold, IsCounted, EndCounted};
 ghost use Rattle.connections.specs.Going.{Keeps, Goes, Stops};
+ghost use Rattle.connections.specs.declared.blocking.Fault.{Fault as FaultOf};
 
 use crate::answering::{Answering, Messages};
 use crate::blocking::{Blocking, Fault};
 use crate::machine::{Broken, Conversation};
-use crate::stream_end::StreamEnd;
+use conversation::{Gate, StreamEnd};
 use std::sync::Wait;
 
 /// How many requests a turn answers at most (own).
@@ -46,10 +47,11 @@ impl Flow {
 }
 
 /// Answers requests that are held in whole, in their order, so many at most.
-fn answer_some<R: Wait, M: Messages, A: Answering<M>>(
+fn answer_some<R: Wait, M: Messages, A: Answering<M>, G: Gate>(
     rt: &R,
     answering: &mut A,
     conversation: &mut Conversation<M>,
+    gate: &G,
     out: &mut [u8],
 ) -> Result<(), Broken>
     requires { message_limit ≤ length out.old }
@@ -58,7 +60,7 @@ fn answer_some<R: Wait, M: Messages, A: Answering<M>>(
     ensures keeps { Keeps (A.is_reply (A.peer answering.old)) (A.seen answering.old) conversation.old (A.seen answering.new) conversation.new }
 {
     for _answered in 0..REQUESTS {
-        match conversation.answer(rt, answering, out) {
+        match conversation.answer(rt, answering, gate, out) {
             Ok(is_made) => {
                 if !is_made {
                     return Ok(());
@@ -80,6 +82,7 @@ fn write_ready<M: Messages, S: Blocking>(
     ensures written { Writes (S.octets stream.old) (S.octets stream.new) }
     ensures same { OnOk result (S.faults stream.new ≡ S.faults stream.old) }
     ensures counted { IfErr result (λ fault. IsCounted fault (S.faults stream.old) (S.faults stream.new)) }
+    ensures blocked { IfErr result (λ fault. fault ≡ FaultOf.Blocked → S.would_block stream.new) }
 {
     match stream.write(conversation.ready()) {
         Ok(count) => {
@@ -104,6 +107,7 @@ fn write_some<M: Messages, S: Blocking>(
     ensures written { Writes (S.octets stream.old) (S.octets stream.new) }
     ensures same { OnOk result (S.faults stream.new ≡ S.faults stream.old) }
     ensures counted { IfErr result (λ end. EndCounted end (S.faults stream.old) (S.faults stream.new)) }
+    ensures blocked { result ≡ Ok Flow.Blocked → S.would_block stream.new }
 {
     match conversation.refill(out) {
         Ok(()) => {}
@@ -133,6 +137,7 @@ fn flush<M: Messages, S: Blocking>(
     ensures written { Writes (S.octets stream.old) (S.octets stream.new) }
     ensures same { OnOk result (S.faults stream.new ≡ S.faults stream.old) }
     ensures counted { IfErr result (λ end. EndCounted end (S.faults stream.old) (S.faults stream.new)) }
+    ensures blocked { result ≡ Ok Flow.Blocked → S.would_block stream.new }
 {
     for _written in 0..WRITES {
         match write_some(conversation, stream, out) {
@@ -158,6 +163,7 @@ fn read_some<M: Messages, S: Blocking>(
     ensures written { Writes (S.octets stream.old) (S.octets stream.new) }
     ensures same { OnOk result (S.faults stream.new ≡ S.faults stream.old) }
     ensures counted { IfErr result (λ end. EndCounted end (S.faults stream.old) (S.faults stream.new)) }
+    ensures blocked { result ≡ Ok Flow.Blocked → S.would_block stream.new }
 {
     let count = match stream.read(room) {
         Ok(count) => count,
@@ -177,11 +183,12 @@ fn read_some<M: Messages, S: Blocking>(
 }
 
 /// Answers requests that are held, writes what is to be written, and reads once, where nothing is left to be written.
-fn turn<R: Wait, M: Messages, A: Answering<M>, S: Blocking>(
+fn turn<R: Wait, M: Messages, A: Answering<M>, S: Blocking, G: Gate>(
     rt: &R,
     answering: &mut A,
     conversation: &mut Conversation<M>,
     stream: &mut S,
+    gate: &G,
     room: &mut [u8],
     out: &mut [u8],
 ) -> Result<Flow, StreamEnd>
@@ -194,8 +201,9 @@ fn turn<R: Wait, M: Messages, A: Answering<M>, S: Blocking>(
     ensures written { Writes (S.octets stream.old) (S.octets stream.new) }
     ensures same { OnOk result (S.faults stream.new ≡ S.faults stream.old) }
     ensures counted { IfErr result (λ end. EndCounted end (S.faults stream.old) (S.faults stream.new)) }
+    ensures blocked { result ≡ Ok Flow.Blocked → S.would_block stream.new }
 {
-    match answer_some(rt, answering, conversation, out) {
+    match answer_some(rt, answering, conversation, gate, out) {
         Ok(()) => {}
         Err(Broken::Spent) => return Err(StreamEnd::Spent),
         Err(Broken::NoMemory) => return Err(StreamEnd::NoMemory),
@@ -217,12 +225,14 @@ fn turn<R: Wait, M: Messages, A: Answering<M>, S: Blocking>(
 
 /// Serves a connection by a share: some turns of its conversation with its stream. Over a stream that tells its octets, what is written and
 /// what is to be is the frames of the replies to the requests that are read, in their order, each by what was known then to be published;
-/// where the stream ends by itself, all of it is written, else a beginning of it (RFC 1035, 4.2.2; RFC 7766, 6.2.1.1).
-pub fn serve_some<R: Wait, M: Messages, A: Answering<M>, S: Blocking>(
+/// where the stream ends by itself, all of it is written, else a beginning of it (RFC 1035, 4.2.2; RFC 7766, 6.2.1.1). Each request goes
+/// through the gate, which is left once its reply is made.
+pub fn serve_some<R: Wait, M: Messages, A: Answering<M>, S: Blocking, G: Gate>(
     rt: &R,
     answering: &mut A,
     conversation: &mut Conversation<M>,
     stream: &mut S,
+    gate: &G,
     room: &mut [u8],
     out: &mut [u8],
 ) -> Result<Flow, StreamEnd>
@@ -235,9 +245,10 @@ pub fn serve_some<R: Wait, M: Messages, A: Answering<M>, S: Blocking>(
     ensures written { Writes (S.octets stream.old) (S.octets stream.new) }
     ensures same { OnOk result (S.faults stream.new ≡ S.faults stream.old) }
     ensures counted { IfErr result (λ end. EndCounted end (S.faults stream.old) (S.faults stream.new)) }
+    ensures blocked { result ≡ Ok Flow.Blocked → S.would_block stream.new }
 {
     for _turned in 0..TURNS {
-        match turn(rt, answering, conversation, stream, room, out) {
+        match turn(rt, answering, conversation, stream, gate, room, out) {
             Ok(flow) => {
                 if flow.is_blocked() {
                     return Ok(flow);

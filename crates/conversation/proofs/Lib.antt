@@ -1,4 +1,3 @@
 pub mod AllowedLemmas
-pub mod StreamLemmas
 pub mod TurnLemmas
 pub mod ExchangeLemmas

@@ -1,5 +1,4 @@
 pub mod Octets
-pub mod Cut
 pub mod Allowed
 pub mod Datagrams
 pub mod Exchanged

@@ -1,8 +1,8 @@
 -- What is written on a stream: the replies to its requests, in their order (RFC 1035, 4.2.2).
 use Rattle.std.specs.Prelude.{◌≡◌, ℕ, List, [], ◌∷◌, ◌++◌, Option, Some}
 use Rattle.conversation.specs.Octets.{frames_of, IsTorn}
-use Rattle.conversation.specs.declared.stream.StreamEnd.{StreamEnd}
-use Rattle.conversation.specs.declared.stream.StreamEnd.TheVariants.{Clean, Torn, Device, Spent}
+use Rattle.conversation.specs.declared.stream_end.StreamEnd.{StreamEnd}
+use Rattle.conversation.specs.declared.stream_end.StreamEnd.TheVariants.{Clean, Torn, Device, Spent, NoMemory}
 
 -- a list begins with another one
 abbrev pub BeginsWith : {T : Type 0} → List T → List T → Type 0
@@ -58,3 +58,4 @@ module _ {T : Type 0} (IsReply : Learned T → Learned T → List ℕ → List (
   EndsAs Torn start old seen new = (torn written : List ℕ) × (new ≡ Some ([], written)) × IsTorn torn × Served start old seen (torn, written)
   EndsAs Device start old seen new = PartlyServed start old seen new
   EndsAs Spent start old seen new = PartlyServed start old seen new
+  EndsAs NoMemory start old seen new = PartlyServed start old seen new

@@ -1,23 +1,23 @@
 //! Requests and replies on streams and by datagrams (RFC 1035, 4.2), with no device and no zone.
 //!
-//! [`serve_stream`] answers the requests of a stream one after another; over a stream that tells its octets its contract says what is
-//! written: the frames of the replies, in order, whole or a beginning of them (`EndsAs`). [`serve_udp`] does the same by datagrams
-//! (`EndsBy`). What a reply is, an [`Answering`] says.
+//! [`serve_udp`] answers the requests of datagrams one after another; over datagrams that tell themselves its contract says what is
+//! sent: the replies, in order, each to who asked (`EndsBy`). What a reply is, an [`Answering`] says. Of streams it has what they tell and
+//! how their failures are counted ([`Counted`]), and what is written on one when it ends: the frames of the replies, in order, whole or a
+//! beginning of them (`EndsAs`); `connections` serves them.
 #![tactic(auto)]
 
 mod allowed;
+mod answering;
 mod counted;
 mod datagrams;
-mod frames;
 mod gate;
-mod stream;
-mod turn;
+mod stream_end;
 mod udp;
 
 pub use allowed::Allowed;
+pub use answering::Answering;
 pub use counted::{Counted, DeviceFailed, Stream};
 pub use datagrams::Datagrams;
 pub use gate::{Gate, OpenGate};
-pub use stream::{Answering, StreamEnd, serve_stream};
-pub use turn::{Broken, write_frame};
+pub use stream_end::StreamEnd;
 pub use udp::{DatagramsEnd, serve_udp};

@@ -6,9 +6,9 @@ ghost use Rattle.conversation.specs.Exchanged.{RepliesTo, TurnsBy, EndsBy};
 ghost use Rattle.conversation.specs.Datagrams.{by_datagram};
 
 use crate::allowed::Allowed;
+use crate::answering::Answering;
 use crate::datagrams::Datagrams;
 use crate::gate::Gate;
-use crate::stream::Answering;
 use serve_core::Transport;
 use snapshot_cell::Spent;
 use std::net::SocketAddr;

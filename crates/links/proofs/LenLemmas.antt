@@ -3,8 +3,8 @@ use Rattle.std.proofs.Common.{◌≡◌, refl, ℕ, ◌+◌, sym, ap, subst, Opt
 use Rattle.std.proofs.lemmas.List.Sums.{sum_by-set}
 use Rattle.slab.specs.Slab.{Slab, get, with_value, ContainsKey, slab_len}
 use Rattle.slab.proofs.SlabLemmas.{ContainsKey-within}
+use Rattle.conversation.specs.declared.stream_end.StreamEnd.{StreamEnd}
 use Rattle.connections.specs.declared.awaited.Awaited.{Awaited}
-use Rattle.connections.specs.declared.stream_end.StreamEnd.{StreamEnd}
 use Rattle.links.specs.Ends.{one_more, one_late, Counts, none, one, late, AreCounted}
 use Rattle.links.specs.declared.ends.Ends.{Ends}
 

@@ -2,3 +2,4 @@ pub mod BegunLemmas
 pub mod OwnLemmas
 pub mod SweepLemmas
 pub mod LenLemmas
+pub mod NextLemmas

@@ -4,8 +4,8 @@ use Rattle.std.proofs.lemmas.Bool.{cases_eq}
 use Rattle.serve_core.specs.declared.peer.Peer.{Peer}
 use Rattle.conversation.specs.Served.{Learned, Grows}
 use Rattle.conversation.proofs.TurnLemmas.{grows_more}
+use Rattle.conversation.specs.declared.stream_end.StreamEnd.{StreamEnd}
 use Rattle.connections.specs.Going.{Goes, Stops}
-use Rattle.connections.specs.declared.stream_end.StreamEnd.{StreamEnd}
 use Rattle.connections.proofs.ToldLemmas.{writes_itself, writes_more}
 use Rattle.connections.proofs.GoingLemmas.{goes_seen, goes_more, stops_more}
 use Rattle.links.proofs.BegunLemmas.{begun_more}

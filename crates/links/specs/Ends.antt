@@ -1,9 +1,9 @@
 -- How connections have ended, counted (own).
 use Rattle.std.specs.Prelude.{◌≡◌, ℕ, ◌+◌, ◌-◌, ◌^◌, min}
+use Rattle.conversation.specs.declared.stream_end.StreamEnd.{StreamEnd}
+use Rattle.conversation.specs.declared.stream_end.StreamEnd.TheVariants.{Clean, Torn, Device, Spent, NoMemory}
 use Rattle.connections.specs.declared.awaited.Awaited.{Awaited}
 use Rattle.connections.specs.declared.awaited.Awaited.TheVariants.{Request, Rest, Taking}
-use Rattle.connections.specs.declared.stream_end.StreamEnd.{StreamEnd}
-use Rattle.connections.specs.declared.stream_end.StreamEnd.TheVariants.{Clean, Torn, Device, Spent, NoMemory}
 use Rattle.links.specs.declared.ends.Ends.{Ends}
 
 -- a count with one more, up to 2^64 - 1
@@ -23,6 +23,14 @@ abbrev pub one_late : Awaited → Ends → Ends
 one_late Request ends = record ends { idle = one_up ends.idle }
 one_late Rest ends = record ends { message = one_up ends.message }
 one_late Taking ends = record ends { reply = one_up ends.reply }
+
+-- how many are over in all, up to 2^64 - 1
+abbrev pub late_of : Ends → ℕ
+late_of ends = min (ends.idle + ends.message + ends.reply) (2 ^ 64 - 1)
+
+-- how many have ended in all, up to 2^64 - 1
+abbrev pub all_of : Ends → ℕ
+all_of ends = min (ends.clean + ends.torn + ends.device + ends.spent + ends.no_memory + ends.idle + ends.message + ends.reply) (2 ^ 64 - 1)
 
 -- so many more have ended, and each is counted, by how it did, or by what it waited for too long
 pub data Counts (old : Ends) : ℕ → Ends → Type 0 where

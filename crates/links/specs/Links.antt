@@ -1,11 +1,11 @@
 -- What becomes of each connection of a worker (own).
-use Rattle.std.specs.Prelude.{◌≡◌, ℕ, List, Option, None, Some, ⊤, if◌then◌else◌}
+use Rattle.std.specs.Prelude.{◌≡◌, ℕ, List, Option, None, Some, IfSome, ⊤, if◌then◌else◌}
 use Rattle.serve_core.specs.declared.peer.Peer.{Peer}
 use Rattle.conversation.specs.Served.{Learned, Grows}
+use Rattle.conversation.specs.declared.stream_end.StreamEnd.{StreamEnd}
 use Rattle.connections.specs.Kept.{Kept, told_by, awaited}
 use Rattle.connections.specs.Told.{Writes}
 use Rattle.connections.specs.Going.{Goes, Stops}
-use Rattle.connections.specs.declared.stream_end.StreamEnd.{StreamEnd}
 use Rattle.links.specs.Deadlines.{IsBegun, is_over}
 use Rattle.links.specs.Ends.{one_late}
 use Rattle.links.specs.declared.ends.Ends.{Ends}
@@ -49,6 +49,10 @@ module _ {T : Type 0} (IsReply : Peer → Learned T → Learned T → List ℕ �
   OwnServed now seen None later (Some new) = ⊥
   OwnServed now seen (Some old) later None = HasEnded seen old later
   OwnServed now seen (Some old) later (Some new) = HasGone now seen old later new
+
+-- there is no connection under a key, or its stream would block
+abbrev pub HasStopped : {S M : Type 0} → (S → Type 0) → Option (Link S M) → Type 0
+HasStopped would_block link = IfSome link (λ l. would_block l.stream)
 
 -- what contracts see of a connection, by how its stream tells its octets
 abbrev pub seen_of : {S M : Type 0} → (S → Option (List ℕ × List ℕ)) → Link S M → Seen

@@ -1,8 +1,9 @@
 //! How connections have ended, counted.
 ghost use Rattle.std.specs.Prelude.{◌≡◌};
-ghost use Rattle.links.specs.Ends.{one_more, one_late};
+ghost use Rattle.links.specs.Ends.{one_more, one_late, late_of, all_of};
 
-use connections::{Awaited, StreamEnd};
+use connections::Awaited;
+use conversation::StreamEnd;
 
 /// How many connections have ended, by how they did; at most 2^64 - 1 of each are counted.
 #[derive(Clone, Copy, Default, PartialEq, Eq, Debug)]
@@ -51,14 +52,18 @@ impl Ends {
     }
 
     /// How many are over in all, since their peers took too long; at most 2^64 - 1 are told.
-    pub fn late(&self) -> u64 {
+    pub fn late(&self) -> u64
+        ensures { result ≡ late_of self.now }
+    {
         self.idle
             .saturating_add(self.message)
             .saturating_add(self.reply)
     }
 
     /// How many have ended in all; at most 2^64 - 1 are told.
-    pub fn total(&self) -> u64 {
+    pub fn total(&self) -> u64
+        ensures { result ≡ all_of self.now }
+    {
         self.clean
             .saturating_add(self.torn)
             .saturating_add(self.device)

@@ -8,9 +8,8 @@ ghost use Rattle.connections.specs.Going.{Goes, Stops};
 ghost use Rattle.links.specs.Deadlines.{patience, is_over, begun_behind};
 
 use crate::limits::Limits;
-use connections::{
-    Answering, Awaited, Blocking, Conversation, Flow, Messages, StreamEnd, serve_some,
-};
+use connections::{Answering, Awaited, Blocking, Conversation, Flow, Messages, serve_some};
+use conversation::{OpenGate, StreamEnd};
 use serve_core::Peer;
 use std::alloc::Global;
 use std::net::SocketAddr;
@@ -98,6 +97,7 @@ pub(crate) fn serve_link<R: Wait, S: Blocking + Drop, M: Messages, A: Answering<
     ensures stops { IfErr result (λ end. Stops (A.is_reply link.old.peer) end (A.seen answering.old) (told_by link.old.conversation (S.octets link.old.stream)) (A.seen answering.new) (S.octets link.new.stream)) }
     ensures written { Writes (S.octets link.old.stream) (S.octets link.new.stream) }
     ensures begun { link.new.begun ≡ begun_behind link.old.conversation.passed link.new.conversation.passed link.old.begun now }
+    ensures blocked { result ≡ Ok Flow.Blocked → S.would_block link.new.stream }
 {
     answering.turn_to(link.peer, link.from);
     let passed = link.conversation.passed();
@@ -106,6 +106,7 @@ pub(crate) fn serve_link<R: Wait, S: Blocking + Drop, M: Messages, A: Answering<
         answering,
         &mut link.conversation,
         &mut link.stream,
+        &OpenGate,
         room,
         out,
     );

@@ -1,10 +1,10 @@
 //! Connections that are served each under its key.
-ghost use Rattle.std.specs.Prelude.{◌≡◌, ◌≢◌, ◌<◌, ◌≤◌, ℕ, length, option_map, OnErr};
+ghost use Rattle.std.specs.Prelude.{◌≡◌, ◌≢◌, ◌<◌, ◌≤◌, ◌⊎◌, ℕ, false, length, option_map, All, Contains, OnOk, OnErr};
 ghost use Rattle.dns_message.specs.Message.{message_limit};
 ghost use Rattle.conversation.specs.Served.{BeginsWith, Grows};
 ghost use Rattle.slab.specs.Slab.{get, slab_len};
 ghost use Rattle.links.specs.Ends.{AreCounted};
-ghost use Rattle.links.specs.Links.{OwnServed, seen_of};
+ghost use Rattle.links.specs.Links.{OwnServed, HasStopped, seen_of};
 
 use crate::ends::Ends;
 use crate::link::{Link, serve_link};
@@ -13,8 +13,8 @@ use slab::Slab;
 use std::alloc::AllocError;
 use std::sync::Wait;
 
-/// Serves the connection under a key, if there is one, by a share, and tells whether it could go on. One that ends is removed, and counted by
-/// how it ended.
+/// Serves the connection under a key, if there is one, by a share, and tells whether it could go on: where not, there is none, or its stream
+/// would block. One that ends is removed, and counted by how it ended.
 fn serve_key<R: Wait, S: Blocking + Drop, M: Messages, A: Answering<M>>(
     rt: &R,
     answering: &mut A,
@@ -31,6 +31,7 @@ fn serve_key<R: Wait, S: Blocking + Drop, M: Messages, A: Answering<M>>(
     ensures own { OwnServed A.is_reply now (A.seen answering.old) (option_map (seen_of S.octets) (get links.old key)) (A.seen answering.new) (option_map (seen_of S.octets) (get links.new key)) }
     ensures others { (other : ℕ) → other ≢ key → get links.new other ≡ get links.old other }
     ensures ended { AreCounted ends.old ends.new (slab_len links.old) (slab_len links.new) }
+    ensures stopped { result ≡ false → HasStopped S.would_block (get links.new key) }
 {
     let Some(link) = links.get_mut(key) else {
         return false;
@@ -45,9 +46,9 @@ fn serve_key<R: Wait, S: Blocking + Drop, M: Messages, A: Answering<M>>(
     }
 }
 
-/// Serves the connections under some keys, each by a share, at a time, and puts behind `next` those keys whose connections could go on. One
-/// that ends is removed, and counted by how it ended. Each is answered by its own peer's rights, on its own stream; none appears, and none is
-/// dropped that hasn't ended, whatever the keys. Where there is no memory for the keys nothing is served.
+/// Serves the connections under some keys, each by a share, at a time, and puts behind `next` those keys whose connections could go on: a key
+/// that isn't among them has no connection, or one whose stream would block. One that ends is removed, and counted by how it ended. Each is
+/// answered by its own peer's rights, on its own stream; none appears, and none is dropped that hasn't ended, whatever the keys. Where there is no memory for the keys nothing is served.
 pub fn serve_ready<R: Wait, S: Blocking + Drop, M: Messages, A: Answering<M>>(
     rt: &R,
     answering: &mut A,
@@ -66,6 +67,7 @@ pub fn serve_ready<R: Wait, S: Blocking + Drop, M: Messages, A: Answering<M>>(
     ensures ended { AreCounted ends.old ends.new (slab_len links.old) (slab_len links.new) }
     ensures same { OnErr result (links.new ≡ links.old) }
     ensures next { BeginsWith next.new.items next.old.items }
+    ensures going { OnOk result (All (λ key. Contains next.new.items key ⊎ HasStopped S.would_block (get links.new key)) keys.now) }
 {
     next.reserve(keys.len())?;
     for key in keys {

@@ -1,5 +1,5 @@
 //! A TCP connection that tells whether it would block.
-ghost use Rattle.std.specs.Prelude.{◌≡◌, ◌<◌, ◌≤◌, ◌-◌, ◌^◌, List, [], length, take, None, IfOk, IfErr, OnOk, OnErr};
+ghost use Rattle.std.specs.Prelude.{◌≡◌, ◌<◌, ◌≤◌, ◌-◌, ◌^◌, List, [], length, take, None, ⊤, IfOk, IfErr, OnOk, OnErr};
 ghost use Rattle.connections.specs.declared.blocking.Fault.{Fault as FaultOf};
 
 use connections::{Blocking, Fault};
@@ -71,6 +71,9 @@ impl Blocking for TcpPeer {
     ghost octets = { λ _. None };
 
     ghost faults = { λ peer. peer.faults };
+
+    // What the system tells no clause says.
+    ghost would_block = { λ _. ⊤ };
 
     // What a signal interrupts is done again.
     fn read(&mut self, buf: &mut [u8]) -> Result<usize, Fault> {

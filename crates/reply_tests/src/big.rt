@@ -1,17 +1,17 @@
-//! A transfer of several messages that goes on from a place, beside the same one that `conversation` writes at once.
-use connections::serve_stream;
-use conversation::{Counted, OpenGate};
-use dns_engine::{FirstZone, Naming, VersionCell, VersionPublisher, VersionReader};
+//! A transfer of several messages that goes on from a place, beside the messages of the same one that are made at once.
+use conversation::OpenGate;
+use dns_engine::{FirstZone, Naming, VersionCell, VersionChain, VersionPublisher, VersionReader};
+use dns_message::{Parsed, parse_other, take_frame};
 use dns_name::Name;
 use dns_rdata::{RData, RRset, RType, Ttl};
 use played_zones::{Kept, Play, Played, asker, is_played, octets_of, server_of};
-use serve_core::{Peer, Transport};
+use serve_core::{Peer, Transport, is_permitted, respond_to_peer, transfer_reply};
 use std::alloc::Global;
 use std::sync::Wait;
 use told_streams::{Tape, answer_tape};
 use zone_replies::Replies;
-use zone_service::{Asked, Server};
-use zone_tree::Zone;
+use zone_service::Server;
+use zone_tree::{Version, Zone};
 
 /// The set of an owner in full or below `example.test.`, of one record.
 fn set_of(alloc: Global, owner: &str, rtype: u16, octets: &[u8]) -> Option<RRset> {
@@ -60,31 +60,48 @@ const REQUESTS: &str =
 /// How many octets can be written.
 const ROOM: usize = 300_000;
 
-/// What `conversation` writes, by a reader that comes back.
-fn at_once<R: Wait, Z: FirstZone, N: Naming>(
-    rt: &R,
-    alloc: Global,
-    server: &Server<'_, Z, N>,
-    readers: &mut Vec<VersionReader<N>>,
-    peer: Peer,
-) -> Option<Tape> {
-    let tape = Tape::new(alloc, octets_of(alloc, REQUESTS)?, ROOM, 1_000).ok()?;
-    let log = Kept::new(alloc);
-    let mut asked = Asked::new(alloc, server, readers.pop()?, &log, peer, asker(4711));
-    let mut request = [0u8; 65_535];
+/// How many messages a transfer of the zone has at most.
+const MESSAGES: usize = 100;
+
+/// Puts a message's frame behind octets (RFC 1035, 4.2.2).
+fn put_frame(message: &[u8], written: &mut Vec<u8>) -> Option<()> {
+    let length = u16::try_from(message.len()).ok()?;
+    written.extend_from_slice(&length.to_be_bytes()).ok()?;
+    written.extend_from_slice(message).ok()
+}
+
+/// Puts the frames of the messages that a query gets in a version behind octets, all at once.
+fn put_replies(version: &Version, request: &[u8], peer: Peer, written: &mut Vec<u8>) -> Option<()> {
     let mut out = [0u8; 65_535];
-    let mut frame = [0u8; 65_537];
-    let (_end, tape) = answer_tape(
-        rt,
-        &mut asked,
-        tape,
-        &OpenGate,
-        &mut request,
-        &mut out,
-        &mut frame,
-    );
-    readers.push(asked.into_reader()).ok()?;
-    Some(tape)
+    let Parsed::Query(query) = parse_other(request) else {
+        return None;
+    };
+    if !is_permitted(version, &query, peer) {
+        let len = respond_to_peer(version.zone(), &query, peer, &mut out);
+        return put_frame(out.get(..len)?, written);
+    }
+    let chain = VersionChain::none();
+    let mut packer = transfer_reply(version, &chain, &query, peer);
+    for _message in 0..MESSAGES {
+        let Some(len) = packer.next_message(&mut out) else {
+            return Some(());
+        };
+        put_frame(out.get(..len)?, written)?;
+    }
+    None
+}
+
+/// The frames of all messages that the requests get in a version.
+fn at_once(alloc: Global, version: &Version, peer: Peer) -> Option<Vec<u8>> {
+    let requests = octets_of(alloc, REQUESTS)?;
+    let mut written = Vec::new(alloc);
+    let mut left = requests.as_slice();
+    for _request in 0..3 {
+        let (request, rest) = take_frame(left)?;
+        put_replies(version, request, peer, &mut written)?;
+        left = rest;
+    }
+    Some(written)
 }
 
 /// What a connection writes, by a reader that comes back.
@@ -100,13 +117,20 @@ fn by_places<R: Wait, Z: FirstZone, N: Naming>(
     let mut replies = Replies::new(alloc, server, readers.pop()?, &log, peer, asker(4711));
     let mut room = [0u8; 4_096];
     let mut out = [0u8; 65_535];
-    let mut stream = Counted::new(tape);
-    let _end = serve_stream(rt, alloc, &mut replies, &mut stream, &mut room, &mut out);
+    let (_end, tape) = answer_tape(
+        rt,
+        alloc,
+        &mut replies,
+        tape,
+        &OpenGate,
+        &mut room,
+        &mut out,
+    );
     readers.push(replies.into_reader()).ok()?;
-    Some(stream.inner)
+    Some(tape)
 }
 
-/// Whether both write the same, and more than two zones.
+/// Whether a connection writes the messages that are made at once, and more than two zones.
 fn is_same<R: Wait, Z: FirstZone, N: Naming>(
     rt: &R,
     alloc: Global,
@@ -114,9 +138,14 @@ fn is_same<R: Wait, Z: FirstZone, N: Naming>(
     readers: &mut Vec<VersionReader<N>>,
 ) -> Option<bool> {
     let peer = Peer::over(Transport::Tcp, true);
-    let one = at_once(rt, alloc, server, readers, peer)?;
-    let other = by_places(rt, alloc, server, readers, peer)?;
-    Some(one.written() == other.written() && one.written().len() > 200_000)
+    let mut reader = readers.pop()?;
+    let one = match server.cell().load(&mut reader) {
+        Ok(strong) => at_once(alloc, strong.get().get(), peer),
+        Err(_) => None,
+    };
+    readers.push(reader).ok()?;
+    let (one, other) = (one?, by_places(rt, alloc, server, readers, peer)?);
+    Some(one.as_slice() == other.written() && one.len() > 200_000)
 }
 
 /// Both ways.

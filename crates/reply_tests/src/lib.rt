@@ -1,8 +1,6 @@
-//! What a running zone replies on connections, by the octets that RFC 1035, 4, RFC 1995, RFC 2136, 2 and RFC 5936 give for it, put together by
-//! hand, and beside what `conversation` writes.
+//! What a running zone replies on connections by a transfer of many messages, beside the messages of the same transfer that are made at once.
+//! Other requests, by the octets that the RFCs give for them, `serve_tests` has.
 #![tactic(auto)]
 
 #[cfg(test)]
 mod big;
-#[cfg(test)]
-mod streams;

@@ -1,7 +1,8 @@
 //! The order in which a gate is entered, a request answered and the gate left.
 ghost use Rattle.std.specs.Prelude.{[]};
 
-use conversation::{Allowed, Answering, Broken, Counted, Gate, Stream};
+use connections::{Messages, Reply};
+use conversation::{Allowed, Answering, Gate};
 use dns_engine::Spent;
 use played_zones::asker;
 use serve_core::{Peer, Transport};
@@ -48,6 +49,18 @@ impl Gate for Calls {
     }
 }
 
+/// No messages.
+#[derive(Clone, Copy)]
+struct NoMessages;
+
+impl Messages for NoMessages {
+    ghost left = { λ _. [] };
+
+    fn next_message(&mut self, _out: &mut [u8]) -> Option<usize> {
+        None
+    }
+}
+
 /// One who gives no request a reply, and notes each.
 #[derive(Drop)]
 struct Noting<'a> {
@@ -77,18 +90,29 @@ impl Answering for Noting<'_> {
         self.calls.note(2);
         Ok(None)
     }
+}
+
+impl connections::Answering<NoMessages> for Noting<'_> {
+    ghost seen = { λ _. record { published = []; buried = [] } };
+
+    ghost peer = { λ noting. noting.peer };
+
+    ghost is_reply = { λ _ _ _ _ _. Unit {0} };
 
     #[tactic(auto, using(conversation::proofs::TurnLemmas::grows_itself))]
-    fn answer_on<R: Wait, S: Stream>(
+    fn turn_to(&mut self, other: Peer, _from: SocketAddr) {
+        self.peer = other;
+    }
+
+    #[tactic(auto, using(conversation::proofs::TurnLemmas::grows_itself))]
+    fn reply<R: Wait>(
         &mut self,
         _rt: &R,
-        _stream: &mut Counted<S>,
         _request: &[u8],
         _out: &mut [u8],
-        _frame: &mut [u8],
-    ) -> Result<(), Broken> {
+    ) -> Result<Reply<NoMessages>, Spent> {
         self.calls.note(2);
-        Ok(())
+        Ok(Reply::Silent)
     }
 }
 
@@ -102,18 +126,9 @@ fn calls_of_stream<R: Wait>(rt: &R, alloc: Global) -> Option<u64> {
     };
     let frames = b"\x00\x01a\x00\x01b".to_vec(alloc).ok()?;
     let tape = Tape::new(alloc, frames, 0, 1).ok()?;
-    let mut request = [0u8; 65_535];
+    let mut room = [0u8; 4_096];
     let mut out = [0u8; 65_535];
-    let mut frame = [0u8; 65_537];
-    let _ = answer_tape(
-        rt,
-        &mut noting,
-        tape,
-        &calls,
-        &mut request,
-        &mut out,
-        &mut frame,
-    );
+    let _ = answer_tape(rt, alloc, &mut noting, tape, &calls, &mut room, &mut out);
     Some(calls.digits())
 }
 

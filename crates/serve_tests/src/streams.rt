@@ -7,7 +7,8 @@ use serve_core::{Peer, Transport};
 use std::alloc::Global;
 use std::sync::Wait;
 use told_streams::{Tape, answer_tape};
-use zone_service::{Asked, Server};
+use zone_replies::Replies;
+use zone_service::Server;
 
 /// All reads and writes.
 const ALL: u64 = u64::MAX;
@@ -205,21 +206,13 @@ const STREAMS: &[Row] = &[
 /// Serves a tape.
 fn serve<R: Wait, Z: FirstZone, N: Naming>(
     rt: &R,
-    asked: &mut Asked<'_, '_, Z, N, Kept>,
+    alloc: Global,
+    replies: &mut Replies<'_, '_, Z, N, Kept>,
     tape: Tape,
 ) -> (StreamEnd, Tape) {
-    let mut request = [0u8; 65_535];
+    let mut room = [0u8; 4_096];
     let mut out = [0u8; 65_535];
-    let mut frame = [0u8; 65_537];
-    answer_tape(
-        rt,
-        asked,
-        tape,
-        &OpenGate,
-        &mut request,
-        &mut out,
-        &mut frame,
-    )
+    answer_tape(rt, alloc, replies, tape, &OpenGate, &mut room, &mut out)
 }
 
 /// The tape of a row; None where a read or a write of it would give or take nothing, or there is no memory for it.
@@ -235,13 +228,13 @@ fn tape_of(alloc: Global, row: &Row) -> Option<Tape> {
 fn is_served<R: Wait, Z: FirstZone, N: Naming>(
     rt: &R,
     alloc: Global,
-    asked: &mut Asked<'_, '_, Z, N, Kept>,
+    replies: &mut Replies<'_, '_, Z, N, Kept>,
     log: &Kept,
     row: &Row,
 ) -> Option<bool> {
     let tape = tape_of(alloc, row)?;
     let written = octets_of(alloc, row.written)?;
-    let (end, tape) = serve(rt, asked, tape);
+    let (end, tape) = serve(rt, alloc, replies, tape);
     let is_right = end == row.end && log.has(rt, row.told);
     Some(is_right && tape.written() == written.as_slice())
 }
@@ -262,9 +255,9 @@ pub(crate) fn told_by<R: Wait, Z: FirstZone, N: Naming>(
         may_transfer: row.may,
         transport: Transport::Tcp,
     };
-    let mut asked = Asked::new(alloc, server, reader, &log, peer, asker(4711));
-    let told = is_served(rt, alloc, &mut asked, &log, row);
-    let _ = readers.push(asked.into_reader());
+    let mut replies = Replies::new(alloc, server, reader, &log, peer, asker(4711));
+    let told = is_served(rt, alloc, &mut replies, &log, row);
+    let _ = readers.push(replies.into_reader());
     told
 }
 

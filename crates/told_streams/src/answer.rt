@@ -1,5 +1,5 @@
 //! The requests that lie in memory, answered.
-ghost use Rattle.std.specs.Prelude.{◌+◌, ◌≤◌, length, Some};
+ghost use Rattle.std.specs.Prelude.{◌<◌, ◌≤◌, length, Some};
 ghost use Rattle.dns_message.specs.Message.{message_limit};
 ghost use Rattle.conversation.specs.Served.{EndsAs, Grows};
 ghost use Rattle.conversation.specs.Exchanged.{EndsBy};
@@ -8,31 +8,30 @@ ghost use Rattle.told_streams.specs.Tray.{told as tray_told};
 
 use crate::tape::Tape;
 use crate::tray::Tray;
-use conversation::{
-    Allowed, Answering, Counted, DatagramsEnd, Gate, StreamEnd, serve_stream, serve_udp,
-};
+use connections::{Messages, serve_stream};
+use conversation::{Allowed, Answering, Counted, DatagramsEnd, Gate, StreamEnd, serve_udp};
+use std::alloc::Global;
 use std::sync::Wait;
 
 /// Answers the requests of a tape one after another, until it ends, and gives how it has ended, and the tape. What is written on it behind
 /// what was is the frames of the replies, in the order of the requests: where it ends by itself all of them, and nothing is left to be
 /// read; else a beginning of them (RFC 1035, 4.2.2). Nothing that was known is forgotten.
-pub fn answer_tape<R: Wait, A: Answering, G: Gate>(
+pub fn answer_tape<R: Wait, M: Messages, A: connections::Answering<M>, G: Gate>(
     rt: &R,
+    alloc: Global,
     answering: &mut A,
     tape: Tape,
     gate: &G,
-    request: &mut [u8],
+    room: &mut [u8],
     out: &mut [u8],
-    frame: &mut [u8],
 ) -> (StreamEnd, Tape)
-    requires request_room { message_limit ≤ length request.old }
-    requires reply_room { message_limit ≤ length out.old }
-    requires frame_room { message_limit + 2 ≤ length frame.old }
+    requires room { 0 < length room.old }
+    requires out { message_limit ≤ length out.old }
     ensures ends { EndsAs (A.is_reply (A.peer answering.old)) result.0 (A.seen answering.old) (tape_told tape) (A.seen answering.new) (Some (tape_told result.1)) }
     ensures grows { Grows (A.seen answering.new) (A.seen answering.old) }
 {
     let mut stream = Counted::new(tape);
-    let end = serve_stream(rt, answering, &mut stream, gate, request, out, frame);
+    let end = serve_stream(rt, alloc, answering, &mut stream, gate, room, out);
     (end, stream.inner)
 }
 

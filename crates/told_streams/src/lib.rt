@@ -1,6 +1,7 @@
-//! Streams and datagrams that lie in memory and tell their octets, for `conversation` to answer: over them it is told what is written.
+//! Streams and datagrams that lie in memory and tell their octets, for `connections` and `conversation` to answer: over them it is told
+//! what is written.
 //!
-//! [`answer_tape`] answers the requests of a [`Tape`] by `conversation::serve_stream`, and its contract says of what lies there before
+//! [`answer_tape`] answers the requests of a [`Tape`] by `connections::serve_stream`, and its contract says of what lies there before
 //! and after that it ends as a stream should (`EndsAs`): what is written is the frames of the replies, in order (RFC 1035, 4.2.2).
 //! [`answer_tray`] answers the datagrams of a [`Tray`] by `conversation::serve_udp` (`EndsBy`; RFC 1035, 4.2.1).
 #![tactic(auto)]

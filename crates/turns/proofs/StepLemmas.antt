@@ -1,5 +1,7 @@
 -- Places that are taken and given back, and connections that are served, one after another.
-use Rattle.std.proofs.Common.{◌≡◌, ◌≢◌, refl, ℕ, List, Option, None, Some, Result, Ok, Err, IfOk, OnErr, option_map, sym, ap, ◌∙◌, inl, inr, ◌⊎◌, subst}
+use Rattle.std.proofs.Common.{◌≡◌, ◌≢◌, refl, ℕ, Bool, true, false, if◌then◌else◌, List, Option, None, Some, Result, Ok, Err, IfOk, OnErr, option_map, sym, ap, ◌∙◌, inl, inr, ◌⊎◌, subst}
+use Rattle.std.specs.List.{All, Contains}
+use Rattle.std.proofs.lemmas.List.Elements.{All-weaker}
 use Rattle.std.specs.declared.net.ip_addr.IpAddr.{IpAddr}
 use Rattle.std.specs.declared.net.socket_addr.SocketAddr.{SocketAddr}
 use Rattle.serve_core.specs.declared.peer.Peer.{Peer}
@@ -8,13 +10,13 @@ use Rattle.conversation.specs.Allowed.{IsPeer}
 use Rattle.conversation.specs.Served.{Learned, Grows}
 use Rattle.connections.specs.Kept.{nothing_kept}
 use Rattle.slab.specs.Slab.{Slab, get, Updates}
-use Rattle.links.specs.Deadlines.{kept_at, idle_since, IsLeast}
-use Rattle.links.specs.Links.{seen_of}
+use Rattle.links.specs.Deadlines.{kept_at, is_over, idle_since, IsLeast}
+use Rattle.links.specs.Links.{HasStopped, seen_of}
 use Rattle.links.specs.declared.limits.Limits.{Limits}
 use Rattle.links.specs.declared.link.Link.{Link}
 use Rattle.links.proofs.OwnLemmas.{own_same}
 use Rattle.conversation.proofs.TurnLemmas.{grows_itself}
-use Rattle.turns.specs.Steps.{scarce, HasBegun, Move, begins, gives, rests, Moves, stay, move, Sweeps, Serves, HasTurned}
+use Rattle.turns.specs.Steps.{scarce, HasBegun, Move, begins, gives, rests, Moves, stay, move, Sweeps, Serves, GoOn, HasTurned}
 
 module _ {S M : Type 0} (origin : S → SocketAddr) (octets : S → Option (List ℕ × List ℕ)) (allowed : List IpAddr) (now : ℕ) where
   pub moves_more : (a b c : Slab (Link S M)) → Moves origin octets allowed now a b → Moves origin octets allowed now b c → Moves origin octets allowed now a c
@@ -63,6 +65,34 @@ module _ {S M : Type 0} (origin : S → SocketAddr) (octets : S → Option (List
   pub sweeps_over : (limits used : Limits) (old new : Slab (Link S M)) → (used ≡ limits) ⊎ (used ≡ scarce limits) → ((key : ℕ) → get new key ≡ kept_at used now (get old key)) → Sweeps origin octets limits now old new
   sweeps_over limits used old new (inl same) swept = inr (inl (subst (λ (l : Limits). (key : ℕ) → get new key ≡ kept_at l now (get old key)) same swept))
   sweeps_over limits used old new (inr same) swept = inr (inr (subst (λ (l : Limits). (key : ℕ) → get new key ≡ kept_at l now (get old key)) same swept))
+
+  module _ (would_block : S → Type 0) where
+    kept_if : (link : Link S M) (b : Bool) → would_block link.stream → HasStopped would_block (if b then None else Some link)
+    kept_if link true stopped = tt
+    kept_if link false stopped = stopped
+
+    -- what has stopped still has once those that are over are gone
+    stopped_kept : (limits : Limits) (link : Option (Link S M)) → HasStopped would_block link → HasStopped would_block (kept_at limits now link)
+    stopped_kept limits None stopped = tt
+    stopped_kept limits (Some link) stopped = kept_if link (is_over limits now link.begun link.conversation) stopped
+
+    stopped_by : (limits : Limits) (old new : Slab (Link S M)) → ((key : ℕ) → get new key ≡ kept_at limits now (get old key)) → (key : ℕ) → HasStopped would_block (get old key) → HasStopped would_block (get new key)
+    stopped_by limits old new swept key stopped = subst (HasStopped would_block) (sym (swept key)) (stopped_kept limits (get old key) stopped)
+
+    stopped_swept : (limits : Limits) (old new : Slab (Link S M)) → Sweeps origin octets limits now old new → (key : ℕ) → HasStopped would_block (get old key) → HasStopped would_block (get new key)
+    stopped_swept limits old new (inl same) key stopped = subst (λ (s : Slab (Link S M)). HasStopped would_block (get s key)) (sym same) stopped
+    stopped_swept limits old new (inr (inl swept)) key stopped = stopped_by limits old new swept key stopped
+    stopped_swept limits old new (inr (inr swept)) key stopped = stopped_by (scarce limits) old new swept key stopped
+
+    going_for : (limits : Limits) (old new : Slab (Link S M)) (next : List ℕ) → Sweeps origin octets limits now old new → (key : ℕ) → Contains next key ⊎ HasStopped would_block (get old key) → Contains next key ⊎ HasStopped would_block (get new key)
+    going_for limits old new next swept key (inl has) = inl has
+    going_for limits old new next swept key (inr stopped) = inr (stopped_swept limits old new swept key stopped)
+
+    -- each that could go on still is among the next ones
+    pub going_swept : (limits : Limits) (old new : Slab (Link S M)) (keys served next after : List ℕ) → served ≡ keys → after ≡ next → Sweeps origin octets limits now old new → GoOn would_block old keys next → GoOn would_block new served after
+    going_swept limits old new keys served next after same is swept going =
+        let here : GoOn would_block new keys next = All-weaker (λ key. Contains next key ⊎ HasStopped would_block (get old key)) (λ key. Contains next key ⊎ HasStopped would_block (get new key)) (going_for limits old new next swept) keys going in
+        subst (λ (l : List ℕ). GoOn would_block new l after) (sym same) (subst (λ (l : List ℕ). GoOn would_block new keys l) (sym is) here)
 
   module _ {T : Type 0} (IsReply : Peer → Learned T → Learned T → List ℕ → List (List ℕ) → Type 0) where
     -- none is served, and maybe more is known

@@ -1,5 +1,5 @@
 -- What becomes of a worker's connections, from one state to the next (RFC 7766, 6.2; own).
-use Rattle.std.specs.Prelude.{◌≡◌, ◌≢◌, ℕ, ◌/◌, ◌⊎◌, List, Option, None, Some, option_map}
+use Rattle.std.specs.Prelude.{◌≡◌, ◌≢◌, ℕ, ◌/◌, ◌⊎◌, List, All, Contains, Option, None, Some, option_map}
 use Rattle.conversation.specs.Served.{Learned}
 use Rattle.std.specs.declared.net.ip_addr.IpAddr.{IpAddr}
 use Rattle.std.specs.declared.net.socket_addr.SocketAddr.{SocketAddr}
@@ -10,13 +10,28 @@ use Rattle.conversation.specs.Served.{Learned}
 use Rattle.connections.specs.Kept.{nothing_kept}
 use Rattle.slab.specs.Slab.{Slab, get}
 use Rattle.links.specs.Deadlines.{IsLeast, kept_at, idle_since}
-use Rattle.links.specs.Links.{OwnServed, seen_of}
+use Rattle.links.specs.Links.{OwnServed, HasStopped, seen_of}
 use Rattle.links.specs.declared.limits.Limits.{Limits}
 use Rattle.links.specs.declared.link.Link.{Link}
+use Rattle.turns.specs.declared.tally.Tally.{Tally}
 
 -- the limits where places are scarce: idle ones have a quarter of their time (RFC 7766, 6.2.3; own)
 abbrev pub scarce : Limits → Limits
 scarce limits = record limits { idle = limits.idle / 4 }
+
+-- nothing has become of any connection
+abbrev pub nothing_counted : Tally
+nothing_counted = record {
+  begun = 0;
+  ends = record { clean = 0; torn = 0; device = 0; spent = 0; no_memory = 0; idle = 0; message = 0; reply = 0 };
+  evicted = 0;
+  turned_away = 0;
+  no_room = 0;
+}
+
+-- of connections under some keys, each that could go on is among the next ones: under another key there is none any more, or its stream would block
+abbrev pub GoOn : {S M : Type 0} → (S → Type 0) → Slab (Link S M) → List ℕ → List ℕ → Type 0
+GoOn would_block links keys next = All (λ key. Contains next key ⊎ HasStopped would_block (get links key)) keys
 
 -- the address that a stream comes from, and what its octets are, as far as it tells them
 module _ {S M : Type 0} (origin : S → SocketAddr) (octets : S → Option (List ℕ × List ℕ)) where

@@ -1,9 +1,10 @@
 //! A worker's connections, and its turns.
-ghost use Rattle.std.specs.Prelude.{◌≡◌, ◌<◌, ◌≤◌, ◌⊎◌, ℕ, List, length};
+ghost use Rattle.std.specs.Prelude.{◌≡◌, ◌<◌, ◌≤◌, ◌⊎◌, ℕ, List, length, replicate, true, None, IfOk, OnOk};
 ghost use Rattle.std.specs.declared.net.ip_addr.IpAddr.{IpAddr};
 ghost use Rattle.dns_message.specs.Message.{message_limit};
 ghost use Rattle.conversation.specs.Served.{Grows};
-ghost use Rattle.turns.specs.Steps.{scarce, Moves, Sweeps, Serves, HasTurned, Turned};
+ghost use Rattle.slab.specs.Slab.{get};
+ghost use Rattle.turns.specs.Steps.{scarce, nothing_counted, Moves, Sweeps, Serves, GoOn, HasTurned, Turned};
 
 use crate::arrivals::{Arrivals, Refusal, Remote};
 use crate::readiness::{NotWatched, Readiness};
@@ -63,8 +64,15 @@ pub struct Turns<S: Drop, M: Messages> {
 }
 
 impl<S: Blocking + Remote + Drop, M: Messages> Turns<S, M> {
-    /// A worker without connections, for so many places, and where connections come in at so many.
-    pub fn new(alloc: Global, places: usize, arrivals: usize) -> Result<Turns<S, M>, AllocError> {
+    /// A worker without connections, for so many places, and where connections come in at so many: at each of them one may wait. Nothing is
+    /// counted yet, and nothing keeps it from taking any.
+    pub fn new(alloc: Global, places: usize, arrivals: usize) -> Result<Turns<S, M>, AllocError>
+        ensures empty { IfOk result (λ turns. (key : ℕ) → get turns.links key ≡ None) }
+        ensures places { IfOk result (λ turns. turns.places ≡ places) }
+        ensures may_come { IfOk result (λ turns. turns.may_come.items ≡ replicate arrivals true) }
+        ensures open { IfOk result (λ turns. turns.shut_until ≡ 0) }
+        ensures tally { IfOk result (λ turns. turns.tally ≡ nothing_counted) }
+    {
         Ok(Turns {
             links: Slab::new(alloc),
             places,
@@ -81,7 +89,9 @@ impl<S: Blocking + Remote + Drop, M: Messages> Turns<S, M> {
     }
 
     /// What has become of connections so far.
-    pub fn tally(&self) -> Tally {
+    pub fn tally(&self) -> Tally
+        ensures { result ≡ self.now.tally }
+    {
         self.tally
     }
 
@@ -289,6 +299,7 @@ impl<S: Blocking + Remote + Drop, M: Messages> Turns<S, M> {
         requires out { message_limit ≤ length out.old }
         ensures grows { Grows (A.seen answering.new) (A.seen answering.old) }
         ensures own { Serves S.origin S.octets A.is_reply now (A.seen answering.old) self.old.links (A.seen answering.new) self.new.links }
+        ensures going { OnOk result (GoOn S.would_block self.new.links self.new.served.items self.new.next.items) }
     {
         self.served.clear();
         self.waiting.take(&mut self.served);
@@ -310,7 +321,9 @@ impl<S: Blocking + Remote + Drop, M: Messages> Turns<S, M> {
 
     /// Ends the connections that are over, once a second.
     fn sweep(&mut self, plan: Plan<'_>, now: u64)
-        ensures { Sweeps S.origin S.octets plan.entry.limits now self.old.links self.new.links }
+        ensures swept { Sweeps S.origin S.octets plan.entry.limits now self.old.links self.new.links }
+        ensures served { self.new.served.items ≡ self.old.served.items }
+        ensures next { self.new.next.items ≡ self.old.next.items }
     {
         if now.saturating_sub(self.swept) < SECOND {
             return;
@@ -322,7 +335,8 @@ impl<S: Blocking + Remote + Drop, M: Messages> Turns<S, M> {
 
     /// A turn: waits until something may be ready, takes the connections that come, serves those that may go on by a share each, and ends those
     /// that are over. Who asks on each is the peer of its address; none gets another's replies, and none is dropped but by its end, for its
-    /// peer's delay, or, where all places are taken, the one that is idle longest.
+    /// peer's delay, or, where all places are taken, the one that is idle longest. Of the connections that are served, each that is there still
+    /// and whose stream wouldn't block is among those that could go on.
     pub fn turn<R: Wait, P: Readiness<S>, L: Arrivals<Stream = S>, A: Answering<M>>(
         &mut self,
         rt: &R,
@@ -337,6 +351,7 @@ impl<S: Blocking + Remote + Drop, M: Messages> Turns<S, M> {
         requires out { message_limit ≤ length out.old }
         ensures grows { Grows (A.seen answering.new) (A.seen answering.old) }
         ensures turned { HasTurned S.origin S.octets A.is_reply plan.entry.allowed.addresses.now plan.entry.limits (P.time poll.new) (A.seen answering.old) self.old.links (A.seen answering.new) self.new.links }
+        ensures going { OnOk result (GoOn S.would_block self.new.links self.new.served.items self.new.next.items) }
     {
         let Ok(now) = poll.wait(self.patience(), &mut self.told) else {
             return Err(TurnEnd::Device);

@@ -2,9 +2,9 @@
 ghost use Rattle.std.specs.Prelude.{◌≡◌};
 ghost use Rattle.std.specs.List.{All};
 
-use conversation::{Answering, Gate};
+use conversation::{Allowed, Answering, Gate};
 use dns_engine::{FirstZone, Naming, SharedVersion, VersionReader, ZoneVersions};
-use played_zones::{NamedParts, end, named_parts, parts_of, server_of, zone};
+use played_zones::{NamedParts, asker, end, named_parts, parts_of, server_of, zone};
 use serve_workers::{Job, run_workers};
 use snapshot_cell::Parts;
 use std::alloc::Global;
@@ -13,16 +13,16 @@ use std::process::Abort;
 use std::sync::Wait;
 use std::sync::atomic::{AtomicU64, Ordering};
 use std::thread::{self, Threads};
-use told_streams::{Tape, answer_tape};
+use told_streams::{Datagram, Tray, answer_tray};
 use zone_service::{NoLog, Server, ServiceLog};
 use zone_tree::Zone;
 
-/// The query for www.example.test., type A, and its reply, each in a frame.
+/// The query for www.example.test., type A, and its reply.
 const QUERY: &[u8] =
-    b"\x00\x22\x12\x34\x01\x00\x00\x01\x00\x00\x00\x00\x00\x00\x03www\x07example\x04test\x00\x00\x01\x00\x01";
+    b"\x12\x34\x01\x00\x00\x01\x00\x00\x00\x00\x00\x00\x03www\x07example\x04test\x00\x00\x01\x00\x01";
 
 const REPLY: &[u8] =
-    b"\x00\x44\x12\x34\x85\x00\x00\x01\x00\x02\x00\x00\x00\x00\x03www\x07example\x04test\x00\x00\x01\x00\x01\xc0\x0c\x00\x05\x00\x01\x00\x00\x0e\x10\x00\x06\x03web\xc0\x10\xc0\x2e\x00\x01\x00\x01\x00\x00\x0e\x10\x00\x04\xc0\x00\x02\x0a";
+    b"\x12\x34\x85\x00\x00\x01\x00\x02\x00\x00\x00\x00\x03www\x07example\x04test\x00\x00\x01\x00\x01\xc0\x0c\x00\x05\x00\x01\x00\x00\x0e\x10\x00\x06\x03web\xc0\x10\xc0\x2e\x00\x01\x00\x01\x00\x00\x0e\x10\x00\x04\xc0\x00\x02\x0a";
 
 /// After how many turns the first call gives up.
 const TURNS: u64 = 10_000_000;
@@ -70,18 +70,19 @@ impl HoldingGate {
     }
 }
 
-/// The job of one stream, by its number.
+/// The job of one datagram, by its number.
 #[derive(Drop)]
-struct TapeJob {
+struct TrayJob {
     number: usize,
-    tape: Option<Tape>,
+    tray: Option<Tray>,
 }
 
-impl Job for TapeJob {
+impl Job for TrayJob {
     ghost number = { λ job. job.number };
 
     ghost is_done = { λ _. Unit {0} };
 
+    #[tactic(auto, using(conversation::proofs::TurnLemmas::grows_itself))]
     fn run<R: Wait, A: Answering, G: Gate, L: ServiceLog>(
         &mut self,
         rt: &R,
@@ -89,51 +90,68 @@ impl Job for TapeJob {
         gate: &G,
         _log: &L,
     ) {
-        let Some(tape) = self.tape.take() else {
+        let Some(tray) = self.tray.take() else {
             return;
         };
         let mut request = [0u8; 65_535];
         let mut reply = [0u8; 65_535];
-        let mut frame = [0u8; 65_537];
-        let (_end, tape) = answer_tape(
+        let (_end, tray) = answer_tray(
             rt,
             answering,
-            tape,
+            tray,
+            Allowed::new(&[]),
+            1,
             gate,
             &mut request,
             &mut reply,
-            &mut frame,
         );
-        self.tape = Some(tape);
+        self.tray = Some(tray);
     }
 }
 
-/// A job for each reader, numbered from 1, on a stream of these octets.
+/// A datagram of the query, to be received.
+fn query_in(alloc: Global) -> Option<Tray> {
+    let octets = QUERY.to_vec(alloc).ok()?;
+    if octets.len() > 65_535 {
+        return None;
+    }
+    let mut datagrams = Vec::new(alloc);
+    datagrams.push(Datagram::new(octets, asker(4711))).ok()?;
+    Some(Tray::new(alloc, datagrams, Vec::new(alloc)))
+}
+
+/// A job for each reader, numbered from 1, on a datagram of the query.
 fn jobs_of<N: Naming>(
     alloc: Global,
     readers: Vec<VersionReader<N>>,
-    octets: &[u8],
-) -> Option<Vec<(VersionReader<N>, TapeJob)>> {
+) -> Option<Vec<(VersionReader<N>, TrayJob)>> {
     let mut pairs = Vec::new(alloc);
     let mut number = 0usize;
     for reader in readers {
         number = number.saturating_add(1);
-        let tape = Tape::new(alloc, octets.to_vec(alloc).ok()?, 9999, 3).ok()?;
-        let tape = Some(tape);
-        pairs.push((reader, TapeJob { number, tape })).ok()?;
+        let tray = Some(query_in(alloc)?);
+        pairs.push((reader, TrayJob { number, tray })).ok()?;
     }
     Some(pairs)
 }
 
-/// Whether two streams were served, by jobs 1 and 2 in this order, each with this written on it.
-fn are_written<N: Naming>(pairs: &[(VersionReader<N>, TapeJob)], written: &[u8]) -> bool {
+/// Whether a job's datagram got the reply, which went to who asked.
+fn is_replied(tray: &Tray) -> bool {
+    let [datagram] = tray.sent() else {
+        return false;
+    };
+    datagram.octets() == REPLY && datagram.address() == asker(4711)
+}
+
+/// Whether two datagrams were answered, by jobs 1 and 2 in this order.
+fn are_replied<N: Naming>(pairs: &[(VersionReader<N>, TrayJob)]) -> bool {
     let mut number = 0usize;
     for (_, job) in pairs {
         number = number.saturating_add(1);
-        let Some(tape) = &job.tape else {
+        let Some(tray) = &job.tray else {
             return false;
         };
-        if job.number != number || tape.written() != written {
+        if job.number != number || !is_replied(tray) {
             return false;
         }
     }
@@ -143,7 +161,7 @@ fn are_written<N: Naming>(pairs: &[(VersionReader<N>, TapeJob)], written: &[u8])
 /// The readers of jobs that are done, and one more.
 fn readers_of<N: Naming>(
     alloc: Global,
-    pairs: Vec<(VersionReader<N>, TapeJob)>,
+    pairs: Vec<(VersionReader<N>, TrayJob)>,
     last: VersionReader<N>,
 ) -> Option<Vec<VersionReader<N>>> {
     let mut readers = Vec::new(alloc);
@@ -154,23 +172,23 @@ fn readers_of<N: Naming>(
     Some(readers)
 }
 
-/// Two streams are served by two workers, of which the first to be asked waits for the other: their jobs, with their readers.
+/// Two datagrams are answered by two workers, of which the first to be asked waits for the other: their jobs, with their readers.
 fn serve<R: Wait + Threads + Sync + Abort, Z: FirstZone + Send + Sync, N: Naming + Send + Sync>(
     rt: &R,
     alloc: Global,
     server: &Server<'_, Z, N>,
     readers: Vec<VersionReader<N>>,
-) -> Vec<(VersionReader<N>, TapeJob)> {
-    let pairs = jobs_of(alloc, readers, QUERY).expect(rt, "memory");
+) -> Vec<(VersionReader<N>, TrayJob)> {
+    let pairs = jobs_of(alloc, readers).expect(rt, "memory");
     let gate = HoldingGate::new();
     let Ok(pairs) = run_workers(rt, alloc, server, pairs, &gate, &NoLog) else {
         panic!(rt; "a thread is refused");
     };
-    assert!(rt; gate.is_well() && are_written(&pairs, REPLY));
+    assert!(rt; gate.is_well() && are_replied(&pairs));
     pairs
 }
 
-/// They are served over a cell in which a zone's first version alone is published, which is then ended.
+/// They are answered over a cell in which a zone's first version alone is published, which is then ended.
 fn serve_in<R: Wait + Threads + Sync + Abort, Z: FirstZone + Send + Sync, N: Naming + Send + Sync>(
     rt: &R,
     alloc: Global,
@@ -207,7 +225,7 @@ fn serve_in<R: Wait + Threads + Sync + Abort, Z: FirstZone + Send + Sync, N: Nam
     );
 }
 
-/// They are served over a cell that begins with the zone.
+/// They are answered over a cell that begins with the zone.
 fn serve_from<R: Wait + Threads + Sync + Abort, Z: FirstZone + Send + Sync>(
     rt: &R,
     alloc: Global,

@@ -1,4 +1,4 @@
-//! Tests of the workers of `serve_workers`: jobs on streams, side by side; a job on connections over a poll that is made up; and how a server
+//! Tests of the workers of `serve_workers`: jobs on datagrams, side by side; a job on connections over a poll that is made up; and how a server
 //! ends, over sockets of the system's.
 #![tactic(auto)]
 

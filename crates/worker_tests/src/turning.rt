@@ -63,6 +63,8 @@ impl Blocking for Comer {
     // As many as are counted.
     ghost faults = { λ _. 2 ^ 64 - 1 };
 
+    ghost would_block = { λ _. ⊤ };
+
     fn read(&mut self, _buf: &mut [u8]) -> Result<usize, Fault> {
         match self.comes {
             Comes::Nothing => Err(Fault::Blocked),

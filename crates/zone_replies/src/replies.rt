@@ -1,17 +1,15 @@
 //! A server as one who answers connections.
-ghost use Rattle.std.specs.Prelude.{◌≡◌, ◌≤◌, ◌⊎◌, ℕ, true, length, Some, None, IfSome, IfOk, OnErr, if◌then◌else◌};
+ghost use Rattle.std.specs.Prelude.{◌≡◌, ◌≤◌, ◌⊎◌, ℕ, true, length, IfOk, OnErr};
 ghost use Rattle.dns_message.specs.Message.{message_limit};
 ghost use Rattle.zone_tree.specs.Version.{Version};
 ghost use Rattle.serve_core.specs.Transfers.{is_permitted, messages_to};
 ghost use Rattle.zone_tree.specs.Zone.{soa_of};
 ghost use Rattle.dns_engine.specs.Chain.{changes_by};
-ghost use Rattle.conversation.specs.Octets.{messages_in};
 ghost use Rattle.conversation.specs.Served.{Grows};
 ghost use Rattle.zone_service.specs.Known.{learned_by};
 ghost use Rattle.connections.specs.Kept.{messages_of};
 ghost use Rattle.connections.specs.declared.answering.Reply.{Reply as ReplyOf};
 ghost use Rattle.zone_service.specs.Replied.{IsReplied, IsUpdate, IsTransfer, HasNoAnswer};
-ghost use Rattle.zone_service.specs.declared.service_log.Event.TheVariants.{Update as ToldOfUpdate};
 ghost use Rattle.zone_replies.specs.Going.{transfer_left};
 
 use crate::transfer::Transfer;
@@ -24,7 +22,7 @@ use std::alloc::Global;
 use std::net::SocketAddr;
 use std::sync::Wait;
 use zone_service::{
-    Event, Now, Served, Server, ServiceLog, Told, answer_now, serve_one, write_transfer,
+    Now, Served, Server, ServiceLog, answer_now, serve_one, tell_update, write_transfer,
 };
 
 /// A server that answers the peers of connections, with a worker's reader, of which contracts know what it has seen published. A log is told of
@@ -92,28 +90,6 @@ impl<'a, 's, Z: FirstZone, N: Naming, L: ServiceLog> Replies<'a, 's, Z, N, L> {
         self.reader
     }
 
-    /// What the log is told of an update: its code and its serials, where the peer may update; nothing of others, who could fill the
-    /// log (own).
-    fn event_of(&self, told: Told) -> Option<Event>
-        ensures { result ≡ (if self.now.peer.may_update then Some (ToldOfUpdate self.now.from told.code told.serials) else None) }
-    {
-        if !self.peer.may_update {
-            return None;
-        }
-        Some(Event::Update {
-            from: self.from,
-            code: told.code,
-            serials: told.serials,
-        })
-    }
-
-    /// Tells the log of an update, where it is told of it.
-    fn tell<R: Wait>(&self, rt: &R, told: Told) {
-        if let Some(event) = self.event_of(told) {
-            self.log.tell(rt, event);
-        }
-    }
-
     /// The reply to an update, or to a query for a transfer that is permitted.
     #[tactic(auto, using(zone_service::proofs::ReplyLemmas::limit_most, zone_service::proofs::ReplyLemmas::room_most))]
     fn reply_later<R: Wait>(
@@ -142,7 +118,7 @@ impl<'a, 's, Z: FirstZone, N: Naming, L: ServiceLog> Replies<'a, 's, Z, N, L> {
         ) {
             Served::Reply(len) => Ok(Reply::One(len)),
             Served::Updated(len, told) => {
-                self.tell(rt, told);
+                tell_update(rt, self.log, peer, self.from, told);
                 Ok(Reply::One(len))
             }
             Served::Transfer(version, chain, query) => {

@@ -1,5 +1,5 @@
 -- What is replied, by what is told of a request.
-use Rattle.std.proofs.Common.{◌≡◌, ◌≢◌, ◌≤◌, ◌==◌, refl, ℕ, Bool, true, false, not, ◌&&◌, ◌||◌, nat_lt, List, [], ◌∷◌, length, take, Option, None, Some, option_and_then, ◌⊎◌, inl, inr, ⊎_elim, sym, ap, ◌∙◌, subst, unwrap_or, if◌then◌else◌, Result, Ok, Err, IfOk, OnOk, IfErr, OnErr, lit≤, arith, ◌+◌, ◌++◌, length-append}
+use Rattle.std.proofs.Common.{◌≡◌, ◌≢◌, ◌≤◌, ◌==◌, refl, ℕ, Bool, true, false, not, ◌&&◌, ◌||◌, nat_lt, List, [], ◌∷◌, length, take, Option, None, Some, option_and_then, ◌⊎◌, inl, inr, ⊎_elim, sym, ap, ◌∙◌, subst, unwrap_or, if◌then◌else◌, Result, Ok, Err, IfOk, OnErr, lit≤, arith, ◌+◌, ◌++◌, length-append}
 use Rattle.std.proofs.lemmas.Bool.{eqb-true}
 use Rattle.std.proofs.lemmas.Bool.Decides.{nat_tests}
 use Rattle.std.specs.Option.{option_to_list, option_or, is_some}
@@ -30,9 +30,6 @@ use Rattle.dns_rdata.specs.Numbers.{type_IXFR}
 use Rattle.zone_tree.specs.Zone.{soa_of}
 use Rattle.conversation.specs.Served.{Learned, Grows, BeginsWith}
 use Rattle.conversation.specs.Octets.{messages_in}
-use Rattle.conversation.specs.Turns.{Replies, IsBrokenAs}
-use Rattle.conversation.specs.declared.turn.Broken.{Broken}
-use Rattle.conversation.specs.declared.turn.Broken.TheVariants.{Spent, Failed}
 use Rattle.conversation.proofs.TurnLemmas.{grows_itself}
 use Rattle.dns_engine.specs.Told.{IsTold, made, refused, unchanged, full, starved}
 use Rattle.serve_core.specs.declared.transport.Transport.{Transport}
@@ -515,9 +512,6 @@ limit_most peer (Query query) = limit_by peer.transport query.edns
 limit_most peer (SaysUpdate update) = limit_by peer.transport None
 limit_most peer (NoMemory head) = limit_by peer.transport None
 
-pub short_reply : (peer : Peer) (said : Parsed) (len : ℕ) → len ≤ limit_for peer.transport said → len ≤ 65535
-short_reply peer said len short = let most = limit_most peer said in omega (arith, short, most)
-
 -- an update's reply keeps the least limit
 pub update_limit : (transport : Transport) (request : List ℕ) → is_update request ≡ true → limit_for transport (reads request) ≡ limit_of transport None
 update_limit transport request asks = ap (limit_for transport) (update_said request asks) ∙ by (update_in (header_of request) request)
@@ -637,20 +631,6 @@ still_replied first peer shorter longer later request messages grown r = record 
   about = about_older first peer shorter longer later r.version r.want (reads request) grown r.about;
   reply = r.reply;
 }
-
-module _ (first : List Record) (peer : Peer) (shorter longer later : Learned Version) (request : List ℕ) (a b : Option (List ℕ × List ℕ)) (grown : Grows longer shorter) where
-  -- on a stream
-  pub stream_replied : (result : Result (Unit {0}) Broken) → OnOk result (Replies (IsReplied first peer) longer request later a b) → OnOk result (Replies (IsReplied first peer) shorter request later a b)
-  stream_replied (Ok x) r = record { messages = r.messages; reply = still_replied first peer shorter longer later request r.messages grown r.reply; written = r.written }
-  stream_replied (Err broken) r = tt
-
-  broken_older : (broken : Broken) → IsBrokenAs (IsReplied first peer) broken longer request later a b → IsBrokenAs (IsReplied first peer) broken shorter request later a b
-  broken_older Spent r = r
-  broken_older Failed r = record { messages = r.messages; reply = still_replied first peer shorter longer later request r.messages grown r.reply; front = r.front; back = r.back; whole = r.whole; written = r.written }
-
-  pub stream_broken : (result : Result (Unit {0}) Broken) → IfErr result (λ broken. IsBrokenAs (IsReplied first peer) broken longer request later a b) → IfErr result (λ broken. IsBrokenAs (IsReplied first peer) broken shorter request later a b)
-  stream_broken (Ok x) r = tt
-  stream_broken (Err broken) r = broken_older broken r
 
 -- and by a datagram
 pub datagram_replied : (first : List Record) (peer : Peer) (shorter longer later : Learned Version) (request out : List ℕ) {E : Type 0} (result : Result (Option ℕ) E) → Grows longer shorter

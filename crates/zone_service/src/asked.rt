@@ -1,23 +1,20 @@
-//! A server as one who answers a peer's requests.
-ghost use Rattle.std.specs.Prelude.{◌≡◌, ◌+◌, ◌-◌, ◌^◌, ◌<◌, ◌≤◌, ◌⊎◌, false, length, Some, None, IfErr, IfOk, IfSome, OnOk, OnErr, if◌then◌else◌};
-ghost use Rattle.std.specs.Result.{IsErrOf};
+//! A server as one who answers datagrams.
+ghost use Rattle.std.specs.Prelude.{◌≡◌, ◌≤◌, ◌⊎◌, length, IfOk, IfSome, OnErr};
 ghost use Rattle.dns_message.specs.Message.{message_limit};
 ghost use Rattle.zone_tree.specs.Version.{Version};
 ghost use Rattle.zone_service.specs.Known.{learned_by};
 ghost use Rattle.conversation.specs.Octets.{messages_in};
 ghost use Rattle.conversation.specs.Datagrams.{by_datagram};
 ghost use Rattle.zone_service.specs.Replied.{IsReplied, IsUpdate, IsTransfer, HasNoAnswer};
-ghost use Rattle.zone_service.specs.declared.service_log.Event.TheVariants.{Update as ToldOfUpdate};
 ghost use Rattle.conversation.specs.Served.{Grows};
-ghost use Rattle.conversation.specs.Turns.{Replies, IsBrokenAs};
-ghost use Rattle.conversation.specs.declared.turn.Broken.{Broken as BrokenBy};
 
-use crate::answer::{Now, Served, Told, answer_now, serve_one};
+use crate::answer::{Now, Served, answer_now, serve_one};
 use crate::notifying::{NextTurn, Notifying};
 use crate::server::Server;
-use crate::service_log::{Event, ServiceLog};
-use crate::transfer::{send_transfer, write_transfer};
-use conversation::{Answering, Broken, Counted, Stream, write_frame};
+use crate::service_log::ServiceLog;
+use crate::telling::tell_update;
+use crate::transfer::write_transfer;
+use conversation::Answering;
 use dns_engine::{FirstZone, VersionReader};
 use notify::Notifier;
 use serve_core::{Peer, Transport};
@@ -26,7 +23,7 @@ use std::alloc::Global;
 use std::net::SocketAddr;
 use std::sync::Wait;
 
-/// A server that answers one peer, with a worker's reader, of which contracts know what it has seen published and buried. A log is told of updates.
+/// A server that answers the datagrams of peers, with a worker's reader, of which contracts know what it has seen published and buried. A log is told of updates.
 #[derive(Drop)]
 pub struct Asked<'a, 's, Z: FirstZone, N: Naming, L> {
     server: &'a Server<'s, Z, N>,
@@ -38,7 +35,7 @@ pub struct Asked<'a, 's, Z: FirstZone, N: Naming, L> {
 }
 
 impl<'a, 's, Z: FirstZone, N: Naming, L: ServiceLog> Asked<'a, 's, Z, N, L> {
-    /// A server that answers a peer, who asks from an address.
+    /// A server that answers peers, with a reader; to begin with this peer, who asks from an address.
     pub fn new(
         alloc: Global,
         server: &'a Server<'s, Z, N>,
@@ -67,73 +64,7 @@ impl<'a, 's, Z: FirstZone, N: Naming, L: ServiceLog> Asked<'a, 's, Z, N, L> {
         self.reader
     }
 
-    /// What the log is told of an update: its code and its serials, where the peer may update; nothing of others, who could fill the
-    /// log (own).
-    fn event_of(&self, told: Told) -> Option<Event>
-        ensures { result ≡ (if self.now.peer.may_update then Some (ToldOfUpdate self.now.from told.code told.serials) else None) }
-    {
-        if !self.peer.may_update {
-            return None;
-        }
-        Some(Event::Update {
-            from: self.from,
-            code: told.code,
-            serials: told.serials,
-        })
-    }
-
-    /// Tells the log of an update, where it is told of it.
-    fn tell<R: Wait>(&self, rt: &R, told: Told) {
-        if let Some(event) = self.event_of(told) {
-            self.log.tell(rt, event);
-        }
-    }
-
-    /// Answers an update, or a transfer that is permitted, on a stream.
-    #[tactic(auto, using(crate::proofs::ReplyLemmas::limit_most, crate::proofs::ReplyLemmas::room_most))]
-    fn answer_later<R: Wait, S: Stream>(
-        &mut self,
-        rt: &R,
-        stream: &mut Counted<S>,
-        request: &[u8],
-        out: &mut [u8],
-        frame: &mut [u8],
-    ) -> Result<(), Broken>
-        requires later { IsUpdate request.now ⊎ IsTransfer Z.zone self.old.peer request.now }
-        requires counting { stream.old.faults < 2 ^ 64 - 1 }
-        requires reply_room { message_limit ≤ length out.old }
-        requires frame_room { message_limit + 2 ≤ length frame.old }
-        ensures peer { self.new.peer ≡ self.old.peer }
-        ensures grows { Grows {T = Version} (learned_by self.new.reader) (learned_by self.old.reader) }
-        ensures replied { OnOk result (Replies {T = Version} (IsReplied Z.zone self.old.peer) (learned_by self.old.reader) request.now (learned_by self.new.reader) (S.octets stream.old.inner) (S.octets stream.new.inner)) }
-        ensures broken { IfErr result (λ broken. IsBrokenAs {T = Version} (IsReplied Z.zone self.old.peer) broken (learned_by self.old.reader) request.now (learned_by self.new.reader) (S.octets stream.old.inner) (S.octets stream.new.inner)) }
-        ensures same { OnOk result (stream.new.faults ≡ stream.old.faults) }
-        ensures counted { IsErrOf result BrokenBy.Failed → stream.old.faults < stream.new.faults }
-        ensures spent { IsErrOf result BrokenBy.Spent → IsTransfer Z.zone self.old.peer request.now × (self.new.reader.left ≡ 0) }
-    {
-        let peer = self.peer;
-        match serve_one(
-            rt,
-            self.alloc,
-            self.server,
-            &mut self.reader,
-            peer,
-            request,
-            out,
-        ) {
-            Served::Reply(len) => write_frame(stream, &out[..len], frame),
-            Served::Updated(len, told) => {
-                self.tell(rt, told);
-                write_frame(stream, &out[..len], frame)
-            }
-            Served::Transfer(version, chain, query) => {
-                send_transfer(version.get(), &chain, &query, peer, stream, out, frame)
-            }
-            Served::Spent => Err(Broken::Spent),
-        }
-    }
-
-    /// Answers an update, or a transfer that is permitted, that came as a datagram.
+    /// Answers an update, or a transfer that is permitted.
     #[tactic(auto, using(crate::proofs::ReplyLemmas::limit_most, crate::proofs::ReplyLemmas::room_most))]
     fn answer_datagram_later<R: Wait>(
         &mut self,
@@ -162,7 +93,7 @@ impl<'a, 's, Z: FirstZone, N: Naming, L: ServiceLog> Asked<'a, 's, Z, N, L> {
         ) {
             Served::Reply(len) => Ok(Some(len)),
             Served::Updated(len, told) => {
-                self.tell(rt, told);
+                tell_update(rt, self.log, peer, self.from, told);
                 Ok(Some(len))
             }
             Served::Transfer(version, chain, query) => {
@@ -211,36 +142,6 @@ impl<'a, 's, Z: FirstZone, N: Naming, L: ServiceLog> Answering for Asked<'a, 's,
             Now::Silent => Ok(None),
             Now::Later => self.answer_datagram_later(rt, peer, request, out),
             Now::Spent => Err(Spent),
-        }
-    }
-
-    #[tactic(auto, using(crate::proofs::ReplyLemmas::limit_most, crate::proofs::ReplyLemmas::room_most, crate::proofs::ReplyLemmas::silent_replied, conversation::proofs::TurnLemmas::grows_itself))]
-    fn answer_on<R: Wait, S: Stream>(
-        &mut self,
-        rt: &R,
-        stream: &mut Counted<S>,
-        request: &[u8],
-        out: &mut [u8],
-        frame: &mut [u8],
-    ) -> Result<(), Broken>
-        requires counting { stream.old.faults < 2 ^ 64 - 1 }
-        requires reply_room { message_limit ≤ length out.old }
-        requires frame_room { message_limit + 2 ≤ length frame.old }
-        ensures peer { self.new.peer ≡ self.old.peer }
-        ensures grows { Grows {T = Version} (learned_by self.new.reader) (learned_by self.old.reader) }
-        ensures replied { OnOk result (Replies {T = Version} (IsReplied Z.zone self.old.peer) (learned_by self.old.reader) request.now (learned_by self.new.reader) (S.octets stream.old.inner) (S.octets stream.new.inner)) }
-        ensures broken { IfErr result (λ broken. IsBrokenAs {T = Version} (IsReplied Z.zone self.old.peer) broken (learned_by self.old.reader) request.now (learned_by self.new.reader) (S.octets stream.old.inner) (S.octets stream.new.inner)) }
-        ensures same { OnOk result (stream.new.faults ≡ stream.old.faults) }
-        ensures counted { IsErrOf result BrokenBy.Failed → stream.old.faults < stream.new.faults }
-        // What can't be read as a query ends no stream by want of a version.
-        ensures spent { IsErrOf result BrokenBy.Spent → HasNoAnswer Z.zone self.old.peer request.now self.old.reader self.new.reader }
-    {
-        let cell = self.server.cell();
-        match answer_now(cell, &mut self.reader, self.peer, request, out) {
-            Now::Bytes(len) => write_frame(stream, &out[..len], frame),
-            Now::Silent => Ok(()),
-            Now::Later => self.answer_later(rt, stream, request, out, frame),
-            Now::Spent => Err(Broken::Spent),
         }
     }
 }

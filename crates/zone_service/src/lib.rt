@@ -1,8 +1,8 @@
 //! A zone that answers: queries, updates and transfers over a cell of versions and its engine, with no device and no thread.
 //!
 //! [`answer_now`] answers a query with the version that it loads, and [`serve_one`] hands an update to the engine, which a [`Server`]
-//! keeps behind a lock: each reply is that of one version, the first zone with updates replayed (`IsReplied`). [`Asked`] answers one
-//! peer's requests by these. A [`ServiceLog`] is told of each change.
+//! keeps behind a lock: each reply is that of one version, the first zone with updates replayed (`IsReplied`). [`Asked`] answers
+//! datagrams by these. A [`ServiceLog`] is told of each change.
 #![tactic(auto)]
 
 mod answer;
@@ -10,6 +10,7 @@ mod asked;
 mod notifying;
 mod server;
 mod service_log;
+mod telling;
 mod transfer;
 
 pub use answer::{Now, Served, Told, answer_now, serve_one};
@@ -17,4 +18,5 @@ pub use asked::Asked;
 pub use notifying::{NextTurn, Notifying};
 pub use server::Server;
 pub use service_log::{Event, JobEnd, Losses, NoLog, Serials, ServiceLog};
+pub use telling::tell_update;
 pub use transfer::write_transfer;

@@ -1,7 +1,7 @@
 -- What is read is held, or the stream ends.
 use Rattle.std.proofs.Common.{take, [], rules}
+use Rattle.conversation.specs.declared.stream_end.StreamEnd.TheVariants.{Device}
 use Rattle.connections.specs.Kept.{told_by}
-use Rattle.connections.specs.declared.stream_end.StreamEnd.TheVariants.{Device}
 use Rattle.connections.proofs.ToldLemmas.{stays_read, stays_unread, writes_given, ends_here, ends_read, ends_stay, ends_clean, ends_torn}
 use Rattle.connections.proofs.serve.read_some.Goals as goal
 

@@ -1,8 +1,8 @@
 -- What is answered, written and read in a turn.
 use Rattle.std.proofs.Common.{ℕ, subst}
+use Rattle.conversation.specs.declared.stream_end.StreamEnd.TheVariants.{Spent, NoMemory}
 use Rattle.connections.specs.Kept.{told_by}
 use Rattle.connections.specs.Told.{EndCounted}
-use Rattle.connections.specs.declared.stream_end.StreamEnd.TheVariants.{Spent, NoMemory}
 use Rattle.connections.proofs.ToldLemmas.{stays_more, writes_itself, writes_more, ends_here, ends_stay}
 use Rattle.connections.proofs.GoingLemmas.{goes_more, goes_stays, stops_told}
 use Rattle.connections.proofs.serve.turn.Goals as goal

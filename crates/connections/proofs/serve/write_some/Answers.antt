@@ -1,6 +1,6 @@
 -- What is made ready, and then written, is told as it was.
+use Rattle.conversation.specs.declared.stream_end.StreamEnd.TheVariants.{Device}
 use Rattle.connections.specs.Kept.{told_by}
-use Rattle.connections.specs.declared.stream_end.StreamEnd.TheVariants.{Device}
 use Rattle.connections.proofs.ToldLemmas.{stays_kept, stays_more, writes_itself, ends_here, ends_stay}
 use Rattle.connections.proofs.serve.write_some.Goals as goal
 

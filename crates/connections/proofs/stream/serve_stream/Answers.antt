@@ -11,7 +11,7 @@ use Rattle.connections.proofs.stream.serve_stream.Goals as goal
 pub loop-init : goal.loop-init
 loop-init g c =
     let Reply = g.A.Answering.is_reply (g.A.Answering.peer c.args.answering.now) in
-    let a = g.S.Blocking.octets c.args.stream.now in
+    let a = g.S.Stream.octets c.args.stream.now.inner in
     record {
       grows = grows_itself _;
       peer = refl;
@@ -26,13 +26,13 @@ loop-preserved g c =
     let Reply = g.A.Answering.is_reply (g.A.Answering.peer c.args.answering.now) in
     let seen = g.A.Answering.seen c.loop.answering in
     let later = g.A.Answering.seen c.serve_some.new.answering in
-    let b = told_by c.loop.conversation (g.S.Blocking.octets c.loop.stream) in
-    let n = told_by c.serve_some.new.conversation (g.S.Blocking.octets c.serve_some.new.stream) in
+    let b = told_by c.loop.conversation (g.S.Stream.octets c.loop.stream.inner) in
+    let n = told_by c.serve_some.new.conversation (g.S.Stream.octets c.serve_some.new.stream.inner) in
     let step = subst (λ (peer : Peer). Goes (g.A.Answering.is_reply peer) seen b later n) so_far.peer c.in-Ok.ensures.goes in
     record {
       grows = grows_more _ _ _ so_far.grows c.in-Ok.ensures.grows;
       peer = c.in-Ok.ensures.peer ∙ so_far.peer;
-      goes = goes_more Reply (g.A.Answering.seen c.args.answering.now) seen later (g.S.Blocking.octets c.args.stream.now) b n so_far.goes step;
+      goes = goes_more Reply (g.A.Answering.seen c.args.answering.now) seen later (g.S.Stream.octets c.args.stream.now.inner) b n so_far.goes step;
       written = writes_more _ _ _ so_far.written c.in-Ok.ensures.written;
       same = c.in-Ok.ensures.same ∙ so_far.same;
     }
@@ -42,11 +42,11 @@ returns-in-Err-clause-served g c =
     let so_far = c.loop.invariant in
     let Reply = g.A.Answering.is_reply (g.A.Answering.peer c.args.answering.now) in
     let start = g.A.Answering.seen c.args.answering.now in
-    let a = g.S.Blocking.octets c.args.stream.now in
+    let a = g.S.Stream.octets c.args.stream.now.inner in
     let seen = g.A.Answering.seen c.loop.answering in
     let later = g.A.Answering.seen c.serve_some.new.answering in
-    let b = told_by c.loop.conversation (g.S.Blocking.octets c.loop.stream) in
-    let new = g.S.Blocking.octets c.serve_some.new.stream in
+    let b = told_by c.loop.conversation (g.S.Stream.octets c.loop.stream.inner) in
+    let new = g.S.Stream.octets c.serve_some.new.stream.inner in
     let step = subst (λ (peer : Peer). Stops (g.A.Answering.is_reply peer) c.in-Err.end seen b later new) so_far.peer c.in-Err.ensures.stops in
     stream_ends Reply c.in-Err.end start later a new (stops_more Reply c.in-Err.end start seen later a b new so_far.goes step) (writes_more _ _ _ so_far.written c.in-Err.ensures.written)
 

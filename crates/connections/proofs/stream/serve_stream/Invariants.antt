@@ -10,7 +10,7 @@ abbrev pub invariant-loop : goal.invariant-loop
 invariant-loop g l = record {
   grows : Grows (g.A.Answering.seen l.answering) (g.A.Answering.seen l.initial.answering);
   peer : g.A.Answering.peer l.answering ≡ g.A.Answering.peer l.initial.answering;
-  goes : Goes (g.A.Answering.is_reply (g.A.Answering.peer l.initial.answering)) (g.A.Answering.seen l.initial.answering) (g.S.Blocking.octets l.initial.stream) (g.A.Answering.seen l.answering) (told_by l.conversation (g.S.Blocking.octets l.stream));
-  written : Writes (g.S.Blocking.octets l.initial.stream) (g.S.Blocking.octets l.stream);
-  same : g.S.Blocking.faults l.stream ≡ g.S.Blocking.faults l.initial.stream;
+  goes : Goes (g.A.Answering.is_reply (g.A.Answering.peer l.initial.answering)) (g.A.Answering.seen l.initial.answering) (g.S.Stream.octets l.initial.stream.inner) (g.A.Answering.seen l.answering) (told_by l.conversation (g.S.Stream.octets l.stream.inner));
+  written : Writes (g.S.Stream.octets l.initial.stream.inner) (g.S.Stream.octets l.stream.inner);
+  same : l.stream.faults ≡ l.initial.stream.faults;
 }

@@ -1,10 +1,11 @@
 -- The connections under the keys so far are served, and there is room for the keys that are left.
-use Rattle.std.proofs.Common.{◌≡◌, ℕ, ◌+◌, ◌≤◌, length, option_map}
+use Rattle.std.proofs.Common.{◌≡◌, ℕ, ◌+◌, ◌≤◌, ◌⊎◌, length, take, option_map}
+use Rattle.std.specs.List.{All, Contains}
 use Rattle.std.specs.Vec.{vec_len, vec_capacity}
 use Rattle.conversation.specs.Served.{BeginsWith, Grows}
 use Rattle.slab.specs.Slab.{get, slab_len}
 use Rattle.links.specs.Ends.{AreCounted}
-use Rattle.links.specs.Links.{OwnServed, seen_of}
+use Rattle.links.specs.Links.{OwnServed, HasStopped, seen_of}
 use Rattle.links.proofs.serve.serve_ready.Given as goal
 
 abbrev pub invariant-loop-key : goal.invariant-loop-key
@@ -13,5 +14,6 @@ invariant-loop-key g l = record {
   own : (key : ℕ) → OwnServed g.A.Answering.is_reply l.now (g.A.Answering.seen l.initial.answering) (option_map (seen_of g.S.Blocking.octets) (get l.initial.links key)) (g.A.Answering.seen l.answering) (option_map (seen_of g.S.Blocking.octets) (get l.links key));
   ended : AreCounted l.initial.ends l.ends (slab_len l.initial.links) (slab_len l.links);
   next : BeginsWith l.next.items l.initial.next.items;
+  going : All (λ key. Contains l.next.items key ⊎ HasStopped g.S.Blocking.would_block (get l.links key)) (take l.key-index l.keys);
   room : vec_len l.next + length l.keys ≤ vec_capacity l.next + l.key-index;
 }

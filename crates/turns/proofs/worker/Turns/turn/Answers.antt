@@ -1,7 +1,7 @@
 -- The steps of a turn, one behind the other.
 use Rattle.std.proofs.Common.{refl, sym, ◌∙◌, inl}
 use Rattle.conversation.proofs.TurnLemmas.{grows_itself}
-use Rattle.turns.proofs.StepLemmas.{serves_none, turned_none, turned_whole}
+use Rattle.turns.proofs.StepLemmas.{serves_none, turned_none, turned_whole, going_swept}
 use Rattle.turns.proofs.worker.Turns.turn.Goals as goal
 
 pub returns-in_err-take_all-clause-turned : goal.returns-in_err-take_all-clause-turned
@@ -21,4 +21,8 @@ returns-in_err-serve-clause-turned g c =
 
 pub returns-clause-turned : goal.returns-clause-turned
 returns-clause-turned g c =
-    turned_whole g.S.Remote.origin g.S.Blocking.octets c.args.plan.allowed.addresses.now c.in-Ok.now g.A.Answering.is_reply c.args.plan.limits (g.P.Readiness.time c.take_all.new.poll) (g.A.Answering.seen c.args.answering.now) (g.A.Answering.seen c.serve.new.answering) c.args.self.now.links c.mark.new.self.links c.take_all.new.self.links c.serve.new.self.links c.sweep.new.self.links (c.in-Ok.ensures ∙ sym c.take_all.ensures.time) c.mark.ensures c.take_all.ensures.moves c.serve.ensures.own c.sweep.ensures
+    turned_whole g.S.Remote.origin g.S.Blocking.octets c.args.plan.allowed.addresses.now c.in-Ok.now g.A.Answering.is_reply c.args.plan.limits (g.P.Readiness.time c.take_all.new.poll) (g.A.Answering.seen c.args.answering.now) (g.A.Answering.seen c.serve.new.answering) c.args.self.now.links c.mark.new.self.links c.take_all.new.self.links c.serve.new.self.links c.sweep.new.self.links (c.in-Ok.ensures ∙ sym c.take_all.ensures.time) c.mark.ensures c.take_all.ensures.moves c.serve.ensures.own c.sweep.ensures.swept
+
+pub returns-clause-going : goal.returns-clause-going
+returns-clause-going g c =
+    going_swept g.S.Remote.origin g.S.Blocking.octets c.args.plan.allowed.addresses.now c.in-Ok.now g.S.Blocking.would_block c.args.plan.limits c.serve.new.self.links c.sweep.new.self.links c.serve.new.self.served.items c.sweep.new.self.served.items c.serve.new.self.next.items c.sweep.new.self.next.items c.sweep.ensures.served c.sweep.ensures.next c.sweep.ensures.swept c.in_ok-serve.ensures.going
