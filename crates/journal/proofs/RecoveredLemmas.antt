@@ -147,7 +147,7 @@ written_accepted text head batches (Damaged at) is same fit short refused =
     absurd (none_later (salt_of refused.head) (length refused.bodies) refused.place
     (subst (λ (o : List ℕ). BeginsLater (salt_of refused.head) (length refused.bodies) (drop refused.place o)) whole.2 refused.later.0))
 written_accepted text head batches (NoBatch number) is same fit short refused =
-    let whole = whole_read head refused.0 batches refused.1 refused.2 is fit refused.3 in
-    let batch = is_one batches number refused.4.body short (ap (λ (bs : List (List ℕ)). slice_get bs number) (sym whole.1) ∙ refused.4.stands) in
-    absurd (refused.4.none batch.0 batch.1)
+    let whole = whole_read head refused.head batches refused.bodies refused.rest is fit refused.opened in
+    let batch = is_one batches number refused.no_batch.body short (ap (λ (bs : List (List ℕ)). slice_get bs number) (sym whole.1) ∙ refused.no_batch.stands) in
+    absurd (refused.no_batch.none batch.0 batch.1)
 written_accepted text head batches NoMemory is same fit short refused = refl

@@ -7,12 +7,15 @@ use Rattle.std.proofs.lemmas.List.{take_more, take_all, drop_all, map_push, map-
 use Rattle.std.proofs.lemmas.List.Elements.{All-nil, All-push}
 use Rattle.std.proofs.lemmas.List.Concat.{flat_map-append}
 use Rattle.journal.specs.declared.heads.Head.{Head}
+use Rattle.journal.specs.declared.start.Refused.{Refused}
+use Rattle.journal.specs.declared.start.Refused.TheVariants.{BadHead, OtherText, Damaged, NoBatch, NoMemory}
+use Rattle.journal.specs.declared.tails.Tail.{Tail}
 use Rattle.journal.specs.declared.tails.Tail.TheVariants.{Blank, Torn, Later}
 use Rattle.journal.specs.Frame.{frames_of, IsRead}
 use Rattle.journal.specs.Tail.{BeginsLater, IsTail}
 use Rattle.journal.specs.Batch.{batch_of, IsShort, IsBatch}
 use Rattle.journal.specs.Head.{head_of, salt_of, IsHead, IsText}
-use Rattle.journal.specs.Recovered.{updates_in, IsOpened, AreBatches, IsRecovered, IsNoBatch, IsDamaged}
+use Rattle.journal.specs.Recovered.{updates_in, IsOpened, AreBatches, IsRecovered, IsNoBatch, IsRefusedBatch, IsDamaged, IsRefused}
 use Rattle.journal.proofs.FrameLemmas.{frame_shows}
 
 -- the first of bodies are batches, and these are their updates
@@ -53,6 +56,11 @@ pub opened_from : (octets : List ℕ) (head : Head) (salt behind : List ℕ) (bo
 opened_from octets head salt behind bodies rest is is_salt spelt read =
     record { behind = behind; begins = record { is_head = is; spelt = spelt }; read = subst (λ (s : List ℕ). IsRead s 0 behind bodies rest) is_salt read }
 
+tail_from : (head : Head) (salt : List ℕ) (bodies : List (List ℕ)) (rest : List ℕ) (number : ℕ) (tail : Tail)
+    → salt ≡ salt_of head → number ≡ length bodies → IsTail salt number rest tail → IsTail (salt_of head) (length bodies) rest tail
+tail_from head salt bodies rest number tail is_salt count is =
+    subst (λ (n : ℕ). IsTail (salt_of head) n rest tail) count (subst (λ (s : List ℕ). IsTail s number rest tail) is_salt is)
+
 pub recovered_from : (text octets : List ℕ) (head : Head) (salt behind : List ℕ) (bodies : List (List ℕ)) (rest : List ℕ) (batches : List (List (List ℕ))) (updates : List (List ℕ))
     (number end : ℕ) (torn : Bool)
     → IsHead head → salt ≡ salt_of head → octets ≡ head_of head ++ behind → IsRead salt 0 behind bodies rest → IsText head.text text
@@ -74,21 +82,39 @@ recovered_from text octets head salt behind bodies rest batches updates number e
       tail = subst (λ (s : List ℕ). IsTail s number rest (if torn then Torn else Blank)) is_salt tail;
     }
 
-pub damaged_from : (octets : List ℕ) (head : Head) (salt behind : List ℕ) (bodies : List (List ℕ)) (rest : List ℕ) (number end place : ℕ)
-    → IsHead head → salt ≡ salt_of head → octets ≡ head_of head ++ behind → IsRead salt 0 behind bodies rest → number ≡ length bodies → end ≡ length octets - length rest
-    → IsTail salt number rest (Later place) → IsDamaged octets (end + place)
-damaged_from octets head salt behind bodies rest number end place is is_salt spelt read count ends later =
+pub damaged_from : (text octets : List ℕ) (head : Head) (salt behind : List ℕ) (bodies : List (List ℕ)) (rest : List ℕ) (number end place : ℕ)
+    → IsHead head → salt ≡ salt_of head → octets ≡ head_of head ++ behind → IsRead salt 0 behind bodies rest → IsText head.text text → number ≡ length bodies → end ≡ length octets - length rest
+    → IsTail salt number rest (Later place) → IsDamaged text octets (end + place)
+damaged_from text octets head salt behind bodies rest number end place is is_salt spelt read same count ends later =
     let few = read_long octets (head_of head) behind (frames_of salt 0 bodies) rest spelt read.spelt in
-    let by_head = subst (λ (s : List ℕ). IsTail s number rest (Later place)) is_salt later in
     record {
       head = head;
       bodies = bodies;
       rest = rest;
       place = place;
       opened = opened_from octets head salt behind bodies rest is is_salt spelt read;
-      later = subst (λ (n : ℕ). IsTail (salt_of head) n rest (Later place)) count by_head;
+      same_text = same;
+      later = tail_from head salt bodies rest number (Later place) is_salt count later;
       is = omega (arith, few, ends);
     }
+
+pub no_batch_from : (text octets : List ℕ) (head : Head) (salt behind : List ℕ) (bodies : List (List ℕ)) (rest : List ℕ) (number : ℕ) (torn : Bool) (why : Refused)
+    → IsHead head → salt ≡ salt_of head → octets ≡ head_of head ++ behind → IsRead salt 0 behind bodies rest → IsText head.text text → number ≡ length bodies
+    → IsTail salt number rest (if torn then Torn else Blank) → IsRefusedBatch bodies why → IsRefused text octets why
+no_batch_from text octets head salt behind bodies rest number torn (BadHead fault) is is_salt spelt read same count tail refused = absurd refused
+no_batch_from text octets head salt behind bodies rest number torn OtherText is is_salt spelt read same count tail refused = absurd refused
+no_batch_from text octets head salt behind bodies rest number torn (Damaged at) is is_salt spelt read same count tail refused = absurd refused
+no_batch_from text octets head salt behind bodies rest number torn (NoBatch told) is is_salt spelt read same count tail refused = record {
+  head = head;
+  bodies = bodies;
+  rest = rest;
+  torn = torn;
+  opened = opened_from octets head salt behind bodies rest is is_salt spelt read;
+  same_text = same;
+  tail = tail_from head salt bodies rest number (if torn then Torn else Blank) is_salt count tail;
+  no_batch = refused;
+}
+no_batch_from text octets head salt behind bodies rest number torn NoMemory is is_salt spelt read same count tail refused = tt
 
 -- the same of what is lent
 abbrev now_of : List (Bor (List ℕ)) → List (List ℕ)
@@ -108,9 +134,11 @@ one_batch_more bodies number d updates all batch so_far within is_batch is_all =
     (subst (λ (o : List ℕ). IsBatch o (now_of batch)) (sym (lent_at bodies number d within)) is_batch)
     (ap now_of is_all ∙ map-append (λ (b : Bor (List ℕ)). b.now) updates batch)
 
-pub no_batch_at : (bodies : List (Bor (List ℕ))) (number : ℕ) (d : Bor (List ℕ)) → number < length bodies
+pub no_batch_at : (bodies : List (Bor (List ℕ))) (number : ℕ) (d : Bor (List ℕ)) (updates : List (List ℕ)) → TakenSoFar (now_of bodies) number updates → number < length bodies
     → ((updates : List (List ℕ)) → IsBatch (get_or bodies number d).now updates → ⊥) → IsNoBatch (now_of bodies) number
-no_batch_at bodies number d within none = record {
+no_batch_at bodies number d updates so_far within none = record {
+  batches = so_far.batches;
+  before = so_far.are;
   body = get_or (now_of bodies) number d.now;
   stands = slice_get-get_or (now_of bodies) number d.now (omega (arith, within, lent_long bodies));
   none = λ updates is. none updates (subst (λ (o : List ℕ). IsBatch o updates) (lent_at bodies number d within) is);

@@ -1,5 +1,5 @@
 -- What a start takes of a zone text and a journal (own).
-use Rattle.std.specs.Prelude.{◌≡◌, ℕ, ◌+◌, Bool, List, ◌++◌, length, map, All, slice_get, Some, ⊤, if◌then◌else◌}
+use Rattle.std.specs.Prelude.{◌≡◌, ℕ, ◌+◌, Bool, List, ◌++◌, length, take, map, All, slice_get, Some, ⊤, if◌then◌else◌}
 use Rattle.std.specs.List.{flat_map}
 use Rattle.journal.specs.declared.heads.Head.{Head}
 use Rattle.journal.specs.declared.start.Refused.{Refused}
@@ -47,8 +47,10 @@ pub record IsRecovered (text octets : List ℕ) (head : Head) (updates : List (L
   pub place : end + length rest ≡ length octets
   pub tail : IsTail (salt_of head) number rest (if torn then Torn else Blank)
 
--- the body of this number is no batch
+-- the bodies in front of this number are batches, and the body of this number is none
 pub record IsNoBatch (bodies : List (List ℕ)) (number : ℕ) : Type 0 where
+  pub batches : List (List (List ℕ))
+  pub before : AreBatches (take number bodies) batches
   pub body : List ℕ
   pub stands : slice_get bodies number ≡ Some body
   pub none : (updates : List (List ℕ)) → IsBatch body updates → ⊥
@@ -59,20 +61,32 @@ IsRefusedBatch bodies (NoBatch number) = IsNoBatch bodies number
 IsRefusedBatch bodies NoMemory = ⊤
 IsRefusedBatch bodies _ = ⊥
 
--- a later frame begins at this octet, the first such one behind what is read
-pub record IsDamaged (octets : List ℕ) (at : ℕ) : Type 0 where
+-- a journal of this text is damaged: a later frame begins at this octet, the first such one behind what is read
+pub record IsDamaged (text octets : List ℕ) (at : ℕ) : Type 0 where
   pub head : Head
   pub bodies : List (List ℕ)
   pub rest : List ℕ
   pub place : ℕ
   pub opened : IsOpened octets head bodies rest
+  pub same_text : IsText head.text text
   pub later : IsTail (salt_of head) (length bodies) rest (Later place)
   pub is : at + length rest ≡ length octets + place
 
--- why a text and a journal are refused
+-- a journal of this text that isn't damaged has a frame of this number, the first one whose body is no batch
+pub record HasNoBatch (text octets : List ℕ) (number : ℕ) : Type 0 where
+  pub head : Head
+  pub bodies : List (List ℕ)
+  pub rest : List ℕ
+  pub torn : Bool
+  pub opened : IsOpened octets head bodies rest
+  pub same_text : IsText head.text text
+  pub tail : IsTail (salt_of head) (length bodies) rest (if torn then Torn else Blank)
+  pub no_batch : IsNoBatch bodies number
+
+-- why a text and a journal are refused, the first of these: the journal begins with no head; the text is another; it is damaged; a body is no batch
 abbrev pub IsRefused : List ℕ → List ℕ → Refused → Type 0
 IsRefused text octets (BadHead fault) = IsHeadFault octets fault
 IsRefused text octets OtherText = (head : Head) × (behind : List ℕ) × BeginsHead octets head behind × (IsText head.text text → ⊥)
-IsRefused text octets (Damaged at) = IsDamaged octets at
-IsRefused text octets (NoBatch number) = (head : Head) × (bodies : List (List ℕ)) × (rest : List ℕ) × IsOpened octets head bodies rest × IsNoBatch bodies number
+IsRefused text octets (Damaged at) = IsDamaged text octets at
+IsRefused text octets (NoBatch number) = HasNoBatch text octets number
 IsRefused text octets NoMemory = ⊤

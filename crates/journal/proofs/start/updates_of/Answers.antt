@@ -6,7 +6,7 @@ pub returns-in-None-clause-refused : goal.returns-in-None-clause-refused
 returns-in-None-clause-refused c =
     let none = told_none _ _ _ c.in-None.is c.in_ok-batch.ensures in
     let within : c.loop-number.number < length c.args.bodies.now = c.loop-number-test.true in
-    no_batch_at c.args.bodies.now c.loop-number.number _ within none
+    no_batch_at c.args.bodies.now c.loop-number.number _ _ c.loop-number.invariant within none
 
 pub loop-number-preserved : goal.loop-number-preserved
 loop-number-preserved c =
