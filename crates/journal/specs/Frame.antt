@@ -1,0 +1,38 @@
+-- Frames: what a journal has behind its head, each a body behind its length and its number, and in front of its sum (own).
+use Rattle.std.specs.Prelude.{◌≡◌, ℕ, ◌+◌, ◌^◌, ◌<◌, List, [], ◌∷◌, ◌++◌, length}
+use Rattle.std.specs.Int.{w32, w64, to_be_bytes}
+use Rattle.sha2.specs.Sha256.{sha256}
+
+-- what a frame's sum is of: how many octets its body has, in four octets, its number, in eight, and its body
+unfoldable pub text_of : ℕ → List ℕ → List ℕ
+text_of number body = to_be_bytes w32 (length body) ++ (to_be_bytes w64 number ++ body)
+
+-- a frame: its text, and the SHA-256 of the journal's salt and that text
+unfoldable pub framed : List ℕ → ℕ → List ℕ → List ℕ
+framed salt number body = text_of number body ++ sha256 (salt ++ text_of number body)
+
+-- the frames of these bodies, numbered on from a number
+abbrev pub frames_of : List ℕ → ℕ → List (List ℕ) → List ℕ
+frames_of salt number [] = []
+frames_of salt number (body ∷ bodies) = framed salt number body ++ frames_of salt (number + 1) bodies
+
+-- bodies whose lengths fit four octets, and whose numbers, from a number on, fit eight
+abbrev pub Fit : ℕ → List (List ℕ) → Type 0
+Fit number [] = Unit {0}
+Fit number (body ∷ bodies) = (length body < 2 ^ 32) × (number < 2 ^ 64) × Fit (number + 1) bodies
+
+-- octets begin with the frame of this number and this body, and these stand behind it
+pub record IsFrame (salt : List ℕ) (number : ℕ) (octets body rest : List ℕ) : Type 0 where
+  pub short : length body < 2 ^ 32
+  pub counted : number < 2 ^ 64
+  pub spelt : octets ≡ framed salt number body ++ rest
+
+-- octets begin with no frame of this number
+abbrev pub NoFrame : List ℕ → ℕ → List ℕ → Type 0
+NoFrame salt number octets = (body rest : List ℕ) → IsFrame salt number octets body rest → ⊥
+
+-- octets are the frames of these bodies, numbered on from a number, and what stands behind them begins with no frame of the next number
+pub record IsRead (salt : List ℕ) (number : ℕ) (octets : List ℕ) (bodies : List (List ℕ)) (rest : List ℕ) : Type 0 where
+  pub spelt : octets ≡ frames_of salt number bodies ++ rest
+  pub fit : Fit number bodies
+  pub no_more : NoFrame salt (number + length bodies) rest

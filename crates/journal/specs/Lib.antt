@@ -1,0 +1,5 @@
+pub mod Batch
+pub mod Frame
+pub mod Head
+pub mod Recovered
+pub mod Tail

@@ -1,0 +1,67 @@
+//! Laws of journals: each is the contract of a function that does nothing.
+ghost use Rattle.std.specs.Prelude.{◌≡◌, ◌++◌, ℕ, Bool, false, List, [], take, map, All};
+ghost use Rattle.journal.specs.declared.heads.Head.{Head};
+ghost use Rattle.journal.specs.declared.heads.HeadFault.{HeadFault};
+ghost use Rattle.journal.specs.declared.start.Refused.{Refused};
+ghost use Rattle.journal.specs.declared.start.Refused.TheVariants.{NoMemory};
+ghost use Rattle.journal.specs.Batch.{batch_of, IsShort};
+ghost use Rattle.journal.specs.Frame.{frames_of, Fit, IsFrame, IsRead};
+ghost use Rattle.journal.specs.Head.{head_of, IsHead, IsHeadFault, IsText};
+ghost use Rattle.journal.specs.Recovered.{journal_of, updates_in, IsRecovered, IsRefused};
+
+/// Octets begin with one frame at most, whatever its number.
+pub fn one_frame()
+    ensures { (salt : List ℕ) (m n : ℕ) (octets body rest other left : List ℕ)
+        → IsFrame salt m octets body rest → IsFrame salt n octets other left → (m ≡ n) × (body ≡ other) × (rest ≡ left) }
+{}
+
+/// What is written is read again, and nothing is left.
+pub fn what_is_written_is_read()
+    ensures { (salt : List ℕ) (number : ℕ) (bodies : List (List ℕ))
+        → Fit number bodies → IsRead salt number (frames_of salt number bodies) bodies [] }
+{}
+
+/// Octets are read in one way.
+pub fn octets_are_read_once()
+    ensures { (salt : List ℕ) (number : ℕ) (octets : List ℕ) (bodies : List (List ℕ)) (rest : List ℕ) (others : List (List ℕ)) (left : List ℕ)
+        → IsRead salt number octets bodies rest → IsRead salt number octets others left → (bodies ≡ others) × (rest ≡ left) }
+{}
+
+/// Wherever frames are cut, a beginning of them is read.
+pub fn each_cut_is_a_beginning()
+    ensures { (salt : List ℕ) (number : ℕ) (bodies : List (List ℕ)) → Fit number bodies → (n : ℕ)
+        → (k : ℕ) × (rest : List ℕ) × IsRead salt number (take n (frames_of salt number bodies)) (take k bodies) rest }
+{}
+
+/// What was brought to the disk is read first, whatever octets a crash leaves behind it. It rests on no property of the sum.
+pub fn what_was_synced_is_read_first()
+    ensures { (salt : List ℕ) (number : ℕ) (bodies found : List (List ℕ)) (left rest : List ℕ)
+        → Fit number bodies → IsRead salt number (frames_of salt number bodies ++ left) found rest
+        → (more : List (List ℕ)) × (found ≡ bodies ++ more) }
+{}
+
+/// Octets begin with one head at most, and what begins with one is no fault.
+pub fn one_head()
+    ensures once { (head other : Head) (rest left : List ℕ) → IsHead head → IsHead other
+        → head_of head ++ rest ≡ head_of other ++ left → (head ≡ other) × (rest ≡ left) }
+    ensures accepted { (head : Head) (rest : List ℕ) (fault : HeadFault) → IsHead head → IsHeadFault (head_of head ++ rest) fault → ⊥ }
+{}
+
+/// A start takes all of what is written, and refuses it for want of memory alone.
+pub fn what_is_written_is_recovered()
+    ensures taken { (text : List ℕ) (head other : Head) (batches : List (List (List ℕ))) (updates : List (List ℕ)) (number end : ℕ) (torn : Bool)
+        → IsHead head → Fit 0 (map batch_of batches) → All (All IsShort) batches
+        → IsRecovered text (journal_of head batches) other updates number end torn
+        → (other ≡ head) × (updates ≡ updates_in batches) × (torn ≡ false) }
+    ensures accepted { (text : List ℕ) (head : Head) (batches : List (List (List ℕ))) (why : Refused)
+        → IsHead head → IsText head.text text → Fit 0 (map batch_of batches) → All (All IsShort) batches
+        → IsRefused text (journal_of head batches) why → why ≡ NoMemory }
+{}
+
+/// A start takes what was brought to the disk first, whatever octets a crash leaves behind it. It rests on no property of the sum.
+pub fn what_was_synced_is_recovered_first()
+    ensures { (text left : List ℕ) (head other : Head) (batches : List (List (List ℕ))) (updates : List (List ℕ)) (number end : ℕ) (torn : Bool)
+        → IsHead head → Fit 0 (map batch_of batches) → All (All IsShort) batches
+        → IsRecovered text (journal_of head batches ++ left) other updates number end torn
+        → (more : List (List ℕ)) × (other ≡ head) × (updates ≡ updates_in batches ++ more) }
+{}

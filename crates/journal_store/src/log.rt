@@ -1,0 +1,145 @@
+//! A journal that is appended to (own).
+use crate::disk::Disk;
+use journal::{Head, SUM, write_frame, write_head};
+use std::alloc::{AllocError, Global};
+
+/// A journal that is appended to.
+#[derive(Drop)]
+pub struct Log<D: Disk> {
+    disk: D,
+    salt: [u8; SUM],
+    number: u64,
+    end: u64,
+    stuck: bool,
+}
+
+/// Why a batch isn't appended.
+#[derive(Drop)]
+pub enum LogFault<F> {
+    /// An append has failed before, and what it left couldn't be cut off, or a sync has failed: nothing more is appended.
+    Stuck,
+    /// There are 2^64 - 1 batches, or the octets would be 2^64.
+    Full,
+    /// There is no memory. The journal is as it was.
+    NoMemory,
+    /// The disk has failed.
+    Disk(F),
+}
+
+impl<F> From<AllocError> for LogFault<F> {
+    ghost use Rattle.std.specs.Prelude.{◌≡◌};
+    ghost use Rattle.journal_store.specs.declared.log.LogFault.TheVariants.{NoMemory};
+
+    ghost from_gives = { λ _ fault. fault ≡ NoMemory };
+
+    fn from(_: AllocError) -> LogFault<F> {
+        LogFault::NoMemory
+    }
+}
+
+impl<D: Disk> Log<D> {
+    ghost use Rattle.std.specs.Prelude.{◌≡◌, ℕ, ◌+◌, ◌^◌, ◌<◌, ◌≤◌, ◌⊎◌, ◌↔◌, true, List, [], ◌∷◌, ◌++◌, length, OnOk, OnErr, IfOk, IsErrOf};
+    ghost use Rattle.journal.specs.declared.heads.Head.{Head};
+    ghost use Rattle.journal.specs.Frame.{Fit};
+    ghost use Rattle.journal.specs.Head.{salt_of, IsHead};
+    ghost use Rattle.journal_store.specs.Disk.{BeginsWith};
+    ghost use Rattle.journal_store.specs.Log.{octets_of, Holds, IsStuck, disk_of, is_stuck, IsFull};
+
+    /// Begins a journal with no batch: its head is on the disk. It takes memory.
+    pub fn begin(alloc: Global, disk: D, head: &Head) -> Result<Log<D>, LogFault<D::Fault>>
+        ensures { IfOk result (λ log. D.written disk ≡ [] → Holds D.written D.synced head.now log []) }
+    {
+        let (octets, salt) = write_head(alloc, head)?;
+        let mut disk = disk;
+        if let Err(fault) = disk.append(&octets) {
+            return Err(LogFault::Disk(fault));
+        }
+        if let Err(fault) = disk.sync() {
+            return Err(LogFault::Disk(fault));
+        }
+        Ok(Log {
+            disk,
+            salt,
+            number: 0,
+            end: octets.len() as u64,
+            stuck: false,
+        })
+    }
+
+    /// Goes on with a journal of so many batches that ends at this octet: what stands behind it is cut off, and that is on the disk.
+    pub fn resume(disk: D, salt: &[u8; SUM], number: u64, end: u64) -> Result<Log<D>, D::Fault>
+        ensures { IfOk result (λ log. (head : Head) (bodies : List (List ℕ)) → BeginsWith (D.written disk) (octets_of head bodies)
+            → salt.now ≡ salt_of head → number ≡ length bodies → end ≡ length (octets_of head bodies) → Fit 0 bodies
+            → Holds D.written D.synced head log bodies) }
+    {
+        let mut disk = disk;
+        disk.cut(end)?;
+        disk.sync()?;
+        Ok(Log {
+            disk,
+            salt: *salt,
+            number,
+            end,
+            stuck: false,
+        })
+    }
+
+    /// Appends a batch: at Ok it is on the disk. At an error the journal has what it had, or takes nothing more. It takes memory, before
+    /// anything is written.
+    pub fn append(&mut self, alloc: Global, body: &[u8]) -> Result<(), LogFault<D::Fault>>
+        requires { length body.now < 2 ^ 32 }
+        ensures appended { OnOk result ((head : Head) (bodies : List (List ℕ)) → Holds D.written D.synced head self.old bodies
+            → Holds D.written D.synced head self.new (bodies ++ body.now ∷ [])) }
+        ensures kept { OnErr result ((head : Head) (bodies : List (List ℕ)) → Holds D.written D.synced head self.old bodies
+            → Holds D.written D.synced head self.new bodies ⊎ IsStuck D.synced head self.new bodies) }
+        ensures stuck { IsErrOf result LogFault.Stuck ↔ (is_stuck self.old ≡ true) }
+        ensures stays { is_stuck self.old ≡ true → self.new ≡ self.old }
+        ensures full { IsErrOf result LogFault.Full → IsFull self.old (length body.now) }
+        ensures no_memory { IsErrOf result LogFault.NoMemory → self.new ≡ self.old }
+    {
+        if self.stuck {
+            return Err(LogFault::Stuck);
+        }
+        let Ok(frame) = write_frame(alloc, &self.salt, self.number, body) else {
+            return Err(LogFault::NoMemory);
+        };
+        let Some(number) = self.number.checked_add(1) else {
+            return Err(LogFault::Full);
+        };
+        let Some(end) = self.end.checked_add(frame.len() as u64) else {
+            return Err(LogFault::Full);
+        };
+        if let Err(fault) = self.disk.append(&frame) {
+            self.stuck = self.disk.cut(self.end).is_err();
+            return Err(LogFault::Disk(fault));
+        }
+        if let Err(fault) = self.disk.sync() {
+            self.stuck = true;
+            return Err(LogFault::Disk(fault));
+        }
+        self.number = number;
+        self.end = end;
+        Ok(())
+    }
+
+    /// What it lies on.
+    pub fn disk(&self) -> &D
+        ensures { result.now ≡ disk_of self.now }
+    {
+        &self.disk
+    }
+
+    /// Whether nothing more is appended.
+    pub fn is_stuck(&self) -> bool
+        ensures { result ≡ is_stuck self.now }
+    {
+        self.stuck
+    }
+
+    /// How many octets the journal has.
+    pub fn len(&self) -> u64
+        ensures { (head : Head) (bodies : List (List ℕ)) → Holds D.written D.synced head self.now bodies → result ≡ length (octets_of head bodies) }
+    {
+        self.end
+    }
+}

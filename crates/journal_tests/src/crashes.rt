@@ -1,0 +1,186 @@
+//! Crashes of a disk that lies in memory.
+use crate::journals::{ZONE, head_of_zone, recovered};
+use journal::{HeadFault, Recovered, Refused, put_update};
+use journal_store::{Log, LogFault};
+use std::alloc::{AllocError, Global};
+use std::test::Fail;
+use told_disks::{DiskFault, ToldDisk};
+
+/// Numbers that look random: Knuth's generator of 64 bits (The Art of Computer Programming, 3.3.4), of which the high bits are taken.
+#[derive(Drop)]
+struct Random(u64);
+
+impl Random {
+    /// A number below another one.
+    fn below(&mut self, most: u64) -> u64 {
+        self.0 = self
+            .0
+            .wrapping_mul(6_364_136_223_846_793_005)
+            .wrapping_add(1_442_695_040_888_963_407);
+        if most == 0 { 0 } else { (self.0 >> 33) % most }
+    }
+
+    /// An octet.
+    fn octet(&mut self) -> u8 {
+        (self.below(256) & 255) as u8
+    }
+}
+
+/// So many octets.
+fn octets_of(alloc: Global, random: &mut Random, most: u64) -> Result<Vec<u8>, AllocError> {
+    let len = random.below(most);
+    let mut octets = Vec::new(alloc);
+    for _ in 0..len {
+        octets.push(random.octet())?;
+    }
+    Ok(octets)
+}
+
+/// What the calls of a disk do: one in six fails.
+fn plan_of(alloc: Global, random: &mut Random) -> Result<Vec<u8>, AllocError> {
+    let mut plan = Vec::new(alloc);
+    for _ in 0..random.below(40) {
+        let call = if random.below(6) == 0 {
+            random.octet()
+        } else {
+            0
+        };
+        plan.push(call)?;
+    }
+    Ok(plan)
+}
+
+/// What a crash does to octets that weren't synced, in pages of up to 40 octets: it loses a page, keeps it, or turns bits of it; and it may leave none from
+/// some place on.
+fn fates_of(alloc: Global, random: &mut Random) -> Result<Vec<u8>, AllocError> {
+    let mut fates = Vec::new(alloc);
+    for _ in 0..random.below(12) {
+        let fate = match random.below(4) {
+            0 => 0,
+            1 => random.octet(),
+            _ => 1,
+        };
+        for _ in 0..random.below(40) {
+            fates.push(fate)?;
+        }
+    }
+    Ok(fates)
+}
+
+/// What was sent: updates that were told to be on the disk, and those of the batch behind them, if it was refused by the disk.
+#[derive(Drop)]
+struct Sent {
+    told: Vec<Vec<u8>>,
+    refused: Vec<Vec<u8>>,
+}
+
+/// Appends some batches of up to three updates.
+fn append_some(
+    alloc: Global,
+    random: &mut Random,
+    log: &mut Log<ToldDisk>,
+    sent: &mut Sent,
+) -> Result<(), AllocError> {
+    for _ in 0..random.below(8) {
+        let mut batch = Vec::new(alloc);
+        let mut updates = Vec::new(alloc);
+        for _ in 0..=random.below(3) {
+            let update = octets_of(alloc, random, 60)?;
+            if update.len() < 65_536 {
+                put_update(&mut batch, &update)?;
+                updates.push(update)?;
+            }
+        }
+        if batch.len() >= 1 << 32 {
+            continue;
+        }
+        match log.append(alloc, &batch) {
+            Ok(()) => {
+                for update in updates {
+                    sent.told.push(update)?;
+                }
+                sent.refused.clear();
+            }
+            Err(LogFault::Disk(_)) => sent.refused = updates,
+            Err(_) => {}
+        }
+    }
+    Ok(())
+}
+
+/// Whether these are the updates that were told, and behind them none, or the whole batch that the disk refused last.
+fn is_sent(found: &Recovered<'_>, sent: &Sent) -> bool {
+    let updates = found.updates.as_slice();
+    let Some((told, rest)) = updates.split_at_checked(sent.told.len()) else {
+        return false;
+    };
+    are_same(told, &sent.told) && (rest.is_empty() || are_same(rest, &sent.refused))
+}
+
+/// Whether these are the same octets.
+fn are_same(found: &[&[u8]], sent: &[Vec<u8>]) -> bool {
+    found.len() == sent.len()
+        && found
+            .iter()
+            .zip(sent)
+            .all(|(update, other)| *update == other.as_slice())
+}
+
+/// A log on a disk that fails, and a crash of it: whether a start finds what was told, and no other updates than sent ones. Another log goes on from there, and
+/// crashes too.
+fn crashes_once(alloc: Global, seed: u64) -> Result<bool, AllocError> {
+    let mut random = Random(seed);
+    let disk = ToldDisk::new(alloc, plan_of(alloc, &mut random)?);
+    let Ok(mut log) = Log::begin(alloc, disk, &head_of_zone()) else {
+        return Ok(true);
+    };
+    let mut sent = Sent {
+        told: Vec::new(alloc),
+        refused: Vec::new(alloc),
+    };
+    append_some(alloc, &mut random, &mut log, &mut sent)?;
+    let image = log.disk().crashed(alloc, &fates_of(alloc, &mut random)?)?;
+    let Ok(found) = recovered(alloc, &image) else {
+        return Ok(false);
+    };
+    if !is_sent(&found, &sent) {
+        return Ok(false);
+    }
+    goes_on(alloc, &mut random, &image, &found)
+}
+
+/// Goes on from what a crash has left, and crashes again.
+fn goes_on(
+    alloc: Global,
+    random: &mut Random,
+    image: &[u8],
+    found: &Recovered<'_>,
+) -> Result<bool, AllocError> {
+    let mut sent = Sent {
+        told: Vec::new(alloc),
+        refused: Vec::new(alloc),
+    };
+    for update in &found.updates {
+        sent.told.push(update.to_vec(alloc)?)?;
+    }
+    let disk = ToldDisk::of(alloc, image)?;
+    let Ok(mut log) = Log::resume(disk, &found.salt, found.number, found.end as u64) else {
+        return Ok(false);
+    };
+    append_some(alloc, random, &mut log, &mut sent)?;
+    let image = log.disk().crashed(alloc, &fates_of(alloc, random)?)?;
+    let Ok(again) = recovered(alloc, &image) else {
+        return Ok(false);
+    };
+    Ok(is_sent(&again, &sent))
+}
+
+// A thousand crashes: what was told to be on the disk is there, in its order, and no other updates than sent ones.
+#[test]
+fn a_thousand_crashes(rt: HostRuntime) -> Result<(), Fail> {
+    let alloc: Global = rt.alloc();
+    for seed in 0..1_000 {
+        assert!(rt; crashes_once(alloc, seed)?, "{seed}");
+    }
+    Ok(())
+}

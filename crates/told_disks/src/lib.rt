@@ -1,0 +1,7 @@
+//! A disk that lies in memory and tells its octets, for logs of `journal_store` to be tried on: it fails when it is told to, and a crash of it
+//! drops, keeps, or turns what wasn't synced.
+#![tactic(auto)]
+
+mod told;
+
+pub use told::{DiskFault, ToldDisk};
