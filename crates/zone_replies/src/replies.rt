@@ -21,8 +21,9 @@ use snapshot_cell::{Naming, Spent};
 use std::alloc::Global;
 use std::net::SocketAddr;
 use std::sync::Wait;
+use wire_names::NameWriter;
 use zone_service::{
-    Now, Served, Server, ServiceLog, answer_now, serve_one, tell_update, write_transfer,
+    Now, Served, Server, ServiceLog, answer_kept, serve_one, tell_update, write_transfer,
 };
 
 /// A server that answers the peers of connections, with a worker's reader, of which contracts know what it has seen published. A log is told of
@@ -35,6 +36,8 @@ pub struct Replies<'a, 's, Z: FirstZone, N: Naming, L> {
     alloc: Global,
     peer: Peer,
     from: SocketAddr,
+    query: Query,
+    names: NameWriter,
 }
 
 /// The reply to a query for a transfer that is permitted in a version, by those since the asker's: over a stream what makes its messages, for a
@@ -80,6 +83,8 @@ impl<'a, 's, Z: FirstZone, N: Naming, L: ServiceLog> Replies<'a, 's, Z, N, L> {
             alloc,
             peer,
             from,
+            query: Query::blank(),
+            names: NameWriter::new(),
         }
     }
 
@@ -159,7 +164,15 @@ impl<'a, 's, Z: FirstZone, N: Naming, L: ServiceLog> Answering<Transfer>
         ensures spent { OnErr result (HasNoAnswer Z.zone self.old.peer request.now self.old.reader self.new.reader) }
     {
         let cell = self.server.cell();
-        match answer_now(cell, &mut self.reader, self.peer, request, out) {
+        match answer_kept(
+            cell,
+            &mut self.reader,
+            &mut self.query,
+            &mut self.names,
+            self.peer,
+            request,
+            out,
+        ) {
             Now::Bytes(len) => Ok(Reply::One(len)),
             Now::Silent => Ok(Reply::Silent),
             Now::Later => self.reply_later(rt, request, out),
