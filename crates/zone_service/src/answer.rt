@@ -14,13 +14,14 @@ use crate::service_log::Serials;
 use dns_engine::{
     FirstZone, SharedVersion, VersionCell, VersionChain, VersionOwner, VersionReader,
 };
-use dns_message::{Parsed, Query, Update, is_update, parse, parse_other};
+use dns_message::{Parsed, Query, Said, Update, is_update, parse, parse_into, parse_other};
 use dns_rdata::{RType, Rcode};
-use serve_core::{Heading, Peer, is_permitted, respond_to_peer, write_code};
+use serve_core::{Heading, Peer, is_permitted, respond_by, respond_to_peer, write_code};
 use snapshot_cell::{Naming, Spent};
 use std::alloc::Global;
 use std::sync::Wait;
 use update_core::check;
+use wire_names::NameWriter;
 use zone_tree::Version;
 
 /// What is answered at once.
@@ -86,31 +87,48 @@ pub fn answer_now<Z: FirstZone, N: Naming>(
     ensures now { IsNow Z.zone peer request.now reader.old reader.new out.new result }
     ensures spent { (result ≡ AtOnce.Spent) ↔ (IsQuery request.now × (reader.old.left ≡ 0)) }
 {
+    let mut query = Query::blank();
+    let mut names = NameWriter::new();
+    answer_kept(cell, reader, &mut query, &mut names, peer, request, out)
+}
+
+/// Answers a request at once, as [`answer_now`] does: a query is read into one that the one who answers keeps.
+pub fn answer_kept<Z: FirstZone, N: Naming>(
+    cell: &VersionCell<Z, N>,
+    reader: &mut VersionReader<N>,
+    query: &mut Query,
+    names: &mut NameWriter,
+    peer: Peer,
+    request: &[u8],
+    out: &mut [u8],
+) -> Now
+    requires { room_of peer.transport ≤ length out.old }
+    ensures now { IsNow Z.zone peer request.now reader.old reader.new out.new result }
+    ensures spent { (result ≡ AtOnce.Spent) ↔ (IsQuery request.now × (reader.old.left ≡ 0)) }
+{
     if is_update(request) {
         return Now::Later;
     }
-    match parse_other(request) {
-        Parsed::Silent => Now::Silent,
-        Parsed::Fault(head, code) => {
+    match parse_into(request, query) {
+        Said::Silent => Now::Silent,
+        Said::Fault(head, code) => {
             let heading = Heading::header_alone(head);
             Now::Bytes(write_code(&heading, code, peer.transport, out))
         }
-        Parsed::BadOpt(head, question, code, dnssec_ok) => {
-            let heading = Heading::of_bad(head, &question, dnssec_ok);
+        Said::BadOpt(head, code, dnssec_ok) => {
+            let heading = Heading::of_bad(head, &query.question, dnssec_ok);
             Now::Bytes(write_code(&heading, code, peer.transport, out))
         }
-        Parsed::Query(query) => {
+        Said::Query => {
             let Ok(strong) = cell.load(reader) else {
                 return Now::Spent;
             };
             let version = strong.get().get();
-            if is_permitted(version, &query, peer) {
+            if is_permitted(version, query, peer) {
                 return Now::Later;
             }
-            Now::Bytes(respond_to_peer(version.zone(), &query, peer, out))
+            Now::Bytes(respond_by(names, version.zone(), query, peer, out))
         }
-        Parsed::Update(_) => unreachable!(),
-        Parsed::NoMemory(_) => unreachable!(),
     }
 }
 

@@ -12,19 +12,21 @@ ghost use Rattle.conversation.specs.Served.{Grows};
 ghost use Rattle.conversation.specs.Turns.{Replies, IsBrokenAs};
 ghost use Rattle.conversation.specs.declared.turn.Broken.{Broken as BrokenBy};
 
-use crate::answer::{Now, Served, Told, answer_now, serve_one};
+use crate::answer::{Now, Served, Told, answer_kept, answer_now, serve_one};
 use crate::notifying::{NextTurn, Notifying};
 use crate::server::Server;
 use crate::service_log::{Event, ServiceLog};
 use crate::transfer::{send_transfer, write_transfer};
 use conversation::{Answering, Broken, Counted, Stream, write_frame};
 use dns_engine::{FirstZone, VersionReader};
+use dns_message::Query;
 use notify::Notifier;
 use serve_core::{Peer, Transport};
 use snapshot_cell::{Naming, Spent};
 use std::alloc::Global;
 use std::net::SocketAddr;
 use std::sync::Wait;
+use wire_names::NameWriter;
 
 /// A server that answers one peer, with a worker's reader, of which contracts know what it has seen published and buried. A log is told of updates.
 #[derive(Drop)]
@@ -35,6 +37,8 @@ pub struct Asked<'a, 's, Z: FirstZone, N: Naming, L> {
     alloc: Global,
     peer: Peer,
     from: SocketAddr,
+    query: Query,
+    names: NameWriter,
 }
 
 impl<'a, 's, Z: FirstZone, N: Naming, L: ServiceLog> Asked<'a, 's, Z, N, L> {
@@ -57,6 +61,8 @@ impl<'a, 's, Z: FirstZone, N: Naming, L: ServiceLog> Asked<'a, 's, Z, N, L> {
             alloc,
             peer,
             from,
+            query: Query::blank(),
+            names: NameWriter::new(),
         }
     }
 
@@ -206,7 +212,15 @@ impl<'a, 's, Z: FirstZone, N: Naming, L: ServiceLog> Answering for Asked<'a, 's,
             ..self.peer
         };
         let cell = self.server.cell();
-        match answer_now(cell, &mut self.reader, peer, request, out) {
+        match answer_kept(
+            cell,
+            &mut self.reader,
+            &mut self.query,
+            &mut self.names,
+            peer,
+            request,
+            out,
+        ) {
             Now::Bytes(len) => Ok(Some(len)),
             Now::Silent => Ok(None),
             Now::Later => self.answer_datagram_later(rt, peer, request, out),

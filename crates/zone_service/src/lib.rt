@@ -12,7 +12,7 @@ mod server;
 mod service_log;
 mod transfer;
 
-pub use answer::{Now, Served, Told, answer_now, serve_one};
+pub use answer::{Now, Served, Told, answer_kept, answer_now, serve_one};
 pub use asked::Asked;
 pub use notifying::{NextTurn, Notifying};
 pub use server::Server;
