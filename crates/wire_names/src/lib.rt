@@ -4,12 +4,14 @@
 #![tactic(auto)]
 
 mod laws;
+mod message;
 mod part;
 mod read;
 mod table;
 mod write;
 
 pub use laws::{examples, name_at_is, one_fault, one_reading, table_stays, written_is_spelt};
+pub use message::{MAX_TARGETS, Message};
 pub use part::NameReadFault;
 pub use read::read_name;
 pub use write::NameWriter;
