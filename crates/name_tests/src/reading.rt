@@ -2,8 +2,9 @@
 ghost use Rattle.std.specs.Prelude.{◌≤◌};
 
 use crate::made::{four_labels, is_printed};
+use dns_name::Name;
 use std::alloc::Global;
-use wire_names::read_name;
+use wire_names::{MAX_TARGETS, Message, NameReadFault, read_name};
 
 /// The message of RFC 1035, 4.1.4, with names at the positions 20, 40, 64 and 92.
 fn rfc_message() -> [u8; 93] {
@@ -22,12 +23,23 @@ const NAMES: [(usize, &[u8], usize); 4] = [
     (92, b"\x00", 93),
 ];
 
-/// Whether this name is read at a position, up to another.
+/// Whether this name is read at a position, up to another, and again where the ends of the message's pointers are remembered.
 fn is_read(msg: &[u8], at: usize, wire: &[u8], behind: usize) -> bool {
-    match read_name(msg, at) {
+    is_found(read_name(msg, at), wire, behind) && is_found(read_again(msg, at), wire, behind)
+}
+
+/// Whether this name was read, up to a position.
+fn is_found(found: Result<(Name, usize), NameReadFault>, wire: &[u8], behind: usize) -> bool {
+    match found {
         Ok((name, next)) => name.wire() == wire && next == behind,
         Err(_) => false,
     }
+}
+
+/// What is read at a position where the ends of the message's pointers are remembered.
+fn read_again(msg: &[u8], at: usize) -> Result<(Name, usize), NameReadFault> {
+    let mut room = [0; MAX_TARGETS];
+    Message::with_room(msg, &mut room).read_name(at)
 }
 
 /// The first of these positions where another name is read.
@@ -56,9 +68,9 @@ const FAULTS: &str = "\
 
 /// Whether the fault of the name at a position is told so.
 fn has_fault(alloc: Global, octets: &[u8], at: usize, want: &str) -> bool {
-    match read_name(octets, at) {
-        Ok(_) => false,
-        Err(fault) => is_printed(alloc, &fault, want),
+    match (read_name(octets, at), read_again(octets, at)) {
+        (Err(fault), Err(again)) => is_printed(alloc, &fault, want) && again == fault,
+        _ => false,
     }
 }
 

@@ -1,5 +1,6 @@
 pub mod Cut
 pub mod Examples
+pub mod Leads
 pub mod NameAt
 pub mod Parts
 pub mod Spells

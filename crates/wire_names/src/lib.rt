@@ -4,6 +4,7 @@
 #![tactic(auto)]
 
 mod laws;
+mod message;
 mod part;
 mod read;
 mod read_into;
@@ -11,6 +12,7 @@ mod table;
 mod write;
 
 pub use laws::{examples, name_at_is, one_fault, one_reading, table_stays, written_is_spelt};
+pub use message::{MAX_TARGETS, Message};
 pub use part::NameReadFault;
 pub use read::read_name;
 pub use read_into::read_name_into;

@@ -2,9 +2,11 @@
 ghost use Rattle.std.specs.Prelude.{◌≡◌, ◌+◌, ◌≤◌, ◌↔◌, ◌∷◌, ◌++◌, length, IsTrue, IfOk, IfErr};
 ghost use Rattle.std.specs.Bool.{OnTrue};
 ghost use Rattle.dns_name.specs.Name.{IsName};
+ghost use Rattle.wire_names.specs.Leads.{AreEnds};
 ghost use Rattle.wire_names.specs.Spells.{Spells, Refuses};
 ghost use Rattle.wire_names.specs.NameAt.{name_at};
 
+use crate::message::led_from;
 use crate::part::{NameReadFault, Part, label_at, part_at};
 use arrayvec::ArrayVec;
 use dns_name::{MAX_NAME, Name};
@@ -16,6 +18,18 @@ use dns_name::{MAX_NAME, Name};
 /// 10; BadPointer where a pointer's target isn't below the place where its run of labels began; TooLong where the
 /// name has more than 255 octets. The first fault in reading order is told, at a label Short before TooLong.
 pub fn read_name(msg: &[u8], at: usize) -> Result<(Name, usize), NameReadFault>
+    ensures found { IfOk result (λ r. Spells msg.now at at r.0 r.1) }
+    ensures lawful { IfOk result (λ r. IsName r.0) }
+    ensures refused { IfErr result (λ fault. Refuses msg.now at at 0 fault) }
+    ensures computed { result ≡ name_at msg.now at }
+{
+    name_in(msg, &[], at)
+}
+
+/// The name at a position, as [`read_name`] reads it, where the ends of the message's pointers are known from its first place up to
+/// some place: pointers whose end is known are passed over (RFC 1035, 4.1.4).
+pub(crate) fn name_in(msg: &[u8], ends: &[u16], at: usize) -> Result<(Name, usize), NameReadFault>
+    requires { AreEnds msg.now ends.now (length ends.now) }
     ensures found { IfOk result (λ r. Spells msg.now at at r.0 r.1) }
     ensures lawful { IfOk result (λ r. IsName r.0) }
     ensures refused { IfErr result (λ fault. Refuses msg.now at at 0 fault) }
@@ -43,8 +57,8 @@ pub fn read_name(msg: &[u8], at: usize) -> Result<(Name, usize), NameReadFault>
                     return Err(NameReadFault::BadPointer);
                 }
                 behind = Some(behind.unwrap_or(place + 2));
-                run = target;
-                place = target;
+                run = led_from(ends, target);
+                place = run;
             }
         }
     }

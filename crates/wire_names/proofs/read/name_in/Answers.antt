@@ -1,10 +1,11 @@
-use Rattle.std.proofs.Common.{Ok, ap, sym, ◌∙◌}
+use Rattle.std.proofs.Common.{Ok, ap, sym, ◌∙◌, arith}
 use Rattle.std.proofs.lemmas.Result.{err_from_is_err_and}
 use Rattle.wire_names.specs.Spells.{Refuses, no_part}
 use Rattle.wire_names.specs.declared.part.NameReadFault.TheVariants.{BadPointer, TooLong}
 use Rattle.wire_names.proofs.GrammarLemmas.{IsLabelAt-part, computed_fault}
-use Rattle.wire_names.proofs.ReadLemmas.{IsClosed, UnderWay-put, UnderWay-pointer, IsClosed-way, computed_closed, refused_label, Refused-pointer, name_in-way, some_name, named}
-use Rattle.wire_names.proofs.read.read_name.Goals as goal
+use Rattle.wire_names.proofs.ReadLemmas.{IsClosed, UnderWay-put, IsClosed-way, computed_closed, refused_label, Refused-pointer, name_in-way, some_name, named}
+use Rattle.wire_names.proofs.LeadsLemmas.{UnderWay-led, leads_down}
+use Rattle.wire_names.proofs.read.name_in.Goals as goal
 
 pub returns-in_err-part_at-clause-refused : goal.returns-in_err-part_at-clause-refused
 returns-in_err-part_at-clause-refused c =
@@ -62,4 +63,9 @@ returns-then-target-run-clause-computed c = sym (computed_fault _ _ _ (up c))
 
 pub loop-octets-preserved : goal.loop-octets-preserved
 loop-octets-preserved c =
-    UnderWay-pointer _ _ _ _ _ _ _ _ c.loop-octets.invariant (sym c.part_at.ensures ∙ c.in_ok-part_at.was ∙ ap Ok c.in-Pointer.is) c.if-target-run.false c.unwrap_or-in-Pointer.ensures
+    UnderWay-led _ _ _ _ _ _ _ _ _ c.loop-octets.invariant (sym c.part_at.ensures ∙ c.in_ok-part_at.was ∙ ap Ok c.in-Pointer.is) c.if-target-run.false (c.led_from-run.ensures _ c.requires) c.unwrap_or-in-Pointer.ensures
+
+pub loop-octets-smaller : goal.loop-octets-smaller
+loop-octets-smaller c =
+    let down = leads_down c.args.msg.now c.in-Pointer.target c.led_from-run.result (c.led_from-run.ensures _ c.requires) in
+    omega arith

@@ -1,6 +1,6 @@
 use Rattle.std.proofs.Common.{◌+◌, ◌-◌, length}
 use Rattle.wire_names.proofs.ReadLemmas.{IsUnderWay}
-use Rattle.wire_names.proofs.read.read_name.Given as goal
+use Rattle.wire_names.proofs.read.name_in.Given as goal
 
 abbrev pub invariant-loop-octets : goal.invariant-loop-octets
 invariant-loop-octets l = IsUnderWay l.msg l.at l.run l.place l.behind l.octets.items

@@ -1,0 +1,114 @@
+//! Messages in which names are read, and where their pointers lead (RFC 1035, 4.1.4).
+ghost use Rattle.std.specs.Prelude.{◌≡◌, ℕ, List, ◌<◌, ◌≤◌, ◌^◌, length, IfOk, IfErr};
+ghost use Rattle.dns_name.specs.Name.{IsName};
+ghost use Rattle.wire_names.specs.Leads.{Leads, EndsAt, AreEnds};
+ghost use Rattle.wire_names.specs.Spells.{Spells, Refuses};
+ghost use Rattle.wire_names.specs.NameAt.{name_at};
+
+use crate::part::{NameReadFault, Part, part_at};
+use crate::read::name_in;
+use dns_name::Name;
+use std::marker::Model;
+
+/// How many places a pointer can name, by its 14 bits (RFC 1035, 4.1.4).
+pub const MAX_TARGETS: usize = 16384;
+
+/// A message in which names are read, and for each of its first places the place where the pointers that stand there end, so that
+/// no pointer is followed twice. Contracts see the list of the message's octets.
+#[derive(Drop)]
+pub struct Message<'m> {
+    octets: &'m [u8],
+    ends: &'m [u16],
+}
+
+impl<'m> Model for Message<'m> {
+    ghost use Rattle.std.specs.Prelude.{ℕ, List, length};
+    ghost use Rattle.wire_names.specs.Leads.{AreEnds};
+
+    ghost Value = { List ℕ };
+
+    ghost view = { λ a. a.octets.now };
+
+    ghost invariant = { λ a. AreEnds a.octets.now a.ends.now (length a.ends.now) };
+}
+
+impl<'m> Message<'m> {
+    /// A message of which nothing is remembered: each name's pointers are followed anew.
+    pub fn new(octets: &'m [u8]) -> Message<'m>
+        ensures { result ≡ octets.now }
+    {
+        Message { octets, ends: &[] }
+    }
+
+    /// A message of which the ends of its pointers are remembered, of as many of its places as there is room for. Where that is
+    /// [`MAX_TARGETS`] or the message's length, each name that is read in it takes at most 256 steps, however its pointers lie.
+    pub fn with_room(octets: &'m [u8], room: &'m mut [u16]) -> Message<'m>
+        requires { length room.old ≤ 2 ^ 16 }
+        ensures { result ≡ octets.now }
+    {
+        let count = room.len().min(octets.len());
+        let ends = &mut room[..count];
+        write_ends(octets, ends);
+        Message { octets, ends }
+    }
+
+    /// The message's octets.
+    pub fn octets(&self) -> &'m [u8]
+        ensures { result.now ≡ self.now }
+    {
+        self.octets
+    }
+
+    /// The name at a position, and the position behind it, as [`read_name`](crate::read_name) reads it. No memory is taken.
+    pub fn read_name(&self, at: usize) -> Result<(Name, usize), NameReadFault>
+        ensures found { IfOk result (λ r. Spells self.now at at r.0 r.1) }
+        ensures lawful { IfOk result (λ r. IsName r.0) }
+        ensures refused { IfErr result (λ fault. Refuses self.now at at 0 fault) }
+        ensures computed { result ≡ name_at self.now at }
+    {
+        name_in(self.octets, self.ends, at)
+    }
+}
+
+/// Writes for each of a message's first places, as many as there is room for, the place where the pointers that stand there end
+/// (RFC 1035, 4.1.4).
+fn write_ends(octets: &[u8], ends: &mut [u16])
+    requires { length ends.old ≤ 2 ^ 16 }
+    ensures are { AreEnds octets.now ends.new (length ends.new) }
+    ensures len { length ends.new ≡ length ends.old }
+{
+    for at in 0..ends.len() {
+        ends[at] = end_at(octets, ends, at);
+    }
+}
+
+/// The place to which a message's pointers at a place lead, by the ends of its pointers: that where they end, if it is there, else
+/// the place itself.
+pub(crate) fn led_from(ends: &[u16], at: usize) -> usize
+    ensures { (msg : List ℕ) → AreEnds msg ends.now (length ends.now) → Leads msg at result }
+{
+    match ends.get(at) {
+        Some(end) => usize::from(*end),
+        None => at,
+    }
+}
+
+/// The place where the pointers at a place end, by those of all places in front of it.
+fn end_at(octets: &[u8], ends: &[u16], at: usize) -> u16
+    requires within { at < length ends.now }
+    requires room { length ends.now ≤ 2 ^ 16 }
+    requires before { AreEnds octets.now ends.now at }
+    ensures { EndsAt octets.now at result }
+{
+    match part_at(octets, at) {
+        Ok(Part::Pointer(target)) => {
+            if target < at {
+                return ends[target];
+            }
+            at as u16
+        }
+        Ok(Part::Label(_)) => at as u16,
+        Ok(Part::Closing) => at as u16,
+        Err(_) => at as u16,
+    }
+}
