@@ -10,6 +10,7 @@ use crate::entry::{Entry, entry_at};
 use crate::octets::{put, put_u16, put_u32};
 use crate::write::MIN_LIMIT;
 use dns_rdata::{RType, Rcode};
+use wire_names::Message;
 
 /// The greatest reply over UDP, in octets, and so the size that an OPT of ours tells (RFC 6891, 6.2.4 and 6.2.5; own).
 pub const MAX_UDP: usize = 1232;
@@ -83,7 +84,11 @@ pub fn udp_limit(edns: Option<Edns>) -> usize
 
 /// What the OPTs among so many records from a position on say; None where one of the records can't be read (RFC 1035, 4.1.3;
 /// RFC 6891, 6.1.1).
-pub(crate) fn opt_at(octets: &[u8], at: usize, count: u16) -> Option<Result<Option<Edns>, OptFault>>
+pub(crate) fn opt_at(
+    octets: &Message<'_>,
+    at: usize,
+    count: u16,
+) -> Option<Result<Option<Edns>, OptFault>>
     ensures { result ≡ option_map (λ r. opt_said r.0) (records_at count octets.now at) }
 {
     let mut place = at;

@@ -1,7 +1,7 @@
 //! How a request is read (RFC 1035, 4.1 and 4.2).
-ghost use Rattle.std.specs.Prelude.{◌≡◌, ◌⊎◌, ◌+◌, ◌≤◌, ◌∷◌, [], false, length, option_map, option_and_then};
+ghost use Rattle.std.specs.Prelude.{◌≡◌, ◌⊎◌, ◌+◌, ◌≤◌, ◌∷◌, [], false, length, Ok, option_map, option_and_then};
 ghost use Rattle.dns_message.specs.Message.{number_at};
-ghost use Rattle.dns_message.specs.Reads.{header_of, is_reply, question_at, record_at, records_at, body_in, seen, serial_held, serial_in, serial_at};
+ghost use Rattle.dns_message.specs.Reads.{header_of, is_reply, question_of, question_at, record_at, records_at, body_in, seen, serial_held, serial_in, serial_at};
 ghost use Rattle.dns_message.specs.Request.{is_update, query_of, update_of, reads, Tells};
 ghost use Rattle.dns_message.specs.Updates.{update_in};
 
@@ -12,7 +12,7 @@ use crate::update::read_update;
 use dns_name::Name;
 use dns_rdata::{Class, RType, Rcode, Serial};
 use std::alloc::Global;
-use wire_names::read_name;
+use wire_names::{MAX_TARGETS, Message};
 
 /// The octets of a header (RFC 1035, 4.1.1).
 pub const HEADER: usize = 12;
@@ -49,6 +49,9 @@ pub(crate) const OPCODE: u8 = 8;
 
 /// How many OPCODEs four bits tell (RFC 1035, 4.1.1).
 const OPCODES: u8 = 16;
+
+/// The most octets of a message whose pointers are followed anew for each name (own).
+pub(crate) const MAX_PLAIN: usize = 512;
 
 /// The octets of the five numbers that end an SOA's data (RFC 1035, 3.3.13).
 const SOA_NUMBERS: usize = 20;
@@ -106,7 +109,7 @@ fn parse_query(octets: &[u8], head: Head) -> Parsed
     requires { HEADER ≤ length octets.now }
     ensures { result ≡ query_of head (option_and_then (seen octets.now) (body_in octets.now)) }
 {
-    let Some((question, serial, said)) = one_question(octets) else {
+    let Some((question, serial, said)) = one_question_in(octets) else {
         return Parsed::Fault(head, Rcode::FormErr);
     };
     match said {
@@ -155,17 +158,45 @@ fn header_of(octets: &[u8]) -> Head
 }
 
 /// The count at a position of a header (RFC 1035, 4.1.1).
-pub(crate) fn count_at(octets: &[u8], at: usize) -> u16
+pub(crate) fn count_at(octets: &Message<'_>, at: usize) -> u16
     requires { at + 2 ≤ length octets.now }
     ensures { result ≡ number_at octets.now at }
 {
+    let octets = octets.octets();
     u16::from_be_bytes([octets[at], octets[at + 1]])
+}
+
+/// What [`one_question`] tells of octets.
+fn one_question_in(
+    octets: &[u8],
+) -> Option<(Question, Option<Serial>, Result<Option<Edns>, OptFault>)>
+    requires { HEADER ≤ length octets.now }
+    ensures { result ≡ option_and_then (seen octets.now) (body_in octets.now) }
+{
+    if octets.len() > MAX_PLAIN {
+        return one_question_in_long(octets);
+    }
+    one_question(&Message::new(octets))
+}
+
+/// What [`one_question`] tells of many octets: no pointer among them is followed twice.
+#[inline(never)]
+fn one_question_in_long(
+    octets: &[u8],
+) -> Option<(Question, Option<Serial>, Result<Option<Edns>, OptFault>)>
+    requires { HEADER ≤ length octets.now }
+    ensures { result ≡ option_and_then (seen octets.now) (body_in octets.now) }
+{
+    let mut room = [0; MAX_TARGETS];
+    one_question(&Message::with_room(octets, &mut room))
 }
 
 /// The question behind a header, the serial of the zone that one who asks for an IXFR holds, and what the OPTs among the
 /// additional records say; None of another QDCOUNT than one, and where the question or a record can't be read
 /// (RFC 1035, 4.1; RFC 1995, 3; RFC 6891, 6.1.1; own).
-fn one_question(octets: &[u8]) -> Option<(Question, Option<Serial>, Result<Option<Edns>, OptFault>)>
+fn one_question(
+    octets: &Message<'_>,
+) -> Option<(Question, Option<Serial>, Result<Option<Edns>, OptFault>)>
     requires { HEADER ≤ length octets.now }
     ensures { result ≡ option_and_then (seen octets.now) (body_in octets.now) }
 {
@@ -182,7 +213,7 @@ fn one_question(octets: &[u8]) -> Option<(Question, Option<Serial>, Result<Optio
 /// The serial of the zone that one who asks for an IXFR holds, by the so many records of the authority section at a
 /// position, and the position behind the last; None where one of them can't be read (RFC 1995, 3).
 fn authority_at(
-    octets: &[u8],
+    octets: &Message<'_>,
     question: &Question,
     at: usize,
     count: u16,
@@ -201,7 +232,7 @@ fn authority_at(
 
 /// The serial of the record at a position, where it is an SOA at a name; None of any other, and where its data haven't
 /// the form of an SOA's (RFC 1995, 3).
-fn serial_of_first(octets: &[u8], name: &Name, at: usize) -> Option<Serial>
+fn serial_of_first(octets: &Message<'_>, name: &Name, at: usize) -> Option<Serial>
     ensures { result ≡ option_and_then (λ r. serial_in octets.now name.now (r.0 ∷ [])) (record_at octets.now at) }
 {
     let (entry, _) = entry_at(octets, at)?;
@@ -213,30 +244,38 @@ fn serial_of_first(octets: &[u8], name: &Name, at: usize) -> Option<Serial>
 
 /// The serial in the data of an SOA; None where these haven't its form (RFC 1035, 3.3.13).
 #[tactic(auto, unfolding(crate::specs::Expanded::names_at))]
-fn serial_at(octets: &[u8], entry: &Entry) -> Option<Serial>
+fn serial_at(octets: &Message<'_>, entry: &Entry) -> Option<Serial>
     requires { entry.now.at + entry.now.size ≤ length octets.now }
     ensures { result ≡ serial_at octets.now entry.now }
 {
-    let Ok((_, at)) = read_name(octets, entry.at) else {
+    let Ok((_, at)) = octets.read_name(entry.at) else {
         return None;
     };
-    let Ok((_, at)) = read_name(octets, at) else {
+    let Ok((_, at)) = octets.read_name(at) else {
         return None;
     };
     let end = entry.at + entry.size;
     if at > end || end - at != SOA_NUMBERS {
         return None;
     }
-    Some(Serial(long_number_at(octets, at)?))
+    Some(Serial(long_number_at(octets.octets(), at)?))
 }
 
 /// The question at a position, and the position behind it; None where it can't be read (RFC 1035, 4.1.2).
-pub(crate) fn question_at(octets: &[u8], at: usize) -> Option<(Question, usize)>
+pub(crate) fn question_at(octets: &Message<'_>, at: usize) -> Option<(Question, usize)>
     ensures { result ≡ question_at octets.now at }
 {
-    let Ok((name, at)) = read_name(octets, at) else {
+    let Ok((name, at)) = octets.read_name(at) else {
         return None;
     };
+    question_behind(octets.octets(), name, at)
+}
+
+/// The question whose name was read, which ends at a position, and the position behind the question; None where the octets end
+/// before (RFC 1035, 4.1.2).
+fn question_behind(octets: &[u8], name: Name, at: usize) -> Option<(Question, usize)>
+    ensures { result ≡ question_of octets.now (Ok (name, at)) }
+{
     let rtype = RType(number_at(octets, at)?);
     let class = Class(number_at(octets, at + 2)?);
     let question = Question { name, rtype, class };
@@ -244,7 +283,7 @@ pub(crate) fn question_at(octets: &[u8], at: usize) -> Option<(Question, usize)>
 }
 
 /// The position behind so many records; None where one of them can't be read (RFC 1035, 4.1.3).
-pub(crate) fn behind_records(octets: &[u8], at: usize, count: u16) -> Option<usize>
+pub(crate) fn behind_records(octets: &Message<'_>, at: usize, count: u16) -> Option<usize>
     ensures { result ≡ option_map (λ r. r.1) (records_at count octets.now at) }
 {
     let mut place = at;
