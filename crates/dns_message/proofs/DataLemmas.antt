@@ -6,6 +6,8 @@ use Rattle.std.specs.Int.{to_be_bytes, w16}
 use Rattle.std.specs.List.{flat_map}
 use Rattle.dns_name.specs.Name.{wire_of, name_in, IsName}
 use Rattle.dns_name.proofs.ReadLemmas.{wire_some}
+use Rattle.dns_name.specs.Labels.{labels_in, IsFirstName}
+use Rattle.dns_name.proofs.FirstLemmas.{first_size, first_rest}
 use Rattle.dns_rdata.specs.Layout.{names_in}
 use Rattle.wire_names.specs.Table.{Entry, Table, IsTable, position_in}
 use Rattle.wire_names.specs.Written.{IsOverwritten, WritesOctets, name_octets, pointer_to}
@@ -123,12 +125,11 @@ more_among compress count all was first own i rest out at positions then next le
       goes = λ new end r v. h.goes new end r (subst (λ q. WritesEncoding q out new at positions end r) text (WritesEncoding-then (named compress name) (names_octets compress more.behind (drop len rest)) out then new at next positions after end r w v));
     }
 
--- the same of a rest that is cut to its own end
-pub IsAmong-more : (compress : Bool) (count : ℕ) (all was : List ℕ) (first : ℕ) (own : List Entry) (i : ℕ) (rest out : List ℕ) (at : ℕ) (positions : List Entry) (then : List ℕ) (next len : ℕ) (after : List Entry) (name : List (List ℕ)) → IsAmong compress count all was first own i rest out at positions → i < count → Some name ≡ name_in rest → len ≡ length (wire_of name) → WritesEncoding (named compress name) out then at positions after (Some next) → IsAmong compress count all was first own (i + 1) (take (length rest - len) (drop len rest)) then next after
-IsAmong-more compress count all was first own i rest out at positions then next len after name h less e l w =
-    let left = length-drop len rest in
-    let whole : take (length rest - len) (drop len rest) ≡ drop len rest = let full = take-length (drop len rest) in cc in
-    subst (λ octets. IsAmong compress count all was first own (i + 1) octets then next after) (sym whole) (more_among compress count all was first own i rest out at positions then next len after name h less e l w)
+-- the same by the octets that the name takes
+pub IsAmong-behind : (compress : Bool) (count : ℕ) (all was : List ℕ) (first : ℕ) (own : List Entry) (i : ℕ) (rest out : List ℕ) (at : ℕ) (positions : List Entry) (then : List ℕ) (next : ℕ) (after : List Entry) (octets behind : List ℕ) → IsAmong compress count all was first own i rest out at positions → i < count → IsFirstName rest octets behind → WritesEncoding (named compress (labels_in octets)) out then at positions after (Some next) → IsAmong compress count all was first own (i + 1) behind then next after
+IsAmong-behind compress count all was first own i rest out at positions then next after octets behind h less front w =
+    subst (λ (xs : List ℕ). IsAmong compress count all was first own (i + 1) xs then next after) (sym (first_rest rest octets behind front))
+    (more_among compress count all was first own i rest out at positions then next (length octets) after (labels_in octets) h less (sym front.name) (first_size octets front.whole) w)
 
 pub IsAmong-stop : (compress : Bool) (count : ℕ) (all was : List ℕ) (first : ℕ) (own : List Entry) (i : ℕ) (rest out : List ℕ) (at : ℕ) (positions : List Entry) (then : List ℕ) (after : List Entry) (name : List (List ℕ)) (r : Option ℕ) → IsAmong compress count all was first own i rest out at positions → i < count → Some name ≡ name_in rest → r ≡ None → WritesEncoding (named compress name) out then at positions after None → WritesEncoding (names_octets compress count all) was then first own after r
 IsAmong-stop compress count all was first own i rest out at positions then after name r h less e n short =

@@ -20,6 +20,11 @@ same_records : (o : Option (List Entry × ℕ)) → o ≡ option_map (behind [])
 same_records None = refl
 same_records (Some r) = refl
 
+-- no record says nothing
+pub none_heard : (msg : List ℕ) (count at : ℕ) (said : Said) → count ≡ 0 → said ≡ opt_said [] → Some said ≡ option_map heard (records_at count msg at)
+unfolding records_at
+none_heard msg count at said none e = ap Some e ∙ sym (ap (λ n. option_map heard (records_at n msg at)) none)
+
 pub IsHearing-start : (count : ℕ) (msg : List ℕ) (at : ℕ) (said : Said) → said ≡ opt_said [] → IsHearing count msg at 0 at said
 IsHearing-start count msg at said e = record {
   front = [];

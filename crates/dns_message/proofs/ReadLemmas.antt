@@ -104,6 +104,11 @@ additional_seen : (msg : List ℕ) (q : Question) (answer authority : List Entry
 additional_seen msg q answer authority None = refl
 additional_seen msg q answer authority (Some r) = refl
 
+-- behind no record is the position itself
+pub none_behind : (msg : List ℕ) (count at : ℕ) → count ≡ 0 → Some at ≡ option_map place_of (records_at count msg at)
+unfolding records_at
+none_behind msg count at e = sym (ap (λ n. option_map place_of (records_at n msg at)) e)
+
 -- what is seen step by step
 abbrev pub behind_authority : List ℕ → Question → Option (Option Serial × ℕ) → Option (Question × Option Serial × Said)
 behind_authority msg q o = option_and_then (λ n. option_map (λ s. (q, n.0, s)) (said_at msg 10 n.1)) o

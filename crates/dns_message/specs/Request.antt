@@ -9,6 +9,9 @@ use Rattle.dns_message.specs.declared.edns.Edns.{Edns}
 use Rattle.dns_message.specs.declared.edns.OptFault.{OptFault}
 use Rattle.dns_message.specs.declared.query.Head.{Head}
 use Rattle.dns_message.specs.declared.query.Question.{Question}
+use Rattle.dns_message.specs.declared.query.Query.{Query as QueryAsked}
+use Rattle.dns_message.specs.declared.query.Said.{Said}
+use Rattle.dns_message.specs.declared.query.Said.TheVariants as said
 use Rattle.dns_message.specs.declared.query.Parsed.{Parsed}
 use Rattle.dns_message.specs.declared.query.Parsed.TheVariants.{Silent, Fault, BadOpt, Query, Update, NoMemory}
 use Rattle.dns_message.specs.declared.update.Update.{Update as DynamicUpdate}
@@ -47,6 +50,13 @@ reads msg =
     else if opcode_of msg == opcode_QUERY then query_of (header_of msg) (option_and_then (seen msg) (body_in msg))
     else if opcode_of msg == opcode_UPDATE then update_of (header_of msg) (update_in (header_of msg) msg)
     else Fault (header_of msg) NotImp
+
+-- what octets say whose query, or question alone, is read into a query that is kept
+abbrev pub said_in : QueryAsked → Said → Parsed
+said_in query said.Query = Query query
+said_in query said.Silent = Silent
+said_in query (said.Fault head code) = Fault head code
+said_in query (said.BadOpt head code dnssec_ok) = BadOpt head query.question code dnssec_ok
 
 -- memory was wanted while an update was read: so it is told with the update's header
 pub record IsWant (msg : List ℕ) (told : Parsed) : Type 0 where

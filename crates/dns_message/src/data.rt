@@ -1,5 +1,6 @@
 //! How names, and data that names stand in, are written (RFC 1035, 3.3 and 4.1.4; RFC 2782).
 ghost use Rattle.std.specs.Prelude.{◌+◌, ◌≤◌, ◌<◌, ◌^◌, length, take, drop};
+ghost use Rattle.dns_name.specs.Labels.{labels_in, IsWhole};
 ghost use Rattle.dns_name.specs.Name.{IsName};
 ghost use Rattle.wire_names.specs.Table.{IsTable};
 ghost use Rattle.dns_message.specs.Encoding.{these, named, before, measured};
@@ -7,7 +8,7 @@ ghost use Rattle.dns_message.specs.Encoded.{WritesEncoding};
 ghost use Rattle.dns_message.specs.Octets.{names_octets, data_octets};
 
 use crate::octets::{put, put_u16, set_u16};
-use dns_name::Name;
+use dns_name::{Name, first_name};
 use dns_rdata::{Layout, RType};
 use wire_names::NameWriter;
 
@@ -26,6 +27,23 @@ pub(crate) fn put_name(
     ensures lawful { IsName name.now }
 {
     names.write(name, compress, out, at)
+}
+
+/// Writes the name in these octets at a position, as [`put_name`] does.
+pub(crate) fn put_name_octets(
+    out: &mut [u8],
+    at: usize,
+    names: &mut NameWriter,
+    octets: &[u8],
+    compress: bool,
+) -> Option<usize>
+    requires within { at ≤ length out.old }
+    requires table { IsTable (take at out.old) names.old }
+    requires whole { IsWhole octets.now }
+    requires lawful { IsName (labels_in octets.now) }
+    ensures { WritesEncoding (named compress (labels_in octets.now)) out.old out.new at names.old names.new result }
+{
+    names.write_octets(octets, compress, out, at)
 }
 
 /// Writes data behind the number of its octets as they are written, as [`put_name`] does (RFC 1035, 4.1.3).
@@ -112,11 +130,11 @@ fn put_names(
     let mut rest = octets;
     let mut next = at;
     for _ in 0..count {
-        let Some((name, len)) = Name::from_wire(rest) else {
+        let Some((name, behind)) = first_name(rest) else {
             return put(out, next, rest);
         };
-        next = put_name(out, next, names, &name, compress)?;
-        rest = &rest[len..];
+        next = put_name_octets(out, next, names, name, compress)?;
+        rest = behind;
     }
     put(out, next, rest)
 }

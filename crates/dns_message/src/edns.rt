@@ -91,6 +91,17 @@ pub(crate) fn opt_at(
 ) -> Option<Result<Option<Edns>, OptFault>>
     ensures { result ≡ option_map (λ r. opt_said r.0) (records_at count octets.now at) }
 {
+    // Most requests have no such record, and pay for no room for one.
+    if count == 0 {
+        return Some(Ok(None));
+    }
+    opt_among(octets, at, count)
+}
+
+/// What the OPTs among so many records say, as [`opt_at`] gives it.
+fn opt_among(octets: &Message<'_>, at: usize, count: u16) -> Option<Result<Option<Edns>, OptFault>>
+    ensures { result ≡ option_map (λ r. opt_said r.0) (records_at count octets.now at) }
+{
     let mut place = at;
     let mut said = Ok(None);
     for _ in 0..count {

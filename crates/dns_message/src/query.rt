@@ -29,6 +29,17 @@ pub struct Question {
     pub class: Class,
 }
 
+impl Question {
+    /// A question for the addresses of the root, into which others are read.
+    pub(crate) fn blank() -> Question {
+        Question {
+            name: Name::root(),
+            rtype: RType::A,
+            class: Class::IN,
+        }
+    }
+}
+
 /// A standard query (RFC 1035, 4.1.1).
 #[derive(Drop)]
 pub struct Query {
@@ -41,6 +52,38 @@ pub struct Query {
     pub serial: Option<Serial>,
     /// What its OPT says; None where it has none (RFC 6891, 6.1.1).
     pub edns: Option<Edns>,
+}
+
+impl Query {
+    /// A query for the root, into which others are read.
+    pub fn blank() -> Query {
+        let head = Head {
+            id: 0,
+            opcode: 0,
+            rd: false,
+        };
+        Query {
+            head,
+            question: Question::blank(),
+            serial: None,
+            edns: None,
+        }
+    }
+}
+
+/// What octets say that don't ask for an update, where the query, or the question alone, is read into a query that is kept
+/// (RFC 1035, 4.1 and 4.2).
+#[derive(Clone, Copy)]
+pub enum Said {
+    /// A query: the one that is kept.
+    Query,
+    /// Nothing that is answered.
+    Silent,
+    /// A request that gets its header and a code alone.
+    Fault(Head, Rcode),
+    /// A request whose OPT isn't obeyed: its question is that of the query that is kept; its code and its DO, as
+    /// [`Parsed::BadOpt`] has them.
+    BadOpt(Head, Rcode, bool),
 }
 
 /// What the octets of a datagram or of a frame say (RFC 1035, 4.1 and 4.2).

@@ -2,12 +2,12 @@
 ghost use Rattle.std.specs.Prelude.{◌≡◌, ◌⊎◌, ◌+◌, ◌≤◌, ◌∷◌, [], false, length, Ok, option_map, option_and_then};
 ghost use Rattle.dns_message.specs.Message.{number_at};
 ghost use Rattle.dns_message.specs.Reads.{header_of, is_reply, question_of, question_at, record_at, records_at, body_in, seen, serial_held, serial_in, serial_at};
-ghost use Rattle.dns_message.specs.Request.{is_update, query_of, update_of, reads, Tells};
+ghost use Rattle.dns_message.specs.Request.{is_update, query_of, update_of, reads, said_in, Tells};
 ghost use Rattle.dns_message.specs.Updates.{update_in};
 
 use crate::edns::{Edns, OptFault, opt_at};
 use crate::entry::{Entry, entry_at, long_number_at, number_at};
-use crate::query::{Head, Parsed, Query, Question};
+use crate::query::{Head, Parsed, Query, Question, Said};
 use crate::update::read_update;
 use dns_name::Name;
 use dns_rdata::{Class, RType, Rcode, Serial};
@@ -94,32 +94,48 @@ pub fn parse_other(octets: &[u8]) -> Parsed
     requires { is_update octets.now ≡ false }
     ensures { result ≡ reads octets.now }
 {
+    let mut query = Query::blank();
+    match parse_into(octets, &mut query) {
+        Said::Query => Parsed::Query(query),
+        Said::Silent => Parsed::Silent,
+        Said::Fault(head, code) => Parsed::Fault(head, code),
+        Said::BadOpt(head, code, dnssec_ok) => {
+            Parsed::BadOpt(head, query.question, code, dnssec_ok)
+        }
+    }
+}
+
+/// What octets say that don't ask for an update, as [`parse`] tells it: the query, or the question of one whose OPT isn't obeyed, is
+/// read into one that is kept; of any other octets that query is of no matter then. It takes no memory.
+pub fn parse_into(octets: &[u8], query: &mut Query) -> Said
+    requires { is_update octets.now ≡ false }
+    ensures { said_in query.new result ≡ reads octets.now }
+{
     if octets.len() < HEADER || is_reply(octets) {
-        return Parsed::Silent;
+        return Said::Silent;
     }
     let head = header_of(octets);
     if head.opcode == QUERY {
-        return parse_query(octets, head);
+        return query_into(octets, head, query);
     }
-    Parsed::Fault(head, Rcode::NotImp)
+    Said::Fault(head, Rcode::NotImp)
 }
 
-/// What a header of a query and what stands behind it say (RFC 1035, 4.1; RFC 6891, 7; own).
-fn parse_query(octets: &[u8], head: Head) -> Parsed
+/// What a header of a query and what stands behind it say, as [`parse_into`] tells it (RFC 1035, 4.1; RFC 6891, 7; own).
+fn query_into(octets: &[u8], head: Head, query: &mut Query) -> Said
     requires { HEADER ≤ length octets.now }
-    ensures { result ≡ query_of head (option_and_then (seen octets.now) (body_in octets.now)) }
+    ensures { said_in query.new result ≡ query_of head (option_and_then (seen octets.now) (body_in octets.now)) }
 {
-    let Some((question, serial, said)) = one_question_in(octets) else {
-        return Parsed::Fault(head, Rcode::FormErr);
+    let Some(said) = seen_in(octets, query) else {
+        return Said::Fault(head, Rcode::FormErr);
     };
+    query.head = head;
     match said {
-        Ok(edns) => Parsed::Query(Query {
-            head,
-            question,
-            serial,
-            edns,
-        }),
-        Err(fault) => Parsed::BadOpt(head, question, fault.rcode, fault.dnssec_ok),
+        Ok(edns) => {
+            query.edns = edns;
+            Said::Query
+        }
+        Err(fault) => Said::BadOpt(head, fault.rcode, fault.dnssec_ok),
     }
 }
 
@@ -166,48 +182,45 @@ pub(crate) fn count_at(octets: &Message<'_>, at: usize) -> u16
     u16::from_be_bytes([octets[at], octets[at + 1]])
 }
 
-/// What [`one_question`] tells of octets.
-fn one_question_in(
-    octets: &[u8],
-) -> Option<(Question, Option<Serial>, Result<Option<Edns>, OptFault>)>
+/// Reads what [`seen_into`] does of octets.
+fn seen_in(octets: &[u8], query: &mut Query) -> Option<Result<Option<Edns>, OptFault>>
     requires { HEADER ≤ length octets.now }
-    ensures { result ≡ option_and_then (seen octets.now) (body_in octets.now) }
+    ensures { option_map (λ said. (query.new.question, query.new.serial, said)) result ≡ option_and_then (seen octets.now) (body_in octets.now) }
 {
     if octets.len() > MAX_PLAIN {
-        return one_question_in_long(octets);
+        return seen_in_long(octets, query);
     }
-    one_question(&Message::new(octets))
+    let message = Message::new(octets);
+    seen_into(&message, query)
 }
 
-/// What [`one_question`] tells of many octets: no pointer among them is followed twice.
+/// Reads what [`seen_into`] does of many octets: no pointer among them is followed twice.
 #[inline(never)]
-fn one_question_in_long(
-    octets: &[u8],
-) -> Option<(Question, Option<Serial>, Result<Option<Edns>, OptFault>)>
+fn seen_in_long(octets: &[u8], query: &mut Query) -> Option<Result<Option<Edns>, OptFault>>
     requires { HEADER ≤ length octets.now }
-    ensures { result ≡ option_and_then (seen octets.now) (body_in octets.now) }
+    ensures { option_map (λ said. (query.new.question, query.new.serial, said)) result ≡ option_and_then (seen octets.now) (body_in octets.now) }
 {
-    let mut room = [0; MAX_TARGETS];
-    one_question(&Message::with_room(octets, &mut room))
+    let mut ends = [0; MAX_TARGETS];
+    let mut sizes = [0; MAX_TARGETS];
+    let message = Message::with_room(octets, &mut ends, &mut sizes);
+    seen_into(&message, query)
 }
 
-/// The question behind a header, the serial of the zone that one who asks for an IXFR holds, and what the OPTs among the
-/// additional records say; None of another QDCOUNT than one, and where the question or a record can't be read
+/// Reads the question behind a header into a query, and the serial of the zone that one who asks for an IXFR holds, and gives what the
+/// OPTs among the additional records say; None of another QDCOUNT than one, and where the question or a record can't be read
 /// (RFC 1035, 4.1; RFC 1995, 3; RFC 6891, 6.1.1; own).
-fn one_question(
-    octets: &Message<'_>,
-) -> Option<(Question, Option<Serial>, Result<Option<Edns>, OptFault>)>
+fn seen_into(octets: &Message<'_>, query: &mut Query) -> Option<Result<Option<Edns>, OptFault>>
     requires { HEADER ≤ length octets.now }
-    ensures { result ≡ option_and_then (seen octets.now) (body_in octets.now) }
+    ensures { option_map (λ said. (query.new.question, query.new.serial, said)) result ≡ option_and_then (seen octets.now) (body_in octets.now) }
 {
     if count_at(octets, QDCOUNT) != 1 {
         return None;
     }
-    let (question, at) = question_at(octets, HEADER)?;
-    let at = behind_records(octets, at, count_at(octets, ANCOUNT))?;
-    let (serial, at) = authority_at(octets, &question, at, count_at(octets, NSCOUNT))?;
-    let said = opt_at(octets, at, count_at(octets, ARCOUNT))?;
-    Some((question, serial, said))
+    let place = question_into(octets, HEADER, &mut query.question)?;
+    let at = behind_records(octets, place, count_at(octets, ANCOUNT))?;
+    let (serial, at) = authority_at(octets, &query.question, at, count_at(octets, NSCOUNT))?;
+    query.serial = serial;
+    opt_at(octets, at, count_at(octets, ARCOUNT))
 }
 
 /// The serial of the zone that one who asks for an IXFR holds, by the so many records of the authority section at a
@@ -261,29 +274,48 @@ fn serial_at(octets: &Message<'_>, entry: &Entry) -> Option<Serial>
     Some(Serial(long_number_at(octets.octets(), at)?))
 }
 
+/// Reads the question at a position into one, and gives the position behind it; None where it can't be read (RFC 1035, 4.1.2).
+fn question_into(octets: &Message<'_>, at: usize, question: &mut Question) -> Option<usize>
+    ensures { option_map (λ next. (question.new, next)) result ≡ question_at octets.now at }
+{
+    let Ok(at) = octets.read_name_into(at, &mut question.name) else {
+        return None;
+    };
+    type_into(octets.octets(), at, question)
+}
+
+/// Reads the type and the class at a position, where the name of a question ends, into it, and gives the position behind them; None
+/// where the octets end before (RFC 1035, 4.1.2).
+fn type_into(octets: &[u8], at: usize, question: &mut Question) -> Option<usize>
+    ensures { option_map (λ next. (question.new, next)) result ≡ question_of octets.now (Ok (question.old.name, at)) }
+{
+    question.rtype = RType(number_at(octets, at)?);
+    question.class = Class(number_at(octets, at + 2)?);
+    Some(at + 4)
+}
+
 /// The question at a position, and the position behind it; None where it can't be read (RFC 1035, 4.1.2).
 pub(crate) fn question_at(octets: &Message<'_>, at: usize) -> Option<(Question, usize)>
     ensures { result ≡ question_at octets.now at }
 {
-    let Ok((name, at)) = octets.read_name(at) else {
-        return None;
-    };
-    question_behind(octets.octets(), name, at)
-}
-
-/// The question whose name was read, which ends at a position, and the position behind the question; None where the octets end
-/// before (RFC 1035, 4.1.2).
-fn question_behind(octets: &[u8], name: Name, at: usize) -> Option<(Question, usize)>
-    ensures { result ≡ question_of octets.now (Ok (name, at)) }
-{
-    let rtype = RType(number_at(octets, at)?);
-    let class = Class(number_at(octets, at + 2)?);
-    let question = Question { name, rtype, class };
-    Some((question, at + 4))
+    let mut question = Question::blank();
+    let next = question_into(octets, at, &mut question)?;
+    Some((question, next))
 }
 
 /// The position behind so many records; None where one of them can't be read (RFC 1035, 4.1.3).
 pub(crate) fn behind_records(octets: &Message<'_>, at: usize, count: u16) -> Option<usize>
+    ensures { result ≡ option_map (λ r. r.1) (records_at count octets.now at) }
+{
+    // Most requests have none, and pay for no room for one.
+    if count == 0 {
+        return Some(at);
+    }
+    behind_some(octets, at, count)
+}
+
+/// The position behind so many records, as [`behind_records`] gives it.
+fn behind_some(octets: &Message<'_>, at: usize, count: u16) -> Option<usize>
     ensures { result ≡ option_map (λ r. r.1) (records_at count octets.now at) }
 {
     let mut place = at;

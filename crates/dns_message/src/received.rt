@@ -45,8 +45,10 @@ fn read_long_answer(alloc: Global, octets: &[u8]) -> Result<Option<RawRecords>, 
     ensures found { IfOk result (λ found. found ≡ option_map (λ body. map (received octets.now) body.answer) (body_in octets.now)) }
     ensures some { OnErr result (option_map (λ body. map (received octets.now) body.answer) (body_in octets.now) ≢ Some []) }
 {
-    let mut room = [0; MAX_TARGETS];
-    read_answer(alloc, &Message::with_room(octets, &mut room))
+    let mut ends = [0; MAX_TARGETS];
+    let mut sizes = [0; MAX_TARGETS];
+    let message = Message::with_room(octets, &mut ends, &mut sizes);
+    read_answer(alloc, &message)
 }
 
 /// The records of the answer section of a message, as [`received_records`] gives them of a reply of RCODE NOERROR.

@@ -3,16 +3,18 @@ ghost use Rattle.std.specs.Prelude.{◌≡◌, ◌≤◌, ◌<◌, ◌^◌, ◌+
 ghost use Rattle.std.specs.Int.{to_be_bytes, w16, w32};
 ghost use Rattle.std.specs.List.{flat_map};
 ghost use Rattle.std.specs.Option.{option_copied};
+ghost use Rattle.dns_name.specs.Labels.{labels_in, IsWhole};
 ghost use Rattle.dns_name.specs.Name.{IsName};
 ghost use Rattle.dns_rdata.specs.Numbers.{class_IN};
 ghost use Rattle.dns_rdata.specs.Record.{shown_as};
+ghost use Rattle.dns_rdata.specs.Shown.{records_shown};
 ghost use Rattle.wire_names.specs.Table.{IsTable, table_of};
 ghost use Rattle.dns_message.specs.Message.{section_of};
 ghost use Rattle.dns_message.specs.Encoding.{each};
 ghost use Rattle.dns_message.specs.Encoded.{WritesParts, WritesEncoding};
 ghost use Rattle.dns_message.specs.Octets.{questions, question_octets, record_octets};
 
-use crate::data::{put_measured, put_name};
+use crate::data::{put_measured, put_name, put_name_octets};
 use crate::octets::{put_u16, put_u32};
 use crate::query::Question;
 use dns_name::Name;
@@ -68,26 +70,44 @@ pub(crate) fn put_section(
 {
     let mut next = at;
     for shown in section {
-        let owner = shown.owner.to_name();
-        next = put_sets(out, next, names, &owner, shown.ttl, shown.sets)?;
+        next = put_shown(out, next, names, shown)?;
     }
     Some(next)
 }
 
-/// Writes the records of sets at a position, under this owner and with this TTL where there is one, as [`put_name`] does.
+/// Writes the records of sets at a position as they are shown, as [`put_name`] does. An owner that stands somewhere in full is
+/// written from there.
+fn put_shown(out: &mut [u8], at: usize, names: &mut NameWriter, shown: &Shown<'_>) -> Option<usize>
+    requires within { at ≤ length out.old }
+    requires most { length out.old < 2 ^ 16 }
+    requires table { IsTable (take at out.old) names.old }
+    ensures { WritesEncoding (each record_octets (records_shown shown.now)) out.old out.new at names.old names.new result }
+{
+    match shown.owner.octets() {
+        Some(owner) => put_sets(out, at, names, owner, shown.ttl, shown.sets),
+        None => {
+            let owner = shown.owner.to_name();
+            put_sets(out, at, names, owner.wire(), shown.ttl, shown.sets)
+        }
+    }
+}
+
+/// Writes the records of sets at a position, under the owner in these octets and with this TTL where there is one, as [`put_name`] does.
 fn put_sets(
     out: &mut [u8],
     at: usize,
     names: &mut NameWriter,
-    owner: &Name,
+    owner: &[u8],
     ttl: Option<Ttl>,
     sets: &[RRset],
 ) -> Option<usize>
     requires within { at ≤ length out.old }
     requires most { length out.old < 2 ^ 16 }
     requires table { IsTable (take at out.old) names.old }
+    requires whole { IsWhole owner.now }
+    requires lawful { IsName (labels_in owner.now) }
     ensures { WritesEncoding
-        (each record_octets (map (shown_as owner.now (option_map (λ t. t.0) ttl)) (flat_map (λ set. set) sets.now)))
+        (each record_octets (map (shown_as (labels_in owner.now) (option_map (λ t. t.0) ttl)) (flat_map (λ set. set) sets.now)))
         out.old out.new at names.old names.new result }
 {
     let mut next = at;
@@ -97,27 +117,29 @@ fn put_sets(
     Some(next)
 }
 
-/// Writes a set's records at a position, under this owner and with this TTL where there is one, as [`put_name`] does.
+/// Writes a set's records at a position, under the owner in these octets and with this TTL where there is one, as [`put_name`] does.
 fn put_set(
     out: &mut [u8],
     at: usize,
     names: &mut NameWriter,
-    owner: &Name,
+    owner: &[u8],
     ttl: Option<Ttl>,
     set: &RRset,
 ) -> Option<usize>
     requires within { at ≤ length out.old }
     requires most { length out.old < 2 ^ 16 }
     requires table { IsTable (take at out.old) names.old }
+    requires whole { IsWhole owner.now }
+    requires lawful { IsName (labels_in owner.now) }
     ensures { WritesEncoding
-        (each record_octets (map (shown_as owner.now (option_map (λ t. t.0) ttl)) set.now))
+        (each record_octets (map (shown_as (labels_in owner.now) (option_map (λ t. t.0) ttl)) set.now))
         out.old out.new at names.old names.new result }
 {
     let rtype = set.rtype();
     let ttl = ttl.unwrap_or(set.ttl());
     let mut next = at;
     for data in set.data() {
-        next = put_record(out, next, names, owner, rtype, ttl, data.octets())?;
+        next = put_record_under(out, next, names, owner, rtype, ttl, data.octets())?;
     }
     Some(next)
 }
@@ -139,7 +161,29 @@ pub(crate) fn put_record(
         (record_octets (record { owner = owner.now; rtype = rtype.0; ttl = ttl.0; rdata = rdata.now }))
         out.old out.new at names.old names.new result }
 {
-    let at = put_name(out, at, names, owner, true)?;
+    put_record_under(out, at, names, owner.wire(), rtype, ttl, rdata)
+}
+
+/// Writes a record of class IN at a position, under the owner in these octets, as [`put_name`] does (RFC 1035, 4.1.3).
+fn put_record_under(
+    out: &mut [u8],
+    at: usize,
+    names: &mut NameWriter,
+    owner: &[u8],
+    rtype: RType,
+    ttl: Ttl,
+    rdata: &[u8],
+) -> Option<usize>
+    requires within { at ≤ length out.old }
+    requires most { length out.old < 2 ^ 16 }
+    requires table { IsTable (take at out.old) names.old }
+    requires whole { IsWhole owner.now }
+    requires lawful { IsName (labels_in owner.now) }
+    ensures { WritesEncoding
+        (record_octets (record { owner = labels_in owner.now; rtype = rtype.0; ttl = ttl.0; rdata = rdata.now }))
+        out.old out.new at names.old names.new result }
+{
+    let at = put_name_octets(out, at, names, owner, true)?;
     let at = put_fixed(out, at, rtype, ttl)?;
     put_measured(out, at, names, rtype, rdata)
 }

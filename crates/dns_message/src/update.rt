@@ -122,8 +122,10 @@ fn read_long_update(alloc: Global, octets: &[u8], head: Head) -> Result<Option<P
     requires { HEADER ≤ length octets.now }
     ensures { IfOk result (λ found. found ≡ option_map (update_read head) (update_in head octets.now)) }
 {
-    let mut room = [0; MAX_TARGETS];
-    sections_read(alloc, &Message::with_room(octets, &mut room), head)
+    let mut ends = [0; MAX_TARGETS];
+    let mut sizes = [0; MAX_TARGETS];
+    let message = Message::with_room(octets, &mut ends, &mut sizes);
+    sections_read(alloc, &message, head)
 }
 
 /// What [`read_update`] tells of a message, by its four sections.

@@ -42,8 +42,26 @@ pub fn write_reply(reply: &Reply<'_>, limit: usize, out: &mut [u8]) -> usize
     ensures whole { fits (message_of reply.now) limit ≡ true → IsOverwritten out.old out.new 0 (reply_octets (message_of reply.now)) result }
     ensures behind { drop (room_under limit) out.new ≡ drop (room_under limit) out.old }
 {
+    let mut names = NameWriter::new();
+    write_reply_by(&mut names, reply, limit, out)
+}
+
+/// Writes a reply, as [`write_reply`] does, by a writer of names that the caller keeps: what it has of another message is forgotten.
+pub fn write_reply_by(
+    names: &mut NameWriter,
+    reply: &Reply<'_>,
+    limit: usize,
+    out: &mut [u8],
+) -> usize
+    requires least { MIN_LIMIT ≤ limit }
+    requires room { limit ≤ length out.old }
+    ensures octets { take result out.new ≡ fit (message_of reply.now) limit }
+    ensures len { result ≤ limit }
+    ensures whole { fits (message_of reply.now) limit ≡ true → IsOverwritten out.old out.new 0 (reply_octets (message_of reply.now)) result }
+    ensures behind { drop (room_under limit) out.new ≡ drop (room_under limit) out.old }
+{
     let room = &mut out[..limit.min(MAX_LIMIT)];
-    if let Some(len) = put_message(room, reply) {
+    if let Some(len) = put_message(names, room, reply) {
         return len;
     }
     let may_be_shorter = !reply.below_cut;
@@ -53,7 +71,7 @@ pub fn write_reply(reply: &Reply<'_>, limit: usize, out: &mut [u8]) -> usize
             ..*reply
         };
         // TC stays 0: it tells of what is needed, and additional data is not (RFC 2181, 9).
-        if let Some(len) = put_message(room, &shorter) {
+        if let Some(len) = put_message(names, room, &shorter) {
             return len;
         }
     }
@@ -75,14 +93,14 @@ fn put_truncated(out: &mut [u8], reply: &Reply<'_>) -> usize
 }
 
 /// Writes the whole reply to the front of a buffer, as `put` does.
-fn put_message(out: &mut [u8], reply: &Reply<'_>) -> Option<usize>
+fn put_message(names: &mut NameWriter, out: &mut [u8], reply: &Reply<'_>) -> Option<usize>
     requires { length out.old ≤ MAX_LIMIT }
     ensures { WritesParts out.old out.new 0 (reply_octets (message_of reply.now)) result }
 {
     let counts = counts_of(reply)?;
     let at = put_header(out, reply, false, counts)?;
-    let mut names = NameWriter::new();
-    put_sections(out, at, &mut names, reply)
+    names.reset();
+    put_sections(out, at, names, reply)
 }
 
 /// Writes the four sections at a position, as `put_name` does, the OPT last (RFC 1035, 4.1; RFC 6891, 6.1.1).

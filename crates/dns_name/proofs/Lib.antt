@@ -1,3 +1,6 @@
+pub mod BelowLemmas
+pub mod FirstLemmas
+pub mod FrontLemmas
 pub mod GatherLemmas
 pub mod LabelLemmas
 pub mod LawLemmas
@@ -9,3 +12,4 @@ pub mod SameLemmas
 pub mod StoredLemmas
 pub mod TextLemmas
 pub mod NamedLemmas
+pub mod SoughtLemmas

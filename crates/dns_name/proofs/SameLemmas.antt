@@ -46,7 +46,7 @@ not_same name other h k ne =
     ne cc)
 
 -- a name of no more octets than another is under it only where they are the same
-is_under_level : (name other : List (List ℕ)) → All IsLabel name → All IsLabel other → length (wire_of name) ≤ length (wire_of other) → is_under name other ≡ is_same name other
+pub is_under_level : (name other : List (List ℕ)) → All IsLabel name → All IsLabel other → length (wire_of name) ≤ length (wire_of other) → is_under name other ≡ is_same name other
 is_under_level [] other h k le = or_false (is_same [] other)
 is_under_level (label ∷ name) other h k le =
     let rest = All-tail IsLabel label name h in

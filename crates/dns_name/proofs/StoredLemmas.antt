@@ -215,7 +215,7 @@ front_from_under name other h =
     in
     (flat_map stored_label (reverse front), ap (flat_map stored_label) labels ∙ flat_map-append stored_label (reverse (fold_name other)) (reverse front))
 
-either_way : (a b : Bool) → (a ≡ true → b ≡ true) → (b ≡ true → a ≡ true) → a ≡ b
+pub either_way : (a b : Bool) → (a ≡ true → b ≡ true) → (b ≡ true → a ≡ true) → a ≡ b
 either_way true b f g = sym (f refl)
 either_way false true f g = g refl
 either_way false false f g = refl

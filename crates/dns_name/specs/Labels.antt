@@ -1,6 +1,6 @@
 -- How a name lies in octets: a length octet from 1 to 63 before each label, and a zero octet behind the last (RFC 1035, 3.1).
 use Rattle.std.specs.Prelude.{◌≡◌, ℕ, ◌<◌, List, [], ◌∷◌, ◌++◌, length, Some, None}
-use Rattle.dns_name.specs.Name.{Name, labels_read}
+use Rattle.dns_name.specs.Name.{Name, IsName, labels_read, name_in}
 
 -- the labels that octets begin with; no label where they begin with none
 abbrev pub labels_in : List ℕ → Name
@@ -17,3 +17,16 @@ pub record IsFirstLabel (octets label rest : List ℕ) : Type 0 where
   pub some : 0 < length label
   pub short : length label < 64
   pub octets_are : octets ≡ length label ∷ label ++ rest
+
+-- octets begin with these, in which a name is written in full, and the rest stands behind them (RFC 1035, 3.1)
+pub record IsFirstName (octets own rest : List ℕ) : Type 0 where
+  pub name : name_in octets ≡ Some (labels_in own)
+  pub whole : IsWhole own
+  pub lawful : IsName (labels_in own)
+  pub octets_are : octets ≡ own ++ rest
+
+-- octets in which a name is written in full (RFC 1035, 3.1)
+pub record IsWire (octets : List ℕ) (name : Name) : Type 0 where
+  pub whole : IsWhole octets
+  pub lawful : IsName name
+  pub labels : labels_in octets ≡ name

@@ -1,6 +1,6 @@
 -- What a name is, which names are the same, which is under which, and their order. A name is the list of its
 -- labels, the leftmost first, and a label the list of its octets; the root has no label (RFC 1034, 3.1).
-use Rattle.std.specs.Prelude.{ℕ, zero, suc, ◌<◌, ◌≤◌, Bool, List, [], ◌∷◌, ◌++◌, length, take, map, reverse, All, nat_lt, nat_le, if◌then◌else◌, Option, Some, None, option_map, option_and_then, bytes_eq}
+use Rattle.std.specs.Prelude.{false, ℕ, zero, suc, ◌<◌, ◌≤◌, Bool, List, [], ◌∷◌, ◌++◌, length, take, map, reverse, All, nat_lt, nat_le, if◌then◌else◌, Option, Some, None, option_map, option_and_then, bytes_eq}
 use Rattle.std.specs.List.{list_any}
 use Rattle.std.specs.Char.{to_ascii_lowercase}
 use Rattle.std.specs.Cmp.Lexicographic.{slice_cmp, pointwise}
@@ -47,6 +47,11 @@ parent_of (label ∷ name) = Some name
 -- whether a name is under another: it is that name, or an ancestor of it is (RFC 1034, 3.1)
 abbrev pub is_under : Name → Name → Bool
 is_under name other = list_any (λ ancestor. is_same ancestor other) (self_and_ancestors name)
+
+-- whether a name, where there is one, is under another
+abbrev pub is_one_under : Option Name → Name → Bool
+is_one_under None other = false
+is_one_under (Some name) other = is_under name other
 
 -- the canonical order of names: by their labels from the rightmost on, each folded and compared octet by
 -- octet, a name before those that have more labels to its left (RFC 4034, 6.1)

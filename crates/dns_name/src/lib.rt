@@ -7,6 +7,7 @@
 #![tactic(auto)]
 
 mod compare;
+mod front;
 mod kept;
 mod labels;
 mod laws;
@@ -14,6 +15,7 @@ mod name;
 mod octets;
 mod order;
 mod print;
+mod sought;
 mod stored;
 mod stored_order;
 mod text;
@@ -25,7 +27,8 @@ pub use laws::{
     text_is_read_back, under_ancestors,
 };
 pub use name::{MAX_BELOW_ASTERISK, MAX_LABEL, MAX_NAME, Name};
-pub use octets::first_label;
+pub use octets::{first_label, first_name};
 pub use print::MAX_TEXT;
+pub use sought::{Sought, SoughtRoom};
 pub use stored::{MAX_STORED, SoughtName, StoredName};
 pub use text::{NameFault, octet_at};

@@ -1,11 +1,11 @@
 //! The name itself.
-ghost use Rattle.std.specs.Prelude.{All, IsTrue, ◌≡◌, ◌+◌, ◌<◌, ◌≤◌, List, [], ◌∷◌, ◌++◌, length, drop, take, IsNone, IfSome, ◌↔◌, Option, option_map, MatchOption};
+ghost use Rattle.std.specs.Prelude.{All, IsTrue, ◌≡◌, ◌+◌, ◌<◌, ◌≤◌, List, [], ◌∷◌, ◌++◌, length, drop, take, IsNone, None, Some, IfSome, ◌↔◌, Option, option_map, MatchOption};
 ghost use Rattle.dns_name.specs.Labels.{labels_in, IsWhole};
 ghost use Rattle.dns_name.specs.Name.{wire_of, IsName, fold_name, parent_of, name_in, asterisk, is_under, canonical_cmp};
 
 use crate::compare::names_order;
 use crate::labels::Labels;
-use crate::octets::{append, ends_in, first_label, name_len};
+use crate::octets::{append, ends_in, first_label, first_name, name_len};
 use arrayvec::ArrayVec;
 use std::cmp::Ordering;
 use std::marker::Model;
@@ -132,6 +132,20 @@ impl Name {
         let mut own = ArrayVec::new();
         append(&mut own, &octets[..len]);
         Some((Name { octets: own }, len))
+    }
+
+    /// Becomes the name that the octets begin with, as [`from_wire`](Name::from_wire) gives it, and gives how many octets it takes.
+    /// None where they begin with no name: it stays as it is then (RFC 1035, 3.1).
+    pub fn set_from_wire(&mut self, octets: &[u8]) -> Option<usize>
+        ensures name { IfSome result (λ _. name_in octets.now ≡ Some self.new) }
+        ensures lawful { IfSome result (λ _. IsName self.new) }
+        ensures octets { IfSome result (λ len. (len ≡ length (wire_of self.new)) × (octets.now ≡ wire_of self.new ++ drop len octets.now)) }
+        ensures none { IsNone result → (name_in octets.now ≡ None) × (self.new ≡ self.old) }
+    {
+        let (own, _) = first_name(octets)?;
+        self.octets.clear();
+        append(&mut self.octets, own);
+        Some(own.len())
     }
 
     /// The label `*` in front of the name; None where that has more than 255 octets (RFC 4592, 2.1.1).

@@ -1,7 +1,7 @@
 //! A name's octets: labels behind their lengths, up to a zero octet (RFC 1035, 3.1).
-ghost use Rattle.std.specs.Prelude.{◌≡◌, ◌+◌, ◌≤◌, ◌↔◌, [], ◌∷◌, ◌++◌, length, IsTrue, MatchOption, option_map};
+ghost use Rattle.std.specs.Prelude.{◌≡◌, ◌+◌, ◌≤◌, ◌↔◌, [], ◌∷◌, ◌++◌, length, IsTrue, MatchOption, None, option_map};
 ghost use Rattle.std.specs.Bool.{OnFalse, OnTrue};
-ghost use Rattle.dns_name.specs.Labels.{labels_in, IsWhole, IsFirstLabel};
+ghost use Rattle.dns_name.specs.Labels.{labels_in, IsWhole, IsFirstLabel, IsFirstName};
 ghost use Rattle.dns_name.specs.Name.{wire_of, name_in, is_under};
 
 use crate::name::{MAX_LABEL, MAX_NAME};
@@ -18,6 +18,15 @@ pub fn first_label(octets: &[u8]) -> Option<(&[u8], &[u8])>
         return None;
     }
     Some(rest.split_at(len))
+}
+
+/// The octets of the name that the octets begin with, written in full, and the octets behind it; None where they begin with no name
+/// (RFC 1035, 3.1).
+pub fn first_name(octets: &[u8]) -> Option<(&[u8], &[u8])>
+    ensures { MatchOption result (name_in octets.now ≡ None) (λ parts. IsFirstName octets.now parts.0.now parts.1.now) }
+{
+    let len = name_len(octets)?;
+    Some(octets.split_at(len))
 }
 
 /// How many octets the name takes that the octets begin with; None where they begin with no name (RFC 1035, 3.1).

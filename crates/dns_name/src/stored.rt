@@ -19,13 +19,13 @@ use std::marker::Model;
 pub const MAX_STORED: usize = 510;
 
 /// The octet that closes a label.
-const CLOSING: u8 = 0;
+pub(crate) const CLOSING: u8 = 0;
 
 /// The octet in front of one that stands for another.
 const ESCAPE: u8 = 1;
 
 /// What stands for an octet of a label, behind the others.
-fn put_octet(to: &mut ArrayVec<u8, MAX_STORED>, octet: u8)
+pub(crate) fn put_octet(to: &mut ArrayVec<u8, MAX_STORED>, octet: u8)
     requires { length to.old.items + 2 ≤ MAX_STORED }
     ensures octets { to.new.items ≡ to.old.items ++ stored_octet octet }
     ensures len { length to.new.items ≤ length to.old.items + 2 }
@@ -166,7 +166,7 @@ impl SoughtName {
     }
 
     /// The octets that stand for the name.
-    fn octets(&self) -> &[u8]
+    pub(crate) fn octets(&self) -> &[u8]
         ensures stored { IsStored result.now }
         ensures name { name_stored result.now ≡ self.now }
     {

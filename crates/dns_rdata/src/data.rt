@@ -1,7 +1,8 @@
 //! A record's data (RFC 1035, 3.3 and 3.4.1; RFC 2782; RFC 3596, 2.2; RFC 3597, 3).
-ghost use Rattle.std.specs.Prelude.{◌≡◌, ◌-◌, ◌<◌, ◌≤◌, ◌↔◌, ◌==◌, if◌then◌else◌, length, take, drop, IfOk, IfSome, Some, None, IsSome};
+ghost use Rattle.std.specs.Prelude.{◌≡◌, ◌-◌, ◌<◌, ◌≤◌, ◌↔◌, ◌==◌, if◌then◌else◌, ℕ, List, length, take, drop, IfOk, IfSome, Some, None, IsSome};
 ghost use Rattle.std.specs.Int.{from_be_bytes, w32};
 ghost use Rattle.std.specs.Result.{IsErrOf};
+ghost use Rattle.dns_name.specs.Labels.{IsWire};
 ghost use Rattle.dns_rdata.specs.Limits.{max_data};
 ghost use Rattle.dns_rdata.specs.Data.{IsData, data_of, target_of, serial_of, refresh_of, retry_of, expire_of, minimum_of, with_serial};
 ghost use Rattle.dns_rdata.specs.Numbers.{type_CNAME, type_SOA};
@@ -9,7 +10,7 @@ ghost use Rattle.dns_rdata.specs.Numbers.{type_CNAME, type_SOA};
 use crate::form::{has_form, lowered};
 use crate::layout::SOA_NUMBERS;
 use crate::numbers::{RType, Serial, Ttl};
-use dns_name::{KeptOctets, Name};
+use dns_name::{KeptOctets, Name, first_name};
 use std::alloc::{AllocError, Global};
 use std::marker::Model;
 use thiserror::Error;
@@ -131,6 +132,19 @@ impl RData {
         }
         let (name, _) = Name::from_wire(self.octets())?;
         Some(name)
+    }
+
+    /// The octets of the name that an alias stands for, written in full; None of any type but CNAME (RFC 1035, 3.3.1).
+    #[tactic(auto, unfolding(crate::specs::Data::data_of, crate::specs::Layout::layout_of))]
+    pub fn target_octets(&self) -> Option<&[u8]>
+        ensures octets { IfSome result (λ octets. (target : List (List ℕ)) × ((if self.now.rtype == type_CNAME then target_of self.now.octets else None) ≡ Some target) × IsWire octets.now target) }
+        ensures named { self.now.rtype ≡ type_CNAME → IsSome result }
+    {
+        if self.rtype == RType::CNAME {
+            let (octets, _) = first_name(self.octets())?;
+            return Some(octets);
+        }
+        None
     }
 
     /// The numbers behind the names of an SOA's data; None of any other type (RFC 1035, 3.3.13).

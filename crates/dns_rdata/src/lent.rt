@@ -1,11 +1,15 @@
 //! Names lent from where they stand.
-ghost use Rattle.std.specs.Prelude.{◌≡◌, [], unwrap_or};
+ghost use Rattle.std.specs.Prelude.{◌≡◌, [], IfSome, unwrap_or};
+ghost use Rattle.dns_name.specs.Labels.{IsWire};
 ghost use Rattle.dns_rdata.specs.Data.{target_of};
 ghost use Rattle.dns_rdata.specs.Numbers.{type_CNAME};
 
 use crate::data::RData;
 use dns_name::{Name, StoredName};
 use std::marker::Model;
+
+/// The octets of the root (RFC 1035, 3.1).
+const ROOT: &[u8] = &[0];
 
 /// Where a lent name stands.
 #[derive(Drop)]
@@ -72,6 +76,18 @@ impl<'a> LentName<'a> {
     {
         LentName {
             source: Source::Target(rdata),
+        }
+    }
+
+    /// The octets of the name, where it stands somewhere written in full; None of a name that a zone keeps (RFC 1035, 3.1).
+    pub fn octets(&self) -> Option<&[u8]>
+        ensures { IfSome result (λ octets. IsWire octets.now self.now) }
+    {
+        match &self.source {
+            Source::Root => Some(ROOT),
+            Source::Name(name) => Some(name.wire()),
+            Source::Stored(_) => None,
+            Source::Target(rdata) => rdata.target_octets(),
         }
     }
 

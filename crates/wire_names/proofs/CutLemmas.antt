@@ -3,11 +3,10 @@ use Rattle.std.proofs.Common.{◌≡◌, ℕ, suc, ◌+◌, ◌-◌, ◌/◌, �
 use Rattle.std.proofs.Math.Seq.{take-append-add, take-length}
 use Rattle.std.proofs.lemmas.List.{length-append, append_assoc}
 use Rattle.dns_name.specs.Labels.{labels_in, IsWhole, IsFirstLabel}
-use Rattle.dns_name.specs.Name.{wire_of, IsName}
-use Rattle.dns_name.proofs.LabelLemmas.{wire_of-labels_in, labels_in-wire_of}
+use Rattle.dns_name.proofs.LabelLemmas.{wire_of-labels_in}
 use Rattle.wire_names.specs.Cut.{cut_octets, IsCut}
 use Rattle.wire_names.specs.Table.{Entry, Table, position_in, enter, entered, keyed, label_key, name_key}
-use Rattle.wire_names.specs.Written.{name_octets, new_entries, pointer_to, written, entries_of, starts_of, IsOverwritten, WritesOctets}
+use Rattle.wire_names.specs.Written.{name_octets, new_entries, pointer_to, starts_of, IsOverwritten, WritesOctets}
 use Rattle.wire_names.specs.declared.write.Cut.{Cut}
 use Rattle.wire_names.proofs.EntryLemmas.{octets_none, octets_some, entries_none, entries_some}
 use Rattle.wire_names.proofs.OverwrittenLemmas.{length_stays, IsOverwritten-then}
@@ -84,19 +83,6 @@ module _ (table : Table) (octets label rest : List ℕ) (first : IsFirstLabel oc
         few = omega arith;
         low = behind.low;
       }
-
--- how a name's octets are cut
-pub record IsCutOf (compress : Bool) (table : Table) (name : List (List ℕ)) (octets : List ℕ) (cut : Cut) : Type 0 where
-  pub text : written compress table name ≡ cut_octets octets cut.len cut.target
-  pub entries : (at : ℕ) → keyed (entries_of compress table at name) ≡ starts_of at (take cut.labels (labels_in octets))
-
-pub IsCutOf-name : (compress : Bool) (table : Table) (name : List (List ℕ)) (octets : List ℕ) (cut : Cut) → octets ≡ wire_of name → IsName name → IsCut compress table octets cut → IsCutOf compress table name octets cut
-IsCutOf-name compress table name octets cut e lawful is =
-    let same : labels_in octets ≡ name = ap labels_in e ∙ labels_in-wire_of name lawful.labels in
-    record {
-      text = ap (written compress table) (sym same) ∙ is.text;
-      entries = λ at. ap (λ (n : List (List ℕ)). keyed (entries_of compress table at n)) (sym same) ∙ is.entries at;
-    }
 
 -- one position is entered of those of labels
 pub entered_step : (xs next whole : List Entry) (label : List ℕ) (place key there count i : ℕ) (names rest : List (List ℕ)) → names ≡ label ∷ rest → i < count → next ≡ enter (λ e. e.position) xs (record { position = place; key = key }) → key ≡ name_key names → there ≡ place + (1 + length label) → entered (λ e. e.position) xs (starts_of place (take (count - i) names)) ≡ whole → entered (λ e. e.position) next (starts_of there (take (count - (i + 1)) rest)) ≡ whole

@@ -1,5 +1,7 @@
 -- Positions with their keys, each key at its position's index.
-use Rattle.std.proofs.Common.{◌≡◌, ℕ, zero, suc, ◌<◌, ◌≤◌, Bool, true, false, ◌&&◌, if◌then◌else◌, nat_eq, nat_lt, nat_le, List, [], ◌∷◌, ◌++◌, length, All, get_or, refl, sym, ap, ◌∙◌, arith}
+use Rattle.std.proofs.Common.{◌≡◌, ℕ, zero, suc, ◌<◌, ◌≤◌, Bool, true, false, ◌&&◌, if◌then◌else◌, nat_eq, nat_lt, nat_le, List, [], ◌∷◌, ◌++◌, length, All, get_or, not, refl, sym, ap, subst, ◌∙◌, arith}
+use Rattle.std.specs.Bool.{OnTrue}
+use Rattle.std.specs.List.{IsAnyAnswer}
 use Rattle.std.proofs.lemmas.Bool.{lt-ltb, lt-leb, le-leb, le-ltb}
 use Rattle.std.proofs.lemmas.Cmp.{nat_eq_equiv}
 use Rattle.wire_names.specs.Table.{Entry, with_keys, enter}
@@ -46,6 +48,11 @@ other_keys positions keys key even none k d within e =
     let yes = nat_eq_equiv.refl key in
     let same : nat_eq (get_or keys k 0) key ≡ nat_eq key key = ap (λ (x : ℕ). nat_eq x key) own in
     cc
+
+-- and where it finds none, no entry has the key
+pub absent_key : (positions keys : List ℕ) (own : List Entry) (key : ℕ) (found : Bool) → length positions ≡ length keys → with_keys positions keys ≡ own → IsAnyAnswer (λ y b. nat_eq y key ≡ b) keys found → OnTrue (not found) (All (λ entry. entry.key ≡ key → ⊥) own)
+absent_key positions keys own key true even view h = tt
+absent_key positions keys own key false even view h = subst (All (λ (entry : Entry). entry.key ≡ key → ⊥)) view (other_keys positions keys key even h)
 
 -- as many entries as keys
 pub with_keys-many : (positions keys : List ℕ) (own : List Entry) (n : ℕ) → length positions ≡ length keys → with_keys positions keys ≡ own → n ≡ length keys → n ≡ length own

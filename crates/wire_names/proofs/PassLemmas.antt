@@ -184,7 +184,6 @@ pub none_behind : (o : Result (List (List ℕ) × ℕ) NameReadFault) → size_o
 none_behind (Ok r) e = let some = wire_some r.0 in absurd (omega (arith, e))
 none_behind (Err fault) e = refl
 
-
 pub up_behind : (msg : List ℕ) (at target : ℕ) (run : Run) → IsRun msg at run → run.target ≡ Some target → at ≤ target → None ≡ behind_of (name_at msg at)
 up_behind msg at target run is e up =
     none_behind (name_at msg at) (is.size ∙ ap (size_by msg at run.used) e ∙ above_if target at (joined run.used (size_of (name_at msg target))) up)
@@ -192,7 +191,6 @@ up_behind msg at target run is e up =
 led_size : (msg : List ℕ) (at target size : ℕ) (run : Run) → run.target ≡ Some target → target < at → size ≡ size_of (name_at msg target) → size_by msg at run.used run.target ≡ joined run.used size
 led_size msg at target size run e down s =
     ap (size_by msg at run.used) e ∙ below_if target at (joined run.used (size_of (name_at msg target))) down ∙ ap (joined run.used) (sym s)
-
 
 pub not_led_behind : (msg : List ℕ) (at target size : ℕ) (run : Run) → IsRun msg at run → run.target ≡ Some target → target < at → size ≡ size_of (name_at msg target) → joined run.used size ≡ 0 → None ≡ behind_of (name_at msg at)
 not_led_behind msg at target size run is e down s none =

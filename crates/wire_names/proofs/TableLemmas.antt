@@ -1,11 +1,12 @@
 -- The table of positions: what is spelt where, and what is entered.
-use Rattle.std.proofs.Common.{◌≡◌, ℕ, ◌+◌, ◌-◌, ◌*◌, ◌<◌, ◌≤◌, ◌↔◌, Bool, true, false, not, IsTrue, cond, is_some, List, [], ◌∷◌, length, map, min, All, get_or, drop, ⊎_elim, Option, Some, None, MatchOption, Result, Ok, Err, Bor, refl, sym, ap, subst, ◌∙◌, arith}
+use Rattle.std.proofs.Common.{◌≡◌, ℕ, ◌+◌, ◌-◌, ◌*◌, ◌<◌, ◌≤◌, ◌↔◌, Bool, true, false, not, IsTrue, cond, is_some, List, [], ◌∷◌, length, map, min, All, get_or, take, drop, ⊎_elim, Option, Some, None, MatchOption, Result, Ok, Err, Bor, refl, sym, ap, subst, ◌∙◌, arith}
 use Rattle.std.specs.Bool.{Decides}
 use Rattle.std.specs.Cmp.Lexicographic.{pointwise_decides}
 use Rattle.std.specs.List.{filter, fold, reduce}
 use Rattle.std.specs.Result.{IsOk}
 use Rattle.std.proofs.lemmas.Bool.{cases_lt}
-use Rattle.std.proofs.lemmas.List.{drop_more, length-drop, get_or-drop, get_or_default, get_or_append_left}
+use Rattle.std.specs.Int.{from_be_bytes, w32}
+use Rattle.std.proofs.lemmas.List.{drop_more, length-drop, get_or-drop, get_or-take, get_or_default, get_or_append_left}
 use Rattle.std.proofs.lemmas.List.Elements.{All-nil, All-cons, All-head, All-tail, All-map, All-filter}
 use Rattle.std.specs.Str.{bytes_eq}
 use Rattle.std.proofs.lemmas.Slice.Eq.{bytes_eq-Decides}
@@ -17,7 +18,7 @@ use Rattle.wire_names.specs.Spells.{Spells, closing, label, pointer}
 use Rattle.wire_names.specs.declared.part.NameReadFault.{NameReadFault}
 use Rattle.wire_names.specs.declared.part.Part.TheVariants.{Closing, Label, Pointer}
 use Rattle.wire_names.specs.NameAt.{name_at}
-use Rattle.wire_names.specs.Table.{Entry, IsTable, IsTarget, IsEntry, Ascend, name_key, octet_before, table_of, spelt_at, same_spelling, Table, positions_in, position_in}
+use Rattle.wire_names.specs.Table.{Entry, IsTable, IsTarget, IsEntry, Ascend, name_key, octet_before, key_up_to, table_of, spelt_at, same_spelling, Table, positions_in, position_in}
 use Rattle.wire_names.proofs.GrammarLemmas.{once, name_at_spelt}
 
 -- some position behind it ends what a place spells
@@ -290,10 +291,6 @@ position_in-found msg entries target name table e =
 pub at_view : (msg : List ℕ) (own entries : List Entry) (name : List (List ℕ)) (found : Option ℕ) → own ≡ entries → position_in (table_of msg own) name ≡ found → position_in (table_of msg entries) name ≡ found
 at_view msg own entries name found same e = subst (λ (x : List Entry). position_in (table_of msg x) name ≡ found) same e
 
--- the key in a name's octets, of which the first is its first label's length
-abbrev pub octets_key : List ℕ → ℕ → ℕ
-octets_key octets n = (get_or octets (n - 3) 0 * 256 + get_or octets (n - 2) 0) * 65536 + (get_or octets (n - 1) 0 * 256 + get_or octets n 0)
-
 octet_in-wire : (own : List ℕ) (name : List (List ℕ)) (at back : ℕ) → at ≡ length own - back → get_or (wire_of (own ∷ name)) at 0 ≡ octet_before back own
 octet_in-wire own name at back e =
     ap (λ (i : ℕ). get_or (wire_of (own ∷ name)) i 0) e ∙ get_or_append_left (length own ∷ own) (wire_of name) 0 (length own - back) (omega arith)
@@ -301,13 +298,28 @@ octet_in-wire own name at back e =
 pub four_octets : (a b c d w x y z : ℕ) → a ≡ w → b ≡ x → c ≡ y → d ≡ z → (a * 256 + b) * 65536 + (c * 256 + d) ≡ (w * 256 + x) * 65536 + (y * 256 + z)
 four_octets a b c d w x y z p q r s = omega arith
 
-key_in-wire : (name : List (List ℕ)) (n : ℕ) → n ≡ get_or (wire_of name) 0 0 → octets_key (wire_of name) n ≡ name_key name
-key_in-wire [] n e = ap (octets_key (0 ∷ [])) e
+key_in-wire : (name : List (List ℕ)) (n : ℕ) → n ≡ get_or (wire_of name) 0 0 → key_up_to (wire_of name) n ≡ name_key name
+key_in-wire [] n e = ap (key_up_to (0 ∷ [])) e
 key_in-wire (own ∷ name) n e =
     four_octets _ _ _ _ _ _ _ _ (octet_in-wire own name (n - 3) 3 (omega arith)) (octet_in-wire own name (n - 2) 2 (omega arith))
     (octet_in-wire own name (n - 1) 1 (omega arith)) (octet_in-wire own name n 0 (omega arith))
 
-pub key_is : (octets : List ℕ) (n : ℕ) → IsWhole octets → n ≡ get_or octets 0 0 → octets_key octets n ≡ name_key (labels_in octets)
+pub key_is : (octets : List ℕ) (n : ℕ) → IsWhole octets → n ≡ get_or octets 0 0 → key_up_to octets n ≡ name_key (labels_in octets)
 key_is octets n whole =
-    subst (λ (x : List ℕ). n ≡ get_or x 0 0 → octets_key x n ≡ name_key (labels_in octets)) (wire_of-labels_in octets whole)
+    subst (λ (x : List ℕ). n ≡ get_or x 0 0 → key_up_to x n ≡ name_key (labels_in octets)) (wire_of-labels_in octets whole)
     (key_in-wire (labels_in octets) n)
+
+-- four octets, as the number of them
+four_number : (xs : List ℕ) → from_be_bytes w32 xs ≡ (get_or xs 0 0 * 256 + get_or xs 1 0) * 65536 + (get_or xs 2 0 * 256 + get_or xs 3 0)
+four_number xs = omega arith
+
+octet_of_four : (octets : List ℕ) (start k n : ℕ) → k < 4 → n ≡ start + k → get_or (take 4 (drop start octets)) k 0 ≡ get_or octets n 0
+octet_of_four octets start k n low e = get_or-take 4 (drop start octets) k 0 low ∙ get_or-drop start octets k 0 ∙ ap (λ (i : ℕ). get_or octets i 0) (sym e)
+
+-- the four octets from an index on, as the number of those up to the last of them
+pub four_key : (octets four rest : List ℕ) (start last key : ℕ) → start + 3 ≡ last → rest ≡ drop start octets → four ≡ take 4 rest → key ≡ from_be_bytes w32 four → key ≡ key_up_to octets last
+four_key octets four rest start last key e from chunk is =
+    let own : four ≡ take 4 (drop start octets) = chunk ∙ ap (take 4) from in
+    is ∙ ap (from_be_bytes w32) own ∙ four_number (take 4 (drop start octets))
+    ∙ four_octets _ _ _ _ _ _ _ _ (octet_of_four octets start 0 (last - 3) (omega arith) (omega arith)) (octet_of_four octets start 1 (last - 2) (omega arith) (omega arith))
+    (octet_of_four octets start 2 (last - 1) (omega arith) (omega arith)) (octet_of_four octets start 3 last (omega arith) (omega arith))

@@ -4,7 +4,9 @@ use Rattle.std.proofs.Math.Seq.{drop-append_seam}
 use Rattle.std.proofs.lemmas.Bool.Decides.{nat_tests}
 use Rattle.std.proofs.lemmas.List.{length-append, length-take-le, append_assoc, append-nil, take_at, drop_at, length-map, map-append}
 use Rattle.std.proofs.lemmas.List.Elements.{All-nil, All-cons, All-head, All-tail, All-append}
+use Rattle.dns_name.specs.Labels.{labels_in, IsWhole}
 use Rattle.dns_name.specs.Name.{wire_of, IsLabel, IsName}
+use Rattle.dns_name.proofs.LabelLemmas.{wire_of-labels_in, IsLabel_each}
 use Rattle.wire_names.specs.Parts.{part_at, part_of, label_at}
 use Rattle.wire_names.specs.Spells.{Spells, closing, label, pointer}
 use Rattle.wire_names.specs.Table.{Entry, Table, IsTable, IsEntry, keyed, name_key, spelt_at, table_of, position_in, enter, entered}
@@ -247,6 +249,14 @@ written_spelt true msg positions behind name table lawful = name_spelt msg posit
 written_spelt false msg positions behind name table lawful =
     let whole = name_spelt msg [] msg behind (length msg) name (IsBehind-none msg [] (All-nil (IsEntry msg))) lawful.labels in
     subst (λ (x : List ℕ). Spells (msg ++ (x ++ behind)) (length msg) (length msg) name (length msg + length x)) (wire_text name) whole
+
+-- what stands in full behind a message is spelt there, whatever follows
+pub plain_spelt : (front octets behind : List ℕ) → IsWhole octets → Spells (front ++ (octets ++ behind)) (length front) (length front) (labels_in octets) (length front + length octets)
+plain_spelt front octets behind whole =
+    let name = labels_in octets in
+    let is : name_octets [] name ≡ octets = wire_text name ∙ wire_of-labels_in octets whole in
+    let spelt = name_spelt front [] front behind (length front) name (IsBehind-none front [] (All-nil (IsEntry front))) (IsLabel_each octets whole) in
+    subst (λ (x : List ℕ). Spells (front ++ (x ++ behind)) (length front) (length front) name (length front + length x)) is spelt
 
 -- what a write into a buffer leaves
 pub after_put : (compress : Bool) (out new : List ℕ) (positions inside : List Entry) (octets : List ℕ) (own : List Entry) (at next : ℕ) (name : List (List ℕ)) → at ≤ length out → IsTable (take at out) positions → inside ≡ positions → IsName name → IsOverwritten out new at octets next → written compress (table_of (take at out) positions) name ≡ octets → own ≡ entered (λ e. e.position) inside (keyed (entries_of compress (table_of (take at out) positions) at name)) → IsTableOf (take next new) own (table_after compress (table_of (take at out) positions) at name)

@@ -43,6 +43,12 @@ octet_before back label = slice_index_or (length label ∷ label) (length label 
 abbrev pub label_key : List ℕ → ℕ
 label_key label = (octet_before 3 label * 256 + octet_before 2 label) * 65536 + (octet_before 1 label * 256 + octet_before 0 label)
 
+-- the four octets up to one at an index, as a number; the first octet stands for those that would be in front of it (own)
+abbrev pub key_up_to : List ℕ → ℕ → ℕ
+key_up_to octets n =
+    (slice_index_or octets (n - 3) 0 * 256 + slice_index_or octets (n - 2) 0) * 65536
+    + (slice_index_or octets (n - 1) 0 * 256 + slice_index_or octets n 0)
+
 -- the key of a name: that of its first label; the root's is 0 (own)
 abbrev pub name_key : Name → ℕ
 name_key [] = 0

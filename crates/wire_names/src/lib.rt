@@ -8,6 +8,7 @@ mod message;
 mod part;
 mod pass;
 mod read;
+mod read_into;
 mod table;
 mod write;
 
@@ -15,4 +16,5 @@ pub use laws::{examples, name_at_is, one_fault, one_reading, table_stays, writte
 pub use message::{MAX_TARGETS, Message};
 pub use part::NameReadFault;
 pub use read::read_name;
+pub use read_into::read_name_into;
 pub use write::NameWriter;

@@ -1,5 +1,5 @@
 //! Messages in which names are read, and where their pointers lead (RFC 1035, 4.1.4).
-ghost use Rattle.std.specs.Prelude.{◌≡◌, ℕ, List, ◌<◌, ◌≤◌, ◌^◌, length, IfOk, IfErr};
+ghost use Rattle.std.specs.Prelude.{◌≡◌, ℕ, List, ◌<◌, ◌≤◌, ◌^◌, length, IfOk, IfErr, OnErr, MatchResult, Ok, Err};
 ghost use Rattle.dns_name.specs.Name.{IsName};
 ghost use Rattle.wire_names.specs.Leads.{Leads, EndsAt, AreEnds};
 ghost use Rattle.wire_names.specs.Sizes.{behind_of};
@@ -9,6 +9,7 @@ ghost use Rattle.wire_names.specs.NameAt.{name_at};
 use crate::part::{NameReadFault, Part, part_at};
 use crate::pass::{name_behind, write_sizes};
 use crate::read::name_in;
+use crate::read_into::name_into;
 use dns_name::Name;
 use std::marker::Model;
 
@@ -83,6 +84,14 @@ impl<'m> Message<'m> {
         ensures computed { result ≡ name_at self.now at }
     {
         name_in(self.octets, self.ends, at)
+    }
+
+    /// Reads the name at a position into a name, and gives the position behind it, as [`read_name_into`](crate::read_name_into) does.
+    pub fn read_name_into(&self, at: usize, name: &mut Name) -> Result<usize, NameReadFault>
+        ensures read { MatchResult result (λ next. name_at self.now at ≡ Ok (name.new, next)) (λ fault. name_at self.now at ≡ Err fault) }
+        ensures stays { OnErr result (name.new ≡ name.old) }
+    {
+        name_into(self.octets, self.ends, at, name)
     }
 
     /// The position behind the name at a position, which is passed over; None where [`read_name`](Self::read_name) tells a fault.

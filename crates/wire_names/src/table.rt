@@ -1,8 +1,9 @@
 //! The names of a message that pointers can name.
-ghost use Rattle.std.specs.Prelude.{◌≡◌, ℕ, ◌+◌, ◌<◌, ◌^◌, ◌↔◌, [], length, take, IsTrue, slice_index_or, get_or};
+ghost use Rattle.std.specs.Prelude.{◌≡◌, ◌≢◌, ℕ, ◌+◌, ◌<◌, ◌^◌, ◌↔◌, ◌++◌, [], length, take, drop, All, IsTrue, IfSome, slice_index_or, get_or};
+ghost use Rattle.std.specs.Bool.{OnTrue};
 ghost use Rattle.dns_name.specs.Labels.{labels_in, IsWhole};
 ghost use Rattle.wire_names.specs.Spells.{Spells};
-ghost use Rattle.wire_names.specs.Table.{IsTable, IsEntry, Ascend, name_key, table_of, position_in, enter, entered};
+ghost use Rattle.wire_names.specs.Table.{IsTable, IsEntry, Ascend, name_key, key_up_to, table_of, position_in, enter, entered};
 ghost use Rattle.wire_names.specs.Written.{starts_of};
 
 use crate::part::{Part, label_at, part_at};
@@ -15,6 +16,12 @@ const MAX_POSITIONS: usize = 256;
 
 /// The highest position that a pointer can name, of 14 bits (RFC 1035, 4.1.4).
 const MAX_TARGET: usize = 16383;
+
+/// Up to how many positions are looked at one by one at once; of more, the keys alone are searched first.
+const FEW: usize = 24;
+
+/// The octets of a key.
+const KEY: usize = 4;
 
 /// The positions of names in a message, and the key of each name, in the order in which they were entered. Contracts see a list
 /// of entries, each a position with its key: the last four octets of the name's first label, with its length octet in front of
@@ -47,6 +54,14 @@ impl Positions {
         }
     }
 
+    /// Forgets all positions.
+    pub(crate) fn clear(&mut self)
+        ensures { self.new ≡ [] }
+    {
+        self.positions.clear();
+        self.keys.clear();
+    }
+
     /// The earliest position at which the name in these octets is spelt, case included: the first in a table that ascends.
     pub(crate) fn position_of(&self, msg: &[u8], octets: &[u8]) -> Option<u16>
         requires table { IsTable msg.now self.now }
@@ -55,7 +70,7 @@ impl Positions {
         ensures { result ≡ position_in (table_of msg.now self.now) (labels_in octets.now) }
     {
         let key = key_of(octets);
-        if !self.keys.as_slice().contains(&key) {
+        if self.has_no_key(key) {
             return None;
         }
         for i in 0..self.keys.len() {
@@ -65,6 +80,16 @@ impl Positions {
             }
         }
         None
+    }
+
+    /// Whether there are many positions, and none has this key.
+    fn has_no_key(&self, key: u32) -> bool
+        ensures { OnTrue result (All (λ entry. entry.key ≢ key) self.now) }
+    {
+        if self.keys.len() <= FEW {
+            return false;
+        }
+        !self.keys.as_slice().contains(&key)
     }
 
     /// The position at an index, and its key.
@@ -112,9 +137,28 @@ fn key_of(octets: &[u8]) -> u32
     ensures { result ≡ name_key (labels_in octets.now) }
 {
     let len = octet_at(octets, 0) as usize;
-    let high = octet_at(octets, len.saturating_sub(3)) * 256
-        + octet_at(octets, len.saturating_sub(2));
-    let low = octet_at(octets, len.saturating_sub(1)) * 256 + octet_at(octets, len);
+    match four_up_to(octets, len) {
+        Some(key) => key,
+        None => key_up_to(octets, len),
+    }
+}
+
+/// The four octets up to one at an index, as a number; None where there aren't so many.
+fn four_up_to(octets: &[u8], last: usize) -> Option<u32>
+    ensures { IfSome result (λ key. key ≡ key_up_to octets.now last) }
+{
+    let start = last.checked_sub(KEY - 1)?;
+    let four = octets.get(start..)?.first_chunk::<KEY>()?;
+    Some(u32::from_be_bytes(*four))
+}
+
+/// The four octets up to one at an index, as a number: the first stands for those that would be in front of it.
+fn key_up_to(octets: &[u8], last: usize) -> u32
+    ensures { result ≡ key_up_to octets.now last }
+{
+    let high = octet_at(octets, last.saturating_sub(3)) * 256
+        + octet_at(octets, last.saturating_sub(2));
+    let low = octet_at(octets, last.saturating_sub(1)) * 256 + octet_at(octets, last);
     high * 65536 + low
 }
 
@@ -140,7 +184,21 @@ fn is_spelt(msg: &[u8], position: u16, own: u32, key: u32, octets: &[u8]) -> boo
     if own != key {
         return false;
     }
-    spells(msg, usize::from(position), octets)
+    let at = usize::from(position);
+    if stands_at(msg, at, octets) {
+        return true;
+    }
+    spells(msg, at, octets)
+}
+
+/// Whether these very octets stand at a position.
+fn stands_at(msg: &[u8], at: usize, octets: &[u8]) -> bool
+    ensures { OnTrue result (drop at msg.now ≡ octets.now ++ drop (length octets.now) (drop at msg.now)) }
+{
+    match msg.get(at..) {
+        Some(rest) => rest.starts_with(octets),
+        None => false,
+    }
 }
 
 /// Whether the octets at a position spell the name in these octets, label by label.

@@ -1,6 +1,6 @@
 //! Writing a name into a message, with pointers to names in front of it (RFC 1035, 4.1.4).
 ghost use Rattle.std.specs.Prelude.{◌≡◌, true, ◌<◌, ◌≤◌, ◌++◌, [], length, take, IfSome, IsNone};
-ghost use Rattle.dns_name.specs.Labels.{IsWhole};
+ghost use Rattle.dns_name.specs.Labels.{labels_in, IsWhole};
 ghost use Rattle.dns_name.specs.Name.{IsName};
 ghost use Rattle.wire_names.specs.Cut.{cut_octets, IsCut};
 ghost use Rattle.wire_names.specs.Table.{IsTable, table_of};
@@ -50,6 +50,13 @@ impl NameWriter {
         }
     }
 
+    /// Forgets all positions, for a message that has no name.
+    pub fn reset(&mut self)
+        ensures { self.new ≡ [] }
+    {
+        self.positions.clear();
+    }
+
     /// Writes the name behind the message, which is the first `at` octets of `out`, and gives the position behind the
     /// name; what is in front of the name and behind it stays. None where the name doesn't fit into `out`: nothing is
     /// written or entered then.
@@ -66,7 +73,27 @@ impl NameWriter {
         ensures unchanged { IsNone result → self.new ≡ self.old }
         ensures lawful { IsName name.now }
     {
-        let octets = name.wire();
+        self.write_octets(name.wire(), compress, out, at)
+    }
+
+    /// Writes the name in these octets, as [`write`](Self::write) writes a name: labels behind their lengths, up to a zero octet
+    /// (RFC 1035, 3.1).
+    pub fn write_octets(
+        &mut self,
+        octets: &[u8],
+        compress: bool,
+        out: &mut [u8],
+        at: usize,
+    ) -> Option<usize>
+        requires within { at ≤ length out.old }
+        requires table { IsTable (take at out.old) self.old }
+        requires whole { IsWhole octets.now }
+        requires lawful { IsName (labels_in octets.now) }
+        ensures octets { WritesOctets out.old out.new at (written compress (table_of (take at out.old) self.old) (labels_in octets.now)) result }
+        ensures table { IfSome result (λ next. IsTable (take next out.new) self.new) }
+        ensures entered { IfSome result (λ next. table_of (take next out.new) self.new ≡ table_after compress (table_of (take at out.old) self.old) at (labels_in octets.now)) }
+        ensures unchanged { IsNone result → self.new ≡ self.old }
+    {
         let cut = self.cut(&out[..at], octets, compress);
         let next = put_cut(out, at, octets, cut)?;
         self.positions.enter(at, octets, cut.labels);

@@ -10,11 +10,11 @@ loop-shown-init c = Completes-first _ _ _ _ _ c.requires.within c.requires.table
 
 pub loop-shown-preserved : goal.loop-shown-preserved
 loop-shown-preserved c =
-    Completes-more _ _ _ c.shown-item.result _ _ _ _ _ _ _ _ _ (omega arith, c.shown-item.is) c.loop-shown.invariant (rw c.to_name-owner.ensures at c.in_ok-next.ensures)
+    Completes-more _ _ _ c.shown-item.result _ _ _ _ _ _ _ _ _ (omega arith, c.shown-item.is) c.loop-shown.invariant c.in_ok-next.ensures
 
 pub returns-in_err-next : goal.returns-in_err-next
 returns-in_err-next c =
-    Completes-stop _ _ _ c.shown-item.result _ _ c.put_sets.new.out _ _ _ _ _ _ _ (omega arith, c.shown-item.is) (each-flat_map record_octets records_shown c.args.section.now) c.from_residual.ensures c.loop-shown.invariant (rw c.to_name-owner.ensures at c.in_err-next.ensures)
+    Completes-stop _ _ _ c.shown-item.result _ _ c.put_shown.new.out _ _ _ _ _ _ _ (omega arith, c.shown-item.is) (each-flat_map record_octets records_shown c.args.section.now) c.from_residual.ensures c.loop-shown.invariant c.in_err-next.ensures
 
 pub returns : goal.returns
 returns c =

@@ -9,4 +9,4 @@ pub returns : goal.returns
 returns c =
     let m = message_of c.args.reply.now in
     let front : IsOverwritten c.args.out.now c.put_header.new.out 0 (header_octets m (counts_in m)) c.in_ok-at.at = search rules in
-    message_put m _ _ _ _ _ _ _ c.new-names.ensures front c.put_sections.ensures
+    message_put m _ _ _ _ _ _ _ c.reset.ensures front c.put_sections.ensures

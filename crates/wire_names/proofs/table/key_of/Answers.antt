@@ -1,10 +1,9 @@
-use Rattle.std.proofs.Common.{ℕ, get_or, ap, ◌∙◌}
-use Rattle.wire_names.proofs.TableLemmas.{four_octets, key_is}
+use Rattle.std.proofs.Common.{◌∙◌}
+use Rattle.wire_names.proofs.TableLemmas.{key_is}
 use Rattle.wire_names.proofs.table.key_of.Goals as goal
 
-pub returns : goal.returns
-returns c =
-    let at = λ (i : ℕ). get_or c.args.octets.now i 0 in
-    four_octets _ _ _ _ _ _ _ _ (c.octet_at.ensures.octet ∙ ap at c.saturating_sub.ensures) (c.octet_at-2.ensures.octet ∙ ap at c.saturating_sub-2.ensures)
-    (c.octet_at-3.ensures.octet ∙ ap at c.saturating_sub-3.ensures) c.octet_at-4.ensures.octet
-    ∙ key_is c.args.octets.now c.octet_at-len.result c.requires.whole c.octet_at-len.ensures.octet
+pub returns-in-Some : goal.returns-in-Some
+returns-in-Some c = c.in-Some.ensures ∙ key_is c.args.octets.now c.octet_at-len.result c.requires.whole c.octet_at-len.ensures.octet
+
+pub returns-in-None : goal.returns-in-None
+returns-in-None c = c.key_up_to.ensures ∙ key_is c.args.octets.now c.octet_at-len.result c.requires.whole c.octet_at-len.ensures.octet

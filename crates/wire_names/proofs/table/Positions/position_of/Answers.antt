@@ -1,16 +1,15 @@
-use Rattle.std.proofs.Common.{◌≡◌, ℕ, List, ◌≤◌, ◌<◌, false, nat_eq, get_or, length, All, refl, sym, ap, subst, ◌∙◌, arith}
+use Rattle.std.proofs.Common.{List, ◌≤◌, length, refl, sym, ap, subst, ◌∙◌, arith}
 use Rattle.std.proofs.Math.ListN.{drop_of_length-le}
 use Rattle.dns_name.specs.Labels.{labels_in}
 use Rattle.wire_names.specs.Table.{Entry, IsEntry, table_of, position_in}
-use Rattle.wire_names.proofs.KeyLemmas.{other_keys, with_keys-many, with_keys-within}
+use Rattle.wire_names.proofs.KeyLemmas.{with_keys-many, with_keys-within}
+use Rattle.wire_names.proofs.PlainLemmas.{on_true}
 use Rattle.wire_names.proofs.TableLemmas.{position_nowhere, position_found, position_passed}
 use Rattle.wire_names.proofs.table.Positions.position_of.Goals as goal
 
-pub returns-then-not-contains : goal.returns-then-not-contains
-returns-then-not-contains c =
-    let none = subst (λ (keys : List ℕ). (k d : ℕ) → 0 ≤ k → k < length keys → nat_eq (get_or keys k d) c.key_of-key.result ≡ false) c.as_slice.ensures.value c.if-not-contains.ensures.cases in
-    let others = other_keys c.self.inside.positions.items c.self.inside.keys.items c.key_of-key.result c.self.invariant none in
-    position_nowhere _ _ c.key_of-key.result _ c.requires.table c.key_of-key.ensures (subst (All (λ (entry : Entry). entry.key ≡ c.key_of-key.result → ⊥)) c.self.view_is others)
+pub returns-then-has_no_key : goal.returns-then-has_no_key
+returns-then-has_no_key c =
+    position_nowhere _ _ c.key_of-key.result _ c.requires.table c.key_of-key.ensures (on_true _ _ c.if-has_no_key.true c.has_no_key.ensures)
 
 pub loop-i-init : goal.loop-i-init
 loop-i-init c = refl

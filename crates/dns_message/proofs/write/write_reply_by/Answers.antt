@@ -3,8 +3,8 @@ use Rattle.std.proofs.lemmas.List.{length-take-le}
 use Rattle.dns_message.specs.Message.{message_of}
 use Rattle.dns_message.specs.Octets.{fits, without_additional}
 use Rattle.dns_message.proofs.OctetsLemmas.{sent, sent_whole, fit_whole, fit_shorter, no_shorter, fit_cut}
-use Rattle.dns_message.proofs.write.write_reply.Goals as goal
-use Rattle.dns_message.proofs.write.write_reply.Goals.{then-may_be_shorter+in_default-put_message, else-may_be_shorter}
+use Rattle.dns_message.proofs.write.write_reply_by.Goals as goal
+use Rattle.dns_message.proofs.write.write_reply_by.Goals.{then-may_be_shorter+in_default-put_message, else-may_be_shorter}
 
 pub returns-in-Some-clause-octets : goal.returns-in-Some-clause-octets
 returns-in-Some-clause-octets c =

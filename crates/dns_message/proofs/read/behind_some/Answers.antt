@@ -1,0 +1,17 @@
+use Rattle.std.proofs.Common.{sym, ◌∙◌}
+use Rattle.dns_message.proofs.ReadLemmas.{IsPast-start, IsPast-one, IsPast-stop, IsPast-end}
+use Rattle.dns_message.proofs.read.behind_some.Goals as goal
+
+pub loop-init : goal.loop-init
+loop-init c = IsPast-start _ _ _
+
+pub returns-in_err-next : goal.returns-in_err-next
+returns-in_err-next c =
+    c.from_residual.ensures
+    ∙ sym (IsPast-stop _ _ _ _ _ c.loop.invariant c.loop-test.true (sym c.entry_at.ensures.read ∙ c.in_err-next.was))
+
+pub loop-preserved : goal.loop-preserved
+loop-preserved c = IsPast-one _ _ _ _ _ _ _ c.loop.invariant c.loop-test.true (sym c.entry_at.ensures.read ∙ c.in_ok-next.was)
+
+pub returns : goal.returns
+returns c = sym (IsPast-end _ _ _ _ _ c.loop.invariant c.loop-test.false)
