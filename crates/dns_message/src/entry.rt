@@ -1,7 +1,8 @@
 //! Records as they stand in a message (RFC 1035, 4.1.3).
-ghost use Rattle.std.specs.Prelude.{◌≡◌, ◌+◌, ◌<◌, ◌≤◌, length, nat_le, if◌then◌else◌, Some, None, Ok, IfSome};
+ghost use Rattle.std.specs.Prelude.{◌≡◌, ◌+◌, ◌<◌, ◌≤◌, length, nat_le, if◌then◌else◌, Some, None, Ok, IfSome, option_map};
+ghost use Rattle.dns_name.specs.Name.{Name as Owner};
 ghost use Rattle.dns_message.specs.Message.{number_at};
-ghost use Rattle.dns_message.specs.Reads.{long_number_at, record_of, record_at};
+ghost use Rattle.dns_message.specs.Reads.{long_number_at, typed, record_of, record_at};
 ghost use Rattle.dns_message.specs.Expanded.{octets_from};
 
 use dns_name::Name;
@@ -54,6 +55,28 @@ pub(crate) fn entry_at(octets: &Message<'_>, at: usize) -> Option<(Entry, usize)
         return None;
     };
     entry_behind(octets.octets(), owner, at)
+}
+
+/// The type of the record at a position, which is passed over, and the position behind it; None where it can't be read
+/// (RFC 1035, 4.1.3).
+pub(crate) fn type_at(octets: &Message<'_>, at: usize) -> Option<(RType, usize)>
+    ensures { option_map (λ r. (r.0.0, r.1)) result ≡ option_map typed (record_at octets.now at) }
+{
+    let at = octets.behind_name(at)?;
+    type_behind(octets.octets(), at)
+}
+
+/// The type of the record whose owner ends at a position, and the position behind it; None where the octets end before.
+fn type_behind(octets: &[u8], at: usize) -> Option<(RType, usize)>
+    ensures { (owner : Owner) → option_map (λ r. (r.0.0, r.1)) result ≡ option_map typed (record_of octets.now (Ok (owner, at))) }
+{
+    let rtype = RType(number_at(octets, at)?);
+    let size = usize::from(number_at(octets, at + 8)?);
+    let next = at + 10 + size;
+    if next > octets.len() {
+        return None;
+    }
+    Some((rtype, next))
 }
 
 /// The record whose owner was read, which ends at a position, and the position behind the record; None where the octets end before

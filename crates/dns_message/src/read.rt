@@ -6,7 +6,7 @@ ghost use Rattle.dns_message.specs.Request.{is_update, query_of, update_of, read
 ghost use Rattle.dns_message.specs.Updates.{update_in};
 
 use crate::edns::{Edns, OptFault, opt_at};
-use crate::entry::{Entry, entry_at, long_number_at, number_at};
+use crate::entry::{Entry, entry_at, long_number_at, number_at, type_at};
 use crate::query::{Head, Parsed, Query, Question, Said};
 use crate::update::read_update;
 use dns_name::Name;
@@ -320,7 +320,7 @@ fn behind_some(octets: &Message<'_>, at: usize, count: u16) -> Option<usize>
 {
     let mut place = at;
     for _ in 0..count {
-        let (_, next) = entry_at(octets, place)?;
+        let (_, next) = type_at(octets, place)?;
         place = next;
     }
     Some(place)
