@@ -72,11 +72,11 @@ fn type_behind(octets: &[u8], at: usize) -> Option<(RType, usize)>
 {
     let rtype = RType(number_at(octets, at)?);
     let size = usize::from(number_at(octets, at + 8)?);
-    let next = at + 10 + size;
-    if next > octets.len() {
+    let beyond = at + 10 + size;
+    if beyond > octets.len() {
         return None;
     }
-    Some((rtype, next))
+    Some((rtype, beyond))
 }
 
 /// The record whose owner was read, which ends at a position, and the position behind the record; None where the octets end before
