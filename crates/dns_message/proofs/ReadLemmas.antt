@@ -1,9 +1,14 @@
 -- How a request is read.
-use Rattle.std.proofs.Common.{◌≡◌, ◌≢◌, ◌==◌, ℕ, zero, suc, ◌+◌, ◌-◌, ◌<◌, ◌≤◌, Bool, true, false, not, if◌then◌else◌, List, [], ◌∷◌, length, Option, Some, None, Result, refl, sym, ap, ◌∙◌, arith, option_map, option_and_then}
+use Rattle.std.proofs.Common.{◌≡◌, ◌≢◌, ◌==◌, ℕ, zero, suc, ◌+◌, ◌-◌, ◌<◌, ◌≤◌, Bool, true, false, not, if◌then◌else◌, List, [], ◌∷◌, length, Option, Some, None, Result, Ok, Err, refl, sym, ap, ◌∙◌, arith, option_map, option_and_then}
 use Rattle.dns_rdata.specs.declared.numbers.Serial.{Serial}
 use Rattle.dns_rdata.specs.Numbers.{type_IXFR}
 use Rattle.dns_message.specs.Message.{Entry, Body, number_at}
-use Rattle.dns_message.specs.Reads.{question_at, questions_at, record_at, records_at, body_in, only_question, serial_in, serial_held, seen}
+use Rattle.dns_rdata.specs.declared.numbers.RType.{RType}
+use Rattle.dns_name.specs.Name.{Name}
+use Rattle.wire_names.specs.NameAt.{name_at}
+use Rattle.wire_names.specs.Sizes.{behind_of}
+use Rattle.wire_names.specs.declared.part.NameReadFault.{NameReadFault}
+use Rattle.dns_message.specs.Reads.{typed, record_of, question_at, questions_at, record_at, records_at, body_in, only_question, serial_in, serial_held, seen}
 use Rattle.dns_message.specs.Opt.{opt_said}
 use Rattle.dns_message.specs.declared.edns.Edns.{Edns}
 use Rattle.dns_message.specs.declared.edns.OptFault.{OptFault}
@@ -291,3 +296,46 @@ unfolding records_at
 held_of_one msg q count at next serial asks one e is =
     ap (λ n. option_map (holding msg q) (records_at n msg at)) one
     ∙ one_held msg q (record_at msg at) next serial asks (ap (λ n. option_map place_of (records_at n msg at)) (sym one) ∙ e) is
+
+-- a record that was passed over
+pub record IsPassed (msg : List ℕ) (at rtype next : ℕ) : Type 0 where
+  pub entry : Entry
+  pub stands : record_at msg at ≡ Some (entry, next)
+  pub rtype_is : entry.rtype ≡ rtype
+
+passed_by : (msg : List ℕ) (at rtype next : ℕ) (o : Option (Entry × ℕ)) → record_at msg at ≡ o → Some (rtype, next) ≡ option_map typed o → IsPassed msg at rtype next
+passed_by msg at rtype next None is e = absurd (cc)
+passed_by msg at rtype next (Some r) is e =
+    let both : (rtype, next) ≡ typed r = cc in
+    let place : r.1 ≡ next = ap (λ (t : ℕ × ℕ). t.1) (sym both) in
+    record {
+      entry = r.0;
+      stands = is ∙ ap (λ n. Some (r.0, n)) place;
+      rtype_is = ap (λ (t : ℕ × ℕ). t.0) (sym both);
+    }
+
+typed_none : (o : Option (Entry × ℕ)) → None ≡ option_map typed o → o ≡ None
+typed_none None e = refl
+typed_none (Some r) e = absurd (cc)
+
+abbrev pub numbers : RType × ℕ → ℕ × ℕ
+numbers r = (r.0.0, r.1)
+
+pub IsPassed-at : (msg : List ℕ) (at : ℕ) (found : Option (RType × ℕ)) (rtype : RType) (next : ℕ) → option_map numbers found ≡ option_map typed (record_at msg at) → found ≡ Some (rtype, next) → IsPassed msg at rtype.0 next
+IsPassed-at msg at found rtype next is e = passed_by msg at rtype.0 next (record_at msg at) refl (sym (ap (option_map numbers) e) ∙ is)
+
+pub not_passed : (msg : List ℕ) (at : ℕ) (found : Option (RType × ℕ)) → option_map numbers found ≡ option_map typed (record_at msg at) → found ≡ None → record_at msg at ≡ None
+not_passed msg at found is e = typed_none (record_at msg at) (sym (ap (option_map numbers) e) ∙ is)
+
+pub IsPast-passed : (count : ℕ) (msg : List ℕ) (at done place rtype next : ℕ) → IsPast count msg at done place → done < count → IsPassed msg place rtype next → IsPast count msg at (done + 1) next
+IsPast-passed count msg at done place rtype next past more one = IsPast-one count msg at done place one.entry next past more one.stands
+
+-- the type of a record behind its owner
+found_by : (msg : List ℕ) (next : ℕ) (found : Option (RType × ℕ)) (o : Result (Name × ℕ) NameReadFault) → Some next ≡ behind_of o → ((owner : Name) → option_map numbers found ≡ option_map typed (record_of msg (Ok (owner, next)))) → option_map numbers found ≡ option_map typed (record_of msg o)
+found_by msg next found (Err fault) e is = absurd (cc)
+found_by msg next found (Ok r) e is =
+    let place : next ≡ r.1 = cc in
+    is r.0 ∙ ap (λ n. option_map typed (record_of msg (Ok (r.0, n)))) place
+
+pub type_found : (msg : List ℕ) (at next : ℕ) (found : Option (RType × ℕ)) → Some next ≡ behind_of (name_at msg at) → ((owner : Name) → option_map numbers found ≡ option_map typed (record_of msg (Ok (owner, next)))) → option_map numbers found ≡ option_map typed (record_at msg at)
+type_found msg at next found e is = found_by msg next found (name_at msg at) e is

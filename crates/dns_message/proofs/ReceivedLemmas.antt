@@ -188,14 +188,18 @@ abbrev how_many_raw : Option (List RawRecord) → ℕ
 how_many_raw None = 0
 how_many_raw (Some rs) = length rs
 
-pub answer_some : (msg : List ℕ) (at count : ℕ) → HasAnswerAt msg at → count ≡ number_at msg 6 → 0 < count → received_records msg ≡ Some [] → ⊥
-answer_some msg at count has same some e = by (nat_lt (length msg) 12 || not (is_reply msg) || not (rcode_of msg == 0)) e
+pub answer_some : (msg : List ℕ) (at count : ℕ) → HasAnswerAt msg at → count ≡ number_at msg 6 → 0 < count → option_map (λ body. map (received msg) body.answer) (body_in msg) ≡ Some [] → ⊥
+answer_some msg at count has same some f =
+    let is : Some (map (received msg) has.body.answer) ≡ Some [] = sym (ap (option_map (λ body. map (received msg) body.answer)) has.whole) ∙ f in
+    let none : length (map (received msg) has.body.answer) ≡ 0 = ap how_many_raw is in
+    let each = length-map has.body.answer (received msg) in
+    let there = some_entries (number_at msg 6) msg at has.body.answer has.next (omega arith) has.answer in
+    omega arith
+
+-- octets that are no message of a transfer have no records
+pub received_some : (msg : List ℕ) → (option_map (λ body. map (received msg) body.answer) (body_in msg) ≡ Some [] → ⊥) → received_records msg ≡ Some [] → ⊥
+received_some msg some e = by (nat_lt (length msg) 12 || not (is_reply msg) || not (rcode_of msg == 0)) e
   where
     by : (b : Bool) → cond b None (option_map (λ body. map (received msg) body.answer) (body_in msg)) ≡ Some [] → ⊥
     by true f = cc
-    by false f =
-        let is : Some (map (received msg) has.body.answer) ≡ Some [] = sym (ap (option_map (λ body. map (received msg) body.answer)) has.whole) ∙ f in
-        let none : length (map (received msg) has.body.answer) ≡ 0 = ap how_many_raw is in
-        let each = length-map has.body.answer (received msg) in
-        let there = some_entries (number_at msg 6) msg at has.body.answer has.next (omega arith) has.answer in
-        omega arith
+    by false f = some f

@@ -39,6 +39,16 @@ said_alone opt =
     else if not (version_of opt == 0) then refused BadVers opt
     else Ok (Some (record { size = opt.class; dnssec_ok = dnssec_ok_of opt }))
 
+-- the DO of the first OPT, by what OPTs say; none where there is no OPT
+abbrev pub told_do : Result (Option Edns) OptFault → Option Bool
+told_do (Ok None) = None
+told_do (Ok (Some edns)) = Some edns.dnssec_ok
+told_do (Err fault) = Some fault.dnssec_ok
+
+-- what more OPTs than one say, of which the first has this DO (RFC 6891, 6.1.1)
+abbrev pub refused_do : Bool → Result (Option Edns) OptFault
+refused_do dnssec_ok = Err (record { rcode = FormErr; dnssec_ok = dnssec_ok })
+
 -- what OPTs say: nothing where there is none, and FORMERR of more than one (RFC 6891, 6.1.1)
 abbrev pub said_by : List Entry → Result (Option Edns) OptFault
 said_by [] = Ok None

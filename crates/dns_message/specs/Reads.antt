@@ -1,5 +1,5 @@
 -- How a request is read: its header, and what stands behind it (RFC 1035, 4.1).
-use Rattle.std.specs.Prelude.{ℕ, zero, suc, Bool, ◌+◌, ◌/◌, ◌%◌, ◌&&◌, not, ◌==◌, List, [], ◌∷◌, length, take, drop, nat_le, Option, Some, None, option_map, option_and_then, Result, Ok, Err, slice_index, if◌then◌else◌}
+use Rattle.std.specs.Prelude.{◌≡◌, ℕ, zero, suc, Bool, ◌+◌, ◌/◌, ◌%◌, ◌&&◌, not, ◌==◌, List, [], ◌∷◌, ◌++◌, length, take, drop, nat_le, Option, Some, None, option_map, option_and_then, Result, Ok, Err, slice_index, if◌then◌else◌}
 use Rattle.std.specs.Int.{from_be_bytes, w32}
 use Rattle.std.proofs.Common.{lit<}
 use Rattle.std.proofs.Math.Nat.{mod-lt}
@@ -66,6 +66,16 @@ record_of msg (Ok r) =
 -- the record at a position of a message, its owner through pointers, and the position behind it (RFC 1035, 4.1.3)
 abbrev pub record_at : List ℕ → ℕ → Option (Entry × ℕ)
 record_at msg at = record_of msg (name_at msg at)
+
+-- the type of a record at a position of a message, and the position behind it
+abbrev pub typed : Entry × ℕ → ℕ × ℕ
+typed r = (r.0.rtype, r.1)
+
+-- a record stands at a position, and so much do OPTs say that have said so much before it
+pub record HearsAt (msg : List ℕ) (at : ℕ) (said heard : Result (Option Edns) OptFault) (next : ℕ) : Type 0 where
+  pub entry : Entry
+  pub stands : record_at msg at ≡ Some (entry, next)
+  pub says : (records : List Entry) → said ≡ opt_said records → heard ≡ opt_said (records ++ entry ∷ [])
 
 -- so many records, one after another from a position on, and the position behind the last; none where one can't be read
 unfoldable pub records_at : ℕ → List ℕ → ℕ → Option (List Entry × ℕ)

@@ -1,15 +1,16 @@
 //! The OPT, by which requests and replies tell of extensions (RFC 6891).
-ghost use Rattle.std.specs.Prelude.{◌≡◌, ◌≤◌, ◌++◌, ◌∷◌, [], List, length, option_map};
+ghost use Rattle.std.specs.Prelude.{◌≡◌, ◌≤◌, ◌++◌, ◌∷◌, [], List, length, None, MatchOption, option_map};
 ghost use Rattle.dns_rdata.specs.declared.numbers.Rcode.{Rcode as Code};
 ghost use Rattle.dns_message.specs.Encoded.{WritesParts};
 ghost use Rattle.dns_message.specs.Message.{Entry as Standing};
-ghost use Rattle.dns_message.specs.Opt.{said_alone, opt_said, udp_limit, opt_ttl, opt_octets, opt_part};
-ghost use Rattle.dns_message.specs.Reads.{records_at};
+ghost use Rattle.dns_message.specs.Opt.{said_alone, told_do, refused_do, opt_said, udp_limit, opt_ttl, opt_octets, opt_part};
+ghost use Rattle.dns_message.specs.Reads.{record_at, records_at, HearsAt};
 
-use crate::entry::{Entry, entry_at};
+use crate::entry::{Entry, entry_at, type_at};
 use crate::octets::{put, put_u16, put_u32};
 use crate::write::MIN_LIMIT;
 use dns_rdata::{RType, Rcode};
+use wire_names::Message;
 
 /// The greatest reply over UDP, in octets, and so the size that an OPT of ours tells (RFC 6891, 6.2.4 and 6.2.5; own).
 pub const MAX_UDP: usize = 1232;
@@ -83,7 +84,11 @@ pub fn udp_limit(edns: Option<Edns>) -> usize
 
 /// What the OPTs among so many records from a position on say; None where one of the records can't be read (RFC 1035, 4.1.3;
 /// RFC 6891, 6.1.1).
-pub(crate) fn opt_at(octets: &[u8], at: usize, count: u16) -> Option<Result<Option<Edns>, OptFault>>
+pub(crate) fn opt_at(
+    octets: &Message<'_>,
+    at: usize,
+    count: u16,
+) -> Option<Result<Option<Edns>, OptFault>>
     ensures { result ≡ option_map (λ r. opt_said r.0) (records_at count octets.now at) }
 {
     // Most requests have no such record, and pay for no room for one.
@@ -94,35 +99,63 @@ pub(crate) fn opt_at(octets: &[u8], at: usize, count: u16) -> Option<Result<Opti
 }
 
 /// What the OPTs among so many records say, as [`opt_at`] gives it.
-fn opt_among(octets: &[u8], at: usize, count: u16) -> Option<Result<Option<Edns>, OptFault>>
+fn opt_among(octets: &Message<'_>, at: usize, count: u16) -> Option<Result<Option<Edns>, OptFault>>
     ensures { result ≡ option_map (λ r. opt_said r.0) (records_at count octets.now at) }
 {
     let mut place = at;
     let mut said = Ok(None);
     for _ in 0..count {
-        let (entry, next) = entry_at(octets, place)?;
-        said = said_with(said, &entry);
+        let (heard, next) = heard_at(octets, place, said)?;
+        said = heard;
         place = next;
     }
     Some(said)
 }
 
-/// What the OPTs among records say, where one more record stands behind them.
-fn said_with(said: Result<Option<Edns>, OptFault>, entry: &Entry) -> Result<Option<Edns>, OptFault>
-    ensures { (records : List Standing) → said ≡ opt_said records → result ≡ opt_said (records ++ entry.now ∷ []) }
+/// What the OPTs among records say, where the record at a position stands behind them, and the position behind that one; None where
+/// it can't be read. Of an OPT alone that is the first the owner is read, and others are passed over.
+fn heard_at(
+    octets: &Message<'_>,
+    at: usize,
+    said: Result<Option<Edns>, OptFault>,
+) -> Option<(Result<Option<Edns>, OptFault>, usize)>
+    ensures { MatchOption result (record_at octets.now at ≡ None) (λ r. HearsAt octets.now at said r.0 r.1) }
 {
-    if entry.rtype != RType::OPT {
-        return said;
+    let (rtype, next) = type_at(octets, at)?;
+    if rtype != RType::OPT {
+        return Some((said, next));
     }
-    let dnssec_ok = match said {
-        Ok(None) => return said_alone(entry),
-        Ok(Some(edns)) => edns.dnssec_ok,
-        Err(fault) => fault.dnssec_ok,
-    };
-    Err(OptFault {
-        rcode: Rcode::FormErr,
-        dnssec_ok,
-    })
+    match told_do(said) {
+        None => heard_first(octets, at),
+        Some(dnssec_ok) => Some((too_many(dnssec_ok), next)),
+    }
+}
+
+/// The DO of the first OPT, by what OPTs say; None where there is no OPT.
+fn told_do(said: Result<Option<Edns>, OptFault>) -> Option<bool>
+    ensures { result ≡ told_do said }
+{
+    match said {
+        Ok(None) => None,
+        Ok(Some(edns)) => Some(edns.dnssec_ok),
+        Err(fault) => Some(fault.dnssec_ok),
+    }
+}
+
+/// What more OPTs than one say, of which the first has this DO (RFC 6891, 6.1.1).
+fn too_many(dnssec_ok: bool) -> Result<Option<Edns>, OptFault>
+    ensures { result ≡ refused_do dnssec_ok }
+{
+    let rcode = Rcode::FormErr;
+    Err(OptFault { rcode, dnssec_ok })
+}
+
+/// What the OPT at a position says that is the only one, and the position behind it; None where it can't be read.
+fn heard_first(octets: &Message<'_>, at: usize) -> Option<(Result<Option<Edns>, OptFault>, usize)>
+    ensures { result ≡ option_map (λ r. (said_alone r.0, r.1)) (record_at octets.now at) }
+{
+    let (entry, next) = entry_at(octets, at)?;
+    Some((said_alone(&entry), next))
 }
 
 /// What an OPT says that is the only one: FORMERR of an owner other than the root, else BADVERS of a version above 0

@@ -1,18 +1,18 @@
 //! How a request is read (RFC 1035, 4.1 and 4.2).
-ghost use Rattle.std.specs.Prelude.{◌≡◌, ◌⊎◌, ◌+◌, ◌≤◌, ◌∷◌, [], false, length, option_map, option_and_then};
+ghost use Rattle.std.specs.Prelude.{◌≡◌, ◌⊎◌, ◌+◌, ◌≤◌, ◌∷◌, [], false, length, Ok, option_map, option_and_then};
 ghost use Rattle.dns_message.specs.Message.{number_at};
-ghost use Rattle.dns_message.specs.Reads.{header_of, is_reply, question_at, record_at, records_at, body_in, seen, serial_held, serial_in, serial_at};
+ghost use Rattle.dns_message.specs.Reads.{header_of, is_reply, question_of, question_at, record_at, records_at, body_in, seen, serial_held, serial_in, serial_at};
 ghost use Rattle.dns_message.specs.Request.{is_update, query_of, update_of, reads, said_in, Tells};
 ghost use Rattle.dns_message.specs.Updates.{update_in};
 
 use crate::edns::{Edns, OptFault, opt_at};
-use crate::entry::{Entry, entry_at, long_number_at, number_at};
+use crate::entry::{Entry, entry_at, long_number_at, number_at, type_at};
 use crate::query::{Head, Parsed, Query, Question, Said};
 use crate::update::read_update;
 use dns_name::Name;
 use dns_rdata::{Class, RType, Rcode, Serial};
 use std::alloc::Global;
-use wire_names::{read_name, read_name_into};
+use wire_names::{MAX_TARGETS, Message};
 
 /// The octets of a header (RFC 1035, 4.1.1).
 pub const HEADER: usize = 12;
@@ -49,6 +49,9 @@ pub(crate) const OPCODE: u8 = 8;
 
 /// How many OPCODEs four bits tell (RFC 1035, 4.1.1).
 const OPCODES: u8 = 16;
+
+/// The most octets of a message whose pointers are followed anew for each name (own).
+pub(crate) const MAX_PLAIN: usize = 512;
 
 /// The octets of the five numbers that end an SOA's data (RFC 1035, 3.3.13).
 const SOA_NUMBERS: usize = 20;
@@ -123,7 +126,7 @@ fn query_into(octets: &[u8], head: Head, query: &mut Query) -> Said
     requires { HEADER ≤ length octets.now }
     ensures { said_in query.new result ≡ query_of head (option_and_then (seen octets.now) (body_in octets.now)) }
 {
-    let Some(said) = seen_into(octets, query) else {
+    let Some(said) = seen_in(octets, query) else {
         return Said::Fault(head, Rcode::FormErr);
     };
     query.head = head;
@@ -171,17 +174,42 @@ fn header_of(octets: &[u8]) -> Head
 }
 
 /// The count at a position of a header (RFC 1035, 4.1.1).
-pub(crate) fn count_at(octets: &[u8], at: usize) -> u16
+pub(crate) fn count_at(octets: &Message<'_>, at: usize) -> u16
     requires { at + 2 ≤ length octets.now }
     ensures { result ≡ number_at octets.now at }
 {
+    let octets = octets.octets();
     u16::from_be_bytes([octets[at], octets[at + 1]])
+}
+
+/// Reads what [`seen_into`] does of octets.
+fn seen_in(octets: &[u8], query: &mut Query) -> Option<Result<Option<Edns>, OptFault>>
+    requires { HEADER ≤ length octets.now }
+    ensures { option_map (λ said. (query.new.question, query.new.serial, said)) result ≡ option_and_then (seen octets.now) (body_in octets.now) }
+{
+    if octets.len() > MAX_PLAIN {
+        return seen_in_long(octets, query);
+    }
+    let message = Message::new(octets);
+    seen_into(&message, query)
+}
+
+/// Reads what [`seen_into`] does of many octets: no pointer among them is followed twice.
+#[inline(never)]
+fn seen_in_long(octets: &[u8], query: &mut Query) -> Option<Result<Option<Edns>, OptFault>>
+    requires { HEADER ≤ length octets.now }
+    ensures { option_map (λ said. (query.new.question, query.new.serial, said)) result ≡ option_and_then (seen octets.now) (body_in octets.now) }
+{
+    let mut ends = [0; MAX_TARGETS];
+    let mut sizes = [0; MAX_TARGETS];
+    let message = Message::with_room(octets, &mut ends, &mut sizes);
+    seen_into(&message, query)
 }
 
 /// Reads the question behind a header into a query, and the serial of the zone that one who asks for an IXFR holds, and gives what the
 /// OPTs among the additional records say; None of another QDCOUNT than one, and where the question or a record can't be read
 /// (RFC 1035, 4.1; RFC 1995, 3; RFC 6891, 6.1.1; own).
-fn seen_into(octets: &[u8], query: &mut Query) -> Option<Result<Option<Edns>, OptFault>>
+fn seen_into(octets: &Message<'_>, query: &mut Query) -> Option<Result<Option<Edns>, OptFault>>
     requires { HEADER ≤ length octets.now }
     ensures { option_map (λ said. (query.new.question, query.new.serial, said)) result ≡ option_and_then (seen octets.now) (body_in octets.now) }
 {
@@ -198,7 +226,7 @@ fn seen_into(octets: &[u8], query: &mut Query) -> Option<Result<Option<Edns>, Op
 /// The serial of the zone that one who asks for an IXFR holds, by the so many records of the authority section at a
 /// position, and the position behind the last; None where one of them can't be read (RFC 1995, 3).
 fn authority_at(
-    octets: &[u8],
+    octets: &Message<'_>,
     question: &Question,
     at: usize,
     count: u16,
@@ -217,7 +245,7 @@ fn authority_at(
 
 /// The serial of the record at a position, where it is an SOA at a name; None of any other, and where its data haven't
 /// the form of an SOA's (RFC 1995, 3).
-fn serial_of_first(octets: &[u8], name: &Name, at: usize) -> Option<Serial>
+fn serial_of_first(octets: &Message<'_>, name: &Name, at: usize) -> Option<Serial>
     ensures { result ≡ option_and_then (λ r. serial_in octets.now name.now (r.0 ∷ [])) (record_at octets.now at) }
 {
     let (entry, _) = entry_at(octets, at)?;
@@ -229,37 +257,45 @@ fn serial_of_first(octets: &[u8], name: &Name, at: usize) -> Option<Serial>
 
 /// The serial in the data of an SOA; None where these haven't its form (RFC 1035, 3.3.13).
 #[tactic(auto, unfolding(crate::specs::Expanded::names_at))]
-fn serial_at(octets: &[u8], entry: &Entry) -> Option<Serial>
+fn serial_at(octets: &Message<'_>, entry: &Entry) -> Option<Serial>
     requires { entry.now.at + entry.now.size ≤ length octets.now }
     ensures { result ≡ serial_at octets.now entry.now }
 {
-    let Ok((_, at)) = read_name(octets, entry.at) else {
+    let Ok((_, at)) = octets.read_name(entry.at) else {
         return None;
     };
-    let Ok((_, at)) = read_name(octets, at) else {
+    let Ok((_, at)) = octets.read_name(at) else {
         return None;
     };
     let end = entry.at + entry.size;
     if at > end || end - at != SOA_NUMBERS {
         return None;
     }
-    Some(Serial(long_number_at(octets, at)?))
+    Some(Serial(long_number_at(octets.octets(), at)?))
 }
 
 /// Reads the question at a position into one, and gives the position behind it; None where it can't be read (RFC 1035, 4.1.2).
-fn question_into(octets: &[u8], at: usize, question: &mut Question) -> Option<usize>
+fn question_into(octets: &Message<'_>, at: usize, question: &mut Question) -> Option<usize>
     ensures { option_map (λ next. (question.new, next)) result ≡ question_at octets.now at }
 {
-    let Ok(at) = read_name_into(octets, at, &mut question.name) else {
+    let Ok(at) = octets.read_name_into(at, &mut question.name) else {
         return None;
     };
+    type_into(octets.octets(), at, question)
+}
+
+/// Reads the type and the class at a position, where the name of a question ends, into it, and gives the position behind them; None
+/// where the octets end before (RFC 1035, 4.1.2).
+fn type_into(octets: &[u8], at: usize, question: &mut Question) -> Option<usize>
+    ensures { option_map (λ next. (question.new, next)) result ≡ question_of octets.now (Ok (question.old.name, at)) }
+{
     question.rtype = RType(number_at(octets, at)?);
     question.class = Class(number_at(octets, at + 2)?);
     Some(at + 4)
 }
 
 /// The question at a position, and the position behind it; None where it can't be read (RFC 1035, 4.1.2).
-pub(crate) fn question_at(octets: &[u8], at: usize) -> Option<(Question, usize)>
+pub(crate) fn question_at(octets: &Message<'_>, at: usize) -> Option<(Question, usize)>
     ensures { result ≡ question_at octets.now at }
 {
     let mut question = Question::blank();
@@ -268,7 +304,7 @@ pub(crate) fn question_at(octets: &[u8], at: usize) -> Option<(Question, usize)>
 }
 
 /// The position behind so many records; None where one of them can't be read (RFC 1035, 4.1.3).
-pub(crate) fn behind_records(octets: &[u8], at: usize, count: u16) -> Option<usize>
+pub(crate) fn behind_records(octets: &Message<'_>, at: usize, count: u16) -> Option<usize>
     ensures { result ≡ option_map (λ r. r.1) (records_at count octets.now at) }
 {
     // Most requests have none, and pay for no room for one.
@@ -279,12 +315,12 @@ pub(crate) fn behind_records(octets: &[u8], at: usize, count: u16) -> Option<usi
 }
 
 /// The position behind so many records, as [`behind_records`] gives it.
-fn behind_some(octets: &[u8], at: usize, count: u16) -> Option<usize>
+fn behind_some(octets: &Message<'_>, at: usize, count: u16) -> Option<usize>
     ensures { result ≡ option_map (λ r. r.1) (records_at count octets.now at) }
 {
     let mut place = at;
     for _ in 0..count {
-        let (_, next) = entry_at(octets, place)?;
+        let (_, next) = type_at(octets, place)?;
         place = next;
     }
     Some(place)

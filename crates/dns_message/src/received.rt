@@ -7,12 +7,14 @@ ghost use Rattle.dns_message.specs.Received.{rcode_of, received, received_record
 
 use crate::entry::{Entry, entry_at};
 use crate::read::{
-    ANCOUNT, ARCOUNT, HEADER, NSCOUNT, QDCOUNT, behind_records, count_at, is_reply, question_at,
+    ANCOUNT, ARCOUNT, HEADER, MAX_PLAIN, NSCOUNT, QDCOUNT, behind_records, count_at, is_reply,
+    question_at,
 };
 use crate::sent::expanded;
 use crate::update::RawRecords;
 use dns_rdata::RawRecord;
 use std::alloc::{AllocError, Global};
+use wire_names::{MAX_TARGETS, Message};
 
 /// How many RCODEs four bits tell (RFC 1035, 4.1.1).
 const RCODES: u8 = 16;
@@ -29,6 +31,32 @@ pub fn received_records(alloc: Global, octets: &[u8]) -> Result<Option<RawRecord
     if octets.len() < HEADER || !is_reply(octets) || rcode_of(octets) != 0 {
         return Ok(None);
     }
+    if octets.len() > MAX_PLAIN {
+        return read_long_answer(alloc, octets);
+    }
+    let message = Message::new(octets);
+    read_answer(alloc, &message)
+}
+
+/// What [`read_answer`] tells of many octets: no pointer among them is followed twice.
+#[inline(never)]
+fn read_long_answer(alloc: Global, octets: &[u8]) -> Result<Option<RawRecords>, AllocError>
+    requires { HEADER ≤ length octets.now }
+    ensures found { IfOk result (λ found. found ≡ option_map (λ body. map (received octets.now) body.answer) (body_in octets.now)) }
+    ensures some { OnErr result (option_map (λ body. map (received octets.now) body.answer) (body_in octets.now) ≢ Some []) }
+{
+    let mut ends = [0; MAX_TARGETS];
+    let mut sizes = [0; MAX_TARGETS];
+    let message = Message::with_room(octets, &mut ends, &mut sizes);
+    read_answer(alloc, &message)
+}
+
+/// The records of the answer section of a message, as [`received_records`] gives them of a reply of RCODE NOERROR.
+fn read_answer(alloc: Global, octets: &Message<'_>) -> Result<Option<RawRecords>, AllocError>
+    requires { HEADER ≤ length octets.now }
+    ensures found { IfOk result (λ found. found ≡ option_map (λ body. map (received octets.now) body.answer) (body_in octets.now)) }
+    ensures some { OnErr result (option_map (λ body. map (received octets.now) body.answer) (body_in octets.now) ≢ Some []) }
+{
     match answer_at(octets) {
         None => Ok(None),
         Some(at) => all_received(alloc, octets, at, count_at(octets, ANCOUNT)),
@@ -44,7 +72,7 @@ fn rcode_of(octets: &[u8]) -> u8
 }
 
 /// Where the answer section of a message begins; None where a question or a record of any section can't be read.
-fn answer_at(octets: &[u8]) -> Option<usize>
+fn answer_at(octets: &Message<'_>) -> Option<usize>
     requires { HEADER ≤ length octets.now }
     ensures { MatchOption result (body_in octets.now ≡ None) (HasAnswerAt octets.now) }
 {
@@ -56,7 +84,7 @@ fn answer_at(octets: &[u8]) -> Option<usize>
 }
 
 /// The position behind so many questions; None where one of them can't be read (RFC 1035, 4.1.2).
-fn behind_questions(octets: &[u8], at: usize, count: u16) -> Option<usize>
+fn behind_questions(octets: &Message<'_>, at: usize, count: u16) -> Option<usize>
     ensures { result ≡ option_map (λ r. r.1) (questions_at count octets.now at) }
 {
     let mut place = at;
@@ -70,7 +98,7 @@ fn behind_questions(octets: &[u8], at: usize, count: u16) -> Option<usize>
 /// So many records from a position on as they are received; None where one of them can't be read.
 fn all_received(
     alloc: Global,
-    octets: &[u8],
+    octets: &Message<'_>,
     at: usize,
     count: u16,
 ) -> Result<Option<RawRecords>, AllocError>
@@ -90,7 +118,7 @@ fn all_received(
 }
 
 /// A record as it is received.
-fn one_received(alloc: Global, octets: &[u8], entry: &Entry) -> Result<RawRecord, AllocError>
+fn one_received(alloc: Global, octets: &Message<'_>, entry: &Entry) -> Result<RawRecord, AllocError>
     requires { entry.now.at + entry.now.size ≤ length octets.now }
     ensures { IfOk result (λ own. own ≡ received octets.now entry.now) }
 {

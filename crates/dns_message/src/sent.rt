@@ -9,13 +9,13 @@ use crate::entry::{Entry, entry_at, octets_from};
 use crate::update::{RawRecords, Section};
 use dns_rdata::{Class, Layout, RawRecord};
 use std::alloc::{AllocError, Global};
-use wire_names::read_name;
+use wire_names::Message;
 
 /// So many records of a section, and the position behind the last; None where one can't be read, or its data haven't their
 /// type's form (RFC 2136, 2.4 and 2.5). An `Err` only where a growth was refused.
 pub(crate) fn raw_records(
     alloc: Global,
-    octets: &[u8],
+    octets: &Message<'_>,
     section: Section,
     at: usize,
     count: u16,
@@ -37,7 +37,7 @@ pub(crate) fn raw_records(
 /// The record of a section at a position, and the position behind it, as [`raw_records`] gives them.
 fn raw_record(
     alloc: Global,
-    octets: &[u8],
+    octets: &Message<'_>,
     section: Section,
     at: usize,
 ) -> Result<Option<(RawRecord, usize)>, AllocError>
@@ -63,7 +63,7 @@ fn raw_record(
 /// they haven't their type's form (RFC 1035, 3.3 and 4.1.4; RFC 3597, 4; RFC 4343, 3).
 fn data_octets(
     alloc: Global,
-    octets: &[u8],
+    octets: &Message<'_>,
     section: Section,
     entry: &Entry,
 ) -> Result<Option<Vec<u8>>, AllocError>
@@ -99,7 +99,7 @@ fn is_looked_at(section: Section, entry: &Entry) -> bool
 /// the data (RFC 1035, 4.1.4).
 pub(crate) fn expanded(
     alloc: Global,
-    octets: &[u8],
+    octets: &Message<'_>,
     entry: &Entry,
 ) -> Result<Option<Vec<u8>>, AllocError>
     requires { entry.now.at + entry.now.size ≤ length octets.now }
@@ -121,7 +121,11 @@ pub(crate) fn expanded(
 }
 
 /// A record's data as they stand.
-fn as_it_stands(alloc: Global, octets: &[u8], entry: &Entry) -> Result<Option<Vec<u8>>, AllocError>
+fn as_it_stands(
+    alloc: Global,
+    octets: &Message<'_>,
+    entry: &Entry,
+) -> Result<Option<Vec<u8>>, AllocError>
     ensures { IfOk result (λ found. option_map (λ own. own.items) found ≡ Some (octets_from octets.now entry.now.at entry.now.size)) }
 {
     let own = octets_from(octets, entry.at, entry.size).to_vec(alloc)?;
@@ -131,7 +135,7 @@ fn as_it_stands(alloc: Global, octets: &[u8], entry: &Entry) -> Result<Option<Ve
 /// Data of so many octets in front, so many names and so many octets behind, with the names in full, as [`expanded`] gives it.
 fn expanded_fields(
     alloc: Global,
-    octets: &[u8],
+    octets: &Message<'_>,
     entry: &Entry,
     front: usize,
     names: usize,
@@ -145,7 +149,7 @@ fn expanded_fields(
     let mut own = octets_from(octets, entry.at, front).to_vec(alloc)?;
     let mut place = entry.at + front;
     for _ in 0..names {
-        let Ok((name, next)) = read_name(octets, place) else {
+        let Ok((name, next)) = octets.read_name(place) else {
             return Ok(None);
         };
         own.extend_from_slice(name.wire())?;

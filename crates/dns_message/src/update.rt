@@ -5,12 +5,13 @@ ghost use Rattle.dns_message.specs.Updates.{zone_question, zone_at, update_made,
 
 use crate::edns::{Edns, OptFault, opt_at};
 use crate::query::{Head, Parsed, Question};
-use crate::read::{ADCOUNT, HEADER, PRCOUNT, UPCOUNT, ZOCOUNT, count_at, question_at};
+use crate::read::{ADCOUNT, HEADER, MAX_PLAIN, PRCOUNT, UPCOUNT, ZOCOUNT, count_at, question_at};
 use crate::sent::raw_records;
 use dns_name::Name;
 use dns_rdata::{Class, RType, RawRecord};
 use std::alloc::{AllocError, Global};
 use std::marker::Model;
+use wire_names::{MAX_TARGETS, Message};
 
 /// Which records of an update are read.
 #[derive(Clone, Copy)]
@@ -109,6 +110,33 @@ pub(crate) fn read_update(
     requires { HEADER ≤ length octets.now }
     ensures { IfOk result (λ found. found ≡ option_map (update_read head) (update_in head octets.now)) }
 {
+    if octets.len() > MAX_PLAIN {
+        return read_long_update(alloc, octets, head);
+    }
+    sections_read(alloc, &Message::new(octets), head)
+}
+
+/// What [`read_update`] tells of many octets: no pointer among them is followed twice.
+#[inline(never)]
+fn read_long_update(alloc: Global, octets: &[u8], head: Head) -> Result<Option<Parsed>, AllocError>
+    requires { HEADER ≤ length octets.now }
+    ensures { IfOk result (λ found. found ≡ option_map (update_read head) (update_in head octets.now)) }
+{
+    let mut ends = [0; MAX_TARGETS];
+    let mut sizes = [0; MAX_TARGETS];
+    let message = Message::with_room(octets, &mut ends, &mut sizes);
+    sections_read(alloc, &message, head)
+}
+
+/// What [`read_update`] tells of a message, by its four sections.
+fn sections_read(
+    alloc: Global,
+    octets: &Message<'_>,
+    head: Head,
+) -> Result<Option<Parsed>, AllocError>
+    requires { HEADER ≤ length octets.now }
+    ensures { IfOk result (λ found. found ≡ option_map (update_read head) (update_in head octets.now)) }
+{
     let Some((zone, at)) = zone_at(octets) else {
         return Ok(None);
     };
@@ -158,7 +186,7 @@ fn update_made(
 
 /// The entry of the zone section, of whatever type, and the position behind it; None of another number of entries than one, and
 /// where it can't be read (RFC 2136, 2.3).
-fn zone_at(octets: &[u8]) -> Option<(ZoneEntry, usize)>
+fn zone_at(octets: &Message<'_>) -> Option<(ZoneEntry, usize)>
     requires { HEADER ≤ length octets.now }
     ensures { result ≡ zone_at octets.now }
 {

@@ -38,8 +38,9 @@ fn is_found(found: Result<(Name, usize), NameReadFault>, wire: &[u8], behind: us
 
 /// What is read at a position where the ends of the message's pointers are remembered.
 fn read_again(msg: &[u8], at: usize) -> Result<(Name, usize), NameReadFault> {
-    let mut room = [0; MAX_TARGETS];
-    Message::with_room(msg, &mut room).read_name(at)
+    let mut ends = [0; MAX_TARGETS];
+    let mut sizes = [0; MAX_TARGETS];
+    Message::with_room(msg, &mut ends, &mut sizes).read_name(at)
 }
 
 /// The first of these positions where another name is read.

@@ -177,7 +177,7 @@ one_fault_at msg at fault other r s =
     cc
 
 -- a place spells a name that fits, or has a fault
-data Outcome (msg : List ℕ) (run at used : ℕ) : Type 0 where
+pub data Outcome (msg : List ℕ) (run at used : ℕ) : Type 0 where
   read : {next : ℕ} {name : List (List ℕ)} → Spells msg run at name next → used + length (wire_of name) ≤ 255 → Outcome msg run at used
   not_read : {fault : NameReadFault} → Refuses msg run at used fault → Outcome msg run at used
 
@@ -239,8 +239,11 @@ outcome_fault msg at fault e (not_read {fault = other} r) =
     let same : other ≡ fault = cc in
     subst (λ (x : NameReadFault). Refuses msg at at 0 x) same r
 
+pub outcome_behind : (msg : List ℕ) (at used : ℕ) → used < 255 → Outcome msg at at used
+outcome_behind msg at used h = outcome (at + 256) msg at at used (part_at msg at) refl h (omega arith)
+
 outcome_at : (msg : List ℕ) (at : ℕ) → Outcome msg at at 0
-outcome_at msg at = outcome (at + 256) msg at at 0 (part_at msg at) refl (omega arith) (omega arith)
+outcome_at msg at = outcome_behind msg at 0 (omega arith)
 
 pub name_at_spelt : (msg : List ℕ) (at next : ℕ) (name : List (List ℕ)) → (name_at msg at ≡ Ok (name, next)) ↔ (Spells msg at at name next × (length (wire_of name) ≤ 255))
 name_at_spelt msg at next name = (λ e. outcome_spelt msg at next name e (outcome_at msg at), λ s. computed_spelt msg at next name s.0 s.1)

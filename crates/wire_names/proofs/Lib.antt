@@ -6,6 +6,7 @@ pub mod KeyLemmas
 pub mod LeadsLemmas
 pub mod LongerLemmas
 pub mod OverwrittenLemmas
+pub mod PassLemmas
 pub mod PlainLemmas
 pub mod ReadLemmas
 pub mod TableLemmas

@@ -82,7 +82,7 @@ pub record IsClosed (msg : List ℕ) (at : ℕ) (name : List (List ℕ)) (next :
   pub spells : Spells msg at at name next
   pub lawful : IsName name
 
-labels_closed : (msg : List ℕ) (at run place : ℕ) (behind : Option ℕ) (octets : List ℕ) (way : IsUnderWay msg at run place behind octets) → octets ++ 0 ∷ [] ≡ wire_of way.labels
+pub labels_closed : (msg : List ℕ) (at run place : ℕ) (behind : Option ℕ) (octets : List ℕ) (way : IsUnderWay msg at run place behind octets) → octets ++ 0 ∷ [] ≡ wire_of way.labels
 labels_closed msg at run place behind octets way =
     let are = way.are in
     let join = wire_of-front way.labels [] in

@@ -3,6 +3,7 @@ pub mod Examples
 pub mod Leads
 pub mod NameAt
 pub mod Parts
+pub mod Sizes
 pub mod Spells
 pub mod Table
 pub mod Written

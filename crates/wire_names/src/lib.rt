@@ -6,6 +6,7 @@
 mod laws;
 mod message;
 mod part;
+mod pass;
 mod read;
 mod read_into;
 mod table;

@@ -1,35 +1,40 @@
 //! Messages in which names are read, and where their pointers lead (RFC 1035, 4.1.4).
-ghost use Rattle.std.specs.Prelude.{◌≡◌, ℕ, List, ◌<◌, ◌≤◌, ◌^◌, length, IfOk, IfErr};
+ghost use Rattle.std.specs.Prelude.{◌≡◌, ℕ, List, ◌<◌, ◌≤◌, ◌^◌, length, IfOk, IfErr, OnErr, MatchResult, Ok, Err};
 ghost use Rattle.dns_name.specs.Name.{IsName};
 ghost use Rattle.wire_names.specs.Leads.{Leads, EndsAt, AreEnds};
+ghost use Rattle.wire_names.specs.Sizes.{behind_of};
 ghost use Rattle.wire_names.specs.Spells.{Spells, Refuses};
 ghost use Rattle.wire_names.specs.NameAt.{name_at};
 
 use crate::part::{NameReadFault, Part, part_at};
+use crate::pass::{name_behind, write_sizes};
 use crate::read::name_in;
+use crate::read_into::name_into;
 use dns_name::Name;
 use std::marker::Model;
 
 /// How many places a pointer can name, by its 14 bits (RFC 1035, 4.1.4).
 pub const MAX_TARGETS: usize = 16384;
 
-/// A message in which names are read, and for each of its first places the place where the pointers that stand there end, so that
-/// no pointer is followed twice. Contracts see the list of the message's octets.
+/// A message in which names are read, and for each of its first places the place where the pointers that stand there end, and how
+/// many octets the name there has, so that no pointer is followed twice. Contracts see the list of the message's octets.
 #[derive(Drop)]
 pub struct Message<'m> {
     octets: &'m [u8],
     ends: &'m [u16],
+    sizes: &'m [u8],
 }
 
 impl<'m> Model for Message<'m> {
     ghost use Rattle.std.specs.Prelude.{ℕ, List, length};
     ghost use Rattle.wire_names.specs.Leads.{AreEnds};
+    ghost use Rattle.wire_names.specs.Sizes.{AreSizes};
 
     ghost Value = { List ℕ };
 
     ghost view = { λ a. a.octets.now };
 
-    ghost invariant = { λ a. AreEnds a.octets.now a.ends.now (length a.ends.now) };
+    ghost invariant = { λ a. AreEnds a.octets.now a.ends.now (length a.ends.now) × AreSizes a.octets.now a.sizes.now (length a.sizes.now) };
 }
 
 impl<'m> Message<'m> {
@@ -37,19 +42,31 @@ impl<'m> Message<'m> {
     pub fn new(octets: &'m [u8]) -> Message<'m>
         ensures { result ≡ octets.now }
     {
-        Message { octets, ends: &[] }
+        Message {
+            octets,
+            ends: &[],
+            sizes: &[],
+        }
     }
 
-    /// A message of which the ends of its pointers are remembered, of as many of its places as there is room for. Where that is
-    /// [`MAX_TARGETS`] or the message's length, each name that is read in it takes at most 256 steps, however its pointers lie.
-    pub fn with_room(octets: &'m [u8], room: &'m mut [u16]) -> Message<'m>
-        requires { length room.old ≤ 2 ^ 16 }
+    /// A message of which it is remembered where the pointers end, and how many octets the names have, at as many of its places as
+    /// there is room for. Where that is [`MAX_TARGETS`] of each or the message's length, each name that is read in it takes at most
+    /// 256 steps, and one that is passed over as many as it has labels in front of its first pointer.
+    pub fn with_room(octets: &'m [u8], ends: &'m mut [u16], sizes: &'m mut [u8]) -> Message<'m>
+        requires { length ends.old ≤ 2 ^ 16 }
         ensures { result ≡ octets.now }
     {
-        let count = room.len().min(octets.len());
-        let ends = &mut room[..count];
+        let count = ends.len().min(octets.len());
+        let ends = &mut ends[..count];
         write_ends(octets, ends);
-        Message { octets, ends }
+        let count = sizes.len().min(octets.len());
+        let sizes = &mut sizes[..count];
+        write_sizes(octets, sizes);
+        Message {
+            octets,
+            ends,
+            sizes,
+        }
     }
 
     /// The message's octets.
@@ -67,6 +84,21 @@ impl<'m> Message<'m> {
         ensures computed { result ≡ name_at self.now at }
     {
         name_in(self.octets, self.ends, at)
+    }
+
+    /// Reads the name at a position into a name, and gives the position behind it, as [`read_name_into`](crate::read_name_into) does.
+    pub fn read_name_into(&self, at: usize, name: &mut Name) -> Result<usize, NameReadFault>
+        ensures read { MatchResult result (λ next. name_at self.now at ≡ Ok (name.new, next)) (λ fault. name_at self.now at ≡ Err fault) }
+        ensures stays { OnErr result (name.new ≡ name.old) }
+    {
+        name_into(self.octets, self.ends, at, name)
+    }
+
+    /// The position behind the name at a position, which is passed over; None where [`read_name`](Self::read_name) tells a fault.
+    pub fn behind_name(&self, at: usize) -> Option<usize>
+        ensures { result ≡ behind_of (name_at self.now at) }
+    {
+        name_behind(self.octets, self.ends, self.sizes, at)
     }
 }
 

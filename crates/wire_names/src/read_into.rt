@@ -1,21 +1,36 @@
 //! Reading a name into one that is kept (RFC 1035, 4.1.4).
-ghost use Rattle.std.specs.Prelude.{◌≡◌, Ok, Err, IsNone, IfSome, OnErr, MatchResult};
+ghost use Rattle.std.specs.Prelude.{◌≡◌, length, Ok, Err, IsNone, IfSome, OnErr, MatchResult};
+ghost use Rattle.wire_names.specs.Leads.{AreEnds};
 ghost use Rattle.wire_names.specs.NameAt.{name_at};
 
 use crate::part::NameReadFault;
-use crate::read::read_name;
+use crate::read::name_in;
 use dns_name::Name;
 
-/// Reads the name at a position of the message into a name, and gives the position behind it, as [`read_name`] does; where there is
+/// Reads the name at a position of the message into a name, and gives the position behind it, as [`read_name`](crate::read_name) does; where there is
 /// none, the name stays as it is (RFC 1035, 4.1.4).
 pub fn read_name_into(msg: &[u8], at: usize, name: &mut Name) -> Result<usize, NameReadFault>
+    ensures read { MatchResult result (λ next. name_at msg.now at ≡ Ok (name.new, next)) (λ fault. name_at msg.now at ≡ Err fault) }
+    ensures stays { OnErr result (name.new ≡ name.old) }
+{
+    name_into(msg, &[], at, name)
+}
+
+/// Reads the name at a position into a name, as [`read_name_into`] does, by the ends of the message's pointers.
+pub(crate) fn name_into(
+    msg: &[u8],
+    ends: &[u16],
+    at: usize,
+    name: &mut Name,
+) -> Result<usize, NameReadFault>
+    requires { AreEnds msg.now ends.now (length ends.now) }
     ensures read { MatchResult result (λ next. name_at msg.now at ≡ Ok (name.new, next)) (λ fault. name_at msg.now at ≡ Err fault) }
     ensures stays { OnErr result (name.new ≡ name.old) }
 {
     if let Some(next) = read_plain(msg, at, name) {
         return Ok(next);
     }
-    match read_name(msg, at) {
+    match name_in(msg, ends, at) {
         Ok((read, next)) => {
             *name = read;
             Ok(next)

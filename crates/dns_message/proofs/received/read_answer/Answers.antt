@@ -1,6 +1,6 @@
 use Rattle.std.proofs.Common.{Result, Ok, Err, OnErr}
 use Rattle.dns_message.proofs.ReceivedLemmas.{answer_some}
-use Rattle.dns_message.proofs.received.received_records.Goals as goal
+use Rattle.dns_message.proofs.received.read_answer.Goals as goal
 
 weaker : {A E P Q : Type 0} (r : Result A E) → (P → Q) → OnErr r P → OnErr r Q
 weaker (Ok a) f h = h

@@ -2,7 +2,7 @@ use Rattle.std.proofs.Common.{Some, sym, ap, ◌∙◌, option_and_then, option_
 use Rattle.dns_message.specs.Updates.{update_made}
 use Rattle.dns_message.specs.declared.query.Parsed.{Parsed}
 use Rattle.dns_message.proofs.UpdatesLemmas.{behind_zone, behind_prerequisites, behind_updates, zone_seen, prerequisites_seen, updates_seen, additional_seen, read_with, unread}
-use Rattle.dns_message.proofs.update.read_update.Goals as goal
+use Rattle.dns_message.proofs.update.sections_read.Goals as goal
 
 pub returns-in_default : goal.returns-in_default
 returns-in_default c =
