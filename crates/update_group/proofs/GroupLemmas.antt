@@ -1,0 +1,102 @@
+-- What one more update adds to those that are judged so far.
+use Rattle.std.proofs.Common.{◌≡◌, ℕ, ◌+◌, ◌<◌, ◌≤◌, zero, suc, List, [], ◌∷◌, ◌++◌, length, get_or, refl, sym, ap, ◌∙◌, subst, append-nil, length-append, arith}
+use Rattle.std.proofs.lemmas.List.{length_push}
+use Rattle.std.proofs.lemmas.List.Concat.{flat_map-append}
+use Rattle.journal.specs.Batch.{counted, batch_of, IsShort}
+use Rattle.journal.proofs.BatchLemmas.{counted_long}
+use Rattle.update_group.specs.Engine.{IsLast}
+use Rattle.update_group.specs.Group.{noerror, servfail, newest_of, Judged, nothing, told, starved, changed}
+use Rattle.update_group.specs.Private.{SoFar}
+
+-- the newest of versions is the last of them
+pub newest_push : {V : Type 0} (first : V) (front : List V) (version : V) → newest_of first (front ++ version ∷ []) ≡ version
+newest_push first [] version = refl
+newest_push first (other ∷ front) version = newest_push other front version
+
+-- a list has one last element
+pub last_once : {V : Type 0} (versions : List V) (one other : V) → IsLast versions one → IsLast versions other → one ≡ other
+last_once versions one other a b =
+    sym (newest_push one a.0 one) ∙ (ap (newest_of one) (sym a.1) ∙ (ap (newest_of one) b.1 ∙ newest_push one b.0 other))
+
+-- the newest of versions is that in their last place
+pub newest_at : {V : Type 0} (first : V) (versions : List V) (version d : V) (place : ℕ) → length versions ≡ place + 1 → version ≡ get_or versions place d → newest_of first versions ≡ version
+newest_at first [] version d place e is = absurd (omega (arith, e))
+newest_at first (x ∷ []) version d zero e is = sym is
+newest_at first (x ∷ []) version d (suc place) e is = absurd (omega (arith, e))
+newest_at first (x ∷ (y ∷ versions)) version d zero e is = absurd (omega (arith, e))
+newest_at first (x ∷ (y ∷ versions)) version d (suc place) e is = newest_at x (y ∷ versions) version d place (omega (arith, e)) is
+
+-- where they are none it is the first one
+pub newest_none : {V : Type 0} (first : V) (versions : List V) → length versions ≤ 0 → newest_of first versions ≡ first
+newest_none first [] none = refl
+newest_none first (x ∷ versions) none = absurd (omega (arith, none))
+
+-- a batch with one update more
+batch_more : (updates : List (List ℕ)) (update : List ℕ) → batch_of (updates ++ update ∷ []) ≡ batch_of updates ++ counted update
+batch_more updates update = flat_map-append counted updates (update ∷ []) ∙ ap (λ (o : List ℕ). batch_of updates ++ o) (append-nil (counted update))
+
+module _ {V A : Type 0} (passes : V → A → Type 0) (tells : V → A → ℕ → Type 0) (makes : V → A → V → Type 0) (octets : A → List ℕ) (first : V) (room : ℕ) where
+  pub none_so_far : (codes : List ℕ) (versions : List V) (body : List ℕ) → codes ≡ [] → versions ≡ [] → body ≡ []
+      → SoFar passes tells makes octets first [] codes versions body room
+  none_so_far codes versions body no_codes no_versions no_body = record {
+    updates = [];
+    judged = subst (λ (cs : List ℕ). Judged passes tells makes octets first [] cs versions []) (sym no_codes)
+        (subst (λ (vs : List V). Judged passes tells makes octets first [] [] vs []) (sym no_versions) nothing);
+    spelt = no_body;
+    many = sym (ap length no_versions);
+    few = omega (arith, ap length no_versions);
+    long = omega (arith, ap length no_body, ap length no_versions);
+  }
+
+  -- each update has a code
+  pub judged_long : {asked : List A} {codes : List ℕ} {made : List V} {updates : List (List ℕ)} → Judged passes tells makes octets first asked codes made updates
+      → length codes ≡ length asked
+  judged_long nothing = refl
+  judged_long (told {asked} {codes} one code judged is) = length_push codes code ∙ (ap (λ (n : ℕ). n + 1) (judged_long judged) ∙ sym (length_push asked one))
+  judged_long (starved {asked} {codes} one judged is) = length_push codes servfail ∙ (ap (λ (n : ℕ). n + 1) (judged_long judged) ∙ sym (length_push asked one))
+  judged_long (changed {asked} {codes} one next judged lets is) = length_push codes noerror ∙ (ap (λ (n : ℕ). n + 1) (judged_long judged) ∙ sym (length_push asked one))
+
+  -- the same of the same lists
+  pub so_far_same : (asked others : List A) (codes told_codes : List ℕ) (versions : List V) (body : List ℕ) → others ≡ asked → told_codes ≡ codes
+      → SoFar passes tells makes octets first asked codes versions body room → SoFar passes tells makes octets first others told_codes versions body room
+  so_far_same asked others codes told_codes versions body same_asked same_codes so_far =
+      subst (λ (xs : List A). SoFar passes tells makes octets first xs told_codes versions body room) (sym same_asked)
+      (subst (λ (cs : List ℕ). SoFar passes tells makes octets first asked cs versions body room) (sym same_codes) so_far)
+
+  pub told_more : (asked : List A) (codes : List ℕ) (versions : List V) (body : List ℕ) (one : A) (code : ℕ)
+      → SoFar passes tells makes octets first asked codes versions body room → tells (newest_of first versions) one code
+      → SoFar passes tells makes octets first (asked ++ one ∷ []) (codes ++ code ∷ []) versions body room
+  told_more asked codes versions body one code so_far is =
+      record { updates = so_far.updates; judged = told one code so_far.judged is; spelt = so_far.spelt; many = so_far.many; few = so_far.few; long = so_far.long }
+
+  pub starved_more : (asked : List A) (codes : List ℕ) (versions : List V) (body : List ℕ) (one : A)
+      → SoFar passes tells makes octets first asked codes versions body room → passes (newest_of first versions) one
+      → SoFar passes tells makes octets first (asked ++ one ∷ []) (codes ++ servfail ∷ []) versions body room
+  starved_more asked codes versions body one so_far is =
+      record { updates = so_far.updates; judged = starved one so_far.judged is; spelt = so_far.spelt; many = so_far.many; few = so_far.few; long = so_far.long }
+
+  pub starved_same : (asked : List A) (codes : List ℕ) (versions all : List V) (body octets_all : List ℕ) (one : A)
+      → SoFar passes tells makes octets first asked codes versions body room → passes (newest_of first versions) one → all ≡ versions → octets_all ≡ body
+      → SoFar passes tells makes octets first (asked ++ one ∷ []) (codes ++ servfail ∷ []) all octets_all room
+  starved_same asked codes versions all body octets_all one so_far is same_versions same_body =
+      subst (λ (vs : List V). SoFar passes tells makes octets first (asked ++ one ∷ []) (codes ++ servfail ∷ []) vs octets_all room) (sym same_versions)
+      (subst (λ (o : List ℕ). SoFar passes tells makes octets first (asked ++ one ∷ []) (codes ++ servfail ∷ []) versions o room) (sym same_body)
+      (starved_more asked codes versions body one so_far is))
+
+  pub changed_more : (asked : List A) (codes : List ℕ) (versions all : List V) (body octets_all : List ℕ) (one : A) (next : V)
+      → SoFar passes tells makes octets first asked codes versions body room → passes (newest_of first versions) one → makes (newest_of first versions) one next
+      → length versions < room → IsShort (octets one) → all ≡ versions ++ next ∷ [] → octets_all ≡ body ++ counted (octets one)
+      → SoFar passes tells makes octets first (asked ++ one ∷ []) (codes ++ noerror ∷ []) all octets_all room
+  changed_more asked codes versions all body octets_all one next so_far lets is few short is_all is_body =
+      let more : length all ≡ length versions + 1 = ap length is_all ∙ length_push versions next in
+      let longer : length octets_all ≡ length body + (2 + length (octets one)) =
+      ap length is_body ∙ (length-append body (counted (octets one)) ∙ ap (λ (n : ℕ). length body + n) (counted_long (octets one))) in
+      record {
+        updates = so_far.updates ++ octets one ∷ [];
+        judged = subst (λ (vs : List V). Judged passes tells makes octets first (asked ++ one ∷ []) (codes ++ noerror ∷ []) vs (so_far.updates ++ octets one ∷ []))
+            (sym is_all) (changed one next so_far.judged lets is);
+        spelt = is_body ∙ (ap (λ (o : List ℕ). o ++ counted (octets one)) so_far.spelt ∙ sym (batch_more so_far.updates (octets one)));
+        many = length_push so_far.updates (octets one) ∙ omega (arith, so_far.many, more);
+        few = omega (arith, few, more);
+        long = omega (arith, longer, more, so_far.long, short);
+      }

@@ -1,0 +1,63 @@
+-- Updates that are judged one upon the other, and last together.
+use Rattle.std.specs.Prelude.{◌≡◌, ◌⊎◌, ◌<◌, ℕ, List, [], ◌∷◌, ◌++◌, length, replicate}
+use Rattle.journal.specs.declared.heads.Head.{Head}
+use Rattle.journal.specs.Batch.{batch_of}
+use Rattle.journal_store.specs.declared.log.Log.{Log}
+use Rattle.journal_store.specs.Log.{Holds, IsStuck}
+use Rattle.update_group.specs.Engine.{IsLast}
+
+-- the codes of RFC 2136, 2.2
+abbrev pub noerror : ℕ
+noerror = 0
+
+abbrev pub servfail : ℕ
+servfail = 2
+
+-- the last of versions that were made from a first one, which is that one where none was
+abbrev pub newest_of : {V : Type 0} → V → List V → V
+newest_of first [] = first
+newest_of first (version ∷ versions) = newest_of version versions
+
+-- a journal's bodies with the batch of these updates, if there are any
+abbrev pub logged : List (List ℕ) → List (List ℕ) → List (List ℕ)
+logged bodies [] = bodies
+logged bodies (update ∷ updates) = bodies ++ batch_of (update ∷ updates) ∷ []
+
+module _ {V A : Type 0} (passes : V → A → Type 0) (tells : V → A → ℕ → Type 0) (makes : V → A → V → Type 0) (octets : A → List ℕ) where
+  -- updates that are judged from a version on, each in the version that those before it made: their codes, the versions that they make, and the octets of those
+  -- that make one. An update that each rule lets through may be told SERVFAIL, and then makes none
+  pub data Judged (first : V) : List A → List ℕ → List V → List (List ℕ) → Type 0 where
+    nothing : Judged first [] [] [] []
+    told : {asked : List A} {codes : List ℕ} {made : List V} {updates : List (List ℕ)} (one : A) (code : ℕ) → Judged first asked codes made updates
+        → tells (newest_of first made) one code → Judged first (asked ++ one ∷ []) (codes ++ code ∷ []) made updates
+    starved : {asked : List A} {codes : List ℕ} {made : List V} {updates : List (List ℕ)} (one : A) → Judged first asked codes made updates
+        → passes (newest_of first made) one → Judged first (asked ++ one ∷ []) (codes ++ servfail ∷ []) made updates
+    changed : {asked : List A} {codes : List ℕ} {made : List V} {updates : List (List ℕ)} (one : A) (next : V) → Judged first asked codes made updates
+        → passes (newest_of first made) one → makes (newest_of first made) one next
+        → Judged first (asked ++ one ∷ []) (codes ++ noerror ∷ []) (made ++ next ∷ []) (updates ++ octets one ∷ [])
+
+  module _ {D F : Type 0} (written synced : D → List ℕ) where
+    -- all is told as it was judged: the versions are published, in their order, and their updates are on the disk, as one batch
+    pub record Lasts (old new : List V) (asked : List A) (codes : List ℕ) (before after : Log D F) : Type 0 where
+      pub first : V
+      pub versions : List V
+      pub updates : List (List ℕ)
+      pub last : IsLast old first
+      pub judged : Judged first asked codes versions updates
+      pub published : new ≡ old ++ versions
+      pub on_disk : (head : Head) (bodies : List (List ℕ)) → Holds written synced head before bodies → Holds written synced head after (logged bodies updates)
+
+    -- some make a version, and their batch isn't on the disk: each update is told SERVFAIL, nothing is published, and the journal holds what it held, or takes
+    -- nothing more
+    pub record Fails (old new : List V) (asked : List A) (codes : List ℕ) (before after : Log D F) : Type 0 where
+      pub first : V
+      pub judged_codes : List ℕ
+      pub versions : List V
+      pub updates : List (List ℕ)
+      pub last : IsLast old first
+      pub judged : Judged first asked judged_codes versions updates
+      pub some : 0 < length updates
+      pub told : codes ≡ replicate (length asked) servfail
+      pub published : new ≡ old
+      pub kept : (head : Head) (bodies : List (List ℕ)) → Holds written synced head before bodies
+          → Holds written synced head after bodies ⊎ IsStuck synced head after bodies

@@ -1,0 +1,76 @@
+//! What judges updates, and publishes versions (own).
+ghost use Rattle.std.specs.Prelude.{◌≡◌, ℕ, ◌+◌, ◌<◌, List, [], ◌∷◌, ◌++◌};
+ghost use Rattle.journal.specs.Batch.{IsShort};
+ghost use Rattle.update_group.specs.Engine.{IsLast, IsJudged};
+
+use std::alloc::Global;
+
+/// What an update does in a version.
+#[derive(Drop)]
+pub enum Judgement<V> {
+    /// It makes none: its RCODE (RFC 2136, 2.2), NOERROR where it changes nothing.
+    Told(u8),
+    /// It makes this one.
+    Made(V),
+    /// Each rule lets it through, and there is no memory for what it makes.
+    Starved,
+}
+
+/// Versions that are published one after the other, and updates that make them.
+pub trait Engine: Drop {
+    /// A version.
+    type Version: Drop;
+
+    /// An update that is asked for.
+    type Asked;
+
+    /// The versions that are published, the first one first.
+    ghost published: { Self → List Self.Version };
+
+    /// There is one.
+    ghost begun: { (engine : Self) → (version : Self.Version) × IsLast (published engine) version };
+
+    /// So many versions can be published, whatever else happens.
+    ghost free: { Self → ℕ };
+
+    /// The octets of an update, as they were received.
+    ghost octets: { Self.Asked → List ℕ };
+
+    /// In a version an update is let through by each rule.
+    ghost passes: { Self.Version → Self.Asked → Type 0 };
+
+    /// In a version an update gets this code, and makes none.
+    ghost tells: { Self.Version → Self.Asked → ℕ → Type 0 };
+
+    /// In a version an update makes this one.
+    ghost makes: { Self.Version → Self.Asked → Self.Version → Type 0 };
+
+    /// The version that was published last.
+    fn last(&self) -> &Self::Version
+        ensures { IsLast (published self.now) result.now };
+
+    /// How many versions can be published.
+    fn count(&mut self) -> usize
+        ensures free { free self.new ≡ result }
+        ensures published { published self.new ≡ published self.old };
+
+    /// What an update does in a version. It takes memory.
+    fn judge(
+        &self,
+        alloc: Global,
+        version: &Self::Version,
+        asked: &Self::Asked,
+    ) -> Judgement<Self::Version>
+        ensures { IsJudged passes tells makes version.now asked.now result };
+
+    /// The octets of an update.
+    fn octets_of<'a>(&self, asked: &'a Self::Asked) -> &'a [u8]
+        ensures octets { result.now ≡ octets asked.now }
+        ensures short { IsShort result.now };
+
+    /// Publishes a version.
+    fn publish(&mut self, version: Self::Version)
+        requires { 0 < free self.old }
+        ensures published { published self.new ≡ published self.old ++ version ∷ [] }
+        ensures free { free self.new + 1 ≡ free self.old };
+}
