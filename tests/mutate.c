@@ -236,28 +236,29 @@ static int waits(int fd, int events, int ms) {
     return poll(&p, 1, ms) > 0;
 }
 
-/* the SOA of the zone is asked, which no update takes away; -1 where it isn't told */
-static int plain(int fd, unsigned number, int is_tcp) {
+/* the SOA of the zone is asked, which no update takes away: it has to be told */
+static void plain(int fd, unsigned number, int is_tcp) {
     static const unsigned char rest[] = {1, 0, 0, 1, 0, 0, 0, 0, 0, 0, 7, 'e', 'x', 'a', 'm', 'p', 'l', 'e', 4, 't', 'e', 's', 't', 0, 0, 6, 0, 1};
     unsigned char m[64], r[4096];
     int len = 2 + sizeof rest, off = is_tcp ? 2 : 0;
     m[0] = 0, m[1] = len, m[off] = number >> 8, m[off + 1] = number;
     memcpy(m + off + 2, rest, sizeof rest);
-    if (send(fd, m, off + len, MSG_NOSIGNAL) != off + len) return -1;
-    int have = 0;
+    int have = 0, got = 0;
+    if (send(fd, m, off + len, MSG_NOSIGNAL) != off + len) got = -1;
     double end = now() + 5;
-    while (now() < end) {
-        if (!waits(fd, POLLIN, 5000)) return -1;
-        int got = recv(fd, r + have, sizeof r - have, 0);
-        if (got <= 0) return -1;
+    while (got >= 0 && now() < end && waits(fd, POLLIN, 5000)) {
+        got = recv(fd, r + have, sizeof r - have, 0);
+        if (got <= 0) break;
         if (is_tcp) {
             have += got;
             if (have < 2 || have < 2 + (int)at2(r, 0)) continue;
         }
         if (at2(r, off) != (number & 65535)) continue;
-        return (r[off + 3] & 15) == 0 && at2(r, off + 6) == 1 ? 0 : -1;
+        /* an update may have made an SOA that no datagram of 512 octets has room for: then TC is 1 */
+        if ((r[off + 3] & 15) || (at2(r, off + 6) != 1 && (is_tcp || !(r[off + 2] & 2)))) wrong("a plain query isn't answered with the SOA", m + off, len, r + off, got - off);
+        return;
     }
-    return -1;
+    wrong("a plain query isn't answered", m + off, len, r, 0);
 }
 
 struct sent {
@@ -311,7 +312,7 @@ static void over_udp(unsigned long count, double end) {
                 if (!had[i] && kind_of(kept[i].octets, kept[i].len, &is_sure) != SILENT && lost < 20) wrong("no reply", kept[i].octets, kept[i].len, r, 0);
             }
         }
-        if (done % 10000 < KEPT && plain(fd, ++number, 0)) wrong("a plain query isn't answered", r, 0, r, 0);
+        if (done % 10000 < KEPT) plain(fd, ++number, 0);
     }
     close(fd);
 }
@@ -413,7 +414,7 @@ static void over_tcp(unsigned long count, double end) {
             }
         if (fd < 0) continue;
         fcntl(fd, F_SETFL, 0);
-        if (done % 10000 < KEPT && plain(fd, ++number, 1)) wrong("a plain query isn't answered", r, 0, r, 0);
+        if (done % 10000 < KEPT) plain(fd, ++number, 1);
         if (++batches % 50 == 0) {
             /* a frame that isn't whole ends the connection */
             int n = 1 + below(60);
