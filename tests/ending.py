@@ -1,0 +1,84 @@
+#!/usr/bin/env python3
+"""Tries how `dnsd serve` ends: with `--workers 1 --count 2` one datagram and one connection are answered, in either order, or two of one kind, with
+`--count 1` one of them, and its status is 0; where an address can't be
+listened on, because another program listens there by UDP or by TCP, or because it isn't this machine's, its status is 3, and no worker begins.
+Usage: [DNSD=PROGRAM] tests/ending.py, by default crates/dnsd/out/dnsd. It takes a second; status 1 where one failed. It listens on 127.0.0.1 alone."""
+import os
+import socket
+import struct
+import subprocess
+import sys
+
+top = os.path.dirname(os.path.dirname(os.path.abspath(__file__)))
+program = os.environ.get("DNSD", f"{top}/crates/dnsd/out/dnsd")
+zone = f"{top}/zones/example.test.zone"
+# www.example.test., type A, and its reply: the alias, and the address of its target
+ASK = bytes.fromhex("12340100000100000000000003777777076578616d706c6504746573740000010001")
+REPLY = bytes.fromhex("12348500000100020000000003777777076578616d706c6504746573740000010001c00c0005000100000e10000603776562c010c02e0001000100000e100004c000020a")
+failed = 0
+
+
+def told(is_right, what):
+    global failed
+    failed += not is_right
+    print(("ok     " if is_right else "FAILED ") + what, flush=True)
+
+
+def served(*words):
+    """A server, and its port by the first line of its log."""
+    server = subprocess.Popen([program, "serve", *words, zone], stderr=subprocess.PIPE, text=True)
+    line = server.stderr.readline()
+    return server, int(line.split(": ")[0].rsplit(":", 1)[1]) if line.startswith("listening on") else line
+
+
+def over_udp(port):
+    with socket.socket(socket.AF_INET, socket.SOCK_DGRAM) as client:
+        client.settimeout(5)
+        client.connect(("127.0.0.1", port))
+        client.send(ASK)
+        return client.recv(2000)
+
+
+def over_tcp(port):
+    with socket.create_connection(("127.0.0.1", port), timeout=5) as client, client.makefile("rb") as replies:
+        client.sendall(struct.pack(">H", len(ASK)) + ASK)
+        return replies.read(struct.unpack(">H", replies.read(2))[0])
+
+
+def ends(what, *asked):
+    server, port = served("--listen", "127.0.0.1:0", "--workers", "1", "--count", str(len(asked)))
+    try:
+        told(all(ask(port) == REPLY for ask in asked), f"{what}: answered")
+        told(server.wait(10) == 0, f"{what}: then the server has ended with status {server.returncode}")
+    finally:
+        server.kill()
+
+
+def refused(address, what, *kinds):
+    """A server that can't listen on an address, whatever it may be beside."""
+    others = []
+    try:
+        for kind in kinds:
+            other = socket.socket(socket.AF_INET, kind)
+            other.bind(address)
+            if kind == socket.SOCK_STREAM:
+                other.listen()
+            address = other.getsockname()
+            others.append(other)
+        words = [program, "serve", "--listen", "%s:%d" % address, "--workers", "1", zone]
+        ran = subprocess.run(words, stderr=subprocess.PIPE, text=True, timeout=10)
+        told(ran.returncode == 3 and "can't be listened on" in ran.stderr and "listening on" not in ran.stderr, f"{what}: status {ran.returncode}, {ran.stderr.strip()}")
+    finally:
+        for other in others:
+            other.close()
+
+
+ends("a datagram", over_udp)
+ends("a connection", over_tcp)
+ends("a datagram, then a connection", over_udp, over_tcp)
+ends("a connection, then a datagram", over_tcp, over_udp)
+ends("two connections", over_tcp, over_tcp)
+refused(("127.0.0.1", 0), "another listens by TCP", socket.SOCK_STREAM)
+refused(("127.0.0.1", 0), "another has the port for UDP", socket.SOCK_DGRAM)
+refused(("192.0.2.1", 5353), "not an address of this machine")
+sys.exit(1 if failed else 0)
