@@ -1,7 +1,7 @@
 -- A worker may be sent to a thread, and so may a thread's work.
 use denote.RattleType.{RattleType}
 use denote.Ref.{NamedLft}
-use denote.Param.Send.{IsSend, IsSync, recorded_send, struct_send, enum_send, sendable}
+use denote.Param.Send.{IsSend, IsSync, recorded_send, shr_send, struct_send, enum_send, sendable}
 use denote.Struct.Declared.{shape}
 use denote.Enum.Declared as enum
 use Rattle.arrayvec.proofs.array_vec.ArrayVec.TheSendSync as array_vec
@@ -13,9 +13,11 @@ use Rattle.snapshot_cell.proofs.SendLemmas as cell
 use Rattle.snapshot_cell.specs.declared.named.Naming as naming
 use Rattle.dns_engine.proofs.SendLemmas as engine
 use Rattle.dns_engine.specs.declared.versions.FirstZone.{Ghosts}
+use Rattle.dns_message.specs.contracts.query.Query as query
 use Rattle.ready_sockets.specs.contracts.peer.TcpPeer as peer
 use Rattle.ready_sockets.specs.contracts.place.TcpPlace as place
 use Rattle.ready_sockets.specs.contracts.watch.Watch as watch
+use Rattle.wire_names.specs.contracts.write.NameWriter as names
 use Rattle.zone_service.proofs.SendLemmas.{server_sync}
 use Rattle.zone_service.specs.contracts.asked.Asked as asked
 use Rattle.zone_replies.specs.contracts.replies.Replies as replies
@@ -29,9 +31,11 @@ use Rattle.serve_workers.specs.contracts.threads.SecondariesSeat as secondaries_
 use Rattle.serve_workers.specs.contracts.threads.Seat as seat
 use Rattle.serve_workers.specs.contracts.threads.ServerThread as thread
 
-pub worker_send : (a b : NamedLft) (T N J G L : RattleType) (g : Ghosts T.Denot) (n : naming.Ghosts N.Denot) → IsSend J → IsSync G → IsSync L → IsSend (worker.the_row a b T N J G L n g)
-worker_send a b T N J G L g n sends shares hears =
-    search (server_sync, global.the_field_send, cell.crosses, crossing.crosses, sendable) depth 60 fits 20000
+query_send : IsSend (query.the_field).row
+query_send = search (array_vec.the_send, option.the_field_send, crossing.crosses, sendable) depth 60 fits 20000
+
+names_send : IsSend names.the_row
+names_send = search (array_vec.the_send, crossing.crosses, sendable) depth 60 fits 20000
 
 transfer_send : IsSend transfer.the_row
 transfer_send = search (engine.crosses, array_vec.the_send, cells.the_field_send, option.the_field_send, option.the_send, crossing.crosses, sendable) depth 60 fits 20000
@@ -55,13 +59,23 @@ telling_send : (a : NamedLft) (C : RattleType) → IsSync C → IsSend (telling.
 telling_send a C ticks = search (global.the_field_send, crossing.crosses, sendable) depth 60 fits 20000
 
 asked_send : (a b : NamedLft) (T N L : RattleType) (g : Ghosts T.Denot) (n : naming.Ghosts N.Denot) → IsSync L → IsSend (asked.the_field a b T N L n g).row
-asked_send a b T N L g n hears = search (server_sync, global.the_field_send, cell.crosses, crossing.crosses, sendable) depth 60 fits 20000
+asked_send a b T N L g n hears =
+    struct_send (shape (asked.the_type a b T N L n g))
+    (shr_send _ _ _ (server_sync b T N g n), (search (cell.crosses, crossing.crosses, sendable) depth 60 fits 20000, (search (crossing.crosses, sendable) depth 60 fits 20000, (search (global.the_field_send, sendable) depth 60 fits 20000, (search (crossing.crosses, sendable) depth 60 fits 20000, (search (crossing.crosses, sendable) depth 60 fits 20000, (search (query_send, sendable) depth 60 fits 20000, (search (names_send, sendable) depth 60 fits 20000, tt))))))))
 
 replies_send : (a b : NamedLft) (T N L : RattleType) (g : Ghosts T.Denot) (n : naming.Ghosts N.Denot) → IsSync L → IsSend (replies.the_field a b T N L n g).row
-replies_send a b T N L g n hears = search (server_sync, global.the_field_send, cell.crosses, crossing.crosses, sendable) depth 60 fits 20000
+replies_send a b T N L g n hears =
+    struct_send (shape (replies.the_type a b T N L n g))
+    (shr_send _ _ _ (server_sync b T N g n), (search (cell.crosses, crossing.crosses, sendable) depth 60 fits 20000, (search (crossing.crosses, sendable) depth 60 fits 20000, (search (global.the_field_send, sendable) depth 60 fits 20000, (search (crossing.crosses, sendable) depth 60 fits 20000, (search (crossing.crosses, sendable) depth 60 fits 20000, (search (query_send, sendable) depth 60 fits 20000, (search (names_send, sendable) depth 60 fits 20000, tt))))))))
+
+pub worker_send : (a b : NamedLft) (T N J G L : RattleType) (g : Ghosts T.Denot) (n : naming.Ghosts N.Denot) → IsSend J → IsSync G → IsSync L → IsSend (worker.the_row a b T N J G L n g)
+worker_send a b T N J G L g n sends shares hears =
+    recorded_send (worker.the_field a b T N J G L n g).row _ _ (worker.the_type a b T N J G L n g).to_one
+    (struct_send (shape (worker.the_type a b T N J G L n g)) (asked_send a b T N L g n hears, (sends, (search (crossing.crosses, sendable) depth 60 fits 20000, (search (crossing.crosses, sendable) depth 60 fits 20000, tt)))))
 
 datagrams_seat_send : (a b : NamedLft) (T N L : RattleType) (g : Ghosts T.Denot) (n : naming.Ghosts N.Denot) → IsSync L → IsSend (datagrams_seat.the_field a b T N L n g).row
-datagrams_seat_send a b T N L g n hears = search (server_sync, global.the_field_send, cell.crosses, crossing.crosses, sendable) depth 60 fits 20000
+datagrams_seat_send a b T N L g n hears =
+    struct_send (shape (datagrams_seat.the_type a b T N L n g)) (asked_send a b T N L g n hears, (search (crossing.crosses, sendable) depth 60 fits 20000, tt))
 
 connections_seat_send : (a b : NamedLft) (T N L C : RattleType) (g : Ghosts T.Denot) (n : naming.Ghosts N.Denot) → IsSync L → IsSync C → IsSend (connections_seat.the_field a b T N L C n g).row
 connections_seat_send a b T N L C g n hears ticks = struct_send (shape (connections_seat.the_type a b T N L C n g)) (replies_send a b T N L g n hears, (tcp_send a C ticks, tt))
