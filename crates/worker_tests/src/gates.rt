@@ -118,7 +118,7 @@ fn jobs_of<N: Naming>(
     let mut number = 0usize;
     for reader in readers {
         number = number.saturating_add(1);
-        let tape = Tape::new(alloc, octets.to_vec(alloc).ok()?, 9999, 3).ok()?;
+        let tape = Tape::new(alloc, octets.to_vec(alloc).ok()?, 9999, 1).ok()?;
         let tape = Some(tape);
         pairs.push((reader, TapeJob { number, tape })).ok()?;
     }
