@@ -36,7 +36,7 @@ like_again {T} p r count views new_views fixed swept c some is =
 
 -- a reader's token is as it was
 pub reader_again : {T : Type 0} (cell new_cell : TableId) (views new_views : List (View T)) (left : ℕ) → (inv : IsReader cell views left) → new_cell ≡ cell → new_views ≡ Reads inv.reading ∷ [] → IsReader new_cell new_views left
-reader_again cell new_cell views new_views left inv same is = record { reading = inv.reading; views_are = is; whole = inv.whole; left_is = inv.left_is; name_is = inv.name_is ∙ ap (λ (z : TableId). z.views_name) (sym same) }
+reader_again cell new_cell views new_views left inv same is = record { reading = inv.reading; views_are = is; whole = inv.whole; enough = inv.enough; name_is = inv.name_is ∙ ap (λ (z : TableId). z.views_name) (sym same) }
 
 abbrev got_or : {X : Type 0} → X → Option X → X
 got_or x None = x

@@ -14,7 +14,7 @@ use Rattle.counted_handles.specs.Cuts.{dealt_grants, with_reader, reader_of}
 use Rattle.counted_handles.specs.Opens.{IsBegun}
 use Rattle.counted_handles.specs.Tells.{opener}
 use Rattle.counted_handles.specs.Calls.{IsOwned, IsNewer}
-use Rattle.snapshot_cell.specs.Tokens.{ReaderState, seen_in, gone_in, IsReader, IsPublisher, IsLoad, IsDealing, first_reader}
+use Rattle.snapshot_cell.specs.Tokens.{ReaderState, seen_in, gone_in, IsReader, IsPublisher, IsLoad, IsDealing, limited_reader}
 use Rattle.snapshot_cell.proofs.HistoryLemmas.{history_next}
 
 abbrev got_or : {X : Type 0} → X → Option X → X
@@ -118,20 +118,20 @@ module _ {T : Type 0} where
     name_is = d.name_is;
   }
 
-  pub dealt_reader : (value : T) (count : ℕ) (table cell : TableId) (views dealt : List (View T)) (n : ℕ) → (d : IsDealing value table.views_name count views) → cell ≡ table → dealt ≡ reader_of d.publishing n ∷ [] → IsReader cell dealt n
-  dealt_reader value count table cell views dealt n d same is = record {
+  pub dealt_reader : (value : T) (count : ℕ) (table cell : TableId) (views dealt : List (View T)) (n grants : ℕ) → (d : IsDealing value table.views_name count views) → cell ≡ table → dealt ≡ reader_of d.publishing n ∷ [] → grants ≤ n → IsReader cell dealt grants
+  dealt_reader value count table cell views dealt n grants d same is few = record {
     reading = record { seen = d.publishing.published; share = None; left = n; gone = []; name = d.publishing.name };
     views_are = is;
     whole = refl;
-    left_is = refl;
+    enough = few;
     name_is = d.name_is ∙ ap (λ (z : TableId). z.views_name) (sym same);
   }
 
-  pub dealt_state : (value : T) (count : ℕ) (table cell : TableId) (views dealt : List (View T)) → (d : IsDealing value table.views_name count views) → cell ≡ table → dealt ≡ reader_of d.publishing dealt_grants ∷ [] → record { cell = cell; seen = seen_in dealt; left = dealt_grants; gone = gone_in dealt } ≡ first_reader table value
-  dealt_state value count table cell views dealt d same is =
+  pub dealt_state : (value : T) (count : ℕ) (table cell : TableId) (views dealt : List (View T)) (grants : ℕ) → (d : IsDealing value table.views_name count views) → cell ≡ table → dealt ≡ reader_of d.publishing dealt_grants ∷ [] → record { cell = cell; seen = seen_in dealt; left = grants; gone = gone_in dealt } ≡ limited_reader grants table value
+  dealt_state value count table cell views dealt grants d same is =
       let saw : seen_in dealt ≡ value ∷ [] = ap seen_in is ∙ d.published in
       let none : gone_in dealt ≡ [] = ap gone_in is in
-      λ i. record { cell = same i; seen = saw i; left = dealt_grants; gone = none i }
+      λ i. record { cell = same i; seen = saw i; left = grants; gone = none i }
 
   -- the publisher's token, when the readers have theirs
   pub first_token : (begins : T → Type 0) (follows : T → T → Type 0) (value last : T) (count : ℕ) (table cell : TableId) (id : ℕ) (views new_views : List (View T)) (spare_cell : TableId) (spare : List (View T)) → (d : IsDealing value table.views_name count views) → begins value → last ≡ value → cell ≡ table → id ≡ 0

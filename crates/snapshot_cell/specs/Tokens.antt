@@ -81,12 +81,12 @@ abbrev pub gone_in : {T : Type 0} → List (View T) → List ℕ
 gone_in [] = []
 gone_in (view ∷ views) = sunk_of view
 
--- a reader's token: it has no share that isn't split off, and so many grants (own)
+-- a reader's token: it has no share that isn't split off, and so many grants, or more that aren't used (own)
 pub record IsReader {T : Type 0} (cell : TableId) (views : List (View T)) (left : ℕ) : Type 0 where
   pub reading : Reading T
   pub views_are : views ≡ Reads reading ∷ []
   pub whole : reading.share ≡ None
-  pub left_is : reading.left ≡ left
+  pub enough : left ≤ reading.left
   pub name_is : reading.name ≡ cell.views_name
 
 -- the publisher's token between two calls: it has no grant, since a reader beside it has those that aren't dealt, and it knows the
@@ -122,9 +122,13 @@ pub record IsDealing {T : Type 0} (value : T) (name count : ℕ) (views : List (
   pub readers_are : publishing.readers ≡ count
   pub name_is : publishing.name ≡ name
 
+-- a reader of a new cell that may make so many loads (own)
+abbrev pub limited_reader : {T : Type 0} → ℕ → TableId → T → ReaderState T
+limited_reader grants cell value = record { cell = cell; seen = value ∷ []; left = grants; gone = [] }
+
 -- a reader of a new cell (own)
 abbrev pub first_reader : {T : Type 0} → TableId → T → ReaderState T
-first_reader cell value = record { cell = cell; seen = value ∷ []; left = dealt_grants; gone = [] }
+first_reader cell value = limited_reader dealt_grants cell value
 
 -- the publisher of a new cell (own)
 abbrev pub first_publisher : {T : Type 0} → TableId → T → PublisherState T

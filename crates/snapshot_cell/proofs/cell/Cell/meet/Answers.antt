@@ -51,6 +51,6 @@ invariant_of-reader g c =
       reading = record { seen = inv.publishing.published; share = None; left = reads.reading.left; gone = reads.reading.gone; name = inv.publishing.name };
       views_are = told.reader_is;
       whole = refl;
-      left_is = reads.left_is;
+      enough = reads.enough;
       name_is = inv.name_is ∙ ap (λ z. z.views_name) (ap (λ s. s.cell) c.publisher.view_is ∙ c.requires.0 ∙ sym (c.meet.ensures.badges.2 ∙ c.self.view_is));
     }

@@ -13,7 +13,7 @@ newest_with_weak-requires-clause-can g c =
     let some : 0 < c.reader.inside.left = omega (arith, c.if-reader-eq0.false) in
     let few : c.publisher.inside.noted < notes = omega (arith, inv.few, c.if-publisher-eq-NOTES.false) in
     let name = inv.name_is ∙ ap (λ z. z.views_name) (ap (λ s. s.cell) c.publisher.view_is ∙ c.requires.0 ∙ sym c.self.view_is) in
-    (inv.publishing, reads.reading, (inv.views_are, inv.whole, inv.none_left), (reads.views_are, reads.whole, omega (arith, some, reads.left_is)), name, omega (arith, few, inv.noted_is))
+    (inv.publishing, reads.reading, (inv.views_are, inv.whole, inv.none_left), (reads.views_are, reads.whole, omega (arith, some, reads.enough)), name, omega (arith, few, inv.noted_is))
 
 pub invariant_of-publisher : goal.invariant_of-publisher
 invariant_of-publisher g c =
@@ -23,7 +23,7 @@ invariant_of-publisher g c =
     let call = c.newest_with_weak in
     let some : 0 < c.reader.inside.left = omega (arith, c.if-reader-eq0.false) in
     let few : before.noted + 1 ≤ notes = omega (arith, inv.few, c.if-publisher-eq-NOTES.false) in
-    let told = call.ensures.newest inv.publishing reads.reading (inv.views_are, inv.whole, inv.none_left) (reads.views_are, reads.whole, omega (arith, some, reads.left_is)) in
+    let told = call.ensures.newest inv.publishing reads.reading (inv.views_are, inv.whole, inv.none_left) (reads.views_are, reads.whole, omega (arith, some, reads.enough)) in
     publisher_as g.C.Names.begins g.C.Follows.follows before.badge.table_id call.new.badge.table_id before.badge.id call.new.badge.id before.badge.views call.new.badge.views before.spare.table_id before.spare.views before.number before.last.value before.readers before.noted (before.noted + 1) inv call.ensures.badges.0 call.ensures.badges.1
     (record (gave_back inv.publishing) { noted = inv.publishing.noted + 1 }) told.views_are refl refl refl refl refl (omega (arith, inv.readers_are)) (ap (λ n. n + 1) inv.noted_is) few
 
@@ -34,7 +34,7 @@ returns-clause-newest g c =
     let reads = c.reader.invariant in
     let call = c.newest_with_weak in
     let some : 0 < c.reader.inside.left = omega (arith, c.if-reader-eq0.false) in
-    let told = call.ensures.newest inv.publishing reads.reading (inv.views_are, inv.whole, inv.none_left) (reads.views_are, reads.whole, omega (arith, some, reads.left_is)) in
+    let told = call.ensures.newest inv.publishing reads.reading (inv.views_are, inv.whole, inv.none_left) (reads.views_are, reads.whole, omega (arith, some, reads.enough)) in
     let strong = same_last inv.publishing.published call.result.0.version before.number before.last.value told.last.0 told.last.1 inv.last inv.value_is in
     let cell = call.ensures.badges.2 ∙ c.self.view_is in
     let seen = ap seen_in told.reader_is ∙ sym (ap published_in inv.views_are) ∙ sym (ap (λ s. s.published) (sym c.publisher.view_is)) in
@@ -50,7 +50,7 @@ returns-clause-begun g c =
     let inv = c.publisher.invariant in
     let reads = c.reader.invariant in
     let some : 0 < c.reader.inside.left = omega (arith, c.if-reader-eq0.false) in
-    let told = c.newest_with_weak.ensures.newest inv.publishing reads.reading (inv.views_are, inv.whole, inv.none_left) (reads.views_are, reads.whole, omega (arith, some, reads.left_is)) in
+    let told = c.newest_with_weak.ensures.newest inv.publishing reads.reading (inv.views_are, inv.whole, inv.none_left) (reads.views_are, reads.whole, omega (arith, some, reads.enough)) in
     let seen = sym (ap seen_in reads.views_are) ∙ ap (λ s. s.seen) c.reader.view_is in
     let published = sym (ap published_in inv.views_are) ∙ ap (λ s. s.published) c.publisher.view_is in
     subst (λ l. Begins l c.args.publisher.now.published) seen (subst (Begins reads.reading.seen) published told.begun)
@@ -62,7 +62,7 @@ returns-clause-noted g c =
     let reads = c.reader.invariant in
     let call = c.newest_with_weak in
     let some : 0 < c.reader.inside.left = omega (arith, c.if-reader-eq0.false) in
-    let told = call.ensures.newest inv.publishing reads.reading (inv.views_are, inv.whole, inv.none_left) (reads.views_are, reads.whole, omega (arith, some, reads.left_is)) in
+    let told = call.ensures.newest inv.publishing reads.reading (inv.views_are, inv.whole, inv.none_left) (reads.views_are, reads.whole, omega (arith, some, reads.enough)) in
     let is = c.publisher.view_is in
     let cell = call.ensures.badges.0 ∙ ap (λ s. s.cell) is in
     let published = ap published_in told.views_are ∙ sym (ap published_in inv.views_are) ∙ ap (λ s. s.published) is in

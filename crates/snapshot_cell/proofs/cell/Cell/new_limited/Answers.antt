@@ -1,7 +1,7 @@
 use Rattle.std.proofs.Common.{ap, sym, ◌∙◌}
 use Rattle.snapshot_cell.specs.Tokens.{published_in}
 use Rattle.snapshot_cell.proofs.TokenLemmas.{first_token}
-use Rattle.snapshot_cell.proofs.cell.Cell.new.Goals as goal
+use Rattle.snapshot_cell.proofs.cell.Cell.new_limited.Goals as goal
 
 pub deal_rest-spare-requires-clause-whole : goal.deal_rest-spare-requires-clause-whole
 deal_rest-spare-requires-clause-whole g c =
