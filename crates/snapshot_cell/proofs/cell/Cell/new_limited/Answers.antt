@@ -1,5 +1,6 @@
-use Rattle.std.proofs.Common.{ap, sym, ◌∙◌}
-use Rattle.snapshot_cell.specs.Tokens.{published_in}
+use Rattle.std.proofs.Common.{◌≡◌, ap, sym, ◌∙◌, subst}
+use Rattle.std.specs.List.{All}
+use Rattle.snapshot_cell.specs.Tokens.{published_in, limited_reader}
 use Rattle.snapshot_cell.proofs.TokenLemmas.{first_token}
 use Rattle.snapshot_cell.proofs.cell.Cell.new_limited.Goals as goal
 
@@ -28,4 +29,10 @@ returns-clause-publisher g c =
     λ i. record { cell = cell i; published = published i; number = 0; value = c.of-last.ensures i; noted = 0 }
 
 pub returns-clause-readers : goal.returns-clause-readers
-returns-clause-readers g c = (c.deal_all.ensures.readers c.args.first c.in-Some.ensures.4, c.deal_all.ensures.count)
+returns-clause-readers g c =
+    let table = c.in-Some.made.table.shared.table_id in
+    (
+      subst (λ n. All (λ r. r ≡ limited_reader n table c.args.first) c.deal_all.new.readers.items) c.min.ensures
+      (c.deal_all.ensures.readers c.args.first c.in-Some.ensures.4),
+      c.deal_all.ensures.count,
+    )
