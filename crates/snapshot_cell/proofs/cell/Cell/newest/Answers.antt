@@ -1,4 +1,4 @@
-use Rattle.std.proofs.Common.{refl, ◌<◌, ◌-◌, ap, sym, ◌∙◌, subst, arith}
+use Rattle.std.proofs.Common.{refl, ◌<◌, ◌-◌, ap, sym, ◌∙◌, subst, None, arith}
 use Rattle.snapshot_cell.specs.Tokens.{seen_in, gone_in, published_in}
 use Rattle.counted_handles.specs.Calls.{gave_back}
 use Rattle.counted_handles.specs.Ruled.{Begins}
@@ -50,3 +50,17 @@ returns-clause-same g c =
     let told = c.newest.ensures.newest inv.publishing reads.reading (inv.views_are, inv.whole, inv.none_left) (reads.views_are, reads.whole, omega (arith, some, reads.enough)) in
     let published = ap published_in told.views_are ∙ sym (ap published_in inv.views_are) in
     (λ i. record { cell = c.newest.ensures.badges.0 i; published = published i; number = before.number; value = before.last.value; noted = before.noted }) ∙ c.publisher.view_is
+
+pub invariant_of-reader : goal.invariant_of-reader
+invariant_of-reader g c =
+    let inv = c.publisher.invariant in
+    let reads = c.reader.invariant in
+    let some : 0 < c.reader.inside.left = omega (arith, c.if-reader-eq0.false) in
+    let told = c.newest.ensures.newest inv.publishing reads.reading (inv.views_are, inv.whole, inv.none_left) (reads.views_are, reads.whole, omega (arith, some, reads.enough)) in
+    record {
+      reading = record { seen = inv.publishing.published; share = None; left = reads.reading.left - 1; gone = reads.reading.gone; name = inv.publishing.name };
+      views_are = told.reader_is;
+      whole = refl;
+      enough = omega (arith, some, reads.enough);
+      name_is = inv.name_is ∙ ap (λ z. z.views_name) (ap (λ s. s.cell) c.publisher.view_is ∙ c.requires.0 ∙ sym (c.newest.ensures.badges.2 ∙ c.self.view_is));
+    }
