@@ -1,5 +1,5 @@
 //! A worker's job on connections over a poll that is made up: when it ends, and what a log is told of connections that are lost.
-ghost use Rattle.std.specs.Prelude.{None, [], ◌-◌, ◌^◌};
+ghost use Rattle.std.specs.Prelude.{None, ⊤, [], ◌-◌, ◌^◌};
 
 use connections::{Answering, Blocking, Fault, Reply};
 use conversation::Allowed;
