@@ -1,7 +1,7 @@
 //! A transfer of several messages that goes on from a place, beside the messages of the same one that are made at once.
 use conversation::OpenGate;
 use dns_engine::{FirstZone, Naming, VersionCell, VersionChain, VersionPublisher, VersionReader};
-use dns_message::{Parsed, parse_other, take_frame};
+use dns_message::{Parsed, is_update, parse_other, take_frame};
 use dns_name::Name;
 use dns_rdata::{RData, RRset, RType, Ttl};
 use played_zones::{Kept, Play, Played, asker, is_played, octets_of, server_of};
@@ -73,6 +73,9 @@ fn put_frame(message: &[u8], written: &mut Vec<u8>) -> Option<()> {
 /// Puts the frames of the messages that a query gets in a version behind octets, all at once.
 fn put_replies(version: &Version, request: &[u8], peer: Peer, written: &mut Vec<u8>) -> Option<()> {
     let mut out = [0u8; 65_535];
+    if is_update(request) {
+        return None;
+    }
     let Parsed::Query(query) = parse_other(request) else {
         return None;
     };
