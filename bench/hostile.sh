@@ -53,32 +53,7 @@ knotd_secondary "$work/knotd" $((port + 1)) "$port"
 sed -i 's/action: transfer/action: [notify, transfer]/' "$work/knotd/knotd.conf"
 knotd -c "$work/knotd/knotd.conf" >"$work/knotd.log" 2>&1 &
 started+=($!)
-mkdir "$work/nsd"
-cat >"$work/nsd.conf" <<end
-server:
-    ip-address: 127.0.0.1@$((port + 2))
-    username: ""
-    server-count: 1
-    zonesdir: "$work/nsd"
-    xfrdir: "$work/nsd"
-    database: ""
-    zonelistfile: "$work/nsd/zone.list"
-    xfrdfile: "$work/nsd/xfrd.state"
-    pidfile: ""
-    verbosity: 2
-remote-control:
-    control-enable: no
-zone:
-    name: example.test
-    zonefile: zone
-    request-xfr: 127.0.0.1@$port NOKEY
-    allow-notify: 127.0.0.1 NOKEY
-    provide-xfr: 127.0.0.1 NOKEY
-    min-refresh-time: 2
-    max-refresh-time: 2
-    min-retry-time: 2
-    max-retry-time: 2
-end
+nsd_secondary "$work/nsd" "$((port + 2))" "$port" "allow-notify: 127.0.0.1 NOKEY" "${nsd_often[@]}"
 nsd -d -c "$work/nsd.conf" >"$work/nsd.log" 2>&1 &
 started+=($!)
 

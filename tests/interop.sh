@@ -393,31 +393,7 @@ start_knotd() {
 
 # NSD as a secondary, on a port.
 start_nsd() {
-    mkdir "$work/nsd"
-    cat >"$work/nsd.conf" <<end
-server:
-    ip-address: 127.0.0.1@$1
-    username: ""
-    server-count: 1
-    zonesdir: "$work/nsd"
-    xfrdir: "$work/nsd"
-    database: ""
-    zonelistfile: "$work/nsd/zone.list"
-    xfrdfile: "$work/nsd/xfrd.state"
-    pidfile: ""
-    verbosity: 2
-remote-control:
-    control-enable: no
-zone:
-    name: example.test
-    zonefile: zone
-    request-xfr: 127.0.0.1@$port NOKEY
-    provide-xfr: 127.0.0.1 NOKEY
-    min-refresh-time: 2
-    max-refresh-time: 2
-    min-retry-time: 2
-    max-retry-time: 2
-end
+    nsd_secondary "$work/nsd" "$1" "$port" "${nsd_often[@]}"
     nsd -d -c "$work/nsd.conf" >"$work/nsd.log" 2>&1 &
     started+=($!)
 }

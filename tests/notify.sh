@@ -9,6 +9,7 @@
 # It needs python3, Debian's packages bind9-dnsutils, bind9, knot and nsd, and the program that `make dnsd` builds.
 set -euo pipefail
 cd "$(dirname "$0")/.."
+. tests/secondary.sh
 program=${DNSD:-$PWD/crates/dnsd/out/dnsd}
 port=16353
 updates=100
@@ -89,28 +90,7 @@ end
 }
 
 start_nsd() {
-    mkdir -p "$work/nsd"
-    cat >"$work/nsd.conf" <<end
-server:
-    ip-address: 127.0.0.1@${ports[nsd]}
-    username: ""
-    server-count: 1
-    zonesdir: "$work/nsd"
-    xfrdir: "$work/nsd"
-    database: ""
-    zonelistfile: "$work/nsd/zone.list"
-    xfrdfile: "$work/nsd/xfrd.state"
-    pidfile: ""
-    verbosity: 2
-remote-control:
-    control-enable: no
-zone:
-    name: example.test
-    zonefile: zone
-    request-xfr: 127.0.0.1@$port NOKEY
-    allow-notify: 127.0.0.1 NOKEY
-    provide-xfr: 127.0.0.1 NOKEY
-end
+    nsd_secondary "$work/nsd" "${ports[nsd]}" "$port" "allow-notify: 127.0.0.1 NOKEY"
     nsd -d -c "$work/nsd.conf" >>"$work/nsd.log" 2>&1 &
     pids[nsd]=$!
     started+=($!)

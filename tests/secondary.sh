@@ -1,4 +1,4 @@
-# Sourced by the scripts that run Knot as a secondary of example.test.
+# Sourced by the scripts that run Knot or NSD as a secondary of example.test.
 
 # Writes Knot's configuration: FOLDER (which is made), the port that it listens on, and that of its primary on 127.0.0.1.
 knotd_secondary() {
@@ -34,3 +34,35 @@ log:
     any: info
 end
 }
+
+# Writes NSD's configuration beside a folder (which is made if it isn't there), as FOLDER.conf: FOLDER, the port that it listens on, that of its primary
+# on 127.0.0.1, and further lines of the zone.
+nsd_secondary() {
+    local folder=$1 own=$2 primary=$3
+    shift 3
+    mkdir -p "$folder"
+    cat >"$folder.conf" <<end
+server:
+    ip-address: 127.0.0.1@$own
+    username: ""
+    server-count: 1
+    zonesdir: "$folder"
+    xfrdir: "$folder"
+    database: ""
+    zonelistfile: "$folder/zone.list"
+    xfrdfile: "$folder/xfrd.state"
+    pidfile: ""
+    verbosity: 2
+remote-control:
+    control-enable: no
+zone:
+    name: example.test
+    zonefile: zone
+    request-xfr: 127.0.0.1@$primary NOKEY
+    provide-xfr: 127.0.0.1 NOKEY
+$(printf '    %s\n' "$@")
+end
+}
+
+# The zone's lines by which NSD asks its primary each two seconds.
+nsd_often=("min-refresh-time: 2" "max-refresh-time: 2" "min-retry-time: 2" "max-retry-time: 2")
