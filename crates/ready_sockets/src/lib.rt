@@ -3,6 +3,7 @@
 //! [`Watch`] waits, [`TcpPeer`] is a connection, and [`TcpPlace`] is where connections come in. What the system tells no clause says.
 #![tactic(auto)]
 
+mod news;
 mod peer;
 mod place;
 mod watch;

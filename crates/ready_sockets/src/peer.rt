@@ -2,6 +2,7 @@
 ghost use Rattle.std.specs.Prelude.{◌≡◌, ◌<◌, ◌≤◌, ◌-◌, ◌^◌, List, [], length, take, None, ⊤, IfOk, IfErr, OnOk, OnErr};
 ghost use Rattle.connections.specs.declared.blocking.Fault.{Fault as FaultOf};
 
+use crate::news::News;
 use connections::{Blocking, Fault};
 use mio::net::TcpStream;
 use std::io::{self, ErrorKind, Read, Write};
@@ -14,6 +15,8 @@ pub struct TcpPeer {
     pub(crate) inner: TcpStream,
     from: SocketAddr,
     faults: u64,
+    /// What is known of it, once it is watched.
+    pub(crate) news: Option<News>,
 }
 
 /// What a call that has failed did so for.
@@ -46,6 +49,25 @@ impl TcpPeer {
             inner,
             from,
             faults: 0,
+            news: None,
+        }
+    }
+
+    /// Whether a read would find nothing, as is known without asking the system.
+    fn is_empty(&self) -> bool {
+        match &self.news {
+            Some(news) => news.is_empty(),
+            None => false,
+        }
+    }
+
+    /// A read has taken so many octets for a room of so many: fewer are all that had come.
+    fn note(&self, count: usize, room: usize) {
+        if count == 0 || count >= room {
+            return;
+        }
+        if let Some(news) = &self.news {
+            news.note_empty();
         }
     }
 
@@ -77,9 +99,15 @@ impl Blocking for TcpPeer {
 
     // What a signal interrupts is done again.
     fn read(&mut self, buf: &mut [u8]) -> Result<usize, Fault> {
+        if self.is_empty() {
+            return Err(Fault::Blocked);
+        }
         for _again in 0..u64::MAX {
             let fault = match self.inner.read(buf) {
-                Ok(count) => return Ok(count),
+                Ok(count) => {
+                    self.note(count, buf.len());
+                    return Ok(count);
+                }
                 Err(fault) => fault,
             };
             match cause_of(&fault) {

@@ -1,7 +1,10 @@
 //! Waiting until a socket may be ready (Linux, epoll(7)).
+ghost use Rattle.std.specs.Prelude.{◌≡◌};
 
+use crate::news::News;
 use crate::peer::TcpPeer;
 use crate::place::TcpPlace;
+use mio::event::Event;
 use mio::{Events, Interest, Poll, Token};
 use std::alloc::Global;
 use std::io;
@@ -19,6 +22,9 @@ pub struct Watch<'a, C> {
     events: Events<Global>,
     clock: &'a C,
     now: u64,
+    alloc: Global,
+    /// By key, what is known of the connection that was watched last under it.
+    news: Vec<Option<News>>,
 }
 
 impl<'a, C: Clock> Watch<'a, C> {
@@ -29,7 +35,34 @@ impl<'a, C: Clock> Watch<'a, C> {
             events: Events::with_capacity(alloc, EVENTS)?,
             clock,
             now: 0,
+            alloc,
+            news: Vec::new(alloc),
         })
+    }
+
+    /// Has what is told under a key known to a connection. Where the key is beyond the next one, nothing is.
+    fn introduce(&mut self, stream: &mut TcpPeer, key: usize) -> Result<(), NotWatched>
+        ensures { self.new.now ≡ self.old.now }
+    {
+        let Ok((ours, theirs)) = News::pair(self.alloc) else {
+            return Err(NotWatched);
+        };
+        if let Some(place) = self.news.get_mut(key) {
+            *place = Some(ours);
+        } else if key > self.news.len() {
+            return Ok(());
+        } else if self.news.push(Some(ours)).is_err() {
+            return Err(NotWatched);
+        }
+        stream.news = Some(theirs);
+        Ok(())
+    }
+
+    /// Tells the connection of an event of it, if it has one.
+    fn tell(&self, event: &Event) {
+        if let Some(Some(news)) = self.news.get(event.token().0) {
+            news.tell(event.is_read_closed() || event.is_error());
+        }
     }
 
     /// Watches the place of a number, from 0, where connections come in.
@@ -53,6 +86,7 @@ impl<C: Clock> Readiness<TcpPeer> for Watch<'_, C> {
 
     fn watch(&mut self, stream: &mut TcpPeer, key: usize) -> Result<(), NotWatched> {
         let interest = Interest::READABLE | Interest::WRITABLE;
+        self.introduce(stream, key)?;
         match self
             .poll
             .registry()
@@ -72,6 +106,7 @@ impl<C: Clock> Readiness<TcpPeer> for Watch<'_, C> {
             return Err(NotWatched);
         }
         for event in self.events.iter() {
+            self.tell(event);
             if keys.push(event.token().0).is_err() {
                 return Err(NotWatched);
             }
