@@ -3,7 +3,7 @@ use Rattle.std.proofs.Common.{◌≡◌, ℕ, suc, zero, ◌+◌, ◌<◌, ◌�
 use Rattle.std.proofs.lemmas.List.{length-take-le, append_assoc, append-nil}
 use Rattle.std.proofs.lemmas.List.Elements.{All-nil, All-cons, All-head, All-tail, All-append}
 use Rattle.std.proofs.lemmas.List.Kept.{AllPairs-cons}
-use Rattle.wire_names.specs.Table.{Entry, Table, IsTable, Ascend, label_key, keyed, table_of, position_in, enter, entered}
+use Rattle.wire_names.specs.Table.{Entry, Table, IsTable, Ascend, name_key, keyed, table_of, position_in, enter, entered}
 use Rattle.wire_names.specs.Written.{new_entries, entries_of}
 use Rattle.wire_names.proofs.EntryLemmas.{entries_none, entries_some}
 use Rattle.wire_names.proofs.LongerLemmas.{spells_within}
@@ -64,8 +64,8 @@ IsFrom-if table at label name None e rest =
     let behind : All (λ (x : Entry). at ≤ x.position) more = λ k d h. let far = rest.from k d h in omega arith in
     subst (λ (t : Table). IsFrom at (keyed t)) (sym (entries_none table at label name e))
     (record {
-      from = All-cons (λ (x : Entry). at ≤ x.position) (record { position = at; key = label_key label }) more (omega arith) behind;
-      up = AllPairs-cons (λ (a : Entry) (b : Entry). a.position < b.position) (record { position = at; key = label_key label }) more above rest.up;
+      from = All-cons (λ (x : Entry). at ≤ x.position) (record { position = at; key = name_key (label ∷ name) }) more (omega arith) behind;
+      up = AllPairs-cons (λ (a : Entry) (b : Entry). a.position < b.position) (record { position = at; key = name_key (label ∷ name) }) more above rest.up;
     })
 
 IsFrom-new : (table : Table) (at : ℕ) (name : List (List ℕ)) → IsFrom at (keyed (new_entries table at name))

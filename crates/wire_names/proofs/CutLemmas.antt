@@ -5,7 +5,7 @@ use Rattle.std.proofs.lemmas.List.{length-append, append_assoc}
 use Rattle.dns_name.specs.Labels.{labels_in, IsWhole, IsFirstLabel}
 use Rattle.dns_name.proofs.LabelLemmas.{wire_of-labels_in}
 use Rattle.wire_names.specs.Cut.{cut_octets, IsCut}
-use Rattle.wire_names.specs.Table.{Entry, Table, position_in, enter, entered, keyed, label_key, name_key}
+use Rattle.wire_names.specs.Table.{Entry, Table, position_in, enter, entered, keyed, name_key}
 use Rattle.wire_names.specs.Written.{name_octets, new_entries, pointer_to, starts_of, IsOverwritten, WritesOctets}
 use Rattle.wire_names.specs.declared.write.Cut.{Cut}
 use Rattle.wire_names.proofs.EntryLemmas.{octets_none, octets_some, entries_none, entries_some}
@@ -76,26 +76,26 @@ module _ (table : Table) (octets label rest : List ℕ) (first : IsFirstLabel oc
         entries = λ at.
             ap (λ (name : List (List ℕ)). keyed (new_entries table at name)) first.labels
             ∙ ap keyed (entries_none table at label (labels_in rest) none)
-            ∙ ap (λ (xs : List Entry). record { position = at; key = label_key label } ∷ xs) (behind.entries (at + 1 + length label))
-            ∙ ap (λ (k : ℕ). starts_of at (take k (label ∷ labels_in rest))) (sym (add-one cut.labels))
-            ∙ ap (λ (name : List (List ℕ)). starts_of at (take (cut.labels + 1) name)) (sym first.labels);
+            ∙ ap (λ (xs : List Entry). record { position = at; key = name_key (label ∷ labels_in rest) } ∷ xs) (behind.entries (at + 1 + length label))
+            ∙ ap (λ (k : ℕ). take k (starts_of at (label ∷ labels_in rest))) (sym (add-one cut.labels))
+            ∙ ap (λ (name : List (List ℕ)). take (cut.labels + 1) (starts_of at name)) (sym first.labels);
         within = omega arith;
         few = omega arith;
         low = behind.low;
       }
 
 -- one position is entered of those of labels
-pub entered_step : (xs next whole : List Entry) (label : List ℕ) (place key there count i : ℕ) (names rest : List (List ℕ)) → names ≡ label ∷ rest → i < count → next ≡ enter (λ e. e.position) xs (record { position = place; key = key }) → key ≡ name_key names → there ≡ place + (1 + length label) → entered (λ e. e.position) xs (starts_of place (take (count - i) names)) ≡ whole → entered (λ e. e.position) next (starts_of there (take (count - (i + 1)) rest)) ≡ whole
+pub entered_step : (xs next whole : List Entry) (label : List ℕ) (place key there count i : ℕ) (names rest : List (List ℕ)) → names ≡ label ∷ rest → i < count → next ≡ enter (λ e. e.position) xs (record { position = place; key = key }) → key ≡ name_key names → there ≡ place + (1 + length label) → entered (λ e. e.position) xs (take (count - i) (starts_of place names)) ≡ whole → entered (λ e. e.position) next (take (count - (i + 1)) (starts_of there rest)) ≡ whole
 entered_step xs next whole label place key there count i names rest first within n k t so_far =
     let left : count - i ≡ suc (count - (i + 1)) = omega arith in
     let on : there ≡ place + 1 + length label = omega arith in
-    let own : key ≡ label_key label = k ∙ ap name_key first in
-    let entry : Entry = record { position = place; key = label_key label } in
-    let front : entered (λ e. e.position) xs (starts_of place (take (count - i) names)) ≡ entered (λ e. e.position) (enter (λ e. e.position) xs entry) (starts_of (place + 1 + length label) (take (count - (i + 1)) rest)) =
-    ap (λ (ns : List (List ℕ)). entered (λ e. e.position) xs (starts_of place (take (count - i) ns))) first
-    ∙ ap (λ (m : ℕ). entered (λ e. e.position) xs (starts_of place (take m (label ∷ rest)))) left in
+    let own : key ≡ name_key (label ∷ rest) = k ∙ ap name_key first in
+    let entry : Entry = record { position = place; key = name_key (label ∷ rest) } in
+    let front : entered (λ e. e.position) xs (take (count - i) (starts_of place names)) ≡ entered (λ e. e.position) (enter (λ e. e.position) xs entry) (take (count - (i + 1)) (starts_of (place + 1 + length label) rest)) =
+    ap (λ (ns : List (List ℕ)). entered (λ e. e.position) xs (take (count - i) (starts_of place ns))) first
+    ∙ ap (λ (m : ℕ). entered (λ e. e.position) xs (take m (starts_of place (label ∷ rest)))) left in
     let put : next ≡ enter (λ e. e.position) xs entry = n ∙ ap (λ (x : ℕ). enter (λ e. e.position) xs (record { position = place; key = x })) own in
-    let behind : entered (λ e. e.position) next (starts_of there (take (count - (i + 1)) rest)) ≡ entered (λ e. e.position) (enter (λ e. e.position) xs entry) (starts_of (place + 1 + length label) (take (count - (i + 1)) rest)) =
-    ap (λ (ys : List Entry). entered (λ e. e.position) ys (starts_of there (take (count - (i + 1)) rest))) put
-    ∙ ap (λ (p : ℕ). entered (λ e. e.position) (enter (λ e. e.position) xs entry) (starts_of p (take (count - (i + 1)) rest))) on in
+    let behind : entered (λ e. e.position) next (take (count - (i + 1)) (starts_of there rest)) ≡ entered (λ e. e.position) (enter (λ e. e.position) xs entry) (take (count - (i + 1)) (starts_of (place + 1 + length label) rest)) =
+    ap (λ (ys : List Entry). entered (λ e. e.position) ys (take (count - (i + 1)) (starts_of there rest))) put
+    ∙ ap (λ (p : ℕ). entered (λ e. e.position) (enter (λ e. e.position) xs entry) (take (count - (i + 1)) (starts_of p rest))) on in
     behind ∙ sym front ∙ so_far

@@ -3,6 +3,7 @@ pub mod CutLemmas
 pub mod EntryLemmas
 pub mod GrammarLemmas
 pub mod KeyLemmas
+pub mod KeySumLemmas
 pub mod LeadsLemmas
 pub mod LongerLemmas
 pub mod OverwrittenLemmas

@@ -14,7 +14,7 @@ cut_octets octets len (Some target) = take len octets ++ pointer_to target
 -- the octets where the name is in full
 pub record IsCut (compress : Bool) (table : Table) (octets : List ℕ) (cut : Cut) : Type 0 where
   pub text : written compress table (labels_in octets) ≡ cut_octets octets cut.len cut.target
-  pub entries : (at : ℕ) → keyed (entries_of compress table at (labels_in octets)) ≡ starts_of at (take cut.labels (labels_in octets))
+  pub entries : (at : ℕ) → keyed (entries_of compress table at (labels_in octets)) ≡ take cut.labels (starts_of at (labels_in octets))
   pub within : cut.len ≤ length octets
   pub few : cut.labels ≤ length octets
   pub low : IfSome cut.target (λ target. target < 16384)

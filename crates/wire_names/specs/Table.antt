@@ -1,9 +1,9 @@
 -- The table of a message's names that pointers can name (RFC 1035, 4.1.4).
-use Rattle.std.specs.Prelude.{◌≡◌, ℕ, ◌+◌, ◌-◌, ◌*◌, ◌<◌, Bool, ◌&&◌, List, [], ◌∷◌, ◌++◌, length, map, min, All, AllPairs, slice_index_or, nat_lt, nat_le, if◌then◌else◌, Option, Ok, Err, bytes_eq}
+use Rattle.std.specs.Prelude.{◌≡◌, ℕ, ◌+◌, ◌-◌, ◌*◌, ◌/◌, ◌%◌, ◌^◌, ◌<◌, Bool, ◌&&◌, List, [], ◌∷◌, ◌++◌, length, map, min, All, AllPairs, slice_index_or, nat_lt, nat_le, if◌then◌else◌, Option, Ok, Err, bytes_eq}
 use Rattle.std.specs.List.{filter, reduce}
 use Rattle.std.specs.Cmp.Lexicographic.{pointwise}
 use Rattle.std.specs.Result.{IsOk}
-use Rattle.dns_name.specs.Name.{Name}
+use Rattle.dns_name.specs.Name.{Name, wire_of}
 use Rattle.wire_names.specs.NameAt.{name_at}
 
 -- the table: positions of a message, each with the name that is spelt there, in the order in which they were entered
@@ -49,10 +49,22 @@ key_up_to octets n =
     (slice_index_or octets (n - 3) 0 * 256 + slice_index_or octets (n - 2) 0) * 65536
     + (slice_index_or octets (n - 1) 0 * 256 + slice_index_or octets n 0)
 
--- the key of a name: that of its first label; the root's is 0 (own)
+-- the key of a name's first label; 0 where it has none (own)
+abbrev pub first_key : Name → ℕ
+first_key [] = 0
+first_key (label ∷ name) = label_key label
+
+-- what the first label adds to the key of a name: its low octet is the label's length, and the others are mixed of the label's
+-- key and of the octets that the name takes, by an odd number (own)
+abbrev pub key_part : Name → ℕ
+key_part name =
+    first_key name * ((length (wire_of name) % 256 * 2 + 1) * 2654435761 % 2 ^ 32) % 2 ^ 32 / 256 * 256
+    + slice_index_or (wire_of name) 0 0
+
+-- the key of a name: the sum of what each of its labels adds, in 32 bits; the root's is 0 (own)
 abbrev pub name_key : Name → ℕ
 name_key [] = 0
-name_key (label ∷ name) = label_key label
+name_key (label ∷ name) = (key_part (label ∷ name) + name_key name) % 2 ^ 32
 
 -- a position of a message, and the key of the name that is spelt there
 pub record Entry : Type 0 where

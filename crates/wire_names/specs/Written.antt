@@ -1,7 +1,7 @@
 -- How a name is written into a message, with pointers to names in front of it (RFC 1035, 4.1.4).
 use Rattle.std.specs.Prelude.{◌≡◌, ℕ, ◌+◌, ◌/◌, ◌%◌, ◌<◌, ◌≤◌, Bool, List, [], ◌∷◌, ◌++◌, length, take, drop, if◌then◌else◌, Option, Some, None}
 use Rattle.dns_name.specs.Name.{Name, wire_of}
-use Rattle.wire_names.specs.Table.{Entry, Table, position_in, entered, label_key}
+use Rattle.wire_names.specs.Table.{Entry, Table, position_in, entered, name_key}
 
 -- the two octets of a pointer to a position below 16384 (RFC 1035, 4.1.4)
 abbrev pub pointer_to : ℕ → List ℕ
@@ -26,10 +26,11 @@ new_entries table at (label ∷ name) =
       | None ↦ (at, label ∷ name) ∷ new_entries table (at + 1 + length label) name
     ]
 
--- the positions of labels that stand one behind another, each behind its length, from a position on, with their keys
+-- the positions of a name's labels that stand one behind another, each behind its length, from a position on, each with the key
+-- of the suffix that begins there
 abbrev pub starts_of : ℕ → Name → List Entry
 starts_of at [] = []
-starts_of at (label ∷ name) = record { position = at; key = label_key label } ∷ starts_of (at + 1 + length label) name
+starts_of at (label ∷ name) = record { position = at; key = name_key (label ∷ name) } ∷ starts_of (at + 1 + length label) name
 
 -- a name's octets, compressed or in full: a name in the data of an SRV record is never compressed (RFC 2782)
 abbrev pub written : Bool → Table → Name → List ℕ

@@ -1,11 +1,12 @@
 //! The names of a message that pointers can name.
-ghost use Rattle.std.specs.Prelude.{◌≡◌, ◌≢◌, ℕ, ◌+◌, ◌<◌, ◌^◌, ◌↔◌, ◌++◌, [], length, take, drop, All, IsTrue, IfSome, slice_index_or, get_or};
+ghost use Rattle.std.specs.Prelude.{◌≡◌, ◌≢◌, ℕ, ◌+◌, ◌<◌, ◌^◌, ◌↔◌, ◌++◌, [], length, take, drop, All, IsTrue, IfSome, get_or};
 ghost use Rattle.std.specs.Bool.{OnTrue};
 ghost use Rattle.dns_name.specs.Labels.{labels_in, IsWhole};
 ghost use Rattle.wire_names.specs.Spells.{Spells};
-ghost use Rattle.wire_names.specs.Table.{IsTable, IsEntry, Ascend, name_key, key_up_to, table_of, position_in, enter, entered};
+ghost use Rattle.wire_names.specs.Table.{IsTable, IsEntry, Ascend, name_key, table_of, position_in, enter, entered};
 ghost use Rattle.wire_names.specs.Written.{starts_of};
 
+use crate::key::key_behind;
 use crate::part::{Part, label_at, part_at};
 use arrayvec::ArrayVec;
 use dns_name::first_label;
@@ -20,12 +21,9 @@ const MAX_TARGET: usize = 16383;
 /// Up to how many positions are looked at one by one at once; of more, the keys alone are searched first.
 const FEW: usize = 24;
 
-/// The octets of a key.
-const KEY: usize = 4;
-
 /// The positions of names in a message, and the key of each name, in the order in which they were entered. Contracts see a list
-/// of entries, each a position with its key: the last four octets of the name's first label, with its length octet in front of
-/// it (own). A key stands at its position's index, so that one search of the keys alone tells that a name is nowhere.
+/// of entries, each a position with its key, a number of all labels of the name (own). A key stands at its position's index, so
+/// that one search of the keys alone tells that a name is nowhere.
 #[derive(Drop)]
 pub(crate) struct Positions {
     positions: ArrayVec<u16, MAX_POSITIONS>,
@@ -62,14 +60,15 @@ impl Positions {
         self.keys.clear();
     }
 
-    /// The earliest position at which the name in these octets is spelt, case included: the first in a table that ascends.
-    pub(crate) fn position_of(&self, msg: &[u8], octets: &[u8]) -> Option<u16>
+    /// The earliest position at which the name in these octets, of this key, is spelt, case included: the first in a table that
+    /// ascends.
+    pub(crate) fn position_of(&self, msg: &[u8], octets: &[u8], key: u32) -> Option<u16>
         requires table { IsTable msg.now self.now }
         requires ascending { Ascend self.now }
         requires whole { IsWhole octets.now }
+        requires key { key ≡ name_key (labels_in octets.now) }
         ensures { result ≡ position_in (table_of msg.now self.now) (labels_in octets.now) }
     {
-        let key = key_of(octets);
         if self.has_no_key(key) {
             return None;
         }
@@ -100,21 +99,24 @@ impl Positions {
         (self.positions[i], self.keys[i])
     }
 
-    /// Enters the positions of so many labels of a name whose octets stand at a position, with their keys: as long as there is
-    /// room, and none that a pointer can't name (RFC 1035, 4.1.4).
-    pub(crate) fn enter(&mut self, at: usize, octets: &[u8], count: usize)
+    /// Enters the positions of so many labels of a name of this key whose octets stand at a position, with the keys of the names
+    /// that begin there: as long as there is room, and none that a pointer can't name (RFC 1035, 4.1.4).
+    pub(crate) fn enter(&mut self, at: usize, octets: &[u8], key: u32, count: usize)
         requires whole { IsWhole octets.now }
         requires within { at + length octets.now < 2 ^ 64 }
-        ensures { self.new ≡ entered (λ entry. entry.position) self.old (starts_of at (take count (labels_in octets.now))) }
+        requires key { key ≡ name_key (labels_in octets.now) }
+        ensures { self.new ≡ entered (λ entry. entry.position) self.old (take count (starts_of at (labels_in octets.now))) }
     {
         let mut rest = octets;
         let mut place = at;
+        let mut own = key;
         for _i in 0..count {
             let Some((label, behind)) = first_label(rest) else {
                 return;
             };
-            self.enter_one(place, key_of(rest));
+            self.enter_one(place, own);
             place += 1 + label.len();
+            own = key_behind(own, rest);
             rest = behind;
         }
     }
@@ -127,49 +129,6 @@ impl Positions {
             self.positions.push(position as u16);
             self.keys.push(key);
         }
-    }
-}
-
-/// The key of the name in these octets: the last four octets of its first label, with its length octet in front of it; the
-/// length octet stands for those that a short label lacks (own).
-fn key_of(octets: &[u8]) -> u32
-    requires whole { IsWhole octets.now }
-    ensures { result ≡ name_key (labels_in octets.now) }
-{
-    let len = octet_at(octets, 0) as usize;
-    match four_up_to(octets, len) {
-        Some(key) => key,
-        None => key_up_to(octets, len),
-    }
-}
-
-/// The four octets up to one at an index, as a number; None where there aren't so many.
-fn four_up_to(octets: &[u8], last: usize) -> Option<u32>
-    ensures { IfSome result (λ key. key ≡ key_up_to octets.now last) }
-{
-    let start = last.checked_sub(KEY - 1)?;
-    let four = octets.get(start..)?.first_chunk::<KEY>()?;
-    Some(u32::from_be_bytes(*four))
-}
-
-/// The four octets up to one at an index, as a number: the first stands for those that would be in front of it.
-fn key_up_to(octets: &[u8], last: usize) -> u32
-    ensures { result ≡ key_up_to octets.now last }
-{
-    let high = octet_at(octets, last.saturating_sub(3)) * 256
-        + octet_at(octets, last.saturating_sub(2));
-    let low = octet_at(octets, last.saturating_sub(1)) * 256 + octet_at(octets, last);
-    high * 65536 + low
-}
-
-/// The octet at an index, or 0 behind the end.
-fn octet_at(octets: &[u8], index: usize) -> u32
-    ensures octet { result ≡ slice_index_or octets.now index 0 }
-    ensures low { result < 256 }
-{
-    match octets.get(index) {
-        Some(octet) => u32::from(*octet),
-        None => 0,
     }
 }
 

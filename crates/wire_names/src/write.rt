@@ -3,9 +3,10 @@ ghost use Rattle.std.specs.Prelude.{◌≡◌, true, ◌<◌, ◌≤◌, ◌++�
 ghost use Rattle.dns_name.specs.Labels.{labels_in, IsWhole};
 ghost use Rattle.dns_name.specs.Name.{IsName};
 ghost use Rattle.wire_names.specs.Cut.{cut_octets, IsCut};
-ghost use Rattle.wire_names.specs.Table.{IsTable, table_of};
+ghost use Rattle.wire_names.specs.Table.{IsTable, table_of, name_key};
 ghost use Rattle.wire_names.specs.Written.{pointer_to, written, table_after, WritesOctets};
 
+use crate::key::{key_behind, key_of};
 use crate::part::POINTER;
 use crate::table::Positions;
 use dns_name::{Name, first_label};
@@ -94,20 +95,22 @@ impl NameWriter {
         ensures entered { IfSome result (λ next. table_of (take next out.new) self.new ≡ table_after compress (table_of (take at out.old) self.old) at (labels_in octets.now)) }
         ensures unchanged { IsNone result → self.new ≡ self.old }
     {
-        let cut = self.cut(&out[..at], octets, compress);
+        let key = key_of(octets);
+        let cut = self.cut(&out[..at], octets, key, compress);
         let next = put_cut(out, at, octets, cut)?;
-        self.positions.enter(at, octets, cut.labels);
+        self.positions.enter(at, octets, key, cut.labels);
         Some(next)
     }
 
-    /// How the name in these octets is written behind the message.
-    fn cut(&self, msg: &[u8], octets: &[u8], compress: bool) -> Cut
+    /// How the name in these octets, of this key, is written behind the message.
+    fn cut(&self, msg: &[u8], octets: &[u8], key: u32, compress: bool) -> Cut
         requires table { IsTable msg.now self.now }
         requires whole { IsWhole octets.now }
+        requires key { key ≡ name_key (labels_in octets.now) }
         ensures { IsCut compress (table_of msg.now self.now) octets.now result }
     {
         if compress {
-            self.compressed(msg, octets)
+            self.compressed(msg, octets, key)
         } else {
             Cut {
                 labels: 0,
@@ -117,10 +120,11 @@ impl NameWriter {
         }
     }
 
-    /// How the name in these octets is written behind the message with compression.
-    fn compressed(&self, msg: &[u8], octets: &[u8]) -> Cut
+    /// How the name in these octets, of this key, is written behind the message with compression.
+    fn compressed(&self, msg: &[u8], octets: &[u8], key: u32) -> Cut
         requires table { IsTable msg.now self.now }
         requires whole { IsWhole octets.now }
+        requires key { key ≡ name_key (labels_in octets.now) }
         ensures { IsCut true (table_of msg.now self.now) octets.now result }
     {
         let Some((label, behind)) = first_label(octets) else {
@@ -130,14 +134,14 @@ impl NameWriter {
                 target: None,
             };
         };
-        if let Some(target) = self.positions.position_of(msg, octets) {
+        if let Some(target) = self.positions.position_of(msg, octets, key) {
             return Cut {
                 labels: 0,
                 len: 0,
                 target: Some(target),
             };
         }
-        let rest = self.compressed(msg, behind);
+        let rest = self.compressed(msg, behind, key_behind(key, octets));
         Cut {
             labels: rest.labels + 1,
             len: rest.len + 1 + label.len(),

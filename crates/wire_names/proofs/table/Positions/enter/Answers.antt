@@ -1,5 +1,6 @@
-use Rattle.std.proofs.Common.{length, refl, ap, arith}
+use Rattle.std.proofs.Common.{ℕ, List, length, drop, refl, ap, ◌∙◌, arith}
 use Rattle.std.proofs.lemmas.List.{length-append}
+use Rattle.wire_names.specs.Table.{name_key}
 use Rattle.wire_names.proofs.CutLemmas.{entered_step}
 use Rattle.wire_names.proofs.table.Positions.enter.Goals as goal
 
@@ -12,5 +13,6 @@ loop-i-preserved c =
     record {
       whole = first.whole;
       within = omega arith;
-      same = entered_step _ _ _ _ c.loop-i.place _ _ c.args.count c.loop-i._i _ _ first.labels c.loop-i-test.true c.enter_one.ensures c.key_of.ensures refl c.loop-i.invariant.same;
+      key_is = c.key_behind-own.ensures ∙ ap (λ (name : List (List ℕ)). name_key (drop 1 name)) first.labels;
+      same = entered_step _ _ _ _ c.loop-i.place _ _ c.args.count c.loop-i._i _ _ first.labels c.loop-i-test.true c.enter_one.ensures c.loop-i.invariant.key_is refl c.loop-i.invariant.same;
     }

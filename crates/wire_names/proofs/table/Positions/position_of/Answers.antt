@@ -9,7 +9,7 @@ use Rattle.wire_names.proofs.table.Positions.position_of.Goals as goal
 
 pub returns-then-has_no_key : goal.returns-then-has_no_key
 returns-then-has_no_key c =
-    position_nowhere _ _ c.key_of-key.result _ c.requires.table c.key_of-key.ensures (on_true _ _ c.if-has_no_key.true c.has_no_key.ensures)
+    position_nowhere _ _ c.args.key _ c.requires.table c.requires.key (on_true _ _ c.if-has_no_key.true c.has_no_key.ensures)
 
 pub loop-i-init : goal.loop-i-init
 loop-i-init c = refl

@@ -1,6 +1,6 @@
 use Rattle.std.proofs.Common.{ℕ, get_or, ap, ◌∙◌}
 use Rattle.wire_names.proofs.TableLemmas.{four_octets}
-use Rattle.wire_names.proofs.table.key_up_to.Goals as goal
+use Rattle.wire_names.proofs.key.key_up_to.Goals as goal
 
 pub returns : goal.returns
 returns c =

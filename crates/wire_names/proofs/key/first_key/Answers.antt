@@ -1,6 +1,6 @@
 use Rattle.std.proofs.Common.{◌∙◌}
 use Rattle.wire_names.proofs.TableLemmas.{key_is}
-use Rattle.wire_names.proofs.table.key_of.Goals as goal
+use Rattle.wire_names.proofs.key.first_key.Goals as goal
 
 pub returns-in-Some : goal.returns-in-Some
 returns-in-Some c = c.in-Some.ensures ∙ key_is c.args.octets.now c.octet_at-len.result c.requires.whole c.octet_at-len.ensures.octet
