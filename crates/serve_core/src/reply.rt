@@ -1,16 +1,18 @@
 //! The reply to a query (RFC 1034, 4.3.2; RFC 1035, 4.1).
 ghost use Rattle.std.specs.Prelude.{◌≡◌, ◌≤◌, false, length, take};
 ghost use Rattle.dns_rdata.specs.Numbers.{class_IN};
-ghost use Rattle.dns_message.specs.Message.{message_of};
+ghost use Rattle.dns_message.specs.Message.{message_of, section_of};
 ghost use Rattle.dns_message.specs.Octets.{fit};
-ghost use Rattle.serve_core.specs.Reply.{asks_transfer, reply_to, answered_in, unanswered, refused};
+ghost use Rattle.lookup_core.specs.First.{IsFirst, alone};
+ghost use Rattle.serve_core.specs.Reply.{asks_transfer, reply_to, answered, answered_in, unanswered, refused};
 ghost use Rattle.serve_core.specs.Transport.{limit_of, room_of};
 
 use crate::heading::reply_opt;
 use crate::transport::Transport;
 use dns_message::{Query, Question, Reply, write_reply, write_reply_by};
-use dns_rdata::{Class, RType, Rcode};
-use lookup_core::answer;
+use dns_rdata::{Class, RType, Rcode, Shown};
+use lookup_core::{First, More, answer_from, first_look};
+use std::slice;
 use wire_names::NameWriter;
 use zone_tree::ZoneRead;
 
@@ -48,7 +50,7 @@ pub(crate) fn asks_transfer(question: &Question) -> bool
     question.rtype == RType::IXFR || question.rtype == RType::AXFR
 }
 
-/// Writes the zone's answer to a query (RFC 1034, 4.3.2).
+/// Writes the zone's answer to a query: one of one section from where its records stand (RFC 1034, 4.3.2).
 fn write_answer<Z: ZoneRead>(
     names: &mut NameWriter,
     zone: &Z,
@@ -61,7 +63,63 @@ fn write_answer<Z: ZoneRead>(
     ensures len { result ≤ limit_of transport query.now.edns }
 {
     let question = &query.question;
-    let found = answer(zone, &question.name, question.rtype);
+    let limit = transport.limit(query.edns);
+    match first_look(zone, &question.name, question.rtype) {
+        First::Data(shown) => {
+            let reply = alone(query, Rcode::NoError, slice::from_ref(&shown), &[]);
+            write_reply_by(names, &reply, limit, out)
+        }
+        First::NoData(shown) => {
+            let reply = alone(query, Rcode::NoError, &[], slice::from_ref(&shown));
+            write_reply_by(names, &reply, limit, out)
+        }
+        First::NoName(shown) => {
+            let reply = alone(query, Rcode::NxDomain, &[], slice::from_ref(&shown));
+            write_reply_by(names, &reply, limit, out)
+        }
+        First::More(more) => write_more(names, zone, query, more, transport, out),
+    }
+}
+
+/// An answer of one section to a query.
+fn alone<'a>(
+    query: &'a Query,
+    rcode: Rcode,
+    answer: &'a [Shown<'a>],
+    authority: &'a [Shown<'a>],
+) -> Reply<'a>
+    ensures { message_of result ≡ answered query.now (alone rcode (section_of answer.now) (section_of authority.now)) }
+{
+    Reply {
+        head: query.head,
+        rcode,
+        aa: true,
+        question: Some(&query.question),
+        answer,
+        authority,
+        additional: &[],
+        opt: reply_opt(query.edns),
+        below_cut: false,
+    }
+}
+
+/// Writes the zone's answer to a query, of which a first look found this: an alias, a referral, or data that may name hosts
+/// (RFC 1034, 4.3.2).
+fn write_more<Z: ZoneRead>(
+    names: &mut NameWriter,
+    zone: &Z,
+    query: &Query,
+    more: More<'_>,
+    transport: Transport,
+    out: &mut [u8],
+) -> usize
+    requires room { room_of transport ≤ length out.old }
+    requires seen { IsFirst (Z.records zone.now) query.now.question.name query.now.question.rtype.0 (First.More more) }
+    ensures octets { take result out.new ≡ fit (answered_in (Z.records zone.now) query.now) (limit_of transport query.now.edns) }
+    ensures len { result ≤ limit_of transport query.now.edns }
+{
+    let question = &query.question;
+    let found = answer_from(zone, &question.name, question.rtype, more);
     let reply = Reply {
         head: query.head,
         rcode: found.rcode,
