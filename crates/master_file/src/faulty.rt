@@ -1,5 +1,5 @@
 //! The fault that is told of a text which is no zone, and the line that shows it.
-ghost use Rattle.std.specs.Prelude.{◌≡◌, ◌≢◌, ◌<◌, ◌≤◌, ◌==◌, ◌&&◌, ◌||◌, not, nat_lt, List, [], length, take, get_or, Some, None, Ok, Err, IfOk, IfSome};
+ghost use Rattle.std.specs.Prelude.{◌≡◌, ◌≢◌, ◌+◌, ◌<◌, ◌≤◌, ◌==◌, ◌&&◌, ◌||◌, not, nat_lt, List, [], length, take, get_or, Some, None, Ok, Err, IfOk, IfSome};
 ghost use Rattle.std.specs.Bool.{OnFalse, OnTrue};
 ghost use Rattle.std.specs.List.{list_any};
 ghost use Rattle.std.specs.Option.{IfNone};
@@ -11,10 +11,11 @@ ghost use Rattle.zone_tree.specs.Zone.{soa_of, is_alone, is_wild};
 ghost use Rattle.master_file.specs.declared.record_entry.RecordEntry.{RecordEntry};
 ghost use Rattle.master_file.specs.FaultyLine.{shows};
 ghost use Rattle.master_file.specs.Records.{records_of};
-ghost use Rattle.master_file.specs.ZoneText.{first_line, is_too_many, outside_line, zone_of_text, zone_records};
+ghost use Rattle.master_file.specs.ZoneText.{first_line, is_too_many, outside_line, zone_of_read, zone_of_text, zone_records};
 
 use crate::fault::FileFault;
 use crate::kept::KeptRecord;
+use crate::likely::likely_place;
 use crate::records::Records;
 use crate::sorted::sets_of;
 use dns_name::Name;
@@ -57,26 +58,18 @@ pub(crate) fn read_all(
     }
 }
 
-/// The first records of a text, so many, or all where it has no more. It reads no further.
-fn read_first(
+/// The first of records, so many.
+pub(crate) fn first_of(
     alloc: Global,
-    text: &[u8],
-    origin: &Name,
+    records: &[KeptRecord],
     count: usize,
 ) -> Result<Vec<KeptRecord>, AllocError>
-    ensures { IfOk result (λ first. first.items ≡ take count (records_of origin.now text.now).rrs) }
+    requires { count ≤ length records.now }
+    ensures { IfOk result (λ first. first.items ≡ take count records.now) }
 {
-    let mut records = Records::new(alloc, text, origin);
     let mut first = Vec::new(alloc);
-    while first.len() < count {
-        match records.next(alloc) {
-            Ok(Some(rr)) => first.push(KeptRecord::new(alloc, rr)?)?,
-            Ok(None) => return Ok(first),
-            Err(fault) => match fault.cause {
-                Cause::NoMemory => return Err(AllocError),
-                _ => return Ok(first),
-            },
-        }
+    for kept in &records[..count] {
+        first.push(kept.copy(alloc)?)?;
     }
     Ok(first)
 }
@@ -121,20 +114,20 @@ fn is_crowded(sets: &[RRset]) -> bool
     has_conflict(sets).unwrap_or(false)
 }
 
-/// Whether one of the first records of a text shows what is sought. It reads the text once more, up to the last of these.
+/// Whether one of the first of records shows what is sought.
 fn is_shown(
     alloc: Global,
-    text: &[u8],
-    origin: &Name,
+    records: &[KeptRecord],
     sought: Sought,
     count: usize,
 ) -> Result<bool, AllocError>
-    requires few { sought ≢ Sought.Limit → first_line is_too_many [] (records_of origin.now text.now).rrs ≡ None }
-    ensures shown { IfOk result (λ shown. OnTrue shown (first_line (shows sought) [] (take count (records_of origin.now text.now).rrs) ≡ None → ⊥)) }
-    ensures none { IfOk result (λ shown. OnFalse shown (first_line (shows sought) [] (take count (records_of origin.now text.now).rrs) ≡ None)) }
+    requires count { count ≤ length records.now }
+    requires few { sought ≢ Sought.Limit → first_line is_too_many [] records.now ≡ None }
+    ensures shown { IfOk result (λ shown. OnTrue shown (first_line (shows sought) [] (take count records.now) ≡ None → ⊥)) }
+    ensures none { IfOk result (λ shown. OnFalse shown (first_line (shows sought) [] (take count records.now) ≡ None)) }
 {
-    let records = read_first(alloc, text, origin, count)?;
-    let Some(sets) = within_limits(alloc, records)? else {
+    let first = first_of(alloc, records, count)?;
+    let Some(sets) = within_limits(alloc, first)? else {
         return Ok(true);
     };
     match sought {
@@ -144,58 +137,60 @@ fn is_shown(
     }
 }
 
-/// The line of a record of a text, by its place. It reads the text once more.
-fn line_of(alloc: Global, text: &[u8], origin: &Name, at: usize) -> Result<u64, AllocError>
-    requires { at < length (records_of origin.now text.now).rrs }
-    ensures { IfOk result (λ line. (rr : RecordEntry) → line ≡ (get_or (records_of origin.now text.now).rrs at rr).line) }
+/// A place between two: the likely one, or the one behind it, or else the middle.
+fn place_between(low: usize, high: usize, likely: usize) -> usize
+    requires { low + 1 < high }
+    ensures low { low < result }
+    ensures high { result < high }
 {
-    let (records, _) = read_all(alloc, text, origin)?;
-    Ok(records[at].line())
+    if low < likely && likely < high {
+        return likely;
+    }
+    if low == likely {
+        return low + 1;
+    }
+    low + (high - low) / 2
 }
 
-/// The line of the first record of a text that shows what is sought, where one does. It is found by halves, and the text is
-/// read once more for each.
-fn first_shown(
-    alloc: Global,
-    text: &[u8],
-    origin: &Name,
-    sought: Sought,
-    count: usize,
-) -> Result<u64, AllocError>
-    requires count { count ≡ length (records_of origin.now text.now).rrs }
-    requires few { sought ≢ Sought.Limit → first_line is_too_many [] (records_of origin.now text.now).rrs ≡ None }
-    requires shown { first_line (shows sought) [] (records_of origin.now text.now).rrs ≡ None → ⊥ }
-    ensures { IfOk result (λ line. first_line (shows sought) [] (records_of origin.now text.now).rrs ≡ Some line) }
+/// The line of a record, by its place.
+fn line_at(records: &[KeptRecord], at: usize) -> u64
+    requires { at < length records.now }
+    ensures { (rr : RecordEntry) → result ≡ (get_or records.now at rr).line }
 {
+    records[at].line()
+}
+
+/// The line of the first of records that shows what is sought, where one does. The likely place is tried first, and where it
+/// isn't that one the others are tried by halves.
+fn first_shown(alloc: Global, records: &[KeptRecord], sought: Sought) -> Result<u64, AllocError>
+    requires few { sought ≢ Sought.Limit → first_line is_too_many [] records.now ≡ None }
+    requires shown { first_line (shows sought) [] records.now ≡ None → ⊥ }
+    ensures { IfOk result (λ line. first_line (shows sought) [] records.now ≡ Some line) }
+{
+    let likely = likely_place(alloc, records, sought)?;
     let mut low = 0;
-    let mut high = count;
+    let mut high = records.len();
     while low + 1 < high {
-        let middle = low + (high - low) / 2;
-        if is_shown(alloc, text, origin, sought, middle)? {
+        let middle = place_between(low, high, likely);
+        if is_shown(alloc, records, sought, middle)? {
             high = middle;
         } else {
             low = middle;
         }
     }
-    line_of(alloc, text, origin, low)
+    Ok(line_at(records, low))
 }
 
-/// The line of the first record of a text that isn't at or below the apex. It reads the text once more.
-fn first_outside(
-    alloc: Global,
-    text: &[u8],
-    origin: &Name,
-    apex: &Name,
-) -> Result<Option<u64>, AllocError>
-    ensures { IfOk result (λ line. line ≡ outside_line apex.now (records_of origin.now text.now).rrs) }
+/// The line of the first of records that isn't at or below the apex.
+fn first_outside(records: &[KeptRecord], apex: &Name) -> Option<u64>
+    ensures { result ≡ outside_line apex.now records.now }
 {
-    let (records, _) = read_all(alloc, text, origin)?;
-    for kept in &records {
+    for kept in records {
         if !kept.is_under(apex) {
-            return Ok(Some(kept.line()));
+            return Some(kept.line());
         }
     }
-    Ok(None)
+    None
 }
 
 /// The fault that is told of a text which is no zone.
@@ -204,50 +199,44 @@ pub(crate) fn fault_of(alloc: Global, text: &[u8], origin: &Name) -> Result<File
     ensures { IfOk result (λ fault. zone_of_text origin.now text.now ≡ Err fault) }
 {
     let (records, fault) = read_all(alloc, text, origin)?;
-    let count = records.len();
-    let Some(sets) = within_limits(alloc, records)? else {
-        let line = first_shown(alloc, text, origin, Sought::Limit, count)?;
+    let all = first_of(alloc, &records, records.len())?;
+    let Some(sets) = within_limits(alloc, all)? else {
+        let line = first_shown(alloc, &records, Sought::Limit)?;
         return Ok(told(line, Cause::Limit));
     };
     match fault {
         Some(fault) => Ok(fault),
-        None => judge(alloc, text, origin, &sets, count),
+        None => judge(alloc, &records, sets),
     }
 }
 
-/// The fault of a text that is told after the whole of it: a second SOA, no SOA, no NS at the apex, an owner outside the
-/// apex and a conflict are tried in this order.
-fn judge(
-    alloc: Global,
-    text: &[u8],
-    origin: &Name,
-    sets: &[RRset],
-    count: usize,
-) -> Result<FileFault, AllocError>
-    requires refused { (zone : List Record) → zone_of_text origin.now text.now ≡ Ok zone → ⊥ }
-    requires whole { (records_of origin.now text.now).fault ≡ None }
-    requires count { count ≡ length (records_of origin.now text.now).rrs }
-    requires few { first_line is_too_many [] (records_of origin.now text.now).rrs ≡ None }
-    requires sets { records_in sets.now ≡ zone_records (records_of origin.now text.now).rrs }
-    requires rising { AreAscending sets.now }
-    requires small { length (records_in sets.now) ≤ max_records }
-    ensures { IfOk result (λ fault. zone_of_text origin.now text.now ≡ Err fault) }
+/// The fault of records that is told after the whole of their text: a second SOA, no SOA, no NS at the apex, an owner
+/// outside the apex and a conflict are tried in this order.
+fn judge(alloc: Global, records: &[KeptRecord], sets: Vec<RRset>) -> Result<FileFault, AllocError>
+    requires refused { (zone : List Record) → zone_of_read (record { rrs = records.now; fault = None }) ≡ Ok zone → ⊥ }
+    requires few { first_line is_too_many [] records.now ≡ None }
+    requires sets { records_in sets.items ≡ zone_records records.now }
+    requires rising { AreAscending sets.items }
+    requires small { length (records_in sets.items) ≤ max_records }
+    ensures { IfOk result (λ fault. zone_of_read (record { rrs = records.now; fault = None }) ≡ Err fault) }
 {
-    if has_second_soa(sets) {
-        let line = first_shown(alloc, text, origin, Sought::SecondSoa, count)?;
+    if has_second_soa(&sets) {
+        drop(sets);
+        let line = first_shown(alloc, records, Sought::SecondSoa)?;
         return Ok(told(line, Cause::Apex));
     }
-    let apex = match find_apex(sets) {
+    let apex = match find_apex(&sets) {
         Ok(apex) => apex,
         Err(_) => return Ok(told(0, Cause::Apex)),
     };
+    drop(sets);
     if !apex.has_name_server {
         return Ok(told(0, Cause::Apex));
     }
-    if let Some(line) = first_outside(alloc, text, origin, &apex.name)? {
+    if let Some(line) = first_outside(records, &apex.name) {
         return Ok(told(line, Cause::Outside));
     }
-    let line = first_shown(alloc, text, origin, Sought::Conflict, count)?;
+    let line = first_shown(alloc, records, Sought::Conflict)?;
     Ok(told(line, Cause::Conflict))
 }
 

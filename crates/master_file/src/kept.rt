@@ -1,18 +1,20 @@
 //! A record of a text as it is kept until the text is read.
 ghost use Rattle.std.specs.Cmp.{partial_equiv_from_equiv, partial_order_from_agreeing_total};
 ghost use Rattle.std.specs.Ordering.{as_partial_cmp, eq_by_cmp};
-ghost use Rattle.std.specs.Prelude.{◌≡◌, ◌<◌, ◌^◌, IfOk, true, refl};
-ghost use Rattle.dns_name.specs.Name.{fold_name, is_under};
+ghost use Rattle.std.specs.Prelude.{◌≡◌, ◌<◌, ◌^◌, IfOk, true, refl, bytes_eq};
+ghost use Rattle.dns_name.specs.Name.{fold_name, is_same, is_under};
 ghost use Rattle.dns_rdata.specs.Record.{owner_of};
 ghost use Rattle.master_file.specs.SetOrder.{is_set_of, set_order, set_order_total, set_order_equiv};
 ghost use Rattle.master_file.specs.ZoneText.{record_in};
+ghost use Rattle.zone_tree.specs.Zone.{is_wild};
 
 use crate::record_entry::RecordEntry;
 use dns_name::{Name, StoredName};
-use dns_rdata::{RData, RRset, Ttl};
+use dns_rdata::{RData, RRset, RType, Ttl};
 use std::alloc::{AllocError, Global};
 use std::cmp::Ordering;
 use std::marker::Model;
+use zone_tree::has_asterisk;
 
 /// A record of a text, ordered by its owner and type (RFC 4034, 6.1).
 #[derive(Drop)]
@@ -55,11 +57,51 @@ impl KeptRecord {
         })
     }
 
+    /// The same record once more. `AllocError` where a growth was refused.
+    pub(crate) fn copy(&self, alloc: Global) -> Result<KeptRecord, AllocError>
+        ensures { IfOk result (λ kept. kept ≡ self.now) }
+    {
+        Ok(KeptRecord {
+            owner: self.owner.copy(alloc)?,
+            line: self.line,
+            ttl: self.ttl,
+            rdata: self.rdata.copy(alloc)?,
+        })
+    }
+
     /// The line on which its entry begins, counted from 1.
     pub(crate) fn line(&self) -> u64
         ensures { result ≡ self.now.line }
     {
         self.line
+    }
+
+    /// Its type.
+    pub(crate) fn rtype(&self) -> RType
+        ensures { result.0 ≡ self.now.rdata.rtype }
+    {
+        self.rdata.rtype()
+    }
+
+    /// Whether the first label of its owner is `*`.
+    pub(crate) fn is_wild(&self) -> bool
+        ensures { result ≡ is_wild self.now.owner }
+    {
+        has_asterisk(&self.owner.to_name())
+    }
+
+    /// Whether another record has its owner.
+    pub(crate) fn is_beside(&self, other: &KeptRecord) -> bool
+        ensures { result ≡ is_same self.now.owner other.now.owner }
+    {
+        self.owner == other.owner
+    }
+
+    /// Whether another record has its data.
+    pub(crate) fn has_data_of(&self, other: &KeptRecord) -> bool
+        ensures { result ≡ bytes_eq self.now.rdata.octets other.now.rdata.octets }
+    {
+        self.rdata.octets() == other.rdata.octets()
     }
 
     /// Whether the owner is a name or has it among its ancestors (RFC 1034, 3.1).

@@ -9,6 +9,7 @@ mod examples;
 mod fault;
 mod faulty;
 mod kept;
+mod likely;
 mod record_entry;
 mod records;
 mod sorted;

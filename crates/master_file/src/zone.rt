@@ -41,7 +41,7 @@ fn zone_in(alloc: Global, text: &[u8], origin: &Name) -> Result<Option<Zone>, Al
 /// A record too many and a fault of an entry are told at the first entry that has one. After the whole text a second SOA,
 /// no SOA or no NS at the apex, an owner outside the apex and a conflict are tried in this order. `NoMemory`, at line 0, where a
 /// growth was refused. Its time is that of sorting the records, and all of the text's are kept until its end; a text that is no
-/// zone is read again for the line that shows its fault, once for each halving of its records.
+/// zone is read once more for the line that shows its fault.
 pub fn read_zone(alloc: Global, text: &[u8], origin: &Name) -> Result<Zone, FileFault>
     ensures zone { IfOk result (λ zone. zone_of_text origin.now text.now ≡ Ok zone) }
     ensures lawful { IfOk result (λ zone. IsZone zone) }
