@@ -20,7 +20,7 @@ chain_found : (zone : List Record) (name : List (List ℕ)) (rtype : ℕ) (found
 chain_found zone name rtype found is other = (ends zone name rtype [] 15 name found (Found found) (begins zone name rtype 16 refl) is other refl).chain
 
 -- records of a type whose data name no hosts
-no_host : (r : Record) → has_hosts r.rtype ≡ false → hosts_in r.rtype r.rdata ≡ []
+pub no_host : (r : Record) → has_hosts r.rtype ≡ false → hosts_in r.rtype r.rdata ≡ []
 no_host r none = rw none refl
 
 no_hosts_by : (at name : List (List ℕ)) (rtype : ℕ) (r : Record) (rs : List Record) (b : Bool) → is_of at rtype r ≡ b → has_hosts rtype ≡ false → hosts_of (owned_by name rs) ≡ []
@@ -45,7 +45,7 @@ soa_hosts [] = refl
 soa_hosts (r ∷ rs) = soa_hosts_by r (soa_of rs) (r.rtype == type_SOA) refl (soa_hosts rs)
 
 -- no address comes along where no host is named
-no_additional : (zone answer authority : List Record) → hosts_of (answer ++ authority) ≡ [] → additional_of zone answer authority ≡ []
+pub no_additional : (zone answer authority : List Record) → hosts_of (answer ++ authority) ≡ [] → additional_of zone answer authority ≡ []
 no_additional zone answer authority none = ap (λ hosts. flat_map (λ set. set) (take most_sets (each_once [] (wanted_sets zone answer hosts)))) none
 
 -- data of such a type

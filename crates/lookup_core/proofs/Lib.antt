@@ -7,5 +7,6 @@ pub mod FoldLemmas
 pub mod DownLemmas
 pub mod LawLemmas
 pub mod FirstLemmas
+pub mod HostLemmas
 pub mod AdditionalLemmas
 pub mod AdditionLemmas

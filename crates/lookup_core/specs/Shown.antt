@@ -18,10 +18,11 @@ use Rattle.lookup_core.specs.declared.aliases.Chain.{Chain}
 use Rattle.lookup_core.specs.declared.aliases.End.{End}
 use Rattle.lookup_core.specs.declared.aliases.End.TheVariants as end
 use Rattle.lookup_core.specs.declared.sections.Answer.{Answer}
+use Rattle.lookup_core.specs.declared.sections.Front.{Front}
 use Rattle.lookup_core.specs.Place.{place_below}
 use Rattle.lookup_core.specs.Look as look
 use Rattle.lookup_core.specs.Chain as chain
-use Rattle.lookup_core.specs.Additional.{each_once, most_sets}
+use Rattle.lookup_core.specs.Additional.{additional_of, each_once, most_sets}
 use Rattle.lookup_core.specs.Sections.{Sections}
 
 -- the records of a section, in the order in which it shows them
@@ -104,6 +105,20 @@ sections_shown said = record {
   additional = section_shown said.additional.items;
   below_cut = said.below_cut;
 }
+
+-- an answer's sections by those in front of the additional one
+abbrev pub front_shown : List Record → Front → Sections
+front_shown zone front =
+    let answer = section_shown front.answer.items in
+    let authority = section_shown front.authority.items in
+    record {
+      rcode = front.rcode;
+      aa = front.aa;
+      answer = answer;
+      authority = authority;
+      additional = additional_of zone answer authority;
+      below_cut = front.below_cut;
+    }
 
 -- one set, as it stands in the zone
 pub record IsStanding (shown : Shown) : Type 0 where

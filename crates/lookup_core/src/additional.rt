@@ -106,7 +106,7 @@ fn is_same_set(set: &RRset, other: &RRset) -> bool
 /// The additional section of an answer: the address sets at the names in its data and then in the authority's, each
 /// once, none that stands in the answer, at most [`MOST_ADDITIONAL`] (RFC 1034, 4.3.2, step 6; RFC 1035, 3.3.9 and
 /// 3.3.11; own).
-pub(crate) fn additional_of<'z, Z: ZoneRead>(
+pub fn additional_of<'z, Z: ZoneRead>(
     zone: &'z Z,
     answer: &[Shown<'z>],
     authority: &[Shown<'z>],
@@ -118,6 +118,28 @@ pub(crate) fn additional_of<'z, Z: ZoneRead>(
     add_section(zone, answer, answer, &mut additional);
     add_section(zone, answer, authority, &mut additional);
     additional.into_section()
+}
+
+/// Whether a section shows records of a type whose data name hosts: where it doesn't, no address comes along for it.
+pub fn may_name_hosts(section: &[Shown<'_>]) -> bool
+    ensures { result ≡ list_any (λ r. has_hosts r.rtype) (section_shown section.now) }
+{
+    for shown in section {
+        if may_show_hosts(shown) {
+            return true;
+        }
+    }
+    false
+}
+
+/// Whether sets of a type whose data name hosts are shown.
+#[tactic(auto, using(crate::proofs::HostLemmas::any_shown))]
+fn may_show_hosts(shown: &Shown<'_>) -> bool
+    ensures { result ≡ list_any (λ r. has_hosts r.rtype) (records_shown shown.now) }
+{
+    has_type(shown.sets, RType::NS)
+        || has_type(shown.sets, RType::MX)
+        || has_type(shown.sets, RType::SRV)
 }
 
 /// Adds the address sets for the names in a section's data.

@@ -19,7 +19,7 @@ mod sections;
 mod sets;
 mod walk;
 
-pub use additional::MOST_ADDITIONAL;
+pub use additional::{MOST_ADDITIONAL, additional_of, may_name_hosts};
 pub use aliases::{MOST_ALIASES, MOST_SHOWN};
 pub use examples::{
     examples_are_zones, examples_of_answers, examples_of_chains, examples_of_wildcards,
@@ -30,5 +30,5 @@ pub use laws::{
 };
 pub use matched::Place;
 pub use places::place;
-pub use question::{answer, answer_from};
-pub use sections::Answer;
+pub use question::{answer, answer_from, front_from};
+pub use sections::{Answer, Front};

@@ -2,13 +2,13 @@
 ghost use Rattle.std.specs.Prelude.{◌≡◌};
 ghost use Rattle.lookup_core.specs.First.{IsSeen};
 ghost use Rattle.lookup_core.specs.Sections.{sections};
-ghost use Rattle.lookup_core.specs.Shown.{sections_shown};
+ghost use Rattle.lookup_core.specs.Shown.{front_shown, sections_shown};
 
 use crate::additional::additional_of;
 use crate::aliases::{Chain, End, follow};
 use crate::first::More;
 use crate::look::look_up;
-use crate::sections::{Answer, authority_of, is_referral, rcode_of};
+use crate::sections::{Answer, Front, authority_of, is_referral, rcode_of};
 use dns_name::Name;
 use dns_rdata::RType;
 use zone_tree::ZoneRead;
@@ -35,6 +35,34 @@ pub fn answer_from<'z, Z: ZoneRead>(
     requires { IsSeen (Z.records zone.now) name.now rtype.0 first.look }
     ensures { sections_shown result ≡ sections (Z.records zone.now) name.now rtype.0 }
 {
+    let Front {
+        rcode,
+        aa,
+        answer,
+        authority,
+        below_cut,
+    } = front_from(zone, name, rtype, first);
+    let additional = additional_of(zone, answer.as_slice(), authority.as_slice());
+    Answer {
+        rcode,
+        aa,
+        answer,
+        authority,
+        additional,
+        below_cut,
+    }
+}
+
+/// The same answer in front of its additional section.
+pub fn front_from<'z, Z: ZoneRead>(
+    zone: &'z Z,
+    name: &'z Name,
+    rtype: RType,
+    first: More<'z>,
+) -> Front<'z>
+    requires { IsSeen (Z.records zone.now) name.now rtype.0 first.look }
+    ensures { front_shown (Z.records zone.now) result ≡ sections (Z.records zone.now) name.now rtype.0 }
+{
     let Chain {
         aliases: mut answer,
         end,
@@ -47,13 +75,11 @@ pub fn answer_from<'z, Z: ZoneRead>(
     if let End::Data(found) = end {
         answer.push(found);
     }
-    let additional = additional_of(zone, answer.as_slice(), authority.as_slice());
-    Answer {
+    Front {
         rcode,
         aa,
         answer,
         authority,
-        additional,
         below_cut,
     }
 }

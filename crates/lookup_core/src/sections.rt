@@ -31,6 +31,21 @@ pub struct Answer<'z> {
     pub below_cut: bool,
 }
 
+/// An answer in front of its additional section, which these sections tell.
+#[derive(Drop)]
+pub struct Front<'z> {
+    /// The reply code (RFC 1035, 4.1.1).
+    pub rcode: Rcode,
+    /// Whether the answer is authoritative (RFC 1035, 4.1.1).
+    pub aa: bool,
+    /// The answer section: the aliases followed, each alone, and then the data found.
+    pub answer: ArrayVec<Shown<'z>, MOST_SHOWN>,
+    /// The authority section: the NS set of a referral, or the SOA of a negative answer.
+    pub authority: ArrayVec<Shown<'z>, 1>,
+    /// Whether the last name looked up is at or below a zone cut.
+    pub below_cut: bool,
+}
+
 /// The reply code is that of the last name looked up (RFC 2308, 2.1; RFC 6604, 3).
 pub(crate) fn rcode_of(end: &End<'_>) -> Rcode
     ensures { result ≡ rcode_of (end_shown end.now) }

@@ -11,7 +11,7 @@ use crate::heading::reply_opt;
 use crate::transport::Transport;
 use dns_message::{Query, Question, Reply, write_reply, write_reply_by};
 use dns_rdata::{Class, RType, Rcode, Shown};
-use lookup_core::{First, More, answer_from, first_look};
+use lookup_core::{First, Front, More, additional_of, first_look, front_from, may_name_hosts};
 use std::slice;
 use wire_names::NameWriter;
 use zone_tree::ZoneRead;
@@ -105,11 +105,11 @@ fn alone<'a>(
 
 /// Writes the zone's answer to a query, of which a first look found this: an alias, a referral, or data that may name hosts
 /// (RFC 1034, 4.3.2).
-fn write_more<Z: ZoneRead>(
+fn write_more<'z, Z: ZoneRead>(
     names: &mut NameWriter,
-    zone: &Z,
-    query: &Query,
-    more: More<'_>,
+    zone: &'z Z,
+    query: &'z Query,
+    more: More<'z>,
     transport: Transport,
     out: &mut [u8],
 ) -> usize
@@ -119,19 +119,34 @@ fn write_more<Z: ZoneRead>(
     ensures len { result ≤ limit_of transport query.now.edns }
 {
     let question = &query.question;
-    let found = answer_from(zone, &question.name, question.rtype, more);
-    let reply = Reply {
+    let Front {
+        rcode,
+        aa,
+        answer,
+        authority,
+        below_cut,
+    } = front_from(zone, &question.name, question.rtype, more);
+    let limit = transport.limit(query.edns);
+    let plain = Reply {
         head: query.head,
-        rcode: found.rcode,
-        aa: found.aa,
+        rcode,
+        aa,
         question: Some(question),
-        answer: found.answer.as_slice(),
-        authority: found.authority.as_slice(),
-        additional: found.additional.as_slice(),
+        answer: answer.as_slice(),
+        authority: authority.as_slice(),
+        additional: &[],
         opt: reply_opt(query.edns),
-        below_cut: found.below_cut,
+        below_cut,
     };
-    write_reply_by(names, &reply, transport.limit(query.edns), out)
+    if may_name_hosts(plain.answer) || may_name_hosts(plain.authority) {
+        let additional = additional_of(zone, plain.answer, plain.authority);
+        let reply = Reply {
+            additional: additional.as_slice(),
+            ..plain
+        };
+        return write_reply_by(names, &reply, limit, out);
+    }
+    write_reply_by(names, &plain, limit, out)
 }
 
 /// Writes a code that refuses a query, with the question.
