@@ -170,3 +170,49 @@ fn room_for_256_positions(rt: HostRuntime) {
     assert_eq!(rt; at, 522);
     assert!(rt; out[510..].starts_with(b"\x01x\x01y\x01z\x00\xc2\x00\x01z\x00"));
 }
+
+/// A name of 121 labels: 119 alike, then one of this octet, and one more that is the same in each.
+fn comb(tooth: u8) -> [u8; 243] {
+    let mut wire = [1; 243];
+    for k in 0..119usize {
+        wire[2 * k + 1] = b'a';
+    }
+    wire[239] = tooth;
+    wire[241] = b'z';
+    wire[242] = 0;
+    wire
+}
+
+/// Whether the octets of a name from one index up to another stand at a position.
+fn stands_at(out: &[u8], at: usize, wire: &[u8], from: usize, to: usize) -> bool {
+    match (out.get(at..), wire.get(from..to)) {
+        (Some(rest), Some(part)) => rest.starts_with(part),
+        _ => false,
+    }
+}
+
+// RFC 1035, 4.1.4: of names that differ in their last label but one the last alone is a pointer, to 240; a suffix that stands there
+// whole is one, to the name that it is of, at 0, 243 and 489. Of the last name 15 labels were entered, which makes 256.
+#[test]
+fn names_that_differ_late(rt: HostRuntime) {
+    let mut out = [0; 1000];
+    let (first, second, third) = (comb(b'b'), comb(b'c'), comb(b'd'));
+    let rows: [Row<'_>; 7] = [
+        (&first, true),
+        (&second, true),
+        (&first, true),
+        (&second[2..], true),
+        (&third, true),
+        (&third[28..], true),
+        (&third[30..], true),
+    ];
+    let at = put_all(NameWriter::new(), &mut out, 0, &rows);
+    assert_eq!(rt; at, 945);
+    assert!(rt; stands_at(&out, 0, &first, 0, 243));
+    assert!(rt; stands_at(&out, 243, &second, 0, 240));
+    assert!(rt; out[483..].starts_with(b"\xc0\xf0\xc0\x00\xc0\xf5"));
+    assert!(rt; stands_at(&out, 489, &third, 0, 240));
+    assert!(rt; out[729..].starts_with(b"\xc0\xf0\xc2\x05"));
+    assert!(rt; stands_at(&out, 733, &third, 30, 240));
+    assert!(rt; out[943..].starts_with(b"\xc0\xf0"));
+}
