@@ -1,5 +1,5 @@
 -- Steps along a chain of aliases.
-use Rattle.std.proofs.Common.{◌≡◌, ℕ, suc, Bool, true, false, ◌||◌, ◌==◌, List, [], ◌∷◌, ◌++◌, length, map, reverse, refl, sym, ap, subst, ◌∙◌, arith, append_assoc, append-nil}
+use Rattle.std.proofs.Common.{◌≡◌, ℕ, suc, Bool, true, false, ◌||◌, not, ◌==◌, List, [], ◌∷◌, ◌++◌, length, map, reverse, refl, sym, ap, subst, ◌∙◌, arith, append_assoc, append-nil}
 use Rattle.std.specs.List.{list_any, flat_map}
 use Rattle.std.proofs.lemmas.List.{reverse-append, map-append}
 use Rattle.std.proofs.lemmas.Grind.{flat_map-append}
@@ -162,3 +162,8 @@ ends zone name rtype aliases more at found end way seen other told = record {
       ∙ ap (λ e. record { aliases = section_shown aliases; end = e }) (sym told);
   some = way.some;
 }
+
+-- where none of two tests holds, a name isn't outside
+pub not_outside : (under searched : Bool) → (not under || searched) ≡ false → under ≡ true
+not_outside true searched e = refl
+not_outside false searched e = cc

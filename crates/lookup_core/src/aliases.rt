@@ -10,7 +10,7 @@ ghost use Rattle.lookup_core.specs.Look.{look, owned_by};
 ghost use Rattle.lookup_core.specs.Chain.{target, is_final, chain};
 ghost use Rattle.lookup_core.specs.Shown.{section_shown, searched_before, chain_shown, look_shown, AreServersOfEnd, HasItsServers};
 
-use crate::look::{Look, look_up};
+use crate::look::{Look, look_below};
 use arrayvec::ArrayVec;
 use dns_name::Name;
 use dns_rdata::{LentName, RRset, RType, Shown};
@@ -68,13 +68,14 @@ pub(crate) fn follow<'z, Z: ZoneRead>(
             Look::Alias(alias) => {
                 let target = target(alias);
                 aliases.push(under(searched, slice::from_ref(alias)));
-                if is_final(zone, aliases.as_slice(), &target) {
+                let name = target.to_name();
+                if is_final(zone, aliases.as_slice(), &name) {
                     return Chain {
                         aliases,
                         end: End::Stop,
                     };
                 }
-                found = look_up(zone, &target.to_name(), rtype);
+                found = look_below(zone, zone.soa(), &name, rtype);
                 searched = target;
                 continue;
             }
@@ -112,11 +113,10 @@ fn target(alias: &RRset) -> LentName<'_>
 }
 
 /// Whether a target isn't searched: it is outside the zone, or already searched (own).
-fn is_final<Z: ZoneRead>(zone: &Z, aliases: &[Shown<'_>], target: &LentName<'_>) -> bool
+fn is_final<Z: ZoneRead>(zone: &Z, aliases: &[Shown<'_>], target: &Name) -> bool
     ensures { result ≡ is_final (Z.records zone.now) (searched_before aliases.now) target.now }
 {
-    let target = target.to_name();
-    !target.is_under(zone.apex()) || is_searched(aliases, &target)
+    !target.is_under(zone.apex()) || is_searched(aliases, target)
 }
 
 /// Whether one of the aliases was found at a name.

@@ -1,6 +1,8 @@
 //! What one look tells of an answer (RFC 1034, 4.3.2; RFC 2308, 2).
-ghost use Rattle.std.specs.Prelude.{◌≡◌, ◌||◌, ◌==◌};
+ghost use Rattle.std.specs.Prelude.{◌≡◌, ◌||◌, ◌==◌, true};
+ghost use Rattle.dns_name.specs.Name.{is_under};
 ghost use Rattle.dns_rdata.specs.Numbers.{type_ANY};
+ghost use Rattle.zone_tree.specs.Zone.{apex_of};
 ghost use Rattle.lookup_core.specs.Additional.{has_hosts};
 ghost use Rattle.lookup_core.specs.First.{IsFirst, IsSeen};
 ghost use Rattle.lookup_core.specs.Sections.{sections};
@@ -8,8 +10,8 @@ ghost use Rattle.lookup_core.specs.Shown.{sections_shown};
 
 use crate::additional::has_hosts;
 use crate::aliases::under;
-use crate::look::{Look, look_up};
-use crate::sections::negative_soa;
+use crate::look::{Look, look_below};
+use crate::sections::negative_of;
 use dns_name::Name;
 use dns_rdata::{LentName, RType, Shown};
 use zone_tree::ZoneRead;
@@ -34,17 +36,19 @@ pub struct More<'z> {
     pub(crate) look: Look<'z>,
 }
 
-/// What is found at the name asked, and whether it is the whole answer. No memory is taken.
+/// What is found at the name asked, which is at or below the apex, and whether it is the whole answer. No memory is taken.
 pub fn first_look<'z, Z: ZoneRead>(zone: &'z Z, name: &'z Name, rtype: RType) -> First<'z>
+    requires under { is_under name.now (apex_of (Z.records zone.now)) ≡ true }
     ensures { IsFirst (Z.records zone.now) name.now rtype.0 result }
 {
-    match look_up(zone, name, rtype) {
+    let soa = zone.soa();
+    match look_below(zone, soa, name, rtype) {
         Look::Data(sets) if !may_have_hosts(rtype) => First::Data(under(
             LentName::spelt(name),
             sets,
         )),
-        Look::NoData => First::NoData(negative_soa(zone)),
-        Look::NoName => First::NoName(negative_soa(zone)),
+        Look::NoData => First::NoData(negative_of(zone, soa)),
+        Look::NoName => First::NoName(negative_of(zone, soa)),
         look => First::More(More { look }),
     }
 }

@@ -1,13 +1,15 @@
 //! What is found at a name of a zone (RFC 1034, 4.3.2, step 3; RFC 4592, 3.3).
-ghost use Rattle.std.specs.Prelude.{◌≡◌, ◌↔◌, ℕ, List, [], IsNone, IfSome};
+ghost use Rattle.std.specs.Prelude.{◌≡◌, ◌↔◌, true, ℕ, List, [], IsNone, IfSome};
 ghost use Rattle.std.specs.List.{flat_map};
+ghost use Rattle.dns_name.specs.Name.{is_under};
 ghost use Rattle.dns_rdata.specs.Record.{Record};
+ghost use Rattle.zone_tree.specs.Zone.{IsZone, apex_of, soa_of};
 ghost use Rattle.lookup_core.specs.Look.{look, found_at, data_at, follows_aliases};
-ghost use Rattle.lookup_core.specs.Shown.{AreAllAt, HasItsServers, look_shown};
+ghost use Rattle.lookup_core.specs.Shown.{AreAllAt, HasItsServers, IsMatched, look_shown};
 
 use crate::matched::Matched;
 use crate::sets::set_of;
-use crate::walk::match_down;
+use crate::walk::{match_below, match_down};
 use dns_name::Name;
 use dns_rdata::{RRset, RType};
 use std::slice;
@@ -34,7 +36,33 @@ pub(crate) fn look_up<'z, Z: ZoneRead>(zone: &'z Z, name: &Name, rtype: RType) -
     ensures look { look_shown name.now result ≡ look (Z.records zone.now) name.now rtype.0 }
     ensures servers { HasItsServers (Z.records zone.now) name.now result }
 {
-    match match_down(zone, name) {
+    let matched = match_down(zone, name);
+    found_where(matched, rtype)
+}
+
+/// The same at a name at or below the apex, at which this SOA stands.
+pub(crate) fn look_below<'z, Z: ZoneRead>(
+    zone: &'z Z,
+    soa: &RRset,
+    name: &Name,
+    rtype: RType,
+) -> Look<'z>
+    requires soa { soa.now ≡ soa_of (Z.records zone.now) }
+    requires lawful { IsZone (Z.records zone.now) }
+    requires under { is_under name.now (apex_of (Z.records zone.now)) ≡ true }
+    ensures look { look_shown name.now result ≡ look (Z.records zone.now) name.now rtype.0 }
+    ensures servers { HasItsServers (Z.records zone.now) name.now result }
+{
+    let matched = match_below(zone, soa, name);
+    found_where(matched, rtype)
+}
+
+/// What is found at a name that stands so.
+fn found_where<'z>(matched: Matched<'z>, rtype: RType) -> Look<'z>
+    ensures look { (zone : List Record) (name : List (List ℕ)) → IsMatched zone name matched.entry → look_shown name result ≡ look zone name rtype.0 }
+    ensures servers { (zone : List Record) (name : List (List ℕ)) → IsMatched zone name matched.entry → HasItsServers zone name result }
+{
+    match matched {
         Matched::Cut(servers) => Look::Cut(servers),
         Matched::Exact(sets) => found_in(sets, rtype),
         Matched::Wild(sets) => found_in(sets, rtype),

@@ -4,6 +4,7 @@ ghost use Rattle.dns_rdata.specs.Numbers.{type_SOA};
 ghost use Rattle.dns_rdata.specs.Data.{minimum_of};
 ghost use Rattle.dns_rdata.specs.Record.{owner_of, rtype_of};
 ghost use Rattle.dns_rdata.specs.Shown.{records_shown};
+ghost use Rattle.zone_tree.specs.Zone.{soa_of};
 ghost use Rattle.lookup_core.specs.Sections.{rcode_of, is_referral, authority_of, negative_soa};
 ghost use Rattle.lookup_core.specs.Shown.{section_shown, end_shown, AreServersOfEnd};
 
@@ -98,7 +99,15 @@ pub(crate) fn standing(set: &RRset) -> Shown<'_>
 pub(crate) fn negative_soa<Z: ZoneRead>(zone: &Z) -> Shown<'_>
     ensures { records_shown result ≡ negative_soa (Z.records zone.now) }
 {
-    let soa = zone.soa();
+    negative_of(zone, zone.soa())
+}
+
+/// The same of the zone's SOA, which has one record (RFC 1034, 4.2.1).
+pub(crate) fn negative_of<'z, Z: ZoneRead>(zone: &'z Z, soa: &'z RRset) -> Shown<'z>
+    requires soa { soa.now ≡ soa_of (Z.records zone.now) }
+    requires one { length soa.now ≡ 1 }
+    ensures { records_shown result ≡ negative_soa (Z.records zone.now) }
+{
     Shown {
         owner: LentName::spelt(zone.apex()),
         ttl: Some(negative_ttl(soa)),

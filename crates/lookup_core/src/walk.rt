@@ -5,9 +5,9 @@
 //! source of synthesis is searched. What is at the apex or above it is known, since the records are a zone.
 ghost use Rattle.std.specs.Prelude.{◌≡◌, ◌≤◌, false, true, ◌∷◌, length, IsNone, IfSome};
 ghost use Rattle.std.specs.Option.{option_copied, option_map};
-ghost use Rattle.dns_name.specs.Name.{asterisk, is_under, wire_of};
+ghost use Rattle.dns_name.specs.Name.{asterisk, fold_name, is_under, wire_of};
 ghost use Rattle.dns_rdata.specs.Numbers.{type_NS};
-ghost use Rattle.zone_tree.specs.Zone.{IsZone, apex_of, exists, rrset_of};
+ghost use Rattle.zone_tree.specs.Zone.{IsZone, apex_of, exists, rrset_of, soa_of};
 ghost use Rattle.lookup_core.specs.Place.{cut_of};
 ghost use Rattle.lookup_core.specs.Shown.{AreAllAt, AreAllAtSource, IsMatched};
 
@@ -22,14 +22,43 @@ use zone_tree::{Near, ZoneRead};
 pub(crate) fn match_down<'z, Z: ZoneRead>(zone: &'z Z, name: &Name) -> Matched<'z>
     ensures { IsMatched (Z.records zone.now) name.now result }
 {
-    prove!(name.wire().len() <= MAX_NAME);
+    let top = Sought::stored(zone.soa().stored_owner());
     let mut room: SoughtRoom = ArrayVec::new();
     let sought = Sought::new(name, &mut room);
-    let near = zone.around(&sought);
+    match_sought(zone, &top, name, &sought)
+}
+
+/// The same of a name at or below the apex, at which this SOA stands: only the labels in front of the apex are put in the form in
+/// which names are sought.
+pub(crate) fn match_below<'z, Z: ZoneRead>(zone: &'z Z, soa: &RRset, name: &Name) -> Matched<'z>
+    requires soa { soa.now ≡ soa_of (Z.records zone.now) }
+    requires lawful { IsZone (Z.records zone.now) }
+    requires under { is_under name.now (apex_of (Z.records zone.now)) ≡ true }
+    ensures { IsMatched (Z.records zone.now) name.now result }
+{
+    let top = Sought::stored(soa.stored_owner());
+    let mut room: SoughtRoom = ArrayVec::new();
+    let sought = Sought::below(&top, zone.apex(), name, &mut room);
+    match_sought(zone, &top, name, &sought)
+}
+
+/// The same of a name that is put in the form in which names are sought.
+fn match_sought<'z, Z: ZoneRead>(
+    zone: &'z Z,
+    top: &Sought<'_>,
+    name: &Name,
+    sought: &Sought<'_>,
+) -> Matched<'z>
+    requires lawful { IsZone (Z.records zone.now) }
+    requires top { top.now ≡ apex_of (Z.records zone.now) }
+    requires sought { sought.now ≡ fold_name name.now }
+    ensures { IsMatched (Z.records zone.now) name.now result }
+{
+    prove!(name.wire().len() <= MAX_NAME);
+    let near = zone.around(sought);
     let there = sought.is_level(&near.closest);
     let own = own_sets(&near, there);
-    let top = Sought::stored(zone.soa().stored_owner());
-    if let Some(servers) = cut_of(zone, &top, &near.closest, own) {
+    if let Some(servers) = cut_of(zone, top, &near.closest, own) {
         return Matched::Cut(servers);
     }
     if there {

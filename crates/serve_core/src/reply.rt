@@ -1,8 +1,10 @@
 //! The reply to a query (RFC 1034, 4.3.2; RFC 1035, 4.1).
-ghost use Rattle.std.specs.Prelude.{◌≡◌, ◌≤◌, false, length, take};
+ghost use Rattle.std.specs.Prelude.{◌≡◌, ◌≤◌, false, true, length, take};
+ghost use Rattle.dns_name.specs.Name.{is_under};
 ghost use Rattle.dns_rdata.specs.Numbers.{class_IN};
 ghost use Rattle.dns_message.specs.Message.{message_of, section_of};
 ghost use Rattle.dns_message.specs.Octets.{fit};
+ghost use Rattle.zone_tree.specs.Zone.{apex_of};
 ghost use Rattle.lookup_core.specs.First.{IsFirst, alone};
 ghost use Rattle.serve_core.specs.Reply.{asks_transfer, reply_to, answered, answered_in, unanswered, refused};
 ghost use Rattle.serve_core.specs.Transport.{limit_of, room_of};
@@ -50,7 +52,7 @@ pub(crate) fn asks_transfer(question: &Question) -> bool
     question.rtype == RType::IXFR || question.rtype == RType::AXFR
 }
 
-/// Writes the zone's answer to a query: one of one section from where its records stand (RFC 1034, 4.3.2).
+/// Writes the zone's answer to a query for a name that it speaks for: one of one section from where its records stand (RFC 1034, 4.3.2).
 fn write_answer<Z: ZoneRead>(
     names: &mut NameWriter,
     zone: &Z,
@@ -58,7 +60,8 @@ fn write_answer<Z: ZoneRead>(
     transport: Transport,
     out: &mut [u8],
 ) -> usize
-    requires { room_of transport ≤ length out.old }
+    requires room { room_of transport ≤ length out.old }
+    requires under { is_under query.now.question.name (apex_of (Z.records zone.now)) ≡ true }
     ensures octets { take result out.new ≡ fit (answered_in (Z.records zone.now) query.now) (limit_of transport query.now.edns) }
     ensures len { result ≤ limit_of transport query.now.edns }
 {

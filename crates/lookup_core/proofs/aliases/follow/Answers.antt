@@ -2,7 +2,7 @@ use Rattle.std.proofs.Common.{◌≡◌, ℕ, List, subst, suc, ◌-◌, ◌++�
 use Rattle.lookup_core.specs.Look.{look, owned_by, Data, NoData, NoName}
 use Rattle.lookup_core.specs.Chain.{Found, Stop}
 use Rattle.lookup_core.specs.Shown.{end_shown, look_shown, HasItsServers, AreServersOfEnd}
-use Rattle.lookup_core.proofs.AliasLemmas.{begins, goes_on, stops, ends, runs_out, shown_alone, target-owned_by, Ends}
+use Rattle.lookup_core.proofs.AliasLemmas.{begins, goes_on, stops, ends, runs_out, shown_alone, target-owned_by, not_outside, Ends}
 use Rattle.lookup_core.proofs.LawLemmas.{rtype_of-alias, some-alias}
 use Rattle.lookup_core.proofs.aliases.follow.Goals as goal
 use Rattle.lookup_core.proofs.aliases.follow.Goals.{in-Cut, in-Data, in-NoData, in-NoName}
@@ -20,6 +20,10 @@ target-target-requires g c =
     let seen = sym c.loop.invariant.seen ∙ ap (look_shown c.loop.searched) c.in-Alias.is in
     rtype_of-alias (g.Z.ZoneRead.records c.args.zone.now) c.loop.searched c.args.rtype.0 c.in-Alias.alias.now seen
 
+-- a target that is searched is at or below the apex
+pub look_below-found-requires-clause-under : goal.look_below-found-requires-clause-under
+look_below-found-requires-clause-under g c = not_outside _ _ (sym c.is_final.ensures ∙ c.if-is_final.false)
+
 -- the alias found is the next one, and its target is searched
 pub loop-preserved : goal.loop-preserved
 loop-preserved g c =
@@ -32,10 +36,10 @@ loop-preserved g c =
           (c.loop.invariant.way (suc more) (omega arith)) seen
           (shown_alone c.loop.searched c.under.result c.from_ref.result.now c.in-Alias.alias.now c.under.ensures.owner c.under.ensures.records c.from_ref.ensures.value (some-alias zone c.loop.searched c.args.rtype.0 (owned_by c.loop.searched c.in-Alias.alias.now) seen))
           (c.target-target.ensures ∙ sym (target-owned_by c.loop.searched c.in-Alias.alias.now))
-          (let h = rw (c.as_slice.ensures.value, c.push.ensures.items) at c.is_final.ensures in sym h ∙ c.if-is_final.false));
+          (let h = rw (c.as_slice.ensures.value, c.push.ensures.items, c.to_name-name.ensures) at c.is_final.ensures in sym h ∙ c.if-is_final.false));
       count = rw c.push.ensures.items (omega (arith, length-append c.loop.aliases.items, c.loop.invariant.count));
-      seen = subst (λ (n : List (List ℕ)). look_shown n c.look_up-found.result ≡ look zone n c.args.rtype.0) c.to_name.ensures c.look_up-found.ensures.look;
-      servers = subst (λ (n : List (List ℕ)). HasItsServers zone n c.look_up-found.result) c.to_name.ensures c.look_up-found.ensures.servers;
+      seen = subst (λ (n : List (List ℕ)). look_shown n c.look_below-found.result ≡ look zone n c.args.rtype.0) c.to_name-name.ensures c.look_below-found.ensures.look;
+      servers = subst (λ (n : List (List ℕ)). HasItsServers zone n c.look_below-found.result) c.to_name-name.ensures c.look_below-found.ensures.servers;
     }
 
 -- the alias found is the last one, since its target isn't searched
@@ -48,7 +52,7 @@ returns-then-is_final g c =
     (c.loop.invariant.way (suc (15 - c.loop.counter)) (omega arith)) seen
     (shown_alone c.loop.searched c.under.result c.from_ref.result.now c.in-Alias.alias.now c.under.ensures.owner c.under.ensures.records c.from_ref.ensures.value (some-alias zone c.loop.searched c.args.rtype.0 (owned_by c.loop.searched c.in-Alias.alias.now) seen))
     (c.target-target.ensures ∙ sym (target-owned_by c.loop.searched c.in-Alias.alias.now))
-    (let h = rw (c.as_slice.ensures.value, c.push.ensures.items) at c.is_final.ensures in sym h ∙ c.if-is_final.true)
+    (let h = rw (c.as_slice.ensures.value, c.push.ensures.items, c.to_name-name.ensures) at c.is_final.ensures in sym h ∙ c.if-is_final.true)
     in
     record {
       chain = rw c.push.ensures.items (sym whole.chain);

@@ -21,10 +21,10 @@ returns-in-Data g c =
 pub returns-in-NoData : goal.returns-in-NoData
 returns-in-NoData g c =
     let zone = g.Z.ZoneRead.records c.args.zone.now in
-    no_data_alone zone c.args.name.now c.args.rtype.0 (sym c.in-NoData.ensures.look) ∙ ap (λ (rs : List Record). alone NoError [] rs) (sym c.negative_soa.ensures)
+    no_data_alone zone c.args.name.now c.args.rtype.0 (sym c.in-NoData.ensures.look) ∙ ap (λ (rs : List Record). alone NoError [] rs) (sym c.negative_of.ensures)
 
 -- there is no such name
 pub returns-in-NoName : goal.returns-in-NoName
 returns-in-NoName g c =
     let zone = g.Z.ZoneRead.records c.args.zone.now in
-    no_name_alone zone c.args.name.now c.args.rtype.0 (sym c.in-NoName.ensures.look) ∙ ap (λ (rs : List Record). alone NxDomain [] rs) (sym c.negative_soa-in-NoName.ensures)
+    no_name_alone zone c.args.name.now c.args.rtype.0 (sym c.in-NoName.ensures.look) ∙ ap (λ (rs : List Record). alone NxDomain [] rs) (sym c.negative_of-in-NoName.ensures)
