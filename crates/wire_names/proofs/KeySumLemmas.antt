@@ -38,6 +38,15 @@ key_less (label ∷ names) key part k p low =
     ap (λ (x : ℕ). (x + (2 ^ 32 - part)) % 2 ^ 32) (k ∙ ap (λ (x : ℕ). (x + name_key names) % 2 ^ 32) (sym p))
     ∙ less part (name_key names) low (key_low names)
 
+-- and with it, it is that of the name
+more : (part rest : ℕ) → (rest + part) % 2 ^ 32 ≡ (part + rest) % 2 ^ 32
+more part rest = omega arith
+
+pub key_more : (names : List (List ℕ)) (key part : ℕ) → key ≡ name_key (drop 1 names) → part ≡ key_part names → (key + part) % 2 ^ 32 ≡ name_key names
+key_more [] key part k p = let none : key_part [] ≡ 0 = omega arith in omega arith
+key_more (label ∷ names) key part k p =
+    ap (λ (x : ℕ). (x + part) % 2 ^ 32) k ∙ ap (λ (x : ℕ). (name_key names + x) % 2 ^ 32) p ∙ more (key_part (label ∷ names)) (name_key names)
+
 -- what whole octets add, by their length and their first octet
 pub part_of_octets : (octets : List ℕ) → IsWhole octets → first_key (labels_in octets) * ((length octets % 256 * 2 + 1) * 2654435761 % 2 ^ 32) % 2 ^ 32 / 256 * 256 + get_or octets 0 0 ≡ key_part (labels_in octets)
 part_of_octets octets whole =

@@ -232,6 +232,11 @@ other_key msg entry key name is e differs = (
       absurd (differs (is.key ∙ ap name_key same ∙ sym e)),
 )
 
+-- the key of a position that spells a name is the name's
+pub key_there : (msg : List ℕ) (entry : Entry) (name : List (List ℕ)) → IsEntry msg entry → Answers msg entry.position name true → entry.key ≡ name_key name
+key_there msg entry name is answers =
+    is.key ∙ ap name_key ((same_spelling-Decides (spelt_at msg entry.position) name).0 (sym (same_spelling-at msg entry.position name true is.target answers)))
+
 -- a name whose key no position has is nowhere
 nowhere : (msg : List ℕ) (entries : List Entry) (key : ℕ) (name : List (List ℕ)) → IsTable msg entries → key ≡ name_key name → All (λ entry. entry.key ≡ key → ⊥) entries → positions_in (table_of msg entries) name ≡ []
 nowhere msg [] key name table e others = refl

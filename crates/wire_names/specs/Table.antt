@@ -1,5 +1,5 @@
 -- The table of a message's names that pointers can name (RFC 1035, 4.1.4).
-use Rattle.std.specs.Prelude.{◌≡◌, ℕ, ◌+◌, ◌-◌, ◌*◌, ◌/◌, ◌%◌, ◌^◌, ◌<◌, Bool, ◌&&◌, List, [], ◌∷◌, ◌++◌, length, map, min, All, AllPairs, slice_index_or, nat_lt, nat_le, if◌then◌else◌, Option, Ok, Err, bytes_eq}
+use Rattle.std.specs.Prelude.{◌≡◌, ℕ, ◌+◌, ◌-◌, ◌*◌, ◌/◌, ◌%◌, ◌^◌, ◌<◌, Bool, ◌&&◌, List, [], ◌∷◌, ◌++◌, length, map, min, All, AllPairs, slice_index_or, nat_lt, nat_le, if◌then◌else◌, Option, Some, Ok, Err, bytes_eq}
 use Rattle.std.specs.List.{filter, reduce}
 use Rattle.std.specs.Cmp.Lexicographic.{pointwise}
 use Rattle.std.specs.Result.{IsOk}
@@ -98,6 +98,12 @@ pub record IsEntry (msg : List ℕ) (entry : Entry) : Type 0 where
 -- positions of a message that make a table, each with its key
 abbrev pub IsTable : List ℕ → List Entry → Type 0
 IsTable msg entries = All (IsEntry msg) entries
+
+-- a name is spelt at the position at an index of a table, and at none in front of it; the key there is the name's
+pub record IsEarliest (msg : List ℕ) (entries : List Entry) (name : Name) (index : ℕ) : Type 0 where
+  pub within : index < length entries
+  pub key : (slice_index_or entries index (record { position = 0; key = 0 })).key ≡ name_key name
+  pub first : position_in (table_of msg entries) name ≡ Some (slice_index_or entries index (record { position = 0; key = 0 })).position
 
 -- each position is above those before it
 abbrev pub Ascend : List Entry → Type 0

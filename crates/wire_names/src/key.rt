@@ -39,6 +39,15 @@ pub(crate) fn key_behind(key: u32, octets: &[u8]) -> u32
     key.wrapping_sub(key_part(octets))
 }
 
+/// The key of the name in these octets, by the key of the name behind its first label.
+pub(crate) fn key_before(key: u32, octets: &[u8]) -> u32
+    requires whole { IsWhole octets.now }
+    requires key { key ≡ name_key (drop 1 (labels_in octets.now)) }
+    ensures { result ≡ name_key (labels_in octets.now) }
+{
+    key.wrapping_add(key_part(octets))
+}
+
 /// What the first label of the name in these octets adds to the name's key: its low octet is the label's length, and the others
 /// are mixed of the label's key and of how many octets the name takes (own).
 fn key_part(octets: &[u8]) -> u32

@@ -3,7 +3,7 @@ ghost use Rattle.std.specs.Prelude.{◌≡◌, ◌≢◌, ℕ, ◌+◌, ◌<◌,
 ghost use Rattle.std.specs.Bool.{OnTrue};
 ghost use Rattle.dns_name.specs.Labels.{labels_in, IsWhole};
 ghost use Rattle.wire_names.specs.Spells.{Spells};
-ghost use Rattle.wire_names.specs.Table.{IsTable, IsEntry, Ascend, name_key, table_of, position_in, enter, entered};
+ghost use Rattle.wire_names.specs.Table.{IsTable, IsEarliest, IsEntry, Ascend, name_key, table_of, position_in, enter, entered};
 ghost use Rattle.wire_names.specs.Written.{starts_of};
 
 use crate::key::key_behind;
@@ -81,6 +81,44 @@ impl Positions {
         None
     }
 
+    /// Whether these very octets stand at the position at an index, and that is the earliest at which their name is spelt: no
+    /// position in front of it has its key.
+    pub(crate) fn stands(&self, msg: &[u8], octets: &[u8], index: usize) -> bool
+        requires table { IsTable msg.now self.now }
+        requires ascending { Ascend self.now }
+        requires whole { IsWhole octets.now }
+        ensures { OnTrue result (IsEarliest msg.now self.now (labels_in octets.now) index) }
+    {
+        if index >= self.keys.len() {
+            return false;
+        }
+        let (position, key) = self.entry(index);
+        if !stands_at(msg, usize::from(position), octets) {
+            return false;
+        }
+        for i in 0..index {
+            let (_, own) = self.entry(i);
+            if own == key {
+                return false;
+            }
+        }
+        true
+    }
+
+    /// Whether there is no position.
+    pub(crate) fn is_empty(&self) -> bool
+        ensures { OnTrue result (self.now ≡ []) }
+    {
+        self.keys.is_empty()
+    }
+
+    /// How many positions there are.
+    pub(crate) fn count(&self) -> usize
+        ensures { result ≡ length self.now }
+    {
+        self.keys.len()
+    }
+
     /// Whether there are many positions, and none has this key.
     fn has_no_key(&self, key: u32) -> bool
         ensures { OnTrue result (All (λ entry. entry.key ≢ key) self.now) }
@@ -92,19 +130,19 @@ impl Positions {
     }
 
     /// The position at an index, and its key.
-    fn entry(&self, i: usize) -> (u16, u32)
+    pub(crate) fn entry(&self, i: usize) -> (u16, u32)
         requires { i < length self.now }
         ensures { record { position = result.0; key = result.1 } ≡ get_or self.now i (record { position = 0; key = 0 }) }
     {
         (self.positions[i], self.keys[i])
     }
 
-    /// Enters the positions of so many labels of a name of this key whose octets stand at a position, with the keys of the names
-    /// that begin there: as long as there is room, and none that a pointer can't name (RFC 1035, 4.1.4).
+    /// Enters the positions of so many labels of a name whose octets stand at a position, with the keys of the names that begin
+    /// there, the first of which is this one: as long as there is room, and none that a pointer can't name (RFC 1035, 4.1.4).
     pub(crate) fn enter(&mut self, at: usize, octets: &[u8], key: u32, count: usize)
         requires whole { IsWhole octets.now }
         requires within { at + length octets.now < 2 ^ 64 }
-        requires key { key ≡ name_key (labels_in octets.now) }
+        requires key { 0 < count → key ≡ name_key (labels_in octets.now) }
         ensures { self.new ≡ entered (λ entry. entry.position) self.old (take count (starts_of at (labels_in octets.now))) }
     {
         let mut rest = octets;
@@ -150,12 +188,12 @@ fn is_spelt(msg: &[u8], position: u16, own: u32, key: u32, octets: &[u8]) -> boo
     spells(msg, at, octets)
 }
 
-/// Whether these very octets stand at a position.
+/// Whether these very octets stand at a position. The first is compared in front of the others: most names differ there.
 fn stands_at(msg: &[u8], at: usize, octets: &[u8]) -> bool
     ensures { OnTrue result (drop at msg.now ≡ octets.now ++ drop (length octets.now) (drop at msg.now)) }
 {
     match msg.get(at..) {
-        Some(rest) => rest.starts_with(octets),
+        Some(rest) => rest.first() == octets.first() && rest.starts_with(octets),
         None => false,
     }
 }

@@ -3,10 +3,10 @@ ghost use Rattle.std.specs.Prelude.{◌≡◌, true, ◌<◌, ◌≤◌, ◌++�
 ghost use Rattle.dns_name.specs.Labels.{labels_in, IsWhole};
 ghost use Rattle.dns_name.specs.Name.{IsName};
 ghost use Rattle.wire_names.specs.Cut.{cut_octets, IsCut};
-ghost use Rattle.wire_names.specs.Table.{IsTable, table_of, name_key};
+ghost use Rattle.wire_names.specs.Table.{IsTable, IsEarliest, table_of, name_key};
 ghost use Rattle.wire_names.specs.Written.{pointer_to, written, table_after, WritesOctets};
 
-use crate::key::{key_behind, key_of};
+use crate::key::{key_before, key_behind, key_of};
 use crate::part::POINTER;
 use crate::table::Positions;
 use dns_name::{Name, first_label};
@@ -18,6 +18,18 @@ use std::marker::Model;
 #[derive(Drop)]
 pub struct NameWriter {
     positions: Positions,
+    likely: Likely,
+}
+
+/// The index of the name written first: most often that of the question.
+const FIRST: usize = 0;
+
+/// Where the next name, or the name behind its first label, is likely to be in the table: the indexes of the name written last, and of
+/// the one behind that name's first label. They are looked at first, and promise nothing.
+#[derive(Clone, Copy)]
+struct Likely {
+    last: usize,
+    parent: usize,
 }
 
 impl Model for NameWriter {
@@ -33,12 +45,15 @@ impl Model for NameWriter {
 }
 
 /// How a name is written behind a message: so many labels from the front of its octets, which end behind so many of them, and
-/// then a pointer, where there is one.
+/// then a pointer, where there is one. The key is the name's where labels are written; the index is likely that of what the pointer
+/// names.
 #[derive(Clone, Copy)]
 struct Cut {
     labels: usize,
     len: usize,
     target: Option<u16>,
+    key: u32,
+    index: usize,
 }
 
 impl NameWriter {
@@ -48,6 +63,10 @@ impl NameWriter {
     {
         NameWriter {
             positions: Positions::new(),
+            likely: Likely {
+                last: FIRST,
+                parent: FIRST,
+            },
         }
     }
 
@@ -95,33 +114,115 @@ impl NameWriter {
         ensures entered { IfSome result (λ next. table_of (take next out.new) self.new ≡ table_after compress (table_of (take at out.old) self.old) at (labels_in octets.now)) }
         ensures unchanged { IsNone result → self.new ≡ self.old }
     {
-        let key = key_of(octets);
-        let cut = self.cut(&out[..at], octets, key, compress);
+        let cut = self.cut(&out[..at], octets, compress);
         let next = put_cut(out, at, octets, cut)?;
-        self.positions.enter(at, octets, key, cut.labels);
+        self.likely = self.likely.after(self.positions.count(), cut);
+        self.positions.enter(at, octets, cut.key, cut.labels);
         Some(next)
     }
 
-    /// How the name in these octets, of this key, is written behind the message.
-    fn cut(&self, msg: &[u8], octets: &[u8], key: u32, compress: bool) -> Cut
+    /// How the name in these octets is written behind the message.
+    fn cut(&self, msg: &[u8], octets: &[u8], compress: bool) -> Cut
         requires table { IsTable msg.now self.now }
         requires whole { IsWhole octets.now }
-        requires key { key ≡ name_key (labels_in octets.now) }
         ensures { IsCut compress (table_of msg.now self.now) octets.now result }
     {
         if compress {
-            self.compressed(msg, octets, key)
+            self.compressed(msg, octets)
         } else {
             Cut {
                 labels: 0,
                 len: octets.len(),
                 target: None,
+                key: 0,
+                index: self.likely.last,
             }
         }
     }
 
-    /// How the name in these octets, of this key, is written behind the message with compression.
-    fn compressed(&self, msg: &[u8], octets: &[u8], key: u32) -> Cut
+    /// How the name in these octets is written behind the message with compression: in full where the table is empty. It, and the
+    /// name behind its first label, are looked for first where they are likely to be.
+    fn compressed(&self, msg: &[u8], octets: &[u8]) -> Cut
+        requires table { IsTable msg.now self.now }
+        requires whole { IsWhole octets.now }
+        ensures { IsCut true (table_of msg.now self.now) octets.now result }
+    {
+        if self.positions.is_empty() {
+            return Cut {
+                labels: octets.len(),
+                len: octets.len(),
+                target: None,
+                key: key_of(octets),
+                index: FIRST,
+            };
+        }
+        if let Some(cut) = self.likely_cut(msg, octets) {
+            return cut;
+        }
+        self.sought(msg, octets, key_of(octets))
+    }
+
+    /// How the name in these octets is written behind the message with compression, where it or the name behind its first label is
+    /// where it is likely to be.
+    fn likely_cut(&self, msg: &[u8], octets: &[u8]) -> Option<Cut>
+        requires table { IsTable msg.now self.now }
+        requires whole { IsWhole octets.now }
+        ensures { IfSome result (λ cut. IsCut true (table_of msg.now self.now) octets.now cut) }
+    {
+        let (label, behind) = first_label(octets)?;
+        if let Some(index) = self.likely_index(msg, octets) {
+            let (target, key) = self.positions.entry(index);
+            return Some(Cut {
+                labels: 0,
+                len: 0,
+                target: Some(target),
+                key,
+                index,
+            });
+        }
+        let (_, _) = first_label(behind)?;
+        let index = self.likely_index(msg, behind)?;
+        let (parent, own) = self.positions.entry(index);
+        let key = key_before(own, octets);
+        if let Some(target) = self.positions.position_of(msg, octets, key) {
+            return Some(Cut {
+                labels: 0,
+                len: 0,
+                target: Some(target),
+                key,
+                index: self.likely.last,
+            });
+        }
+        Some(Cut {
+            labels: 1,
+            len: 1 + label.len(),
+            target: Some(parent),
+            key,
+            index,
+        })
+    }
+
+    /// The likely index of the name in these octets, where it is there: that of the name written first is one, too.
+    fn likely_index(&self, msg: &[u8], octets: &[u8]) -> Option<usize>
+        requires table { IsTable msg.now self.now }
+        requires whole { IsWhole octets.now }
+        ensures { IfSome result (λ index. IsEarliest msg.now self.now (labels_in octets.now) index) }
+    {
+        let Likely { last, parent } = self.likely;
+        if self.positions.stands(msg, octets, last) {
+            return Some(last);
+        }
+        if self.positions.stands(msg, octets, parent) {
+            return Some(parent);
+        }
+        if last != FIRST && self.positions.stands(msg, octets, FIRST) {
+            return Some(FIRST);
+        }
+        None
+    }
+
+    /// How the name in these octets, of this key, is written behind the message with compression: each of its labels is sought.
+    fn sought(&self, msg: &[u8], octets: &[u8], key: u32) -> Cut
         requires table { IsTable msg.now self.now }
         requires whole { IsWhole octets.now }
         requires key { key ≡ name_key (labels_in octets.now) }
@@ -132,6 +233,8 @@ impl NameWriter {
                 labels: 0,
                 len: 1,
                 target: None,
+                key,
+                index: self.likely.parent,
             };
         };
         if let Some(target) = self.positions.position_of(msg, octets, key) {
@@ -139,13 +242,37 @@ impl NameWriter {
                 labels: 0,
                 len: 0,
                 target: Some(target),
+                key,
+                index: self.likely.parent,
             };
         }
-        let rest = self.compressed(msg, behind, key_behind(key, octets));
+        let rest = self.sought(msg, behind, key_behind(key, octets));
         Cut {
             labels: rest.labels + 1,
             len: rest.len + 1 + label.len(),
             target: rest.target,
+            key,
+            index: rest.index,
+        }
+    }
+}
+
+impl Likely {
+    /// What is likely behind a name that is cut so where the table had so many positions.
+    fn after(self, count: usize, cut: Cut) -> Likely {
+        match cut.labels {
+            0 => Likely {
+                last: cut.index,
+                parent: self.parent,
+            },
+            1 => Likely {
+                last: count,
+                parent: cut.index,
+            },
+            _ => Likely {
+                last: count,
+                parent: count.saturating_add(1),
+            },
         }
     }
 }

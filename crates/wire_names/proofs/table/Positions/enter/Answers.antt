@@ -13,6 +13,6 @@ loop-i-preserved c =
     record {
       whole = first.whole;
       within = omega arith;
-      key_is = c.key_behind-own.ensures ∙ ap (λ (name : List (List ℕ)). name_key (drop 1 name)) first.labels;
-      same = entered_step _ _ _ _ c.loop-i.place _ _ c.args.count c.loop-i._i _ _ first.labels c.loop-i-test.true c.enter_one.ensures c.loop-i.invariant.key_is refl c.loop-i.invariant.same;
+      key_is = λ more. c.key_behind-own.ensures ∙ ap (λ (name : List (List ℕ)). name_key (drop 1 name)) first.labels;
+      same = entered_step _ _ _ _ c.loop-i.place _ _ c.args.count c.loop-i._i _ _ first.labels c.loop-i-test.true c.enter_one.ensures (c.loop-i.invariant.key_is c.loop-i-test.true) refl c.loop-i.invariant.same;
     }

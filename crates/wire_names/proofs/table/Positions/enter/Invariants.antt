@@ -9,6 +9,6 @@ abbrev pub invariant-loop-i : goal.invariant-loop-i
 invariant-loop-i l = record {
   whole : IsWhole l.rest;
   within : l.place + length l.rest < 2 ^ 64;
-  key_is : l.own ≡ name_key (labels_in l.rest);
+  key_is : l._i < l.count → l.own ≡ name_key (labels_in l.rest);
   same : entered (λ e. e.position) l.self (take (l.count - l._i) (starts_of l.place (labels_in l.rest))) ≡ entered (λ e. e.position) l.initial.self (take l.count (starts_of l.at (labels_in l.octets)));
 }
