@@ -14,6 +14,8 @@ mod memory;
 #[cfg(test)]
 mod on_sockets;
 #[cfg(test)]
+mod pauses;
+#[cfg(test)]
 mod pieces;
 #[cfg(test)]
 mod rights;

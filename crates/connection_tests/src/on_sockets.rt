@@ -183,6 +183,31 @@ fn clients_that_come_one_by_one_are_answered(rt: HostRuntime) -> Result<(), Fail
 }
 
 #[test]
+fn what_is_behind_a_read_that_filled_its_room_is_read(rt: HostRuntime) -> Result<(), Fail> {
+    let (watch, place, address) = watched(&rt, rt.alloc())?;
+    let mut running = started(rt.alloc(), watch, place)?;
+    let mut client = TcpStream::connect(&rt, address)?;
+    // The connection is taken, and told to be ready for writing, so that nothing but the request is told later.
+    for _turn in 0..3u32 {
+        running.turn(&rt)?;
+    }
+    // 4,096 octets fill the worker's room; the others have come too, and aren't told again.
+    let mut request = vec![in rt.alloc(); b'a'; 6_002]?;
+    request[0] = 0x17;
+    request[1] = 0x70;
+    client.write_all(&request)?;
+    client.set_nonblocking(true)?;
+    let mut buf = [0; 4_096];
+    let mut count = 0usize;
+    for _turn in 0..4u32 {
+        running.turn(&rt)?;
+        count = count.saturating_add(read_some(&mut client, &mut buf)?.0);
+    }
+    assert_eq!(rt; count, LARGE + 2);
+    Ok(())
+}
+
+#[test]
 fn what_a_client_did_not_take_goes_on_when_it_does(rt: HostRuntime) -> Result<(), Fail> {
     let (watch, place, address) = watched(&rt, rt.alloc())?;
     let mut running = started(rt.alloc(), Hasty { watch }, place)?;

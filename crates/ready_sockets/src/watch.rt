@@ -7,13 +7,21 @@ use crate::place::TcpPlace;
 use mio::event::Event;
 use mio::{Events, Interest, Poll, Token};
 use std::alloc::Global;
-use std::io;
 use std::net::Net;
 use std::time::{Clock, Duration};
+use std::{io, thread};
 use turns::{NotWatched, Readiness};
 
 /// How many events are told at once, at most (own).
 const EVENTS: usize = 1024;
+
+/// Of how many sockets a wait has told at least, and of how many fewer, where the next one begins with a pause (own).
+const SEVERAL: usize = 4;
+
+const MANY: usize = 16;
+
+/// How long that pause is, in nanoseconds (own).
+const PAUSE: u64 = 50_000;
 
 /// What waits until a socket may be ready, and the clock that tells the time.
 #[derive(Drop)]
@@ -25,6 +33,8 @@ pub struct Watch<'a, C> {
     alloc: Global,
     /// By key, what is known of the connection that was watched last under it.
     news: Vec<Option<News>>,
+    /// Of how many sockets the last wait has told.
+    told: usize,
 }
 
 impl<'a, C: Clock> Watch<'a, C> {
@@ -37,6 +47,7 @@ impl<'a, C: Clock> Watch<'a, C> {
             now: 0,
             alloc,
             news: Vec::new(alloc),
+            told: 0,
         })
     }
 
@@ -62,6 +73,14 @@ impl<'a, C: Clock> Watch<'a, C> {
     fn tell(&self, event: &Event) {
         if let Some(Some(news)) = self.news.get(event.token().0) {
             news.tell(event.is_read_closed() || event.is_error());
+        }
+    }
+
+    /// Lets more come where the last wait has told of several sockets, but not many. Then clients ask faster than turns begin, and what comes meanwhile is
+    /// read, answered and written together. Where something could be done at once, it isn't put off.
+    fn pause(&self, most: u64) {
+        if most > 0 && self.told >= SEVERAL && self.told < MANY {
+            thread::sleep(self.clock, Duration::from_nanos(PAUSE));
         }
     }
 
@@ -98,6 +117,8 @@ impl<C: Clock> Readiness<TcpPeer> for Watch<'_, C> {
     }
 
     fn wait(&mut self, most: u64, keys: &mut Vec<usize>) -> Result<u64, NotWatched> {
+        self.pause(most);
+        self.told = 0;
         if self
             .poll
             .poll(&mut self.events, Some(Duration::from_nanos(most)))
@@ -107,6 +128,7 @@ impl<C: Clock> Readiness<TcpPeer> for Watch<'_, C> {
         }
         for event in self.events.iter() {
             self.tell(event);
+            self.told = self.told.saturating_add(1);
             if keys.push(event.token().0).is_err() {
                 return Err(NotWatched);
             }

@@ -1,0 +1,121 @@
+//! When a wait for sockets begins with a pause, by a clock that counts them.
+use mio::net::TcpListener;
+use ready_sockets::{TcpPeer, TcpPlace, Watch};
+use std::alloc::Global;
+use std::cell::Cell;
+use std::io::{self, ErrorKind, Write};
+use std::net::{Net, SocketAddr, TcpListener as StdListener, TcpStream};
+use std::test::Fail;
+use std::time::{Clock, Duration};
+use turns::{Arrivals, Readiness};
+
+/// A millisecond, in nanoseconds.
+const MILLISECOND: u64 = 1_000_000;
+
+/// A clock by which nobody sleeps, but each call to do so is counted.
+#[derive(Drop)]
+struct Counting<'a, C> {
+    clock: &'a C,
+    pauses: Cell<u64>,
+}
+
+impl<C: Clock> Clock for Counting<'_, C> {
+    fn monotonic(&self) -> io::Result<Duration> {
+        self.clock.monotonic()
+    }
+
+    fn since_1970(&self) -> io::Result<Duration> {
+        self.clock.since_1970()
+    }
+
+    fn sleep(&self, _duration: Duration) {
+        self.pauses.set(self.pauses.get().saturating_add(1));
+    }
+}
+
+/// Clients, the connections that have come from them, and what waits for these.
+#[derive(Drop)]
+struct Connected<'a, C> {
+    watch: Watch<'a, C>,
+    clients: Vec<TcpStream>,
+    peers: Vec<TcpPeer>,
+    keys: Vec<usize>,
+}
+
+impl<'a, C: Clock> Connected<'a, C> {
+    /// So many clients, each of whose connections has been told to be ready for writing.
+    fn new<R: Net<Listener = StdListener, Stream = TcpStream>>(
+        net: &R,
+        alloc: Global,
+        clock: &'a C,
+        most: usize,
+    ) -> io::Result<Connected<'a, C>> {
+        let listener = TcpListener::bind(net, SocketAddr::from(([127, 0, 0, 1], 0)))?;
+        let address = listener.local_addr()?;
+        let mut place = TcpPlace::new(listener);
+        let mut connected = Connected {
+            watch: Watch::new(net, alloc, clock)?,
+            clients: Vec::new(alloc),
+            peers: Vec::new(alloc),
+            keys: Vec::new(alloc),
+        };
+        for key in 0..most {
+            connected.clients.push(TcpStream::connect(net, address)?)?;
+            let Ok(mut peer) = place.take() else {
+                return Err(io::Error::from(ErrorKind::Other));
+            };
+            if Readiness::watch(&mut connected.watch, &mut peer, key).is_err() {
+                return Err(io::Error::from(ErrorKind::Other));
+            }
+            connected.peers.push(peer)?;
+        }
+        connected.wait(0)?;
+        connected.wait(0)?;
+        Ok(connected)
+    }
+
+    /// Has so many clients send an octet each.
+    fn send(&mut self, count: usize) -> io::Result<()> {
+        for client in self.clients.iter_mut().take(count) {
+            client.write_all(b"a")?;
+        }
+        Ok(())
+    }
+
+    /// Of how many sockets a wait of at most so many nanoseconds tells.
+    fn wait(&mut self, most: u64) -> io::Result<usize> {
+        self.keys.clear();
+        if self.watch.wait(most, &mut self.keys).is_err() {
+            return Err(io::Error::from(ErrorKind::Other));
+        }
+        Ok(self.keys.len())
+    }
+}
+
+#[test]
+fn a_wait_behind_one_that_told_of_several_begins_with_a_pause(rt: HostRuntime) -> Result<(), Fail> {
+    let clock = Counting {
+        clock: &rt,
+        pauses: Cell::new(0),
+    };
+    let mut connected = Connected::new(&rt, rt.alloc(), &clock, 20)?;
+    // How many clients send, how long the next wait may be, and how many pauses there have been behind it.
+    let rows = [
+        (3, MILLISECOND, 0),
+        (4, MILLISECOND, 1),
+        (4, 0, 1),
+        (15, MILLISECOND, 2),
+        (16, MILLISECOND, 2),
+        (20, MILLISECOND, 2),
+    ];
+    for (count, most, pauses) in rows {
+        connected.send(count)?;
+        assert_eq!(rt; connected.wait(1_000 * MILLISECOND)?, count);
+        assert_eq!(rt; connected.wait(most)?, 0);
+        assert_eq!(rt; clock.pauses.get(), pauses, "behind {count} of them");
+        // A wait that told of nothing has no pause behind it.
+        assert_eq!(rt; connected.wait(MILLISECOND)?, 0);
+        assert_eq!(rt; clock.pauses.get(), pauses, "later than {count} of them");
+    }
+    Ok(())
+}
