@@ -16,7 +16,7 @@ for crate in dns_name wire_names dns_rdata dns_message shared_tree zone_tree loo
     [ ! -d "crates/$crate/out/rlib" ] || cp -r "crates/$crate/out/rlib" "$work/crates/$crate/out/"
     grep "^$crate:" crates.txt
 done > "$work/crates.txt"
-echo "query_bench: dns_name dns_message zone_tree serve_core master_file hex" >> "$work/crates.txt"
+echo "query_bench: dns_name wire_names dns_message zone_tree serve_core master_file hex" >> "$work/crates.txt"
 bench=$work/crates/query_bench
 mkdir -p "$bench/src"
 cat > "$bench/src/main.rt" <<'RT'
@@ -27,12 +27,13 @@ ghost use Rattle.std.specs.Prelude.{◌≤◌, length};
 use dns_message::{Query, Said, is_update, parse_into};
 use dns_name::Name;
 use master_file::read_zone;
-use serve_core::{Peer, Transport, is_permitted, respond_to_peer};
+use serve_core::{Peer, Transport, is_permitted, respond_by};
 use std::alloc::Global;
 use std::env;
 use std::fs;
 use std::io;
 use std::rt::{Env, Files};
+use wire_names::NameWriter;
 use zone_tree::Version;
 
 /// The first version of the zone of a text.
@@ -54,7 +55,13 @@ fn requests_of(alloc: Global, text: &[u8]) -> Option<Vec<Vec<u8>>> {
 }
 
 /// How many octets the reply to a request has.
-fn answer_one(version: &Version, query: &mut Query, request: &[u8], out: &mut [u8]) -> usize
+fn answer_one(
+    version: &Version,
+    query: &mut Query,
+    names: &mut NameWriter,
+    request: &[u8],
+    out: &mut [u8],
+) -> usize
     requires { 1232 ≤ length out.old }
 {
     if is_update(request) {
@@ -68,16 +75,17 @@ fn answer_one(version: &Version, query: &mut Query, request: &[u8], out: &mut [u
     if is_permitted(version, query, peer) {
         return 0;
     }
-    respond_to_peer(version.zone(), query, peer, out)
+    respond_by(names, version.zone(), query, peer, out)
 }
 
 /// How many octets the replies to requests have.
 fn answer_all(version: &Version, requests: &[Vec<u8>]) -> u64 {
     let mut query = Query::blank();
+    let mut names = NameWriter::new();
     let mut out = [0; 1232];
     let mut sum = 0u64;
     for request in requests {
-        let len = answer_one(version, &mut query, request.as_slice(), &mut out);
+        let len = answer_one(version, &mut query, &mut names, request.as_slice(), &mut out);
         sum = sum.wrapping_add(len as u64);
     }
     sum
