@@ -5,13 +5,15 @@ ghost use Rattle.dns_rdata.specs.Numbers.{class_IN};
 ghost use Rattle.dns_message.specs.Message.{message_of, section_of};
 ghost use Rattle.dns_message.specs.Octets.{fit};
 ghost use Rattle.zone_tree.specs.Zone.{apex_of};
+ghost use Rattle.lookup_core.specs.Additional.{additional_of};
 ghost use Rattle.lookup_core.specs.First.{IsFirst, alone};
+ghost use Rattle.lookup_core.specs.Shown.{section_shown};
 ghost use Rattle.serve_core.specs.Reply.{asks_transfer, reply_to, answered, answered_in, unanswered, refused};
 ghost use Rattle.serve_core.specs.Transport.{limit_of, room_of};
 
 use crate::heading::reply_opt;
 use crate::transport::Transport;
-use dns_message::{Query, Question, Reply, write_reply, write_reply_by};
+use dns_message::{MIN_LIMIT, Query, Question, Reply, write_reply, write_reply_by};
 use dns_rdata::{Class, RType, Rcode, Shown};
 use lookup_core::{First, Front, More, additional_of, first_look, front_from, may_name_hosts};
 use std::slice;
@@ -142,14 +144,33 @@ fn write_more<'z, Z: ZoneRead>(
         below_cut,
     };
     if may_name_hosts(plain.answer) || may_name_hosts(plain.authority) {
-        let additional = additional_of(zone, plain.answer, plain.authority);
-        let reply = Reply {
-            additional: additional.as_slice(),
-            ..plain
-        };
-        return write_reply_by(names, &reply, limit, out);
+        return write_with_hosts(names, zone, &plain, limit, out);
     }
     write_reply_by(names, &plain, limit, out)
+}
+
+/// Writes a reply with the addresses of the hosts that its sections name (RFC 1034, 4.3.2, step 6). It is a function of its own, since
+/// the room for these sets is made anew at each call.
+fn write_with_hosts<'a, Z: ZoneRead>(
+    names: &mut NameWriter,
+    zone: &'a Z,
+    plain: &Reply<'a>,
+    limit: usize,
+    out: &mut [u8],
+) -> usize
+    requires least { MIN_LIMIT ≤ limit }
+    requires room { limit ≤ length out.old }
+    ensures octets { take result out.new ≡ fit (record (message_of plain.now) {
+      additional = additional_of (Z.records zone.now) (section_shown plain.now.answer.now) (section_shown plain.now.authority.now);
+    }) limit }
+    ensures len { result ≤ limit }
+{
+    let additional = additional_of(zone, plain.answer, plain.authority);
+    let reply = Reply {
+        additional: additional.as_slice(),
+        ..*plain
+    };
+    write_reply_by(names, &reply, limit, out)
 }
 
 /// Writes a code that refuses a query, with the question.
