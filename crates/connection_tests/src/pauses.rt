@@ -101,9 +101,9 @@ fn a_wait_behind_one_that_told_of_several_begins_with_a_pause(rt: HostRuntime) -
     let mut connected = Connected::new(&rt, rt.alloc(), &clock, 20)?;
     // How many clients send, how long the next wait may be, and how many pauses there have been behind it.
     let rows = [
-        (3, MILLISECOND, 0),
-        (4, MILLISECOND, 1),
-        (4, 0, 1),
+        (1, MILLISECOND, 0),
+        (2, MILLISECOND, 1),
+        (2, 0, 1),
         (15, MILLISECOND, 2),
         (16, MILLISECOND, 2),
         (20, MILLISECOND, 2),

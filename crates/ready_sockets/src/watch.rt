@@ -16,7 +16,7 @@ use turns::{NotWatched, Readiness};
 const EVENTS: usize = 1024;
 
 /// Of how many sockets a wait has told at least, and of how many fewer, where the next one begins with a pause (own).
-const SEVERAL: usize = 4;
+const SEVERAL: usize = 2;
 
 const MANY: usize = 16;
 
