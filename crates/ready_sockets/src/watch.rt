@@ -119,6 +119,7 @@ impl<C: Clock> Readiness<TcpPeer> for Watch<'_, C> {
     fn wait(&mut self, most: u64, keys: &mut Vec<usize>) -> Result<u64, NotWatched> {
         self.pause(most);
         self.told = 0;
+        let before = keys.len();
         if self
             .poll
             .poll(&mut self.events, Some(Duration::from_nanos(most)))
@@ -128,11 +129,11 @@ impl<C: Clock> Readiness<TcpPeer> for Watch<'_, C> {
         }
         for event in self.events.iter() {
             self.tell(event);
-            self.told = self.told.saturating_add(1);
             if keys.push(event.token().0).is_err() {
                 return Err(NotWatched);
             }
         }
+        self.told = keys.len().saturating_sub(before);
         match self.clock.monotonic() {
             Ok(now) => {
                 self.now = nanos_of(now);
