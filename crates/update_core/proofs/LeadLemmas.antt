@@ -1,17 +1,19 @@
 -- What the look-up of one prerequisite tells of its set.
-use Rattle.std.proofs.Common.{◌≡◌, ℕ, ◌<◌, Bool, true, false, List, [], length, get_or, bytes_eq, MatchBool, refl, sym, ap, subst, ◌∙◌, arith}
+use Rattle.std.proofs.Common.{◌≡◌, ℕ, zero, suc, ◌<◌, Bool, true, false, List, [], ◌∷◌, Option, None, Some, MatchOption, length, get_or, bytes_eq, MatchBool, refl, sym, ap, subst, ◌∙◌, arith}
 use Rattle.std.specs.List.{list_any, AllPairs}
+use Rattle.std.specs.Option.{is_some}
 use Rattle.std.specs.Ordering.{nat_cmp, is_lt}
 use Rattle.std.specs.Cmp.Lexicographic.{slice_cmp}
 use Rattle.std.proofs.lemmas.Bool as bool
 use Rattle.std.proofs.lemmas.List.{get_or-map, get_or_read, length-map}
 use Rattle.std.proofs.lemmas.List.Folds.{list_all_at}
+use Rattle.std.proofs.lemmas.Slice.Eq.{bytes_eq-Decides}
 use Rattle.dns_name.specs.Name.{Name}
 use Rattle.dns_rdata.specs.Data.{Data}
 use Rattle.dns_rdata.specs.Record.{Record, IsBefore, records_with, has_data}
 use Rattle.dns_rdata.specs.Raw.{RawRecord}
 use Rattle.update_core.specs.Ordered.{is_sought, place_behind, LeadsOn, is_of_whole}
-use Rattle.update_core.proofs.ListLemmas.{any_mapped}
+use Rattle.update_core.proofs.ListLemmas.{any_mapped, either_right}
 
 by_answer : (b : Bool) (P Q : Type 0) → (b ≡ true → P) → (b ≡ false → Q) → MatchBool b P Q
 by_answer true P Q on_true on_false = on_true refl
@@ -55,6 +57,17 @@ module _ (owner : Name) (rtype ttl : ℕ) where
   pub lacks_data : (ds : List Data) (sent : List RawRecord) (r : RawRecord) → list_any (λ d. bytes_eq r.octets d.octets) ds ≡ false → is_of_whole (records_with owner rtype ttl ds) sent r ≡ false
   lacks_data ds sent r lacks =
       bool.and_left (has_data (records_with owner rtype ttl ds) r.octets) _ (any_mapped (λ s. bytes_eq r.octets s.rdata) as_record ds ∙ lacks)
+
+  -- a place, or none, tells whether its data is there
+  any_at : (octets : List ℕ) (ds : List Data) (at : ℕ) → at < length ds → ((d : Data) → (get_or ds at d).octets ≡ octets) → list_any (λ d. bytes_eq octets d.octets) ds ≡ true
+  any_at octets [] at below is = absurd (omega arith)
+  any_at octets (d ∷ ds) zero below is = let here : bytes_eq octets d.octets ≡ true = (bytes_eq-Decides octets d.octets).1 (sym (is d)) in rw here refl
+  any_at octets (d ∷ ds) (suc at) below is = either_right (bytes_eq octets d.octets) (list_any (λ d. bytes_eq octets d.octets) ds) (any_at octets ds at (omega arith) is)
+
+  pub is_among_by : (octets : List ℕ) (ds : List Data) (place : Option ℕ) → MatchOption place (list_any (λ d. bytes_eq octets d.octets) ds ≡ false) (λ at. (at < length ds) × ((d : Data) → (get_or ds at d).octets ≡ octets))
+      → is_some place ≡ has_data (records_with owner rtype ttl ds) octets
+  is_among_by octets ds None lacks = sym (any_mapped (λ s. bytes_eq octets s.rdata) as_record ds ∙ lacks)
+  is_among_by octets ds (Some at) found = sym (any_mapped (λ s. bytes_eq octets s.rdata) as_record ds ∙ any_at octets ds at found.0 found.1)
 
   -- one of the set's data wasn't sent
   pub lacks_sent : (ds : List Data) (sent : List RawRecord) (r : RawRecord) (i : ℕ) → i < length ds → ((d : Data) → list_any (is_sought r.owner r.rtype (get_or ds i d).octets) sent ≡ false) → is_of_whole (records_with owner rtype ttl ds) sent r ≡ false

@@ -22,5 +22,6 @@ pub mod EffectKeeps
 pub mod ActKeeps
 pub mod RowLemmas
 pub mod RowEffects
+pub mod NoEffects
 pub mod AfterLemmas
 pub mod ChangedOwners

@@ -139,7 +139,7 @@ more_not Less e = cc
 more_not Equal e = cc
 more_not Greater e = refl
 
-first_of : (owner : Name) (rtype : ℕ) (zs : List Record) → 0 < length zs → AllByRecursion (λ s. is_of owner rtype s ≡ true) zs → (is_same (owner_of zs) owner ≡ true) × (rtype_of zs ≡ rtype)
+pub first_of : (owner : Name) (rtype : ℕ) (zs : List Record) → 0 < length zs → AllByRecursion (λ s. is_of owner rtype s ≡ true) zs → (is_same (owner_of zs) owner ≡ true) × (rtype_of zs ≡ rtype)
 first_of owner rtype [] some h = absurd (omega arith)
 first_of owner rtype (z ∷ zs) some h = (and_left (is_same z.owner owner) (z.rtype == rtype) h.0, eqb-true z.rtype rtype (and_right (is_same z.owner owner) (z.rtype == rtype) h.0))
 
@@ -198,7 +198,7 @@ module _ (zone : List Record) (r : RawRecord) where
   some_behind = by_test (λ (l : List Record). 0 < length l) (r.rtype == type_CNAME || r.rtype == type_SOA) (entered r ∷ []) grown (λ _. omega arith) (λ _. some_with_record (entered r) _)
 
   -- the zone with it
-  next_is : KeepsRules zone → next_of zone r ≡ with_rrset zone (set_behind zone r)
+  pub next_is : KeepsRules zone → next_of zone r ≡ with_rrset zone (set_behind zone r)
   next_is h = by (r.rtype == type_CNAME || r.rtype == type_SOA)
     where
       by : (b : Bool) → cond b (put_in zone r) (added_to zone r) ≡ with_rrset zone (cond b (entered r ∷ []) grown)
@@ -224,7 +224,7 @@ module _ (zone : List Record) (r : RawRecord) where
       or_true false false c e = cc
 
   -- where none but that of the zone's records can be
-  fits : KeepsRules zone → length r.octets ≤ 4096 → length (set_behind zone r) ≤ 256 → within_limits r (next_of zone r) ≡ held (next_of zone r)
+  pub fits : KeepsRules zone → length r.octets ≤ 4096 → length (set_behind zone r) ≤ 256 → within_limits r (next_of zone r) ≡ held (next_of zone r)
   fits h short few =
       let len = ap length (next_own h) in
       let a : nat_lt 4096 (length r.octets) ≡ false = grind (arith, nat_tests) in
@@ -255,7 +255,7 @@ module _ (zone : List Record) (r : RawRecord) where
       }
 
   -- changes that change nothing, and those of deletions
-  held_is : (next : List Record) → length next ≤ 1000000 → held next ≡ Some next
+  pub held_is : (next : List Record) → length next ≤ 1000000 → held next ≡ Some next
   held_is next few = let t : nat_lt 1000000 (length next) ≡ false = grind (arith, nat_tests) in rw t refl
 
   pub nothing_of : IsZone zone → effect zone r ≡ Some zone → (changes : List Change) → changes ≡ [] → AreOf zone r changes

@@ -1,5 +1,6 @@
 //! What a record that an update adds changes (RFC 2136, 3.4.2.2).
-ghost use Rattle.std.specs.Prelude.{◌≡◌, ◌<◌, ◌≤◌, ◌^◌, ◌&&◌, ◌||◌, not, ◌==◌, true, None, length, All, IfOk, OnOk};
+ghost use Rattle.std.specs.Prelude.{◌≡◌, ◌<◌, ◌≤◌, ◌^◌, ◌&&◌, ◌||◌, not, ◌==◌, ◌≢◌, true, [], None, length, All, IfOk, OnOk};
+ghost use Rattle.std.specs.Bool.{OnTrue};
 ghost use Rattle.std.specs.Option.{is_some};
 ghost use Rattle.std.specs.Result.{IsErrOf};
 ghost use Rattle.dns_rdata.specs.Limits.{max_data, max_set};
@@ -8,12 +9,13 @@ ghost use Rattle.dns_rdata.specs.Numbers.{class_IN, type_CNAME, type_SOA};
 ghost use Rattle.dns_rdata.specs.Data.{serial_of};
 ghost use Rattle.dns_rdata.specs.Record.{rtype_of};
 ghost use Rattle.dns_rdata.specs.SerialOrder.{serial_less};
-ghost use Rattle.zone_tree.specs.Zone.{IsZone, apex_of};
+ghost use Rattle.zone_tree.specs.Zone.{IsZone, apex_of, rrset_of};
 ghost use Rattle.zone_tree.specs.Version.{zone_serial};
 ghost use Rattle.update_core.specs.Verdict.{prescan_of, has_form, has_rrset};
 ghost use Rattle.update_core.specs.Act.{effect, entered, has_other_than_alias, has_lesser_soa, IsSent};
 ghost use Rattle.update_core.specs.Applied.{AreOf, is_beside_alias, joined, set_behind};
 
+use crate::ordered::is_among;
 use crate::prerequisites::is_in_use;
 use crate::rows::{ActFault, one_change};
 use dns_name::Name;
@@ -38,6 +40,9 @@ pub(crate) fn changes_of_addition(
     }
     let rdata = data_in_zone(alloc, raw)?;
     if is_lesser_soa(zone, raw, &rdata) {
+        return Ok(Vec::new(alloc));
+    }
+    if stands(zone, raw, &rdata) {
         return Ok(Vec::new(alloc));
     }
     let set = set_with(alloc, zone, raw, rdata)?;
@@ -117,6 +122,33 @@ fn are_octets(octets: &[u8])
     ensures { All (λ octet. octet < 256) octets.now }
 {
     let _len = octets.len();
+}
+
+/// Whether a record that joins others stands in a zone already, with the TTL that it would give them: then it has no effect.
+fn stands(zone: &Zone, raw: &RawRecord, rdata: &RData) -> bool
+    requires lawful { IsZone zone.now }
+    requires rtype { rdata.now.rtype ≡ raw.now.rtype }
+    requires data { rdata.now.octets ≡ (entered raw.now).rdata }
+    ensures some { OnTrue result (rrset_of zone.now raw.now.owner raw.now.rtype ≢ []) }
+    ensures same { OnTrue result (set_behind zone.now raw.now ≡ rrset_of zone.now raw.now.owner raw.now.rtype) }
+    ensures few { OnTrue result (length (set_behind zone.now raw.now) ≤ max_set) }
+{
+    if raw.rtype != RType::CNAME && raw.rtype != RType::SOA {
+        if let Some(own) = zone.rrset(&raw.owner, raw.rtype) {
+            return has_record(own, Ttl::received(raw.ttl), rdata);
+        }
+    }
+    false
+}
+
+/// Whether a set has this TTL, and a record of these data: then one more of them changes nothing of it.
+fn has_record(own: &RRset, ttl: Ttl, rdata: &RData) -> bool
+    requires { rdata.now.rtype ≡ rtype_of own.now }
+    ensures same { OnTrue result (joined own.now ttl.0 rdata.now.octets ≡ own.now) }
+    ensures few { OnTrue result (length own.now ≤ max_set) }
+{
+    let _records = own.data();
+    own.ttl() == ttl && is_among(own, rdata.octets())
 }
 
 /// The set that stands where a record is added: an alias and an SOA replace what stood there, any other record joins it.

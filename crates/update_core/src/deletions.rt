@@ -1,11 +1,13 @@
 //! What a record that tells of a deletion changes (RFC 2136, 3.4.2.3 and 3.4.2.4).
 ghost use Rattle.std.specs.Prelude.{◌≡◌, ◌≢◌, ◌==◌, true, false, [], None, filter, IfOk, MatchOption};
 ghost use Rattle.dns_rdata.specs.Numbers.{class_ANY, class_NONE, type_ANY};
-ghost use Rattle.dns_rdata.specs.Record.{without_data};
+ghost use Rattle.dns_rdata.specs.Record.{without_data, has_data};
 ghost use Rattle.zone_tree.specs.Zone.{IsZone, rrset_of};
+ghost use Rattle.update_core.specs.Verdict.{has_rrset};
 ghost use Rattle.update_core.specs.Act.{is_apex_set, is_last_apex_record};
 ghost use Rattle.update_core.specs.Applied.{AreOf, removals, may_go};
 
+use crate::ordered::is_among;
 use crate::rows::one_change;
 use dns_name::Name;
 use dns_rdata::{RRset, RType, RawRecord};
@@ -58,6 +60,9 @@ pub(crate) fn changes_of_set(
     if is_apex_set(zone, &raw.owner, raw.rtype) {
         return Ok(Vec::new(alloc));
     }
+    if !has_set(zone, raw) {
+        return Ok(Vec::new(alloc));
+    }
     one_change(alloc, Change::Remove(raw.owner.copy(), raw.rtype))
 }
 
@@ -74,9 +79,29 @@ pub(crate) fn changes_of_record(
     if is_last_apex_record(zone, &raw.owner, raw.rtype) {
         return Ok(Vec::new(alloc));
     }
+    if !has_record(zone, raw) {
+        return Ok(Vec::new(alloc));
+    }
     match left_of(alloc, zone, raw)? {
         Some(left) => one_change(alloc, Change::Put(left)),
         None => one_change(alloc, Change::Remove(raw.owner.copy(), raw.rtype)),
+    }
+}
+
+/// Whether a record's set stands in a zone.
+fn has_set(zone: &Zone, raw: &RawRecord) -> bool
+    ensures { result ≡ has_rrset zone.now raw.now.owner raw.now.rtype }
+{
+    zone.rrset(&raw.owner, raw.rtype).is_some()
+}
+
+/// Whether the record of these data stands in a zone. Its set is searched by halves, and not copied.
+fn has_record(zone: &Zone, raw: &RawRecord) -> bool
+    ensures { result ≡ has_data (rrset_of zone.now raw.now.owner raw.now.rtype) raw.now.octets }
+{
+    match zone.rrset(&raw.owner, raw.rtype) {
+        Some(set) => is_among(set, &raw.octets),
+        None => false,
     }
 }
 

@@ -3,14 +3,14 @@ ghost use Rattle.std.specs.Prelude.{◌≡◌, ◌≤◌, ◌<◌, false, [], Al
 ghost use Rattle.std.specs.List.{AllPairs, list_any};
 ghost use Rattle.std.specs.List.Sorted.{IsPermutation, IsSorted};
 ghost use Rattle.dns_rdata.specs.Data.{Data};
-ghost use Rattle.dns_rdata.specs.Record.{IsBefore};
+ghost use Rattle.dns_rdata.specs.Record.{IsBefore, has_data};
 ghost use Rattle.zone_tree.specs.Zone.{rrset_of};
 ghost use Rattle.update_core.specs.Verdict.{are_met};
 ghost use Rattle.update_core.specs.Ordered.{of_class_IN, sought_cmp, record_of, is_sought, place_behind, LeadsOn, is_of_whole};
 
 use arrayvec::ArrayVec;
 use dns_name::Name;
-use dns_rdata::{Class, RData, RType, RawRecord};
+use dns_rdata::{Class, RData, RRset, RType, RawRecord};
 use std::cmp::Ordering;
 use std::default::MadeWith;
 use std::marker::Model;
@@ -142,6 +142,13 @@ fn place_behind(count: usize, at: usize) -> usize
     ensures within { result < count }
 {
     if at + 1 < count { at + 1 } else { 0 }
+}
+
+/// Whether a record of these data is in a set, searched by halves.
+pub(crate) fn is_among(set: &RRset, octets: &[u8]) -> bool
+    ensures { result ≡ has_data set.now octets.now }
+{
+    place_of(set.data(), octets).is_some()
 }
 
 /// Where data stands among a set's data; None where it isn't there.

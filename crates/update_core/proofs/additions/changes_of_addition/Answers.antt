@@ -4,12 +4,18 @@ use Rattle.dns_rdata.specs.Data.{Data}
 use Rattle.dns_rdata.specs.Record.{Record, owner_of, rtype_of, ttl_of}
 use Rattle.update_core.specs.Applied.{set_behind}
 use Rattle.update_core.proofs.RowEffects.{addition_of, addition_too_long, addition_too_many}
+use Rattle.update_core.proofs.NoEffects.{stands_of}
 use Rattle.update_core.proofs.additions.changes_of_addition.Goals as goal
 
 pub returns-in_err-rdata-clause-limit : goal.returns-in_err-rdata-clause-limit
 returns-in_err-rdata-clause-limit c = λ fault.
     let long : 4096 < length c.args.raw.now.octets = search rules in
     addition_too_long c.args.zone.now c.args.raw.now c.requires.lawful.rules c.requires.passed c.requires.class (sym c.is_beside_alias.ensures ∙ c.if-is_beside_alias.false) long
+
+pub returns-then-stands-clause-of : goal.returns-then-stands-clause-of
+returns-then-stands-clause-of c =
+    stands_of c.args.zone.now c.args.raw.now c.requires.lawful c.requires.class (sym c.is_beside_alias.ensures ∙ c.if-is_beside_alias.false) (sym c.is_lesser_soa.ensures ∙ c.if-is_lesser_soa.false)
+    c.in_ok-rdata.ensures.short c.if-stands.ensures.some c.if-stands.ensures.same c.if-stands.ensures.few c.new-then-stands.result.items c.new-then-stands.ensures.items
 
 pub returns-in_err-set-clause-limit : goal.returns-in_err-set-clause-limit
 returns-in_err-set-clause-limit c = λ fault.

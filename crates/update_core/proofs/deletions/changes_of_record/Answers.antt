@@ -1,7 +1,8 @@
-use Rattle.std.proofs.Common.{sym, ap, ◌∙◌}
+use Rattle.std.proofs.Common.{◌≡◌, false, sym, ap, ◌∙◌, rules}
 use Rattle.dns_rdata.specs.Raw.{RawRecord}
 use Rattle.update_core.specs.Act.{is_last_apex_record}
 use Rattle.update_core.proofs.RowEffects.{if_ok, record_of, record_kept, last_of}
+use Rattle.update_core.proofs.NoEffects.{record_missing}
 use Rattle.update_core.proofs.deletions.changes_of_record.Goals as goal
 
 pub returns-then-is_last_apex_record : goal.returns-then-is_last_apex_record
@@ -9,6 +10,11 @@ returns-then-is_last_apex_record c =
     let zone = c.args.zone.now in
     let view = ap (λ (r : RawRecord). is_last_apex_record zone r.owner r.rtype) c.raw.view_is in
     record_kept zone c.args.raw.now c.requires.lawful c.requires.class (sym view ∙ sym c.is_last_apex_record.ensures ∙ c.if-is_last_apex_record.true) c.new.result.items c.new.ensures.items
+
+pub returns-then-not-has_record : goal.returns-then-not-has_record
+returns-then-not-has_record c =
+    let lacks : c.has_record.result ≡ false = search rules in
+    record_missing c.args.zone.now c.args.raw.now c.requires.lawful c.requires.class (sym c.has_record.ensures ∙ lacks) c.new-then-not-has_record.result.items c.new-then-not-has_record.ensures.items
 
 pub returns-in-Some : goal.returns-in-Some
 returns-in-Some c =

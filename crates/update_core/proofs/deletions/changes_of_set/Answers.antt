@@ -1,7 +1,9 @@
-use Rattle.std.proofs.Common.{sym, ap, ◌∙◌}
+use Rattle.std.proofs.Common.{◌≡◌, false, sym, ap, ◌∙◌, rules}
 use Rattle.dns_rdata.specs.Raw.{RawRecord}
+use Rattle.update_core.specs.Verdict.{has_rrset}
 use Rattle.update_core.specs.Act.{is_apex_set}
 use Rattle.update_core.proofs.RowEffects.{if_ok, set_of, set_kept}
+use Rattle.update_core.proofs.NoEffects.{set_absent}
 use Rattle.update_core.proofs.deletions.changes_of_set.Goals as goal
 
 pub returns-then-is_apex_set : goal.returns-then-is_apex_set
@@ -9,6 +11,14 @@ returns-then-is_apex_set c =
     let zone = c.args.zone.now in
     let view = ap (λ (r : RawRecord). is_apex_set zone r.owner r.rtype) c.raw.view_is in
     set_kept zone c.args.raw.now c.requires.lawful c.requires.class c.requires.rtype (sym view ∙ sym c.is_apex_set.ensures ∙ c.if-is_apex_set.true) c.new.result.items c.new.ensures.items
+
+pub returns-then-not-has_set : goal.returns-then-not-has_set
+returns-then-not-has_set c =
+    let zone = c.args.zone.now in
+    let view = ap (λ (r : RawRecord). is_apex_set zone r.owner r.rtype) c.raw.view_is in
+    let lacks : c.has_set.result ≡ false = search rules in
+    set_absent zone c.args.raw.now c.requires.lawful c.requires.class c.requires.rtype (sym view ∙ sym c.is_apex_set.ensures ∙ c.if-is_apex_set.false) (sym c.has_set.ensures ∙ lacks)
+    c.new-then-not-has_set.result.items c.new-then-not-has_set.ensures.items
 
 pub returns : goal.returns
 returns c =
