@@ -3,6 +3,8 @@
 #![tactic(auto)]
 
 #[cfg(test)]
+mod alternating;
+#[cfg(test)]
 mod ends;
 #[cfg(test)]
 mod frames;
