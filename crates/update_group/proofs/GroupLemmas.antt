@@ -4,7 +4,7 @@ use Rattle.std.proofs.lemmas.List.{length_push}
 use Rattle.std.proofs.lemmas.List.Concat.{flat_map-append}
 use Rattle.journal.specs.Batch.{counted, batch_of, IsShort}
 use Rattle.journal.proofs.BatchLemmas.{counted_long}
-use Rattle.update_group.specs.Engine.{IsLast}
+use Rattle.update_group.specs.Engine.{IsLast, AreMade}
 use Rattle.update_group.specs.Group.{noerror, servfail, newest_of, Judged, nothing, told, starved, changed}
 use Rattle.update_group.specs.Private.{SoFar}
 
@@ -17,6 +17,11 @@ newest_push first (other ∷ front) version = newest_push other front version
 pub last_once : {V : Type 0} (versions : List V) (one other : V) → IsLast versions one → IsLast versions other → one ≡ other
 last_once versions one other a b =
     sym (newest_push one a.0 one) ∙ (ap (newest_of one) (sym a.1) ∙ (ap (newest_of one) b.1 ∙ newest_push one b.0 other))
+
+-- one version more is made from the newest
+made_push : {V A : Type 0} (makes : V → A → V → Type 0) (first : V) (versions : List V) (asked : A) (next : V) → AreMade makes first versions → makes (newest_of first versions) asked next → AreMade makes first (versions ++ next ∷ [])
+made_push makes first [] asked next are is = ((asked, is), tt)
+made_push makes first (version ∷ versions) asked next are is = (are.0, made_push makes version versions asked next are.1 is)
 
 -- the newest of versions is that in their last place
 pub newest_at : {V : Type 0} (first : V) (versions : List V) (version d : V) (place : ℕ) → length versions ≡ place + 1 → version ≡ get_or versions place d → newest_of first versions ≡ version
@@ -55,6 +60,14 @@ module _ {V A : Type 0} (passes : V → A → Type 0) (tells : V → A → ℕ �
   judged_long (told {asked} {codes} one code judged is) = length_push codes code ∙ (ap (λ (n : ℕ). n + 1) (judged_long judged) ∙ sym (length_push asked one))
   judged_long (starved {asked} {codes} one judged is) = length_push codes servfail ∙ (ap (λ (n : ℕ). n + 1) (judged_long judged) ∙ sym (length_push asked one))
   judged_long (changed {asked} {codes} one next judged lets is) = length_push codes noerror ∙ (ap (λ (n : ℕ). n + 1) (judged_long judged) ∙ sym (length_push asked one))
+
+  -- each version is made from the one before it
+  pub judged_made : {asked : List A} {codes : List ℕ} {made : List V} {updates : List (List ℕ)} → Judged passes tells makes octets first asked codes made updates
+      → AreMade makes first made
+  judged_made nothing = tt
+  judged_made (told one code judged is) = judged_made judged
+  judged_made (starved one judged is) = judged_made judged
+  judged_made (changed {asked} {codes} {made} one next judged lets is) = made_push makes first made one next (judged_made judged) is
 
   -- the same of the same lists
   pub so_far_same : (asked others : List A) (codes told_codes : List ℕ) (versions : List V) (body : List ℕ) → others ≡ asked → told_codes ≡ codes

@@ -7,6 +7,15 @@ use Rattle.update_group.specs.declared.engine.Judgement.TheVariants.{Told, Made,
 abbrev pub IsLast : {V : Type 0} → List V → V → Type 0
 IsLast {V} versions version = (front : List V) × (versions ≡ front ++ version ∷ [])
 
+-- some update makes it from the last of these
+abbrev pub IsMadeFrom : {V A : Type 0} → (V → A → V → Type 0) → List V → V → Type 0
+IsMadeFrom {V} {A} makes versions next = (last : V) × (asked : A) × IsLast versions last × makes last asked next
+
+-- each of these is made by some update from the one before it, and the first from this one
+abbrev pub AreMade : {V A : Type 0} → (V → A → V → Type 0) → V → List V → Type 0
+AreMade makes first [] = Unit {0}
+AreMade {V} {A} makes first (next ∷ versions) = ((asked : A) × makes first asked next) × AreMade makes next versions
+
 -- what is told of an update in a version is so
 abbrev pub IsJudged : {V A : Type 0} → (V → A → Type 0) → (V → A → ℕ → Type 0) → (V → A → V → Type 0) → V → A → Judgement V → Type 0
 IsJudged passes tells makes version asked (Told code) = tells version asked code

@@ -1,7 +1,7 @@
 //! What judges updates, and publishes versions (own).
 ghost use Rattle.std.specs.Prelude.{◌≡◌, ℕ, ◌+◌, ◌<◌, List, [], ◌∷◌, ◌++◌};
 ghost use Rattle.journal.specs.Batch.{IsShort};
-ghost use Rattle.update_group.specs.Engine.{IsLast, IsJudged};
+ghost use Rattle.update_group.specs.Engine.{IsLast, IsMadeFrom, IsJudged};
 
 use std::alloc::Global;
 
@@ -26,9 +26,6 @@ pub trait Engine: Drop {
 
     /// The versions that are published, the first one first.
     ghost published: { Self → List Self.Version };
-
-    /// There is one.
-    ghost begun: { (engine : Self) → (version : Self.Version) × IsLast (published engine) version };
 
     /// So many versions can be published, whatever else happens.
     ghost free: { Self → ℕ };
@@ -68,9 +65,10 @@ pub trait Engine: Drop {
         ensures octets { result.now ≡ octets asked.now }
         ensures short { IsShort result.now };
 
-    /// Publishes a version.
+    /// Publishes a version, which some update makes from the last one.
     fn publish(&mut self, version: Self::Version)
-        requires { 0 < free self.old }
+        requires free { 0 < free self.old }
+        requires made { IsMadeFrom makes (published self.old) version }
         ensures published { published self.new ≡ published self.old ++ version ∷ [] }
         ensures free { free self.new + 1 ≡ free self.old };
 }

@@ -28,32 +28,33 @@ pub(crate) fn judge_all<E: Engine>(
     ensures { IfOk result (λ r. (first : E.Version) × IsLast (E.published engine.now) first
         × SoFar E.passes E.tells E.makes E.octets first asked.now r.0.items r.1.versions.items r.1.body.items room) }
 {
+    let first = engine.last();
     let mut codes = Vec::new(alloc);
     let mut batch = Batch {
         versions: Vec::new(alloc),
         body: Vec::new(alloc),
     };
     for one in asked {
-        let code = judge_one(engine, alloc, one, room, &mut batch);
+        let code = judge_one(engine, alloc, first, one, room, &mut batch);
         codes.push(code)?;
     }
     Ok((codes, batch))
 }
 
-/// What one more update does.
+/// What one more update does, behind others that are judged from a first version on.
 fn judge_one<E: Engine>(
     engine: &E,
     alloc: Global,
+    first: &E::Version,
     one: &E::Asked,
     room: usize,
     batch: &mut Batch<E::Version>,
 ) -> u8
     requires { room ≤ 64 }
-    ensures { (first : E.Version) (asked : List E.Asked) (codes : List ℕ) → IsLast (E.published engine.now) first
-        → SoFar E.passes E.tells E.makes E.octets first asked codes batch.old.versions.items batch.old.body.items room
-        → SoFar E.passes E.tells E.makes E.octets first (asked ++ one.now ∷ []) (codes ++ result ∷ []) batch.new.versions.items batch.new.body.items room }
+    ensures { (asked : List E.Asked) (codes : List ℕ) → SoFar E.passes E.tells E.makes E.octets first.now asked codes batch.old.versions.items batch.old.body.items room
+        → SoFar E.passes E.tells E.makes E.octets first.now (asked ++ one.now ∷ []) (codes ++ result ∷ []) batch.new.versions.items batch.new.body.items room }
 {
-    match judge_next(engine, alloc, one, &batch.versions) {
+    match judge_next(engine, alloc, first, one, &batch.versions) {
         Judgement::Told(code) => code,
         Judgement::Starved => SERVFAIL,
         Judgement::Made(next) => {
@@ -66,18 +67,19 @@ fn judge_one<E: Engine>(
     }
 }
 
-/// What an update does in the newest of versions, the last published one where they are none.
+/// What an update does in the newest of versions, in the first one where they are none.
 fn judge_next<E: Engine>(
     engine: &E,
     alloc: Global,
+    first: &E::Version,
     one: &E::Asked,
     versions: &[E::Version],
 ) -> Judgement<E::Version>
-    ensures { (first : E.Version) → IsLast (E.published engine.now) first → IsJudged E.passes E.tells E.makes (newest_of first versions.now) one.now result }
+    ensures { IsJudged E.passes E.tells E.makes (newest_of first.now versions.now) one.now result }
 {
     match versions.last() {
         Some(version) => engine.judge(alloc, version, one),
-        None => engine.judge(alloc, engine.last(), one),
+        None => engine.judge(alloc, first, one),
     }
 }
 

@@ -1,7 +1,7 @@
 use Rattle.std.proofs.Common.{◌≡◌, ℕ, ◌<◌, length, vec_len, subst, ap, ◌∙◌, arith, rules}
 use Rattle.std.specs.Prelude.{replicate}
 use Rattle.update_group.specs.Engine.{IsLast}
-use Rattle.update_group.proofs.GroupLemmas.{judged_long}
+use Rattle.update_group.proofs.GroupLemmas.{judged_long, judged_made}
 use Rattle.update_group.proofs.group.update_all.Goals as goal
 
 pub returns-in-Err-clause-told : goal.returns-in-Err-clause-told
@@ -23,3 +23,8 @@ returns-in-Err-clause-told g c =
       published = c.count.ensures.published;
       kept = (c.in-Err.ensures).kept;
     }
+
+pub publish_all-requires-clause-made : goal.publish_all-requires-clause-made
+publish_all-requires-clause-made g c =
+    let found = c.in_ok-codes.ensures in
+    (found.0, found.1, judged_made g.E.Engine.passes g.E.Engine.tells g.E.Engine.makes g.E.Engine.octets found.0 64 found.2.judged)

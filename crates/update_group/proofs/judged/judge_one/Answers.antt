@@ -6,22 +6,25 @@ use Rattle.update_group.proofs.judged.judge_one.Goals as goal
 use Rattle.update_group.proofs.judged.judge_one.Goals.{else-len-room-via-then-len-room+else-put, else-len-room-via-else-len-room}
 
 pub returns-in-Told : goal.returns-in-Told
-returns-in-Told g c first asked codes last so_far =
+returns-in-Told g c asked codes so_far =
+    let first = c.args.first.now in
     told_more g.E.Engine.passes g.E.Engine.tells g.E.Engine.makes g.E.Engine.octets first c.args.room asked codes
     c.args.batch.now.versions.items c.args.batch.now.body.items c.args.one.now c.in-Told.code so_far
-    (subst (λ vs. g.E.Engine.tells (newest_of first vs) c.args.one.now c.in-Told.code) c.deref.ensures.value (c.in-Told.ensures first last))
+    (subst (λ vs. g.E.Engine.tells (newest_of first vs) c.args.one.now c.in-Told.code) c.deref.ensures.value (c.in-Told.ensures))
 
 pub returns-in-Starved : goal.returns-in-Starved
-returns-in-Starved g c first asked codes last so_far =
+returns-in-Starved g c asked codes so_far =
+    let first = c.args.first.now in
     starved_more g.E.Engine.passes g.E.Engine.tells g.E.Engine.makes g.E.Engine.octets first c.args.room asked codes
     c.args.batch.now.versions.items c.args.batch.now.body.items c.args.one.now so_far
-    (subst (λ vs. g.E.Engine.passes (newest_of first vs) c.args.one.now) c.deref.ensures.value (c.in-Starved.ensures first last))
+    (subst (λ vs. g.E.Engine.passes (newest_of first vs) c.args.one.now) c.deref.ensures.value (c.in-Starved.ensures))
 
 pub returns-then-put : goal.returns-then-put
-returns-then-put g c first asked codes last so_far =
+returns-then-put g c asked codes so_far =
+    let first = c.args.first.now in
     let versions = c.args.batch.now.versions in
     let one = c.args.one.now in
-    let made = c.in-Made.ensures first last in
+    let made = c.in-Made.ensures in
     let lets = subst (λ vs. g.E.Engine.passes (newest_of first vs) one) c.deref.ensures.value made.0 in
     let makes = subst (λ vs. g.E.Engine.makes (newest_of first vs) one c.in-Made.next) c.deref.ensures.value made.1 in
     let few : length versions.items < c.args.room = omega (arith, c.if-len-room.true, c.len.ensures, versions.ok.0) in
@@ -31,9 +34,10 @@ returns-then-put g c first asked codes last so_far =
     (c.if-put.ensures).0 ((c.if-put.ensures).1 ∙ ap (λ (o : List ℕ). c.args.batch.now.body.items ++ counted o) c.octets_of.ensures.octets)
 
 pub returns-else-len-room : goal.returns-else-len-room
-returns-else-len-room g c first asked codes last so_far =
+returns-else-len-room g c asked codes so_far =
+    let first = c.args.first.now in
     let one = c.args.one.now in
-    let made = c.in-Made.ensures first last in
+    let made = c.in-Made.ensures in
     let lets = subst (λ vs. g.E.Engine.passes (newest_of first vs) one) c.deref.ensures.value made.0 in
     elim c.else-len-room.branch [
       | else-len-room-via-then-len-room+else-put w ↦
