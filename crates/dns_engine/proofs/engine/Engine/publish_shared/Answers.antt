@@ -8,7 +8,7 @@ use Rattle.dns_engine.specs.Held.{EngineState, newest}
 use Rattle.dns_engine.specs.Entries.{history_of}
 use Rattle.dns_engine.proofs.OwnedLemmas.{newest_on}
 use Rattle.dns_engine.proofs.EntryLemmas.{history_on}
-use Rattle.dns_engine.proofs.engine.Engine.publish.Goals as goal
+use Rattle.dns_engine.proofs.engine.Engine.publish_shared.Goals as goal
 
 pub invariant_of-self-2 : goal.invariant_of-self-2
 invariant_of-self-2 g c =
@@ -17,12 +17,11 @@ invariant_of-self-2 g c =
     let version = c.args.version in
     let found = c.in-Ok-newest_with_weak in
     let follows : IsNext inside.last.value version = subst (λ (state : EngineState). IsNext state.held.last version) (sym c.self.view_is) c.requires.follows in
-    let made : c.in-Some.version ≡ version = c.in-Some.ensures in
     let next = c.in-Ok.ensures.published in
-    let value : c.publish.new.publisher.value ≡ version = ap (λ (p : PublisherState Version). p.value) next ∙ made in
+    let value : c.publish.new.publisher.value ≡ version = ap (λ (p : PublisherState Version). p.value) next in
     let number : c.publish.new.publisher.number ≡ inside.last.value.number + 1 = ap (λ (p : PublisherState Version). p.number) next ∙ ap (λ n. n + 1) held.3 in
     let published : c.publish.new.publisher.published ≡ inside.reader.seen ++ version ∷ [] =
-    ap (λ (p : PublisherState Version). p.published) next ∙ ap (λ (v : Version). inside.publisher.published ++ v ∷ []) made ∙ ap (λ (l : List Version). l ++ version ∷ []) held.1 in
+    ap (λ (p : PublisherState Version). p.published) next ∙ ap (λ (l : List Version). l ++ version ∷ []) held.1 in
     let noted = found.ensures.noted.0 in
     let loaded : found.last ≡ record { number = c.publish.new.publisher.number; value = c.publish.new.publisher.value } = found.ensures.newest.0 in
     let seen : c.newest_with_weak.new.reader.seen ≡ c.publish.new.publisher.published = ap (λ (r : ReaderState Version). r.seen) found.ensures.newest.1 in
