@@ -9,7 +9,7 @@ use Rattle.counted_handles.specs.declared.view.Hold.TheVariants.{Once}
 use Rattle.counted_handles.specs.declared.view.View.{View}
 use Rattle.counted_handles.specs.declared.view.View.TheVariants.{Publishes}
 use Rattle.counted_handles.specs.Ruled.{RoomSpot, Ruled}
-use Rattle.counted_handles.specs.Cuts.{kept_share, given_share, kept_back, handed_back, kept_dealt, dealt, dealt_grants, kept_met, handed_met, met_guest, lodged, with_reader, reader_of, met_by, gone_of}
+use Rattle.counted_handles.specs.Cuts.{kept_share, given_share, kept_back, handed_back, kept_dealt, dealt, kept_met, handed_met, met_guest, lodged, with_reader, reader_of, met_by, gone_of}
 use Rattle.counted_handles.specs.Tells.{Sat, Newest, Greeted}
 use Rattle.counted_handles.specs.Plays.{NewestTells, GreetTells}
 use Rattle.counted_handles.specs.Calls.{IsNewest, IsGreeted}
@@ -37,10 +37,10 @@ module _ {T : Type 0} (begins : T → Type 0) (follows : T → T → Type 0) (sp
       subst (λ v. Splits (Ruled begins follows spots) id v (kept_met v) (handed_met v)) (sym is)
       (splits_later begins follows spots id (Publishes p) (Publishes (met_guest p)) (met_by p (gone_of p.guests) p.left) tt (splits_met begins follows spots id p whole))
 
-  pub deal_splits : (id : ℕ) (view : View T) (p : Publishing T) → view ≡ Publishes p → p.share ≡ None → dealt_grants ≤ p.left → Splits (Ruled begins follows spots) id view (kept_dealt view) (dealt view)
-  deal_splits id view p is whole enough =
-      subst (λ v. Splits (Ruled begins follows spots) id v (kept_dealt v) (dealt v)) (sym is)
-      (splits_later begins follows spots id (Publishes p) (Publishes (with_reader p dealt_grants)) (reader_of p dealt_grants) tt (splits_reading begins follows spots id dealt_grants p whole enough))
+  pub deal_splits : (id n : ℕ) (view : View T) (p : Publishing T) → view ≡ Publishes p → p.share ≡ None → n ≤ p.left → Splits (Ruled begins follows spots) id view (kept_dealt n view) (dealt n view)
+  deal_splits id n view p is whole enough =
+      subst (λ v. Splits (Ruled begins follows spots) id v (kept_dealt n v) (dealt n v)) (sym is)
+      (splits_later begins follows spots id (Publishes p) (Publishes (with_reader p n)) (reader_of p n) tt (splits_reading begins follows spots id n p whole enough))
 
   -- the publisher as each act finds it
   abbrev pub loaded_as : Publishing T → Reading T → Mark T → Publishing T

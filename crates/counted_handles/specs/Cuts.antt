@@ -94,17 +94,18 @@ abbrev pub kept_met : {T : Type 0} → View T → View T
 kept_met (Publishes p) = Publishes (met_guest p)
 kept_met view = view
 
--- the grants of one of the readers of a new cell (own)
+-- the grants of one of the readers of a new cell, where nobody asks for fewer (own)
 abbrev pub dealt_grants : ℕ
 dealt_grants = 2 ^ 40
 
-abbrev pub kept_dealt : {T : Type 0} → View T → View T
-kept_dealt (Publishes p) = Publishes (with_reader p dealt_grants)
-kept_dealt view = view
+-- so many grants go to a reader of a new cell: what the publisher keeps, and what the reader has (own)
+abbrev pub kept_dealt : {T : Type 0} → ℕ → View T → View T
+kept_dealt n (Publishes p) = Publishes (with_reader p n)
+kept_dealt n view = view
 
-abbrev pub dealt : {T : Type 0} → View T → View T
-dealt (Publishes p) = reader_of p dealt_grants
-dealt view = Gone
+abbrev pub dealt : {T : Type 0} → ℕ → View T → View T
+dealt n (Publishes p) = reader_of p n
+dealt n view = Gone
 
 -- what the reader has that is given back so (own)
 abbrev pub handed_met : {T : Type 0} → View T → View T

@@ -4,26 +4,46 @@ ghost use Rattle.counted_handles.specs.declared.view.Publishing.{Publishing};
 ghost use Rattle.counted_handles.specs.declared.view.Reading.{Reading};
 ghost use Rattle.counted_handles.specs.declared.view.View.TheVariants.{Publishes, Reads};
 ghost use Rattle.counted_handles.specs.Calls.{Fits, IsHost};
-ghost use Rattle.counted_handles.specs.Cuts.{dealt_grants, with_reader, reader_of, lodged, without_guest};
+ghost use Rattle.counted_handles.specs.Cuts.{with_reader, reader_of, lodged, without_guest};
 
 use crate::calls::Words;
 use crate::names::Names;
-use crate::plays;
+use crate::plays::{self, Hand};
 use crate::view::View;
 use atomic_table::Badge;
+use std::marker::Brand;
 use std::mem;
 
-/// A reader with 2^40 grants goes off the publisher's token.
-pub fn deal<T, C: Names<T>>(words: &Words<T, C>, badge: &mut Badge<View<T>>) -> Badge<View<T>>
+// A reader with the grants that a type names goes off the publisher's token.
+fn deal_hand<T, C: Names<T>, H: Hand>(
+    words: &Words<T, C>,
+    badge: &mut Badge<View<T>>,
+    grants: u64,
+) -> Badge<View<T>>
+    requires hand { grants ≡ H.grants }
     requires fits { Fits words.now.table_id × (badge.old.table_id ≡ words.now.table_id) }
-    requires enough { (p : Publishing T) × (badge.old.views ≡ Publishes p ∷ []) × (p.share ≡ None) × (dealt_grants ≤ p.left) }
+    requires enough { (p : Publishing T) × (badge.old.views ≡ Publishes p ∷ []) × (p.share ≡ None) × (H.grants ≤ p.left) }
     ensures badges { (badge.new.table_id ≡ badge.old.table_id) × (badge.new.id ≡ badge.old.id) × (result.table_id ≡ badge.old.table_id) }
-    ensures dealt { (p : Publishing T) → badge.old.views ≡ Publishes p ∷ [] → (badge.new.views ≡ Publishes (with_reader p dealt_grants) ∷ []) × (result.views ≡ reader_of p dealt_grants ∷ []) }
+    ensures dealt { (p : Publishing T) → badge.old.views ≡ Publishes p ∷ [] → (badge.new.views ≡ Publishes (with_reader p H.grants) ∷ []) × (result.views ≡ reader_of p H.grants ∷ []) }
 {
     let mut seat = mem::replace(badge, Badge::blank()).into_seat();
-    let reader = words.split_seat::<plays::Deals>(&mut seat);
+    let reader = words.split_seat::<plays::Deals<H>>(&mut seat);
     *badge = seat.into_badge();
     reader.into_badge()
+}
+
+/// A reader with so many grants goes off the publisher's token.
+pub fn deal<T, C: Names<T>>(
+    words: &Words<T, C>,
+    badge: &mut Badge<View<T>>,
+    grants: u64,
+) -> Badge<View<T>>
+    requires fits { Fits words.now.table_id × (badge.old.table_id ≡ words.now.table_id) }
+    requires enough { (p : Publishing T) × (badge.old.views ≡ Publishes p ∷ []) × (p.share ≡ None) × (grants ≤ p.left) }
+    ensures badges { (badge.new.table_id ≡ badge.old.table_id) × (badge.new.id ≡ badge.old.id) × (result.table_id ≡ badge.old.table_id) }
+    ensures dealt { (p : Publishing T) → badge.old.views ≡ Publishes p ∷ [] → (badge.new.views ≡ Publishes (with_reader p grants) ∷ []) × (result.views ≡ reader_of p grants ∷ []) }
+{
+    deal_hand::<T, C, Brand>(words, badge, grants)
 }
 
 /// A reader with all grants that are left goes off the publisher's token.

@@ -11,7 +11,7 @@ use crate::view::View;
 use atomic_table::{Join, Play, Split};
 use cell_core::Version;
 use raw_slots::{Keys, Tells};
-use std::marker::PhantomData;
+use std::marker::{Brand, PhantomData};
 use std::snapshot::Snapshot;
 
 /// A reader's load of W.
@@ -171,13 +171,27 @@ impl<T> Split<View<T>> for Rests {
     ghost right = { handed_back };
 }
 
+/// How many grants a reader is dealt.
+pub trait Hand {
+    ghost use Rattle.std.specs.Prelude.{ℕ};
+
+    /// The grants.
+    ghost grants: { ℕ };
+}
+
+impl Hand for Brand {
+    ghost grants = { 0 };
+}
+
 /// The publisher gives a reader of a new cell its grants.
-pub struct Deals;
+pub struct Deals<H: Hand> {
+    hand: PhantomData<H>,
+}
 
-impl<T> Split<View<T>> for Deals {
-    ghost left = { kept_dealt };
+impl<T, H: Hand> Split<View<T>> for Deals<H> {
+    ghost left = { kept_dealt H.grants };
 
-    ghost right = { dealt };
+    ghost right = { dealt H.grants };
 }
 
 /// The publisher takes a reader in that it is to give back.

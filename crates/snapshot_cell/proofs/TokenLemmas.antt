@@ -1,9 +1,11 @@
 -- What a step over a token's views makes of the token.
-use Rattle.std.proofs.Common.{◌≡◌, refl, ap, sym, ◌∙◌, subst, ℕ, ◌+◌, ◌-◌, ◌<◌, ◌≤◌, List, [], ◌∷◌, ◌++◌, length, Option, Some, None, arith}
+use Rattle.std.proofs.Common.{◌≡◌, refl, ap, sym, ◌∙◌, subst, ℕ, ◌+◌, ◌-◌, ◌*◌, ◌<◌, ◌≤◌, List, [], ◌∷◌, ◌++◌, length, Option, Some, None, mul-le-mul_right, arith}
 use Rattle.std.specs.List.{slice_get}
 use Rattle.std.proofs.lemmas.List.{length_push}
+use Rattle.std.proofs.Math.Nat.{suc-mul, zero-mul}
+use Rattle.std.proofs.Math.Numerals.{suc-eq-add-one}
 use Rattle.atomic_table.specs.Seated.{TableId}
-use Rattle.cell_core.specs.Words.{notes}
+use Rattle.cell_core.specs.Words.{grants, notes}
 use Rattle.cell_core.specs.declared.words.Version.{Version}
 use Rattle.counted_handles.specs.declared.view.Publishing.{Publishing}
 use Rattle.counted_handles.specs.declared.view.View.{View}
@@ -14,7 +16,7 @@ use Rattle.counted_handles.specs.Cuts.{dealt_grants, with_reader, reader_of}
 use Rattle.counted_handles.specs.Opens.{IsBegun}
 use Rattle.counted_handles.specs.Tells.{opener}
 use Rattle.counted_handles.specs.Calls.{IsOwned, IsNewer}
-use Rattle.snapshot_cell.specs.Tokens.{ReaderState, seen_in, gone_in, IsReader, IsPublisher, IsLoad, IsDealing, first_reader}
+use Rattle.snapshot_cell.specs.Tokens.{ReaderState, seen_in, gone_in, IsReader, IsPublisher, IsLoad, IsDealing, limited_reader}
 use Rattle.snapshot_cell.proofs.HistoryLemmas.{history_next}
 
 abbrev got_or : {X : Type 0} → X → Option X → X
@@ -99,27 +101,31 @@ module _ {T : Type 0} (begins : T → Type 0) (follows : T → T → Type 0) whe
 
 -- the tokens of a new cell
 module _ {T : Type 0} where
-  pub begun_dealing : (value : T) (name : ℕ) (views : List (View T)) → IsBegun value name views → IsDealing value name 0 views
-  begun_dealing value name views begun = record { publishing = opener value name begun.0; views_are = begun.1; published = refl; how = refl; whole = refl; left = refl; noted = refl; readers_are = refl; name_is = refl }
+  pub begun_dealing : (value : T) (name each : ℕ) (views : List (View T)) → IsBegun value name views → IsDealing value name 0 each views
+  begun_dealing value name each views begun = record { publishing = opener value name begun.0; views_are = begun.1; published = refl; how = refl; whole = refl; left = ap (λ n. grants + n) (zero-mul each); noted = refl; readers_are = refl; name_is = refl }
 
-  pub enough_left : (value : T) (name count : ℕ) (views : List (View T)) → (d : IsDealing value name count views) → count < 64 → dealt_grants ≤ d.publishing.left
-  enough_left value name count views d l = omega (arith, d.left, l)
+  pub enough_left : (value : T) (name count each : ℕ) (views : List (View T)) → (d : IsDealing value name count each views) → count < 64 → each ≤ dealt_grants → each ≤ d.publishing.left
+  enough_left value name count each views d l few =
+      let most : count * each ≤ 63 * each = mul-le-mul_right each (omega (arith, l)) in
+      omega (arith, d.left, most, few)
 
-  pub dealing_next : (value : T) (name count : ℕ) (views new_views : List (View T)) → (d : IsDealing value name count views) → count < 64 → new_views ≡ Publishes (with_reader d.publishing dealt_grants) ∷ [] → IsDealing value name (count + 1) new_views
-  dealing_next value name count views new_views d l is = record {
-    publishing = with_reader d.publishing dealt_grants;
-    views_are = is;
-    published = d.published;
-    how = d.how;
-    whole = d.whole;
-    left = omega (arith, d.left, l);
-    noted = d.noted;
-    readers_are = ap (λ n. n + 1) d.readers_are;
-    name_is = d.name_is;
-  }
+  pub dealing_next : (value : T) (name count each : ℕ) (views new_views : List (View T)) → (d : IsDealing value name count each views) → each ≤ d.publishing.left → new_views ≡ Publishes (with_reader d.publishing each) ∷ [] → IsDealing value name (count + 1) each new_views
+  dealing_next value name count each views new_views d enough is =
+      let more : (count + 1) * each ≡ count * each + each = ap (λ n. n * each) (sym (suc-eq-add-one count)) ∙ suc-mul count each in
+      record {
+        publishing = with_reader d.publishing each;
+        views_are = is;
+        published = d.published;
+        how = d.how;
+        whole = d.whole;
+        left = omega (arith, d.left, enough, more);
+        noted = d.noted;
+        readers_are = ap (λ n. n + 1) d.readers_are;
+        name_is = d.name_is;
+      }
 
-  pub dealt_reader : (value : T) (count : ℕ) (table cell : TableId) (views dealt : List (View T)) (n : ℕ) → (d : IsDealing value table.views_name count views) → cell ≡ table → dealt ≡ reader_of d.publishing n ∷ [] → IsReader cell dealt n
-  dealt_reader value count table cell views dealt n d same is = record {
+  pub dealt_reader : (value : T) (count n : ℕ) (table cell : TableId) (views dealt : List (View T)) → (d : IsDealing value table.views_name count n views) → cell ≡ table → dealt ≡ reader_of d.publishing n ∷ [] → IsReader cell dealt n
+  dealt_reader value count n table cell views dealt d same is = record {
     reading = record { seen = d.publishing.published; share = None; left = n; gone = []; name = d.publishing.name };
     views_are = is;
     whole = refl;
@@ -127,16 +133,16 @@ module _ {T : Type 0} where
     name_is = d.name_is ∙ ap (λ (z : TableId). z.views_name) (sym same);
   }
 
-  pub dealt_state : (value : T) (count : ℕ) (table cell : TableId) (views dealt : List (View T)) → (d : IsDealing value table.views_name count views) → cell ≡ table → dealt ≡ reader_of d.publishing dealt_grants ∷ [] → record { cell = cell; seen = seen_in dealt; left = dealt_grants; gone = gone_in dealt } ≡ first_reader table value
-  dealt_state value count table cell views dealt d same is =
+  pub dealt_state : (value : T) (count n : ℕ) (table cell : TableId) (views dealt : List (View T)) → (d : IsDealing value table.views_name count n views) → cell ≡ table → dealt ≡ reader_of d.publishing n ∷ [] → record { cell = cell; seen = seen_in dealt; left = n; gone = gone_in dealt } ≡ limited_reader n table value
+  dealt_state value count n table cell views dealt d same is =
       let saw : seen_in dealt ≡ value ∷ [] = ap seen_in is ∙ d.published in
       let none : gone_in dealt ≡ [] = ap gone_in is in
-      λ i. record { cell = same i; seen = saw i; left = dealt_grants; gone = none i }
+      λ i. record { cell = same i; seen = saw i; left = n; gone = none i }
 
   -- the publisher's token, when the readers have theirs
-  pub first_token : (begins : T → Type 0) (follows : T → T → Type 0) (value last : T) (count : ℕ) (table cell : TableId) (id : ℕ) (views new_views : List (View T)) (spare_cell : TableId) (spare : List (View T)) → (d : IsDealing value table.views_name count views) → begins value → last ≡ value → cell ≡ table → id ≡ 0
+  pub first_token : (begins : T → Type 0) (follows : T → T → Type 0) (value last : T) (count each : ℕ) (table cell : TableId) (id : ℕ) (views new_views : List (View T)) (spare_cell : TableId) (spare : List (View T)) → (d : IsDealing value table.views_name count each views) → begins value → last ≡ value → cell ≡ table → id ≡ 0
       → new_views ≡ Publishes (with_reader d.publishing d.publishing.left) ∷ [] → spare_cell ≡ cell → spare ≡ reader_of d.publishing d.publishing.left ∷ [] → IsPublisher begins follows cell id new_views spare_cell spare 0 last count 0
-  first_token begins follows value last count table cell id views new_views spare_cell spare d begun seen same seat is spare_same spare_is = record {
+  first_token begins follows value last count each table cell id views new_views spare_cell spare d begun seen same seat is spare_same spare_is = record {
     publishing = with_reader d.publishing d.publishing.left;
     views_are = is;
     first = seat;

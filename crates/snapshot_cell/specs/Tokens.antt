@@ -110,14 +110,14 @@ pub record IsPublisher {T : Type 0} (begins : T → Type 0) (follows : T → T �
   pub noted_is : publishing.noted ≡ noted
   pub few : noted ≤ notes
 
--- the publisher's token of a new cell, off which so many readers have gone (own)
-pub record IsDealing {T : Type 0} (value : T) (name count : ℕ) (views : List (View T)) : Type 0 where
+-- the publisher's token of a new cell, off which so many readers have gone, each with so many grants (own)
+pub record IsDealing {T : Type 0} (value : T) (name count each : ℕ) (views : List (View T)) : Type 0 where
   pub publishing : Publishing T
   pub views_are : views ≡ Publishes publishing ∷ []
   pub published : publishing.published ≡ value ∷ []
   pub how : publishing.how ≡ Probing 0
   pub whole : publishing.share ≡ None
-  pub left : publishing.left + count * dealt_grants ≡ grants
+  pub left : publishing.left + count * each ≡ grants
   pub noted : publishing.noted ≡ 0
   pub readers_are : publishing.readers ≡ count
   pub name_is : publishing.name ≡ name
@@ -125,6 +125,10 @@ pub record IsDealing {T : Type 0} (value : T) (name count : ℕ) (views : List (
 -- a reader of a new cell (own)
 abbrev pub first_reader : {T : Type 0} → TableId → T → ReaderState T
 first_reader cell value = record { cell = cell; seen = value ∷ []; left = dealt_grants; gone = [] }
+
+-- a reader of a new cell whose readers have so many grants (own)
+abbrev pub limited_reader : {T : Type 0} → ℕ → TableId → T → ReaderState T
+limited_reader grants cell value = record { cell = cell; seen = value ∷ []; left = grants; gone = [] }
 
 -- the publisher of a new cell (own)
 abbrev pub first_publisher : {T : Type 0} → TableId → T → PublisherState T

@@ -1,13 +1,14 @@
 //! The cell, and its calls.
-ghost use Rattle.std.specs.Prelude.{◌≡◌, ◌⊎◌, ◌↔◌, ◌<◌, ◌≤◌, ◌-◌, ◌^◌, [], ◌∷◌, vec_len, IfOk, IfErr, IsErrOf};
+ghost use Rattle.std.specs.Prelude.{◌≡◌, ◌⊎◌, ◌↔◌, ◌<◌, ◌≤◌, ◌-◌, ◌^◌, min, [], ◌∷◌, vec_len, IfOk, IfErr, IsErrOf};
 ghost use Rattle.std.specs.Vec.{vec_capacity};
 ghost use Rattle.std.specs.List.{All};
 ghost use Rattle.cell_core.specs.Words.{slots, notes};
 ghost use Rattle.counted_handles.specs.Calls.{Fits};
+ghost use Rattle.counted_handles.specs.Cuts.{dealt_grants};
 ghost use Rattle.counted_handles.specs.Opens.{IsBegun};
 ghost use Rattle.counted_handles.specs.Ruled.{Begins};
 ghost use Rattle.counted_handles.specs.declared.view.View.TheVariants.{Gone};
-ghost use Rattle.snapshot_cell.specs.Tokens.{IsDealing, IsLoad, first_publisher, first_reader, noted_next, published_next};
+ghost use Rattle.snapshot_cell.specs.Tokens.{IsDealing, IsLoad, first_publisher, first_reader, limited_reader, noted_next, published_next};
 
 use crate::ending::end_all;
 use crate::fault::{NewFault, Spent};
@@ -65,25 +66,30 @@ pub struct StillOut<T, C: Names<T>> {
     pub readers: Vec<Reader<T>>,
 }
 
-// So many readers go off the publisher's token of a new cell.
+// So many readers, which may make so many loads, go off the publisher's token of a new cell.
 fn deal_all<T, C: Names<T>>(
     words: &Words<T, C>,
     badge: &mut Badge<View<T>>,
     readers: &mut Vec<Reader<T>>,
     count: usize,
+    grants: u64,
 )
     requires fits { Fits words.now.table_id × (badge.old.table_id ≡ words.now.table_id) }
     requires begun { (value : T) × IsBegun value words.now.table_id.views_name badge.old.views }
     requires room { (readers.old.items ≡ []) × (count ≤ vec_capacity readers.old) × (count ≤ 64) }
+    requires grants { grants ≤ dealt_grants }
     ensures badge { (badge.new.table_id ≡ badge.old.table_id) × (badge.new.id ≡ badge.old.id) }
-    ensures dealing { (value : T) → IsBegun value words.now.table_id.views_name badge.old.views → IsDealing value words.now.table_id.views_name count badge.new.views }
-    ensures readers { (value : T) → IsBegun value words.now.table_id.views_name badge.old.views → All (λ r. r ≡ first_reader words.now.table_id value) readers.new.items }
+    ensures dealing { (value : T) → IsBegun value words.now.table_id.views_name badge.old.views → IsDealing value words.now.table_id.views_name count grants badge.new.views }
+    ensures readers { (value : T) → IsBegun value words.now.table_id.views_name badge.old.views → All (λ r. r ≡ limited_reader grants words.now.table_id value) readers.new.items }
     ensures count { vec_len readers.new ≡ count }
 {
     let mut dealt = 0;
     while dealt < count {
-        let badge = deal(words, badge);
-        readers.push_reserved(Reader { badge, left: LOADS });
+        let badge = deal(words, badge, grants);
+        readers.push_reserved(Reader {
+            badge,
+            left: grants,
+        });
         dealt += 1;
     }
 }
@@ -96,6 +102,21 @@ impl<T: Drop, C: Names<T>> Cell<T, C> {
         requires { C.begins first }
         ensures publisher { IfOk result (λ parts. parts.publisher ≡ first_publisher parts.cell first) }
         ensures readers { IfOk result (λ parts. All (λ r. r ≡ first_reader parts.cell first) parts.readers.items × (vec_len parts.readers ≡ readers)) }
+        ensures too_many { IsErrOf result NewFault.TooManyReaders ↔ (READERS < readers) }
+    {
+        Cell::new_limited(alloc, readers, first, LOADS)
+    }
+
+    /// As [`Cell::new`], whose readers have so many grants; a number over 2^40 counts as 2^40.
+    pub fn new_limited(
+        alloc: Global,
+        readers: usize,
+        first: T,
+        grants: u64,
+    ) -> Result<Parts<T, C>, NewFault>
+        requires { C.begins first }
+        ensures publisher { IfOk result (λ parts. parts.publisher ≡ first_publisher parts.cell first) }
+        ensures readers { IfOk result (λ parts. All (λ r. r ≡ limited_reader (min grants dealt_grants) parts.cell first) parts.readers.items × (vec_len parts.readers ≡ readers)) }
         ensures too_many { IsErrOf result NewFault.TooManyReaders ↔ (READERS < readers) }
     {
         if readers > READERS {
@@ -114,7 +135,13 @@ impl<T: Drop, C: Names<T>> Cell<T, C> {
             spots,
             bare,
         } = made;
-        deal_all(&table.shared, &mut badge, &mut tokens, readers);
+        deal_all(
+            &table.shared,
+            &mut badge,
+            &mut tokens,
+            readers,
+            grants.min(LOADS),
+        );
         let spare = deal_rest(&table.shared, &mut badge);
         Ok(Parts {
             cell: Cell {
