@@ -150,6 +150,21 @@ module _ {T : Type 0} (IsReply : Peer → Learned T → Learned T → List ℕ �
   known_done start seen (Some o) b faults done more most all known =
       (known.0, known.1, subst (λ (n : ℕ). Exchanged IsReply addresses start o faults n seen known.0 more) all known.2)
 
+  -- what is held back is sent
+  ends_flushed : (end : DatagramsEnd) (start later : Learned T) (o : List Datagram × List Datagram) (c d : Option (List Datagram × List Datagram)) (faults most more all : ℕ) → d ≡ c → IfSome c (λ _. all ≡ more)
+      → EndsBy IsReply addresses end start o faults most later c more → EndsBy IsReply addresses end start o faults most later d all
+  ends_flushed Done start later o c d faults most more all same counted e =
+      (e.0, same ∙ e.1, subst (λ (n : ℕ). Exchanged IsReply addresses start o faults most later e.0 n) (sym (subst (λ m. IfSome m (λ _. all ≡ more)) e.1 counted)) e.2)
+  ends_flushed Device start later o c d faults most more all same counted e =
+      (e.0, e.1, e.2, same ∙ e.3, e.4, e.5, subst (λ m. IfSome m (λ _. all ≡ more)) e.3 counted ∙ e.6)
+  ends_flushed Spent start later o c d faults most more all same counted e =
+      (e.0, e.1, e.2, same ∙ e.3, e.4, subst (λ (n : ℕ). Exchanged IsReply addresses start o faults e.1 later (e.2 ∷ e.0.0, e.0.1) n) (sym (subst (λ m. IfSome m (λ _. all ≡ more)) e.3 counted)) e.5)
+
+  pub all_flushed : (end : DatagramsEnd) (start later : Learned T) (a c d : Option (List Datagram × List Datagram)) (faults most more all : ℕ) → d ≡ c → IfSome c (λ _. all ≡ more)
+      → IfSome a (λ o. EndsBy IsReply addresses end start o faults most later c more) → IfSome a (λ o. EndsBy IsReply addresses end start o faults most later d all)
+  all_flushed end start later None c d faults most more all same counted e = tt
+  all_flushed end start later (Some o) c d faults most more all same counted e = ends_flushed end start later o c d faults most more all same counted e
+
   -- a datagram that is received and answered
   pub turn_made : (seen before later : Learned T) (peer : Peer) (request : List ℕ) (from : SocketAddr) (a b c : Option (List Datagram × List Datagram)) (faults mid more : ℕ) → Grows before seen → Grows later before → IsPeer addresses Udp from peer → Receives a b (request, from) → mid ≡ faults
       → RepliesTo IsReply peer before request from later b mid c more → IfSome a (λ o. TurnsBy IsReply addresses None seen o faults later c more)

@@ -24,9 +24,14 @@ pub trait Datagrams {
         ensures nothing { result ≡ None → datagrams self.new ≡ datagrams self.old }
         ensures counted { result ≡ None → failed self.new ≡ count_of (failed self.old) 1 };
 
-    /// Sends a datagram. A failure is counted.
+    /// Sends a datagram, or holds it back until it can receive no more without waiting. A failure is counted.
     fn send(&mut self, octets: &[u8], to: SocketAddr)
         ensures { SendsOrFails (datagrams self.old) (failed self.old) (datagrams self.new) (failed self.new) (octets.now, to) };
+
+    /// Sends what it was given to send and holds back yet. One that tells its datagrams holds none back; another counts then what has failed, too.
+    fn flush(&mut self)
+        ensures same { datagrams self.new ≡ datagrams self.old }
+        ensures counted { IfSome (datagrams self.old) (λ _. failed self.new ≡ failed self.old) };
 
     /// How many sends and receives have failed; at most 2^64 - 1 are counted.
     fn faults(&self) -> u64

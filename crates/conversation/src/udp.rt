@@ -81,9 +81,7 @@ fn turn<R: Wait, A: Answering, D: Datagrams, G: Gate>(
 }
 
 /// Answers requests that come as datagrams one after another, so many; fewer where one can't be received, or no version can be loaded.
-/// Over datagrams that tell themselves, what is sent is the replies in the order of the requests, each to who asked, who may update
-/// and transfer by its own address; but for those that fail to be sent, which are counted (RFC 1035, 4.2.1).
-pub fn serve_udp<R: Wait, A: Answering, D: Datagrams, G: Gate>(
+fn answer_all<R: Wait, A: Answering, D: Datagrams, G: Gate>(
     rt: &R,
     answering: &mut A,
     datagrams: &mut D,
@@ -105,4 +103,27 @@ pub fn serve_udp<R: Wait, A: Answering, D: Datagrams, G: Gate>(
         }
     }
     DatagramsEnd::Done
+}
+
+/// Answers requests that come as datagrams one after another, so many; fewer where one can't be received, or no version can be loaded.
+/// Over datagrams that tell themselves, what is sent is the replies in the order of the requests, each to who asked, who may update
+/// and transfer by its own address; but for those that fail to be sent, which are counted (RFC 1035, 4.2.1). None is held back at the end.
+pub fn serve_udp<R: Wait, A: Answering, D: Datagrams, G: Gate>(
+    rt: &R,
+    answering: &mut A,
+    datagrams: &mut D,
+    allowed: Allowed<'_>,
+    most: u64,
+    gate: &G,
+    request: &mut [u8],
+    out: &mut [u8],
+) -> DatagramsEnd
+    requires request_room { message_limit ≤ length request.old }
+    requires reply_room { message_limit ≤ length out.old }
+    ensures grows { Grows (A.seen answering.new) (A.seen answering.old) }
+    ensures answered { IfSome (D.datagrams datagrams.old) (λ o. EndsBy A.is_reply allowed.entry.addresses.now result (A.seen answering.old) o (D.failed datagrams.old) most (A.seen answering.new) (D.datagrams datagrams.new) (D.failed datagrams.new)) }
+{
+    let end = answer_all(rt, answering, datagrams, allowed, most, gate, request, out);
+    datagrams.flush();
+    end
 }

@@ -65,8 +65,22 @@ pub fn parts_of<Z: FirstZone>(
     ensures publisher { IfSome result (λ parts. (parts.publisher.cell ≡ parts.cell) × (parts.publisher.number ≡ 0)) }
     ensures readers { IfSome result (λ parts. All (λ r. r.cell ≡ parts.cell) parts.readers.items × (vec_len parts.readers ≡ readers)) }
 {
+    limited_parts_of(alloc, zone, readers, u64::MAX)
+}
+
+/// The same, whose readers have so many grants, or 2^40 where that is less.
+pub fn limited_parts_of<Z: FirstZone>(
+    alloc: Global,
+    zone: Zone,
+    readers: usize,
+    grants: u64,
+) -> Option<Parts<SharedVersion, ZoneVersions<Z>>>
+    requires { zone ≡ Z.zone }
+    ensures publisher { IfSome result (λ parts. (parts.publisher.cell ≡ parts.cell) × (parts.publisher.number ≡ 0)) }
+    ensures readers { IfSome result (λ parts. All (λ r. r.cell ≡ parts.cell) parts.readers.items × (vec_len parts.readers ≡ readers)) }
+{
     let first = SharedVersion::new(alloc, Version::first(zone))?;
-    Cell::<SharedVersion, ZoneVersions<Z>>::new(alloc, readers, first).ok()
+    Cell::<SharedVersion, ZoneVersions<Z>>::new_limited(alloc, readers, first, grants).ok()
 }
 
 /// Readers, by the name of their cell, as many as there is room for.
@@ -124,17 +138,22 @@ pub fn named_parts<R: Wait, Z: FirstZone, N: Naming>(
     })
 }
 
-/// Ends a cell. It doesn't return where a reader is missing, or an owner is out.
-pub fn end<R: Wait, Z: FirstZone, N: Naming>(rt: &R, parts: NamedParts<Z, N>) {
+/// The version with which a cell ends. It doesn't return where a reader is missing, or an owner is out.
+pub fn last_of<R: Wait, Z: FirstZone, N: Naming>(rt: &R, parts: NamedParts<Z, N>) -> SharedVersion {
     let NamedParts {
         cell,
         publisher,
         readers,
     } = parts;
     match cell.close(publisher, readers) {
-        Ok(_) => {}
+        Ok(last) => last,
         Err(out) => keep(rt, out),
     }
+}
+
+/// Ends a cell. It doesn't return where a reader is missing, or an owner is out.
+pub fn end<R: Wait, Z: FirstZone, N: Naming>(rt: &R, parts: NamedParts<Z, N>) {
+    let _last = last_of(rt, parts);
 }
 
 /// The server of a cell, which keeps eight versions. One that should keep nine is refused first; there is none where it isn't.
@@ -202,16 +221,28 @@ fn play_from<R: Wait, Z: FirstZone, P: Play>(
     rt: &R,
     alloc: Global,
     zone: Zone,
+    grants: u64,
     play: &P,
 ) -> Option<bool>
     requires { zone ≡ Z.zone }
 {
-    let parts = parts_of::<Z>(alloc, zone, 2)?;
+    let parts = limited_parts_of::<Z>(alloc, zone, 2, grants)?;
     play_in::<R, Z, Brand, P>(rt, alloc, parts, play)
 }
 
 /// Whether what is played in a cell that begins with a zone goes as it should; None where there is no memory for it. The cell is
 /// ended.
 pub fn is_played<R: Wait, P: Play>(rt: &R, alloc: Global, zone: Zone, play: &P) -> Option<bool> {
-    play_from::<R, Brand, P>(rt, alloc, zone, play)
+    is_played_by(rt, alloc, zone, u64::MAX, play)
+}
+
+/// The same, whose readers have so many grants, or 2^40 where that is less.
+pub fn is_played_by<R: Wait, P: Play>(
+    rt: &R,
+    alloc: Global,
+    zone: Zone,
+    grants: u64,
+    play: &P,
+) -> Option<bool> {
+    play_from::<R, Brand, P>(rt, alloc, zone, grants, play)
 }

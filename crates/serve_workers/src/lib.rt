@@ -9,6 +9,7 @@
 mod connections_job;
 mod datagrams_job;
 mod ending;
+mod held_replies;
 mod interrupted;
 mod notify_job;
 mod progress;

@@ -1,18 +1,30 @@
 //! A worker's socket of datagrams (RFC 1035, 4.2.1).
+//!
+//! While few datagrams come it waits for each, and sends its reply at once: two calls of the system a query. Where more are there already, it takes
+//! them without waiting, and sends their replies one behind another once none is left, or a few have come: who asks is then woken once for
+//! many replies.
 ghost use Rattle.std.specs.Prelude.{◌≡◌, ◌≢◌, ◌≤◌, None, length, IfOk, IfErr, IfSome};
 ghost use Rattle.std.specs.IoError.{error_kind};
 ghost use Rattle.std.specs.Io.{WritesAtMost};
 ghost use Rattle.conversation.specs.Datagrams.{count_of};
 
+use crate::held_replies::{HeldReplies, MOST};
 use crate::interrupted::is_interrupted;
 use crate::progress::Standing;
 use conversation::Datagrams;
+use std::alloc::Global;
 use std::io::{self, ErrorKind};
 use std::net::{SocketAddr, UdpSocket};
 use std::time::Duration;
 
 /// How many seconds a datagram is waited for, until the thread looks whether it is to end (own).
 const LOOK: u64 = 1;
+
+/// How many datagrams are waited for, one behind another, until it is tried whether one is there already (own).
+const WAITS: u32 = 32;
+
+/// A datagram of more octets may take long, so that no reply is held back beside it (own).
+const LONG: usize = 512;
 
 /// Whether a receiving has only taken too long, or was interrupted, so that it is begun again.
 fn is_passing(fault: &io::Error) -> bool {
@@ -42,17 +54,42 @@ fn send_to(socket: &UdpSocket, octets: &[u8], to: SocketAddr) -> io::Result<usiz
     Err(io::Error::from(ErrorKind::TimedOut))
 }
 
+/// Sends a reply, and gives whether it is sent in whole.
+pub(crate) fn is_sent(socket: &UdpSocket, octets: &[u8], to: SocketAddr) -> bool {
+    match send_to(socket, octets, to) {
+        Ok(sent) => sent == octets.len(),
+        Err(_) => false,
+    }
+}
+
+/// How datagrams are received.
+#[derive(Clone, Copy)]
+enum Mode {
+    /// Each is waited for, as so many were before it.
+    Waiting(u32),
+    /// None is waited for; so many have come since replies were sent last.
+    Taking(u32),
+}
+
 /// A worker's socket of datagrams, with the count of its failures.
 #[derive(Drop)]
 pub struct WorkerSocket<'a> {
     socket: UdpSocket,
     standing: Standing<'a>,
+    mode: Mode,
+    held: HeldReplies,
+    /// How many replies that were held back failed to be sent, and aren't counted yet.
+    lost: u64,
     faults: u64,
 }
 
 impl<'a> WorkerSocket<'a> {
     /// A socket of a worker's thread, which waits for datagrams from now on; with no failure counted yet.
-    pub fn new(socket: UdpSocket, standing: Standing<'a>) -> io::Result<WorkerSocket<'a>>
+    pub fn new(
+        alloc: Global,
+        socket: UdpSocket,
+        standing: Standing<'a>,
+    ) -> io::Result<WorkerSocket<'a>>
         ensures { IfOk result (λ socket. socket.faults ≡ 0) }
     {
         socket.set_nonblocking(false)?;
@@ -60,6 +97,9 @@ impl<'a> WorkerSocket<'a> {
         Ok(WorkerSocket {
             socket,
             standing,
+            mode: Mode::Waiting(0),
+            held: HeldReplies::new(alloc)?,
+            lost: 0,
             faults: 0,
         })
     }
@@ -71,22 +111,75 @@ impl<'a> WorkerSocket<'a> {
         self.faults = self.faults.saturating_add(1);
     }
 
+    /// Sends the replies that are held back.
+    fn send_held(&mut self)
+        ensures { self.new.faults ≡ self.old.faults }
+    {
+        let lost = self.held.send(&self.socket);
+        self.lost = self.lost.saturating_add(lost);
+    }
+
+    /// Before a datagram is received: where many have been waited for, the next isn't; where many have been taken, their replies are sent.
+    fn prepare(&mut self) -> io::Result<()>
+        ensures { self.new.faults ≡ self.old.faults }
+    {
+        match self.mode {
+            Mode::Waiting(WAITS) => {
+                self.socket.set_nonblocking(true)?;
+                self.mode = Mode::Taking(0);
+            }
+            Mode::Taking(MOST) => {
+                self.send_held();
+                self.mode = Mode::Taking(0);
+            }
+            _ => {}
+        }
+        Ok(())
+    }
+
+    /// A datagram of so many octets has come.
+    fn note(&mut self, len: usize)
+        ensures { self.new.faults ≡ self.old.faults }
+    {
+        match self.mode {
+            Mode::Waiting(count) => self.mode = Mode::Waiting(count.saturating_add(1)),
+            Mode::Taking(count) => self.mode = Mode::Taking(count.saturating_add(1)),
+        }
+        if len > LONG {
+            self.send_held();
+        }
+    }
+
+    /// None has come: the next one is waited for, once the replies that are held back are sent.
+    fn wait(&mut self) -> io::Result<()>
+        ensures { self.new.faults ≡ self.old.faults }
+    {
+        if let Mode::Taking(_) = self.mode {
+            self.send_held();
+            self.socket.set_nonblocking(false)?;
+            self.mode = Mode::Waiting(0);
+        }
+        Ok(())
+    }
+
     /// Receives a datagram to the front of a buffer, and gives how many octets it has there and who sent it; none where the socket has failed, or
     /// the thread is to end.
-    fn next(&self, buf: &mut [u8]) -> Option<(usize, SocketAddr)>
-        ensures { IfSome result (λ received. received.0 ≤ length buf.new) }
+    fn next(&mut self, buf: &mut [u8]) -> Option<(usize, SocketAddr)>
+        ensures bound { IfSome result (λ received. received.0 ≤ length buf.new) }
+        ensures same { self.new.faults ≡ self.old.faults }
     {
-        for _ in 0..u64::MAX {
+        for _tried in 0..u64::MAX {
             if self.standing.is_over() {
                 return None;
             }
+            self.prepare().ok()?;
             match self.socket.recv_from(buf) {
-                Ok(received) => return Some(received),
-                Err(fault) => {
-                    if !is_passing(&fault) {
-                        return None;
-                    }
+                Ok(received) => {
+                    self.note(received.0);
+                    return Some(received);
                 }
+                Err(fault) if is_passing(&fault) => self.wait().ok()?,
+                Err(_) => return None,
             }
         }
         None
@@ -112,11 +205,28 @@ impl Datagrams for WorkerSocket<'_> {
         }
     }
 
+    // A failure of one that was held back is counted by a later call.
     fn send(&mut self, octets: &[u8], to: SocketAddr) {
-        match send_to(&self.socket, octets, to) {
-            Ok(sent) if sent == octets.len() => {}
-            _ => self.count(),
+        let is_held = match self.mode {
+            Mode::Taking(_) => self.held.hold(octets, to),
+            Mode::Waiting(_) => false,
+        };
+        if !is_held {
+            self.send_held();
+            if !is_sent(&self.socket, octets, to) {
+                self.lost = self.lost.saturating_add(1);
+            }
         }
+        if self.lost > 0 {
+            self.lost -= 1;
+            self.count();
+        }
+    }
+
+    fn flush(&mut self) {
+        self.send_held();
+        self.faults = self.faults.saturating_add(self.lost);
+        self.lost = 0;
     }
 
     fn faults(&self) -> u64 {

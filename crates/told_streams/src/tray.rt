@@ -111,6 +111,9 @@ impl Datagrams for Tray {
         }
     }
 
+    // Each is sent at once.
+    fn flush(&mut self) {}
+
     fn faults(&self) -> u64 {
         self.faults
     }

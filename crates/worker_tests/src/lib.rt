@@ -1,10 +1,16 @@
-//! Tests of the workers of `serve_workers`: jobs on datagrams, side by side; a job on connections over a poll that is made up; and how a server
+//! Tests of the workers of `serve_workers`: jobs on datagrams, side by side; datagrams that lie in a socket together; a job on connections over a poll that is made up; and how a server
 //! ends, over sockets of the system's.
 #![tactic(auto)]
 
 #[cfg(test)]
+mod bursts;
+#[cfg(test)]
+mod counts;
+#[cfg(test)]
 mod ending;
 #[cfg(test)]
 mod gates;
+#[cfg(test)]
+mod refused;
 #[cfg(test)]
 mod turning;

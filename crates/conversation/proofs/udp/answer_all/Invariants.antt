@@ -1,7 +1,7 @@
 -- The datagrams so far are answered.
 use Rattle.conversation.specs.Served.{Grows}
 use Rattle.conversation.proofs.ExchangeLemmas.{Known}
-use Rattle.conversation.proofs.udp.serve_udp.Given as goal
+use Rattle.conversation.proofs.udp.answer_all.Given as goal
 
 abbrev pub invariant-loop-done : goal.invariant-loop-done
 invariant-loop-done g l =
