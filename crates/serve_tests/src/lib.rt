@@ -8,7 +8,13 @@ mod chains;
 #[cfg(test)]
 mod engines;
 #[cfg(test)]
+mod exhausted;
+#[cfg(test)]
+mod failing;
+#[cfg(test)]
 mod gone_versions;
+#[cfg(test)]
+mod last_versions;
 #[cfg(test)]
 mod orders;
 #[cfg(test)]
