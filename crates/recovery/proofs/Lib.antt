@@ -1,0 +1,6 @@
+pub mod HeldLemmas
+pub mod ReadLemmas
+pub mod ReplayLemmas
+pub mod StartLemmas
+pub mod CutLemmas
+pub mod StoreLemmas

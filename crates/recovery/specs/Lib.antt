@@ -1,0 +1,5 @@
+pub mod Replay
+pub mod Start
+pub mod Store
+pub mod Private
+pub use Rattle.dns_engine.specs.Held
