@@ -103,7 +103,7 @@ pub stored_of-cmp : (name other : List (List ℕ)) → slice_cmp nat_cmp (stored
 stored_of-cmp name other = labels_cmp (reverse (fold_name name)) (reverse (fold_name other))
 
 -- a label's octets are read back
-octets_back : (label : List ℕ) → octets_stored (flat_map stored_octet label) ≡ label
+pub octets_back : (label : List ℕ) → octets_stored (flat_map stored_octet label) ≡ label
 octets_back [] = refl
 octets_back (zero ∷ label) = ap (λ (ls : List ℕ). 0 ∷ ls) (octets_back label)
 octets_back (suc zero ∷ label) = ap (λ (ls : List ℕ). 1 ∷ ls) (octets_back label)
@@ -291,6 +291,7 @@ one_piece (label ∷ labels) octets at e f found =
       within = omega arith;
       first = record {
         labels = f ∙ ap (λ (l : List ℕ). l ∷ labels) (sym (octets_back label) ∙ ap octets_stored (sym piece)) ∙ ap (λ (ls : List (List ℕ)). octets_stored (take at octets) ∷ ls) (sym read);
+        octets_are = whole ∙ ap (λ (os : List ℕ). os ++ 0 ∷ rest) (sym piece) ∙ ap (λ (os : List ℕ). take at octets ++ 0 ∷ os) (sym behind);
         closed = behind ∙ ap (flat_map stored_label) (sym read);
         shorter = omega arith;
       };
@@ -301,6 +302,21 @@ pub front_reverse : (label : List ℕ) (labels : List (List ℕ)) → front_of (
 front_reverse label labels =
     let order : reverse (label ∷ labels) ≡ reverse labels ++ label ∷ [] = reverse-append (label ∷ []) labels in
     ap front_of order ∙ front_last (reverse labels) label
+
+-- the front of the labels behind the first piece, and that of all
+pub front_at : (octets piece rest : List ℕ) → IsFirstPiece octets piece rest → front_of (reverse (labels_stored octets)) ≡ front_of (reverse (labels_stored rest)) ++ length (octets_stored piece) ∷ octets_stored piece
+front_at octets piece rest first = ap (λ (ls : List (List ℕ)). front_of (reverse ls)) first.labels ∙ front_reverse (octets_stored piece) (labels_stored rest)
+
+-- the first of short labels, and the others
+pub short_first : (octets piece rest : List ℕ) → IsFirstPiece octets piece rest → All (λ (label : List ℕ). length label < 64) (labels_stored octets) → length (octets_stored piece) < 64
+short_first octets piece rest first h =
+    let P : List ℕ → Type 0 = λ label. length label < 64 in
+    All-head P (octets_stored piece) (labels_stored rest) (All-same P _ _ (sym first.labels) h)
+
+pub short_rest : (octets piece rest : List ℕ) → IsFirstPiece octets piece rest → All (λ (label : List ℕ). length label < 64) (labels_stored octets) → All (λ (label : List ℕ). length label < 64) (labels_stored rest)
+short_rest octets piece rest first h =
+    let P : List ℕ → Type 0 = λ label. length label < 64 in
+    All-tail P (octets_stored piece) (labels_stored rest) (All-same P _ _ (sym first.labels) h)
 
 -- the front and the closing octet are the name on the wire
 pub front_wire : (name : List (List ℕ)) → front_of name ++ 0 ∷ [] ≡ wire_of name

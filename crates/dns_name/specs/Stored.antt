@@ -1,6 +1,7 @@
 -- How a zone keeps a name: in lower case and from the rightmost label on, in octets that compare from the front as the
 -- names do in canonical order (RFC 4034, 6.1; own).
-use Rattle.std.specs.Prelude.{◌≡◌, ℕ, zero, suc, ◌-◌, ◌<◌, List, [], ◌∷◌, ◌++◌, length, map, reverse, flat_map, All}
+use Rattle.std.specs.Prelude.{◌≡◌, false, ℕ, zero, suc, ◌-◌, ◌<◌, ◌==◌, List, [], ◌∷◌, ◌++◌, length, map, reverse, flat_map, All}
+use Rattle.std.specs.List.{list_any}
 use Rattle.dns_name.specs.Name.{Name, IsName, fold_name}
 use Rattle.dns_name.specs.Text.{onto_first}
 
@@ -49,8 +50,13 @@ pub record IsStored (octets : List ℕ) : Type 0 where
 abbrev pub IsClosed : List ℕ → Type 0
 IsClosed octets = octets ≡ flat_map stored_label (labels_stored octets)
 
+-- no octet stands in front of one that stands for another
+abbrev pub IsPlain : List ℕ → Type 0
+IsPlain octets = list_any (λ octet. octet == 1) octets ≡ false
+
 -- they begin with what stands for a label, and the rest is what stands for labels again
 pub record IsFirstPiece (octets piece rest : List ℕ) : Type 0 where
   pub labels : labels_stored octets ≡ octets_stored piece ∷ labels_stored rest
+  pub octets_are : octets ≡ piece ++ 0 ∷ rest
   pub closed : IsClosed rest
   pub shorter : length rest < length octets

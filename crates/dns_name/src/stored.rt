@@ -3,12 +3,12 @@ ghost use Rattle.std.specs.Prelude.{◌≡◌, ◌==◌, ◌+◌, ◌*◌, ◌<�
 ghost use Rattle.dns_name.specs.Gather.{front_of};
 ghost use Rattle.dns_name.specs.Labels.{labels_in, IsWhole};
 ghost use Rattle.dns_name.specs.Name.{Name, IsName, fold_name, is_under, canonical_cmp};
-ghost use Rattle.dns_name.specs.Stored.{stored_octet, stored_label, octets_stored, labels_stored, name_stored, IsStored, IsClosed, IsFirstPiece};
+ghost use Rattle.dns_name.specs.Stored.{stored_octet, stored_label, octets_stored, labels_stored, name_stored, IsStored, IsClosed, IsFirstPiece, IsPlain};
 ghost use Rattle.dns_name.specs.Text.{text_of};
 
 use crate::kept::KeptOctets;
 use crate::name::{MAX_LABEL, MAX_NAME, Name};
-use crate::octets::{append_label, first_label};
+use crate::octets::{append, first_label};
 use arrayvec::ArrayVec;
 use std::alloc::{AllocError, Global};
 use std::cmp::Ordering;
@@ -64,6 +64,7 @@ fn put_labels(to: &mut ArrayVec<u8, MAX_STORED>, octets: &[u8])
 }
 
 /// The place of the octet that closes the first label.
+#[inline(never)]
 fn first_closing(octets: &[u8]) -> Option<usize>
     ensures { result ≡ position (λ octet. octet == 0) octets.now }
 {
@@ -94,18 +95,18 @@ fn first_octet(piece: &[u8]) -> Option<(u8, &[u8])>
     }
 }
 
-/// The label that a piece stands for.
-fn label_of(piece: &[u8]) -> ArrayVec<u8, MAX_LABEL>
+/// How many octets a piece stands for.
+fn octet_count(piece: &[u8]) -> usize
     requires { length (octets_stored piece.now) ≤ MAX_LABEL }
-    ensures { result.items ≡ octets_stored piece.now }
+    ensures { result ≡ length (octets_stored piece.now) }
 {
-    let mut label = ArrayVec::new();
+    let mut count = 0;
     let mut rest = piece;
-    while let Some((octet, behind)) = first_octet(rest) {
-        label.push(octet);
+    while let Some((_octet, behind)) = first_octet(rest) {
+        count += 1;
         rest = behind;
     }
-    label
+    count
 }
 
 /// Labels behind the others, each behind its length, as they stand on the wire.
@@ -121,18 +122,71 @@ fn put_front(to: &mut ArrayVec<u8, MAX_NAME>, octets: &[u8])
     }
 }
 
-/// The label that a piece stands for behind the others, behind its length: most pieces are their labels.
-#[tactic(auto, using(crate::proofs::PieceLemmas::plain_piece))]
+/// The label that a piece stands for behind the others, behind its length.
 fn put_piece(to: &mut ArrayVec<u8, MAX_NAME>, piece: &[u8])
     requires short { length (octets_stored piece.now) ≤ MAX_LABEL }
     requires room { length to.old.items + length (octets_stored piece.now) + 2 ≤ MAX_NAME }
     ensures { to.new.items ≡ to.old.items ++ length (octets_stored piece.now) ∷ octets_stored piece.now }
 {
-    if piece.contains(&ESCAPE) {
-        append_label(to, label_of(piece).as_slice());
-    } else {
-        append_label(to, piece);
+    to.push(octet_count(piece) as u8);
+    let mut rest = piece;
+    while let Some((octet, behind)) = first_octet(rest) {
+        to.push(octet);
+        rest = behind;
     }
+}
+
+/// Writes octets over as many; a single one, as many labels of a long name are, without a call.
+fn write_over(out: &mut [u8], octets: &[u8])
+    requires { length out.old ≡ length octets.now }
+    ensures { out.new ≡ octets.now }
+{
+    if octets.len() == 1 {
+        out[0] = octets[0];
+    } else {
+        out.copy_from_slice(octets);
+    }
+}
+
+/// Writes a label behind its length over as many octets.
+fn write_label(out: &mut [u8], label: &[u8])
+    requires room { length out.old ≡ length label.now + 1 }
+    requires short { length label.now ≤ MAX_LABEL }
+    ensures { out.new ≡ length label.now ∷ label.now }
+{
+    out[0] = label.len() as u8;
+    write_over(&mut out[1..], label);
+}
+
+/// Writes the labels that octets without an escape stand for over as many octets, each behind its length, as they stand on the wire: the
+/// first that is stored is the last there.
+fn write_front(out: &mut [u8], octets: &[u8])
+    requires closed { IsClosed octets.now }
+    requires plain { IsPlain octets.now }
+    requires room { length out.old ≡ length octets.now }
+    requires short { All (λ label. length label < 64) (labels_stored octets.now) }
+    ensures { out.new ≡ front_of (reverse (labels_stored octets.now)) }
+{
+    if let Some((piece, behind)) = first_piece(octets) {
+        let (front, own) = out.split_at_mut(behind.len());
+        write_label(own, piece);
+        write_front(front, behind);
+    }
+}
+
+/// The labels of a stored name, each behind its length, as they stand on the wire, where nothing is yet. Where no octet stands for
+/// another, which is so of most names, they are as many octets as are stored.
+fn put_name_front(to: &mut ArrayVec<u8, MAX_NAME>, octets: &[u8])
+    requires stored { IsStored octets.now }
+    requires empty { to.old.items ≡ [] }
+    ensures { to.new.items ≡ front_of (name_stored octets.now) }
+{
+    if octets.contains(&ESCAPE) {
+        put_front(to, octets);
+        return;
+    }
+    append(to, octets);
+    write_front(to.as_mut_slice(), octets);
 }
 
 /// A name in lower case, in the form in which it is sought among stored names. It lies in the value itself.
@@ -239,7 +293,7 @@ impl StoredName {
         ensures folded { result ≡ fold_name result }
     {
         let mut octets = ArrayVec::new();
-        put_front(&mut octets, self.octets());
+        put_name_front(&mut octets, self.octets());
         octets.push(0);
         Name::from_octets(octets)
     }

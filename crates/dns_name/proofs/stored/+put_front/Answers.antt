@@ -1,25 +1,15 @@
-use Rattle.std.proofs.Common.{◌≡◌, ◌+◌, ◌∙◌, ◌<◌, ◌++◌, ◌∷◌, All, List, ℕ, length, reverse, refl, sym, ap, append_assoc, arith, rules}
+use Rattle.std.proofs.Common.{◌≡◌, ◌+◌, ◌∙◌, ◌++◌, ◌∷◌, List, ℕ, length, reverse, refl, sym, ap, append_assoc, arith, rules}
 use Rattle.std.proofs.lemmas.List.{length-append}
-use Rattle.std.proofs.lemmas.List.Elements.{All-same, All-tail}
 use Rattle.dns_name.specs.Gather.{front_of}
 use Rattle.dns_name.specs.Stored.{IsFirstPiece, octets_stored, labels_stored}
-use Rattle.dns_name.proofs.StoredLemmas.{front_reverse}
+use Rattle.dns_name.proofs.StoredLemmas.{front_at, short_first, short_rest}
 use Rattle.dns_name.proofs.stored.+put_front.Goals as goal
-
--- the front of the labels behind the first, and that of all
-front_at : (octets piece rest : List ℕ) → IsFirstPiece octets piece rest → front_of (reverse (labels_stored octets)) ≡ front_of (reverse (labels_stored rest)) ++ length (octets_stored piece) ∷ octets_stored piece
-front_at octets piece rest first = ap (λ (ls : List (List ℕ)). front_of (reverse ls)) first.labels ∙ front_reverse (octets_stored piece) (labels_stored rest)
 
 size_at : (octets piece rest : List ℕ) → IsFirstPiece octets piece rest → length (front_of (reverse (labels_stored octets))) ≡ length (front_of (reverse (labels_stored rest))) + (length (octets_stored piece) + 1)
 size_at octets piece rest first =
     let size = ap length (front_at octets piece rest first) in
     let both = length-append (front_of (reverse (labels_stored rest))) (length (octets_stored piece) ∷ octets_stored piece) in
     omega arith
-
-short_rest : (octets piece rest : List ℕ) → IsFirstPiece octets piece rest → All (λ (label : List ℕ). length label < 64) (labels_stored octets) → All (λ (label : List ℕ). length label < 64) (labels_stored rest)
-short_rest octets piece rest first h =
-    let P : List ℕ → Type 0 = λ label. length label < 64 in
-    All-tail P (octets_stored piece) (labels_stored rest) (All-same P _ _ (sym first.labels) h)
 
 pub put_front-requires : goal.put_front-requires
 put_front-requires t c =
@@ -34,6 +24,9 @@ joined new old mid label octets piece rest first e l put =
     let front = front_at octets piece rest first in
     let all : new ≡ (old ++ front_of (reverse (labels_stored rest))) ++ length (octets_stored piece) ∷ octets_stored piece = rw (← e, ← l) put in
     all ∙ append_assoc old (front_of (reverse (labels_stored rest))) (length (octets_stored piece) ∷ octets_stored piece) ∙ ap (λ (xs : List ℕ). old ++ xs) (sym front)
+
+pub put_piece-requires-clause-short : goal.put_piece-requires-clause-short
+put_piece-requires-clause-short t c = omega (arith, short_first _ _ _ c.in-Some.ensures c.requires.short)
 
 pub put_piece-requires-clause-room : goal.put_piece-requires-clause-room
 put_piece-requires-clause-room t c =
