@@ -65,8 +65,22 @@ pub fn parts_of<Z: FirstZone>(
     ensures publisher { IfSome result (λ parts. (parts.publisher.cell ≡ parts.cell) × (parts.publisher.number ≡ 0)) }
     ensures readers { IfSome result (λ parts. All (λ r. r.cell ≡ parts.cell) parts.readers.items × (vec_len parts.readers ≡ readers)) }
 {
+    limited_parts_of(alloc, zone, readers, u64::MAX)
+}
+
+/// The same, whose readers have so many grants, or 2^40 where that is less.
+pub fn limited_parts_of<Z: FirstZone>(
+    alloc: Global,
+    zone: Zone,
+    readers: usize,
+    grants: u64,
+) -> Option<Parts<SharedVersion, ZoneVersions<Z>>>
+    requires { zone ≡ Z.zone }
+    ensures publisher { IfSome result (λ parts. (parts.publisher.cell ≡ parts.cell) × (parts.publisher.number ≡ 0)) }
+    ensures readers { IfSome result (λ parts. All (λ r. r.cell ≡ parts.cell) parts.readers.items × (vec_len parts.readers ≡ readers)) }
+{
     let first = SharedVersion::new(alloc, Version::first(zone))?;
-    Cell::<SharedVersion, ZoneVersions<Z>>::new(alloc, readers, first).ok()
+    Cell::<SharedVersion, ZoneVersions<Z>>::new_limited(alloc, readers, first, grants).ok()
 }
 
 /// Readers, by the name of their cell, as many as there is room for.
@@ -202,16 +216,28 @@ fn play_from<R: Wait, Z: FirstZone, P: Play>(
     rt: &R,
     alloc: Global,
     zone: Zone,
+    grants: u64,
     play: &P,
 ) -> Option<bool>
     requires { zone ≡ Z.zone }
 {
-    let parts = parts_of::<Z>(alloc, zone, 2)?;
+    let parts = limited_parts_of::<Z>(alloc, zone, 2, grants)?;
     play_in::<R, Z, Brand, P>(rt, alloc, parts, play)
 }
 
 /// Whether what is played in a cell that begins with a zone goes as it should; None where there is no memory for it. The cell is
 /// ended.
 pub fn is_played<R: Wait, P: Play>(rt: &R, alloc: Global, zone: Zone, play: &P) -> Option<bool> {
-    play_from::<R, Brand, P>(rt, alloc, zone, play)
+    is_played_by(rt, alloc, zone, u64::MAX, play)
+}
+
+/// The same, whose readers have so many grants, or 2^40 where that is less.
+pub fn is_played_by<R: Wait, P: Play>(
+    rt: &R,
+    alloc: Global,
+    zone: Zone,
+    grants: u64,
+    play: &P,
+) -> Option<bool> {
+    play_from::<R, Brand, P>(rt, alloc, zone, grants, play)
 }

@@ -7,6 +7,9 @@ mod cells;
 mod kept;
 mod zones;
 
-pub use cells::{NamedParts, Play, Played, end, is_played, named_parts, parts_of, server_of};
+pub use cells::{
+    NamedParts, Play, Played, end, is_played, is_played_by, limited_parts_of, named_parts,
+    parts_of, server_of,
+};
 pub use kept::{Kept, asker};
 pub use zones::{SetRow, octets_of, version_of, zone, zone_of};

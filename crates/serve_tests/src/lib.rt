@@ -8,6 +8,8 @@ mod chains;
 #[cfg(test)]
 mod engines;
 #[cfg(test)]
+mod exhausted;
+#[cfg(test)]
 mod gone_versions;
 #[cfg(test)]
 mod orders;

@@ -13,6 +13,8 @@ mod held;
 #[cfg(test)]
 mod jobs;
 #[cfg(test)]
+mod limited;
+#[cfg(test)]
 mod numbers;
 #[cfg(test)]
 mod players;
