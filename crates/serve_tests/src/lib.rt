@@ -10,6 +10,8 @@ mod engines;
 #[cfg(test)]
 mod exhausted;
 #[cfg(test)]
+mod failing;
+#[cfg(test)]
 mod gone_versions;
 #[cfg(test)]
 mod orders;

@@ -295,7 +295,7 @@ impl Play for Row {
 }
 
 /// Whether a row's stream goes as it says, over the zone anew.
-fn is_right<R: Wait>(rt: &R, alloc: Global, row: &Row) -> bool {
+pub(crate) fn is_right<R: Wait>(rt: &R, alloc: Global, row: &Row) -> bool {
     match zone(alloc) {
         Some(zone) => is_played(rt, alloc, zone, row) == Some(true),
         None => false,
