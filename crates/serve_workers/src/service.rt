@@ -1,6 +1,7 @@
 //! A zone served on sockets, by workers.
-ghost use Rattle.std.specs.Prelude.{◌≡◌, ◌+◌, ◌*◌, ◌%◌, ◌<◌, ◌≤◌, ◌⊎◌, [], true, false, map, vec_len, vec_capacity, None, Some, IfOk, IfErr, MatchOption};
+ghost use Rattle.std.specs.Prelude.{◌≡◌, ◌+◌, ◌*◌, ◌%◌, ◌<◌, ◌≤◌, ◌⊎◌, ◌↔◌, [], true, false, map, vec_len, vec_capacity, None, Some, IfOk, IfErr, MatchOption};
 ghost use Rattle.std.specs.List.{All, Any};
+ghost use Rattle.std.specs.IoError.{error_kind};
 ghost use Rattle.dns_engine.specs.Held.{KEPT};
 ghost use Rattle.snapshot_cell.specs.declared.tokens.TheConstants.{READERS};
 ghost use Rattle.serve_workers.specs.declared.service.ServeFault.{ServeFault as Fault};
@@ -23,7 +24,7 @@ use snapshot_cell::{
     Cell, NamedCell, NamedPublisher, NamedReader, Naming, NewFault, Parts, Reader,
 };
 use std::alloc::Global;
-use std::io;
+use std::io::{self, ErrorKind};
 use std::marker::Brand;
 use std::net::{Net, TcpListener, UdpSocket};
 use std::sync::Wait;
@@ -376,6 +377,18 @@ fn job_of<'a, R: Clock + Net>(
     }
 }
 
+/// Why no job can be made: want of memory, or its sockets have failed.
+fn fault_of(fault: &io::Error) -> ServeFault
+    ensures memory { (result ≡ Fault.NoMemory) ↔ (error_kind fault.now ≡ ErrorKind.OutOfMemory) }
+    ensures device { (result ≡ Fault.NoMemory) ⊎ (result ≡ Fault.Device) }
+{
+    if fault.kind() == ErrorKind::OutOfMemory {
+        ServeFault::NoMemory
+    } else {
+        ServeFault::Device
+    }
+}
+
 /// The jobs of threads.
 fn jobs_of<'a, R: Clock + Net>(
     rt: &'a R,
@@ -394,8 +407,9 @@ fn jobs_of<'a, R: Clock + Net>(
         let Ok(scratch) = Scratch::new(alloc) else {
             return Err(ServeFault::NoMemory);
         };
-        let Ok(job) = job_of(rt, alloc, duty, plan, scratch) else {
-            return Err(ServeFault::Device);
+        let job = match job_of(rt, alloc, duty, plan, scratch) {
+            Ok(job) => job,
+            Err(fault) => return Err(fault_of(&fault)),
         };
         if jobs.push(job).is_err() {
             return Err(ServeFault::NoMemory);

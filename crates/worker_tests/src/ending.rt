@@ -21,7 +21,7 @@ use zone_service::{Event, JobEnd, ServiceLog};
 
 /// How often a log was told that all threads have begun, and how many of them have done what they might, and have failed.
 #[derive(Drop)]
-struct Counted {
+pub(crate) struct Counted {
     begun: AtomicU64,
     done: AtomicU64,
     failed: AtomicU64,
@@ -44,7 +44,7 @@ impl ServiceLog for Counted {
 
 impl Counted {
     /// A log that was told nothing.
-    fn new() -> Counted {
+    pub(crate) fn new() -> Counted {
         Counted {
             begun: AtomicU64::new(0),
             done: AtomicU64::new(0),
@@ -53,7 +53,7 @@ impl Counted {
     }
 
     /// Whether it was told once that all have begun, and of so many of each.
-    fn has(&self, done: u64, failed: u64) -> bool {
+    pub(crate) fn has(&self, done: u64, failed: u64) -> bool {
         self.begun.load(Ordering::SeqCst) == 1
             && self.done.load(Ordering::SeqCst) == done
             && self.failed.load(Ordering::SeqCst) == failed
@@ -72,51 +72,56 @@ fn break_listener(listener: &TcpListener) -> io::Result<()> {
 }
 
 /// What the threads of so many workers do, each with a listener and a socket for datagrams at a port of its own; the last worker's listener is
-/// broken, where that is asked for.
+/// broken, where that is asked for. None where there are no sockets, or no memory.
 fn duties_of<'a, R: Net>(
     rt: &R,
     alloc: Global,
     progresses: &'a [Progress],
     is_broken: bool,
-) -> Result<Vec<Duty<'a>>, Fail> {
+) -> Option<Vec<Duty<'a>>> {
     let mut duties = Vec::new(alloc);
     let mut worker = 0usize;
     for progress in progresses {
         worker = worker.saturating_add(1);
-        let listener = bind_listener(rt, any_port(), Turn::First)?;
+        let listener = bind_listener(rt, any_port(), Turn::First).ok()?;
         if is_broken && worker == progresses.len() {
-            break_listener(&listener)?;
+            break_listener(&listener).ok()?;
         }
         let mut listeners = Vec::new(alloc);
-        listeners.push(listener)?;
+        listeners.push(listener).ok()?;
         let sockets = Sockets::Connections(listeners);
-        duties.push(Duty {
-            worker,
-            progress,
-            sockets,
-        })?;
-        let sockets = Sockets::Datagrams(bind_datagrams(rt, any_port(), Turn::First)?);
-        duties.push(Duty {
-            worker,
-            progress,
-            sockets,
-        })?;
+        duties
+            .push(Duty {
+                worker,
+                progress,
+                sockets,
+            })
+            .ok()?;
+        let sockets = Sockets::Datagrams(bind_datagrams(rt, any_port(), Turn::First).ok()?);
+        duties
+            .push(Duty {
+                worker,
+                progress,
+                sockets,
+            })
+            .ok()?;
     }
-    Ok(duties)
+    Some(duties)
 }
 
-/// Serves a zone by two workers, each of which may do so much, and gives what that has come to.
-fn served<R: Net + Threads + Wait + Clock + Sync>(
+/// Serves a zone by two workers, each of which may do so much, and gives what that has come to; None where there were no sockets, or no
+/// memory for what it begins with.
+pub(crate) fn served<R: Net + Threads + Wait + Clock + Sync>(
     rt: &R,
     alloc: Global,
     log: &Counted,
     most: u64,
     is_broken: bool,
-) -> Result<Result<(), ServeFault>, Fail> {
-    let progresses = Vec::from_array(alloc, [Progress::new(most), Progress::new(most)])?;
+) -> Option<Result<(), ServeFault>> {
+    let progresses = Vec::from_array(alloc, [Progress::new(most), Progress::new(most)]).ok()?;
     let duties = duties_of(rt, alloc, progresses.as_slice(), is_broken)?;
     if duties.len() != 4 {
-        return Err(Fail::from("there are four threads"));
+        return None;
     }
     let second = 1_000_000_000;
     let limits = Limits {
@@ -134,15 +139,15 @@ fn served<R: Net + Threads + Wait + Clock + Sync>(
             allowed: Allowed::new(&[]),
         },
     };
-    let zone = zone(alloc).ok_or("a zone")?;
-    Ok(serve_zone::<R, Brand, Counted>(rt, alloc, zone, duties, plan, log))
+    let zone = zone(alloc)?;
+    Some(serve_zone::<R, Brand, Counted>(rt, alloc, zone, duties, plan, log))
 }
 
 // Each worker may do nothing, and has done so at once.
 #[test]
 fn a_server_ends_once_each_worker_has_done_what_it_may(rt: HostRuntime) -> Result<(), Fail> {
     let log = Counted::new();
-    let served = served(&rt, rt.alloc(), &log, 0, false)?;
+    let served = served(&rt, rt.alloc(), &log, 0, false).ok_or("a server")?;
     assert!(rt; matches!(served, Ok(())) && log.has(4, 0));
     Ok(())
 }
@@ -151,7 +156,7 @@ fn a_server_ends_once_each_worker_has_done_what_it_may(rt: HostRuntime) -> Resul
 #[test]
 fn a_thread_that_fails_ends_the_server(rt: HostRuntime) -> Result<(), Fail> {
     let log = Counted::new();
-    let served = served(&rt, rt.alloc(), &log, u64::MAX, true)?;
+    let served = served(&rt, rt.alloc(), &log, u64::MAX, true).ok_or("a server")?;
     assert!(rt; matches!(served, Err(ServeFault::Device)) && log.has(3, 1));
     Ok(())
 }

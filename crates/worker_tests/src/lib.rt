@@ -7,4 +7,6 @@ mod ending;
 #[cfg(test)]
 mod gates;
 #[cfg(test)]
+mod refused;
+#[cfg(test)]
 mod turning;
