@@ -4,7 +4,7 @@ ghost use Rattle.std.specs.List.{All};
 
 use crate::begun::{draw_by, end};
 use crate::numbers::{Climbing, has, publish};
-use snapshot_cell::{Cell, NewFault, Parts, Reader};
+use snapshot_cell::{Cell, NewFault, Parts, Publisher, Reader, Strong};
 use std::alloc::Global;
 use std::process::Abort;
 
@@ -24,18 +24,52 @@ fn left_of<R: Abort>(rt: &R, readers: &[Reader<u64>]) -> u64 {
     readers.first().expect(rt, "a reader").left()
 }
 
-/// Whether a load by one of the readers is refused, and leaves it without a grant.
-fn is_spent<R: Abort>(rt: &R, cell: &Cell<u64, Climbing>, readers: &mut Vec<Reader<u64>>) -> bool
+/// A load by one of the readers is refused, and leaves it without a grant.
+fn load_none<R: Abort>(rt: &R, cell: &Cell<u64, Climbing>, readers: &mut Vec<Reader<u64>>)
     requires { All (λ r. r.cell ≡ cell.now) readers.old.items }
     ensures { All (λ r. r.cell ≡ cell.now) readers.new.items }
 {
     let mut reader = readers.pop().expect(rt, "a reader");
-    let is_spent = cell.load(&mut reader).is_err() && reader.left() == 0;
+    assert!(rt; cell.load(&mut reader).is_err());
+    assert_eq!(rt; reader.left(), 0);
     readers.push(reader).ok().expect(rt, "memory");
-    is_spent
 }
 
-// Three grants are three loads, and then there is none, however often it is tried; the owners of the three keep their versions.
+/// The owners of a first version and of its next one, twice, keep theirs, also when that of the first is let go.
+fn keep_theirs<R: Abort>(
+    rt: &R,
+    first: Strong<'_, u64, Climbing>,
+    second: &Strong<'_, u64, Climbing>,
+    third: &Strong<'_, u64, Climbing>,
+) {
+    assert!(rt; has(&first, 0, 1) && has(second, 1, 5) && has(third, 1, 5));
+    assert_eq!(rt; first.release().buried(), Some(0));
+    assert!(rt; has(second, 1, 5) && has(third, 1, 5));
+}
+
+/// Three loads, one of them of a first version and two of its next one, and then none, however often it is tried.
+fn load_three<R: Abort>(
+    rt: &R,
+    cell: &Cell<u64, Climbing>,
+    publisher: &mut Publisher<u64, Climbing>,
+    readers: &mut Vec<Reader<u64>>,
+)
+    requires cell { publisher.old.cell ≡ cell.now }
+    requires first { (publisher.old.number ≡ 0) × (publisher.old.value ≡ 1) }
+    requires readers { All (λ r. r.cell ≡ cell.now) readers.old.items }
+    ensures publisher { publisher.new.cell ≡ cell.now }
+    ensures readers { All (λ r. r.cell ≡ cell.now) readers.new.items }
+{
+    let first = draw_by(rt, cell, readers);
+    publish(rt, cell, publisher, 5);
+    let second = draw_by(rt, cell, readers);
+    let third = draw_by(rt, cell, readers);
+    load_none(rt, cell, readers);
+    load_none(rt, cell, readers);
+    keep_theirs(rt, first, &second, &third);
+}
+
+// Three grants are three loads, and then there is none; the owners of the three keep their versions.
 #[test]
 fn three_grants_are_three_loads(rt: HostRuntime) {
     let Parts {
@@ -44,38 +78,43 @@ fn three_grants_are_three_loads(rt: HostRuntime) {
         mut readers,
     } = limited(&rt, rt.alloc(), 1, 3);
     assert_eq!(rt; left_of(&rt, &readers), 3);
-    let first = draw_by(&rt, &cell, &mut readers);
-    let old = publish(&rt, &cell, &mut publisher, 5);
-    assert_eq!(rt; old.release().buried(), None);
-    let second = draw_by(&rt, &cell, &mut readers);
-    let third = draw_by(&rt, &cell, &mut readers);
-    assert!(rt; is_spent(&rt, &cell, &mut readers) && is_spent(&rt, &cell, &mut readers));
-    assert!(rt; has(&first, 0, 1) && has(&second, 1, 5) && has(&third, 1, 5));
-    assert_eq!(rt; first.release().buried(), Some(0));
-    assert!(rt; has(&second, 1, 5) && has(&third, 1, 5));
-    drop(second);
-    drop(third);
+    load_three(&rt, &cell, &mut publisher, &mut readers);
+    assert_eq!(rt; left_of(&rt, &readers), 0);
     assert_eq!(rt; end(&rt, cell, publisher, readers), 5);
 }
 
-// No grant is no load, as many as 2^40 are what a cell gives that isn't limited, and more count as so many.
+// No grant is no load.
+#[test]
+fn no_grant_is_no_load(rt: HostRuntime) {
+    let Parts {
+        cell,
+        publisher,
+        mut readers,
+    } = limited(&rt, rt.alloc(), 1, 0);
+    load_none(&rt, &cell, &mut readers);
+    end(&rt, cell, publisher, readers);
+}
+
+/// How many grants a reader has of a cell whose readers are to have so many.
+fn grants_of<R: Abort>(rt: &R, alloc: Global, grants: u64) -> u64 {
+    let Parts {
+        cell,
+        publisher,
+        readers,
+    } = limited(rt, alloc, 2, grants);
+    let left = left_of(rt, &readers);
+    end(rt, cell, publisher, readers);
+    left
+}
+
+// 2^40 grants are what a reader has of a cell that isn't limited, and more count as so many.
 #[test]
 fn grants_from_none_to_2_to_the_40(rt: HostRuntime) {
-    for (grants, left) in [
-        (0, 0),
-        (1, 1),
-        ((1 << 40) - 1, (1 << 40) - 1),
-        (1 << 40, 1 << 40),
-        (u64::MAX, 1 << 40),
-    ] {
-        let Parts {
-            cell,
-            publisher,
-            mut readers,
-        } = limited(&rt, rt.alloc(), 2, grants);
-        assert_eq!(rt; left_of(&rt, &readers), left);
-        assert!(rt; grants > 0 || is_spent(&rt, &cell, &mut readers));
-        end(&rt, cell, publisher, readers);
+    for grants in [0, 1, 3, (1 << 40) - 1, 1 << 40] {
+        assert_eq!(rt; grants_of(&rt, rt.alloc(), grants), grants);
+    }
+    for grants in [(1 << 40) + 1, u64::MAX] {
+        assert_eq!(rt; grants_of(&rt, rt.alloc(), grants), 1 << 40);
     }
 }
 
