@@ -2,7 +2,8 @@
 # Refuses each request for memory in turn, in the tests that say what holds then: those with `refused_growth` or `memory_is_refused` in
 # their names, of the crates given, else of all. `rt test` proves and builds a crate's tests; each of these is then run with a malloc in
 # front of the C library's that refuses its first request, then its second alone, and so on until none is left to be refused; where the
-# test's name ends in `twice`, the request behind it too. Prints a line a test, and its status is 1 where a run failed.
+# test's name ends in `twice`, the request behind it too, and where it ends in `ever_after`, all behind it. Prints a line a test, and its
+# status is 1 where a run failed.
 # Usage: ./refused.sh [NAME ..], or make refused [CRATE="NAME .."]. It needs a C compiler, `cc` or $CC.
 set -euo pipefail
 cd "$(dirname "$0")"
@@ -55,7 +56,11 @@ for name in "${names[@]}"; do
     (cd "crates/$name" && rt test >"$room/log" 2>&1) || { tail -20 "$room/log"; echo "refused: the tests of $name fail" >&2; exit 2; }
     program=$PWD/crates/$name/out/${name}_tests
     for test in $("$program" --list | sed -n 's/: test$//p' | grep -E 'refused_growth|memory_is_refused'); do
-        case $test in *twice) sweep "$program" "$test" 2 ;; *) sweep "$program" "$test" 1 ;; esac
+        case $test in
+            *twice) sweep "$program" "$test" 2 ;;
+            *ever_after) sweep "$program" "$test" 1000000000 ;;
+            *) sweep "$program" "$test" 1 ;;
+        esac
     done
 done
 exit $failed

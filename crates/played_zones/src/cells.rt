@@ -138,17 +138,22 @@ pub fn named_parts<R: Wait, Z: FirstZone, N: Naming>(
     })
 }
 
-/// Ends a cell. It doesn't return where a reader is missing, or an owner is out.
-pub fn end<R: Wait, Z: FirstZone, N: Naming>(rt: &R, parts: NamedParts<Z, N>) {
+/// The version with which a cell ends. It doesn't return where a reader is missing, or an owner is out.
+pub fn last_of<R: Wait, Z: FirstZone, N: Naming>(rt: &R, parts: NamedParts<Z, N>) -> SharedVersion {
     let NamedParts {
         cell,
         publisher,
         readers,
     } = parts;
     match cell.close(publisher, readers) {
-        Ok(_) => {}
+        Ok(last) => last,
         Err(out) => keep(rt, out),
     }
+}
+
+/// Ends a cell. It doesn't return where a reader is missing, or an owner is out.
+pub fn end<R: Wait, Z: FirstZone, N: Naming>(rt: &R, parts: NamedParts<Z, N>) {
+    let _last = last_of(rt, parts);
 }
 
 /// The server of a cell, which keeps eight versions. One that should keep nine is refused first; there is none where it isn't.

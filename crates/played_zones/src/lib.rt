@@ -8,7 +8,7 @@ mod kept;
 mod zones;
 
 pub use cells::{
-    NamedParts, Play, Played, end, is_played, is_played_by, limited_parts_of, named_parts,
+    NamedParts, Play, Played, end, is_played, is_played_by, last_of, limited_parts_of, named_parts,
     parts_of, server_of,
 };
 pub use kept::{Kept, asker};

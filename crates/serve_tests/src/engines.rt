@@ -43,7 +43,7 @@ pub(crate) fn update_of(alloc: Global, last: u8) -> Option<Update> {
 
 /// An update by the last octet of its address and by whether the peer may update, and what stands behind it: its code, and the number
 /// and the serial of the version published last.
-type Row = (u8, bool, Rcode, u64, u32);
+pub(crate) type Row = (u8, bool, Rcode, u64, u32);
 
 /// An update that makes a version, the same again, one of a peer that may not update, and more that make versions than an engine keeps.
 const ROWS: &[Row] = &[
@@ -64,7 +64,7 @@ const ROWS: &[Row] = &[
 ];
 
 /// Whether an update gets its row's code, behind which its row's number and serial stand.
-fn is_told<'a, Z: FirstZone, N: Naming>(
+pub(crate) fn is_told<'a, Z: FirstZone, N: Naming>(
     alloc: Global,
     cell: &'a VersionCell<Z, N>,
     engine: &mut Engine<'a, Z, N>,
@@ -107,13 +107,14 @@ fn engine_of<'a, Z: FirstZone, N: Naming>(
     }
 }
 
-/// Whether an engine publishes updates: one makes a version, is refused, or changes nothing.
-fn are_published<'a, Z: FirstZone, N: Naming>(
+/// Whether updates get their rows' codes, behind which their rows' numbers and serials stand.
+pub(crate) fn are_told<'a, Z: FirstZone, N: Naming>(
     alloc: Global,
     cell: &'a VersionCell<Z, N>,
     engine: &mut Engine<'a, Z, N>,
+    rows: &[Row],
 ) -> bool {
-    for row in ROWS {
+    for row in rows {
         if !is_told(alloc, cell, engine, row) {
             return false;
         }
@@ -142,7 +143,7 @@ impl Play for Updates {
         };
         let (told, publisher, reader) = match engine_of(cell, publisher, reader) {
             Ok(mut engine) => {
-                let told = are_published(alloc, cell, &mut engine);
+                let told = are_told(alloc, cell, &mut engine, ROWS);
                 let (publisher, reader) = engine.finish();
                 (Some(told), publisher, reader)
             }

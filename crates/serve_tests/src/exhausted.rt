@@ -1,22 +1,24 @@
-//! Grants, slots and memory that are used up: what is told then, and that what was published stays.
-ghost use Rattle.std.specs.Prelude.{◌≡◌, ◌≤◌, length};
+//! Grants and slots that are used up: what is told then, and that what was published stays.
+ghost use Rattle.std.specs.Prelude.{◌≤◌, length};
 
-use crate::engines::{small_zone, update_of};
+use crate::engines::{Row, are_told, is_told, small_zone};
 use dns_engine::{
     Engine, FirstZone, Naming, VersionCell, VersionOwner, VersionPublisher, VersionReader,
 };
 use dns_rdata::Rcode;
-use played_zones::{Play, Played, is_played, is_played_by, octets_of, zone};
+use played_zones::{Play, Played, is_played, is_played_by, zone};
 use serve_core::{Peer, Transport};
 use std::alloc::Global;
+use std::collections::VecDeque;
 use std::sync::Wait;
 use zone_service::{Now, answer_now};
 
 /// The query for www.example.test., type A, and its reply: the alias and the address of its target (RFC 1035, 4.1).
-const QUERY: &str = "12340100000100000000000003777777076578616d706c6504746573740000010001";
+const QUERY: &[u8] =
+    b"\x12\x34\x01\x00\x00\x01\x00\x00\x00\x00\x00\x00\x03www\x07example\x04test\x00\x00\x01\x00\x01";
 
-const REPLY: &str =
-    "12348500000100020000000003777777076578616d706c6504746573740000010001c00c0005000100000e10000603776562c010c02e0001000100000e100004c000020a";
+const REPLY: &[u8] =
+    b"\x12\x34\x85\x00\x00\x01\x00\x02\x00\x00\x00\x00\x03www\x07example\x04test\x00\x00\x01\x00\x01\xc0\x0c\x00\x05\x00\x01\x00\x00\x0e\x10\x00\x06\x03web\xc0\x10\xc0\x2e\x00\x01\x00\x01\x00\x00\x0e\x10\x00\x04\xc0\x00\x02\x0a";
 
 /// The reply to its header alone (RFC 1035, 4.1.1).
 const FORMERR: &[u8] = b"\x12\x34\x81\x01\x00\x00\x00\x00\x00\x00\x00\x00";
@@ -36,6 +38,28 @@ trait EnginePlay {
 /// The play of an engine.
 struct ByEngine<P: EnginePlay>(P);
 
+/// What an engine's play comes to, with the publisher and the readers, which come back.
+fn played_by<'a, Z: FirstZone, N: Naming, P: EnginePlay>(
+    alloc: Global,
+    cell: &'a VersionCell<Z, N>,
+    mut engine: Engine<'a, Z, N>,
+    mut readers: Vec<VersionReader<N>>,
+    play: &P,
+) -> Played<Z, N> {
+    let mut told = None;
+    if let Some(mut reader) = readers.pop() {
+        told = play.go(alloc, cell, &mut engine, &mut reader);
+        let _ = readers.push(reader);
+    }
+    let (publisher, own) = engine.finish();
+    let _ = readers.push(own);
+    Played {
+        told,
+        publisher,
+        readers,
+    }
+}
+
 impl<P: EnginePlay> Play for ByEngine<P> {
     fn play<R: Wait, Z: FirstZone, N: Naming>(
         &self,
@@ -45,46 +69,37 @@ impl<P: EnginePlay> Play for ByEngine<P> {
         publisher: VersionPublisher<Z, N>,
         mut readers: Vec<VersionReader<N>>,
     ) -> Played<Z, N> {
-        let (Some(own), Some(mut beside)) = (readers.pop(), readers.pop()) else {
+        let Some(own) = readers.pop() else {
             return Played {
                 told: None,
                 publisher,
                 readers,
             };
         };
-        let (told, publisher, own) = match Engine::new(cell, publisher, own, 0) {
-            Ok(mut engine) => {
-                let told = self.0.go(alloc, cell, &mut engine, &mut beside);
-                let (publisher, own) = engine.finish();
-                (told, publisher, own)
+        match Engine::new(cell, publisher, own, 0) {
+            Ok(engine) => played_by(alloc, cell, engine, readers, &self.0),
+            Err(refused) => {
+                let _ = readers.push(refused.reader);
+                Played {
+                    told: None,
+                    publisher: refused.publisher,
+                    readers,
+                }
             }
-            Err(refused) => (None, refused.publisher, refused.reader),
-        };
-        let _ = readers.push(own);
-        let _ = readers.push(beside);
-        Played {
-            told,
-            publisher,
-            readers,
         }
     }
 }
 
-/// Whether an update that adds the address of this last octet gets the code, and this number and serial stand behind it.
-fn is_told<'a, Z: FirstZone, N: Naming>(
-    alloc: Global,
-    cell: &'a VersionCell<Z, N>,
-    engine: &mut Engine<'a, Z, N>,
-    last: u8,
-    want: (Rcode, u64, u32),
-) -> Option<bool> {
-    let update = update_of(alloc, last)?;
-    let code = engine.update(alloc, cell, &update, true);
-    let serial = engine.last_version().serial().0;
-    Some((code, engine.number(), serial) == want)
-}
+/// Three grants: one for the engine's own version, and one for each of two more. What changes nothing wants none.
+const BY_THREE_GRANTS: &[Row] = &[
+    (77, true, Rcode::NoError, 1, 2),
+    (78, true, Rcode::NoError, 2, 3),
+    (79, true, Rcode::ServFail, 2, 3),
+    (79, true, Rcode::ServFail, 2, 3),
+    (78, true, Rcode::NoError, 2, 3),
+];
 
-/// Three grants: one for the engine's own version, and one for each of two more.
+/// Their updates.
 struct ThreeGrants;
 
 impl EnginePlay for ThreeGrants {
@@ -95,12 +110,7 @@ impl EnginePlay for ThreeGrants {
         engine: &mut Engine<'a, Z, N>,
         _reader: &mut VersionReader<N>,
     ) -> Option<bool> {
-        let taken = is_told(alloc, cell, engine, 77, (Rcode::NoError, 1, 2))?
-            && is_told(alloc, cell, engine, 78, (Rcode::NoError, 2, 3))?;
-        let refused = is_told(alloc, cell, engine, 79, (Rcode::ServFail, 2, 3))?
-            && is_told(alloc, cell, engine, 79, (Rcode::ServFail, 2, 3))?;
-        // What changes nothing wants no grant.
-        Some(taken && refused && is_told(alloc, cell, engine, 78, (Rcode::NoError, 2, 3))?)
+        Some(are_told(alloc, cell, engine, BY_THREE_GRANTS))
     }
 }
 
@@ -111,7 +121,58 @@ fn an_engine_without_grants_publishes_nothing(rt: HostRuntime) {
     assert!(rt; is_played_by(&rt, rt.alloc(), zone, 3, &ByEngine(ThreeGrants)) == Some(true));
 }
 
-/// Owners of all versions, but for one that is let go in between.
+/// Owners of versions, the first one first.
+type Owners<'a, Z, N> = VecDeque<VersionOwner<'a, Z, N>>;
+
+/// The owner of the last version, held beside others. None where there is no memory for it.
+fn hold_last<'a, Z: FirstZone, N: Naming>(
+    cell: &'a VersionCell<Z, N>,
+    reader: &mut VersionReader<N>,
+    owners: &mut Owners<'a, Z, N>,
+) -> Option<()> {
+    let owner = cell.load(reader).ok()?;
+    owners.push_back(owner).ok()
+}
+
+/// Owners of the first version and of 63 more, which updates make; None where one of them isn't made.
+fn hold_all<'a, Z: FirstZone, N: Naming>(
+    alloc: Global,
+    cell: &'a VersionCell<Z, N>,
+    engine: &mut Engine<'a, Z, N>,
+    reader: &mut VersionReader<N>,
+) -> Option<Owners<'a, Z, N>> {
+    let mut owners = VecDeque::new(alloc);
+    hold_last(cell, reader, &mut owners)?;
+    for last in 1..64u8 {
+        let row = (
+            last,
+            true,
+            Rcode::NoError,
+            u64::from(last),
+            u32::from(last) + 1,
+        );
+        if !is_told(alloc, cell, engine, &row) {
+            return None;
+        }
+        hold_last(cell, reader, &mut owners)?;
+    }
+    Some(owners)
+}
+
+/// Whether an owner's release buries the version of this number.
+fn buries<Z: FirstZone, N: Naming>(owner: Option<VersionOwner<'_, Z, N>>, number: u64) -> bool {
+    match owner {
+        Some(owner) => owner.release().buried() == Some(number),
+        None => false,
+    }
+}
+
+/// One more update, where there is no slot for its version, and where there is.
+const REFUSED: Row = (64, true, Rcode::ServFail, 63, 64);
+
+const TAKEN: Row = (64, true, Rcode::NoError, 64, 65);
+
+/// Owners of all versions, of which that of the 60th is let go, and then that of the first.
 struct AllSlots;
 
 impl EnginePlay for AllSlots {
@@ -122,29 +183,14 @@ impl EnginePlay for AllSlots {
         engine: &mut Engine<'a, Z, N>,
         reader: &mut VersionReader<N>,
     ) -> Option<bool> {
-        let first = cell.load(reader).ok()?;
-        let mut owners: Vec<VersionOwner<'a, Z, N>> = Vec::new(alloc);
-        let mut sixtieth = None;
-        for last in 1..64u8 {
-            let number = u64::from(last);
-            let serial = u32::from(last) + 1;
-            if !is_told(alloc, cell, engine, last, (Rcode::NoError, number, serial))? {
-                return Some(false);
-            }
-            let owner = cell.load(reader).ok()?;
-            if last == 60 {
-                sixtieth = Some(owner);
-            } else {
-                owners.push(owner).ok()?;
-            }
-        }
-        let full = is_told(alloc, cell, engine, 64, (Rcode::ServFail, 63, 64))?;
-        // The history owns it weakly still, so that its slot isn't free.
-        let buried = sixtieth?.release().buried() == Some(60);
-        let full_still = is_told(alloc, cell, engine, 64, (Rcode::ServFail, 63, 64))?;
-        let first_gone = first.release().buried() == Some(0);
-        let taken = is_told(alloc, cell, engine, 64, (Rcode::NoError, 64, 65))?;
-        Some(full && buried && full_still && first_gone && taken)
+        let mut owners = hold_all(alloc, cell, engine, reader)?;
+        let is_full = is_told(alloc, cell, engine, &REFUSED);
+        let sixtieth = buries(owners.remove(60), 60);
+        // The history owns that version weakly, so that its slot isn't free.
+        let is_full_still = is_told(alloc, cell, engine, &REFUSED);
+        let first = buries(owners.pop_front(), 0);
+        let is_taken = is_told(alloc, cell, engine, &TAKEN);
+        Some(is_full && sixtieth && is_full_still && first && is_taken)
     }
 }
 
@@ -153,13 +199,6 @@ impl EnginePlay for AllSlots {
 fn no_slot_until_a_version_is_let_go(rt: HostRuntime) {
     let zone = small_zone(rt.alloc()).expect(&rt, "a zone");
     assert!(rt; is_played(&rt, rt.alloc(), zone, &ByEngine(AllSlots)) == Some(true));
-}
-
-/// Queries that are answered at once, so many of them, and one for which no grant is left where that is asked for.
-#[derive(Drop)]
-struct AtOnce {
-    queries: u32,
-    is_spent: bool,
 }
 
 /// Whether a request is answered at once with these octets.
@@ -179,18 +218,55 @@ fn is_answered<Z: FirstZone, N: Naming>(
     }
 }
 
+/// Whether the query is answered so many times.
+pub(crate) fn are_answered<Z: FirstZone, N: Naming>(
+    cell: &VersionCell<Z, N>,
+    reader: &mut VersionReader<N>,
+    queries: u32,
+) -> bool {
+    let mut out = [0u8; 65_535];
+    for _ in 0..queries {
+        if !is_answered(cell, reader, QUERY, REPLY, &mut out) {
+            return false;
+        }
+    }
+    true
+}
+
+/// Whether a reader has no grant for the query; what is no query takes none, and is told as before.
+fn is_spent<Z: FirstZone, N: Naming>(
+    cell: &VersionCell<Z, N>,
+    reader: &mut VersionReader<N>,
+) -> bool {
+    let mut out = [0u8; 65_535];
+    let peer = Peer::over(Transport::Tcp, true);
+    let query = answer_now(cell, reader, peer, QUERY, &mut out);
+    let header = is_answered(cell, reader, &QUERY[..12], FORMERR, &mut out);
+    let silent = answer_now(cell, reader, peer, &QUERY[..11], &mut out);
+    matches!(query, Now::Spent) && header && matches!(silent, Now::Silent) && reader.left() == 0
+}
+
+/// Queries that are answered at once, so many of them, and whether no grant is left then.
+#[derive(Drop)]
+struct AtOnce {
+    queries: u32,
+    is_spent: bool,
+}
+
 impl Play for AtOnce {
     fn play<R: Wait, Z: FirstZone, N: Naming>(
         &self,
         _rt: &R,
-        alloc: Global,
+        _alloc: Global,
         cell: &VersionCell<Z, N>,
         publisher: VersionPublisher<Z, N>,
         mut readers: Vec<VersionReader<N>>,
     ) -> Played<Z, N> {
         let mut told = None;
         if let Some(mut reader) = readers.pop() {
-            told = self.told_by(alloc, cell, &mut reader);
+            let answered = are_answered(cell, &mut reader, self.queries);
+            let as_wanted = !self.is_spent || is_spent(cell, &mut reader);
+            told = Some(answered && as_wanted);
             let _ = readers.push(reader);
         }
         Played {
@@ -198,35 +274,6 @@ impl Play for AtOnce {
             publisher,
             readers,
         }
-    }
-}
-
-impl AtOnce {
-    /// Whether all are answered, and the last one isn't; None where there is no memory for them.
-    fn told_by<Z: FirstZone, N: Naming>(
-        &self,
-        alloc: Global,
-        cell: &VersionCell<Z, N>,
-        reader: &mut VersionReader<N>,
-    ) -> Option<bool> {
-        let request = octets_of(alloc, QUERY)?;
-        let reply = octets_of(alloc, REPLY)?;
-        let mut out = [0u8; 65_535];
-        for _ in 0..self.queries {
-            if !is_answered(cell, reader, &request, &reply, &mut out) {
-                return Some(false);
-            }
-        }
-        if !self.is_spent {
-            return Some(true);
-        }
-        let peer = Peer::over(Transport::Tcp, true);
-        let now = answer_now(cell, reader, peer, &request, &mut out);
-        // What is no query takes no grant: it is told as before.
-        let header = is_answered(cell, reader, request.get(..12)?, FORMERR, &mut out);
-        let silent = answer_now(cell, reader, peer, request.get(..11)?, &mut out);
-        let is_right = matches!(now, Now::Spent) && header && matches!(silent, Now::Silent);
-        Some(is_right && reader.left() == 0)
     }
 }
 
@@ -241,7 +288,7 @@ fn three_grants_are_three_answers(rt: HostRuntime) {
     assert!(rt; is_played_by(&rt, rt.alloc(), zone, 3, &play) == Some(true));
 }
 
-/// The zone, and the queries to it; None where there is no memory for the zone, its cell or the octets.
+/// The zone, and two queries to it; None where there is no memory for the zone or its cell.
 fn answered_at_once<R: Wait>(rt: &R, alloc: Global) -> Option<bool> {
     let zone = zone(alloc)?;
     let play = AtOnce {
@@ -259,4 +306,10 @@ fn answers_at_once_where_memory_is_refused(rt: HostRuntime) {
         None => answered_at_once(&rt, rt.alloc()),
     };
     assert!(rt; told == Some(true));
+}
+
+// The same with all requests refused from one of them on: where there is a zone in its cell, its queries are answered.
+#[test]
+fn answers_at_once_where_memory_is_refused_ever_after(rt: HostRuntime) {
+    assert!(rt; answered_at_once(&rt, rt.alloc()) != Some(false));
 }

@@ -1,6 +1,9 @@
 //! Streams that end or fail at each place of two requests and their replies, and frames too short for a header (RFC 1035, 4.1.1 and 4.2.2).
 use crate::streams::{Row, TRANSFER, is_right};
-use conversation::StreamEnd;
+use conversation::{Counted, StreamEnd};
+use std::alloc::{AllocError, Global};
+use std::sync::Wait;
+use told_streams::Tape;
 
 /// A query for the address of www.example.test., in a frame, and ten octets of one that has 34; its reply has the alias and the address of
 /// its target.
@@ -42,47 +45,98 @@ const SHORT: Row = Row {
     ..TWICE
 };
 
-/// Streams that end by themselves, by whatever many octets come and go at once.
+/// Streams that end by themselves.
 const ENDS: [Row; 3] = [CUT, TWICE, SHORT];
+
+/// By how many octets at once they come and go.
+const STEPS: [usize; 7] = [1, 2, 3, 34, 36, 70, 9999];
+
+/// Whether a row's stream goes as it says by whatever many octets at once.
+fn is_right_by_steps<R: Wait>(rt: &R, alloc: Global, row: &Row) -> bool {
+    for step in STEPS {
+        if !is_right(rt, alloc, &Row { step, ..*row }) {
+            return false;
+        }
+    }
+    true
+}
 
 #[test]
 fn streams_end_within_a_frame_and_behind_it(rt: HostRuntime) {
-    for (at, row) in ENDS.iter().enumerate() {
-        for step in [1, 2, 3, 34, 36, 70, 9999usize] {
-            let row = Row { step, ..*row };
-            assert!(rt; is_right(&rt, rt.alloc(), &row), "{at} by {step}");
-        }
+    for row in ENDS {
+        assert!(rt; is_right_by_steps(&rt, rt.alloc(), &row));
     }
 }
 
-// A stream that takes so many octets of a reply, up to all but the last, ends by its device, and just those are written.
+/// The first of the octets that hexadecimal stands for; none where it stands for fewer.
+fn front_of(text: &'static str, octets: usize) -> &'static str {
+    match text.split_at_checked(octets.saturating_mul(2)) {
+        Some((front, _)) => front,
+        None => "",
+    }
+}
+
+/// The query twice on a stream that fails, on which so many octets are written till then.
+fn failed(octets: usize) -> Row {
+    Row {
+        end: StreamEnd::Device,
+        written: front_of(TWICE.written, octets),
+        ..TWICE
+    }
+}
+
+// A stream that takes so many octets of a reply and no more, up to all but the last, ends by its device, and just those are written.
+#[test]
+fn a_stream_that_takes_no_more_has_what_it_took(rt: HostRuntime) {
+    for room in 0..70usize {
+        let all = Row {
+            room,
+            ..failed(room)
+        };
+        let one = Row { step: 1, ..all };
+        assert!(rt; is_right(&rt, rt.alloc(), &all), "{room} at once");
+        assert!(rt; is_right(&rt, rt.alloc(), &one), "{room} one by one");
+    }
+}
+
+// So does one whose write fails, an octet at a time: 36 reads are the first request.
 #[test]
 fn a_write_that_fails_leaves_what_was_taken(rt: HostRuntime) {
-    for room in 0..70usize {
-        for step in [1, 9999usize] {
-            let row = Row {
-                room,
-                step,
-                end: StreamEnd::Device,
-                written: &CUT.written[..2 * room],
-                ..TWICE
-            };
-            assert!(rt; is_right(&rt, rt.alloc(), &row), "{room} by {step}");
-        }
+    for octets in 0..70u8 {
+        let row = Row {
+            step: 1,
+            calls: 36 + u64::from(octets),
+            ..failed(usize::from(octets))
+        };
+        assert!(rt; is_right(&rt, rt.alloc(), &row), "{octets}");
     }
 }
 
-// A read that fails in the second frame, an octet at a time: 36 reads and 70 writes are the first request and its reply.
+// One whose read fails in the second frame, of 36 octets, has the first reply: 36 reads and 70 writes go well before.
 #[test]
 fn a_read_that_fails_leaves_the_first_reply(rt: HostRuntime) {
-    for calls in [107, 108, 120, 141u64] {
+    for octets in 0..36u64 {
         let row = Row {
             step: 1,
-            calls,
-            end: StreamEnd::Device,
-            written: CUT.written,
-            ..TWICE
+            calls: 106 + octets,
+            ..failed(70)
         };
-        assert!(rt; is_right(&rt, rt.alloc(), &row), "after {calls}");
+        assert!(rt; is_right(&rt, rt.alloc(), &row), "{octets}");
     }
+}
+
+/// Whether writes to a stream with room for one octet are counted as failures once that is taken.
+fn are_counted(alloc: Global) -> Result<bool, AllocError> {
+    let mut stream = Counted::new(Tape::new(alloc, Vec::new(alloc), 1, 9)?);
+    let first = stream.write(b"ab");
+    let is_one = matches!(first, Ok(1)) && stream.faults == 0;
+    let second = stream.write(b"b").is_err() && stream.faults == 1;
+    let third = stream.write(b"b").is_err() && stream.faults == 2;
+    Ok(is_one && second && third)
+}
+
+// A write that takes no octet is a failure (own).
+#[test]
+fn a_write_of_nothing_is_counted(rt: HostRuntime) {
+    assert!(rt; matches!(are_counted(rt.alloc()), Ok(true)));
 }

@@ -14,6 +14,8 @@ mod failing;
 #[cfg(test)]
 mod gone_versions;
 #[cfg(test)]
+mod last_versions;
+#[cfg(test)]
 mod orders;
 #[cfg(test)]
 mod refused_engines;

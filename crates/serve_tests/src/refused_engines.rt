@@ -1,23 +1,24 @@
 //! An engine whose memory is refused: what was published last stays, and the same call made anew succeeds.
 ghost use Rattle.std.specs.Prelude.{◌≡◌};
 
-use crate::engines::{small_zone, update_of};
+use crate::engines::update_of;
+use crate::exhausted::are_answered;
 use dns_engine::{
     Engine, FirstZone, Naming, NoEngine, VersionCell, VersionChain, VersionPublisher, VersionReader,
 };
 use dns_message::Update;
 use dns_rdata::{Rcode, Serial};
-use played_zones::{Play, Played, is_played};
+use played_zones::{Play, Played, is_played, zone};
 use std::alloc::Global;
 use std::sync::Wait;
 use transfer_core::{ChainView, VersionList};
-use zone_tree::Zone;
+use zone_tree::{Version, Zone, ZoneRead};
 
 /// The zone, made anew where memory is refused.
 fn zone_anew(alloc: Global) -> Option<Zone> {
-    match small_zone(alloc) {
+    match zone(alloc) {
         Some(zone) => Some(zone),
-        None => small_zone(alloc),
+        None => zone(alloc),
     }
 }
 
@@ -29,16 +30,35 @@ fn update_anew(alloc: Global) -> Option<Update> {
     }
 }
 
-/// The code of an update, or, where it is SERVFAIL and the version published last is still the first, that of the same update sent
-/// anew.
+/// How many sets a version's zone has, and its serial.
+fn counts(version: &Version) -> (u64, u32) {
+    let mut sets = 0u64;
+    for _set in version.zone().walk() {
+        sets = sets.saturating_add(1);
+    }
+    (sets, version.serial().0)
+}
+
+/// Whether an engine and a reader of its cell still have the first version: its number and serial, its five sets, and its answer to a query.
+fn has_first<'a, Z: FirstZone, N: Naming>(
+    cell: &VersionCell<Z, N>,
+    engine: &Engine<'a, Z, N>,
+    reader: &mut VersionReader<N>,
+) -> bool {
+    let is_first = engine.number() == 0 && counts(engine.last_version()) == (5, 1);
+    is_first && are_answered(cell, reader, 1)
+}
+
+/// The code of an update, or, where it is SERVFAIL and all is as it was, that of the same update sent anew.
 fn sent_anew<'a, Z: FirstZone, N: Naming>(
     alloc: Global,
     cell: &'a VersionCell<Z, N>,
     engine: &mut Engine<'a, Z, N>,
+    reader: &mut VersionReader<N>,
     update: &Update,
 ) -> Rcode {
     let code = engine.update(alloc, cell, update, true);
-    if code == Rcode::ServFail && engine.number() == 0 && engine.last_version().serial().0 == 1 {
+    if code == Rcode::ServFail && has_first(cell, engine, reader) {
         return engine.update(alloc, cell, update, true);
     }
     code
@@ -82,8 +102,8 @@ fn publishes<'a, R: Wait, Z: FirstZone, N: Naming>(
     readers: &mut Vec<VersionReader<N>>,
 ) -> Option<bool> {
     let update = update_anew(alloc)?;
-    let code = sent_anew(alloc, cell, engine, &update);
     let mut reader = readers.pop()?;
+    let code = sent_anew(alloc, cell, engine, &mut reader, &update);
     let told = code == Rcode::NoError && tells_the_change(rt, cell, engine, &mut reader);
     let _ = readers.push(reader);
     Some(told)
@@ -131,7 +151,7 @@ fn is_published_anew<R: Wait>(rt: &R, alloc: Global) -> Option<bool> {
     is_played(rt, alloc, zone, &UpdateAnew)
 }
 
-// With any one growth refused, the version published last stays, and the same update makes the next one once it is sent anew.
+// With any one growth refused, the version published last stays, with its answers, and the same update makes the next one once it is sent anew.
 #[test]
 fn refused_growth(rt: HostRuntime) {
     let told = match is_published_anew(&rt, rt.alloc()) {
