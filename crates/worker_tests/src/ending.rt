@@ -61,7 +61,7 @@ impl Counted {
 }
 
 /// This host, and a port that the system picks.
-fn any_port() -> SocketAddr {
+pub(crate) fn any_port() -> SocketAddr {
     SocketAddr::from(([127, 0, 0, 1], 0))
 }
 
@@ -109,18 +109,16 @@ fn duties_of<'a, R: Net>(
     Some(duties)
 }
 
-/// Serves a zone by two workers, each of which may do so much, and gives what that has come to; None where there were no sockets, or no
-/// memory for what it begins with.
+/// Serves a zone by threads that have these duties, and gives what that has come to; None where they are too many, or there is no memory for
+/// the zone.
 pub(crate) fn served<R: Net + Threads + Wait + Clock + Sync>(
     rt: &R,
     alloc: Global,
     log: &Counted,
-    most: u64,
-    is_broken: bool,
+    duties: Vec<Duty<'_>>,
 ) -> Option<Result<(), ServeFault>> {
-    let progresses = Vec::from_array(alloc, [Progress::new(most), Progress::new(most)]).ok()?;
-    let duties = duties_of(rt, alloc, progresses.as_slice(), is_broken)?;
-    if duties.len() != 4 {
+    let threads = duties.len();
+    if threads > 8 {
         return None;
     }
     let second = 1_000_000_000;
@@ -129,7 +127,7 @@ pub(crate) fn served<R: Net + Threads + Wait + Clock + Sync>(
         message: second,
         reply: second,
     };
-    let muster = Muster::new(4);
+    let muster = Muster::new(threads);
     let plan = Plan {
         muster: &muster,
         keep: 0,
@@ -143,11 +141,25 @@ pub(crate) fn served<R: Net + Threads + Wait + Clock + Sync>(
     Some(serve_zone::<R, Brand, Counted>(rt, alloc, zone, duties, plan, log))
 }
 
+/// Serves a zone by two workers, each of which may do so much, and gives what that has come to; None where there were no sockets, or no
+/// memory for what it begins with.
+pub(crate) fn served_by_two<R: Net + Threads + Wait + Clock + Sync>(
+    rt: &R,
+    alloc: Global,
+    log: &Counted,
+    most: u64,
+    is_broken: bool,
+) -> Option<Result<(), ServeFault>> {
+    let progresses = Vec::from_array(alloc, [Progress::new(most), Progress::new(most)]).ok()?;
+    let duties = duties_of(rt, alloc, progresses.as_slice(), is_broken)?;
+    served(rt, alloc, log, duties)
+}
+
 // Each worker may do nothing, and has done so at once.
 #[test]
 fn a_server_ends_once_each_worker_has_done_what_it_may(rt: HostRuntime) -> Result<(), Fail> {
     let log = Counted::new();
-    let served = served(&rt, rt.alloc(), &log, 0, false).ok_or("a server")?;
+    let served = served_by_two(&rt, rt.alloc(), &log, 0, false).ok_or("a server")?;
     assert!(rt; matches!(served, Ok(())) && log.has(4, 0));
     Ok(())
 }
@@ -156,7 +168,7 @@ fn a_server_ends_once_each_worker_has_done_what_it_may(rt: HostRuntime) -> Resul
 #[test]
 fn a_thread_that_fails_ends_the_server(rt: HostRuntime) -> Result<(), Fail> {
     let log = Counted::new();
-    let served = served(&rt, rt.alloc(), &log, u64::MAX, true).ok_or("a server")?;
+    let served = served_by_two(&rt, rt.alloc(), &log, u64::MAX, true).ok_or("a server")?;
     assert!(rt; matches!(served, Err(ServeFault::Device)) && log.has(3, 1));
     Ok(())
 }

@@ -18,10 +18,10 @@ use zone_service::{NoLog, Server, ServiceLog};
 use zone_tree::Zone;
 
 /// The query for www.example.test., type A, and its reply.
-const QUERY: &[u8] =
+pub(crate) const QUERY: &[u8] =
     b"\x12\x34\x01\x00\x00\x01\x00\x00\x00\x00\x00\x00\x03www\x07example\x04test\x00\x00\x01\x00\x01";
 
-const REPLY: &[u8] =
+pub(crate) const REPLY: &[u8] =
     b"\x12\x34\x85\x00\x00\x01\x00\x02\x00\x00\x00\x00\x03www\x07example\x04test\x00\x00\x01\x00\x01\xc0\x0c\x00\x05\x00\x01\x00\x00\x0e\x10\x00\x06\x03web\xc0\x10\xc0\x2e\x00\x01\x00\x01\x00\x00\x0e\x10\x00\x04\xc0\x00\x02\x0a";
 
 /// After how many turns the first call gives up.
@@ -29,7 +29,7 @@ const TURNS: u64 = 10_000_000;
 
 /// A gate that holds the call that enters first until another one leaves.
 #[derive(Drop)]
-struct HoldingGate {
+pub(crate) struct HoldingGate {
     entered: AtomicU64,
     left: AtomicU64,
     gave_up: AtomicU64,
@@ -56,7 +56,7 @@ impl Gate for HoldingGate {
 
 impl HoldingGate {
     /// A gate that nobody has entered.
-    fn new() -> HoldingGate {
+    pub(crate) fn new() -> HoldingGate {
         HoldingGate {
             entered: AtomicU64::new(0),
             left: AtomicU64::new(0),
@@ -65,7 +65,7 @@ impl HoldingGate {
     }
 
     /// Whether nobody gave up.
-    fn is_well(&self) -> bool {
+    pub(crate) fn is_well(&self) -> bool {
         self.gave_up.load(Ordering::SeqCst) == 0
     }
 }

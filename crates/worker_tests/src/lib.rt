@@ -3,10 +3,14 @@
 #![tactic(auto)]
 
 #[cfg(test)]
+mod counts;
+#[cfg(test)]
 mod ending;
 #[cfg(test)]
 mod gates;
 #[cfg(test)]
 mod refused;
+#[cfg(test)]
+mod streams;
 #[cfg(test)]
 mod turning;

@@ -1,5 +1,5 @@
 //! A server whose memory is refused while it begins, runs and ends.
-use crate::ending::{Counted, served};
+use crate::ending::{Counted, served_by_two};
 use serve_workers::ServeFault;
 use std::alloc::Global;
 use std::net::Net;
@@ -11,7 +11,7 @@ use std::time::Clock;
 /// memory for it.
 fn is_ended<R: Net + Threads + Wait + Clock + Sync>(rt: &R, alloc: Global) -> Option<bool> {
     let log = Counted::new();
-    match served(rt, alloc, &log, 0, false)? {
+    match served_by_two(rt, alloc, &log, 0, false)? {
         Ok(()) => Some(log.has(4, 0)),
         Err(ServeFault::NoMemory | ServeFault::NotStarted) => None,
         Err(ServeFault::Device | ServeFault::Spent) => Some(false),
