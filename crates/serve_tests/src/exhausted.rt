@@ -20,7 +20,11 @@ const QUERY: &[u8] =
 const REPLY: &[u8] =
     b"\x12\x34\x85\x00\x00\x01\x00\x02\x00\x00\x00\x00\x03www\x07example\x04test\x00\x00\x01\x00\x01\xc0\x0c\x00\x05\x00\x01\x00\x00\x0e\x10\x00\x06\x03web\xc0\x10\xc0\x2e\x00\x01\x00\x01\x00\x00\x0e\x10\x00\x04\xc0\x00\x02\x0a";
 
-/// The reply to its header alone (RFC 1035, 4.1.1).
+/// Its header alone, with the reply to that, and the header without its last octet (RFC 1035, 4.1.1).
+const HEADER: &[u8] = b"\x12\x34\x01\x00\x00\x01\x00\x00\x00\x00\x00\x00";
+
+const SHORT: &[u8] = b"\x12\x34\x01\x00\x00\x01\x00\x00\x00\x00\x00";
+
 const FORMERR: &[u8] = b"\x12\x34\x81\x01\x00\x00\x00\x00\x00\x00\x00\x00";
 
 /// What is played with an engine that keeps no version beside the last, and a reader beside it.
@@ -241,8 +245,8 @@ fn is_spent<Z: FirstZone, N: Naming>(
     let mut out = [0u8; 65_535];
     let peer = Peer::over(Transport::Tcp, true);
     let query = answer_now(cell, reader, peer, QUERY, &mut out);
-    let header = is_answered(cell, reader, &QUERY[..12], FORMERR, &mut out);
-    let silent = answer_now(cell, reader, peer, &QUERY[..11], &mut out);
+    let header = is_answered(cell, reader, HEADER, FORMERR, &mut out);
+    let silent = answer_now(cell, reader, peer, SHORT, &mut out);
     matches!(query, Now::Spent) && header && matches!(silent, Now::Silent) && reader.left() == 0
 }
 

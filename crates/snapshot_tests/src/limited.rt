@@ -24,14 +24,25 @@ fn left_of<R: Abort>(rt: &R, readers: &[Reader<u64>]) -> u64 {
     readers.first().expect(rt, "a reader").left()
 }
 
-/// A load by one of the readers is refused, and leaves it without a grant.
-fn load_none<R: Abort>(rt: &R, cell: &Cell<u64, Climbing>, readers: &mut Vec<Reader<u64>>)
+/// A load by a reader is refused, and leaves it without a grant.
+fn load_none<R: Abort>(rt: &R, cell: &Cell<u64, Climbing>, reader: &mut Reader<u64>)
+    requires { reader.old.cell ≡ cell.now }
+    ensures { reader.new.cell ≡ cell.now }
+{
+    match cell.load(reader) {
+        Ok(_) => panic!(rt; "there is a grant"),
+        Err(_) => {}
+    }
+    assert_eq!(rt; reader.left(), 0);
+}
+
+/// So is one by one of the readers.
+fn load_none_by<R: Abort>(rt: &R, cell: &Cell<u64, Climbing>, readers: &mut Vec<Reader<u64>>)
     requires { All (λ r. r.cell ≡ cell.now) readers.old.items }
     ensures { All (λ r. r.cell ≡ cell.now) readers.new.items }
 {
     let mut reader = readers.pop().expect(rt, "a reader");
-    assert!(rt; cell.load(&mut reader).is_err());
-    assert_eq!(rt; reader.left(), 0);
+    load_none(rt, cell, &mut reader);
     readers.push(reader).ok().expect(rt, "memory");
 }
 
@@ -64,8 +75,8 @@ fn load_three<R: Abort>(
     publish(rt, cell, publisher, 5);
     let second = draw_by(rt, cell, readers);
     let third = draw_by(rt, cell, readers);
-    load_none(rt, cell, readers);
-    load_none(rt, cell, readers);
+    load_none_by(rt, cell, readers);
+    load_none_by(rt, cell, readers);
     keep_theirs(rt, first, &second, &third);
 }
 
@@ -91,7 +102,7 @@ fn no_grant_is_no_load(rt: HostRuntime) {
         publisher,
         mut readers,
     } = limited(&rt, rt.alloc(), 1, 0);
-    load_none(&rt, &cell, &mut readers);
+    load_none_by(&rt, &cell, &mut readers);
     end(&rt, cell, publisher, readers);
 }
 
