@@ -3,7 +3,8 @@ ghost use Rattle.std.specs.Prelude.{◌≤◌, length};
 
 use crate::engines::{Row, are_told, is_told, small_zone};
 use dns_engine::{
-    Engine, FirstZone, Naming, VersionCell, VersionOwner, VersionPublisher, VersionReader,
+    Engine, EngineFault, FirstZone, Naming, VersionCell, VersionOwner, VersionPublisher,
+    VersionReader,
 };
 use dns_rdata::Rcode;
 use played_zones::{Play, Played, is_played, is_played_by, zone};
@@ -123,6 +124,51 @@ impl EnginePlay for ThreeGrants {
 fn an_engine_without_grants_publishes_nothing(rt: HostRuntime) {
     let zone = small_zone(rt.alloc()).expect(&rt, "a zone");
     assert!(rt; is_played_by(&rt, rt.alloc(), zone, 3, &ByEngine(ThreeGrants)) == Some(true));
+}
+
+/// An engine by a reader without grants.
+struct NoGrant;
+
+impl Play for NoGrant {
+    fn play<R: Wait, Z: FirstZone, N: Naming>(
+        &self,
+        _rt: &R,
+        _alloc: Global,
+        cell: &VersionCell<Z, N>,
+        publisher: VersionPublisher<Z, N>,
+        mut readers: Vec<VersionReader<N>>,
+    ) -> Played<Z, N> {
+        let Some(own) = readers.pop() else {
+            return Played {
+                told: None,
+                publisher,
+                readers,
+            };
+        };
+        let (told, publisher, own) = match Engine::new(cell, publisher, own, 0) {
+            Ok(engine) => {
+                let (publisher, own) = engine.finish();
+                (false, publisher, own)
+            }
+            Err(refused) => {
+                let is_spent = matches!(refused.fault, EngineFault::Spent);
+                (is_spent, refused.publisher, refused.reader)
+            }
+        };
+        let _ = readers.push(own);
+        Played {
+            told: Some(told),
+            publisher,
+            readers,
+        }
+    }
+}
+
+// Without a grant there is no engine, and its publisher and its reader come back.
+#[test]
+fn no_grant_is_no_engine(rt: HostRuntime) {
+    let zone = small_zone(rt.alloc()).expect(&rt, "a zone");
+    assert!(rt; is_played_by(&rt, rt.alloc(), zone, 0, &NoGrant) == Some(true));
 }
 
 /// Owners of versions, the first one first.

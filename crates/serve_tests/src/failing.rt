@@ -1,6 +1,8 @@
-//! Streams that end or fail at each place of two requests and their replies, and frames too short for a header (RFC 1035, 4.1.1 and 4.2.2).
+//! Streams that end or fail at each place of two requests and their replies, frames too short for a header, and streams that find no grant left
+//! (RFC 1035, 4.1.1 and 4.2.2).
 use crate::streams::{Row, TRANSFER, is_right};
 use conversation::{Counted, StreamEnd};
+use played_zones::{is_played_by, zone};
 use std::alloc::{AllocError, Global};
 use std::sync::Wait;
 use told_streams::Tape;
@@ -139,4 +141,49 @@ fn are_counted(alloc: Global) -> Result<bool, AllocError> {
 #[test]
 fn a_write_of_nothing_is_counted(rt: HostRuntime) {
     assert!(rt; matches!(are_counted(rt.alloc()), Ok(true)));
+}
+
+/// The query, a header that can't be read as one, and the query again, for which no grant is left.
+const QUERIES: Row = Row {
+    end: StreamEnd::Spent,
+    input: "\
+002212340100000100000000000003777777076578616d706c6504746573740000010001\
+000c123401000001000000000000\
+002212340100000100000000000003777777076578616d706c6504746573740000010001",
+    written: "\
+004412348500000100020000000003777777076578616d706c6504746573740000010001\
+c00c0005000100000e10000603776562c010c02e0001000100000e100004c000020a\
+000c123481010000000000000000",
+    ..TWICE
+};
+
+/// The zone in whole, twice, of which the second finds no grant left (RFC 5936, 2.2).
+const TRANSFERS: Row = Row {
+    end: StreamEnd::Spent,
+    input: "\
+001e123400000001000000000000076578616d706c6504746573740000fc0001\
+001e123400000001000000000000076578616d706c6504746573740000fc0001",
+    written: "\
+00b4123484000001000600000000076578616d706c6504746573740000fc0001c00c0006000100000e100022036e7331c00c0561646d696ec00c\
+0000000100001c2000000384001275000000012cc00c0002000100000e100002c02ac02a0001000100000e100004c000020103776562c00c0001\
+000100000e100004c000020a03777777c00c0005000100000e100002c06ac00c0006000100000e100018c02ac0300000000100001c2000000384\
+001275000000012c",
+    ..TRANSFER
+};
+
+// A reader of one grant answers one query, and ends the stream at the next one (own).
+#[test]
+fn no_grant_ends_a_stream_of_queries(rt: HostRuntime) {
+    let zone = zone(rt.alloc()).expect(&rt, "a zone");
+    assert!(rt; is_played_by(&rt, rt.alloc(), zone, 1, &QUERIES) == Some(true));
+}
+
+// A transfer wants two: one where it is seen to be permitted, and one where it is begun.
+#[test]
+fn no_grant_ends_a_stream_of_transfers(rt: HostRuntime) {
+    for grants in [2, 3u64] {
+        let zone = zone(rt.alloc()).expect(&rt, "a zone");
+        let told = is_played_by(&rt, rt.alloc(), zone, grants, &TRANSFERS);
+        assert!(rt; told == Some(true), "{grants}");
+    }
 }

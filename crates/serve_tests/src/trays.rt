@@ -1,7 +1,9 @@
 //! Requests as datagrams, by a device that lies in memory (RFC 1035, 4.2.1).
 use conversation::{Allowed, Datagrams, DatagramsEnd, OpenGate};
 use dns_engine::{FirstZone, Naming, VersionCell, VersionPublisher, VersionReader};
-use played_zones::{Kept, Play, Played, asker, is_played, octets_of, server_of, zone};
+use played_zones::{
+    Kept, Play, Played, asker, is_played, is_played_by, octets_of, server_of, zone,
+};
 use serve_core::{Peer, Transport};
 use std::alloc::Global;
 use std::net::IpAddr;
@@ -296,4 +298,22 @@ const TWO_QUERIES: Row = Row {
 #[test]
 fn two_requests_by_datagrams(rt: HostRuntime) {
     assert!(rt; is_right(&rt, rt.alloc(), &TWO_QUERIES));
+}
+
+/// Queries, of which the third finds no grant left.
+const SPENT: Row = Row {
+    may: false,
+    most: 9,
+    refused: &[],
+    letters: b"qsqq",
+    end: DatagramsEnd::Spent,
+    faults: 0,
+    sent: b"0q2q",
+};
+
+// A reader of two grants answers two queries, and the next one ends it (own).
+#[test]
+fn no_grant_ends_datagrams(rt: HostRuntime) {
+    let zone = zone(rt.alloc()).expect(&rt, "a zone");
+    assert!(rt; is_played_by(&rt, rt.alloc(), zone, 2, &SPENT) == Some(true));
 }
