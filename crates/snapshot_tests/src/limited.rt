@@ -4,7 +4,7 @@ ghost use Rattle.std.specs.List.{All};
 
 use crate::begun::{draw_by, end};
 use crate::numbers::{Climbing, has, publish};
-use snapshot_cell::{Cell, NewFault, Parts, Publisher, Reader, Strong};
+use snapshot_cell::{Cell, NewFault, Parts, Publisher, Reader, Strong, Weak};
 use std::alloc::Global;
 use std::process::Abort;
 
@@ -104,6 +104,71 @@ fn no_grant_is_no_load(rt: HostRuntime) {
     } = limited(&rt, rt.alloc(), 1, 0);
     load_none_by(&rt, &cell, &mut readers);
     end(&rt, cell, publisher, readers);
+}
+
+/// A reader without a grant gives no other owner of an owner's version, which stays.
+fn clone_none<R: Abort>(rt: &R, reader: &mut Reader<u64>, strong: &mut Strong<'_, u64, Climbing>)
+    requires { reader.old.cell ≡ strong.old.table }
+    ensures reader { reader.new.cell ≡ reader.old.cell }
+    ensures strong { strong.new ≡ strong.old }
+{
+    match reader.clone_of(strong) {
+        Ok(_) => panic!(rt; "there is a grant"),
+        Err(_) => {}
+    }
+    assert_eq!(rt; reader.left(), 0);
+}
+
+/// And none of a weak owner's.
+fn upgrade_none<R: Abort>(rt: &R, reader: &mut Reader<u64>, weak: &mut Weak<'_, u64, Climbing>)
+    requires { weak.old.table ≡ reader.old.cell }
+    ensures reader { reader.new.cell ≡ reader.old.cell }
+    ensures weak { weak.new ≡ weak.old }
+{
+    match reader.upgrade(weak) {
+        Ok(_) => panic!(rt; "there is a grant"),
+        Err(_) => {}
+    }
+    assert_eq!(rt; reader.left(), 0);
+}
+
+/// Neither by one of the cell's readers; it looks at the owner for no grant.
+fn raise_none_by<'a, R: Abort>(
+    rt: &R,
+    cell: &'a Cell<u64, Climbing>,
+    readers: &mut Vec<Reader<u64>>,
+    strong: &mut Strong<'a, u64, Climbing>,
+    weak: &mut Weak<'a, u64, Climbing>,
+)
+    requires tables { (strong.old.table ≡ cell.now) × (weak.old.table ≡ cell.now) }
+    requires readers { All (λ r. r.cell ≡ cell.now) readers.old.items }
+    ensures { All (λ r. r.cell ≡ cell.now) readers.new.items }
+{
+    let mut reader = readers.pop().expect(rt, "a reader");
+    clone_none(rt, &mut reader, strong);
+    upgrade_none(rt, &mut reader, weak);
+    reader.alive(strong);
+    readers.push(reader).ok().expect(rt, "memory");
+}
+
+// A grant that a load has taken is none for a clone or an upgrade; the owner and the weak owner stay.
+#[test]
+fn no_grant_raises_nothing(rt: HostRuntime) {
+    let Parts {
+        cell,
+        mut publisher,
+        mut readers,
+    } = limited(&rt, rt.alloc(), 1, 1);
+    let mut first = draw_by(&rt, &cell, &mut readers);
+    let mut weak = publisher
+        .downgrade(&mut first)
+        .ok()
+        .expect(&rt, "a weak owner");
+    raise_none_by(&rt, &cell, &mut readers, &mut first, &mut weak);
+    assert!(rt; has(&first, 0, 1) && weak.number() == 0);
+    drop(first);
+    drop(weak);
+    assert_eq!(rt; end(&rt, cell, publisher, readers), 1);
 }
 
 /// How many grants a reader has of a cell whose readers are to have so many.
