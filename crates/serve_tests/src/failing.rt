@@ -137,7 +137,7 @@ fn are_counted(alloc: Global) -> Result<bool, AllocError> {
     Ok(is_one && second && third)
 }
 
-// A write that takes no octet is a failure (own).
+// A write that takes no octet is a failure.
 #[test]
 fn a_write_of_nothing_is_counted(rt: HostRuntime) {
     assert!(rt; matches!(are_counted(rt.alloc()), Ok(true)));
