@@ -1,5 +1,5 @@
 //! Octets as a zone keeps them: few in the value itself, more on the heap.
-ghost use Rattle.std.specs.Prelude.{◌≡◌, ◌≤◌, ◌-◌, ◌++◌, length, map, take, drop, IfOk, IsOk};
+ghost use Rattle.std.specs.Prelude.{◌≡◌, ◌≤◌, ◌-◌, [], ◌++◌, length, map, take, drop, IfOk, IsOk};
 ghost use Rattle.std.specs.Char.{to_ascii_lowercase};
 ghost use Rattle.dns_name.specs.Kept.{octets_at};
 
@@ -45,6 +45,15 @@ impl KeptOctets {
             Place::Heap(Vec::from_slice(alloc, octets)?)
         };
         Ok(KeptOctets { place })
+    }
+
+    /// No octets.
+    pub fn none() -> KeptOctets
+        ensures { result ≡ [] }
+    {
+        KeptOctets {
+            place: in_place(&[]),
+        }
     }
 
     /// The same octets, in lower case from one place to another (RFC 4343, 3). `AllocError` where a growth was refused, of

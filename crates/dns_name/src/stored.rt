@@ -260,6 +260,15 @@ impl Model for StoredName {
 }
 
 impl StoredName {
+    /// The root (RFC 1034, 3.1). It takes no memory.
+    pub fn root() -> StoredName
+        ensures { result ≡ [] }
+    {
+        StoredName {
+            octets: KeptOctets::none(),
+        }
+    }
+
     /// The name in lower case. `AllocError` where a growth was refused.
     pub fn new(alloc: Global, name: &Name) -> Result<StoredName, AllocError>
         ensures folded { IfOk result (λ stored. stored ≡ fold_name name.now) }

@@ -12,6 +12,7 @@ use crate::layout::SOA_NUMBERS;
 use crate::numbers::{RType, Serial, Ttl};
 use dns_name::{KeptOctets, Name, first_name};
 use std::alloc::{AllocError, Global};
+use std::default::MadeWith;
 use std::marker::Model;
 use thiserror::Error;
 
@@ -47,6 +48,16 @@ impl Model for RData {
     ghost view = { λ a. record { rtype = a.rtype.0; octets = a.octets } };
 
     ghost invariant = { λ a. IsData (record { rtype = a.rtype.0; octets = a.octets }) };
+}
+
+impl MadeWith<Global> for RData {
+    /// What an unused place holds: no octets, of a type that has no form.
+    fn made_with(_alloc: Global) -> RData {
+        RData {
+            rtype: RType(65_535),
+            octets: KeptOctets::none(),
+        }
+    }
 }
 
 /// The numbers behind the names of an SOA's data (RFC 1035, 3.3.13).

@@ -9,8 +9,10 @@ ghost use Rattle.dns_rdata.specs.Record.{Record, IsLawful, records_with, owner_o
 use crate::data::RData;
 use crate::numbers::{RType, Ttl};
 use dns_name::{Name, StoredName};
+use smallvec::SmallVec;
 use std::alloc::{AllocError, Global};
 use std::cmp::Ordering;
+use std::default::MadeWith;
 use std::marker::Model;
 use thiserror::Error;
 
@@ -35,7 +37,7 @@ pub struct RRset {
     owner: StoredName,
     rtype: RType,
     ttl: Ttl,
-    rdata: Vec<RData>,
+    rdata: SmallVec<RData, 1>,
 }
 
 impl Model for RRset {
@@ -71,17 +73,24 @@ impl RRset {
         ensures { IfOk result (λ set. set
             ≡ record { owner = owner; rtype = rdata.rtype; ttl = ttl.0; rdata = rdata.octets } ∷ []) }
     {
+        Ok(RRset::of_one(alloc, owner, ttl, rdata))
+    }
+
+    /// `with_owner`, which takes no memory: one record lies in the value.
+    fn of_one(alloc: Global, owner: StoredName, ttl: Ttl, rdata: RData) -> RRset
+        requires { ttl.0 < 2 ^ 31 }
+        ensures { result
+            ≡ record { owner = owner; rtype = rdata.rtype; ttl = ttl.0; rdata = rdata.octets } ∷ [] }
+    {
         // What a stored name keeps is known of the owner from here on.
         let _octets = owner.octets();
         let rtype = rdata.rtype();
-        let mut own = Vec::with_capacity(alloc, 1)?;
-        own.push(rdata)?;
-        Ok(RRset {
+        RRset {
             owner,
             rtype,
             ttl,
-            rdata: own,
-        })
+            rdata: SmallVec::from_buf(alloc, [rdata]),
+        }
     }
 
     /// The owner, in lower case.
@@ -166,8 +175,6 @@ impl RRset {
         if self.rdata.len() == MAX_SET {
             return Err(SetFault::Limit);
         }
-        // Most sets have few records, so room is made for one; where it is refused, `insert` tells it.
-        let _ = self.rdata.reserve_exact(1);
         self.rdata
             .insert(place, rdata)
             .map_err(|_| SetFault::NoMemory)?;
@@ -222,6 +229,13 @@ impl RRset {
     }
 }
 
+impl MadeWith<Global> for RRset {
+    /// What an unused place holds: a record of no octets at the root.
+    fn made_with(alloc: Global) -> RRset {
+        RRset::of_one(alloc, StoredName::root(), Ttl(0), RData::made_with(alloc))
+    }
+}
+
 /// Whether data are the same, one by one.
 fn are_same(own: &[RData], other: &[RData]) -> bool
     ensures { MatchBool result (own.now ≡ other.now) (own.now ≢ other.now) }
@@ -245,12 +259,13 @@ fn is_same_datum(own: &RData, other: &RData) -> bool
 }
 
 /// The data but for that of these octets.
-fn without_octets(mut all: Vec<RData>, octets: &[u8]) -> Vec<RData>
+fn without_octets(mut all: SmallVec<RData, 1>, octets: &[u8]) -> SmallVec<RData, 1>
     ensures { result.items ≡ filter (λ d. not (bytes_eq octets.now d.octets)) all.items }
 {
     all.retain(
-        |own: &RData| -> bool
-            ensures { result ≡ not (bytes_eq octets.entry.now own.now.octets) }
+        |own: &mut RData| -> bool
+            ensures left { own.new ≡ own.old }
+            ensures kept { result ≡ not (bytes_eq octets.entry.now own.old.octets) }
         { octets != own.octets() },
     );
     all
@@ -274,10 +289,11 @@ fn place_of(sorted: &[RData], rdata: &RData) -> Result<usize, usize>
 }
 
 /// The same data once more.
-fn copies(alloc: Global, from: &[RData]) -> Result<Vec<RData>, AllocError>
+fn copies(alloc: Global, from: &[RData]) -> Result<SmallVec<RData, 1>, AllocError>
     ensures { IfOk result (λ own. own.items ≡ from.now) }
 {
-    let mut own = Vec::with_capacity(alloc, from.len())?;
+    let mut own = SmallVec::new(alloc);
+    own.reserve(from.len())?;
     for rdata in from {
         own.push(rdata.copy(alloc)?)?;
     }

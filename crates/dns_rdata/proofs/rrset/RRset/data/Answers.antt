@@ -2,7 +2,7 @@ use Rattle.dns_rdata.proofs.SetLemmas.{records_with-of, owner_of-records_with, r
 use Rattle.dns_rdata.proofs.rrset.RRset.data.Goals as goal
 
 pub returns-clause-records : goal.returns-clause-records
-returns-clause-records c = rw (← c.self.view_is, c.as_slice.ensures.value) (records_with-of _ _ _ _ c.self.invariant.some)
+returns-clause-records c = rw (← c.self.view_is, c.as_slice.ensures) (records_with-of _ _ _ _ c.self.invariant.some)
 
 pub returns-clause-lawful : goal.returns-clause-lawful
 returns-clause-lawful c =
@@ -10,7 +10,7 @@ returns-clause-lawful c =
     let some = c.self.invariant.some in
     rw (
       ← c.self.view_is,
-      c.as_slice.ensures.value,
+      c.as_slice.ensures,
       owner_of-records_with set.owner set.rtype.0 set.ttl.0 set.rdata.items some,
       rtype_of-records_with set.owner set.rtype.0 set.ttl.0 set.rdata.items some,
       ttl_of-records_with set.owner set.rtype.0 set.ttl.0 set.rdata.items some,

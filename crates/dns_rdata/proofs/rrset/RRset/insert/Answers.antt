@@ -1,14 +1,19 @@
-use Rattle.std.proofs.Common.{◌≡◌, ◌<◌, length, true, false, not, is_ok, refl, sym, ap, ◌∙◌, arith, rules}
+use Rattle.std.proofs.Common.{◌≡◌, ◌<◌, length, insert, true, false, not, Result, Ok, Err, OnOk, is_ok, refl, sym, ap, ◌∙◌, arith, rules}
 use Rattle.std.proofs.lemmas.List.{length-map}
 use Rattle.dns_rdata.specs.Record.{with_data, has_data, records_with, rtype_of}
 use Rattle.dns_rdata.proofs.SetLemmas.{rtype_of-records_with}
 use Rattle.dns_rdata.proofs.InsertLemmas.{has-from_same, has_not-from_insert, records_with-with_data, IsSet-with_data}
 use Rattle.dns_rdata.proofs.rrset.RRset.insert.Goals as goal
 
+-- what is so where there is a value
+told : {T E P : Type 0} (r : Result T E) → OnOk r P → is_ok r ≡ true → P
+told (Ok v) is ok = is
+told (Err e) is ok = absurd (let wrong : false ≡ true = ok in cc)
+
 pub returns-in_default-clause-ok : goal.returns-in_default-clause-ok
 returns-in_default-clause-ok c =
     let set = c.self.inside in
-    let found : with_data c.args.rdata set.rdata.items ≡ set.rdata.items = rw c.deref.ensures.value at c.in_default.ensures.place in
+    let found : with_data c.args.rdata set.rdata.items ≡ set.rdata.items = rw c.deref.ensures at c.in_default.ensures.place in
     let typed : c.args.rdata.rtype ≡ rtype_of (records_with set.owner set.rtype.0 set.ttl.0 set.rdata.items) = rw (← c.self.view_is) at c.requires in
     let more = records_with-with_data set.owner set.rtype.0 set.ttl.0 c.args.rdata set.rdata.items c.self.invariant.some typed in
     rw (← c.self.view_is) (ap (records_with set.owner set.rtype.0 set.ttl.0) (sym found) ∙ more)
@@ -16,14 +21,14 @@ returns-in_default-clause-ok c =
 pub returns-in_default-clause-fresh : goal.returns-in_default-clause-fresh
 returns-in_default-clause-fresh c =
     let set = c.self.inside in
-    let found : with_data c.args.rdata set.rdata.items ≡ set.rdata.items = rw c.deref.ensures.value at c.in_default.ensures.place in
+    let found : with_data c.args.rdata set.rdata.items ≡ set.rdata.items = rw c.deref.ensures at c.in_default.ensures.place in
     let there = has-from_same set.owner set.rtype.0 set.ttl.0 c.args.rdata set.rdata.items found in
     rw (← c.self.view_is) (ap not (sym there))
 
 pub returns-in_default-clause-limit : goal.returns-in_default-clause-limit
 returns-in_default-clause-limit c =
     let set = c.self.inside in
-    let found : with_data c.args.rdata set.rdata.items ≡ set.rdata.items = rw c.deref.ensures.value at c.in_default.ensures.place in
+    let found : with_data c.args.rdata set.rdata.items ≡ set.rdata.items = rw c.deref.ensures at c.in_default.ensures.place in
     let there = has-from_same set.owner set.rtype.0 set.ttl.0 c.args.rdata set.rdata.items found in
     let is : has_data c.args.self.now c.args.rdata.octets ≡ true = rw (← c.self.view_is) there in
     (λ e. cc, λ h. let isnt = h.1 in cc)
@@ -31,7 +36,7 @@ returns-in_default-clause-limit c =
 pub returns-then-len-eq-MAX_SET-clause-limit : goal.returns-then-len-eq-MAX_SET-clause-limit
 returns-then-len-eq-MAX_SET-clause-limit c =
     let set = c.self.inside in
-    let place = rw c.deref.ensures.value at c.in-Err.ensures.place in
+    let place = rw c.deref.ensures at c.in-Err.ensures.place in
     let missing = has_not-from_insert set.owner set.rtype.0 set.ttl.0 c.args.rdata set.rdata.items c.in-Err.place c.self.invariant.ascending place.0 place.1 in
     let isnt : has_data c.args.self.now c.args.rdata.octets ≡ false = rw (← c.self.view_is) missing in
     let size : length c.args.self.now ≡ length set.rdata.items = rw (← c.self.view_is) (length-map set.rdata.items _) in
@@ -41,7 +46,7 @@ returns-then-len-eq-MAX_SET-clause-limit c =
 pub returns-in_err-map_err-clause-no_memory : goal.returns-in_err-map_err-clause-no_memory
 returns-in_err-map_err-clause-no_memory c =
     let set = c.self.inside in
-    let place = rw c.deref.ensures.value at c.in-Err.ensures.place in
+    let place = rw c.deref.ensures at c.in-Err.ensures.place in
     let missing = has_not-from_insert set.owner set.rtype.0 set.ttl.0 c.args.rdata set.rdata.items c.in-Err.place c.self.invariant.ascending place.0 place.1 in
     let isnt : has_data c.args.self.now c.args.rdata.octets ≡ false = rw (← c.self.view_is) missing in
     let size : length c.args.self.now ≡ length set.rdata.items = rw (← c.self.view_is) (length-map set.rdata.items _) in
@@ -52,9 +57,9 @@ returns-in_err-map_err-clause-no_memory c =
 pub invariant_of-self-2 : goal.invariant_of-self-2
 invariant_of-self-2 c =
     let set = c.self.inside in
-    let place = rw c.deref.ensures.value at c.in-Err.ensures.place in
+    let place = rw c.deref.ensures at c.in-Err.ensures.place in
     let ok : is_ok c.insert.result ≡ true = sym c.in_ok-map_err.ensures.variant in
-    let items = rw (ok, c.reserve_exact.ensures.items) at c.insert.ensures.items in
+    let items : c.insert.new.self.items ≡ insert set.rdata.items c.in-Err.place c.args.rdata = told c.insert.result c.insert.ensures.ok ok in
     let typed : c.args.rdata.rtype ≡ rtype_of (records_with set.owner set.rtype.0 set.ttl.0 set.rdata.items) = rw (← c.self.view_is) at c.requires in
     let own = rtype_of-records_with set.owner set.rtype.0 set.ttl.0 set.rdata.items c.self.invariant.some in
     let count : c.len.result ≡ length set.rdata.items = search rules in
@@ -65,9 +70,9 @@ invariant_of-self-2 c =
 pub returns-clause-ok : goal.returns-clause-ok
 returns-clause-ok c =
     let set = c.self.inside in
-    let place = rw c.deref.ensures.value at c.in-Err.ensures.place in
+    let place = rw c.deref.ensures at c.in-Err.ensures.place in
     let ok : is_ok c.insert.result ≡ true = sym c.in_ok-map_err.ensures.variant in
-    let items = rw (ok, c.reserve_exact.ensures.items) at c.insert.ensures.items in
+    let items : c.insert.new.self.items ≡ insert set.rdata.items c.in-Err.place c.args.rdata = told c.insert.result c.insert.ensures.ok ok in
     let typed : c.args.rdata.rtype ≡ rtype_of (records_with set.owner set.rtype.0 set.ttl.0 set.rdata.items) = rw (← c.self.view_is) at c.requires in
     let more = records_with-with_data set.owner set.rtype.0 set.ttl.0 c.args.rdata set.rdata.items c.self.invariant.some typed in
     rw (items, ← c.self.view_is) (ap (records_with set.owner set.rtype.0 set.ttl.0) (sym place.1) ∙ more)
@@ -75,6 +80,6 @@ returns-clause-ok c =
 pub returns-clause-fresh : goal.returns-clause-fresh
 returns-clause-fresh c =
     let set = c.self.inside in
-    let place = rw c.deref.ensures.value at c.in-Err.ensures.place in
+    let place = rw c.deref.ensures at c.in-Err.ensures.place in
     let missing = has_not-from_insert set.owner set.rtype.0 set.ttl.0 c.args.rdata set.rdata.items c.in-Err.place c.self.invariant.ascending place.0 place.1 in
     rw (← c.self.view_is) (ap not (sym missing))

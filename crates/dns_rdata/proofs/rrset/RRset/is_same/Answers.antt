@@ -14,4 +14,4 @@ returns-then-ne-3 c = ttls_differ _ _ _ _ _ _ _ _ _ _ c.self.view_is c.other.vie
 pub returns : goal.returns
 returns c =
     data_decide _ _ _ _ _ _ _ _ _ _ c.self.view_is c.other.view_is c.self.invariant c.other.invariant (sym c.if-ne.false ∙ c.ne.ensures) (sym c.if-ne-2.false ∙ c.ne-2.ensures) (sym c.if-ne-3.false ∙ c.ne-3.ensures) c.are_same.result
-    (rw (sym c.deref.ensures.value, sym c.deref-2.ensures.value) c.are_same.ensures)
+    (rw (sym c.deref.ensures, sym c.deref-2.ensures) c.are_same.ensures)
