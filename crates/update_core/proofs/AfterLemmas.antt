@@ -81,7 +81,7 @@ pub way_end : (zone made : List Record) (all : List RawRecord) (i : ℕ) → len
 way_end zone made all i end way = way.same ∙ ap (effects made) (past_end all i end)
 
 -- what a filter keeps
-kept_contains : (q : Record → Bool) (zs : List Record) (s : Record) → Contains (filter q zs) s → Contains zs s
+pub kept_contains : (q : Record → Bool) (zs : List Record) (s : Record) → Contains (filter q zs) s → Contains zs s
 kept_contains q [] s h = h
 kept_contains q (z ∷ zs) s h = by (q z) (λ m. kept_contains q zs s m) h
   where
@@ -93,7 +93,7 @@ kept_contains q (z ∷ zs) s h = by (q z) (λ m. kept_contains q zs s m) h
     by true rest (suc k, l, e) = behind (rest (k, omega arith, e))
     by false rest m = behind (rest m)
 
-contains_kept : (q : Record → Bool) (zs : List Record) (s : Record) → q s ≡ true → Contains zs s → Contains (filter q zs) s
+pub contains_kept : (q : Record → Bool) (zs : List Record) (s : Record) → q s ≡ true → Contains zs s → Contains (filter q zs) s
 contains_kept q [] s pass h = h
 contains_kept q (z ∷ zs) s pass (zero, l, e) = let first : q z ≡ true = ap q e ∙ pass in rw first (zero, omega arith, e)
 contains_kept q (z ∷ zs) s pass (suc k, l, e) = by (q z) (contains_kept q zs s pass (k, omega arith, e))

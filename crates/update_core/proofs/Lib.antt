@@ -25,3 +25,7 @@ pub mod RowEffects
 pub mod NoEffects
 pub mod AfterLemmas
 pub mod ChangedOwners
+pub mod OwnSets
+pub mod OverlayLemmas
+pub mod OverlayLooks
+pub mod OverlayEdits

@@ -191,7 +191,7 @@ module _ (zone : List Record) (r : RawRecord) where
       each_with_record is_own (entered r) (map (λ (s : Record). record s { ttl = ttl_in_zone r.ttl }) (rrset_of zone r.owner r.rtype)) own_entered
       (each_map is_own (λ (s : Record). record s { ttl = ttl_in_zone r.ttl }) (rrset_of zone r.owner r.rtype) (each_passes r.owner r.rtype (is_of r.owner r.rtype) zone))
 
-  own_behind : AllByRecursion is_own (set_behind zone r)
+  pub own_behind : AllByRecursion is_own (set_behind zone r)
   own_behind = by_test (AllByRecursion is_own) (r.rtype == type_CNAME || r.rtype == type_SOA) (entered r ∷ []) grown (λ _. (own_entered, tt)) (λ _. own_grown)
 
   some_behind : 0 < length (set_behind zone r)

@@ -1,6 +1,7 @@
 pub mod Verdict
 pub mod Act
 pub mod Applied
+pub mod Overlay
 pub mod Examples
 pub mod Ordered
 pub use Rattle.zone_tree.specs.Zone

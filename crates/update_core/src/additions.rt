@@ -1,5 +1,6 @@
 //! What a record that an update adds changes (RFC 2136, 3.4.2.2).
 ghost use Rattle.std.specs.Prelude.{◌≡◌, ◌<◌, ◌≤◌, ◌^◌, ◌&&◌, ◌||◌, not, ◌==◌, ◌≢◌, true, [], None, length, All, IfOk, OnOk};
+ghost use Rattle.std.specs.List.{AllByRecursion};
 ghost use Rattle.std.specs.Bool.{OnTrue};
 ghost use Rattle.std.specs.Option.{is_some};
 ghost use Rattle.std.specs.Result.{IsErrOf};
@@ -13,27 +14,29 @@ ghost use Rattle.zone_tree.specs.Zone.{IsZone, apex_of, rrset_of};
 ghost use Rattle.zone_tree.specs.Version.{zone_serial};
 ghost use Rattle.update_core.specs.Verdict.{prescan_of, has_form, has_rrset};
 ghost use Rattle.update_core.specs.Act.{effect, entered, has_other_than_alias, has_lesser_soa, IsSent};
+ghost use Rattle.update_core.specs.Overlay.{IsChangeAt};
 ghost use Rattle.update_core.specs.Applied.{AreOf, is_beside_alias, joined, set_behind};
 
 use crate::ordered::is_among;
-use crate::prerequisites::is_in_use;
+use crate::overlay::Overlay;
 use crate::rows::{ActFault, one_change};
 use dns_name::Name;
 use dns_rdata::{DataFault, RData, RRset, RType, RawRecord, Ttl};
 use std::alloc::Global;
-use zone_tree::{Change, Zone, ZoneRead};
+use zone_tree::Change;
 
 /// The changes that a record of class IN makes; none where it has no effect. The table of effects comes before the limits.
 pub(crate) fn changes_of_addition(
     alloc: Global,
-    zone: &Zone,
+    zone: &Overlay<'_>,
     raw: &RawRecord,
 ) -> Result<Vec<Change>, ActFault>
-    requires lawful { IsZone zone.now }
+    requires lawful { IsZone zone.now.made }
     requires class { (raw.now.class == class_IN) ≡ true }
-    requires passed { prescan_of zone.now raw.now ≡ None }
-    ensures of { IfOk result (λ changes. AreOf zone.now raw.now changes.items) }
-    ensures limit { IsErrOf result ActFault.Limit → effect zone.now raw.now ≡ None }
+    requires passed { prescan_of zone.now.made raw.now ≡ None }
+    ensures of { IfOk result (λ changes. AreOf zone.now.made raw.now changes.items) }
+    ensures at { IfOk result (λ changes. AllByRecursion (IsChangeAt raw.now.owner) changes.items) }
+    ensures limit { IsErrOf result ActFault.Limit → effect zone.now.made raw.now ≡ None }
 {
     if is_beside_alias(zone, raw) {
         return Ok(Vec::new(alloc));
@@ -52,9 +55,9 @@ pub(crate) fn changes_of_addition(
 }
 
 /// Whether a record would put an alias beside other data, or other data beside an alias (RFC 2136, 3.4.2.2).
-fn is_beside_alias(zone: &Zone, raw: &RawRecord) -> bool
-    requires { IsZone zone.now }
-    ensures { result ≡ is_beside_alias zone.now raw.now }
+fn is_beside_alias(zone: &Overlay<'_>, raw: &RawRecord) -> bool
+    requires { IsZone zone.now.made }
+    ensures { result ≡ is_beside_alias zone.now.made raw.now }
 {
     if raw.rtype == RType::CNAME {
         return has_other_than_alias(zone, &raw.owner);
@@ -63,34 +66,34 @@ fn is_beside_alias(zone: &Zone, raw: &RawRecord) -> bool
 }
 
 /// Whether an alias stands at a name.
-fn has_alias(zone: &Zone, owner: &Name) -> bool
-    ensures { result ≡ has_rrset zone.now owner.now type_CNAME }
+fn has_alias(zone: &Overlay<'_>, owner: &Name) -> bool
+    ensures { result ≡ has_rrset zone.now.made owner.now type_CNAME }
 {
     zone.rrset(owner, RType::CNAME).is_some()
 }
 
 /// Whether a record of another type than CNAME stands at a name. An alias stands alone at its owner.
-fn has_other_than_alias(zone: &Zone, owner: &Name) -> bool
-    requires { IsZone zone.now }
-    ensures { result ≡ has_other_than_alias zone.now owner.now }
+fn has_other_than_alias(zone: &Overlay<'_>, owner: &Name) -> bool
+    requires { IsZone zone.now.made }
+    ensures { result ≡ has_other_than_alias zone.now.made owner.now }
 {
-    is_in_use(zone, owner) && !has_alias(zone, owner)
+    zone.is_in_use(owner) && !has_alias(zone, owner)
 }
 
 /// Whether a record is an SOA whose serial isn't greater than that of one that stands at its owner, or where none stands
 /// there (RFC 2136, 3.4.2.2). Its data are those that enter the zone.
-fn is_lesser_soa(zone: &Zone, raw: &RawRecord, rdata: &RData) -> bool
-    requires lawful { IsZone zone.now }
+fn is_lesser_soa(zone: &Overlay<'_>, raw: &RawRecord, rdata: &RData) -> bool
+    requires lawful { IsZone zone.now.made }
     requires rtype { rdata.now.rtype ≡ raw.now.rtype }
     requires data { rdata.now.octets ≡ (entered raw.now).rdata }
-    ensures { result ≡ (raw.now.rtype == type_SOA && not (has_lesser_soa zone.now raw.now)) }
+    ensures { result ≡ (raw.now.rtype == type_SOA && not (has_lesser_soa zone.now.made raw.now)) }
 {
     raw.rtype == RType::SOA && !is_greater_soa(zone, &raw.owner, rdata)
 }
 
 /// Whether an SOA stands at a name whose serial is less than that of an SOA's data (RFC 1982, 3.2).
-fn is_greater_soa(zone: &Zone, owner: &Name, rdata: &RData) -> bool
-    ensures { rdata.now.rtype ≡ type_SOA → result ≡ (is_same owner.now (apex_of zone.now) && serial_less (zone_serial zone.now) (serial_of rdata.now.octets)) }
+fn is_greater_soa(zone: &Overlay<'_>, owner: &Name, rdata: &RData) -> bool
+    ensures { rdata.now.rtype ≡ type_SOA → result ≡ (is_same owner.now (apex_of zone.now.made) && serial_less (zone_serial zone.now.made) (serial_of rdata.now.octets)) }
 {
     match rdata.soa() {
         Some(soa) => *owner == *zone.apex() && zone.serial().less(soa.serial),
@@ -125,13 +128,13 @@ fn are_octets(octets: &[u8])
 }
 
 /// Whether a record that joins others stands in a zone already, with the TTL that it would give them: then it has no effect.
-fn stands(zone: &Zone, raw: &RawRecord, rdata: &RData) -> bool
-    requires lawful { IsZone zone.now }
+fn stands(zone: &Overlay<'_>, raw: &RawRecord, rdata: &RData) -> bool
+    requires lawful { IsZone zone.now.made }
     requires rtype { rdata.now.rtype ≡ raw.now.rtype }
     requires data { rdata.now.octets ≡ (entered raw.now).rdata }
-    ensures some { OnTrue result (rrset_of zone.now raw.now.owner raw.now.rtype ≢ []) }
-    ensures same { OnTrue result (set_behind zone.now raw.now ≡ rrset_of zone.now raw.now.owner raw.now.rtype) }
-    ensures few { OnTrue result (length (set_behind zone.now raw.now) ≤ max_set) }
+    ensures some { OnTrue result (rrset_of zone.now.made raw.now.owner raw.now.rtype ≢ []) }
+    ensures same { OnTrue result (set_behind zone.now.made raw.now ≡ rrset_of zone.now.made raw.now.owner raw.now.rtype) }
+    ensures few { OnTrue result (length (set_behind zone.now.made raw.now) ≤ max_set) }
 {
     if raw.rtype != RType::CNAME && raw.rtype != RType::SOA {
         if let Some(own) = zone.rrset(&raw.owner, raw.rtype) {
@@ -152,12 +155,17 @@ fn has_record(own: &RRset, ttl: Ttl, rdata: &RData) -> bool
 }
 
 /// The set that stands where a record is added: an alias and an SOA replace what stood there, any other record joins it.
-fn set_with(alloc: Global, zone: &Zone, raw: &RawRecord, rdata: RData) -> Result<RRset, ActFault>
-    requires lawful { IsZone zone.now }
+fn set_with(
+    alloc: Global,
+    zone: &Overlay<'_>,
+    raw: &RawRecord,
+    rdata: RData,
+) -> Result<RRset, ActFault>
+    requires lawful { IsZone zone.now.made }
     requires rtype { rdata.rtype ≡ raw.now.rtype }
     requires data { rdata.octets ≡ (entered raw.now).rdata }
-    ensures set { IfOk result (λ set. set ≡ set_behind zone.now raw.now) }
-    ensures limit { IsErrOf result ActFault.Limit → max_set < length (set_behind zone.now raw.now) }
+    ensures set { IfOk result (λ set. set ≡ set_behind zone.now.made raw.now) }
+    ensures limit { IsErrOf result ActFault.Limit → max_set < length (set_behind zone.now.made raw.now) }
 {
     let ttl = Ttl::received(raw.ttl);
     if raw.rtype != RType::CNAME && raw.rtype != RType::SOA {

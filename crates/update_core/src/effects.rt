@@ -1,15 +1,16 @@
 //! The effects of an update's records, one after another (RFC 2136, 3.4.2).
-ghost use Rattle.std.specs.Prelude.{◌≡◌, ◌≢◌, unwrap_or, None, Some, IfOk, MatchBool};
+ghost use Rattle.std.specs.Prelude.{◌≡◌, ◌≢◌, ◌<◌, All, unwrap_or, None, Some, IfOk, MatchBool};
 ghost use Rattle.std.specs.Result.{IsErrOf};
 ghost use Rattle.zone_tree.specs.Zone.{IsZone, apex_of, rrsets_of};
 ghost use Rattle.update_core.specs.Verdict.{prescan, prescan_of};
-ghost use Rattle.update_core.specs.Act.{effect, effects};
+ghost use Rattle.update_core.specs.Act.{effect, effects, IsSent};
 
+use crate::overlay::Overlay;
 use crate::rows::{ActFault, changes_of};
 use dns_name::Name;
 use dns_rdata::{RRset, RawRecord};
 use std::alloc::Global;
-use zone_tree::{Zone, ZoneRead, edit};
+use zone_tree::{Zone, ZoneRead};
 
 /// The zone that an update's records make of a zone, one after another; None where it is that zone itself. `Limit` where
 /// one of them passes a limit (RFC 2136, 3.4.2; own).
@@ -22,46 +23,47 @@ pub(crate) fn after_all(
     ensures after { IfOk result (λ after. effects zone.now raws.now ≡ Some (unwrap_or after zone.now)) }
     ensures limit { IsErrOf result ActFault.Limit → effects zone.now raws.now ≡ None }
 {
-    let mut after = None;
+    let mut overlay = Overlay::new(alloc, zone);
     for raw in raws {
-        after = after_one(alloc, zone, after, raw)?;
+        overlay = after_one(alloc, overlay, raw)?;
     }
-    Ok(after)
+    overlay.into_zone(alloc)
 }
 
-/// The zone that a record makes of one that was made of a zone, or of that zone itself; None where it is still that.
-fn after_one(
+/// What a record makes of what was made of a zone so far.
+fn after_one<'a>(
     alloc: Global,
-    zone: &Zone,
-    made: Option<Zone>,
+    overlay: Overlay<'a>,
     raw: &RawRecord,
-) -> Result<Option<Zone>, ActFault>
-    requires passed { prescan_of (unwrap_or made zone.now) raw.now ≡ None }
-    ensures after { IfOk result (λ after. effect (unwrap_or made zone.now) raw.now ≡ Some (unwrap_or after zone.now)) }
-    ensures apex { IfOk result (λ after. apex_of (unwrap_or after zone.now) ≡ apex_of (unwrap_or made zone.now)) }
-    ensures limit { IsErrOf result ActFault.Limit → effect (unwrap_or made zone.now) raw.now ≡ None }
+) -> Result<Overlay<'a>, ActFault>
+    requires passed { prescan_of overlay.made raw.now ≡ None }
+    ensures base { IfOk result (λ next. next.base ≡ overlay.entry.base) }
+    ensures after { IfOk result (λ next. effect overlay.entry.made raw.now ≡ Some next.made) }
+    ensures apex { IfOk result (λ next. apex_of next.made ≡ apex_of overlay.entry.made) }
+    ensures limit { IsErrOf result ActFault.Limit → effect overlay.entry.made raw.now ≡ None }
 {
-    let Some(own) = made else {
-        return after_record(alloc, zone, raw);
-    };
-    let after = after_record(alloc, &own, raw)?;
-    Ok(Some(after.unwrap_or(own)))
+    overlay.check();
+    check_sent(raw);
+    let changes = changes_of(alloc, &overlay, raw)?;
+    if changes.is_empty() {
+        return Ok(overlay);
+    }
+    overlay.edited(alloc, raw, changes)
 }
 
-/// The zone that a record makes of another; None where it changes nothing of it.
-fn after_record(alloc: Global, zone: &Zone, raw: &RawRecord) -> Result<Option<Zone>, ActFault>
-    requires passed { prescan_of zone.now raw.now ≡ None }
-    ensures after { IfOk result (λ after. effect zone.now raw.now ≡ Some (unwrap_or after zone.now)) }
-    ensures apex { IfOk result (λ after. apex_of (unwrap_or after zone.now) ≡ apex_of zone.now) }
-    ensures limit { IsErrOf result ActFault.Limit → effect zone.now raw.now ≡ None }
+/// That a record is one that is read of a message.
+fn check_sent(raw: &RawRecord)
+    ensures { IsSent raw.now }
 {
-    let _soa = zone.soa();
-    let changes = changes_of(alloc, zone, raw)?;
-    if changes.is_empty() {
-        return Ok(None);
-    }
-    let next = edit(alloc, zone, &changes)?;
-    Ok(Some(next))
+    let _owner = raw.owner.wire();
+    check_octets(&raw.octets);
+}
+
+/// That octets are below 256.
+fn check_octets(octets: &[u8])
+    ensures { All (λ octet. octet < 256) octets.now }
+{
+    let _len = octets.len();
 }
 
 /// Whether an update's records made another zone of a zone: what stands at their owners is compared, and nothing else can

@@ -16,6 +16,8 @@ mod judgement;
 mod laws;
 mod ordered;
 mod outcome;
+mod overlay;
+mod own_sets;
 mod prerequisites;
 mod rows;
 mod update_section;

@@ -1,20 +1,23 @@
 //! What one record of an update changes (RFC 2136, 3.4.2.2 to 3.4.2.4).
 ghost use Rattle.std.specs.Prelude.{◌≡◌, ◌↔◌, [], ◌∷◌, None, IfOk};
+ghost use Rattle.std.specs.List.{AllByRecursion};
 ghost use Rattle.std.specs.Result.{IsErrOf};
 ghost use Rattle.dns_rdata.specs.Numbers.{class_IN, class_ANY, class_NONE, type_ANY};
 ghost use Rattle.zone_tree.specs.Zone.{IsZone};
 ghost use Rattle.update_core.specs.Verdict.{prescan_of};
 ghost use Rattle.update_core.specs.Act.{effect};
 ghost use Rattle.update_core.specs.Applied.{AreOf};
+ghost use Rattle.update_core.specs.Overlay.{IsChangeAt};
 ghost use Rattle.update_core.specs.declared.rows.ActFault.TheVariants.{Limit as limit, NoMemory as no_memory};
 ghost use Rattle.dns_rdata.specs.declared.rrset.SetFault.TheVariants.{Limit as set_limit};
 ghost use Rattle.zone_tree.specs.declared.fault.ZoneFault.TheVariants.{Limit as zone_limit};
 
 use crate::additions::changes_of_addition;
 use crate::deletions::{changes_of_name, changes_of_record, changes_of_set};
+use crate::overlay::Overlay;
 use dns_rdata::{Class, RType, RawRecord, SetFault};
 use std::alloc::{AllocError, Global};
-use zone_tree::{Change, Zone, ZoneFault};
+use zone_tree::{Change, ZoneFault};
 
 /// Why a record of an update doesn't take effect.
 #[derive(Clone, Copy, Debug, PartialEq, Eq)]
@@ -58,13 +61,14 @@ impl From<SetFault> for ActFault {
 /// The changes that a record makes of a zone; none where it has no effect.
 pub(crate) fn changes_of(
     alloc: Global,
-    zone: &Zone,
+    zone: &Overlay<'_>,
     raw: &RawRecord,
 ) -> Result<Vec<Change>, ActFault>
-    requires lawful { IsZone zone.now }
-    requires passed { prescan_of zone.now raw.now ≡ None }
-    ensures of { IfOk result (λ changes. AreOf zone.now raw.now changes.items) }
-    ensures limit { IsErrOf result ActFault.Limit → effect zone.now raw.now ≡ None }
+    requires lawful { IsZone zone.now.made }
+    requires passed { prescan_of zone.now.made raw.now ≡ None }
+    ensures of { IfOk result (λ changes. AreOf zone.now.made raw.now changes.items) }
+    ensures at { IfOk result (λ changes. AllByRecursion (IsChangeAt raw.now.owner) changes.items) }
+    ensures limit { IsErrOf result ActFault.Limit → effect zone.now.made raw.now ≡ None }
 {
     match raw.class {
         Class::IN => changes_of_addition(alloc, zone, raw),

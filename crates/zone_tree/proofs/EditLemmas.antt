@@ -37,15 +37,71 @@ set_folded (r ∷ rs) h = (h.lawful 0 r (omega arith)).folded
 abbrev record_beside : List (List ℕ) → ℕ → Record → Ordering
 record_beside owner rtype r = ordering_then (canonical_cmp r.owner owner) (nat_cmp r.rtype rtype)
 
+-- all sets of a key, which stand beside others as their owners do, with other sets for them
+module _ (key : List (List ℕ)) (beside : List Record → Ordering) (others : List (List Record))
+    (less : (pair : Filed) → IsFiled pair → canonical_cmp key pair.0 ≡ Greater → AllByRecursion (λ s. beside s ≡ Less) pair.1.items)
+    (greater : (pair : Filed) → IsFiled pair → canonical_cmp key pair.0 ≡ Less → AllByRecursion (λ s. beside s ≡ Greater) pair.1.items) where
+  abbrev put : List (List Record) → List (List Record)
+  put sets = put_at beside others sets
+
+  all_greater : (pairs : List Filed) → AllByRecursion IsFiled pairs → AllByRecursion (λ q. canonical_cmp key q.0 ≡ Less) pairs → AllByRecursion (λ s. beside s ≡ Greater) (sets_under pairs)
+  all_greater [] h k = tt
+  all_greater (pair ∷ pairs) h k =
+      each_append (λ s. beside s ≡ Greater) pair.1.items (sets_under pairs) (greater pair h.0 k.0) (all_greater pairs h.1 k.1)
+
+  -- what comes of the sets where the key's are replaced
+  pub under_with : (pairs : List Filed) → AllByRecursion IsFiled pairs → IsAscending canonical_cmp pairs → (own : Vec (List Record)) → own.items ≡ put (items_of (value_at canonical_cmp key pairs)) → sets_under (pairs_with canonical_cmp key own pairs) ≡ put (sets_under pairs)
+  under_with [] h a own e = append-nil own.items ∙ e
+  under_with (pair ∷ pairs) h a own e = by (canonical_cmp key pair.0) refl (under_with pairs h.1 a.1 own)
+    where
+      by : (o : Ordering) → canonical_cmp key pair.0 ≡ o → (own.items ≡ put (items_of (value_at canonical_cmp key pairs)) → sets_under (pairs_with canonical_cmp key own pairs) ≡ put (sets_under pairs))
+          → sets_under (pairs_with canonical_cmp key own (pair ∷ pairs)) ≡ put (sets_under (pair ∷ pairs))
+      by Less f more =
+          let at = less_here canonical_total key [] pair pairs a f in
+          let is : own.items ≡ put [] = e ∙ ap (λ o. put (items_of (option_map (λ (p : Filed). p.1) o))) at.at in
+          let behind = all_greater (pair ∷ pairs) h (f, each_weaker (λ q. canonical_cmp pair.0 q.0 ≡ Less) (λ q. canonical_cmp key q.0 ≡ Less) (λ q g. canonical_total.trans key pair.0 q.0 f g) pairs a.0) in
+          ap sets_under (at.put own) ∙ ap (λ l. l ++ sets_under (pair ∷ pairs)) is ∙ sym (put_back beside others [] (sets_under (pair ∷ pairs)) behind)
+      by Equal f more =
+          let at = equal_here canonical_total key [] pair pairs a f in
+          let is : own.items ≡ put pair.1.items = e ∙ ap (λ o. put (items_of (option_map (λ (p : Filed). p.1) o))) at.at in
+          let behind = all_greater pairs h.1 (each_weaker (λ q. canonical_cmp pair.0 q.0 ≡ Less) (λ q. canonical_cmp key q.0 ≡ Less) (λ q g. canonical_total.congr key pair.0 q.0 f ∙ g) pairs a.0) in
+          ap sets_under (at.put own) ∙ ap (λ l. l ++ sets_under pairs) is ∙ sym (put_back beside others pair.1.items (sets_under pairs) behind)
+      by Greater f more =
+          let at = greater_here canonical_total key [] pair pairs a f in
+          let is : own.items ≡ put (items_of (value_at canonical_cmp key pairs)) = e ∙ ap (λ o. put (items_of (option_map (λ (p : Filed). p.1) o))) at.at in
+          ap sets_under (at.put own) ∙ ap (λ l. pair.1.items ++ l) (more is) ∙ sym (put_front beside others pair.1.items (sets_under pairs) (less pair h.0 f))
+
+  -- and where none of them is left
+  pub under_without : (pairs : List Filed) → AllByRecursion IsFiled pairs → IsAscending canonical_cmp pairs → put (items_of (value_at canonical_cmp key pairs)) ≡ [] → sets_under (pairs_without canonical_cmp key pairs) ≡ put (sets_under pairs)
+  under_without [] h a e = sym e
+  under_without (pair ∷ pairs) h a e = by (canonical_cmp key pair.0) refl (under_without pairs h.1 a.1)
+    where
+      by : (o : Ordering) → canonical_cmp key pair.0 ≡ o → (put (items_of (value_at canonical_cmp key pairs)) ≡ [] → sets_under (pairs_without canonical_cmp key pairs) ≡ put (sets_under pairs))
+          → sets_under (pairs_without canonical_cmp key (pair ∷ pairs)) ≡ put (sets_under (pair ∷ pairs))
+      by Less f more =
+          let at = less_here canonical_total key [] pair pairs a f in
+          let is : [] ≡ put [] = sym e ∙ ap (λ o. put (items_of (option_map (λ (p : Filed). p.1) o))) at.at in
+          let behind = all_greater (pair ∷ pairs) h (f, each_weaker (λ q. canonical_cmp pair.0 q.0 ≡ Less) (λ q. canonical_cmp key q.0 ≡ Less) (λ q g. canonical_total.trans key pair.0 q.0 f g) pairs a.0) in
+          ap sets_under at.gone ∙ ap (λ l. l ++ sets_under (pair ∷ pairs)) is ∙ sym (put_back beside others [] (sets_under (pair ∷ pairs)) behind)
+      by Equal f more =
+          let at = equal_here canonical_total key [] pair pairs a f in
+          let is : [] ≡ put pair.1.items = sym e ∙ ap (λ o. put (items_of (option_map (λ (p : Filed). p.1) o))) at.at in
+          let behind = all_greater pairs h.1 (each_weaker (λ q. canonical_cmp pair.0 q.0 ≡ Less) (λ q. canonical_cmp key q.0 ≡ Less) (λ q g. canonical_total.congr key pair.0 q.0 f ∙ g) pairs a.0) in
+          ap sets_under at.gone ∙ ap (λ l. l ++ sets_under pairs) is ∙ sym (put_back beside others pair.1.items (sets_under pairs) behind)
+      by Greater f more =
+          let at = greater_here canonical_total key [] pair pairs a f in
+          let is : put (items_of (value_at canonical_cmp key pairs)) ≡ [] = ap (λ o. put (items_of (option_map (λ (p : Filed). p.1) o))) (sym at.at) ∙ e in
+          ap sets_under at.gone ∙ ap (λ l. pair.1.items ++ l) (more is) ∙ sym (put_front beside others pair.1.items (sets_under pairs) (less pair h.0 f))
+
 module _ (owner : List (List ℕ)) (rtype : ℕ) (others : List (List Record)) where
   abbrev key : List (List ℕ)
   key = fold_name owner
 
-  abbrev put : List (List Record) → List (List Record)
-  put sets = put_at (set_beside owner rtype) others sets
+  abbrev put_there : List (List Record) → List (List Record)
+  put_there sets = put_at (set_beside owner rtype) others sets
 
   -- as an owner stands beside the key, so do its sets
-  turned : (name : List (List ℕ)) (o : Ordering) → canonical_cmp key name ≡ o → canonical_cmp name owner ≡ ordering_reverse o
+  pub turned : (name : List (List ℕ)) (o : Ordering) → canonical_cmp key name ≡ o → canonical_cmp name owner ≡ ordering_reverse o
   turned name o e = canonical_total.antisymm name owner ∙ ap ordering_reverse (sym (cmp_folded owner name) ∙ e)
 
   own_less : (pair : Filed) → IsFiled pair → canonical_cmp key pair.0 ≡ Greater → AllByRecursion (λ s. set_beside owner rtype s ≡ Less) pair.1.items
@@ -58,75 +114,26 @@ module _ (owner : List (List ℕ)) (rtype : ℕ) (others : List (List Record)) w
       each_weaker (λ s. owner_of s ≡ pair.0) (λ s. set_beside owner rtype s ≡ Greater)
       (λ s f. ap (λ o. ordering_then o (nat_cmp (rtype_of s) rtype)) (ap (λ n. canonical_cmp n owner) f ∙ turned pair.0 Less e)) pair.1.items h.own
 
-  all_greater : (pairs : List Filed) → AllByRecursion IsFiled pairs → AllByRecursion (λ q. canonical_cmp key q.0 ≡ Less) pairs → AllByRecursion (λ s. set_beside owner rtype s ≡ Greater) (sets_under pairs)
-  all_greater [] h k = tt
-  all_greater (pair ∷ pairs) h k =
-      each_append (λ s. set_beside owner rtype s ≡ Greater) pair.1.items (sets_under pairs) (own_greater pair h.0 k.0) (all_greater pairs h.1 k.1)
-
-  -- what comes of the sets where the key's are replaced
-  under_with : (pairs : List Filed) → AllByRecursion IsFiled pairs → IsAscending canonical_cmp pairs → (own : Vec (List Record)) → own.items ≡ put (items_of (value_at canonical_cmp key pairs)) → sets_under (pairs_with canonical_cmp key own pairs) ≡ put (sets_under pairs)
-  under_with [] h a own e = append-nil own.items ∙ e
-  under_with (pair ∷ pairs) h a own e = by (canonical_cmp key pair.0) refl (under_with pairs h.1 a.1 own)
-    where
-      by : (o : Ordering) → canonical_cmp key pair.0 ≡ o → (own.items ≡ put (items_of (value_at canonical_cmp key pairs)) → sets_under (pairs_with canonical_cmp key own pairs) ≡ put (sets_under pairs))
-          → sets_under (pairs_with canonical_cmp key own (pair ∷ pairs)) ≡ put (sets_under (pair ∷ pairs))
-      by Less f more =
-          let at = less_here canonical_total key [] pair pairs a f in
-          let is : own.items ≡ put [] = e ∙ ap (λ o. put (items_of (option_map (λ (p : Filed). p.1) o))) at.at in
-          let behind = all_greater (pair ∷ pairs) h (f, each_weaker (λ q. canonical_cmp pair.0 q.0 ≡ Less) (λ q. canonical_cmp key q.0 ≡ Less) (λ q g. canonical_total.trans key pair.0 q.0 f g) pairs a.0) in
-          ap sets_under (at.put own) ∙ ap (λ l. l ++ sets_under (pair ∷ pairs)) is ∙ sym (put_back (set_beside owner rtype) others [] (sets_under (pair ∷ pairs)) behind)
-      by Equal f more =
-          let at = equal_here canonical_total key [] pair pairs a f in
-          let is : own.items ≡ put pair.1.items = e ∙ ap (λ o. put (items_of (option_map (λ (p : Filed). p.1) o))) at.at in
-          let behind = all_greater pairs h.1 (each_weaker (λ q. canonical_cmp pair.0 q.0 ≡ Less) (λ q. canonical_cmp key q.0 ≡ Less) (λ q g. canonical_total.congr key pair.0 q.0 f ∙ g) pairs a.0) in
-          ap sets_under (at.put own) ∙ ap (λ l. l ++ sets_under pairs) is ∙ sym (put_back (set_beside owner rtype) others pair.1.items (sets_under pairs) behind)
-      by Greater f more =
-          let at = greater_here canonical_total key [] pair pairs a f in
-          let is : own.items ≡ put (items_of (value_at canonical_cmp key pairs)) = e ∙ ap (λ o. put (items_of (option_map (λ (p : Filed). p.1) o))) at.at in
-          ap sets_under (at.put own) ∙ ap (λ l. pair.1.items ++ l) (more is) ∙ sym (put_front (set_beside owner rtype) others pair.1.items (sets_under pairs) (own_less pair h.0 f))
-
-  -- and where none of them is left
-  under_without : (pairs : List Filed) → AllByRecursion IsFiled pairs → IsAscending canonical_cmp pairs → put (items_of (value_at canonical_cmp key pairs)) ≡ [] → sets_under (pairs_without canonical_cmp key pairs) ≡ put (sets_under pairs)
-  under_without [] h a e = sym e
-  under_without (pair ∷ pairs) h a e = by (canonical_cmp key pair.0) refl (under_without pairs h.1 a.1)
-    where
-      by : (o : Ordering) → canonical_cmp key pair.0 ≡ o → (put (items_of (value_at canonical_cmp key pairs)) ≡ [] → sets_under (pairs_without canonical_cmp key pairs) ≡ put (sets_under pairs))
-          → sets_under (pairs_without canonical_cmp key (pair ∷ pairs)) ≡ put (sets_under (pair ∷ pairs))
-      by Less f more =
-          let at = less_here canonical_total key [] pair pairs a f in
-          let is : [] ≡ put [] = sym e ∙ ap (λ o. put (items_of (option_map (λ (p : Filed). p.1) o))) at.at in
-          let behind = all_greater (pair ∷ pairs) h (f, each_weaker (λ q. canonical_cmp pair.0 q.0 ≡ Less) (λ q. canonical_cmp key q.0 ≡ Less) (λ q g. canonical_total.trans key pair.0 q.0 f g) pairs a.0) in
-          ap sets_under at.gone ∙ ap (λ l. l ++ sets_under (pair ∷ pairs)) is ∙ sym (put_back (set_beside owner rtype) others [] (sets_under (pair ∷ pairs)) behind)
-      by Equal f more =
-          let at = equal_here canonical_total key [] pair pairs a f in
-          let is : [] ≡ put pair.1.items = sym e ∙ ap (λ o. put (items_of (option_map (λ (p : Filed). p.1) o))) at.at in
-          let behind = all_greater pairs h.1 (each_weaker (λ q. canonical_cmp pair.0 q.0 ≡ Less) (λ q. canonical_cmp key q.0 ≡ Less) (λ q g. canonical_total.congr key pair.0 q.0 f ∙ g) pairs a.0) in
-          ap sets_under at.gone ∙ ap (λ l. l ++ sets_under pairs) is ∙ sym (put_back (set_beside owner rtype) others pair.1.items (sets_under pairs) behind)
-      by Greater f more =
-          let at = greater_here canonical_total key [] pair pairs a f in
-          let is : put (items_of (value_at canonical_cmp key pairs)) ≡ [] = ap (λ o. put (items_of (option_map (λ (p : Filed). p.1) o))) (sym at.at) ∙ e in
-          ap sets_under at.gone ∙ ap (λ l. pair.1.items ++ l) (more is) ∙ sym (put_front (set_beside owner rtype) others pair.1.items (sets_under pairs) (own_less pair h.0 f))
-
   -- the owner's name and the key are sought alike
-  value_key : (pairs : List Filed) → value_at canonical_cmp owner pairs ≡ value_at canonical_cmp key pairs
+  pub value_key : (pairs : List Filed) → value_at canonical_cmp owner pairs ≡ value_at canonical_cmp key pairs
   value_key pairs = λ i. option_map (λ (p : Filed). p.1) (find (λ (pair : Filed). is_eq (sym (cmp_folded owner pair.0) i)) pairs)
 
   -- the records, and how many they are
-  pub put_records : (sets : List (List Record)) → All IsRRset sets → records_in (put sets) ≡ put_at (record_beside owner rtype) (records_in others) (records_in sets)
+  pub put_records : (sets : List (List Record)) → All IsRRset sets → records_in (put_there sets) ≡ put_at (record_beside owner rtype) (records_in others) (records_in sets)
   put_records sets h =
       let front = filter (λ s. is_lt (set_beside owner rtype s)) sets in
       let back = filter (λ s. is_gt (set_beside owner rtype s)) sets in
       flat_map-append (λ (s : List Record). s) (front ++ others) back ∙ ap (λ l. l ++ records_in back) (flat_map-append (λ (s : List Record). s) front others)
       ∙ (λ i. sym (filter_by_sets (λ o t. is_lt (ordering_then (canonical_cmp o owner) (nat_cmp t rtype))) sets h) i ++ records_in others ++ sym (filter_by_sets (λ o t. is_gt (ordering_then (canonical_cmp o owner) (nat_cmp t rtype))) sets h) i)
 
-  pub length_put : (sets : List (List Record)) → All IsRRset sets → length (records_in (put sets)) + length (rrset_of (records_in sets) owner rtype) ≡ length (records_in sets) + length (records_in others)
+  pub length_put : (sets : List (List Record)) → All IsRRset sets → length (records_in (put_there sets)) + length (rrset_of (records_in sets) owner rtype) ≡ length (records_in sets) + length (records_in others)
   length_put sets h =
       let tie : filter (λ r. is_eq (record_beside owner rtype r)) (records_in sets) ≡ rrset_of (records_in sets) owner rtype =
       λ i. filter (λ (r : Record). same_place r.owner owner r.rtype rtype i) (records_in sets) in
       (λ i. length (put_records sets h i) + length (sym tie i)) ∙ put_length (record_beside owner rtype) (records_in others) (records_in sets)
 
   -- sets in order come in order again
-  pub put_ascends : (sets : List (List Record)) → AreAscending sets → AllByRecursion IsRRset others → AllByRecursion (IsFor owner rtype) others → Rises IsSetBefore others → AreAscending (put sets)
+  pub put_ascends : (sets : List (List Record)) → AreAscending sets → AllByRecursion IsRRset others → AllByRecursion (IsFor owner rtype) others → Rises IsSetBefore others → AreAscending (put_there sets)
   put_ascends sets rising lawful own_type one =
       let place : List Record = record { owner = owner; rtype = rtype; ttl = 0; rdata = [] } ∷ [] in
       let ties =
@@ -135,13 +142,13 @@ module _ (owner : List (List ℕ)) (rtype : ℕ) (others : List (List Record)) w
       ∙ (λ i. ordering_then ((cmp_folded owner owner ∙ tied_itself canonical_total owner) i) (tied_itself nat_cmp_total rtype i)))
       others own_type in
       record {
-        each = All-from_recursion IsRRset (put sets) (put_each (set_beside owner rtype) others IsRRset sets (recursion_from_All IsRRset sets rising.each) lawful);
-        ascending = pairs_from_rises IsSetBefore (put sets) (put_rises set_total place others sets (rises_from_pairs IsSetBefore sets rising.ascending) one ties);
+        each = All-from_recursion IsRRset (put_there sets) (put_each (set_beside owner rtype) others IsRRset sets (recursion_from_All IsRRset sets rising.each) lawful);
+        ascending = pairs_from_rises IsSetBefore (put_there sets) (put_rises set_total place others sets (rises_from_pairs IsSetBefore sets rising.ascending) one ties);
       }
 
   module _ (pairs : List Filed) (filed : AreFiled pairs) where
     -- the sets of the owner
-    own_sets : AllByRecursion (λ s. IsRRset s × (is_same (owner_of s) owner ≡ true)) (items_of (value_at canonical_cmp owner pairs))
+    pub own_sets : AllByRecursion (λ s. IsRRset s × (is_same (owner_of s) owner ≡ true)) (items_of (value_at canonical_cmp owner pairs))
     own_sets =
         let sets = sets_under pairs in
         subst (AllByRecursion (λ s. IsRRset s × (is_same (owner_of s) owner ≡ true))) (sets_at_key pairs filed owner)
@@ -149,13 +156,13 @@ module _ (owner : List (List ℕ)) (rtype : ℕ) (others : List (List Record)) w
         (each_filter (λ s. is_same (owner_of s) owner) IsRRset sets (recursion_from_All IsRRset sets filed.rising.each))
         (each_passes (λ s. is_same (owner_of s) owner) sets))
 
-    by_type : put_at (λ s. nat_cmp (rtype_of s) rtype) others (items_of (value_at canonical_cmp owner pairs)) ≡ put (items_of (value_at canonical_cmp key pairs))
+    by_type : put_at (λ s. nat_cmp (rtype_of s) rtype) others (items_of (value_at canonical_cmp owner pairs)) ≡ put_there (items_of (value_at canonical_cmp key pairs))
     by_type =
         put_same (λ s. nat_cmp (rtype_of s) rtype) (set_beside owner rtype) others (items_of (value_at canonical_cmp owner pairs))
         (each_weaker (λ s. IsRRset s × (is_same (owner_of s) owner ≡ true)) (λ s. nat_cmp (rtype_of s) rtype ≡ set_beside owner rtype s)
         (λ s h. ap (λ o. ordering_then o (nat_cmp (rtype_of s) rtype)) (sym (tie_from_same (owner_of s) owner h.1)))
         (items_of (value_at canonical_cmp owner pairs)) own_sets)
-        ∙ ap (λ o. put (items_of o)) (value_key pairs)
+        ∙ ap (λ o. put_there (items_of o)) (value_key pairs)
 
     -- the set that is replaced
     pub replaced : (own : List (List Record)) → own ≡ items_of (value_at canonical_cmp owner pairs) → rrset_of (records_under pairs) owner rtype ≡ records_in (option_to_list (find (λ s. rtype_of s == rtype) own))
@@ -165,8 +172,8 @@ module _ (owner : List (List ℕ)) (rtype : ℕ) (others : List (List Record)) w
     module _ (lawful : AllByRecursion IsRRset others) (own_type : AllByRecursion (IsFor owner rtype) others) (one : Rises IsSetBefore others) where
       -- the owners are in order again, with these sets
       module _ (own : Vec (List Record)) (is : own.items ≡ put_at (λ s. nat_cmp (rtype_of s) rtype) others (items_of (value_at canonical_cmp owner pairs))) where
-        pub sets_with : sets_under (pairs_with canonical_cmp key own pairs) ≡ put (sets_under pairs)
-        sets_with = under_with pairs filed.each filed.ascends own (is ∙ by_type)
+        pub sets_with : sets_under (pairs_with canonical_cmp key own pairs) ≡ put_there (sets_under pairs)
+        sets_with = under_with key (set_beside owner rtype) others own_less own_greater pairs filed.each filed.ascends own (is ∙ by_type)
 
         own_key : AllByRecursion (λ s. owner_of s ≡ key) own.items
         own_key =
@@ -191,8 +198,8 @@ module _ (owner : List (List ℕ)) (rtype : ℕ) (others : List (List Record)) w
             by [] f = refl
             by (x ∷ xs) f = absurd (omega arith)
 
-        pub sets_without : length own.items ≡ 0 → sets_under (pairs_without canonical_cmp key pairs) ≡ put (sets_under pairs)
-        sets_without e = under_without pairs filed.each filed.ascends (sym by_type ∙ sym is ∙ none e)
+        pub sets_without : length own.items ≡ 0 → sets_under (pairs_without canonical_cmp key pairs) ≡ put_there (sets_under pairs)
+        sets_without e = under_without key (set_beside owner rtype) others own_less own_greater pairs filed.each filed.ascends (sym by_type ∙ sym is ∙ none e)
 
         pub filed_without : length own.items ≡ 0 → AreFiled (pairs_without canonical_cmp key pairs)
         filed_without e = record {
@@ -239,7 +246,7 @@ module _ (owner : List (List ℕ)) (rtype : ℕ) (pairs : List Filed) (count : �
     abbrev others : List (List Record)
     others = option_to_list new
 
-    both : AreFiled next × (sets_under next ≡ put owner rtype others (sets_under pairs))
+    both : AreFiled next × (sets_under next ≡ put_there owner rtype others (sets_under pairs))
     both =
         let each = one_each IsRRset new lawful in
         let fit = one_each (IsFor owner rtype) new fits in

@@ -8,6 +8,7 @@ pub mod ZoneLemmas
 pub mod FiledLemmas
 pub mod PutLemmas
 pub mod EditLemmas
+pub mod OwnLemmas
 pub mod ApexLemmas
 pub mod WalkLemmas
 pub mod FromLemmas

@@ -127,6 +127,30 @@ module _ {X : Type 0} {cmp : X → X → Ordering} (o : IsTotalOrder cmp) (key :
       (λ x e. each_weaker (λ y. is_gt (cmp y key) ≡ true) (Before x) (λ y g. ap is_lt (o.congr x key y e ∙ o.antisymm key y ∙ ap ordering_reverse (greater_is (cmp y key) g))) back over)
       others ties))
 
+-- and others that tie with the place alone stand there
+pub put_tied : {X : Type 0} (beside : X → Ordering) (others xs : List X) → AllByRecursion (λ x. beside x ≡ Equal) xs → put_at beside others xs ≡ others
+put_tied beside others xs h =
+    let low = filter_alike (λ x. is_lt (beside x)) false xs (each_weaker (λ x. beside x ≡ Equal) (λ x. is_lt (beside x) ≡ false) (λ x e. ap is_lt e) xs h) in
+    let high = filter_alike (λ x. is_gt (beside x)) false xs (each_weaker (λ x. beside x ≡ Equal) (λ x. is_gt (beside x) ≡ false) (λ x e. ap is_gt e) xs h) in
+    (λ i. low i ++ others ++ high i) ∙ append-nil others
+
+-- where the place tells of two what their order is
+module _ {X : Type 0} (Before : X → X → Type 0) (beside : X → Ordering)
+    (low : (x y : X) → beside x ≡ Less → beside y ≡ Equal → Before x y) (over : (x y : X) → beside x ≡ Less → beside y ≡ Greater → Before x y) (high : (x y : X) → beside x ≡ Equal → beside y ≡ Greater → Before x y) where
+  pub put_between : (others xs : List X) → Rises Before xs → Rises Before others → AllByRecursion (λ x. beside x ≡ Equal) others → Rises Before (put_at beside others xs)
+  put_between others xs h k ties =
+      let front = filter (λ x. is_lt (beside x)) xs in
+      let back = filter (λ x. is_gt (beside x)) xs in
+      let under : AllByRecursion (λ x. beside x ≡ Less) front = each_weaker (λ x. is_lt (beside x) ≡ true) (λ x. beside x ≡ Less) (λ x l. less_is (beside x) l) front (each_passes (λ x. is_lt (beside x)) xs) in
+      let above : AllByRecursion (λ x. beside x ≡ Greater) back = each_weaker (λ x. is_gt (beside x) ≡ true) (λ x. beside x ≡ Greater) (λ x g. greater_is (beside x) g) back (each_passes (λ x. is_gt (beside x)) xs) in
+      Rises-append Before (front ++ others) back
+      (Rises-append Before front others (Rises-filter (λ x. is_lt (beside x)) Before xs h) k
+      (each_weaker (λ x. beside x ≡ Less) (λ x. AllByRecursion (Before x) others) (λ x l. each_weaker (λ y. beside y ≡ Equal) (Before x) (λ y e. low x y l e) others ties) front under))
+      (Rises-filter (λ x. is_gt (beside x)) Before xs h)
+      (each_append (λ x. AllByRecursion (Before x) back) front others
+      (each_weaker (λ x. beside x ≡ Less) (λ x. AllByRecursion (Before x) back) (λ x l. each_weaker (λ y. beside y ≡ Greater) (Before x) (λ y g. over x y l g) back above) front under)
+      (each_weaker (λ x. beside x ≡ Equal) (λ x. AllByRecursion (Before x) back) (λ x e. each_weaker (λ y. beside y ≡ Greater) (Before x) (λ y g. high x y e g) back above) others ties))
+
 -- an owner and a type tie exactly with the same ones
 eq_then : (a b : Ordering) → is_eq (ordering_then a b) ≡ is_eq a && is_eq b
 eq_then Less b = refl

@@ -1,11 +1,12 @@
 //! The owners of a zone with their sets, while changes are made.
 ghost use Rattle.std.specs.Prelude.{◌≡◌, ◌+◌, ◌*◌, ◌<◌, ◌≤◌, length, IfOk, IfSome};
+ghost use Rattle.std.specs.List.{AllByRecursion};
 ghost use Rattle.std.specs.Option.{option_copied, option_to_list};
 ghost use Rattle.dns_name.specs.Name.{canonical_cmp, fold_name};
 ghost use Rattle.shared_tree.specs.Pairs.{pairs_with, pairs_without};
 ghost use Rattle.zone_tree.specs.Change.{changed, edited};
-ghost use Rattle.zone_tree.specs.Edit.{put_at, set_beside, IsFor, IsDraft};
-ghost use Rattle.zone_tree.specs.Filed.{sets_under, records_under};
+ghost use Rattle.zone_tree.specs.Edit.{put_at, set_beside, with_owner, with_owners, IsFor, AreOwn, IsDraft};
+ghost use Rattle.zone_tree.specs.Filed.{sets_under, records_under, AreFiled};
 ghost use Rattle.zone_tree.specs.Sets.{records_in, IsRRset};
 
 use crate::change::Change;
@@ -41,6 +42,40 @@ fn with_own(
         return owners.without(alloc, &SoughtName::new(owner));
     }
     owners.with(alloc, OwnerKey::new(alloc, owner)?, own)
+}
+
+// The owners with these sets for an owner's, which are all in order.
+fn with_sets(
+    alloc: Global,
+    owners: &Owners,
+    owner: &Name,
+    own: Vec<RRset>,
+) -> Result<Owners, NoMemory>
+    requires filed { AreFiled owners.now.pairs }
+    requires own { AreOwn owner.now own.items }
+    ensures filed { IfOk result (λ next. AreFiled next.pairs) }
+    ensures records { IfOk result (λ next. records_under next.pairs ≡ with_owner owner.now (records_in own.items) (records_under owners.now.pairs)) }
+{
+    let (next, _) = with_own(alloc, owners, owner, own)?;
+    Ok(next)
+}
+
+/// The owners with other sets for those of several owners, one after the other. No set is copied.
+pub(crate) fn with_owned(
+    alloc: Global,
+    owners: Owners,
+    owned: Vec<(Name, Vec<RRset>)>,
+) -> Result<Owners, NoMemory>
+    requires filed { AreFiled owners.pairs }
+    requires each { AllByRecursion (λ own. AreOwn own.0 own.1.items) owned.items }
+    ensures filed { IfOk result (λ next. AreFiled next.pairs) }
+    ensures records { IfOk result (λ next. records_under next.pairs ≡ with_owners (records_under owners.pairs) owned.items) }
+{
+    let mut owners = owners;
+    for (owner, own) in owned {
+        owners = with_sets(alloc, &owners, &owner, own)?;
+    }
+    Ok(owners)
 }
 
 // How many records there are with a set, or none, in place of one of them. `NoMemory` where it would be more than memory

@@ -35,4 +35,4 @@ pub use read::{Near, ZoneRead};
 pub use rules::has_asterisk;
 pub use version::{Version, serial_in};
 pub use walk::Walk;
-pub use zone::{MAX_RECORDS, Zone, edit};
+pub use zone::{MAX_RECORDS, Zone, edit, edit_owners};

@@ -1,18 +1,20 @@
 //! A zone as a shared tree of its owners.
 ghost use Rattle.std.specs.Prelude.{◌≡◌, ◌<◌, ◌≤◌, List, length, Err, IfOk, OnOk, OnErr};
 ghost use Rattle.std.specs.Result.{IsErrOf};
+ghost use Rattle.std.specs.List.{AllByRecursion};
 ghost use Rattle.std.specs.Option.{option_copied, option_map};
 ghost use Rattle.zone_tree.specs.Limits.{max_records};
 ghost use Rattle.dns_name.specs.Name.{canonical_cmp};
 ghost use Rattle.dns_rdata.specs.Record.{Record};
 ghost use Rattle.shared_tree.specs.Pairs.{first_pair, pair_after, value_at};
 ghost use Rattle.zone_tree.specs.Change.{edited};
-ghost use Rattle.zone_tree.specs.Filed.{items_of};
+ghost use Rattle.zone_tree.specs.Edit.{with_owners, AreOwn};
+ghost use Rattle.zone_tree.specs.Filed.{items_of, records_under, AreFiled};
 ghost use Rattle.zone_tree.specs.Zone.{IsZone, KeepsRules};
 
 use crate::change::Change;
 use crate::check::{Judged, check};
-use crate::draft::{Draft, with_changes};
+use crate::draft::{Draft, with_changes, with_owned};
 use crate::fault::{NewFault, ZoneFault};
 use crate::key::OwnerKey;
 use crate::look::{set_of_type, sets_from};
@@ -77,10 +79,17 @@ impl Zone {
 }
 
 impl Zone {
-    ghost use Rattle.std.specs.Prelude.{◌∷◌, ◌++◌};
+    ghost use Rattle.std.specs.Prelude.{◌∷◌, ◌++◌, length};
     ghost use Rattle.dns_rdata.specs.Record.{owner_of, rtype_of};
     ghost use Rattle.zone_tree.specs.Sets.{records_in, sets_in};
     ghost use Rattle.zone_tree.specs.From.{records_from};
+
+    /// How many records it has.
+    pub fn count(&self) -> usize
+        ensures { result ≡ length self.now }
+    {
+        self.count
+    }
 
     /// All sets from that of an owner and a type on, each in whole, in canonical order (RFC 4034, 6.1); the zone needn't have
     /// one of that owner and type. From one of these on there is what the walk has left there. It takes no memory.
@@ -226,13 +235,46 @@ pub fn edit(alloc: Global, zone: &Zone, changes: &[Change]) -> Result<Zone, Zone
     };
     let Draft { owners, count } = with_changes(alloc, draft, changes)?;
     check_limit(count)?;
+    Ok(zone_of(owners, count))
+}
+
+/// The zone that has these sets for those of some owners, one owner after the other, which makes so many records; that zone
+/// stays as it is, and no set is copied. The zones on the way needn't keep the rules of a zone, the last one does.
+///
+/// `Limit` where it has more than [`MAX_RECORDS`] records. `NoMemory` where a growth was refused.
+pub fn edit_owners(
+    alloc: Global,
+    zone: &Zone,
+    owned: Vec<(Name, Vec<RRset>)>,
+    count: usize,
+) -> Result<Zone, ZoneFault>
+    requires each { AllByRecursion (λ own. AreOwn own.0 own.1.items) owned.items }
+    requires rules { KeepsRules (with_owners zone.now owned.items) }
+    requires counted { count ≡ length (with_owners zone.now owned.items) }
+    ensures edited { IfOk result (λ new. (new ≡ with_owners zone.now owned.items) × IsZone new) }
+    ensures limit { IsErrOf result ZoneFault.Limit → max_records < count }
+{
+    let owners = with_owned(alloc, zone.owners.share()?, owned)?;
+    check_limit(count)?;
+    Ok(zone_of(owners, count))
+}
+
+/// The zone of these owners with their sets, which are so many records. The apex is the first owner (RFC 4034, 6.1).
+fn zone_of(owners: Owners, count: usize) -> Zone
+    requires filed { AreFiled owners.pairs }
+    requires rules { KeepsRules (records_under owners.pairs) }
+    requires counted { count ≡ length (records_under owners.pairs) }
+    requires few { count ≤ max_records }
+    ensures zone { result ≡ records_under owners.pairs }
+    ensures lawful { IsZone result }
+{
     let Some(first) = owners.first() else {
         unreachable!()
     };
     let apex = first.0.owner();
-    Ok(Zone {
+    Zone {
         apex,
         count,
         owners,
-    })
+    }
 }

@@ -13,7 +13,7 @@ use Rattle.update_core.proofs.additions.is_lesser_soa.Goals as goal
 
 pub returns-then-eq : goal.returns-then-eq
 returns-then-eq c =
-    let zone = c.args.zone.now in
+    let zone = c.args.zone.now.made in
     let raw = c.args.raw.now in
     let octets = c.args.rdata.now.octets in
     let soa = ap (λ (r : RawRecord). r.rtype == type_SOA) (sym c.raw.view_is) ∙ sym c.eq.ensures ∙ c.if-eq.true in

@@ -8,14 +8,14 @@ use Rattle.update_core.proofs.additions.set_with.Goals as goal
 
 pub joined-requires-clause-rtype : goal.joined-requires-clause-rtype
 joined-requires-clause-rtype c =
-    let zone = c.args.zone.now in
+    let zone = c.args.zone.now.made in
     let is = c.in-Some.ensures.set ∙ ap (λ (r : RawRecord). rrset_of zone r.owner r.rtype) c.raw.view_is in
     let some : c.in-Some.own.now ≢ [] = λ e. true≢false (c.in-Some.ensures.none.1 (sym c.in-Some.ensures.set ∙ e)) in
     c.requires.rtype ∙ sym (own_rtype zone c.args.raw.now c.in-Some.own.now is some)
 
 pub returns-in-Some-clause-set : goal.returns-in-Some-clause-set
 returns-in-Some-clause-set c =
-    let zone = c.args.zone.now in
+    let zone = c.args.zone.now.made in
     let is = c.in-Some.ensures.set ∙ ap (λ (r : RawRecord). rrset_of zone r.owner r.rtype) c.raw.view_is in
     let some : c.in-Some.own.now ≢ [] = λ e. true≢false (c.in-Some.ensures.none.1 (sym c.in-Some.ensures.set ∙ e)) in
     let rtype = ap (λ (r : RawRecord). r.rtype) c.raw.view_is in
@@ -25,7 +25,7 @@ returns-in-Some-clause-set c =
 
 pub returns-in-Some-clause-limit : goal.returns-in-Some-clause-limit
 returns-in-Some-clause-limit c =
-    let zone = c.args.zone.now in
+    let zone = c.args.zone.now.made in
     let is = c.in-Some.ensures.set ∙ ap (λ (r : RawRecord). rrset_of zone r.owner r.rtype) c.raw.view_is in
     let some : c.in-Some.own.now ≢ [] = λ e. true≢false (c.in-Some.ensures.none.1 (sym c.in-Some.ensures.set ∙ e)) in
     let rtype = ap (λ (r : RawRecord). r.rtype) c.raw.view_is in
