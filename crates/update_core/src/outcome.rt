@@ -65,7 +65,7 @@ struct Made {
 /// it is; the one behind it has the next number, a greater serial, and what it changed (RFC 2136, 3.6; RFC 1982, 3.2; RFC
 /// 1995, 4).
 ///
-/// An update costs a path of the zone's tree for each of its records: no call goes over the whole zone.
+/// An update costs a path of the zone's tree for each owner that it changes: no call goes over the whole zone.
 pub fn apply(alloc: Global, version: &Version, update: &Update, may: bool) -> Outcome
     requires { version.now.number + 1 < 2 ^ 64 }
     ensures told { IsTold version.now update.now may result }
