@@ -25,7 +25,10 @@ pub mod RowEffects
 pub mod NoEffects
 pub mod AfterLemmas
 pub mod ChangedOwners
+pub mod TaggedLemmas
 pub mod OwnSets
+pub mod TypePlaces
 pub mod OverlayLemmas
 pub mod OverlayLooks
 pub mod OverlayEdits
+pub mod OneSetRows

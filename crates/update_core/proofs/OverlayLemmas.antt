@@ -3,6 +3,7 @@ use Rattle.std.proofs.Common.{◌≡◌, ℕ, ◌+◌, ◌<◌, Bool, true, fals
 use Rattle.std.specs.Prelude.{Contains, Result, Ok, Err, IfOk, OnOk}
 use Rattle.std.specs.Global.{Vec}
 use Rattle.std.specs.List.{AllByRecursion}
+use Rattle.std.specs.Option.{option_map}
 use Rattle.std.specs.List.Sorted.{IsStrictlySortedBy}
 use Rattle.std.specs.Map.{keys_of, lookup, remove_entry}
 use Rattle.std.specs.BTreeMap.{is_at, insert_entry}
@@ -28,7 +29,8 @@ use Rattle.zone_tree.proofs.FiledLemmas.{ties}
 use Rattle.zone_tree.proofs.LawLemmas.{same_lists}
 use Rattle.zone_tree.proofs.PutLemmas.{put_length, put_between}
 use Rattle.zone_tree.proofs.OwnLemmas.{name_low, name_over, name_high}
-use Rattle.update_core.specs.Overlay.{at_owner, own_at, AllOwn, IsChangeAt, changed_sets, edited_sets}
+use Rattle.update_core.specs.Tagged.{tagged_cmp, same_at}
+use Rattle.update_core.specs.Overlay.{at_owner, own_at, own_of, made_of, AllOwn, IsLastOwn, IsChangeAt, changed_sets, edited_sets}
 use Rattle.update_core.proofs.AfterLemmas.{kept_contains, contains_kept}
 use Rattle.update_core.proofs.OwnSets.{passes, swapped, beside_folded, own_same, changed_own}
 
@@ -86,14 +88,14 @@ module _ (owner : Name) (recs : List Record) (mine : AllByRecursion (λ r. r.own
   owner_length = (λ i. length (with_owner owner recs zone) + length (filter (λ (r : Record). is_same_tied r.owner owner i) zone)) ∙ put_length (owner_beside owner) recs zone
 
 -- none of the owners behind one that ties with a name ties with it
-absent : (name owner : Name) (owned : List Filed) → canonical_cmp name owner ≡ Equal → AllByRecursion (λ k. canonical_cmp owner k ≡ Less) (keys_of owned) → own_at name owned ≡ None
+absent : (name owner : Name) (owned : List Filed) → canonical_cmp name owner ≡ Equal → AllByRecursion (λ k. tagged_cmp owner k ≡ Less) (keys_of owned) → own_at name owned ≡ None
 absent name owner [] e h = refl
 absent name owner (own ∷ owned) e h =
-    let apart : is_eq (canonical_cmp name own.0) ≡ false = ap is_eq (canonical_total.congr name owner own.0 e ∙ h.0) in
+    let apart : is_eq (canonical_cmp name own.0) ≡ false = ap is_eq (canonical_total.congr name owner own.0 e) ∙ sym (same_at owner own.0) ∙ ap is_eq h.0 in
     ap (λ b. cond b (Some own.1) (own_at name owned)) apart ∙ absent name owner owned e h.1
 
 -- what stands at a name in the zone with all of them
-pub stands_there : (name : Name) (zone : List Record) (owned : List Filed) → AllOwn owned → IsStrictlySortedBy canonical_cmp (keys_of owned) → rrsets_of (with_owners zone owned) name ≡ at_owner (rrsets_of zone name) (own_at name owned)
+pub stands_there : (name : Name) (zone : List Record) (owned : List Filed) → AllOwn owned → IsStrictlySortedBy tagged_cmp (keys_of owned) → rrsets_of (with_owners zone owned) name ≡ at_owner (rrsets_of zone name) (own_at name owned)
 unfolding IsStrictlySortedBy
 stands_there name zone [] h s = refl
 stands_there name zone (own ∷ owned) h s =
@@ -117,6 +119,23 @@ owners_rise zone (own ∷ owned) h k =
     let recs = records_in own.1.items in
     owners_rise (with_owner own.0 recs zone) owned h.1
     (owner_rises own.0 recs (records_own own.0 own.1.items h.0) zone k (rises_from_pairs IsBefore recs (records_ascend own.1.items h.0.rising)))
+
+-- and with the sets of the owner that was changed last
+pub stands_now : (name : Name) (zone : List Record) (last : Option Filed) (others : List Filed) → IsLastOwn last → AllOwn others → IsStrictlySortedBy tagged_cmp (keys_of others)
+    → rrsets_of (made_of zone last others) name ≡ at_owner (rrsets_of zone name) (own_of name last others)
+stands_now name zone None others own each ordered = stands_there name zone others each ordered
+stands_now name zone (Some last) others own each ordered =
+    at_name last.0 (records_in last.1.items) (records_own last.0 last.1.items own) (with_owners zone others) name ∙ by (is_eq (canonical_cmp name last.0))
+  where
+    by : (b : Bool) → cond b (records_in last.1.items) (rrsets_of (with_owners zone others) name) ≡ at_owner (rrsets_of zone name) (cond b (Some last.1) (own_at name others))
+    by true = refl
+    by false = stands_there name zone others each ordered
+
+pub now_rises : (zone : List Record) (last : Option Filed) (others : List Filed) → IsLastOwn last → AllOwn others → Rises IsBefore zone → Rises IsBefore (made_of zone last others)
+now_rises zone None others own each h = owners_rise zone others each h
+now_rises zone (Some last) others own each h =
+    let recs = records_in last.1.items in
+    owner_rises last.0 recs (records_own last.0 last.1.items own) (with_owners zone others) (owners_rise zone others each h) (rises_from_pairs IsBefore recs (records_ascend last.1.items own.rising))
 
 -- records in order that are the same at each name
 same_from : (xs ys : List Record) → ((name : Name) → rrsets_of xs name ≡ rrsets_of ys name) → (r : Record) → Contains xs r → Contains ys r
@@ -153,6 +172,10 @@ found_own owner (first ∷ owned) own h e = by (canonical_cmp owner first.0) ref
         subst (λ (v : Vec (List Record)). AreOwn owner v.items) (some first.1 own e)
         (record { rising = h.0.rising; own = each_weaker (λ s. owner_of s ≡ fold_name first.0) (λ s. owner_of s ≡ fold_name owner) (λ s k. k ∙ sym fold) first.1.items h.0.own })
 
+pub found_now : (owner : Name) (last : Option Filed) (others : List Filed) (own : Vec (List Record)) → IsLastOwn last → AllOwn others → own_of owner last others ≡ Some own → AreOwn owner own.items
+found_now owner None others own mine each e = found_own owner others own each e
+found_now owner (Some last) others own mine each e = found_own owner (last ∷ others) own (mine, each) e
+
 -- and so are the sets that the zone has at it
 behind_each : (P : Record → Type 0) (rs rest : List Record) → AllByRecursion P (rs ++ rest) → AllByRecursion P rest
 behind_each P [] rest h = h
@@ -170,28 +193,28 @@ copied_own zone owner sets each is whole = record {
   own = owners_are owner sets each (subst (AllByRecursion (λ r. stands_at owner r ≡ true)) (sym is) (passes (stands_at owner) zone));
 }
 
-pub copies_own : {E : Type 0} (zone : List Record) (owner : Name) (sets : List (List Record)) (r : Result (Vec (List Record)) E) → IfOk r (λ own. own.items ≡ sets) → OnOk r (AllByRecursion IsRRset sets) → records_in sets ≡ rrsets_of zone owner → AreWhole zone sets
+pub copies_own : {E : Type 0} (zone : List Record) (owner : Name) (sets : List (List Record)) (r : Result (Vec (List Record)) E) → IfOk r (λ own. own.items ≡ sets) → AllByRecursion IsRRset sets → records_in sets ≡ rrsets_of zone owner → AreWhole zone sets
     → IfOk r (λ own. AreOwn owner own.items)
 copies_own zone owner sets (Ok own) is each at whole = subst (AreOwn owner) (sym is) (copied_own zone owner sets each at whole)
 copies_own zone owner sets (Err e) is each at whole = tt
 
 -- owners with one less, and one more
-pub each_removed : (owner : Name) (owned : List Filed) → AllOwn owned → AllOwn (remove_entry (is_at (canonical_cmp owner)) owned)
+pub each_removed : (owner : Name) (owned : List Filed) → AllOwn owned → AllOwn (remove_entry (is_at (tagged_cmp owner)) owned)
 each_removed owner [] h = tt
-each_removed owner (own ∷ owned) h = by (is_eq (canonical_cmp owner own.0)) (each_removed owner owned h.1)
+each_removed owner (own ∷ owned) h = by (is_eq (tagged_cmp owner own.0)) (each_removed owner owned h.1)
   where
-    by : (b : Bool) → AllOwn (remove_entry (is_at (canonical_cmp owner)) owned) → AllOwn (cond b owned (own ∷ remove_entry (is_at (canonical_cmp owner)) owned))
+    by : (b : Bool) → AllOwn (remove_entry (is_at (tagged_cmp owner)) owned) → AllOwn (cond b owned (own ∷ remove_entry (is_at (tagged_cmp owner)) owned))
     by true more = h.1
     by false more = (h.0, more)
 
-pub each_inserted : (owner : Name) (own : Vec (List Record)) (owned : List Filed) → AreOwn owner own.items → AllOwn owned → AllOwn (insert_entry canonical_cmp owned owner own)
+pub each_inserted : (owner : Name) (own : Vec (List Record)) (owned : List Filed) → AreOwn owner own.items → AllOwn owned → AllOwn (insert_entry tagged_cmp owned owner own)
 each_inserted owner own [] mine h = (mine, tt)
-each_inserted owner own (first ∷ owned) mine h = by (canonical_cmp owner first.0) refl (each_inserted owner own owned mine h.1)
+each_inserted owner own (first ∷ owned) mine h = by (tagged_cmp owner first.0) refl (each_inserted owner own owned mine h.1)
   where
-    by : (o : Ordering) → canonical_cmp owner first.0 ≡ o → AllOwn (insert_entry canonical_cmp owned owner own) → AllOwn (match_ordering o ((owner, own) ∷ first ∷ owned) ((first.0, own) ∷ owned) (first ∷ insert_entry canonical_cmp owned owner own))
+    by : (o : Ordering) → tagged_cmp owner first.0 ≡ o → AllOwn (insert_entry tagged_cmp owned owner own) → AllOwn (match_ordering o ((owner, own) ∷ first ∷ owned) ((first.0, own) ∷ owned) (first ∷ insert_entry tagged_cmp owned owner own))
     by Less e more = (mine, h)
     by Equal e more =
-        let fold = folds_from_same owner first.0 (same_from_tie owner first.0 e) in
+        let fold = folds_from_same owner first.0 (is_same_tied owner first.0 ∙ sym (same_at owner first.0) ∙ ap is_eq e) in
         (record { rising = mine.rising; own = each_weaker (λ s. owner_of s ≡ fold_name owner) (λ s. owner_of s ≡ fold_name first.0) (λ s k. k ∙ fold) own.items mine.own }, h.1)
     by Greater e more = (h.0, more)
 
@@ -216,23 +239,20 @@ module _ (cur next : List Record) (owner : Name) (sets : List (List Record)) (mi
   pub next_length : length next + length (rrsets_of cur owner) ≡ length cur + length (records_in sets)
   next_length = ap (λ (zs : List Record). length zs + length (rrsets_of cur owner)) next_is ∙ owner_length owner (records_in sets) (records_own owner sets mine) cur
 
-  -- so is a zone with the owners that were taken, and with these sets for that owner's
-  pub overlaid : (zone : List Record) (owned after : List Filed) → Rises IsBefore zone → AllOwn owned → IsStrictlySortedBy canonical_cmp (keys_of owned) → AllOwn after → IsStrictlySortedBy canonical_cmp (keys_of after)
-      → with_owners zone owned ≡ cur → (own : Vec (List Record)) → own.items ≡ sets → ((q : Name) → own_at q after ≡ cond (is_at (canonical_cmp owner) q) (Some own) (own_at q owned)) → with_owners zone after ≡ next
-  overlaid zone owned after rise each ordered each' ordered' now own items updates =
-      same_by_owners (with_owners zone after) next (owners_rise zone after each' rise) k
-      (λ name. stands_there name zone after each' ordered' ∙ ap (at_owner (rrsets_of zone name)) (updates name) ∙ by name (canonical_cmp owner name) refl ∙ sym (next_at name))
+  -- so is a zone that has these sets for that owner's
+  pub overlaid : (zone made : List Record) (f g : Name → Option (Vec (List Record))) → ((name : Name) → rrsets_of cur name ≡ at_owner (rrsets_of zone name) (f name)) → Rises IsBefore made
+      → ((name : Name) → rrsets_of made name ≡ at_owner (rrsets_of zone name) (g name)) → (own : Vec (List Record)) → own.items ≡ sets → ((q : Name) → g q ≡ cond (is_at (canonical_cmp owner) q) (Some own) (f q)) → made ≡ next
+  overlaid zone made f g was rise stands own items updates =
+      same_by_owners made next rise k
+      (λ name. stands name ∙ ap (at_owner (rrsets_of zone name)) (updates name) ∙ by name (canonical_cmp owner name) refl ∙ sym (next_at name))
     where
       turned : (name : Name) (o : Ordering) → canonical_cmp owner name ≡ o → canonical_cmp name owner ≡ ordering_reverse o
       turned name o e = canonical_total.antisymm name owner ∙ ap ordering_reverse e
 
-      there : (name : Name) → at_owner (rrsets_of zone name) (own_at name owned) ≡ rrsets_of cur name
-      there name = sym (stands_there name zone owned each ordered) ∙ ap (λ (zs : List Record). rrsets_of zs name) now
-
-      by : (name : Name) (o : Ordering) → canonical_cmp owner name ≡ o → at_owner (rrsets_of zone name) (cond (is_eq o) (Some own) (own_at name owned)) ≡ cond (is_eq (canonical_cmp name owner)) (records_in sets) (rrsets_of cur name)
-      by name Less e = there name ∙ ap (λ o. cond (is_eq o) (records_in sets) (rrsets_of cur name)) (sym (turned name Less e))
+      by : (name : Name) (o : Ordering) → canonical_cmp owner name ≡ o → at_owner (rrsets_of zone name) (cond (is_eq o) (Some own) (f name)) ≡ cond (is_eq (canonical_cmp name owner)) (records_in sets) (rrsets_of cur name)
+      by name Less e = sym (was name) ∙ ap (λ o. cond (is_eq o) (records_in sets) (rrsets_of cur name)) (sym (turned name Less e))
       by name Equal e = ap records_in items ∙ ap (λ o. cond (is_eq o) (records_in sets) (rrsets_of cur name)) (sym (turned name Equal e))
-      by name Greater e = there name ∙ ap (λ o. cond (is_eq o) (records_in sets) (rrsets_of cur name)) (sym (turned name Greater e))
+      by name Greater e = sym (was name) ∙ ap (λ o. cond (is_eq o) (records_in sets) (rrsets_of cur name)) (sym (turned name Greater e))
 
 -- an owner's sets stay its own where one of them is changed
 pub own_changed : (owner : Name) (own : List (List Record)) → AreOwn owner own → (change : Change) → IsChangeAt owner change → AreOwn owner (changed_sets own change)
@@ -244,3 +264,75 @@ own_changed owner own mine change at =
 pub edited_sets-last : (own : List (List Record)) (front : List Change) (last : Change) → edited_sets own (front ++ last ∷ []) ≡ changed_sets (edited_sets own front) last
 edited_sets-last own [] last = refl
 edited_sets-last own (change ∷ front) last = edited_sets-last (changed_sets own change) front last
+
+-- what is found once an owner's sets are those of the owner that was changed last
+pub turned_eq : (name owner : Name) → is_eq (canonical_cmp name owner) ≡ is_eq (canonical_cmp owner name)
+turned_eq name owner = ap is_eq (canonical_total.antisymm name owner) ∙ by (canonical_cmp owner name)
+  where
+    by : (o : Ordering) → is_eq (ordering_reverse o) ≡ is_eq o
+    by Less = refl
+    by Equal = refl
+    by Greater = refl
+
+pub updated : (key owner : Name) → key ≡ fold_name owner → (given : Vec (List Record)) (others : List Filed) (f : Name → Option (Vec (List Record)))
+    → ((name : Name) → is_at (canonical_cmp key) name ≡ false → own_at name others ≡ f name) → (q : Name) → own_of q (Some (key, given)) others ≡ cond (is_at (canonical_cmp owner) q) (Some given) (f q)
+updated key owner fold given others f apart q = by (is_eq (canonical_cmp q key)) refl
+  where
+    same : is_eq (canonical_cmp key q) ≡ is_eq (canonical_cmp owner q)
+    same = ap (λ k. is_eq (canonical_cmp k q)) fold ∙ ap is_eq (cmp_folded owner q)
+
+    by : (b : Bool) → is_eq (canonical_cmp q key) ≡ b → cond b (Some given) (own_at q others) ≡ cond (is_eq (canonical_cmp owner q)) (Some given) (f q)
+    by true e = ap (λ b. cond b (Some given) (f q)) (sym e ∙ turned_eq q key ∙ same)
+    by false e = apart q (sym (turned_eq q key) ∙ e) ∙ ap (λ b. cond b (Some given) (f q)) (sym e ∙ turned_eq q key ∙ same)
+
+-- a last owner that is put beside the others is found as it was
+pub put_found : (last : Filed) (others after : List Filed) → ((name : Name) → own_at name after ≡ cond (is_at (canonical_cmp last.0) name) (Some last.1) (own_at name others)) → (name : Name) → own_at name after ≡ own_of name (Some last) others
+put_found last others after puts name = puts name ∙ ap (λ b. cond b (Some last.1) (own_at name others)) (sym (turned_eq name last.0))
+
+-- where it is the one that is sought, its sets are that owner's, and the others are as they were
+pub last_own : (owner : Name) (last : Filed) → AreOwn last.0 last.1.items → is_same last.0 owner ≡ true → AreOwn owner last.1.items
+last_own owner last mine same =
+    let fold = folds_from_same last.0 owner same in
+    record { rising = mine.rising; own = each_weaker (λ s. owner_of s ≡ fold_name last.0) (λ s. owner_of s ≡ fold_name owner) (λ s k. k ∙ fold) last.1.items mine.own }
+
+pub last_found : (owner : Name) (last : Filed) (others : List Filed) → is_same last.0 owner ≡ true → own_of owner (Some last) others ≡ Some last.1
+last_found owner last others same = ap (λ b. cond b (Some last.1) (own_at owner others)) (turned_eq owner last.0 ∙ ap is_eq (tie_from_same last.0 owner same))
+
+pub last_apart : (owner : Name) (last : Filed) (others : List Filed) → is_same last.0 owner ≡ true → (name : Name) → is_at (canonical_cmp owner) name ≡ false → own_at name others ≡ own_of name (Some last) others
+last_apart owner last others same name apart =
+    sym (ap (λ b. cond b (Some last.1) (own_at name others)) (turned_eq name last.0 ∙ ap is_eq (canonical_total.congr last.0 owner name (tie_from_same last.0 owner same)) ∙ apart))
+
+-- what is found among the last alone
+pub found_last : (owner : Name) (last : Option Filed) (others : List Filed) (own : Vec (List Record)) → own_of owner last [] ≡ Some own → own_of owner last others ≡ Some own
+found_last owner None others own e = absurd (cc)
+found_last owner (Some last) others own e = by (is_eq (canonical_cmp owner last.0)) e
+  where
+    by : (b : Bool) → cond b (Some last.1) None ≡ Some own → cond b (Some last.1) (own_at owner others) ≡ Some own
+    by true e = e
+    by false e = absurd (cc)
+
+pub missed_last : (owner : Name) (last : Option Filed) (others : List Filed) → own_of owner last [] ≡ None → own_of owner last others ≡ own_at owner others
+missed_last owner None others e = refl
+missed_last owner (Some last) others e = by (is_eq (canonical_cmp owner last.0)) e
+  where
+    by : (b : Bool) → cond b (Some last.1) None ≡ None → cond b (Some last.1) (own_at owner others) ≡ own_at owner others
+    by true e = absurd (cc)
+    by false e = refl
+
+-- items that are found are those of what is found
+pub some_items : (o : Option (Vec (List Record))) (items : List (List Record)) → option_map (λ (v : Vec (List Record)). v.items) o ≡ Some items → (v : Vec (List Record)) × (o ≡ Some v) × (v.items ≡ items)
+some_items None items e = absurd (cc)
+some_items (Some v) items e = (v, refl, ap there e)
+  where
+    there : Option (List (List Record)) → List (List Record)
+    there None = items
+    there (Some x) = x
+
+pub no_items : (o : Option (Vec (List Record))) → option_map (λ (v : Vec (List Record)). v.items) o ≡ None → o ≡ None
+no_items None e = refl
+no_items (Some v) e = absurd (cc)
+
+-- all owners that were taken, with that one behind the others
+pub all_own : (others : List Filed) (last : Filed) → AreOwn last.0 last.1.items → AllOwn others → AllOwn (others ++ last ∷ [])
+all_own [] last own h = (own, tt)
+all_own (first ∷ others) last own h = (h.0, all_own others last own h.1)

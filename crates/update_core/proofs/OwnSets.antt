@@ -12,7 +12,11 @@ use Rattle.std.proofs.lemmas.List.Elements.{All-from_recursion, recursion_from_A
 use Rattle.dns_name.specs.Name.{Name, is_same, canonical_cmp, fold_name}
 use Rattle.dns_name.proofs.StoredLemmas.{cmp_folded}
 use Rattle.dns_rdata.proofs.NameLemmas.{fold_name-fold_name}
-use Rattle.dns_rdata.specs.Record.{Record, owner_of, rtype_of}
+use Rattle.std.proofs.lemmas.List.{length-map}
+use Rattle.dns_rdata.specs.Limits.{max_data, max_set}
+use Rattle.dns_rdata.specs.Data.{Data}
+use Rattle.dns_rdata.specs.Record.{Record, IsLawful, IsSet, records_with, owner_of, rtype_of, ttl_of}
+use Rattle.zone_tree.proofs.CheckLemmas.{rrset_from_data}
 use Rattle.zone_tree.specs.Zone.{is_of, stands_at, rrsets_of}
 use Rattle.zone_tree.specs.Sets.{records_in, IsSetBefore, IsRRset, IsOf, AreAscending}
 use Rattle.zone_tree.specs.Change.{with_rrset, without_rrset, beside, changed, edited}
@@ -199,3 +203,40 @@ module _ (owner : Name) where
   edited_own zone own mine is (change ∷ changes) at =
       let next = changed_own zone own mine is change at.0 in
       edited_own (changed zone change) (changed_sets own change) next.0 next.1 changes at.1
+
+-- a set whose data are known is one, of at most 256 records
+pub lawful_of : (set : List Record) (ds : List Data) → set ≡ records_with (owner_of set) (rtype_of set) (ttl_of set) ds → IsSet (owner_of set) (rtype_of set) (ttl_of set) ds → All IsLawful set → All (λ r. length r.rdata ≤ max_data) set → IsRRset set × (length set ≤ max_set)
+lawful_of set ds records lawful each short =
+    let size = ap length records ∙ length-map ds (λ (d : Data). let own : Record = record { owner = owner_of set; rtype = rtype_of set; ttl = ttl_of set; rdata = d.octets } in own) in
+    let most = lawful.few in
+    (rrset_from_data set ds records lawful each short, omega (arith, size, most))
+
+-- a set is put in place of the one of its type, which may have been taken out before
+pub put_over : (own kept : List (List Record)) (set : List Record) → kept ≡ filter (λ s. not (rtype_of s == rtype_of set)) own
+    → put_at (λ s. nat_cmp (rtype_of s) (rtype_of set)) (set ∷ []) kept ≡ put_at (λ s. nat_cmp (rtype_of s) (rtype_of set)) (set ∷ []) own
+put_over own kept set is =
+    (λ i. (ap (filter (λ s. is_lt (nat_cmp (rtype_of s) (rtype_of set)))) is ∙ through (λ s. is_lt (nat_cmp (rtype_of s) (rtype_of set))) low own) i ++ (set ∷ [])
+    ++ (ap (filter (λ s. is_gt (nat_cmp (rtype_of s) (rtype_of set)))) is ∙ through (λ s. is_gt (nat_cmp (rtype_of s) (rtype_of set))) high own) i)
+  where
+    low : (s : List Record) → not (rtype_of s == rtype_of set) ≡ false → is_lt (nat_cmp (rtype_of s) (rtype_of set)) ≡ false
+    low s = type_apart (rtype_of set) (rtype_of s)
+
+    high : (s : List Record) → not (rtype_of s == rtype_of set) ≡ false → is_gt (nat_cmp (rtype_of s) (rtype_of set)) ≡ false
+    high s e = by (nat_cmp (rtype_of s) (rtype_of set)) (ap not (types_tie (rtype_of s) (rtype_of set)) ∙ e)
+      where
+        by : (o : Ordering) → not (is_eq o) ≡ false → is_gt o ≡ false
+        by Less e = refl
+        by Equal e = refl
+        by Greater e = absurd (cc)
+
+    through : (q : List Record → Bool) → ((s : List Record) → not (rtype_of s == rtype_of set) ≡ false → q s ≡ false) → (xs : List (List Record)) → filter q (filter (λ s. not (rtype_of s == rtype_of set)) xs) ≡ filter q xs
+    through q inside [] = refl
+    through q inside (x ∷ xs) = by (not (rtype_of x == rtype_of set)) refl (through q inside xs)
+      where
+        by : (b : Bool) → not (rtype_of x == rtype_of set) ≡ b → filter q (filter (λ s. not (rtype_of s == rtype_of set)) xs) ≡ filter q xs
+            → filter q (cond b (x ∷ filter (λ s. not (rtype_of s == rtype_of set)) xs) (filter (λ s. not (rtype_of s == rtype_of set)) xs)) ≡ filter q (x ∷ xs)
+        by true e more = ap (λ ys. cond (q x) (x ∷ ys) ys) more
+        by false e more = more ∙ ap (λ b. cond b (x ∷ filter q xs) (filter q xs)) (sym (inside x e))
+
+pub filtered_twice : (p : List Record → Bool) (xs : List (List Record)) → filter p (filter p xs) ≡ filter p xs
+filtered_twice p xs = filter_alike p true (filter p xs) (passes p xs)

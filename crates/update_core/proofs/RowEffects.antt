@@ -194,7 +194,7 @@ module _ (zone : List Record) (r : RawRecord) where
   pub own_behind : AllByRecursion is_own (set_behind zone r)
   own_behind = by_test (AllByRecursion is_own) (r.rtype == type_CNAME || r.rtype == type_SOA) (entered r ∷ []) grown (λ _. (own_entered, tt)) (λ _. own_grown)
 
-  some_behind : 0 < length (set_behind zone r)
+  pub some_behind : 0 < length (set_behind zone r)
   some_behind = by_test (λ (l : List Record). 0 < length l) (r.rtype == type_CNAME || r.rtype == type_SOA) (entered r ∷ []) grown (λ _. omega arith) (λ _. some_with_record (entered r) _)
 
   -- the zone with it

@@ -1,6 +1,7 @@
 pub mod Verdict
 pub mod Act
 pub mod Applied
+pub mod Tagged
 pub mod Overlay
 pub mod Examples
 pub mod Ordered

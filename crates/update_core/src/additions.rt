@@ -1,6 +1,5 @@
 //! What a record that an update adds changes (RFC 2136, 3.4.2.2).
 ghost use Rattle.std.specs.Prelude.{◌≡◌, ◌<◌, ◌≤◌, ◌^◌, ◌&&◌, ◌||◌, not, ◌==◌, ◌≢◌, true, [], None, length, All, IfOk, OnOk};
-ghost use Rattle.std.specs.List.{AllByRecursion};
 ghost use Rattle.std.specs.Bool.{OnTrue};
 ghost use Rattle.std.specs.Option.{is_some};
 ghost use Rattle.std.specs.Result.{IsErrOf};
@@ -14,76 +13,74 @@ ghost use Rattle.zone_tree.specs.Zone.{IsZone, apex_of, rrset_of};
 ghost use Rattle.zone_tree.specs.Version.{zone_serial};
 ghost use Rattle.update_core.specs.Verdict.{prescan_of, has_form, has_rrset};
 ghost use Rattle.update_core.specs.Act.{effect, entered, has_other_than_alias, has_lesser_soa, IsSent};
-ghost use Rattle.update_core.specs.Overlay.{IsChangeAt};
-ghost use Rattle.update_core.specs.Applied.{AreOf, is_beside_alias, joined, set_behind};
+ghost use Rattle.update_core.specs.Overlay.{IsRow};
+ghost use Rattle.update_core.specs.Applied.{is_beside_alias, joined, set_behind};
 
 use crate::ordered::is_among;
-use crate::overlay::Overlay;
-use crate::rows::{ActFault, one_change};
+use crate::place::Place;
+use crate::rows::{ActFault, Row};
 use dns_name::Name;
 use dns_rdata::{DataFault, RData, RRset, RType, RawRecord, Ttl};
 use std::alloc::Global;
-use zone_tree::Change;
 
-/// The changes that a record of class IN makes; none where it has no effect. The table of effects comes before the limits.
-pub(crate) fn changes_of_addition(
+/// What a record of class IN does. The table of effects comes before the limits.
+pub(crate) fn row_of_addition(
     alloc: Global,
-    zone: &Overlay<'_>,
+    zone: &Place<'_>,
     raw: &RawRecord,
-) -> Result<Vec<Change>, ActFault>
+) -> Result<Row, ActFault>
     requires lawful { IsZone zone.now.made }
+    requires at { zone.now.owner ≡ raw.now.owner }
     requires class { (raw.now.class == class_IN) ≡ true }
     requires passed { prescan_of zone.now.made raw.now ≡ None }
-    ensures of { IfOk result (λ changes. AreOf zone.now.made raw.now changes.items) }
-    ensures at { IfOk result (λ changes. AllByRecursion (IsChangeAt raw.now.owner) changes.items) }
+    ensures row { IfOk result (IsRow zone.now.made raw.now) }
     ensures limit { IsErrOf result ActFault.Limit → effect zone.now.made raw.now ≡ None }
 {
     if is_beside_alias(zone, raw) {
-        return Ok(Vec::new(alloc));
+        return Ok(Row::Nothing);
     }
     let rdata = data_in_zone(alloc, raw)?;
     if is_lesser_soa(zone, raw, &rdata) {
-        return Ok(Vec::new(alloc));
+        return Ok(Row::Nothing);
     }
     if stands(zone, raw, &rdata) {
-        return Ok(Vec::new(alloc));
+        return Ok(Row::Nothing);
     }
-    let set = set_with(alloc, zone, raw, rdata)?;
-    let _records = set.data();
-    let changes = one_change(alloc, Change::Put(set))?;
-    Ok(changes)
+    Ok(Row::OneSet(Some(rdata)))
 }
 
 /// Whether a record would put an alias beside other data, or other data beside an alias (RFC 2136, 3.4.2.2).
-fn is_beside_alias(zone: &Overlay<'_>, raw: &RawRecord) -> bool
-    requires { IsZone zone.now.made }
+fn is_beside_alias(zone: &Place<'_>, raw: &RawRecord) -> bool
+    requires lawful { IsZone zone.now.made }
+    requires at { zone.now.owner ≡ raw.now.owner }
     ensures { result ≡ is_beside_alias zone.now.made raw.now }
 {
     if raw.rtype == RType::CNAME {
-        return has_other_than_alias(zone, &raw.owner);
+        return has_other_than_alias(zone);
     }
-    has_alias(zone, &raw.owner)
+    has_alias(zone)
 }
 
 /// Whether an alias stands at a name.
-fn has_alias(zone: &Overlay<'_>, owner: &Name) -> bool
-    ensures { result ≡ has_rrset zone.now.made owner.now type_CNAME }
+fn has_alias(zone: &Place<'_>) -> bool
+    ensures { result ≡ has_rrset zone.now.made zone.now.owner type_CNAME }
 {
-    zone.rrset(owner, RType::CNAME).is_some()
+    zone.rrset(RType::CNAME).is_some()
 }
 
 /// Whether a record of another type than CNAME stands at a name. An alias stands alone at its owner.
-fn has_other_than_alias(zone: &Overlay<'_>, owner: &Name) -> bool
+fn has_other_than_alias(zone: &Place<'_>) -> bool
     requires { IsZone zone.now.made }
-    ensures { result ≡ has_other_than_alias zone.now.made owner.now }
+    ensures { result ≡ has_other_than_alias zone.now.made zone.now.owner }
 {
-    zone.is_in_use(owner) && !has_alias(zone, owner)
+    zone.is_in_use() && !has_alias(zone)
 }
 
 /// Whether a record is an SOA whose serial isn't greater than that of one that stands at its owner, or where none stands
 /// there (RFC 2136, 3.4.2.2). Its data are those that enter the zone.
-fn is_lesser_soa(zone: &Overlay<'_>, raw: &RawRecord, rdata: &RData) -> bool
+fn is_lesser_soa(zone: &Place<'_>, raw: &RawRecord, rdata: &RData) -> bool
     requires lawful { IsZone zone.now.made }
+    requires at { zone.now.owner ≡ raw.now.owner }
     requires rtype { rdata.now.rtype ≡ raw.now.rtype }
     requires data { rdata.now.octets ≡ (entered raw.now).rdata }
     ensures { result ≡ (raw.now.rtype == type_SOA && not (has_lesser_soa zone.now.made raw.now)) }
@@ -92,7 +89,8 @@ fn is_lesser_soa(zone: &Overlay<'_>, raw: &RawRecord, rdata: &RData) -> bool
 }
 
 /// Whether an SOA stands at a name whose serial is less than that of an SOA's data (RFC 1982, 3.2).
-fn is_greater_soa(zone: &Overlay<'_>, owner: &Name, rdata: &RData) -> bool
+fn is_greater_soa(zone: &Place<'_>, owner: &Name, rdata: &RData) -> bool
+    requires { zone.now.owner ≡ owner.now }
     ensures { rdata.now.rtype ≡ type_SOA → result ≡ (is_same owner.now (apex_of zone.now.made) && serial_less (zone_serial zone.now.made) (serial_of rdata.now.octets)) }
 {
     match rdata.soa() {
@@ -128,8 +126,9 @@ fn are_octets(octets: &[u8])
 }
 
 /// Whether a record that joins others stands in a zone already, with the TTL that it would give them: then it has no effect.
-fn stands(zone: &Overlay<'_>, raw: &RawRecord, rdata: &RData) -> bool
+fn stands(zone: &Place<'_>, raw: &RawRecord, rdata: &RData) -> bool
     requires lawful { IsZone zone.now.made }
+    requires at { zone.now.owner ≡ raw.now.owner }
     requires rtype { rdata.now.rtype ≡ raw.now.rtype }
     requires data { rdata.now.octets ≡ (entered raw.now).rdata }
     ensures some { OnTrue result (rrset_of zone.now.made raw.now.owner raw.now.rtype ≢ []) }
@@ -137,7 +136,7 @@ fn stands(zone: &Overlay<'_>, raw: &RawRecord, rdata: &RData) -> bool
     ensures few { OnTrue result (length (set_behind zone.now.made raw.now) ≤ max_set) }
 {
     if raw.rtype != RType::CNAME && raw.rtype != RType::SOA {
-        if let Some(own) = zone.rrset(&raw.owner, raw.rtype) {
+        if let Some(own) = zone.rrset(raw.rtype) {
             return has_record(own, Ttl::received(raw.ttl), rdata);
         }
     }
@@ -152,40 +151,4 @@ fn has_record(own: &RRset, ttl: Ttl, rdata: &RData) -> bool
 {
     let _records = own.data();
     own.ttl() == ttl && is_among(own, rdata.octets())
-}
-
-/// The set that stands where a record is added: an alias and an SOA replace what stood there, any other record joins it.
-fn set_with(
-    alloc: Global,
-    zone: &Overlay<'_>,
-    raw: &RawRecord,
-    rdata: RData,
-) -> Result<RRset, ActFault>
-    requires lawful { IsZone zone.now.made }
-    requires rtype { rdata.rtype ≡ raw.now.rtype }
-    requires data { rdata.octets ≡ (entered raw.now).rdata }
-    ensures set { IfOk result (λ set. set ≡ set_behind zone.now.made raw.now) }
-    ensures limit { IsErrOf result ActFault.Limit → max_set < length (set_behind zone.now.made raw.now) }
-{
-    let ttl = Ttl::received(raw.ttl);
-    if raw.rtype != RType::CNAME && raw.rtype != RType::SOA {
-        if let Some(own) = zone.rrset(&raw.owner, raw.rtype) {
-            return joined(alloc, own, ttl, rdata);
-        }
-    }
-    let set = RRset::new(alloc, &raw.owner, ttl, rdata)?;
-    Ok(set)
-}
-
-/// A set with one more record, each with its TTL (RFC 2136, 3.4.2.2; RFC 2181, 5.2).
-fn joined(alloc: Global, own: &RRset, ttl: Ttl, rdata: RData) -> Result<RRset, ActFault>
-    requires lasts { ttl.0 < 2 ^ 31 }
-    requires rtype { rdata.rtype ≡ rtype_of own.now }
-    ensures set { IfOk result (λ set. set ≡ joined own.now ttl.0 rdata.octets) }
-    ensures limit { IsErrOf result ActFault.Limit → max_set < length (joined own.now ttl.0 rdata.octets) }
-{
-    let mut set = own.copy(alloc)?;
-    set.set_ttl(ttl);
-    set.insert(rdata)?;
-    Ok(set)
 }

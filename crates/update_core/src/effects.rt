@@ -6,8 +6,10 @@ ghost use Rattle.update_core.specs.Verdict.{prescan, prescan_of};
 ghost use Rattle.update_core.specs.Act.{effect, effects, IsSent};
 
 use crate::overlay::Overlay;
-use crate::rows::{ActFault, changes_of};
-use dns_name::Name;
+use crate::place::Place;
+use crate::rows::{ActFault, Row, row_of};
+use crate::tagged::TaggedName;
+use dns_name::{Name, StoredName};
 use dns_rdata::{RRset, RawRecord};
 use std::alloc::Global;
 use zone_tree::{Zone, ZoneRead};
@@ -44,11 +46,13 @@ fn after_one<'a>(
 {
     overlay.check();
     check_sent(raw);
-    let changes = changes_of(alloc, &overlay, raw)?;
-    if changes.is_empty() {
-        return Ok(overlay);
+    let owner = TaggedName::new(StoredName::new(alloc, &raw.owner)?);
+    let row = row_of(alloc, &Place::new(&overlay, &raw.owner, &owner), raw)?;
+    match row {
+        Row::Nothing => Ok(overlay),
+        Row::OneSet(rdata) => overlay.with_set(alloc, owner, raw, rdata),
+        Row::Changes(changes) => overlay.edited(alloc, owner, raw, changes),
     }
-    overlay.edited(alloc, raw, changes)
 }
 
 /// That a record is one that is read of a message.

@@ -14,12 +14,15 @@ mod effects;
 mod examples;
 mod judgement;
 mod laws;
+mod one_set;
 mod ordered;
 mod outcome;
 mod overlay;
 mod own_sets;
+mod place;
 mod prerequisites;
 mod rows;
+mod tagged;
 mod update_section;
 
 pub use examples::{

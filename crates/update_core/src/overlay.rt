@@ -1,60 +1,62 @@
 //! A zone, and in place of some owners' sets what the records of an update that were taken so far made of them (RFC 2136,
 //! 3.4.2). An owner's sets are copied once, when a record changes them first, and put into the zone's tree once, at the end.
-ghost use Rattle.std.specs.Prelude.{◌≡◌, ◌≤◌, ◌==◌, IfOk, OnOk, unwrap_or, Some, None, if◌then◌else◌};
-ghost use Rattle.std.specs.List.{find};
+ghost use Rattle.std.specs.Prelude.{◌≡◌, ◌≤◌, ◌==◌, IfOk, OnOk, unwrap_or, Some, None, [], ◌∷◌, ◌++◌, false, if◌then◌else◌};
+ghost use Rattle.std.specs.List.{flat_map, AllByRecursion};
 ghost use Rattle.std.specs.List.Sorted.{IsStrictlySortedBy};
-ghost use Rattle.std.specs.Option.{option_copied};
+ghost use Rattle.std.specs.Option.{option_copied, option_map};
 ghost use Rattle.std.specs.BTreeMap.{is_at, insert_entry};
 ghost use Rattle.std.specs.Map.{keys_of, remove_entry};
-ghost use Rattle.dns_name.specs.Name.{Name, canonical_cmp};
-ghost use Rattle.dns_rdata.specs.Record.{rtype_of};
+ghost use Rattle.dns_name.specs.Name.{Name, canonical_cmp, is_same, fold_name};
 ghost use Rattle.zone_tree.specs.Zone.{IsZone, rrsets_of};
 ghost use Rattle.zone_tree.specs.Sets.{records_in};
 ghost use Rattle.zone_tree.specs.Edit.{AreOwn};
-ghost use Rattle.update_core.specs.Overlay.{AllOwn, at_owner, own_at};
+ghost use Rattle.update_core.specs.Tagged.{tagged_cmp};
+ghost use Rattle.update_core.specs.Overlay.{AllOwn, IsLastOwn, at_owner, own_at, own_of};
 
+use crate::one_set::change_set;
 use crate::own_sets::{change_all, copies, count_records, count_with};
 use crate::rows::ActFault;
-use dns_name::Name;
-use dns_rdata::{RRset, RType, RawRecord, Serial};
+use crate::tagged::TaggedName;
+use dns_name::{Name, StoredName};
+use dns_rdata::{RData, RRset, RawRecord};
 use std::alloc::{AllocError, Global};
 use std::collections::BTreeMap;
 use std::marker::Model;
-use zone_tree::{Change, MAX_RECORDS, Zone, ZoneRead, edit_owners, serial_in};
+use zone_tree::{Change, Zone, ZoneRead, edit_owners};
+
+/// An owner with its sets.
+type Own = (TaggedName, Vec<RRset>);
 
 /// Owners with their sets.
-type Owned = BTreeMap<Name, Vec<RRset>>;
+type Owned = BTreeMap<TaggedName, Vec<RRset>>;
 
-/// A zone with other sets for those of some owners. Contracts see the zone's records, and those with the other sets.
+/// A zone with other sets for those of some owners: of the one that was changed last, and of others before it. Contracts see the
+/// zone's records, and those with the other sets.
 #[derive(Drop)]
 pub(crate) struct Overlay<'a> {
     zone: &'a Zone,
-    owned: Owned,
+    others: Owned,
+    last: Option<Own>,
     count: usize,
 }
 
 impl<'a> Model for Overlay<'a> {
-    ghost use Rattle.zone_tree.specs.Edit.{with_owners};
-    ghost use Rattle.update_core.specs.Overlay.{Overlaid, IsOverlay};
+    ghost use Rattle.update_core.specs.Overlay.{Overlaid, IsOverlay, made_of};
 
     ghost Value = { Overlaid };
 
-    ghost view = { λ a. record { base = a.zone.now; made = with_owners a.zone.now a.owned.entries } };
+    ghost view = { λ a. record { base = a.zone.now; made = made_of a.zone.now a.last a.others.entries } };
 
-    ghost invariant = { λ a. IsOverlay a.zone.now a.owned.entries a.count };
+    ghost invariant = { λ a. IsOverlay a.zone.now a.last a.others.entries a.count };
 }
 
 impl<'a> Overlay<'a> {
-    ghost use Rattle.std.specs.Prelude.{◌↔◌, ◌<◌, [], IsNone, IfSome, length};
-    ghost use Rattle.std.specs.List.{flat_map, AllByRecursion};
     ghost use Rattle.std.specs.Result.{IsErrOf};
-    ghost use Rattle.zone_tree.specs.Zone.{rrset_of, apex_of};
-    ghost use Rattle.zone_tree.specs.Sets.{AreWhole};
-    ghost use Rattle.zone_tree.specs.Version.{zone_serial};
-    ghost use Rattle.update_core.specs.Verdict.{is_in_use, prescan_of};
+    ghost use Rattle.zone_tree.specs.Zone.{apex_of};
+    ghost use Rattle.update_core.specs.Verdict.{prescan_of};
     ghost use Rattle.update_core.specs.Act.{effect, IsSent};
     ghost use Rattle.update_core.specs.Applied.{AreOf};
-    ghost use Rattle.update_core.specs.Overlay.{IsChangeAt};
+    ghost use Rattle.update_core.specs.Overlay.{IsChangeAt, IsOfOneSet};
 
     /// A zone where no owner was taken.
     pub(crate) fn new(alloc: Global, zone: &'a Zone) -> Overlay<'a>
@@ -64,7 +66,8 @@ impl<'a> Overlay<'a> {
         let _soa = zone.soa();
         Overlay {
             zone,
-            owned: BTreeMap::new(alloc),
+            others: BTreeMap::new(alloc),
+            last: None,
             count: zone.count(),
         }
     }
@@ -83,43 +86,17 @@ impl<'a> Overlay<'a> {
         self.zone.apex()
     }
 
-    /// The set of an owner and a type; None where there is no such record (RFC 2181, 5).
-    pub(crate) fn rrset(&self, owner: &Name, rtype: RType) -> Option<&RRset>
-        ensures none { IsNone result ↔ (rrset_of self.now.made owner.now rtype.0 ≡ []) }
-        ensures set { IfSome result (λ set. set.now ≡ rrset_of self.now.made owner.now rtype.0) }
-    {
-        match self.owned.get(owner) {
-            Some(own) => set_of_type(own, rtype),
-            None => self.zone.rrset(owner, rtype),
-        }
-    }
-
     /// All sets of an owner, each in whole, by type number.
-    pub(crate) fn rrsets_at(&self, owner: &Name) -> &[RRset]
-        ensures records { flat_map (λ set. set) result.now ≡ rrsets_of self.now.made owner.now }
-        ensures whole { AreWhole self.now.made result.now }
+    pub(crate) fn sets_at(&self, owner: &TaggedName) -> &[RRset]
+        ensures own { AreOwn owner.now result.now }
+        ensures records { records_in result.now ≡ rrsets_of self.now.made owner.now }
     {
-        match self.owned.get(owner) {
-            Some(own) => own.as_slice(),
-            None => self.zone.rrsets_at(owner),
+        if let Some(own) = last_sets(&self.last, owner) {
+            return own;
         }
-    }
-
-    /// Whether a name owns a record.
-    pub(crate) fn is_in_use(&self, name: &Name) -> bool
-        ensures { result ≡ is_in_use self.now.made name.now }
-    {
-        !self.rrsets_at(name).is_empty()
-    }
-
-    /// The serial: that of the SOA at the apex (RFC 1035, 3.3.13).
-    pub(crate) fn serial(&self) -> Serial
-        ensures { result.0 ≡ zone_serial self.now.made }
-    {
-        self.check();
-        match self.rrset(self.apex(), RType::SOA) {
-            Some(soa) => serial_in(soa),
-            None => unreachable!(),
+        match self.others.get(owner) {
+            Some(own) => own.as_slice(),
+            None => self.zone.stored_sets(owner.name()),
         }
     }
 
@@ -127,9 +104,11 @@ impl<'a> Overlay<'a> {
     pub(crate) fn edited(
         self,
         alloc: Global,
+        owner: TaggedName,
         raw: &RawRecord,
         changes: Vec<Change>,
     ) -> Result<Overlay<'a>, ActFault>
+        requires key { owner ≡ fold_name raw.now.owner }
         requires sent { IsSent raw.now }
         requires passed { prescan_of self.made raw.now ≡ None }
         requires of { AreOf self.made raw.now changes.items }
@@ -141,19 +120,56 @@ impl<'a> Overlay<'a> {
     {
         let Overlay {
             zone,
-            mut owned,
+            mut others,
+            last,
             count,
         } = self;
-        let mut own = take(alloc, zone, &mut owned, &raw.owner)?;
+        let mut own = taken(alloc, zone, &mut others, last, &owner)?;
         let before = count_records(&own)?;
         change_all(&mut own, &raw.owner, changes)?;
         let after = count_records(&own)?;
         let count = count_with(count, before, after)?;
-        if count > MAX_RECORDS {
-            return Err(ActFault::Limit);
-        }
-        put_back(&mut owned, &raw.owner, own)?;
-        Ok(Overlay { zone, owned, count })
+        Ok(Overlay {
+            zone,
+            others,
+            last: Some((owner, own)),
+            count,
+        })
+    }
+
+    /// With what a record makes of the set of its type; `Limit` where that has more than 256 records then, or the zone more than
+    /// 1,000,000.
+    pub(crate) fn with_set(
+        self,
+        alloc: Global,
+        owner: TaggedName,
+        raw: &RawRecord,
+        rdata: Option<RData>,
+    ) -> Result<Overlay<'a>, ActFault>
+        requires key { owner ≡ fold_name raw.now.owner }
+        requires sent { IsSent raw.now }
+        requires passed { prescan_of self.made raw.now ≡ None }
+        requires row { IsOfOneSet self.made raw.now rdata }
+        ensures base { IfOk result (λ next. next.base ≡ self.entry.base) }
+        ensures after { IfOk result (λ next. effect self.entry.made raw.now ≡ Some next.made) }
+        ensures apex { IfOk result (λ next. apex_of next.made ≡ apex_of self.entry.made) }
+        ensures limit { IsErrOf result ActFault.Limit → effect self.entry.made raw.now ≡ None }
+    {
+        let Overlay {
+            zone,
+            mut others,
+            last,
+            count,
+        } = self;
+        let mut own = taken(alloc, zone, &mut others, last, &owner)?;
+        let (before, after) = change_set(alloc, &mut own, owner.name(), raw, rdata)?;
+        let count = count_with(count, before, after)?;
+        Ok(Overlay {
+            zone,
+            others,
+            last: Some((owner, own)),
+            count,
+        })
     }
 
     /// The zone that was made; None where no owner was taken, so that it is the zone itself.
@@ -161,48 +177,101 @@ impl<'a> Overlay<'a> {
         ensures made { IfOk result (λ made. unwrap_or made self.entry.base ≡ self.entry.made) }
         ensures no_limit { IsErrOf result ActFault.Limit → ⊥ }
     {
-        let Overlay { zone, owned, count } = self;
-        if owned.is_empty() {
+        let Overlay {
+            zone,
+            others,
+            last,
+            count,
+        } = self;
+        let Some(last) = last else {
             return Ok(None);
-        }
-        let owned = owned.into_iter().collect(alloc)?;
+        };
+        let owned = owned_in(alloc, others, last)?;
         let made = edit_owners(alloc, zone, owned, count)?;
         Ok(Some(made))
     }
 }
 
-/// The set of a type among the sets of an owner.
-fn set_of_type(sets: &[RRset], rtype: RType) -> Option<&RRset>
-    ensures { option_copied result ≡ find (λ set. rtype_of set == rtype.0) sets.now }
+/// All owners that were taken, the one that was changed last behind the others.
+fn owned_in(
+    alloc: Global,
+    others: Owned,
+    last: Own,
+) -> Result<Vec<(StoredName, Vec<RRset>)>, AllocError>
+    ensures { IfOk result (λ owned. owned.items ≡ others.entries ++ last ∷ []) }
 {
-    sets.iter().find(|set| set.rtype() == rtype)
+    let mut owned = Vec::with_capacity(alloc, others.len() + 1)?;
+    for (owner, own) in others {
+        owned.push((owner.into_name(), own))?;
+    }
+    let (owner, own) = last;
+    owned.push((owner.into_name(), own))?;
+    Ok(owned)
 }
 
-/// Takes an owner's sets out of those that were taken before, or copies the zone's.
-fn take(
-    alloc: Global,
-    zone: &Zone,
-    owned: &mut Owned,
-    owner: &Name,
-) -> Result<Vec<RRset>, AllocError>
-    requires { AllOwn owned.old.entries }
-    ensures own { IfOk result (λ own. AreOwn owner.now own.items) }
-    ensures records { IfOk result (λ own. records_in own.items ≡ at_owner (rrsets_of zone.now owner.now) (own_at owner.now owned.old.entries)) }
-    ensures entries { OnOk result (owned.new.entries ≡ remove_entry (is_at (canonical_cmp owner.now)) owned.old.entries) }
-    ensures others { OnOk result ((name : Name) → own_at name owned.new.entries ≡ (if is_at (canonical_cmp owner.now) name then None else own_at name owned.old.entries)) }
+/// The sets of the owner that was changed last, where it is this one.
+fn last_sets<'a>(last: &'a Option<Own>, owner: &TaggedName) -> Option<&'a [RRset]>
+    ensures { option_copied result ≡ option_map (λ own. own.items) (own_of owner.now last.now []) }
 {
-    match owned.remove(owner) {
-        Some(own) => Ok(own),
-        None => copies(alloc, zone.rrsets_at(owner)),
+    match last {
+        Some(own) if own.0 == *owner => Some(own.1.as_slice()),
+        _ => None,
     }
 }
 
-/// Puts an owner's sets beside those that were taken.
-fn put_back(owned: &mut Owned, owner: &Name, own: Vec<RRset>) -> Result<(), AllocError>
-    ensures entries { OnOk result (owned.new.entries ≡ insert_entry canonical_cmp owned.old.entries owner.now own) }
-    ensures ordered { OnOk result (IsStrictlySortedBy canonical_cmp (keys_of owned.new.entries)) }
-    ensures others { OnOk result ((name : Name) → own_at name owned.new.entries ≡ (if is_at (canonical_cmp owner.now) name then Some own else own_at name owned.old.entries)) }
+/// Takes an owner's sets: those of the owner that was changed last, where it is this one; else that one is put beside the others, and
+/// these sets are taken out of those of others, or copied from the zone's.
+fn taken(
+    alloc: Global,
+    zone: &Zone,
+    others: &mut Owned,
+    last: Option<Own>,
+    owner: &TaggedName,
+) -> Result<Vec<RRset>, AllocError>
+    requires last { IsLastOwn last }
+    requires each { AllOwn others.old.entries }
+    requires ordered { IsStrictlySortedBy tagged_cmp (keys_of others.old.entries) }
+    ensures own { IfOk result (λ own. AreOwn owner.now own.items) }
+    ensures records { IfOk result (λ own. records_in own.items ≡ at_owner (rrsets_of zone.now owner.now) (own_of owner.now last others.old.entries)) }
+    ensures each { OnOk result (AllOwn others.new.entries) }
+    ensures ordered { OnOk result (IsStrictlySortedBy tagged_cmp (keys_of others.new.entries)) }
+    ensures others { OnOk result ((name : Name) → is_at (canonical_cmp owner.now) name ≡ false → own_at name others.new.entries ≡ own_of name last others.old.entries) }
 {
-    owned.insert(owner.copy(), own)?;
+    if let Some((name, own)) = last {
+        if name == *owner {
+            return Ok(own);
+        }
+        put_aside(others, name, own)?;
+    }
+    take(alloc, zone, others, owner)
+}
+
+/// Takes an owner's sets out of those of others, or copies the zone's.
+fn take(
+    alloc: Global,
+    zone: &Zone,
+    others: &mut Owned,
+    owner: &TaggedName,
+) -> Result<Vec<RRset>, AllocError>
+    requires { AllOwn others.old.entries }
+    ensures own { IfOk result (λ own. AreOwn owner.now own.items) }
+    ensures records { IfOk result (λ own. records_in own.items ≡ at_owner (rrsets_of zone.now owner.now) (own_at owner.now others.old.entries)) }
+    ensures entries { OnOk result (others.new.entries ≡ remove_entry (is_at (tagged_cmp owner.now)) others.old.entries) }
+    ensures ordered { OnOk result (IsStrictlySortedBy tagged_cmp (keys_of others.new.entries)) }
+    ensures others { OnOk result ((name : Name) → own_at name others.new.entries ≡ (if is_at (canonical_cmp owner.now) name then None else own_at name others.old.entries)) }
+{
+    match others.remove(owner) {
+        Some(own) => Ok(own),
+        None => copies(alloc, zone.stored_sets(owner.name())),
+    }
+}
+
+/// Puts an owner's sets beside those of others.
+fn put_aside(others: &mut Owned, owner: TaggedName, own: Vec<RRset>) -> Result<(), AllocError>
+    ensures entries { OnOk result (others.new.entries ≡ insert_entry tagged_cmp others.old.entries owner own) }
+    ensures ordered { OnOk result (IsStrictlySortedBy tagged_cmp (keys_of others.new.entries)) }
+    ensures others { OnOk result ((name : Name) → own_at name others.new.entries ≡ (if is_at (canonical_cmp owner) name then Some own else own_at name others.old.entries)) }
+{
+    others.insert(owner, own)?;
     Ok(())
 }

@@ -1,21 +1,19 @@
 //! What one record of an update changes (RFC 2136, 3.4.2.2 to 3.4.2.4).
 ghost use Rattle.std.specs.Prelude.{◌≡◌, ◌↔◌, [], ◌∷◌, None, IfOk};
-ghost use Rattle.std.specs.List.{AllByRecursion};
 ghost use Rattle.std.specs.Result.{IsErrOf};
 ghost use Rattle.dns_rdata.specs.Numbers.{class_IN, class_ANY, class_NONE, type_ANY};
 ghost use Rattle.zone_tree.specs.Zone.{IsZone};
 ghost use Rattle.update_core.specs.Verdict.{prescan_of};
 ghost use Rattle.update_core.specs.Act.{effect};
-ghost use Rattle.update_core.specs.Applied.{AreOf};
-ghost use Rattle.update_core.specs.Overlay.{IsChangeAt};
+ghost use Rattle.update_core.specs.Overlay.{IsRow};
 ghost use Rattle.update_core.specs.declared.rows.ActFault.TheVariants.{Limit as limit, NoMemory as no_memory};
 ghost use Rattle.dns_rdata.specs.declared.rrset.SetFault.TheVariants.{Limit as set_limit};
 ghost use Rattle.zone_tree.specs.declared.fault.ZoneFault.TheVariants.{Limit as zone_limit};
 
-use crate::additions::changes_of_addition;
-use crate::deletions::{changes_of_name, changes_of_record, changes_of_set};
-use crate::overlay::Overlay;
-use dns_rdata::{Class, RType, RawRecord, SetFault};
+use crate::additions::row_of_addition;
+use crate::deletions::{changes_of_name, row_of_record, row_of_set};
+use crate::place::Place;
+use dns_rdata::{Class, RData, RType, RawRecord, SetFault};
 use std::alloc::{AllocError, Global};
 use zone_tree::{Change, ZoneFault};
 
@@ -58,26 +56,38 @@ impl From<SetFault> for ActFault {
     }
 }
 
-/// The changes that a record makes of a zone; none where it has no effect.
-pub(crate) fn changes_of(
+/// What a record of an update does to the sets of its owner.
+#[derive(Drop)]
+pub(crate) enum Row {
+    /// Nothing.
+    Nothing,
+    /// It makes another set of the one of its type, or takes it away; of a record that is added these are the data.
+    OneSet(Option<RData>),
+    /// It makes these changes.
+    Changes(Vec<Change>),
+}
+
+/// What a record does to the sets of its owner.
+pub(crate) fn row_of(
     alloc: Global,
-    zone: &Overlay<'_>,
+    zone: &Place<'_>,
     raw: &RawRecord,
-) -> Result<Vec<Change>, ActFault>
+) -> Result<Row, ActFault>
     requires lawful { IsZone zone.now.made }
+    requires at { zone.now.owner ≡ raw.now.owner }
     requires passed { prescan_of zone.now.made raw.now ≡ None }
-    ensures of { IfOk result (λ changes. AreOf zone.now.made raw.now changes.items) }
-    ensures at { IfOk result (λ changes. AllByRecursion (IsChangeAt raw.now.owner) changes.items) }
+    ensures row { IfOk result (IsRow zone.now.made raw.now) }
     ensures limit { IsErrOf result ActFault.Limit → effect zone.now.made raw.now ≡ None }
 {
     match raw.class {
-        Class::IN => changes_of_addition(alloc, zone, raw),
-        Class::ANY if raw.rtype == RType::ANY => changes_of_name(alloc, zone, raw).map_err(
-            |_| ActFault::NoMemory,
-        ),
-        Class::ANY => changes_of_set(alloc, zone, raw).map_err(|_| ActFault::NoMemory),
-        Class::NONE => changes_of_record(alloc, zone, raw).map_err(|_| ActFault::NoMemory),
-        _ => Ok(Vec::new(alloc)),
+        Class::IN => row_of_addition(alloc, zone, raw),
+        Class::ANY if raw.rtype == RType::ANY => {
+            let changes = changes_of_name(alloc, zone, raw)?;
+            Ok(Row::Changes(changes))
+        }
+        Class::ANY => Ok(row_of_set(zone, raw)),
+        Class::NONE => Ok(row_of_record(zone, raw)),
+        _ => Ok(Row::Nothing),
     }
 }
 

@@ -15,7 +15,7 @@ use crate::look::set_of_type;
 use crate::own::{count_of, sets_with};
 use crate::owners::Owners;
 use crate::zone::sets_at;
-use dns_name::{Name, SoughtName};
+use dns_name::{Name, SoughtName, StoredName};
 use dns_rdata::{RRset, RType};
 use shared_tree::NoMemory;
 use std::alloc::Global;
@@ -44,27 +44,47 @@ fn with_own(
     owners.with(alloc, OwnerKey::new(alloc, owner)?, own)
 }
 
+// The owners with these sets for an owner's, which leaves where there are none. Its name is moved into its key.
+fn with_kept(
+    alloc: Global,
+    owners: &Owners,
+    owner: StoredName,
+    own: Vec<RRset>,
+) -> Result<Owners, NoMemory>
+    ensures kept { 0 < length own.items → IfOk result (λ next. next.pairs ≡ pairs_with canonical_cmp owner own owners.now.pairs) }
+    ensures gone { length own.items ≡ 0 → IfOk result (λ next. next.pairs ≡ pairs_without canonical_cmp owner owners.now.pairs) }
+{
+    if own.is_empty() {
+        let (next, _) = owners.without(alloc, &owner)?;
+        return Ok(next);
+    }
+    let (next, _) = owners.with(alloc, OwnerKey::of(owner), own)?;
+    Ok(next)
+}
+
 // The owners with these sets for an owner's, which are all in order.
 fn with_sets(
     alloc: Global,
     owners: &Owners,
-    owner: &Name,
+    owner: StoredName,
     own: Vec<RRset>,
 ) -> Result<Owners, NoMemory>
     requires filed { AreFiled owners.now.pairs }
-    requires own { AreOwn owner.now own.items }
+    requires own { AreOwn owner own.items }
     ensures filed { IfOk result (λ next. AreFiled next.pairs) }
-    ensures records { IfOk result (λ next. records_under next.pairs ≡ with_owner owner.now (records_in own.items) (records_under owners.now.pairs)) }
+    ensures records { IfOk result (λ next. records_under next.pairs ≡ with_owner owner (records_in own.items) (records_under owners.now.pairs)) }
 {
-    let (next, _) = with_own(alloc, owners, owner, own)?;
+    // That it is in lower case is known of a stored name from here on.
+    let _octets = owner.octets();
+    let next = with_kept(alloc, owners, owner, own)?;
     Ok(next)
 }
 
-/// The owners with other sets for those of several owners, one after the other. No set is copied.
+/// The owners with other sets for those of several owners, one after the other. No set is copied, and no name.
 pub(crate) fn with_owned(
     alloc: Global,
     owners: Owners,
-    owned: Vec<(Name, Vec<RRset>)>,
+    owned: Vec<(StoredName, Vec<RRset>)>,
 ) -> Result<Owners, NoMemory>
     requires filed { AreFiled owners.pairs }
     requires each { AllByRecursion (λ own. AreOwn own.0 own.1.items) owned.items }
@@ -73,7 +93,7 @@ pub(crate) fn with_owned(
 {
     let mut owners = owners;
     for (owner, own) in owned {
-        owners = with_sets(alloc, &owners, &owner, own)?;
+        owners = with_sets(alloc, &owners, owner, own)?;
     }
     Ok(owners)
 }

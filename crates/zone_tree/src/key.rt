@@ -37,6 +37,13 @@ impl OwnerKey {
         Ok(OwnerKey { name })
     }
 
+    /// The key of an owner as it is kept, which is moved into it.
+    pub(crate) fn of(owner: StoredName) -> OwnerKey
+        ensures { result ≡ owner }
+    {
+        OwnerKey { name: owner }
+    }
+
     /// The key of an owner as a set keeps it. `AllocError` where a growth was refused.
     pub(crate) fn copied(alloc: Global, owner: &StoredName) -> Result<OwnerKey, AllocError>
         ensures { IfOk result (λ key. key ≡ owner.now) }
@@ -79,6 +86,18 @@ impl Seek<OwnerKey> for SoughtName {
 
     fn cmp_key(&self, other: &OwnerKey) -> Ordering {
         self.order(&other.name)
+    }
+
+    fn key_front(&self, base: &OwnerKey) -> u64 {
+        self.front(&base.name)
+    }
+}
+
+impl Seek<OwnerKey> for StoredName {
+    ghost key = { λ name. name };
+
+    fn cmp_key(&self, other: &OwnerKey) -> Ordering {
+        self.cmp(&other.name)
     }
 
     fn key_front(&self, base: &OwnerKey) -> u64 {

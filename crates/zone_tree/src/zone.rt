@@ -81,7 +81,8 @@ impl Zone {
 impl Zone {
     ghost use Rattle.std.specs.Prelude.{◌∷◌, ◌++◌, length};
     ghost use Rattle.dns_rdata.specs.Record.{owner_of, rtype_of};
-    ghost use Rattle.zone_tree.specs.Sets.{records_in, sets_in};
+    ghost use Rattle.zone_tree.specs.Zone.{rrsets_of};
+    ghost use Rattle.zone_tree.specs.Sets.{records_in, sets_in, AreWhole, IsRRset};
     ghost use Rattle.zone_tree.specs.From.{records_from};
 
     /// How many records it has.
@@ -89,6 +90,15 @@ impl Zone {
         ensures { result ≡ length self.now }
     {
         self.count
+    }
+
+    /// All sets of an owner, which is given as a zone keeps it, each in whole, by type number.
+    pub fn stored_sets(&self, owner: &StoredName) -> &[RRset]
+        ensures records { records_in result.now ≡ rrsets_of self.now owner.now }
+        ensures whole { AreWhole self.now result.now }
+        ensures each { AllByRecursion IsRRset result.now }
+    {
+        sets_of(&self.owners, owner)
     }
 
     /// All sets from that of an owner and a type on, each in whole, in canonical order (RFC 4034, 6.1); the zone needn't have
@@ -245,7 +255,7 @@ pub fn edit(alloc: Global, zone: &Zone, changes: &[Change]) -> Result<Zone, Zone
 pub fn edit_owners(
     alloc: Global,
     zone: &Zone,
-    owned: Vec<(Name, Vec<RRset>)>,
+    owned: Vec<(StoredName, Vec<RRset>)>,
     count: usize,
 ) -> Result<Zone, ZoneFault>
     requires each { AllByRecursion (λ own. AreOwn own.0 own.1.items) owned.items }

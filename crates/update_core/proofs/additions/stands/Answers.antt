@@ -9,14 +9,14 @@ use Rattle.update_core.proofs.additions.stands.Goals as goal
 pub has_record-requires : goal.has_record-requires
 has_record-requires c =
     let zone = c.args.zone.now.made in
-    let is = c.in-Some.ensures.set ∙ ap (λ (r : RawRecord). rrset_of zone r.owner r.rtype) c.raw.view_is in
+    let is = c.in-Some.ensures.set ∙ (λ i. rrset_of zone (c.requires.at i) (c.raw.view_is i).rtype) in
     let some : c.in-Some.own.now ≢ [] = λ e. true≢false (c.in-Some.ensures.none.1 (sym c.in-Some.ensures.set ∙ e)) in
     c.requires.rtype ∙ sym (own_rtype zone c.args.raw.now c.in-Some.own.now is some)
 
 pub returns-in-Some-clause-same : goal.returns-in-Some-clause-same
 returns-in-Some-clause-same c =
     let zone = c.args.zone.now.made in
-    let is = c.in-Some.ensures.set ∙ ap (λ (r : RawRecord). rrset_of zone r.owner r.rtype) c.raw.view_is in
+    let is = c.in-Some.ensures.set ∙ (λ i. rrset_of zone (c.requires.at i) (c.raw.view_is i).rtype) in
     let some : c.in-Some.own.now ≢ [] = λ e. true≢false (c.in-Some.ensures.none.1 (sym c.in-Some.ensures.set ∙ e)) in
     let rtype = ap (λ (r : RawRecord). r.rtype) c.raw.view_is in
     let whole = joined_is zone c.args.raw.now c.in-Some.own.now c.received.result.0 c.args.rdata.now.octets c.requires.lawful.rules.lawful is some (sym c.if-ne.true ∙ rw rtype at c.ne.ensures) (sym c.if-ne-2.true ∙ rw rtype at c.ne-then-ne.ensures)
@@ -26,7 +26,7 @@ returns-in-Some-clause-same c =
 pub returns-in-Some-clause-few : goal.returns-in-Some-clause-few
 returns-in-Some-clause-few c =
     let zone = c.args.zone.now.made in
-    let is = c.in-Some.ensures.set ∙ ap (λ (r : RawRecord). rrset_of zone r.owner r.rtype) c.raw.view_is in
+    let is = c.in-Some.ensures.set ∙ (λ i. rrset_of zone (c.requires.at i) (c.raw.view_is i).rtype) in
     let some : c.in-Some.own.now ≢ [] = λ e. true≢false (c.in-Some.ensures.none.1 (sym c.in-Some.ensures.set ∙ e)) in
     let rtype = ap (λ (r : RawRecord). r.rtype) c.raw.view_is in
     let whole = joined_is zone c.args.raw.now c.in-Some.own.now c.received.result.0 c.args.rdata.now.octets c.requires.lawful.rules.lawful is some (sym c.if-ne.true ∙ rw rtype at c.ne.ensures) (sym c.if-ne-2.true ∙ rw rtype at c.ne-then-ne.ensures)

@@ -9,10 +9,10 @@ use Rattle.update_core.proofs.deletions.changes_of_name.Goals as goal
 pub returns : goal.returns
 returns c =
     let zone = c.args.zone.now.made in
-    let sets = c.rrsets_at.result.now in
+    let sets = c.rrsets.result.now in
     record {
       of = if_ok c.removals.result
-          (λ changes is. name_of zone c.args.raw.now c.requires.lawful c.requires.class c.requires.rtype sets (c.rrsets_at.ensures.records ∙ ap (λ (r : RawRecord). rrsets_of zone r.owner) c.raw.view_is) c.rrsets_at.ensures.whole
+          (λ changes is. name_of zone c.args.raw.now c.requires.lawful c.requires.class c.requires.rtype sets (c.rrsets.ensures.records ∙ ap (rrsets_of zone) c.requires.at) c.rrsets.ensures.whole
           changes.items (is ∙ ap (λ (r : RawRecord). removals r.owner (filter (may_go zone r.owner) sets)) c.raw.view_is)) c.removals.ensures;
       at = if_ok c.removals.result (λ changes is. removals_at_owner c.args.raw.now c.raw.inside.owner (ap (λ (r : RawRecord). r.owner) c.raw.view_is) (filter (may_go zone c.raw.inside.owner) sets) changes.items is) c.removals.ensures;
     }

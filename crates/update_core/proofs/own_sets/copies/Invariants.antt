@@ -1,11 +1,6 @@
 use Rattle.std.proofs.Common.{◌≡◌, take}
-use Rattle.std.specs.List.{AllByRecursion}
-use Rattle.zone_tree.specs.Sets.{IsRRset}
 use Rattle.update_core.proofs.own_sets.copies.Given as goal
 
 -- the sets so far were copied
 abbrev pub invariant-loop-set : goal.invariant-loop-set
-invariant-loop-set l = record {
-  copy : l.own.items ≡ take l.set-index l.sets;
-  each : AllByRecursion IsRRset l.own.items;
-}
+invariant-loop-set l = l.own.items ≡ take l.set-index l.sets
