@@ -31,4 +31,5 @@ pub mod TypePlaces
 pub mod OverlayLemmas
 pub mod OverlayLooks
 pub mod OverlayEdits
+pub mod OneSets
 pub mod OneSetRows

@@ -68,11 +68,7 @@ pub(crate) enum Row {
 }
 
 /// What a record does to the sets of its owner.
-pub(crate) fn row_of(
-    alloc: Global,
-    zone: &Place<'_>,
-    raw: &RawRecord,
-) -> Result<Row, ActFault>
+pub(crate) fn row_of(alloc: Global, zone: &Place<'_>, raw: &RawRecord) -> Result<Row, ActFault>
     requires lawful { IsZone zone.now.made }
     requires at { zone.now.owner ≡ raw.now.owner }
     requires passed { prescan_of zone.now.made raw.now ≡ None }

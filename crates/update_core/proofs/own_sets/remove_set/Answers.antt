@@ -45,11 +45,11 @@ returns-clause-set c =
     let rises = rises_from_pairs (λ s u. is_lt (nat_cmp (rtype_of s) (rtype_of u)) ≡ true) own c.requires in
     let lacks : find (λ (s : List Record). rtype_of s == t) own ≡ None =
     elim c.else-at-len.branch [
-      else-at-len-via-then-at-len+else-eq w ↦
+      | else-at-len-via-then-at-len+else-eq w ↦
           let within : at < length own = search rules in
           let apart : (rtype_of w.index.result.now == t) ≡ false = search rules in
           find_there t own at w.index.result.now rises within point.0 point.1 w.index.ensures ∙ ap (λ b. cond b (Some w.index.result.now) None) apart
-    | else-at-len-via-else-at-len w ↦
+      | else-at-len-via-else-at-len w ↦
           let past : length own ≤ at = search rules in
           find_past t own at past point.0
     ] in
@@ -64,11 +64,11 @@ returns-clause-left c =
     let rises = rises_from_pairs (λ s u. is_lt (nat_cmp (rtype_of s) (rtype_of u)) ≡ true) own c.requires in
     let lacks : find (λ (s : List Record). rtype_of s == t) own ≡ None =
     elim c.else-at-len.branch [
-      else-at-len-via-then-at-len+else-eq w ↦
+      | else-at-len-via-then-at-len+else-eq w ↦
           let within : at < length own = search rules in
           let apart : (rtype_of w.index.result.now == t) ≡ false = search rules in
           find_there t own at w.index.result.now rises within point.0 point.1 w.index.ensures ∙ ap (λ b. cond b (Some w.index.result.now) None) apart
-    | else-at-len-via-else-at-len w ↦
+      | else-at-len-via-else-at-len w ↦
           let past : length own ≤ at = search rules in
           find_past t own at past point.0
     ] in

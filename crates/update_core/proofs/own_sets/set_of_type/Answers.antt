@@ -29,11 +29,11 @@ returns c =
     let point = c.count_lower-at.ensures.place in
     let rises = rises_from_pairs (λ s u. is_lt (nat_cmp (rtype_of s) (rtype_of u)) ≡ true) own c.requires in
     sym (elim c.else-at-sets.branch [
-      else-at-sets-via-then-at-sets+else-eq w ↦
+      | else-at-sets-via-then-at-sets+else-eq w ↦
           let within : at < length own = search rules in
           let apart : (rtype_of w.index-sets-at.result == t) ≡ false = search rules in
           find_there t own at w.index-sets-at.result rises within point.0 point.1 w.index-sets-at.is ∙ ap (λ b. cond b (Some w.index-sets-at.result) None) apart
-    | else-at-sets-via-else-at-sets w ↦
+      | else-at-sets-via-else-at-sets w ↦
           let past : length own ≤ at = search rules in
           find_past t own at past point.0
     ])
