@@ -1,7 +1,6 @@
 -- An update's records one after another, and whether they change a zone.
-use Rattle.std.proofs.Common.{◌≡◌, ◌≢◌, ℕ, zero, suc, ◌+◌, ◌<◌, ◌≤◌, Bool, true, false, not, ◌&&◌, ◌==◌, cond, if◌then◌else◌, List, [], ◌∷◌, length, drop, get_or, filter, All, Option, None, Some, refl, sym, ap, subst, ◌∙◌, arith, eq-eqb, true≢false}
+use Rattle.std.proofs.Common.{◌≡◌, ◌≢◌, ℕ, zero, suc, ◌+◌, ◌<◌, ◌≤◌, Bool, true, false, ◌&&◌, ◌==◌, cond, if◌then◌else◌, List, [], ◌∷◌, length, drop, get_or, filter, All, Option, None, Some, refl, sym, ap, subst, ◌∙◌, arith, eq-eqb, true≢false}
 use Rattle.std.specs.Prelude.{Contains}
-use Rattle.std.specs.List.{list_any}
 use Rattle.std.specs.Option.{IfSome, option_map, option_or, option_and_then}
 use Rattle.std.specs.Ordering.{is_eq}
 use Rattle.std.specs.declared.cmp.Ordering.{Ordering}
@@ -10,19 +9,16 @@ use Rattle.std.specs.Cmp.Lexicographic.{pointwise}
 use Rattle.std.proofs.lemmas.Bool.{eqb-true}
 use Rattle.std.proofs.lemmas.Cmp.{tied_itself}
 use Rattle.std.proofs.lemmas.List.Elements.{All-head, All-tail}
-use Rattle.dns_name.specs.Name.{is_same}
-use Rattle.dns_name.specs.Order.{is_same_equiv, is_same_Decides}
+use Rattle.dns_name.specs.Order.{is_same_Decides}
 use Rattle.dns_rdata.specs.declared.numbers.Rcode.{Rcode}
 use Rattle.dns_rdata.specs.Record.{Record, IsLawful, record_cmp}
 use Rattle.dns_rdata.specs.Raw.{RawRecord}
 use Rattle.dns_rdata.specs.SerialOrder.{serial_less, serial_next}
 use Rattle.dns_rdata.proofs.SerialLemmas.{less-same}
 use Rattle.dns_message.specs.declared.update.Update.{Update}
-use Rattle.zone_tree.specs.Zone.{IsZone, apex_of, stands_at, rrsets_of}
+use Rattle.zone_tree.specs.Zone.{IsZone, apex_of}
 use Rattle.zone_tree.specs.Change.{is_same_record}
 use Rattle.zone_tree.specs.Version.{zone_serial}
-use Rattle.zone_tree.proofs.LawLemmas.{same_zones}
-use Rattle.zone_tree.proofs.Rising.{place_from_any}
 use Rattle.zone_tree.proofs.SetLemmas.{record_total}
 use Rattle.update_core.specs.Verdict.{prescan, prescan_of}
 use Rattle.update_core.specs.Act.{effect, effects, act, completed, at_serial}
@@ -102,33 +98,9 @@ contains_kept q (z ∷ zs) s pass (suc k, l, e) = by (q z) (contains_kept q zs s
     by true more = (suc more.0, omega (arith, more.1), more.2)
     by false more = more
 
--- zones that are the same beside an update's owners, and at each of them
-module _ (zone after : List Record) (rs : List RawRecord) where
-  away : kept (is_beside rs) after ≡ kept (is_beside rs) zone → All (λ r. rrsets_of zone r.owner ≡ rrsets_of after r.owner) rs → (s : Record) → Contains zone s → Contains after s
-  away beside at s there = by (is_beside rs s.owner) refl
-    where
-      by : (b : Bool) → is_beside rs s.owner ≡ b → Contains after s
-      by true e = kept_contains (λ z. is_beside rs z.owner) after s (subst (λ zs. Contains zs s) (sym beside) (contains_kept (λ z. is_beside rs z.owner) zone s e there))
-      by false e =
-          let r = found rs e in
-          let own = contains_kept (stands_at (get_or rs r.0 r.1).owner) zone s (is_same_equiv.symm s.owner (get_or rs r.0 r.1).owner ∙ r.3) there in
-          kept_contains (stands_at (get_or rs r.0 r.1).owner) after s (subst (λ zs. Contains zs s) (at r.0 r.1 r.2) own)
-        where
-          so : (b : Bool) → not b ≡ false → b ≡ true
-          so true k = refl
-          so false k = cc
-
-          found : (qs : List RawRecord) → is_beside qs s.owner ≡ false → (k : ℕ) × (d : RawRecord) × (k < length qs) × (is_same (get_or qs k d).owner s.owner ≡ true)
-          found [] k = cc
-          found (q ∷ qs) k = let place = place_from_any (λ r. is_same r.owner s.owner) (q ∷ qs) q (so (list_any (λ r. is_same r.owner s.owner) (q ∷ qs)) k) in (place.0, q, place.1, place.2)
-
+-- what an update's records leave beside their owners
 pub beside_of : (zone after : List Record) (rs : List RawRecord) → effects zone rs ≡ Some after → kept (is_beside rs) after ≡ kept (is_beside rs) zone
 beside_of zone after rs does = subst (λ o. IfSome o (λ next. kept (is_beside rs) next ≡ kept (is_beside rs) zone)) does (effects_beside zone rs)
-
-pub unchanged : (zone after : List Record) (rs : List RawRecord) → IsZone zone → IsZone after → effects zone rs ≡ Some after → All (λ r. rrsets_of zone r.owner ≡ rrsets_of after r.owner) rs → zone ≡ after
-unchanged zone after rs is also does at =
-    let beside = beside_of zone after rs does in
-    same_zones zone after is also (λ s. (away zone after rs beside at s, away after zone rs (sym beside) (λ k d within. sym (at k d within)) s))
 
 -- a zone and what is completed of another
 same_itself : (zone : List Record) → pointwise is_same_record zone zone ≡ true

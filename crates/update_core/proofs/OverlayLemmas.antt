@@ -30,8 +30,9 @@ use Rattle.zone_tree.proofs.LawLemmas.{same_lists}
 use Rattle.zone_tree.proofs.PutLemmas.{put_length, put_between}
 use Rattle.zone_tree.proofs.OwnLemmas.{name_low, name_over, name_high}
 use Rattle.update_core.specs.Tagged.{tagged_cmp, same_at}
-use Rattle.update_core.specs.Overlay.{at_owner, own_at, own_of, made_of, AllOwn, IsLastOwn, IsChangeAt, changed_sets, edited_sets}
+use Rattle.update_core.specs.Overlay.{at_owner, own_at, own_of, made_of, all_of, AllOwn, IsLastOwn, IsChangeAt, changed_sets, edited_sets}
 use Rattle.update_core.proofs.AfterLemmas.{kept_contains, contains_kept}
+use Rattle.update_core.proofs.TaggedLemmas.{same_lookup}
 use Rattle.update_core.proofs.OwnSets.{passes, swapped, beside_folded, own_same, changed_own}
 
 -- a filter that is decided where another passes
@@ -289,6 +290,11 @@ updated key owner fold given others f apart q = by (is_eq (canonical_cmp q key))
 pub put_found : (last : Filed) (others after : List Filed) → ((name : Name) → own_at name after ≡ cond (is_at (canonical_cmp last.0) name) (Some last.1) (own_at name others)) → (name : Name) → own_at name after ≡ own_of name (Some last) others
 put_found last others after puts name = puts name ∙ ap (λ b. cond b (Some last.1) (own_at name others)) (sym (turned_eq name last.0))
 
+-- an owner that is taken out leaves the others as they were
+pub other_stays : (owner name : Name) (before after : List Filed) → lookup (is_at (tagged_cmp name)) after ≡ cond (is_at (tagged_cmp owner) name) None (lookup (is_at (tagged_cmp name)) before) → is_at (canonical_cmp owner) name ≡ false → own_at name after ≡ own_at name before
+other_stays owner name before after updates apart =
+    sym (same_lookup name after) ∙ updates ∙ ap (λ b. cond b None (lookup (is_at (tagged_cmp name)) before)) (same_at owner name ∙ apart) ∙ same_lookup name before
+
 -- where it is the one that is sought, its sets are that owner's, and the others are as they were
 pub last_own : (owner : Name) (last : Filed) → AreOwn last.0 last.1.items → is_same last.0 owner ≡ true → AreOwn owner last.1.items
 last_own owner last mine same =
@@ -297,6 +303,9 @@ last_own owner last mine same =
 
 pub last_found : (owner : Name) (last : Filed) (others : List Filed) → is_same last.0 owner ≡ true → own_of owner (Some last) others ≡ Some last.1
 last_found owner last others same = ap (λ b. cond b (Some last.1) (own_at owner others)) (turned_eq owner last.0 ∙ ap is_eq (tie_from_same last.0 owner same))
+
+pub last_missed : (owner : Name) (last : Filed) → is_same last.0 owner ≡ false → own_of owner (Some last) [] ≡ None
+last_missed owner last apart = ap (λ b. cond b (Some last.1) (own_at owner [])) (turned_eq owner last.0 ∙ sym (is_same_tied last.0 owner) ∙ apart)
 
 pub last_apart : (owner : Name) (last : Filed) (others : List Filed) → is_same last.0 owner ≡ true → (name : Name) → is_at (canonical_cmp owner) name ≡ false → own_at name others ≡ own_of name (Some last) others
 last_apart owner last others same name apart =
@@ -336,3 +345,16 @@ no_items (Some v) e = absurd (cc)
 pub all_own : (others : List Filed) (last : Filed) → AreOwn last.0 last.1.items → AllOwn others → AllOwn (others ++ last ∷ [])
 all_own [] last own h = (own, tt)
 all_own (first ∷ others) last own h = (h.0, all_own others last own h.1)
+
+pub all_of_own : (last : Option Filed) (others : List Filed) → IsLastOwn last → AllOwn others → AllOwn (all_of last others)
+all_of_own None others own each = each
+all_of_own (Some last) others own each = all_own others last own each
+
+-- and the zone with all of them is the one that was made
+pub all_made : (zone : List Record) (last : Option Filed) (others : List Filed) → with_owners zone (all_of last others) ≡ made_of zone last others
+all_made zone None others = refl
+all_made zone (Some last) others = behind zone others
+  where
+    behind : (zone : List Record) (others : List Filed) → with_owners zone (others ++ last ∷ []) ≡ with_owner last.0 (records_in last.1.items) (with_owners zone others)
+    behind zone [] = refl
+    behind zone (own ∷ others) = behind (with_owner own.0 (records_in own.1.items) zone) others

@@ -1,25 +1,30 @@
 -- What is found of the sets of an owner that was taken.
-use Rattle.std.proofs.Common.{◌≡◌, ℕ, Bool, true, false, ◌&&◌, ◌==◌, cond, ◌<◌, List, [], ◌∷◌, ◌++◌, filter, All, get_or, Option, None, Some, MatchOption, Bor, length, arith, refl, sym, ap, subst, ◌∙◌, true≢false}
-use Rattle.std.specs.Prelude.{◌↔◌}
+use Rattle.std.proofs.Common.{◌≡◌, ◌≢◌, ℕ, Bool, true, false, ◌&&◌, ◌==◌, cond, List, [], ◌∷◌, filter, get_or, Option, None, Some, MatchOption, MatchBool, refl, sym, ap, subst, ◌∙◌, true≢false}
 use Rattle.std.specs.Global.{Vec}
-use Rattle.std.specs.Option.{IsNone, IfSome, option_copied}
+use Rattle.std.specs.Option.{IfSome, option_map}
+use Rattle.std.specs.Map.{lookup}
+use Rattle.std.specs.BTreeMap.{is_at}
 use Rattle.std.specs.List.{AllByRecursion, find}
-use Rattle.std.proofs.lemmas.List.Elements.{All-from_recursion, recursion_from_All}
-use Rattle.dns_name.specs.Name.{Name, is_same, fold_name}
+use Rattle.std.proofs.lemmas.List.Elements.{All-from_recursion}
+use Rattle.std.specs.Ordering.{is_eq}
+use Rattle.std.specs.declared.cmp.Ordering.{Ordering}
+use Rattle.std.specs.declared.cmp.Ordering.TheVariants.{Less, Equal, Greater}
+use Rattle.dns_name.specs.Name.{Name, is_same, canonical_cmp, fold_name}
 use Rattle.dns_name.specs.Order.{is_same_equiv}
 use Rattle.dns_rdata.specs.Record.{Record, owner_of, rtype_of}
-use Rattle.zone_tree.specs.Zone.{stands_at, is_of, rrset_of, rrsets_of}
+use Rattle.zone_tree.specs.Zone.{IsBefore, stands_at, is_of, rrset_of, rrsets_of}
 use Rattle.zone_tree.specs.Sets.{records_in, IsRRset, AreWhole}
 use Rattle.zone_tree.specs.Filed.{Filed}
 use Rattle.zone_tree.specs.Edit.{AreOwn}
-use Rattle.update_core.specs.Overlay.{at_owner, own_of, made_of, IsOverlay}
-use Rattle.zone_tree.proofs.Rising.{each_weaker, filter_alike}
-use Rattle.zone_tree.proofs.LookLemmas.{rrset_found, rrset_clauses}
+use Rattle.update_core.specs.Tagged.{tagged_cmp}
+use Rattle.update_core.specs.Overlay.{at_owner, own_at, own_of, made_of, IsOverlay, Overlaid}
+use Rattle.zone_tree.proofs.Rising.{each_weaker, filter_alike, rises_from_pairs}
+use Rattle.zone_tree.proofs.LookLemmas.{rrset_found}
 use Rattle.zone_tree.proofs.ZoneLemmas.{sets_whole}
 use Rattle.update_core.proofs.BesideLemmas.{kept_inside}
-use Rattle.update_core.proofs.ListLemmas.{and_left}
-use Rattle.update_core.proofs.OwnSets.{own_same, passes}
-use Rattle.update_core.proofs.OverlayLemmas.{stands_now, found_now, copied_own}
+use Rattle.update_core.proofs.TaggedLemmas.{same_lookup}
+use Rattle.update_core.proofs.OwnSets.{own_same}
+use Rattle.update_core.proofs.OverlayLemmas.{stands_now, now_rises, same_by_owners, same_there, found_now, found_last, missed_last, some_items, no_items, copied_own}
 
 module _ (zone : List Record) (owner : Name) (own : List (List Record)) (mine : AreOwn owner own) (is : records_in own ≡ rrsets_of zone owner) where
   -- the records of a type at the owner, or at the owner spelt otherwise, are those of its sets
@@ -62,3 +67,65 @@ module _ (zone : List Record) (last : Option Filed) (others : List Filed) (count
 
   pub other_there : own_of owner last others ≡ None → (sets : List (List Record)) → AllByRecursion IsRRset sets → records_in sets ≡ rrsets_of zone owner → AreWhole zone sets → AreOwn owner sets × (records_in sets ≡ rrsets_of made owner)
   other_there e sets each is whole = (copied_own zone owner sets each is whole, is ∙ sym (made_at None e))
+
+  -- found with the owner that was changed last, beside it, or nowhere
+  pub last_there : (sets : List (List Record)) → option_map (λ (v : Vec (List Record)). v.items) (own_of owner last []) ≡ Some sets → AreOwn owner sets × (records_in sets ≡ rrsets_of made owner)
+  last_there sets e =
+      let found = some_items (own_of owner last []) sets e in
+      subst (λ (s : List (List Record)). AreOwn owner s × (records_in s ≡ rrsets_of made owner)) found.2 (taken_there found.0 (found_last owner last others found.0 found.1))
+
+  module _ (none : option_map (λ (v : Vec (List Record)). v.items) (own_of owner last []) ≡ None) where
+    found_beside : own_of owner last others ≡ lookup (is_at (tagged_cmp owner)) others
+    found_beside = missed_last owner last others (no_items (own_of owner last []) none) ∙ sym (same_lookup owner others)
+
+    pub beside_there : (own : Vec (List Record)) → lookup (is_at (tagged_cmp owner)) others ≡ Some own → AreOwn owner own.items × (records_in own.items ≡ rrsets_of made owner)
+    beside_there own e = taken_there own (found_beside ∙ e)
+
+    pub zone_there : lookup (is_at (tagged_cmp owner)) others ≡ None → (sets : List (List Record)) → AllByRecursion IsRRset sets → records_in sets ≡ rrsets_of zone owner → AreWhole zone sets
+        → AreOwn owner sets × (records_in sets ≡ rrsets_of made owner)
+    zone_there e sets each is whole = other_there (found_beside ∙ e) sets each is whole
+
+-- where the same stands at each owner that was taken, no other zone was made
+module _ (zone : List Record) (last : Option Filed) (others : List Filed) (count : ℕ) (h : IsOverlay zone last others count) where
+  abbrev now : List Record
+  now = made_of zone last others
+
+  found_same : (name : Name) (owned : List Filed) → AllByRecursion (λ own. rrsets_of now own.0 ≡ rrsets_of zone own.0) owned → (own_at name owned ≡ None → rrsets_of now name ≡ rrsets_of zone name) → rrsets_of now name ≡ rrsets_of zone name
+  found_same name [] same none = none refl
+  found_same name (first ∷ owned) same none = by (canonical_cmp name first.0) refl (found_same name owned same.1) none
+    where
+      by : (o : Ordering) → canonical_cmp name first.0 ≡ o → ((own_at name owned ≡ None → rrsets_of now name ≡ rrsets_of zone name) → rrsets_of now name ≡ rrsets_of zone name)
+          → (cond (is_eq o) (Some first.1) (own_at name owned) ≡ None → rrsets_of now name ≡ rrsets_of zone name) → rrsets_of now name ≡ rrsets_of zone name
+      by Less e more none = more none
+      by Equal e more none = sym (same_there now name first.0 e) ∙ same.0 ∙ same_there zone name first.0 e
+      by Greater e more none = more none
+
+  stands_as : (name : Name) → own_of name last others ≡ None → rrsets_of now name ≡ rrsets_of zone name
+  stands_as name none = stands_now name zone last others h.own h.each h.ordered ∙ ap (at_owner (rrsets_of zone name)) none
+
+  pub unmade : IfSome last (λ own. rrsets_of now own.0 ≡ rrsets_of zone own.0) → AllByRecursion (λ own. rrsets_of now own.0 ≡ rrsets_of zone own.0) others → now ≡ zone
+  unmade mine each =
+      let rising = rises_from_pairs IsBefore zone h.base.rules.ascending in
+      same_by_owners now zone (now_rises zone last others h.own h.each rising) rising (λ name. by name last mine (stands_as name))
+    where
+      by : (name : Name) (own : Option Filed) → IfSome own (λ own. rrsets_of now own.0 ≡ rrsets_of zone own.0) → (own_of name own others ≡ None → rrsets_of now name ≡ rrsets_of zone name) → rrsets_of now name ≡ rrsets_of zone name
+      by name None mine none = found_same name others each none
+      by name (Some own) mine none = found_same name (own ∷ others) (mine, each) none
+
+abbrev the_overlaid : List Record → Option Filed → List Filed → Overlaid
+the_overlaid zone last others = record { base = zone; made = made_of zone last others }
+
+-- so what was compared tells whether another one was
+abbrev pub StaysAt : Overlaid → Name → Type 0
+StaysAt v name = rrsets_of v.made name ≡ rrsets_of v.base name
+
+pub apart_at : (v : Overlaid) (name : Name) → (StaysAt v name → ⊥) → v.made ≢ v.base
+apart_at v name apart e = apart (ap (λ (z : List Record). rrsets_of z name) e)
+
+module _ (zone : List Record) (last : Option Filed) (others : List Filed) (count : ℕ) (h : IsOverlay zone last others count) (v : Overlaid) (is : the_overlaid zone last others ≡ v) where
+  pub told : IfSome last (λ own. StaysAt v own.0) → (b : Bool) → MatchBool b (v.made ≢ v.base) (AllByRecursion (λ own. StaysAt v own.0) others) → MatchBool b (v.made ≢ v.base) (v.made ≡ v.base)
+  told mine true differs = differs
+  told mine false same =
+      ap (λ (v : Overlaid). v.made) (sym is)
+      ∙ unmade zone last others count h (subst (λ (v : Overlaid). IfSome last (λ own. StaysAt v own.0)) (sym is) mine) (subst (λ (v : Overlaid). AllByRecursion (λ own. StaysAt v own.0) others) (sym is) same)
+      ∙ ap (λ (v : Overlaid). v.base) is

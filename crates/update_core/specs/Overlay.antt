@@ -1,5 +1,5 @@
 -- A zone, and in place of some owners' sets what the records of an update that were taken so far made of them (own).
-use Rattle.std.specs.Prelude.{Option, None, Some, Result, Ok, Err, ◌≡◌, ◌⊎◌, ℕ, ◌<◌, ◌≤◌, Bool, true, false, not, ◌==◌, if◌then◌else◌, List, [], ◌∷◌, length, filter}
+use Rattle.std.specs.Prelude.{Option, None, Some, Result, Ok, Err, ◌≡◌, ◌⊎◌, ℕ, ◌<◌, ◌≤◌, Bool, true, false, not, ◌==◌, if◌then◌else◌, List, [], ◌∷◌, ◌++◌, length, filter}
 use Rattle.std.specs.Global.{Vec}
 use Rattle.std.specs.List.{find, AllByRecursion}
 use Rattle.std.specs.List.Sorted.{IsStrictlySortedBy}
@@ -42,6 +42,11 @@ own_of name (Some last) others = if is_eq (canonical_cmp name last.0) then Some 
 abbrev pub made_of : List Record → Option Filed → List Filed → List Record
 made_of zone None others = with_owners zone others
 made_of zone (Some last) others = with_owner last.0 (records_in last.1.items) (with_owners zone others)
+
+-- all owners that were taken, with their sets: the one that was changed last behind the others
+abbrev pub all_of : Option Filed → List Filed → List Filed
+all_of None others = others
+all_of (Some last) others = others ++ last ∷ []
 
 abbrev pub AllOwn : List Filed → Type 0
 AllOwn owned = AllByRecursion (λ own. AreOwn own.0 own.1.items) owned

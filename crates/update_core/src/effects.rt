@@ -1,7 +1,7 @@
 //! The effects of an update's records, one after another (RFC 2136, 3.4.2).
-ghost use Rattle.std.specs.Prelude.{◌≡◌, ◌≢◌, ◌<◌, All, unwrap_or, None, Some, IfOk, MatchBool};
+ghost use Rattle.std.specs.Prelude.{◌≡◌, ◌≢◌, ◌<◌, All, unwrap_or, None, Some, IfOk, IfSome};
 ghost use Rattle.std.specs.Result.{IsErrOf};
-ghost use Rattle.zone_tree.specs.Zone.{IsZone, apex_of, rrsets_of};
+ghost use Rattle.zone_tree.specs.Zone.{IsZone, apex_of};
 ghost use Rattle.update_core.specs.Verdict.{prescan, prescan_of};
 ghost use Rattle.update_core.specs.Act.{effect, effects, IsSent};
 
@@ -9,13 +9,13 @@ use crate::overlay::Overlay;
 use crate::place::Place;
 use crate::rows::{ActFault, Row, row_of};
 use crate::tagged::TaggedName;
-use dns_name::{Name, StoredName};
-use dns_rdata::{RRset, RawRecord};
+use dns_name::StoredName;
+use dns_rdata::RawRecord;
 use std::alloc::Global;
-use zone_tree::{Zone, ZoneRead};
+use zone_tree::Zone;
 
-/// The zone that an update's records make of a zone, one after another; None where it is that zone itself. `Limit` where
-/// one of them passes a limit (RFC 2136, 3.4.2; own).
+/// The zone that an update's records make of a zone, one after another, which is another one; None where it is that zone itself.
+/// `Limit` where one of them passes a limit (RFC 2136, 3.4.2; own).
 pub(crate) fn after_all(
     alloc: Global,
     zone: &Zone,
@@ -23,13 +23,18 @@ pub(crate) fn after_all(
 ) -> Result<Option<Zone>, ActFault>
     requires passed { prescan zone.now raws.now ≡ None }
     ensures after { IfOk result (λ after. effects zone.now raws.now ≡ Some (unwrap_or after zone.now)) }
+    ensures changed { IfOk result (λ after. IfSome after (λ next. IsZone zone.now × IsZone next × (zone.now ≢ next))) }
     ensures limit { IsErrOf result ActFault.Limit → effects zone.now raws.now ≡ None }
 {
     let mut overlay = Overlay::new(alloc, zone);
     for raw in raws {
         overlay = after_one(alloc, overlay, raw)?;
     }
-    overlay.into_zone(alloc)
+    if !overlay.is_changed() {
+        return Ok(None);
+    }
+    let after = overlay.into_zone(alloc)?;
+    Ok(Some(after))
 }
 
 /// What a record makes of what was made of a zone so far.
@@ -68,43 +73,4 @@ fn check_octets(octets: &[u8])
     ensures { All (λ octet. octet < 256) octets.now }
 {
     let _len = octets.len();
-}
-
-/// Whether an update's records made another zone of a zone: what stands at their owners is compared, and nothing else can
-/// have changed.
-pub(crate) fn is_changed(zone: &Zone, after: &Zone, raws: &[RawRecord]) -> bool
-    requires { effects zone.now raws.now ≡ Some after.now }
-    ensures changed { MatchBool result (zone.now ≢ after.now) (zone.now ≡ after.now) }
-    ensures lawful { IsZone zone.now × IsZone after.now }
-{
-    let _own = zone.soa();
-    let _other = after.soa();
-    for raw in raws {
-        if differs_at(zone, after, &raw.owner) {
-            return true;
-        }
-    }
-    false
-}
-
-/// Whether other records stand at a name.
-fn differs_at(zone: &Zone, after: &Zone, owner: &Name) -> bool
-    ensures { MatchBool result (rrsets_of zone.now owner.now ≢ rrsets_of after.now owner.now) (rrsets_of zone.now owner.now ≡ rrsets_of after.now owner.now) }
-{
-    !are_same(zone.rrsets_at(owner), after.rrsets_at(owner))
-}
-
-/// Whether sets are the same, one by one.
-fn are_same(own: &[RRset], other: &[RRset]) -> bool
-    ensures { MatchBool result (own.now ≡ other.now) (own.now ≢ other.now) }
-{
-    if own.len() != other.len() {
-        return false;
-    }
-    for (at, set) in own.iter().enumerate() {
-        if !set.is_same(&other[at]) {
-            return false;
-        }
-    }
-    true
 }

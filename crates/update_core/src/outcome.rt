@@ -9,7 +9,7 @@ ghost use Rattle.update_core.specs.Verdict.{prescan, verdict};
 ghost use Rattle.update_core.specs.Act.{effects, act, at_serial};
 ghost use Rattle.update_core.specs.Applied.{IsTold, code_told, next_of, outcome_of};
 
-use crate::effects::{after_all, is_changed};
+use crate::effects::after_all;
 use crate::judgement::verdict;
 use crate::rows::{ActFault, one_change};
 use dns_message::Update;
@@ -103,9 +103,6 @@ fn made_by(alloc: Global, zone: &Zone, update: &Update) -> Result<Option<Made>, 
     let Some(after) = after_all(alloc, zone, raws)? else {
         return Ok(None);
     };
-    if !is_changed(zone, &after, raws) {
-        return Ok(None);
-    }
     let made = with_delta(alloc, zone, after, raws)?;
     Ok(Some(made))
 }

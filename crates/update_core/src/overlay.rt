@@ -1,17 +1,17 @@
 //! A zone, and in place of some owners' sets what the records of an update that were taken so far made of them (RFC 2136,
 //! 3.4.2). An owner's sets are copied once, when a record changes them first, and put into the zone's tree once, at the end.
-ghost use Rattle.std.specs.Prelude.{◌≡◌, ◌≤◌, ◌==◌, IfOk, OnOk, unwrap_or, Some, None, [], ◌∷◌, ◌++◌, false, if◌then◌else◌};
+ghost use Rattle.std.specs.Prelude.{◌≡◌, ◌≢◌, IfOk, OnOk, MatchBool, Some, None, [], false, if◌then◌else◌};
 ghost use Rattle.std.specs.List.{flat_map, AllByRecursion};
 ghost use Rattle.std.specs.List.Sorted.{IsStrictlySortedBy};
 ghost use Rattle.std.specs.Option.{option_copied, option_map};
-ghost use Rattle.std.specs.BTreeMap.{is_at, insert_entry};
-ghost use Rattle.std.specs.Map.{keys_of, remove_entry};
+ghost use Rattle.std.specs.BTreeMap.{is_at};
+ghost use Rattle.std.specs.Map.{keys_of};
 ghost use Rattle.dns_name.specs.Name.{Name, canonical_cmp, is_same, fold_name};
 ghost use Rattle.zone_tree.specs.Zone.{IsZone, rrsets_of};
 ghost use Rattle.zone_tree.specs.Sets.{records_in};
 ghost use Rattle.zone_tree.specs.Edit.{AreOwn};
 ghost use Rattle.update_core.specs.Tagged.{tagged_cmp};
-ghost use Rattle.update_core.specs.Overlay.{AllOwn, IsLastOwn, at_owner, own_at, own_of};
+ghost use Rattle.update_core.specs.Overlay.{AllOwn, IsLastOwn, all_of, at_owner, own_at, own_of};
 
 use crate::one_set::change_set;
 use crate::own_sets::{change_all, copies, count_records, count_with};
@@ -172,9 +172,42 @@ impl<'a> Overlay<'a> {
         })
     }
 
-    /// The zone that was made; None where no owner was taken, so that it is the zone itself.
-    pub(crate) fn into_zone(self, alloc: Global) -> Result<Option<Zone>, ActFault>
-        ensures made { IfOk result (λ made. unwrap_or made self.entry.base ≡ self.entry.made) }
+    /// Whether another zone was made: what stands at each owner that was taken is compared, and nothing else can have changed.
+    pub(crate) fn is_changed(&self) -> bool
+        ensures changed { MatchBool result (self.now.made ≢ self.now.base) (self.now.made ≡ self.now.base) }
+        ensures lawful { IsZone self.now.base × IsZone self.now.made }
+    {
+        let Some(last) = &self.last else {
+            return self.differs_at_any(&self.others);
+        };
+        if self.differs_at(&last.0) {
+            return true;
+        }
+        self.differs_at_any(&self.others)
+    }
+
+    /// Whether other records stand at one of some owners than in the zone.
+    fn differs_at_any(&self, owners: &Owned) -> bool
+        ensures { MatchBool result (self.now.made ≢ self.now.base) (AllByRecursion (λ own. rrsets_of self.now.made own.0 ≡ rrsets_of self.now.base own.0) owners.now.entries) }
+    {
+        for (owner, _) in owners {
+            if self.differs_at(owner) {
+                return true;
+            }
+        }
+        false
+    }
+
+    /// Whether other records stand at an owner than in the zone.
+    fn differs_at(&self, owner: &TaggedName) -> bool
+        ensures { MatchBool result (rrsets_of self.now.made owner.now ≢ rrsets_of self.now.base owner.now) (rrsets_of self.now.made owner.now ≡ rrsets_of self.now.base owner.now) }
+    {
+        !are_same(self.sets_at(owner), self.zone.stored_sets(owner.name()))
+    }
+
+    /// The zone that was made.
+    pub(crate) fn into_zone(self, alloc: Global) -> Result<Zone, ActFault>
+        ensures made { IfOk result (λ made. made ≡ self.entry.made) }
         ensures no_limit { IsErrOf result ActFault.Limit → ⊥ }
     {
         let Overlay {
@@ -183,29 +216,42 @@ impl<'a> Overlay<'a> {
             last,
             count,
         } = self;
-        let Some(last) = last else {
-            return Ok(None);
-        };
         let owned = owned_in(alloc, others, last)?;
         let made = edit_owners(alloc, zone, owned, count)?;
-        Ok(Some(made))
+        Ok(made)
     }
+}
+
+/// Whether sets are the same, one by one.
+fn are_same(own: &[RRset], other: &[RRset]) -> bool
+    ensures { MatchBool result (own.now ≡ other.now) (own.now ≢ other.now) }
+{
+    if own.len() != other.len() {
+        return false;
+    }
+    for (at, set) in own.iter().enumerate() {
+        if !set.is_same(&other[at]) {
+            return false;
+        }
+    }
+    true
 }
 
 /// All owners that were taken, the one that was changed last behind the others.
 fn owned_in(
     alloc: Global,
     others: Owned,
-    last: Own,
+    last: Option<Own>,
 ) -> Result<Vec<(StoredName, Vec<RRset>)>, AllocError>
-    ensures { IfOk result (λ owned. owned.items ≡ others.entries ++ last ∷ []) }
+    ensures { IfOk result (λ owned. owned.items ≡ all_of last others.entries) }
 {
     let mut owned = Vec::with_capacity(alloc, others.len() + 1)?;
     for (owner, own) in others {
         owned.push((owner.into_name(), own))?;
     }
-    let (owner, own) = last;
-    owned.push((owner.into_name(), own))?;
+    if let Some(last) = last {
+        owned.push((last.0.into_name(), last.1))?;
+    }
     Ok(owned)
 }
 
@@ -213,10 +259,13 @@ fn owned_in(
 fn last_sets<'a>(last: &'a Option<Own>, owner: &TaggedName) -> Option<&'a [RRset]>
     ensures { option_copied result ≡ option_map (λ own. own.items) (own_of owner.now last.now []) }
 {
-    match last {
-        Some(own) if own.0 == *owner => Some(own.1.as_slice()),
-        _ => None,
+    let Some(own) = last else {
+        return None;
+    };
+    if own.0 == *owner {
+        return Some(own.1.as_slice());
     }
+    None
 }
 
 /// Takes an owner's sets: those of the owner that was changed last, where it is this one; else that one is put beside the others, and
@@ -237,12 +286,13 @@ fn taken(
     ensures ordered { OnOk result (IsStrictlySortedBy tagged_cmp (keys_of others.new.entries)) }
     ensures others { OnOk result ((name : Name) → is_at (canonical_cmp owner.now) name ≡ false → own_at name others.new.entries ≡ own_of name last others.old.entries) }
 {
-    if let Some((name, own)) = last {
-        if name == *owner {
-            return Ok(own);
-        }
-        put_aside(others, name, own)?;
+    let Some((name, own)) = last else {
+        return take(alloc, zone, others, owner);
+    };
+    if name == *owner {
+        return Ok(own);
     }
+    put_aside(others, name, own)?;
     take(alloc, zone, others, owner)
 }
 
@@ -256,9 +306,9 @@ fn take(
     requires { AllOwn others.old.entries }
     ensures own { IfOk result (λ own. AreOwn owner.now own.items) }
     ensures records { IfOk result (λ own. records_in own.items ≡ at_owner (rrsets_of zone.now owner.now) (own_at owner.now others.old.entries)) }
-    ensures entries { OnOk result (others.new.entries ≡ remove_entry (is_at (tagged_cmp owner.now)) others.old.entries) }
-    ensures ordered { OnOk result (IsStrictlySortedBy tagged_cmp (keys_of others.new.entries)) }
-    ensures others { OnOk result ((name : Name) → own_at name others.new.entries ≡ (if is_at (canonical_cmp owner.now) name then None else own_at name others.old.entries)) }
+    ensures each { AllOwn others.new.entries }
+    ensures ordered { IsStrictlySortedBy tagged_cmp (keys_of others.new.entries) }
+    ensures others { (name : Name) → is_at (canonical_cmp owner.now) name ≡ false → own_at name others.new.entries ≡ own_at name others.old.entries }
 {
     match others.remove(owner) {
         Some(own) => Ok(own),
@@ -268,7 +318,9 @@ fn take(
 
 /// Puts an owner's sets beside those of others.
 fn put_aside(others: &mut Owned, owner: TaggedName, own: Vec<RRset>) -> Result<(), AllocError>
-    ensures entries { OnOk result (others.new.entries ≡ insert_entry tagged_cmp others.old.entries owner own) }
+    requires own { AreOwn owner own.items }
+    requires each { AllOwn others.old.entries }
+    ensures each { OnOk result (AllOwn others.new.entries) }
     ensures ordered { OnOk result (IsStrictlySortedBy tagged_cmp (keys_of others.new.entries)) }
     ensures others { OnOk result ((name : Name) → own_at name others.new.entries ≡ (if is_at (canonical_cmp owner) name then Some own else own_at name others.old.entries)) }
 {

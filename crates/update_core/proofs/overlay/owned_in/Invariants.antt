@@ -1,6 +1,6 @@
-use Rattle.std.proofs.Common.{◌≡◌}
+use Rattle.std.proofs.Common.{◌≡◌, ◌++◌}
 use Rattle.update_core.proofs.overlay.owned_in.Given as goal
 
 -- the owners so far, with their sets
 abbrev pub invariant-loop-owner : goal.invariant-loop-owner
-invariant-loop-owner l = l.owned.items ≡ l.yielded
+invariant-loop-owner l = l.owned.items ++ l.owner-iterator ≡ l.fn.others.entries

@@ -1,8 +1,12 @@
-use Rattle.std.proofs.Common.{◌≡◌, Bool, Some, cond, sym, ap, ◌∙◌}
+use Rattle.std.proofs.Common.{◌≡◌, Bool, Some, cond, sym, ap, subst, ◌∙◌}
 use Rattle.update_core.specs.Tagged.{same_at}
-use Rattle.update_core.specs.Overlay.{own_at}
+use Rattle.update_core.specs.Overlay.{own_at, AllOwn}
+use Rattle.update_core.proofs.OverlayLemmas.{each_inserted}
 use Rattle.update_core.proofs.TaggedLemmas.{same_lookup}
 use Rattle.update_core.proofs.overlay.put_aside.Goals as goal
+
+pub returns-clause-each : goal.returns-clause-each
+returns-clause-each c = subst AllOwn (sym c.in_ok-insert.ensures.entries) (each_inserted c.args.owner c.args.own c.args.others.now.entries c.requires.own c.requires.each)
 
 pub returns-clause-others : goal.returns-clause-others
 returns-clause-others c = λ name.

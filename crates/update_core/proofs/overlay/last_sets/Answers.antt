@@ -1,7 +1,0 @@
-use Rattle.update_core.proofs.overlay.last_sets.Goals as goal
-
-pub returns-in-Some : goal.returns-in-Some
-returns-in-Some c = ?
-
-pub returns-in_default : goal.returns-in_default
-returns-in_default c = ?
