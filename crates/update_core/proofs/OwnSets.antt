@@ -60,7 +60,7 @@ types_kept p sets h =
     pairs_from_rises Lower (filter p sets) (Rises-filter p Lower sets (rises_from_pairs Lower sets h))
 
 -- how types stand beside each other
-types_tie : (t u : ℕ) → is_eq (nat_cmp t u) ≡ (t == u)
+pub types_tie : (t u : ℕ) → is_eq (nat_cmp t u) ≡ (t == u)
 types_tie t u =
     both_ways (is_eq (nat_cmp t u)) (t == u)
     (λ e. eqb_from_tie t u ((Equal-is (nat_cmp t u)).0 e))
@@ -240,3 +240,7 @@ put_over own kept set is =
 
 pub filtered_twice : (p : List Record → Bool) (xs : List (List Record)) → filter p (filter p xs) ≡ filter p xs
 filtered_twice p xs = filter_alike p true (filter p xs) (passes p xs)
+
+-- a set of its type was taken out before
+pub kept_by : (own kept : List (List Record)) (set : List Record) (t : ℕ) → t ≡ rtype_of set → kept ≡ filter (λ s. not (rtype_of s == t)) own → kept ≡ filter (λ s. not (rtype_of s == rtype_of set)) own
+kept_by own kept set t typed is = is ∙ (λ i. filter (λ (s : List Record). not (rtype_of s == typed i)) own)

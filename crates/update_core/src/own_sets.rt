@@ -57,12 +57,12 @@ pub(crate) fn remove_set(own: &mut Vec<RRset>, rtype: RType) -> Option<RRset>
     None
 }
 
-/// Puts a set into its place among those of other types.
+/// Puts a set into its place; one of its type goes.
 pub(crate) fn put_set(own: &mut Vec<RRset>, set: RRset) -> Result<(), AllocError>
-    requires ascend { DoTypesAscend own.old.items }
-    requires absent { filter (λ s. not (rtype_of s == rtype_of set)) own.old.items ≡ own.old.items }
+    requires { DoTypesAscend own.old.items }
     ensures { OnOk result (own.new.items ≡ put_at (λ s. nat_cmp (rtype_of s) (rtype_of set)) (set ∷ []) own.old.items) }
 {
+    let _ = remove_set(own, set.rtype());
     let place = count_lower(own, set.rtype());
     own.insert(place, set)?;
     Ok(())
@@ -74,10 +74,7 @@ fn change_sets(own: &mut Vec<RRset>, change: Change) -> Result<(), AllocError>
     ensures { OnOk result (own.new.items ≡ changed_sets own.old.items change) }
 {
     match change {
-        Change::Put(set) => {
-            let _ = remove_set(own, set.rtype());
-            put_set(own, set)
-        }
+        Change::Put(set) => put_set(own, set),
         Change::Remove(_, rtype) => {
             let _ = remove_set(own, rtype);
             Ok(())
