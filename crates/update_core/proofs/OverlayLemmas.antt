@@ -358,3 +358,8 @@ all_made zone (Some last) others = behind zone others
     behind : (zone : List Record) (others : List Filed) → with_owners zone (others ++ last ∷ []) ≡ with_owner last.0 (records_in last.1.items) (with_owners zone others)
     behind zone [] = refl
     behind zone (own ∷ others) = behind (with_owner own.0 (records_in own.1.items) zone) others
+
+-- what holds anyhow holds where a call gives a value
+pub on_ok : {T E P : Type 0} (r : Result T E) → P → OnOk r P
+on_ok (Ok x) h = h
+on_ok (Err e) h = tt

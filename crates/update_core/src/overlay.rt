@@ -249,9 +249,10 @@ fn owned_in(
     for (owner, own) in others {
         owned.push((owner.into_name(), own))?;
     }
-    if let Some(last) = last {
-        owned.push((last.0.into_name(), last.1))?;
-    }
+    let Some(last) = last else {
+        return Ok(owned);
+    };
+    owned.push((last.0.into_name(), last.1))?;
     Ok(owned)
 }
 

@@ -1,5 +1,5 @@
 use Rattle.std.proofs.Common.{◌≡◌, take}
-use Rattle.update_core.proofs.effects.are_same.Given as goal
+use Rattle.update_core.proofs.overlay.are_same.Given as goal
 
 -- the sets so far are the same
 abbrev pub invariant-loop-at : goal.invariant-loop-at
