@@ -363,3 +363,7 @@ all_made zone (Some last) others = behind zone others
 pub on_ok : {T E P : Type 0} (r : Result T E) → P → OnOk r P
 on_ok (Ok x) h = h
 on_ok (Err e) h = tt
+
+-- where none are left, those so far are all
+pub all_so_far : (owned rest others : List Filed) → owned ++ rest ≡ others → rest ≡ [] → owned ≡ others
+all_so_far owned rest others all none = sym (append-nil owned) ∙ ap (λ (l : List Filed). owned ++ l) (sym none) ∙ all
