@@ -1,7 +1,6 @@
 -- Owners with their sets, where one owner's are replaced.
 use Rattle.std.proofs.Common.{◌≡◌, refl, sym, ap, ◌∙◌, subst, ℕ, ◌+◌, ◌<◌, true, ◌&&◌, List, [], ◌∷◌, ◌++◌, length, ◌≤◌, arith, append-nil, ⊎_elim, Option, Some, None}
 use Rattle.std.specs.Prelude.{◌==◌, not, Result, Ok, Err, IfOk}
-use Rattle.std.specs.Global.{Vec}
 use Rattle.std.specs.declared.cmp.Ordering.{Ordering}
 use Rattle.std.specs.declared.cmp.Ordering.TheVariants.{Less, Equal, Greater}
 use Rattle.std.specs.List.{filter, find, All, AllByRecursion}
@@ -18,7 +17,7 @@ use Rattle.shared_tree.specs.Pairs.{IsAscending, value_at, pairs_below, pairs_ab
 use Rattle.shared_tree.proofs.PairLemmas.{each_passes, less_here, equal_here, greater_here, with_ascends, filter_ascends}
 use Rattle.zone_tree.specs.Zone.{rrset_of}
 use Rattle.zone_tree.specs.Sets.{records_in, set_cmp, IsSetBefore, IsRRset, AreAscending}
-use Rattle.zone_tree.specs.Filed.{Filed, sets_under, records_under, IsFiled, AreFiled, items_of}
+use Rattle.zone_tree.specs.Filed.{Own, Filed, sets_under, records_under, IsFiled, AreFiled, items_of}
 use Rattle.zone_tree.specs.Change.{with_rrset, without_rrset}
 use Rattle.zone_tree.specs.Edit.{put_at, set_beside, IsFor, IsDraft}
 use Rattle.zone_tree.proofs.NameOrder.{canonical_total, folds_from_same, tie_from_same}
@@ -50,7 +49,7 @@ module _ (key : List (List ℕ)) (beside : List Record → Ordering) (others : L
       each_append (λ s. beside s ≡ Greater) pair.1.items (sets_under pairs) (greater pair h.0 k.0) (all_greater pairs h.1 k.1)
 
   -- what comes of the sets where the key's are replaced
-  pub under_with : (pairs : List Filed) → AllByRecursion IsFiled pairs → IsAscending canonical_cmp pairs → (own : Vec (List Record)) → own.items ≡ put (items_of (value_at canonical_cmp key pairs)) → sets_under (pairs_with canonical_cmp key own pairs) ≡ put (sets_under pairs)
+  pub under_with : (pairs : List Filed) → AllByRecursion IsFiled pairs → IsAscending canonical_cmp pairs → (own : Own) → own.items ≡ put (items_of (value_at canonical_cmp key pairs)) → sets_under (pairs_with canonical_cmp key own pairs) ≡ put (sets_under pairs)
   under_with [] h a own e = append-nil own.items ∙ e
   under_with (pair ∷ pairs) h a own e = by (canonical_cmp key pair.0) refl (under_with pairs h.1 a.1 own)
     where
@@ -171,7 +170,7 @@ module _ (owner : List (List ℕ)) (rtype : ℕ) (others : List (List Record)) w
 
     module _ (lawful : AllByRecursion IsRRset others) (own_type : AllByRecursion (IsFor owner rtype) others) (one : Rises IsSetBefore others) where
       -- the owners are in order again, with these sets
-      module _ (own : Vec (List Record)) (is : own.items ≡ put_at (λ s. nat_cmp (rtype_of s) rtype) others (items_of (value_at canonical_cmp owner pairs))) where
+      module _ (own : Own) (is : own.items ≡ put_at (λ s. nat_cmp (rtype_of s) rtype) others (items_of (value_at canonical_cmp owner pairs))) where
         pub sets_with : sets_under (pairs_with canonical_cmp key own pairs) ≡ put_there (sets_under pairs)
         sets_with = under_with key (set_beside owner rtype) others own_less own_greater pairs filed.each filed.ascends own (is ∙ by_type)
 
@@ -241,7 +240,7 @@ module _ (owner : List (List ℕ)) (rtype : ℕ) (pairs : List Filed) (count : �
       omega (arith, whole, ap length old_is, draft.counted)
 
   module _ (new : Option (List Record)) (lawful : IfSome new IsRRset) (fits : IfSome new (IsFor owner rtype))
-      (own : Vec (List Record)) (is : own.items ≡ put_at (λ s. nat_cmp (rtype_of s) rtype) (option_to_list new) (items_of (value_at canonical_cmp owner pairs)))
+      (own : Own) (is : own.items ≡ put_at (λ s. nat_cmp (rtype_of s) rtype) (option_to_list new) (items_of (value_at canonical_cmp owner pairs)))
       (next : List Filed) (kept : 0 < length own.items → next ≡ pairs_with canonical_cmp (fold_name owner) own pairs) (gone : length own.items ≡ 0 → next ≡ pairs_without canonical_cmp (fold_name owner) pairs) where
     abbrev others : List (List Record)
     others = option_to_list new

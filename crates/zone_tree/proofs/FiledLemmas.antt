@@ -1,6 +1,5 @@
 -- What stands at a name, behind it and below it, by the owners of the sets.
 use Rattle.std.proofs.Common.{◌≡◌, refl, sym, ap, ◌∙◌, subst, ℕ, ◌<◌, Bool, true, false, ◌||◌, cond, List, [], ◌∷◌, ◌++◌, length, arith, append-nil, true≢false, Option, Some, None, Bor}
-use Rattle.std.specs.Global.{Vec}
 use Rattle.std.specs.declared.cmp.Ordering.{Ordering}
 use Rattle.std.specs.declared.cmp.Ordering.TheVariants.{Less, Equal, Greater}
 use Rattle.std.specs.List.{filter, find, list_any, AllByRecursion}
@@ -18,7 +17,7 @@ use Rattle.shared_tree.specs.Pairs.{IsAscending, value_at, pair_at, pair_after}
 use Rattle.shared_tree.proofs.PairLemmas.{none_at_below}
 use Rattle.zone_tree.specs.Zone.{rrsets_of, rrset_of, exists, soa_of}
 use Rattle.zone_tree.specs.Sets.{records_in, AreWhole}
-use Rattle.zone_tree.specs.Filed.{Filed, sets_under, records_under, IsFiled, AreFiled, AreKept, items_of}
+use Rattle.zone_tree.specs.Filed.{Own, Filed, sets_under, records_under, IsFiled, AreFiled, AreKept, items_of}
 use Rattle.zone_tree.proofs.NameOrder.{canonical_total, folds_from_same, under_from_front, under_between}
 use Rattle.zone_tree.proofs.Rising.{filter_alike, any_alike, each_weaker, Rises, filter_one}
 use Rattle.zone_tree.proofs.SetLemmas.{filter_by_sets, any_by_sets}
@@ -75,7 +74,7 @@ sets_at_key pairs h name =
     ∙ sets_of_one (pair_at canonical_cmp name pairs)
 
 -- whether a name exists, by its owner and the one after it
-abbrev pub exists_by : Option (Vec (List Record)) → Option Filed → List (List ℕ) → Bool
+abbrev pub exists_by : Option Own → Option Filed → List (List ℕ) → Bool
 exists_by (Some own) after name = true
 exists_by None (Some pair) name = is_under pair.0 name
 exists_by None None name = false
@@ -137,11 +136,11 @@ owner_first ([] ∷ items) rest name l h k = absurd (omega (arith, h.0))
 owner_first ((r ∷ rs) ∷ items) rest name l h k = k.0
 
 -- whether a name exists, by what the calls give
-module _ (pairs : List Filed) (h : AreFiled pairs) (name : List (List ℕ)) (at : Option (Bor (Vec (List Record)))) (is : option_copied at ≡ value_at canonical_cmp name pairs) where
+module _ (pairs : List Filed) (h : AreFiled pairs) (name : List (List ℕ)) (at : Option (Bor Own)) (is : option_copied at ≡ value_at canonical_cmp name pairs) where
   pub owner_exists : is_some at ≡ true → exists (records_under pairs) name ≡ true
   owner_exists e = exists_owner pairs h name ∙ ap (λ o. exists_by o (pair_after canonical_cmp name pairs) name) (sym is) ∙ by at e
     where
-      by : (o : Option (Bor (Vec (List Record)))) → is_some o ≡ true → exists_by (option_copied o) (pair_after canonical_cmp name pairs) name ≡ true
+      by : (o : Option (Bor Own)) → is_some o ≡ true → exists_by (option_copied o) (pair_after canonical_cmp name pairs) name ≡ true
       by None f = absurd (true≢false (sym f))
       by (Some own) f = refl
 
@@ -149,7 +148,7 @@ module _ (pairs : List Filed) (h : AreFiled pairs) (name : List (List ℕ)) (at 
   next_exists e after next =
       exists_owner pairs h name ∙ (λ i. exists_by (sym is i) (sym next i) name) ∙ by at e
     where
-      by : (o : Option (Bor (Vec (List Record)))) → is_some o ≡ false → exists_by (option_copied o) after name ≡ exists_by None after name
+      by : (o : Option (Bor Own)) → is_some o ≡ false → exists_by (option_copied o) after name ≡ exists_by None after name
       by None f = refl
       by (Some own) f = absurd (true≢false f)
 

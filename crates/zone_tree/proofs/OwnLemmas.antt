@@ -1,6 +1,5 @@
 -- Owners with their sets, where all sets of an owner are replaced.
 use Rattle.std.proofs.Common.{◌≡◌, refl, sym, ap, ◌∙◌, subst, ℕ, ◌+◌, ◌<◌, true, List, [], ◌∷◌, ◌++◌, length, arith, ⊎_elim}
-use Rattle.std.specs.Global.{Vec}
 use Rattle.std.specs.declared.cmp.Ordering.{Ordering}
 use Rattle.std.specs.declared.cmp.Ordering.TheVariants.{Less, Equal, Greater}
 use Rattle.std.specs.List.{filter, AllByRecursion}
@@ -15,7 +14,7 @@ use Rattle.dns_rdata.specs.Record.{Record, owner_of, rtype_of}
 use Rattle.shared_tree.specs.Pairs.{value_at, pairs_below, pairs_above, pairs_with, pairs_without}
 use Rattle.shared_tree.proofs.PairLemmas.{with_ascends, filter_ascends}
 use Rattle.zone_tree.specs.Sets.{records_in, IsSetBefore, IsRRset, AreAscending}
-use Rattle.zone_tree.specs.Filed.{Filed, sets_under, records_under, IsFiled, AreFiled, items_of}
+use Rattle.zone_tree.specs.Filed.{Own, Filed, Owned, sets_under, records_under, IsFiled, AreFiled, items_of}
 use Rattle.zone_tree.specs.Edit.{put_at, with_owner, with_owners, AreOwn}
 use Rattle.zone_tree.proofs.NameOrder.{canonical_total, tie_from_same}
 use Rattle.zone_tree.proofs.Rising.{each_weaker, each_append, each_filter, rises_from_pairs, pairs_from_rises}
@@ -61,7 +60,7 @@ module _ (owner : List (List ℕ)) where
       flat_map-append (λ (s : List Record). s) (front ++ others) back ∙ ap (λ l. l ++ records_in back) (flat_map-append (λ (s : List Record). s) front others)
       ∙ (λ i. sym (filter_by_sets (λ o t. is_lt (canonical_cmp o owner)) sets h.each) i ++ records_in others ++ sym (filter_by_sets (λ o t. is_gt (canonical_cmp o owner)) sets h.each) i)
 
-  module _ (own : Vec (List Record)) (mine : AreOwn owner own.items) (pairs : List Filed) (filed : AreFiled pairs) where
+  module _ (own : Own) (mine : AreOwn owner own.items) (pairs : List Filed) (filed : AreFiled pairs) where
     abbrev sets : List (List Record)
     sets = sets_under pairs
 
@@ -127,6 +126,6 @@ module _ (owner : List (List ℕ)) where
       next_records = ap records_in both.1 ∙ records_put own.items sets filed.rising
 
 -- one owner's sets behind those of others
-pub with_owners-last : (zone : List Record) (front : List Filed) (last : Filed) → with_owners zone (front ++ last ∷ []) ≡ with_owner last.0 (records_in last.1.items) (with_owners zone front)
+pub with_owners-last : (zone : List Record) (front : List Owned) (last : Owned) → with_owners zone (front ++ last ∷ []) ≡ with_owner last.0 (records_in last.1.items) (with_owners zone front)
 with_owners-last zone [] last = refl
 with_owners-last zone (own ∷ front) last = with_owners-last (with_owner own.0 (records_in own.1.items) zone) front last

@@ -6,7 +6,7 @@ use Rattle.std.specs.declared.cmp.Ordering.{Ordering}
 use Rattle.dns_name.specs.Name.{Name, canonical_cmp, fold_name}
 use Rattle.dns_rdata.specs.Record.{Record, owner_of, rtype_of}
 use Rattle.zone_tree.specs.Sets.{records_in, AreAscending}
-use Rattle.zone_tree.specs.Filed.{Filed, AreFiled, records_under}
+use Rattle.zone_tree.specs.Filed.{Filed, Owned, AreFiled, records_under}
 
 -- a list with others in place of what stands at one place: what comes before that place, the others, and what comes behind it
 abbrev pub put_at : {X : Type 0} → (X → Ordering) → List X → List X → List X
@@ -28,7 +28,7 @@ owner_beside owner r = canonical_cmp r.owner owner
 abbrev pub with_owner : Name → List Record → List Record → List Record
 with_owner owner records zone = put_at (owner_beside owner) records zone
 
-abbrev pub with_owners : List Record → List Filed → List Record
+abbrev pub with_owners : List Record → List Owned → List Record
 with_owners zone [] = zone
 with_owners zone (own ∷ owns) = with_owners (with_owner own.0 (records_in own.1.items) zone) owns
 

@@ -1,6 +1,7 @@
 -- A zone's sets under their owners, as a zone keeps them (own).
 use Rattle.std.specs.Prelude.{◌≡◌, ℕ, ◌<◌, List, [], Option, Some, None, length}
 use Rattle.std.specs.Global.{Vec}
+use Rattle.smallvec.specs.SmallVec.{SmallVec}
 use Rattle.std.specs.List.{flat_map, AllByRecursion}
 use Rattle.std.specs.declared.cmp.Ordering.TheVariants.{Less}
 use Rattle.dns_name.specs.Name.{Name, canonical_cmp, fold_name}
@@ -9,9 +10,15 @@ use Rattle.shared_tree.specs.Pairs.{IsAscending}
 use Rattle.zone_tree.specs.Zone.{IsZone, apex_of}
 use Rattle.zone_tree.specs.Sets.{records_in, IsSetBefore, AreAscending}
 
--- an owner and its sets
+-- an owner's sets as a zone keeps them, an owner with them, and one with sets that come to a zone
+abbrev pub Own : Type 0
+Own = SmallVec (List Record)
+
 abbrev pub Filed : Type 0
-Filed = Name × Vec (List Record)
+Filed = Name × Own
+
+abbrev pub Owned : Type 0
+Owned = Name × Vec (List Record)
 
 -- the sets of all owners, one owner's behind another's, and their records
 abbrev pub sets_under : List Filed → List (List Record)
@@ -54,6 +61,6 @@ pub record AreKept (at : Name) (count : ℕ) (pairs : List Filed) : Type 0 where
   pub lawful : IsZone (records_under pairs)
 
 -- the sets of an owner, where there is one
-abbrev pub items_of : Option (Vec (List Record)) → List (List Record)
+abbrev pub items_of : Option Own → List (List Record)
 items_of None = []
 items_of (Some own) = own.items

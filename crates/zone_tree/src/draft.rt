@@ -13,7 +13,7 @@ use crate::change::Change;
 use crate::key::OwnerKey;
 use crate::look::set_of_type;
 use crate::own::{count_of, sets_with};
-use crate::owners::Owners;
+use crate::owners::{Own, Owners, own_of};
 use crate::zone::sets_at;
 use dns_name::{Name, SoughtName, StoredName};
 use dns_rdata::{RRset, RType};
@@ -32,7 +32,7 @@ fn with_own(
     alloc: Global,
     owners: &Owners,
     owner: &Name,
-    own: Vec<RRset>,
+    own: Own,
 ) -> Result<(Owners, u64), NoMemory>
     ensures kept { 0 < length own.items → IfOk result (λ next. next.0.pairs ≡ pairs_with canonical_cmp (fold_name owner.now) own owners.now.pairs) }
     ensures gone { length own.items ≡ 0 → IfOk result (λ next. next.0.pairs ≡ pairs_without canonical_cmp (fold_name owner.now) owners.now.pairs) }
@@ -49,7 +49,7 @@ fn with_kept(
     alloc: Global,
     owners: &Owners,
     owner: StoredName,
-    own: Vec<RRset>,
+    own: Own,
 ) -> Result<Owners, NoMemory>
     ensures kept { 0 < length own.items → IfOk result (λ next. next.pairs ≡ pairs_with canonical_cmp owner own owners.now.pairs) }
     ensures gone { length own.items ≡ 0 → IfOk result (λ next. next.pairs ≡ pairs_without canonical_cmp owner owners.now.pairs) }
@@ -67,7 +67,7 @@ fn with_sets(
     alloc: Global,
     owners: &Owners,
     owner: StoredName,
-    own: Vec<RRset>,
+    own: Own,
 ) -> Result<Owners, NoMemory>
     requires filed { AreFiled owners.now.pairs }
     requires own { AreOwn owner own.items }
@@ -93,7 +93,7 @@ pub(crate) fn with_owned(
 {
     let mut owners = owners;
     for (owner, own) in owned {
-        owners = with_sets(alloc, &owners, owner, own)?;
+        owners = with_sets(alloc, &owners, owner, own_of(alloc, own))?;
     }
     Ok(owners)
 }

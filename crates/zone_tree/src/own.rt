@@ -7,7 +7,9 @@ ghost use Rattle.zone_tree.specs.Edit.{put_at};
 ghost use Rattle.zone_tree.specs.Sets.{records_in, IsRRset};
 
 use crate::check::len_of;
+use crate::owners::Own;
 use dns_rdata::{RRset, RType};
+use smallvec::SmallVec;
 use std::alloc::{AllocError, Global};
 
 /// How many records a set has; 0 where there is none.
@@ -22,12 +24,7 @@ pub(crate) fn count_of(set: Option<&RRset>) -> usize
 }
 
 // Copies of the sets of lower types, behind others.
-fn put_lower(
-    alloc: Global,
-    to: &mut Vec<RRset>,
-    own: &[RRset],
-    rtype: RType,
-) -> Result<(), AllocError>
+fn put_lower(alloc: Global, to: &mut Own, own: &[RRset], rtype: RType) -> Result<(), AllocError>
     ensures { OnOk result (to.new.items ≡ to.old.items ++ filter (λ set. is_lt (nat_cmp (rtype_of set) rtype.0)) own.now) }
 {
     for set in own {
@@ -39,12 +36,7 @@ fn put_lower(
 }
 
 // Copies of the sets of higher types, behind others.
-fn put_higher(
-    alloc: Global,
-    to: &mut Vec<RRset>,
-    own: &[RRset],
-    rtype: RType,
-) -> Result<(), AllocError>
+fn put_higher(alloc: Global, to: &mut Own, own: &[RRset], rtype: RType) -> Result<(), AllocError>
     ensures { OnOk result (to.new.items ≡ to.old.items ++ filter (λ set. is_gt (nat_cmp (rtype_of set) rtype.0)) own.now) }
 {
     for set in own {
@@ -61,10 +53,10 @@ pub(crate) fn sets_with(
     own: &[RRset],
     rtype: RType,
     new: Option<&RRset>,
-) -> Result<Vec<RRset>, AllocError>
+) -> Result<Own, AllocError>
     ensures { IfOk result (λ sets. sets.items ≡ put_at (λ set. nat_cmp (rtype_of set) rtype.0) (option_to_list (option_copied new.entry)) own.now) }
 {
-    let mut sets = Vec::with_capacity(alloc, own.len() + 1)?;
+    let mut sets = SmallVec::new(alloc);
     put_lower(alloc, &mut sets, own, rtype)?;
     if let Some(set) = new {
         sets.push(set.copy(alloc)?)?;

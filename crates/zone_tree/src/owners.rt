@@ -7,13 +7,31 @@ ghost use Rattle.zone_tree.specs.Sets.{AreAscending};
 use crate::key::OwnerKey;
 use dns_rdata::RRset;
 use shared_tree::Tree;
+use smallvec::SmallVec;
 use std::alloc::{AllocError, Global};
 
+/// An owner's sets. Most owners have one, which lies in the value.
+pub(crate) type Own = SmallVec<RRset, 1>;
+
 /// An owner and its sets.
-pub(crate) type Owned = (OwnerKey, Vec<RRset>);
+pub(crate) type Owned = (OwnerKey, Own);
 
 /// A zone's owners with their sets.
-pub(crate) type Owners = Tree<OwnerKey, Vec<RRset>>;
+pub(crate) type Owners = Tree<OwnerKey, Own>;
+
+/// The sets of a list.
+pub(crate) fn own_of(alloc: Global, sets: Vec<RRset>) -> Own
+    ensures { result.items ≡ sets.items }
+{
+    let mut sets = sets;
+    if sets.len() != 1 {
+        return SmallVec::from(sets);
+    }
+    match sets.pop() {
+        Some(set) => SmallVec::from_buf(alloc, [set]),
+        None => unreachable!(),
+    }
+}
 
 /// Sets in ascending order, under their owners.
 pub(crate) fn under_owners(alloc: Global, sets: Vec<RRset>) -> Result<Vec<Owned>, AllocError>
@@ -36,8 +54,6 @@ fn put_behind(alloc: Global, pairs: &mut Vec<Owned>, set: RRset) -> Result<(), A
         None => put_new(alloc, pairs, set),
         Some((key, mut own)) => {
             if key.is_of(set.stored_owner()) {
-                // Most owners have few sets, so room is made for one; where it is refused, `push` tells it.
-                let _ = own.reserve_exact(1);
                 own.push(set)?;
                 pairs.push((key, own))?;
                 return Ok(());
@@ -53,8 +69,6 @@ fn put_new(alloc: Global, pairs: &mut Vec<Owned>, set: RRset) -> Result<(), Allo
     ensures { OnOk result ((sets : List (List Record)) → AreGathered pairs.old.items sets → AreBefore (owner_of set) pairs.old.items → AreGathered pairs.new.items (sets ++ set ∷ [])) }
 {
     let key = OwnerKey::copied(alloc, set.stored_owner())?;
-    let mut own = Vec::with_capacity(alloc, 1)?;
-    own.push(set)?;
-    pairs.push((key, own))?;
+    pairs.push((key, SmallVec::from_buf(alloc, [set])))?;
     Ok(())
 }

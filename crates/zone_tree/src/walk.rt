@@ -5,11 +5,12 @@ ghost use Rattle.std.specs.List.{AllByRecursion};
 ghost use Rattle.zone_tree.specs.Filed.{IsFiled, sets_under};
 
 use crate::key::OwnerKey;
+use crate::owners::Own;
 use dns_rdata::RRset;
 use std::marker::Model;
 
 /// The owners of a zone that are left, with their sets.
-type OwnersLeft<'a> = shared_tree::Walk<'a, OwnerKey, Vec<RRset>>;
+type OwnersLeft<'a> = shared_tree::Walk<'a, OwnerKey, Own>;
 
 /// The sets of a zone that are left, in canonical order (RFC 4034, 6.1): one owner's behind another's. It takes no memory.
 /// Contracts see the list of the sets that are left.

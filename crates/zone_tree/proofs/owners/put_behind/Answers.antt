@@ -11,7 +11,7 @@ returns-then-is_of c = λ sets h before.
     let g = subst (λ l. AreGathered l sets) c.in-Some.ensures.items h in
     let folded : owner_of c.args.set ≡ fold_name (owner_of c.args.set) = subst (λ n. n ≡ fold_name n) c.stored_owner.ensures.of c.stored_owner.ensures.folded in
     let same : is_same c.in-Some.key (owner_of c.args.set) ≡ true = ap (is_same c.in-Some.key) (sym c.stored_owner.ensures.of) ∙ sym c.is_of.ensures ∙ c.if-is_of.true in
-    rw c.in_ok-push-in-Some-2.ensures.items (grown _ _ _ sets c.args.set g refl (rw (← c.reserve_exact.ensures.items) c.in_ok-push-in-Some.ensures.items) (same_last _ _ (c.in-Some.key, c.in-Some.own) sets c.args.set g folded same))
+    rw c.in_ok-push-in-Some-2.ensures.items (grown _ _ _ sets c.args.set g refl c.in_ok-push-in-Some.ensures.ok (same_last _ _ (c.in-Some.key, c.in-Some.own) sets c.args.set g folded same))
 
 -- the set is the first of an owner behind the last one
 pub returns-in_ok-push-in-Some-3 : goal.returns-in_ok-push-in-Some-3

@@ -16,14 +16,14 @@ pub returns-in-Some-clause-records : goal.returns-in-Some-clause-records
 returns-in-Some-clause-records c =
     let pairs = c.self.inside.owners.pairs in
     let here = ap option_copied (sym c.in-Some.is) ∙ c.around-found.ensures.at in
-    ap records_in (c.as_slice.ensures.value ∙ items_here c.args.name.now pairs (Some c.in-Some.pair.now) here) ∙ rrsets_at_key pairs c.self.invariant.filed c.args.name.now
+    ap records_in (c.as_slice.ensures ∙ items_here c.args.name.now pairs (Some c.in-Some.pair.now) here) ∙ rrsets_at_key pairs c.self.invariant.filed c.args.name.now
     ∙ ap (λ zone. rrsets_of zone c.args.name.now) c.self.view_is
 
 pub returns-in-Some-clause-whole : goal.returns-in-Some-clause-whole
 returns-in-Some-clause-whole c =
     let pairs = c.self.inside.owners.pairs in
     let here = ap option_copied (sym c.in-Some.is) ∙ c.around-found.ensures.at in
-    let sets = c.as_slice.ensures.value ∙ items_here c.args.name.now pairs (Some c.in-Some.pair.now) here in
+    let sets = c.as_slice.ensures ∙ items_here c.args.name.now pairs (Some c.in-Some.pair.now) here in
     rw (← c.self.view_is) (subst (AreWhole (records_under pairs)) (sym sets) (whole_at_key pairs c.self.invariant.filed c.args.name.now))
 
 pub returns-in-Some-clause-closest : goal.returns-in-Some-clause-closest
