@@ -1,5 +1,5 @@
 -- What the changes of a record make of an overlay (RFC 2136, 3.4.2).
-use Rattle.std.proofs.Common.{◌≡◌, ℕ, ◌+◌, ◌<◌, ◌≤◌, Bool, true, false, not, ◌&&◌, ◌==◌, cond, if◌then◌else◌, List, [], ◌∷◌, ◌++◌, length, filter, bytes_eq, Option, None, Some, refl, sym, ap, subst, ◌∙◌, append-nil, arith, true≢false}
+use Rattle.std.proofs.Common.{◌≡◌, ℕ, ◌+◌, ◌<◌, ◌≤◌, Bool, true, false, not, ◌==◌, cond, if◌then◌else◌, List, [], ◌∷◌, ◌++◌, length, filter, bytes_eq, Option, None, Some, refl, sym, ap, subst, ◌∙◌, append-nil, arith, true≢false}
 use Rattle.std.specs.Global.{Vec}
 use Rattle.std.specs.List.{AllByRecursion}
 use Rattle.std.specs.List.Sorted.{IsStrictlySortedBy}
@@ -11,12 +11,10 @@ use Rattle.std.specs.declared.cmp.Ordering.TheVariants.{Less, Equal, Greater}
 use Rattle.std.proofs.lemmas.Cmp.{tied_itself}
 use Rattle.std.proofs.lemmas.List.Elements.{recursion_from_All, filter-append}
 use Rattle.dns_name.specs.Name.{Name, is_same, canonical_cmp, fold_name}
-use Rattle.dns_name.specs.Order.{is_same_tied}
 use Rattle.dns_rdata.proofs.NameLemmas.{fold_name-fold_name}
 use Rattle.dns_rdata.specs.Record.{Record, owner_of, rtype_of, without_data}
 use Rattle.dns_rdata.specs.Raw.{RawRecord}
 use Rattle.dns_rdata.specs.Numbers.{class_IN, class_NONE}
-use Rattle.dns_rdata.specs.declared.numbers.RType.{RType}
 use Rattle.zone_tree.specs.Zone.{IsZone, IsBefore, stands_at, is_of, rrset_of, rrsets_of, apex_of}
 use Rattle.zone_tree.specs.Sets.{records_in, IsRRset, IsOf}
 use Rattle.zone_tree.specs.Filed.{Filed}
@@ -189,12 +187,6 @@ set_is_at r (s ∷ ss) h own = (h.lawful 0 s (omega arith)).folded ∙ folds_fro
 
 pub put_at_owner : (r : RawRecord) (set : List Record) → IsRRset set → AllByRecursion (λ s. is_of r.owner r.rtype s ≡ true) set → (changes : List Change) → changes ≡ Put set ∷ [] → AllByRecursion (IsChangeAt r.owner) changes
 put_at_owner r set h own changes is = subst (AllByRecursion (IsChangeAt r.owner)) (sym is) ((set_is_at r set h own, h), tt)
-
-pub removed_at_owner : (r : RawRecord) (owner : Name) (rtype : RType) (changes : List Change) → owner ≡ r.owner → changes ≡ Remove owner rtype ∷ [] → AllByRecursion (IsChangeAt r.owner) changes
-removed_at_owner r owner rtype changes o is = subst (AllByRecursion (IsChangeAt r.owner)) (sym is) (o, tt)
-
-pub none_at_owner : (r : RawRecord) (changes : List Change) → changes ≡ [] → AllByRecursion (IsChangeAt r.owner) changes
-none_at_owner r changes is = subst (AllByRecursion (IsChangeAt r.owner)) (sym is) tt
 
 pub removals_at_owner : (r : RawRecord) (owner : Name) → owner ≡ r.owner → (sets : List (List Record)) (changes : List Change) → changes ≡ removals owner sets → AllByRecursion (IsChangeAt r.owner) changes
 removals_at_owner r owner o sets changes is = subst (AllByRecursion (IsChangeAt r.owner)) (sym is) (by sets)

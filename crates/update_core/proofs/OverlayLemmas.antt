@@ -1,5 +1,5 @@
 -- A zone with other sets for those of some owners: what stands at each name, and what a change of one owner makes of it.
-use Rattle.std.proofs.Common.{◌≡◌, ℕ, ◌+◌, ◌<◌, Bool, true, false, not, ◌&&◌, ◌==◌, cond, List, [], ◌∷◌, ◌++◌, length, filter, Option, None, Some, refl, sym, ap, subst, ◌∙◌, append-nil, arith}
+use Rattle.std.proofs.Common.{◌≡◌, ◌+◌, Bool, true, false, cond, List, [], ◌∷◌, ◌++◌, length, filter, Option, None, Some, refl, sym, ap, subst, ◌∙◌, append-nil, arith}
 use Rattle.std.specs.Prelude.{Contains, Result, Ok, Err, IfOk, OnOk}
 use Rattle.std.specs.Global.{Vec}
 use Rattle.std.specs.List.{AllByRecursion}
@@ -16,11 +16,11 @@ use Rattle.std.proofs.lemmas.List.Elements.{recursion_from_All, All-from_recursi
 use Rattle.dns_name.specs.Name.{Name, is_same, canonical_cmp, fold_name}
 use Rattle.dns_name.specs.Order.{is_same_tied}
 use Rattle.dns_name.proofs.StoredLemmas.{cmp_folded}
-use Rattle.dns_rdata.specs.Record.{Record, owner_of, rtype_of}
-use Rattle.zone_tree.specs.Zone.{IsZone, IsBefore, stands_at, rrsets_of}
-use Rattle.zone_tree.specs.Sets.{records_in, IsSetBefore, IsRRset, IsOf, AreAscending, AreWhole}
+use Rattle.dns_rdata.specs.Record.{Record, owner_of}
+use Rattle.zone_tree.specs.Zone.{IsBefore, stands_at, rrsets_of}
+use Rattle.zone_tree.specs.Sets.{records_in, IsRRset, IsOf, AreWhole}
 use Rattle.zone_tree.specs.Filed.{Filed}
-use Rattle.zone_tree.specs.Edit.{put_at, owner_beside, with_owner, with_owners, AreOwn}
+use Rattle.zone_tree.specs.Edit.{owner_beside, with_owner, with_owners, AreOwn}
 use Rattle.zone_tree.specs.declared.change.Change.{Change}
 use Rattle.zone_tree.proofs.NameOrder.{canonical_total, tie_from_same, same_from_tie, same_from_folds, folds_from_same}
 use Rattle.zone_tree.proofs.Rising.{each_weaker, each_joined, filter_alike, Rises, rises_from_pairs}

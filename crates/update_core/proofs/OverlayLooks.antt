@@ -119,9 +119,6 @@ the_overlaid zone last others = record { base = zone; made = made_of zone last o
 abbrev pub StaysAt : Overlaid → Name → Type 0
 StaysAt v name = rrsets_of v.made name ≡ rrsets_of v.base name
 
-pub apart_at : (v : Overlaid) (name : Name) → (StaysAt v name → ⊥) → v.made ≢ v.base
-apart_at v name apart e = apart (ap (λ (z : List Record). rrsets_of z name) e)
-
 module _ (zone : List Record) (last : Option Filed) (others : List Filed) (count : ℕ) (h : IsOverlay zone last others count) (v : Overlaid) (is : the_overlaid zone last others ≡ v) where
   pub told : IfSome last (λ own. StaysAt v own.0) → (b : Bool) → MatchBool b (v.made ≢ v.base) (AllByRecursion (λ own. StaysAt v own.0) others) → MatchBool b (v.made ≢ v.base) (v.made ≡ v.base)
   told mine true differs = differs

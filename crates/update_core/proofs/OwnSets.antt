@@ -20,10 +20,10 @@ use Rattle.zone_tree.proofs.CheckLemmas.{rrset_from_data}
 use Rattle.zone_tree.specs.Zone.{is_of, stands_at, rrsets_of}
 use Rattle.zone_tree.specs.Sets.{records_in, IsSetBefore, IsRRset, IsOf, AreAscending}
 use Rattle.zone_tree.specs.Change.{with_rrset, without_rrset, beside, changed, edited}
-use Rattle.zone_tree.specs.Edit.{put_at, set_beside, IsFor, AreOwn}
+use Rattle.zone_tree.specs.Edit.{put_at, set_beside, AreOwn}
 use Rattle.zone_tree.specs.declared.change.Change.{Change}
 use Rattle.zone_tree.specs.declared.change.Change.TheVariants.{Put, Remove}
-use Rattle.zone_tree.proofs.NameOrder.{canonical_total, tie_from_same, same_from_folds}
+use Rattle.zone_tree.proofs.NameOrder.{canonical_total, same_from_folds}
 use Rattle.zone_tree.specs.From.{DoTypesAscend}
 use Rattle.zone_tree.proofs.FromLemmas.{types_from}
 use Rattle.zone_tree.proofs.ZoneLemmas.{eqb_from_tie}
@@ -237,9 +237,6 @@ put_over own kept set is =
             → filter q (cond b (x ∷ filter (λ s. not (rtype_of s == rtype_of set)) xs) (filter (λ s. not (rtype_of s == rtype_of set)) xs)) ≡ filter q (x ∷ xs)
         by true e more = ap (λ ys. cond (q x) (x ∷ ys) ys) more
         by false e more = more ∙ ap (λ b. cond b (x ∷ filter q xs) (filter q xs)) (sym (inside x e))
-
-pub filtered_twice : (p : List Record → Bool) (xs : List (List Record)) → filter p (filter p xs) ≡ filter p xs
-filtered_twice p xs = filter_alike p true (filter p xs) (passes p xs)
 
 -- a set of its type was taken out before
 pub kept_by : (own kept : List (List Record)) (set : List Record) (t : ℕ) → t ≡ rtype_of set → kept ≡ filter (λ s. not (rtype_of s == t)) own → kept ≡ filter (λ s. not (rtype_of s == rtype_of set)) own

@@ -1,7 +1,7 @@
 -- A zone, and in place of some owners' sets what the records of an update that were taken so far made of them (own).
-use Rattle.std.specs.Prelude.{Option, None, Some, Result, Ok, Err, ◌≡◌, ◌⊎◌, ℕ, ◌<◌, ◌≤◌, Bool, true, false, not, ◌==◌, if◌then◌else◌, List, [], ◌∷◌, ◌++◌, length, filter}
+use Rattle.std.specs.Prelude.{Option, None, Some, ◌≡◌, ℕ, ◌<◌, ◌≤◌, true, false, not, ◌==◌, if◌then◌else◌, List, [], ◌∷◌, ◌++◌, length, filter}
 use Rattle.std.specs.Global.{Vec}
-use Rattle.std.specs.List.{find, AllByRecursion}
+use Rattle.std.specs.List.{AllByRecursion}
 use Rattle.std.specs.List.Sorted.{IsStrictlySortedBy}
 use Rattle.std.specs.Map.{keys_of, lookup}
 use Rattle.std.specs.BTreeMap.{is_at}
@@ -14,7 +14,7 @@ use Rattle.dns_rdata.specs.Data.{Data}
 use Rattle.dns_rdata.specs.Raw.{RawRecord}
 use Rattle.dns_rdata.specs.Record.{Record, owner_of, rtype_of, without_data}
 use Rattle.zone_tree.specs.Zone.{IsZone, apex_of, rrset_of, rrsets_of}
-use Rattle.zone_tree.specs.Sets.{records_in, IsRRset, AreWhole}
+use Rattle.zone_tree.specs.Sets.{records_in, IsRRset}
 use Rattle.zone_tree.specs.Filed.{Filed}
 use Rattle.zone_tree.specs.Edit.{put_at, with_owner, with_owners, AreOwn}
 use Rattle.zone_tree.specs.declared.change.Change.{Change}

@@ -1,4 +1,4 @@
-use Rattle.std.proofs.Common.{◌≡◌, ◌≢◌, Some, unwrap_or, sym, subst, ap, ◌∙◌}
+use Rattle.std.proofs.Common.{◌≢◌, Some, unwrap_or, sym, subst, ap, ◌∙◌}
 use Rattle.std.specs.Option.{IfSome}
 use Rattle.zone_tree.specs.Zone.{IsZone}
 use Rattle.update_core.specs.Act.{effects}

@@ -1,4 +1,4 @@
-use Rattle.std.proofs.Common.{◌≡◌, ◌++◌, List, [], ◌∷◌, Option, None, Some, sym, ap, ◌∙◌, append-nil}
+use Rattle.std.proofs.Common.{◌++◌, [], ◌∷◌, Option, sym, ap, ◌∙◌}
 use Rattle.zone_tree.specs.Filed.{Filed}
 use Rattle.update_core.specs.Overlay.{all_of}
 use Rattle.update_core.proofs.OverlayLemmas.{all_so_far}

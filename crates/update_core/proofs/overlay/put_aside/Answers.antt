@@ -1,6 +1,6 @@
-use Rattle.std.proofs.Common.{◌≡◌, Bool, Some, cond, sym, ap, subst, ◌∙◌}
+use Rattle.std.proofs.Common.{Some, cond, sym, subst, ◌∙◌}
 use Rattle.update_core.specs.Tagged.{same_at}
-use Rattle.update_core.specs.Overlay.{own_at, AllOwn}
+use Rattle.update_core.specs.Overlay.{AllOwn}
 use Rattle.update_core.proofs.OverlayLemmas.{each_inserted}
 use Rattle.update_core.proofs.TaggedLemmas.{same_lookup}
 use Rattle.update_core.proofs.overlay.put_aside.Goals as goal

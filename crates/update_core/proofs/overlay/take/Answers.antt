@@ -1,6 +1,5 @@
-use Rattle.std.proofs.Common.{◌≡◌, Bool, None, cond, sym, ap, subst, ◌∙◌}
+use Rattle.std.proofs.Common.{◌≡◌, sym, ap, subst, ◌∙◌}
 use Rattle.std.proofs.lemmas.Result.{IfOk-weaker}
-use Rattle.dns_name.specs.Name.{Name, canonical_cmp}
 use Rattle.zone_tree.specs.Zone.{rrsets_of}
 use Rattle.zone_tree.specs.Sets.{records_in}
 use Rattle.update_core.specs.Overlay.{AllOwn, at_owner, own_at}

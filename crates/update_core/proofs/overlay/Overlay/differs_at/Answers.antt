@@ -1,4 +1,4 @@
-use Rattle.std.proofs.Common.{◌≡◌, List, subst, ap, ◌∙◌}
+use Rattle.std.proofs.Common.{List, subst, ap, ◌∙◌}
 use Rattle.dns_rdata.specs.Record.{Record}
 use Rattle.zone_tree.specs.Zone.{rrsets_of}
 use Rattle.zone_tree.specs.Sets.{AreWhole}

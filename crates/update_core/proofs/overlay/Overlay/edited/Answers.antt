@@ -2,7 +2,7 @@ use Rattle.std.proofs.Common.{◌≡◌, ◌+◌, ◌<◌, ◌≤◌, List, Some
 use Rattle.dns_name.specs.Name.{fold_name}
 use Rattle.dns_rdata.specs.Record.{Record}
 use Rattle.dns_rdata.specs.Raw.{RawRecord}
-use Rattle.zone_tree.specs.Zone.{apex_of, rrsets_of}
+use Rattle.zone_tree.specs.Zone.{apex_of}
 use Rattle.zone_tree.specs.Sets.{records_in}
 use Rattle.zone_tree.specs.Change.{edited}
 use Rattle.update_core.specs.Verdict.{prescan_of}

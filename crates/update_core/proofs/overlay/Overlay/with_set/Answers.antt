@@ -1,6 +1,5 @@
-use Rattle.std.proofs.Common.{◌≡◌, ◌+◌, ◌<◌, ◌≤◌, List, [], ◌∷◌, Some, length, refl, sym, ap, subst, ◌∙◌, arith, rules}
-use Rattle.dns_rdata.specs.Record.{Record}
-use Rattle.zone_tree.specs.Zone.{apex_of, rrsets_of}
+use Rattle.std.proofs.Common.{◌≡◌, ◌+◌, ◌<◌, [], ◌∷◌, Some, length, refl, sym, ap, subst, ◌∙◌, arith, rules}
+use Rattle.zone_tree.specs.Zone.{apex_of}
 use Rattle.zone_tree.specs.Change.{edited}
 use Rattle.update_core.specs.Verdict.{prescan_of}
 use Rattle.update_core.specs.Act.{effect}
