@@ -17,7 +17,7 @@ use Rattle.dns_rdata.specs.Raw.{RawRecord}
 use Rattle.dns_rdata.specs.Numbers.{class_IN, class_NONE}
 use Rattle.zone_tree.specs.Zone.{IsZone, IsBefore, stands_at, is_of, rrset_of, rrsets_of, apex_of}
 use Rattle.zone_tree.specs.Sets.{records_in, IsRRset, IsOf}
-use Rattle.zone_tree.specs.Filed.{Filed}
+use Rattle.zone_tree.specs.Filed.{Owned}
 use Rattle.zone_tree.specs.Change.{with_rrset, without_rrset, beside, changed, edited}
 use Rattle.zone_tree.specs.Edit.{AreOwn}
 use Rattle.zone_tree.specs.declared.change.Change.{Change}
@@ -112,7 +112,7 @@ found_from_key key owner fold zone = ap (rrsets_of zone) fold ∙ same_there zon
     tied = sym (beside_folded owner owner ∙ tied_itself canonical_total owner)
 
 -- an owner's sets are taken, changed, and put back
-module _ (base : List Record) (last : Option Filed) (others : List Filed) (count : ℕ) (h : IsOverlay base last others count) (r : RawRecord) (changes : List Change) (of : AreOf (made_of base last others) r changes)
+module _ (base : List Record) (last : Option Owned) (others : List Owned) (count : ℕ) (h : IsOverlay base last others count) (r : RawRecord) (changes : List Change) (of : AreOf (made_of base last others) r changes)
     (at : AllByRecursion (IsChangeAt r.owner) changes) (own : List (List Record)) (mine : AreOwn r.owner own) (records : records_in own ≡ rrsets_of (made_of base last others) r.owner) where
   abbrev cur : List Record
   cur = made_of base last others
@@ -147,7 +147,7 @@ module _ (base : List Record) (last : Option Filed) (others : List Filed) (count
     pub effect_is : effect cur r ≡ Some next
     effect_is = after_is cur r changes next of refl (omega (arith, e))
 
-    module _ (key : Name) (fold : key ≡ fold_name r.owner) (given : Vec (List Record)) (is : given.items ≡ edited_sets own changes) (left : List Filed) (each : AllOwn left) (ordered : IsStrictlySortedBy tagged_cmp (keys_of left))
+    module _ (key : Name) (fold : key ≡ fold_name r.owner) (given : Vec (List Record)) (is : given.items ≡ edited_sets own changes) (left : List Owned) (each : AllOwn left) (ordered : IsStrictlySortedBy tagged_cmp (keys_of left))
         (apart : (name : Name) → is_at (canonical_cmp key) name ≡ false → own_at name left ≡ own_of name last others) where
       abbrev now : List Record
       now = made_of base (Some (key, given)) left

@@ -19,7 +19,7 @@ use Rattle.dns_name.proofs.StoredLemmas.{cmp_folded}
 use Rattle.dns_rdata.specs.Record.{Record, owner_of}
 use Rattle.zone_tree.specs.Zone.{IsBefore, stands_at, rrsets_of}
 use Rattle.zone_tree.specs.Sets.{records_in, IsRRset, IsOf, AreWhole}
-use Rattle.zone_tree.specs.Filed.{Filed}
+use Rattle.zone_tree.specs.Filed.{Owned}
 use Rattle.zone_tree.specs.Edit.{owner_beside, with_owner, with_owners, AreOwn}
 use Rattle.zone_tree.specs.declared.change.Change.{Change}
 use Rattle.zone_tree.proofs.NameOrder.{canonical_total, tie_from_same, same_from_tie, same_from_folds, folds_from_same}
@@ -89,14 +89,14 @@ module _ (owner : Name) (recs : List Record) (mine : AllByRecursion (λ r. r.own
   owner_length = (λ i. length (with_owner owner recs zone) + length (filter (λ (r : Record). is_same_tied r.owner owner i) zone)) ∙ put_length (owner_beside owner) recs zone
 
 -- none of the owners behind one that ties with a name ties with it
-absent : (name owner : Name) (owned : List Filed) → canonical_cmp name owner ≡ Equal → AllByRecursion (λ k. tagged_cmp owner k ≡ Less) (keys_of owned) → own_at name owned ≡ None
+absent : (name owner : Name) (owned : List Owned) → canonical_cmp name owner ≡ Equal → AllByRecursion (λ k. tagged_cmp owner k ≡ Less) (keys_of owned) → own_at name owned ≡ None
 absent name owner [] e h = refl
 absent name owner (own ∷ owned) e h =
     let apart : is_eq (canonical_cmp name own.0) ≡ false = ap is_eq (canonical_total.congr name owner own.0 e) ∙ sym (same_at owner own.0) ∙ ap is_eq h.0 in
     ap (λ b. cond b (Some own.1) (own_at name owned)) apart ∙ absent name owner owned e h.1
 
 -- what stands at a name in the zone with all of them
-pub stands_there : (name : Name) (zone : List Record) (owned : List Filed) → AllOwn owned → IsStrictlySortedBy tagged_cmp (keys_of owned) → rrsets_of (with_owners zone owned) name ≡ at_owner (rrsets_of zone name) (own_at name owned)
+pub stands_there : (name : Name) (zone : List Record) (owned : List Owned) → AllOwn owned → IsStrictlySortedBy tagged_cmp (keys_of owned) → rrsets_of (with_owners zone owned) name ≡ at_owner (rrsets_of zone name) (own_at name owned)
 unfolding IsStrictlySortedBy
 stands_there name zone [] h s = refl
 stands_there name zone (own ∷ owned) h s =
@@ -114,7 +114,7 @@ stands_there name zone (own ∷ owned) h s =
     by Equal e = ap (at_owner after) (absent name own.0 owned e s.0) ∙ is Equal e
     by Greater e = ap (λ z. at_owner z (own_at name owned)) (is Greater e)
 
-pub owners_rise : (zone : List Record) (owned : List Filed) → AllOwn owned → Rises IsBefore zone → Rises IsBefore (with_owners zone owned)
+pub owners_rise : (zone : List Record) (owned : List Owned) → AllOwn owned → Rises IsBefore zone → Rises IsBefore (with_owners zone owned)
 owners_rise zone [] h k = k
 owners_rise zone (own ∷ owned) h k =
     let recs = records_in own.1.items in
@@ -122,7 +122,7 @@ owners_rise zone (own ∷ owned) h k =
     (owner_rises own.0 recs (records_own own.0 own.1.items h.0) zone k (rises_from_pairs IsBefore recs (records_ascend own.1.items h.0.rising)))
 
 -- and with the sets of the owner that was changed last
-pub stands_now : (name : Name) (zone : List Record) (last : Option Filed) (others : List Filed) → IsLastOwn last → AllOwn others → IsStrictlySortedBy tagged_cmp (keys_of others)
+pub stands_now : (name : Name) (zone : List Record) (last : Option Owned) (others : List Owned) → IsLastOwn last → AllOwn others → IsStrictlySortedBy tagged_cmp (keys_of others)
     → rrsets_of (made_of zone last others) name ≡ at_owner (rrsets_of zone name) (own_of name last others)
 stands_now name zone None others own each ordered = stands_there name zone others each ordered
 stands_now name zone (Some last) others own each ordered =
@@ -132,7 +132,7 @@ stands_now name zone (Some last) others own each ordered =
     by true = refl
     by false = stands_there name zone others each ordered
 
-pub now_rises : (zone : List Record) (last : Option Filed) (others : List Filed) → IsLastOwn last → AllOwn others → Rises IsBefore zone → Rises IsBefore (made_of zone last others)
+pub now_rises : (zone : List Record) (last : Option Owned) (others : List Owned) → IsLastOwn last → AllOwn others → Rises IsBefore zone → Rises IsBefore (made_of zone last others)
 now_rises zone None others own each h = owners_rise zone others each h
 now_rises zone (Some last) others own each h =
     let recs = records_in last.1.items in
@@ -154,7 +154,7 @@ same_there zone name owner e = λ i. filter (λ (s : Record). same s i) zone
     same s = is_same_tied s.owner owner ∙ ap is_eq (canonical_total.antisymm s.owner owner ∙ ap ordering_reverse (sym (canonical_total.congr name owner s.owner e)) ∙ sym (canonical_total.antisymm s.owner name)) ∙ sym (is_same_tied s.owner name)
 
 -- the sets of an owner that is found are its own
-pub found_own : (owner : Name) (owned : List Filed) (own : Vec (List Record)) → AllOwn owned → own_at owner owned ≡ Some own → AreOwn owner own.items
+pub found_own : (owner : Name) (owned : List Owned) (own : Vec (List Record)) → AllOwn owned → own_at owner owned ≡ Some own → AreOwn owner own.items
 found_own owner [] own h e = cc
 found_own owner (first ∷ owned) own h e = by (canonical_cmp owner first.0) refl (found_own owner owned own h.1) e
   where
@@ -173,7 +173,7 @@ found_own owner (first ∷ owned) own h e = by (canonical_cmp owner first.0) ref
         subst (λ (v : Vec (List Record)). AreOwn owner v.items) (some first.1 own e)
         (record { rising = h.0.rising; own = each_weaker (λ s. owner_of s ≡ fold_name first.0) (λ s. owner_of s ≡ fold_name owner) (λ s k. k ∙ sym fold) first.1.items h.0.own })
 
-pub found_now : (owner : Name) (last : Option Filed) (others : List Filed) (own : Vec (List Record)) → IsLastOwn last → AllOwn others → own_of owner last others ≡ Some own → AreOwn owner own.items
+pub found_now : (owner : Name) (last : Option Owned) (others : List Owned) (own : Vec (List Record)) → IsLastOwn last → AllOwn others → own_of owner last others ≡ Some own → AreOwn owner own.items
 found_now owner None others own mine each e = found_own owner others own each e
 found_now owner (Some last) others own mine each e = found_own owner (last ∷ others) own (mine, each) e
 
@@ -200,7 +200,7 @@ copies_own zone owner sets (Ok own) is each at whole = subst (AreOwn owner) (sym
 copies_own zone owner sets (Err e) is each at whole = tt
 
 -- owners with one less, and one more
-pub each_removed : (owner : Name) (owned : List Filed) → AllOwn owned → AllOwn (remove_entry (is_at (tagged_cmp owner)) owned)
+pub each_removed : (owner : Name) (owned : List Owned) → AllOwn owned → AllOwn (remove_entry (is_at (tagged_cmp owner)) owned)
 each_removed owner [] h = tt
 each_removed owner (own ∷ owned) h = by (is_eq (tagged_cmp owner own.0)) (each_removed owner owned h.1)
   where
@@ -208,7 +208,7 @@ each_removed owner (own ∷ owned) h = by (is_eq (tagged_cmp owner own.0)) (each
     by true more = h.1
     by false more = (h.0, more)
 
-pub each_inserted : (owner : Name) (own : Vec (List Record)) (owned : List Filed) → AreOwn owner own.items → AllOwn owned → AllOwn (insert_entry tagged_cmp owned owner own)
+pub each_inserted : (owner : Name) (own : Vec (List Record)) (owned : List Owned) → AreOwn owner own.items → AllOwn owned → AllOwn (insert_entry tagged_cmp owned owner own)
 each_inserted owner own [] mine h = (mine, tt)
 each_inserted owner own (first ∷ owned) mine h = by (tagged_cmp owner first.0) refl (each_inserted owner own owned mine h.1)
   where
@@ -275,7 +275,7 @@ turned_eq name owner = ap is_eq (canonical_total.antisymm name owner) ∙ by (ca
     by Equal = refl
     by Greater = refl
 
-pub updated : (key owner : Name) → key ≡ fold_name owner → (given : Vec (List Record)) (others : List Filed) (f : Name → Option (Vec (List Record)))
+pub updated : (key owner : Name) → key ≡ fold_name owner → (given : Vec (List Record)) (others : List Owned) (f : Name → Option (Vec (List Record)))
     → ((name : Name) → is_at (canonical_cmp key) name ≡ false → own_at name others ≡ f name) → (q : Name) → own_of q (Some (key, given)) others ≡ cond (is_at (canonical_cmp owner) q) (Some given) (f q)
 updated key owner fold given others f apart q = by (is_eq (canonical_cmp q key)) refl
   where
@@ -287,32 +287,32 @@ updated key owner fold given others f apart q = by (is_eq (canonical_cmp q key))
     by false e = apart q (sym (turned_eq q key) ∙ e) ∙ ap (λ b. cond b (Some given) (f q)) (sym e ∙ turned_eq q key ∙ same)
 
 -- a last owner that is put beside the others is found as it was
-pub put_found : (last : Filed) (others after : List Filed) → ((name : Name) → own_at name after ≡ cond (is_at (canonical_cmp last.0) name) (Some last.1) (own_at name others)) → (name : Name) → own_at name after ≡ own_of name (Some last) others
+pub put_found : (last : Owned) (others after : List Owned) → ((name : Name) → own_at name after ≡ cond (is_at (canonical_cmp last.0) name) (Some last.1) (own_at name others)) → (name : Name) → own_at name after ≡ own_of name (Some last) others
 put_found last others after puts name = puts name ∙ ap (λ b. cond b (Some last.1) (own_at name others)) (sym (turned_eq name last.0))
 
 -- an owner that is taken out leaves the others as they were
-pub other_stays : (owner name : Name) (before after : List Filed) → lookup (is_at (tagged_cmp name)) after ≡ cond (is_at (tagged_cmp owner) name) None (lookup (is_at (tagged_cmp name)) before) → is_at (canonical_cmp owner) name ≡ false → own_at name after ≡ own_at name before
+pub other_stays : (owner name : Name) (before after : List Owned) → lookup (is_at (tagged_cmp name)) after ≡ cond (is_at (tagged_cmp owner) name) None (lookup (is_at (tagged_cmp name)) before) → is_at (canonical_cmp owner) name ≡ false → own_at name after ≡ own_at name before
 other_stays owner name before after updates apart =
     sym (same_lookup name after) ∙ updates ∙ ap (λ b. cond b None (lookup (is_at (tagged_cmp name)) before)) (same_at owner name ∙ apart) ∙ same_lookup name before
 
 -- where it is the one that is sought, its sets are that owner's, and the others are as they were
-pub last_own : (owner : Name) (last : Filed) → AreOwn last.0 last.1.items → is_same last.0 owner ≡ true → AreOwn owner last.1.items
+pub last_own : (owner : Name) (last : Owned) → AreOwn last.0 last.1.items → is_same last.0 owner ≡ true → AreOwn owner last.1.items
 last_own owner last mine same =
     let fold = folds_from_same last.0 owner same in
     record { rising = mine.rising; own = each_weaker (λ s. owner_of s ≡ fold_name last.0) (λ s. owner_of s ≡ fold_name owner) (λ s k. k ∙ fold) last.1.items mine.own }
 
-pub last_found : (owner : Name) (last : Filed) (others : List Filed) → is_same last.0 owner ≡ true → own_of owner (Some last) others ≡ Some last.1
+pub last_found : (owner : Name) (last : Owned) (others : List Owned) → is_same last.0 owner ≡ true → own_of owner (Some last) others ≡ Some last.1
 last_found owner last others same = ap (λ b. cond b (Some last.1) (own_at owner others)) (turned_eq owner last.0 ∙ ap is_eq (tie_from_same last.0 owner same))
 
-pub last_missed : (owner : Name) (last : Filed) → is_same last.0 owner ≡ false → own_of owner (Some last) [] ≡ None
+pub last_missed : (owner : Name) (last : Owned) → is_same last.0 owner ≡ false → own_of owner (Some last) [] ≡ None
 last_missed owner last apart = ap (λ b. cond b (Some last.1) (own_at owner [])) (turned_eq owner last.0 ∙ sym (is_same_tied last.0 owner) ∙ apart)
 
-pub last_apart : (owner : Name) (last : Filed) (others : List Filed) → is_same last.0 owner ≡ true → (name : Name) → is_at (canonical_cmp owner) name ≡ false → own_at name others ≡ own_of name (Some last) others
+pub last_apart : (owner : Name) (last : Owned) (others : List Owned) → is_same last.0 owner ≡ true → (name : Name) → is_at (canonical_cmp owner) name ≡ false → own_at name others ≡ own_of name (Some last) others
 last_apart owner last others same name apart =
     sym (ap (λ b. cond b (Some last.1) (own_at name others)) (turned_eq name last.0 ∙ ap is_eq (canonical_total.congr last.0 owner name (tie_from_same last.0 owner same)) ∙ apart))
 
 -- what is found among the last alone
-pub found_last : (owner : Name) (last : Option Filed) (others : List Filed) (own : Vec (List Record)) → own_of owner last [] ≡ Some own → own_of owner last others ≡ Some own
+pub found_last : (owner : Name) (last : Option Owned) (others : List Owned) (own : Vec (List Record)) → own_of owner last [] ≡ Some own → own_of owner last others ≡ Some own
 found_last owner None others own e = absurd (cc)
 found_last owner (Some last) others own e = by (is_eq (canonical_cmp owner last.0)) e
   where
@@ -320,7 +320,7 @@ found_last owner (Some last) others own e = by (is_eq (canonical_cmp owner last.
     by true e = e
     by false e = absurd (cc)
 
-pub missed_last : (owner : Name) (last : Option Filed) (others : List Filed) → own_of owner last [] ≡ None → own_of owner last others ≡ own_at owner others
+pub missed_last : (owner : Name) (last : Option Owned) (others : List Owned) → own_of owner last [] ≡ None → own_of owner last others ≡ own_at owner others
 missed_last owner None others e = refl
 missed_last owner (Some last) others e = by (is_eq (canonical_cmp owner last.0)) e
   where
@@ -342,20 +342,20 @@ no_items None e = refl
 no_items (Some v) e = absurd (cc)
 
 -- all owners that were taken, with that one behind the others
-pub all_own : (others : List Filed) (last : Filed) → AreOwn last.0 last.1.items → AllOwn others → AllOwn (others ++ last ∷ [])
+pub all_own : (others : List Owned) (last : Owned) → AreOwn last.0 last.1.items → AllOwn others → AllOwn (others ++ last ∷ [])
 all_own [] last own h = (own, tt)
 all_own (first ∷ others) last own h = (h.0, all_own others last own h.1)
 
-pub all_of_own : (last : Option Filed) (others : List Filed) → IsLastOwn last → AllOwn others → AllOwn (all_of last others)
+pub all_of_own : (last : Option Owned) (others : List Owned) → IsLastOwn last → AllOwn others → AllOwn (all_of last others)
 all_of_own None others own each = each
 all_of_own (Some last) others own each = all_own others last own each
 
 -- and the zone with all of them is the one that was made
-pub all_made : (zone : List Record) (last : Option Filed) (others : List Filed) → with_owners zone (all_of last others) ≡ made_of zone last others
+pub all_made : (zone : List Record) (last : Option Owned) (others : List Owned) → with_owners zone (all_of last others) ≡ made_of zone last others
 all_made zone None others = refl
 all_made zone (Some last) others = behind zone others
   where
-    behind : (zone : List Record) (others : List Filed) → with_owners zone (others ++ last ∷ []) ≡ with_owner last.0 (records_in last.1.items) (with_owners zone others)
+    behind : (zone : List Record) (others : List Owned) → with_owners zone (others ++ last ∷ []) ≡ with_owner last.0 (records_in last.1.items) (with_owners zone others)
     behind zone [] = refl
     behind zone (own ∷ others) = behind (with_owner own.0 (records_in own.1.items) zone) others
 
@@ -365,5 +365,5 @@ on_ok (Ok x) h = h
 on_ok (Err e) h = tt
 
 -- where none are left, those so far are all
-pub all_so_far : (owned rest others : List Filed) → owned ++ rest ≡ others → rest ≡ [] → owned ≡ others
-all_so_far owned rest others all none = sym (append-nil owned) ∙ ap (λ (l : List Filed). owned ++ l) (sym none) ∙ all
+pub all_so_far : (owned rest others : List Owned) → owned ++ rest ≡ others → rest ≡ [] → owned ≡ others
+all_so_far owned rest others all none = sym (append-nil owned) ∙ ap (λ (l : List Owned). owned ++ l) (sym none) ∙ all

@@ -14,7 +14,7 @@ use Rattle.dns_name.specs.Order.{is_same_equiv}
 use Rattle.dns_rdata.specs.Record.{Record, owner_of, rtype_of}
 use Rattle.zone_tree.specs.Zone.{IsBefore, stands_at, is_of, rrset_of, rrsets_of}
 use Rattle.zone_tree.specs.Sets.{records_in, IsRRset, AreWhole}
-use Rattle.zone_tree.specs.Filed.{Filed}
+use Rattle.zone_tree.specs.Filed.{Owned}
 use Rattle.zone_tree.specs.Edit.{AreOwn}
 use Rattle.update_core.specs.Tagged.{tagged_cmp}
 use Rattle.update_core.specs.Overlay.{at_owner, own_at, own_of, made_of, IsOverlay, Overlaid}
@@ -54,7 +54,7 @@ module _ (zone : List Record) (owner : Name) (own : List (List Record)) (mine : 
         ascending = whole.ascending;
       }
 
-module _ (zone : List Record) (last : Option Filed) (others : List Filed) (count : ℕ) (h : IsOverlay zone last others count) (owner : Name) where
+module _ (zone : List Record) (last : Option Owned) (others : List Owned) (count : ℕ) (h : IsOverlay zone last others count) (owner : Name) where
   abbrev made : List Record
   made = made_of zone last others
 
@@ -86,11 +86,11 @@ module _ (zone : List Record) (last : Option Filed) (others : List Filed) (count
     zone_there e sets each is whole = other_there (found_beside ∙ e) sets each is whole
 
 -- where the same stands at each owner that was taken, no other zone was made
-module _ (zone : List Record) (last : Option Filed) (others : List Filed) (count : ℕ) (h : IsOverlay zone last others count) where
+module _ (zone : List Record) (last : Option Owned) (others : List Owned) (count : ℕ) (h : IsOverlay zone last others count) where
   abbrev now : List Record
   now = made_of zone last others
 
-  found_same : (name : Name) (owned : List Filed) → AllByRecursion (λ own. rrsets_of now own.0 ≡ rrsets_of zone own.0) owned → (own_at name owned ≡ None → rrsets_of now name ≡ rrsets_of zone name) → rrsets_of now name ≡ rrsets_of zone name
+  found_same : (name : Name) (owned : List Owned) → AllByRecursion (λ own. rrsets_of now own.0 ≡ rrsets_of zone own.0) owned → (own_at name owned ≡ None → rrsets_of now name ≡ rrsets_of zone name) → rrsets_of now name ≡ rrsets_of zone name
   found_same name [] same none = none refl
   found_same name (first ∷ owned) same none = by (canonical_cmp name first.0) refl (found_same name owned same.1) none
     where
@@ -108,18 +108,18 @@ module _ (zone : List Record) (last : Option Filed) (others : List Filed) (count
       let rising = rises_from_pairs IsBefore zone h.base.rules.ascending in
       same_by_owners now zone (now_rises zone last others h.own h.each rising) rising (λ name. by name last mine (stands_as name))
     where
-      by : (name : Name) (own : Option Filed) → IfSome own (λ own. rrsets_of now own.0 ≡ rrsets_of zone own.0) → (own_of name own others ≡ None → rrsets_of now name ≡ rrsets_of zone name) → rrsets_of now name ≡ rrsets_of zone name
+      by : (name : Name) (own : Option Owned) → IfSome own (λ own. rrsets_of now own.0 ≡ rrsets_of zone own.0) → (own_of name own others ≡ None → rrsets_of now name ≡ rrsets_of zone name) → rrsets_of now name ≡ rrsets_of zone name
       by name None mine none = found_same name others each none
       by name (Some own) mine none = found_same name (own ∷ others) (mine, each) none
 
-abbrev the_overlaid : List Record → Option Filed → List Filed → Overlaid
+abbrev the_overlaid : List Record → Option Owned → List Owned → Overlaid
 the_overlaid zone last others = record { base = zone; made = made_of zone last others }
 
 -- so what was compared tells whether another one was
 abbrev pub StaysAt : Overlaid → Name → Type 0
 StaysAt v name = rrsets_of v.made name ≡ rrsets_of v.base name
 
-module _ (zone : List Record) (last : Option Filed) (others : List Filed) (count : ℕ) (h : IsOverlay zone last others count) (v : Overlaid) (is : the_overlaid zone last others ≡ v) where
+module _ (zone : List Record) (last : Option Owned) (others : List Owned) (count : ℕ) (h : IsOverlay zone last others count) (v : Overlaid) (is : the_overlaid zone last others ≡ v) where
   pub told : IfSome last (λ own. StaysAt v own.0) → (b : Bool) → MatchBool b (v.made ≢ v.base) (AllByRecursion (λ own. StaysAt v own.0) others) → MatchBool b (v.made ≢ v.base) (v.made ≡ v.base)
   told mine true differs = differs
   told mine false same =

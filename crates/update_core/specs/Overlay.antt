@@ -15,7 +15,7 @@ use Rattle.dns_rdata.specs.Raw.{RawRecord}
 use Rattle.dns_rdata.specs.Record.{Record, owner_of, rtype_of, without_data}
 use Rattle.zone_tree.specs.Zone.{IsZone, apex_of, rrset_of, rrsets_of}
 use Rattle.zone_tree.specs.Sets.{records_in, IsRRset}
-use Rattle.zone_tree.specs.Filed.{Filed}
+use Rattle.zone_tree.specs.Filed.{Owned}
 use Rattle.zone_tree.specs.Edit.{put_at, with_owner, with_owners, AreOwn}
 use Rattle.zone_tree.specs.declared.change.Change.{Change}
 use Rattle.zone_tree.specs.declared.change.Change.TheVariants.{Put, Remove}
@@ -30,33 +30,33 @@ abbrev pub at_owner : List Record → Option (Vec (List Record)) → List Record
 at_owner old None = old
 at_owner old (Some own) = records_in own.items
 
-abbrev pub own_at : Name → List Filed → Option (Vec (List Record))
+abbrev pub own_at : Name → List Owned → Option (Vec (List Record))
 own_at name owned = lookup (is_at (canonical_cmp name)) owned
 
 -- the sets of an owner, among those of the owner that was changed last and of others
-abbrev pub own_of : Name → Option Filed → List Filed → Option (Vec (List Record))
+abbrev pub own_of : Name → Option Owned → List Owned → Option (Vec (List Record))
 own_of name None others = own_at name others
 own_of name (Some last) others = if is_eq (canonical_cmp name last.0) then Some last.1 else own_at name others
 
 -- a zone with these sets for those of the others, and then for those of the last
-abbrev pub made_of : List Record → Option Filed → List Filed → List Record
+abbrev pub made_of : List Record → Option Owned → List Owned → List Record
 made_of zone None others = with_owners zone others
 made_of zone (Some last) others = with_owner last.0 (records_in last.1.items) (with_owners zone others)
 
 -- all owners that were taken, with their sets: the one that was changed last behind the others
-abbrev pub all_of : Option Filed → List Filed → List Filed
+abbrev pub all_of : Option Owned → List Owned → List Owned
 all_of None others = others
 all_of (Some last) others = others ++ last ∷ []
 
-abbrev pub AllOwn : List Filed → Type 0
+abbrev pub AllOwn : List Owned → Type 0
 AllOwn owned = AllByRecursion (λ own. AreOwn own.0 own.1.items) owned
 
-abbrev pub IsLastOwn : Option Filed → Type 0
+abbrev pub IsLastOwn : Option Owned → Type 0
 IsLastOwn last = IfSome last (λ own. AreOwn own.0 own.1.items)
 
 -- what an overlay keeps: each owner's sets are its own, the others are in order, and with their sets the zone is a zone again, of
 -- the same apex, whose records are counted
-pub record IsOverlay (zone : List Record) (last : Option Filed) (others : List Filed) (count : ℕ) : Type 0 where
+pub record IsOverlay (zone : List Record) (last : Option Owned) (others : List Owned) (count : ℕ) : Type 0 where
   pub base : IsZone zone
   pub own : IsLastOwn last
   pub each : AllOwn others
