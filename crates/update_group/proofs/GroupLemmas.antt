@@ -4,8 +4,14 @@ use Rattle.std.proofs.lemmas.List.{length_push}
 use Rattle.std.proofs.lemmas.List.Concat.{flat_map-append}
 use Rattle.journal.specs.Batch.{counted, batch_of, IsShort}
 use Rattle.journal.proofs.BatchLemmas.{counted_long}
+use Rattle.std.proofs.Common.{Option, None, Some, ◌⊎◌}
+use Rattle.std.specs.Prelude.{MatchOption, replicate}
+use Rattle.journal.specs.declared.heads.Head.{Head}
+use Rattle.journal_store.specs.declared.log.Log.{Log}
+use Rattle.journal_store.specs.Log.{Holds, IsStuck}
+use Rattle.update_group.specs.declared.group.Group.{Group}
 use Rattle.update_group.specs.Engine.{IsLast, AreMade}
-use Rattle.update_group.specs.Group.{noerror, servfail, newest_of, Judged, nothing, told, starved, changed}
+use Rattle.update_group.specs.Group.{noerror, servfail, newest_of, logged, codes_of, versions_of, IsBatch, IsGivenUp, Judged, nothing, told, starved, changed, IsGroup, Lasts, Fails}
 use Rattle.update_group.specs.Private.{SoFar}
 
 -- the newest of versions is the last of them
@@ -113,3 +119,43 @@ module _ {V A : Type 0} (passes : V → A → Type 0) (tells : V → A → ℕ �
         few = omega (arith, few, more);
         long = omega (arith, longer, more, so_far.long, short);
       }
+
+-- whether a group's batch got to the disk or not, what it publishes is made from the same version
+pub made_still : {V A X : Type 0} (makes : V → A → V → Type 0) (fault : Option X) (first : V) (group done : Group V) → MatchOption fault (done ≡ group) (λ _. IsGivenUp group done)
+    → AreMade makes first (versions_of group) → AreMade makes first (versions_of done)
+made_still makes None first group done same made = subst (λ g. AreMade makes first (versions_of g)) (sym same) made
+made_still makes (Some fault) first group done given_up made = subst (λ vs. AreMade makes first vs) (sym given_up.none) tt
+
+module _ {V A D F X : Type 0} (passes : V → A → Type 0) (tells : V → A → ℕ → Type 0) (makes : V → A → V → Type 0) (octets : A → List ℕ) (written synced : D → List ℕ) where
+  -- a group that is judged, brought to the disk and published is told as it is
+  pub told_together : (fault : Option X) (first : V) (old new : List V) (asked : List A) (codes : List ℕ) (before after : Log D F) (group done : Group V) (room : ℕ)
+      → IsLast old first → IsGroup passes tells makes octets first asked group room
+      → MatchOption fault (done ≡ group) (λ _. IsGivenUp group done)
+      → MatchOption fault
+      ((updates : List (List ℕ)) → IsBatch group updates → (head : Head) (bodies : List (List ℕ)) → Holds written synced head before bodies
+      → Holds written synced head after (logged bodies updates))
+      (λ _. (head : Head) (bodies : List (List ℕ)) → Holds written synced head before bodies → Holds written synced head after bodies ⊎ IsStuck synced head after bodies)
+      → new ≡ old ++ versions_of done → codes ≡ codes_of done
+      → MatchOption fault (Lasts passes tells makes octets written synced old new asked codes before after)
+      (λ _. Fails passes tells makes octets written synced old new asked codes before after)
+  told_together None first old new asked codes before after group done room last is same on_disk published codes_is = record {
+    first = first;
+    versions = versions_of group;
+    updates = is.updates;
+    last = last;
+    judged = subst (λ (cs : List ℕ). Judged passes tells makes octets first asked cs (versions_of group) is.updates) (sym (codes_is ∙ ap (λ g. codes_of g) same)) is.judged;
+    published = published ∙ ap (λ g. old ++ versions_of g) same;
+    on_disk = on_disk is.updates is.batch;
+  }
+  told_together (Some fault) first old new asked codes before after group done room last is given_up kept published codes_is = record {
+    first = first;
+    judged_codes = codes_of group;
+    versions = versions_of group;
+    updates = is.updates;
+    last = last;
+    judged = is.judged;
+    some = omega (arith, is.batch.many, given_up.some);
+    told = codes_is ∙ (given_up.told ∙ ap (λ (n : ℕ). replicate n servfail) (judged_long passes tells makes octets first room is.judged));
+    published = published ∙ (ap (λ (vs : List V). old ++ vs) given_up.none ∙ append-nil old);
+    kept = kept;
+  }

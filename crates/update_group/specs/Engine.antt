@@ -1,7 +1,7 @@
 -- What an update does in a version.
 use Rattle.std.specs.Prelude.{◌≡◌, ℕ, List, [], ◌∷◌, ◌++◌}
-use Rattle.update_group.specs.declared.engine.Judgement.{Judgement}
-use Rattle.update_group.specs.declared.engine.Judgement.TheVariants.{Told, Made, Starved}
+use Rattle.update_group.specs.declared.judging.Judgement.{Judgement}
+use Rattle.update_group.specs.declared.judging.Judgement.TheVariants.{Told, Made, Starved}
 
 -- it is the last of these
 abbrev pub IsLast : {V : Type 0} → List V → V → Type 0

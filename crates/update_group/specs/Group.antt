@@ -1,9 +1,10 @@
 -- Updates that are judged one upon the other, and last together.
-use Rattle.std.specs.Prelude.{◌≡◌, ◌⊎◌, ◌<◌, ℕ, List, [], ◌∷◌, ◌++◌, length, replicate}
+use Rattle.std.specs.Prelude.{◌≡◌, ◌⊎◌, ◌<◌, ◌≤◌, ℕ, List, [], ◌∷◌, ◌++◌, length, replicate}
 use Rattle.journal.specs.declared.heads.Head.{Head}
 use Rattle.journal.specs.Batch.{batch_of}
 use Rattle.journal_store.specs.declared.log.Log.{Log}
 use Rattle.journal_store.specs.Log.{Holds, IsStuck}
+use Rattle.update_group.specs.declared.group.Group.{Group}
 use Rattle.update_group.specs.Engine.{IsLast}
 
 -- the codes of RFC 2136, 2.2
@@ -23,6 +24,26 @@ abbrev pub logged : List (List ℕ) → List (List ℕ) → List (List ℕ)
 logged bodies [] = bodies
 logged bodies (update ∷ updates) = bodies ++ batch_of (update ∷ updates) ∷ []
 
+module _ {V : Type 0} where
+  -- the codes of a group's updates
+  abbrev pub codes_of : Group V → List ℕ
+  codes_of group = group.codes.items
+
+  -- the versions that they make
+  abbrev pub versions_of : Group V → List V
+  versions_of group = group.versions.items
+
+  -- these updates, one for each version of a group, are its batch
+  pub record IsBatch (group : Group V) (updates : List (List ℕ)) : Type 0 where
+    pub spelt : group.body.items ≡ batch_of updates
+    pub many : length updates ≡ length (versions_of group)
+
+  -- a group of which some update makes a version is told SERVFAIL, and has no version
+  pub record IsGivenUp (old new : Group V) : Type 0 where
+    pub some : 0 < length (versions_of old)
+    pub told : codes_of new ≡ replicate (length (codes_of old)) servfail
+    pub none : versions_of new ≡ []
+
 module _ {V A : Type 0} (passes : V → A → Type 0) (tells : V → A → ℕ → Type 0) (makes : V → A → V → Type 0) (octets : A → List ℕ) where
   -- updates that are judged from a version on, each in the version that those before it made: their codes, the versions that they make, and the octets of those
   -- that make one. An update that each rule lets through may be told SERVFAIL, and then makes none
@@ -35,6 +56,13 @@ module _ {V A : Type 0} (passes : V → A → Type 0) (tells : V → A → ℕ �
     changed : {asked : List A} {codes : List ℕ} {made : List V} {updates : List (List ℕ)} (one : A) (next : V) → Judged first asked codes made updates
         → passes (newest_of first made) one → makes (newest_of first made) one next
         → Judged first (asked ++ one ∷ []) (codes ++ noerror ∷ []) (made ++ next ∷ []) (updates ++ octets one ∷ [])
+
+  -- a group of updates that are judged from a version on, of which at most so many make one
+  pub record IsGroup (first : V) (asked : List A) (group : Group V) (room : ℕ) : Type 0 where
+    pub updates : List (List ℕ)
+    pub judged : Judged first asked (codes_of group) (versions_of group) updates
+    pub batch : IsBatch group updates
+    pub few : length (versions_of group) ≤ room
 
   module _ {D F : Type 0} (written synced : D → List ℕ) where
     -- all is told as it was judged: the versions are published, in their order, and their updates are on the disk, as one batch

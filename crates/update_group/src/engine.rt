@@ -1,46 +1,16 @@
-//! What judges updates, and publishes versions (own).
+//! What publishes versions (own).
 ghost use Rattle.std.specs.Prelude.{◌≡◌, ℕ, ◌+◌, ◌<◌, List, [], ◌∷◌, ◌++◌};
-ghost use Rattle.journal.specs.Batch.{IsShort};
-ghost use Rattle.update_group.specs.Engine.{IsLast, IsMadeFrom, IsJudged};
+ghost use Rattle.update_group.specs.Engine.{IsLast, IsMadeFrom};
 
-use std::alloc::Global;
+use crate::judging::Judging;
 
-/// What an update does in a version.
-#[derive(Drop)]
-pub enum Judgement<V> {
-    /// It makes none: its RCODE (RFC 2136, 2.2), NOERROR where it changes nothing.
-    Told(u8),
-    /// It makes this one.
-    Made(V),
-    /// Each rule lets it through, and there is no memory for what it makes.
-    Starved,
-}
-
-/// Versions that are published one after the other, and updates that make them.
-pub trait Engine: Drop {
-    /// A version.
-    type Version: Drop;
-
-    /// An update that is asked for.
-    type Asked;
-
+/// Versions that are published one after the other, and what judges the updates that make them.
+pub trait Engine: Judging + Drop {
     /// The versions that are published, the first one first.
     ghost published: { Self → List Self.Version };
 
     /// So many versions can be published, whatever else happens.
     ghost free: { Self → ℕ };
-
-    /// The octets of an update, as they were received.
-    ghost octets: { Self.Asked → List ℕ };
-
-    /// In a version an update is let through by each rule.
-    ghost passes: { Self.Version → Self.Asked → Type 0 };
-
-    /// In a version an update gets this code, and makes none.
-    ghost tells: { Self.Version → Self.Asked → ℕ → Type 0 };
-
-    /// In a version an update makes this one.
-    ghost makes: { Self.Version → Self.Asked → Self.Version → Type 0 };
 
     /// The version that was published last.
     fn last(&self) -> &Self::Version
@@ -51,24 +21,10 @@ pub trait Engine: Drop {
         ensures free { free self.new ≡ result }
         ensures published { published self.new ≡ published self.old };
 
-    /// What an update does in a version. It takes memory.
-    fn judge(
-        &self,
-        alloc: Global,
-        version: &Self::Version,
-        asked: &Self::Asked,
-    ) -> Judgement<Self::Version>
-        ensures { IsJudged passes tells makes version.now asked.now result };
-
-    /// The octets of an update.
-    fn octets_of<'a>(&self, asked: &'a Self::Asked) -> &'a [u8]
-        ensures octets { result.now ≡ octets asked.now }
-        ensures short { IsShort result.now };
-
     /// Publishes a version, which some update makes from the last one.
     fn publish(&mut self, version: Self::Version)
         requires free { 0 < free self.old }
-        requires made { IsMadeFrom makes (published self.old) version }
+        requires made { IsMadeFrom Self.makes (published self.old) version }
         ensures published { published self.new ≡ published self.old ++ version ∷ [] }
         ensures free { free self.new + 1 ≡ free self.old };
 }

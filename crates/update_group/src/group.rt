@@ -1,43 +1,48 @@
-//! One sync for many updates (own).
-ghost use Rattle.std.specs.Prelude.{◌≡◌, IfOk, OnErr, MatchOption};
-ghost use Rattle.update_group.specs.Group.{Lasts, Fails};
+//! Updates that are judged, and brought to the disk by one sync (own).
+ghost use Rattle.std.specs.Prelude.{◌<◌, ◌^◌, length};
 
-use crate::engine::Engine;
-use crate::judged::judge_all;
-use crate::publishing::publish_all;
 use journal_store::{Disk, Log, LogFault};
-use std::alloc::{AllocError, Global};
-
-/// How many updates of a batch make a version at most.
-pub const MOST: usize = 64;
-
-/// NOERROR (RFC 2136, 2.2).
-pub(crate) const NOERROR: u8 = 0;
+use std::alloc::Global;
 
 /// SERVFAIL (RFC 2136, 2.2).
 pub(crate) const SERVFAIL: u8 = 2;
 
-/// Judges updates one upon the other, brings those that make a version to the disk as one batch, and publishes the versions, in order: their codes.
-/// Where the batch doesn't get to the disk, each is told SERVFAIL, nothing is published, and it is told why. It takes memory; at an error nothing has changed.
-pub fn update_all<E: Engine, D: Disk>(
-    engine: &mut E,
-    log: &mut Log<D>,
-    alloc: Global,
-    asked: &[E::Asked],
-) -> Result<(Vec<u8>, Option<LogFault<D::Fault>>), AllocError>
-    ensures told { IfOk result (λ r. MatchOption r.1
-        (Lasts E.passes E.tells E.makes E.octets D.written D.synced (E.published engine.old) (E.published engine.new) asked.now r.0.items log.old log.new)
-        (λ _. Fails E.passes E.tells E.makes E.octets D.written D.synced (E.published engine.old) (E.published engine.new) asked.now r.0.items log.old log.new)) }
-    ensures starved { OnErr result ((E.published engine.new ≡ E.published engine.old) × (log.new ≡ log.old)) }
-{
-    let room = engine.count().min(MOST);
-    let (mut codes, batch) = judge_all(engine, alloc, asked, room)?;
-    if !batch.versions.is_empty() {
-        if let Err(fault) = log.append(alloc, &batch.body) {
-            codes.fill(SERVFAIL);
-            return Ok((codes, Some(fault)));
+/// Updates that are judged one upon the other: their codes, and the versions that they make, with the batch of the updates that make one.
+#[derive(Drop)]
+pub struct Group<V: Drop> {
+    pub(crate) codes: Vec<u8>,
+    pub(crate) versions: Vec<V>,
+    pub(crate) body: Vec<u8>,
+    ghost short: { length body.items < 2 ^ 32 },
+}
+
+impl<V: Drop> Group<V> {
+    ghost use Rattle.std.specs.Prelude.{◌≡◌, ◌⊎◌, ℕ, List, length, MatchOption};
+    ghost use Rattle.journal.specs.declared.heads.Head.{Head};
+    ghost use Rattle.journal_store.specs.Log.{Holds, IsStuck};
+    ghost use Rattle.update_group.specs.Group.{versions_of, IsBatch, IsGivenUp, logged};
+
+    /// Brings the batch to the disk, if some update makes a version; else the disk isn't called. At a fault each update is told SERVFAIL, and there is no
+    /// version to publish: the journal has what it had, or takes nothing more. It takes memory, before anything is written.
+    pub fn append<D: Disk>(&mut self, alloc: Global, log: &mut Log<D>) -> Option<LogFault<D::Fault>>
+        ensures told { MatchOption result (self.new ≡ self.old) (λ _. IsGivenUp self.old self.new) }
+        ensures on_disk { MatchOption result
+            ((updates : List (List ℕ)) → IsBatch self.old updates → (head : Head) (bodies : List (List ℕ)) → Holds D.written D.synced head log.old bodies
+            → Holds D.written D.synced head log.new (logged bodies updates))
+            (λ _. (head : Head) (bodies : List (List ℕ)) → Holds D.written D.synced head log.old bodies
+            → Holds D.written D.synced head log.new bodies ⊎ IsStuck D.synced head log.new bodies) }
+        ensures none { length (versions_of self.old) ≡ 0 → log.new ≡ log.old }
+    {
+        if self.versions.is_empty() {
+            return None;
+        }
+        match log.append(alloc, &self.body) {
+            Ok(()) => None,
+            Err(fault) => {
+                self.codes.fill(SERVFAIL);
+                self.versions.clear();
+                Some(fault)
+            }
         }
     }
-    publish_all(engine, batch.versions);
-    Ok((codes, None))
 }

@@ -1,64 +1,71 @@
 //! Updates judged one upon the other, in versions that nobody sees yet (own).
 ghost use Rattle.std.specs.Prelude.{◌≡◌, ℕ, ◌≤◌, List, [], ◌∷◌, ◌++◌, IfOk, MatchBool};
 ghost use Rattle.journal.specs.Batch.{counted, IsShort};
-ghost use Rattle.update_group.specs.Engine.{IsLast, IsJudged};
-ghost use Rattle.update_group.specs.Group.{newest_of};
+ghost use Rattle.update_group.specs.Engine.{IsJudged};
+ghost use Rattle.update_group.specs.Group.{newest_of, IsGroup};
 ghost use Rattle.update_group.specs.Private.{SoFar};
 
-use crate::engine::{Engine, Judgement};
-use crate::group::{NOERROR, SERVFAIL};
+use crate::group::{Group, SERVFAIL};
+use crate::judging::{Judgement, Judging};
 use journal::put_update;
 use std::alloc::{AllocError, Global};
 
+/// NOERROR (RFC 2136, 2.2).
+const NOERROR: u8 = 0;
+
 /// The versions that updates make, and the batch of these updates.
 #[derive(Drop)]
-pub(crate) struct Batch<V: Drop> {
-    pub(crate) versions: Vec<V>,
-    pub(crate) body: Vec<u8>,
+struct Batch<V: Drop> {
+    versions: Vec<V>,
+    body: Vec<u8>,
 }
 
-/// What updates do, one upon the other, of which at most `room` make a version: their codes, the versions, and the batch.
-pub(crate) fn judge_all<E: Engine>(
-    engine: &E,
+/// What updates do in a version, one upon the other, of which at most `room` make one, and 64 at most. It takes memory; at an error it has none for their
+/// codes.
+pub fn judge_group<J: Judging>(
+    judging: &J,
     alloc: Global,
-    asked: &[E::Asked],
+    last: &J::Version,
+    asked: &[J::Asked],
     room: usize,
-) -> Result<(Vec<u8>, Batch<E::Version>), AllocError>
+) -> Result<Group<J::Version>, AllocError>
     requires { room ≤ 64 }
-    ensures { IfOk result (λ r. (first : E.Version) × IsLast (E.published engine.now) first
-        × SoFar E.passes E.tells E.makes E.octets first asked.now r.0.items r.1.versions.items r.1.body.items room) }
+    ensures { IfOk result (λ group. IsGroup J.passes J.tells J.makes J.octets last.now asked.now group room) }
 {
-    let first = engine.last();
     let mut codes = Vec::new(alloc);
     let mut batch = Batch {
         versions: Vec::new(alloc),
         body: Vec::new(alloc),
     };
     for one in asked {
-        let code = judge_one(engine, alloc, first, one, room, &mut batch);
+        let code = judge_one(judging, alloc, last, one, room, &mut batch);
         codes.push(code)?;
     }
-    Ok((codes, batch))
+    Ok(Group {
+        codes,
+        versions: batch.versions,
+        body: batch.body,
+    })
 }
 
 /// What one more update does, behind others that are judged from a first version on.
-fn judge_one<E: Engine>(
-    engine: &E,
+fn judge_one<J: Judging>(
+    judging: &J,
     alloc: Global,
-    first: &E::Version,
-    one: &E::Asked,
+    first: &J::Version,
+    one: &J::Asked,
     room: usize,
-    batch: &mut Batch<E::Version>,
+    batch: &mut Batch<J::Version>,
 ) -> u8
     requires { room ≤ 64 }
-    ensures { (asked : List E.Asked) (codes : List ℕ) → SoFar E.passes E.tells E.makes E.octets first.now asked codes batch.old.versions.items batch.old.body.items room
-        → SoFar E.passes E.tells E.makes E.octets first.now (asked ++ one.now ∷ []) (codes ++ result ∷ []) batch.new.versions.items batch.new.body.items room }
+    ensures { (asked : List J.Asked) (codes : List ℕ) → SoFar J.passes J.tells J.makes J.octets first.now asked codes batch.old.versions.items batch.old.body.items room
+        → SoFar J.passes J.tells J.makes J.octets first.now (asked ++ one.now ∷ []) (codes ++ result ∷ []) batch.new.versions.items batch.new.body.items room }
 {
-    match judge_next(engine, alloc, first, one, &batch.versions) {
+    match judge_next(judging, alloc, first, one, &batch.versions) {
         Judgement::Told(code) => code,
         Judgement::Starved => SERVFAIL,
         Judgement::Made(next) => {
-            if batch.versions.len() < room && put(batch, next, engine.octets_of(one)) {
+            if batch.versions.len() < room && put(batch, next, judging.octets_of(one)) {
                 NOERROR
             } else {
                 SERVFAIL
@@ -68,18 +75,18 @@ fn judge_one<E: Engine>(
 }
 
 /// What an update does in the newest of versions, in the first one where they are none.
-fn judge_next<E: Engine>(
-    engine: &E,
+fn judge_next<J: Judging>(
+    judging: &J,
     alloc: Global,
-    first: &E::Version,
-    one: &E::Asked,
-    versions: &[E::Version],
-) -> Judgement<E::Version>
-    ensures { IsJudged E.passes E.tells E.makes (newest_of first.now versions.now) one.now result }
+    first: &J::Version,
+    one: &J::Asked,
+    versions: &[J::Version],
+) -> Judgement<J::Version>
+    ensures { IsJudged J.passes J.tells J.makes (newest_of first.now versions.now) one.now result }
 {
     match versions.last() {
-        Some(version) => engine.judge(alloc, version, one),
-        None => engine.judge(alloc, first, one),
+        Some(version) => judging.judge(alloc, version, one),
+        None => judging.judge(alloc, first, one),
     }
 }
 

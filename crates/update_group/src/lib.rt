@@ -1,14 +1,22 @@
 //! One sync for many updates (own).
 //!
-//! [`update_all`] judges updates one upon the other, in versions that nobody sees yet, brings the batch of those that make one to the disk
-//! (`journal_store`), and publishes the versions in their order. What an update is, and what it makes of a version, an [`Engine`] says. It counts how many versions
-//! it can publish before anything is judged, so that none that is on the disk is left unpublished.
+//! [`judge_group`] judges updates one upon the other, in versions that nobody sees yet; [`Group::append`] brings the batch of those that make one to the disk
+//! (`journal_store`); [`publish_group`] publishes the versions in their order. Only the last of the three wants the engine to itself: the first is given the
+//! version that was published last, and how many more can be, and the second calls the disk alone. [`update_all`] is the three, one after the other. What an
+//! update is, and what it makes of a version, a [`Judging`] says, and what is published an [`Engine`]. It counts how many versions it can publish before
+//! anything is judged, so that none that is on the disk is left unpublished.
 #![tactic(auto)]
 
 mod engine;
 mod group;
 mod judged;
+mod judging;
 mod publishing;
+mod together;
 
-pub use engine::{Engine, Judgement};
-pub use group::{MOST, update_all};
+pub use engine::Engine;
+pub use group::Group;
+pub use judged::judge_group;
+pub use judging::{Judgement, Judging};
+pub use publishing::publish_group;
+pub use together::{MOST, update_all};
