@@ -1,0 +1,19 @@
+//! The files of a store: a zone text, and the journal of the updates since (own).
+//!
+//! A store is a folder that one process holds ([`open_store`]). `zone-N` has a zone text, and is never changed; `journal` begins with a head that names its N
+//! and the text's sum (`journal`), and is appended to (`journal_store`); `lock` has no octets, and a lock of its own, since `journal` is replaced.
+//! [`write_pair`] writes a text and a journal on, and one rename decides which pair a start finds. [`read_store`] reads a store that another process may
+//! hold. What a system does with these calls no contract knows: that of the journal's file is told by its notes (`file_disks`).
+#![tactic(auto)]
+
+mod files;
+mod kept;
+mod names;
+mod open;
+mod pair;
+mod read;
+
+pub use kept::{drop_others, keep_torn};
+pub use open::{Opened, Pair, StoreLock, open_store};
+pub use pair::{PairFault, write_pair};
+pub use read::read_store;

@@ -1,0 +1,28 @@
+//! The names of a store's files (own).
+ghost use Rattle.std.specs.Prelude.{◌≡◌, ◌++◌, string_bytes, IfOk};
+ghost use Rattle.store_files.specs.Names.{path_of, text_name};
+
+use std::alloc::{AllocError, Global};
+
+/// The journal.
+pub(crate) const JOURNAL: &str = "journal";
+
+/// One that isn't renamed yet.
+pub(crate) const NEW_JOURNAL: &str = "journal.new";
+
+/// What is locked.
+pub(crate) const LOCK: &str = "lock";
+
+/// The path of a file of a store. It takes memory.
+pub(crate) fn path_of(alloc: Global, dir: &str, name: &str) -> Result<String, AllocError>
+    ensures { IfOk result (λ path. string_bytes path ≡ path_of dir.now name.now) }
+{
+    format!(in alloc; "{dir}/{name}")
+}
+
+/// The path of the zone text of a number. It takes memory.
+pub(crate) fn text_path(alloc: Global, dir: &str, number: u64) -> Result<String, AllocError>
+    ensures { IfOk result (λ path. string_bytes path ≡ path_of dir.now (text_name number)) }
+{
+    format!(in alloc; "{dir}/zone-{number}")
+}

@@ -1,0 +1,101 @@
+//! A store that is held (own).
+ghost use Rattle.std.specs.Prelude.{IfOk};
+ghost use Rattle.store_files.specs.Store.{IsAsNoted};
+
+use crate::names::{JOURNAL, LOCK, path_of};
+use crate::read::{Text, read_text};
+use file_disks::FileDisk;
+use std::alloc::Global;
+use std::fs::{File, Files, OpenOptions, TryLockError};
+use std::io::{self, ErrorKind};
+
+/// A store that this process holds, until it is dropped.
+#[derive(Drop)]
+pub struct StoreLock {
+    file: File,
+}
+
+/// A zone text, and the journal of the updates since.
+#[derive(Drop)]
+pub struct Pair {
+    /// The zone text that the journal names; no octets where it begins with no head, which a start then tells.
+    pub text: Vec<u8>,
+    /// The journal's octets, as the disk has them.
+    pub journal: Vec<u8>,
+    /// The journal's file.
+    pub disk: FileDisk,
+}
+
+/// A store, as it is found.
+#[derive(Drop)]
+pub enum Opened {
+    /// Another process holds it.
+    Locked,
+    /// It has no journal yet.
+    Empty(StoreLock),
+    /// It has a journal, which names the zone text of this number, and that isn't there.
+    NoText(u64),
+    /// It has a journal, and the zone text that it names.
+    Found(StoreLock, Pair),
+}
+
+/// Holds the store of a folder that is there, and reads it: its journal as the disk has it (`file_disks`). It takes memory.
+pub fn open_store<R: Files<File = File>>(rt: &R, alloc: Global, dir: &str) -> io::Result<Opened>
+    ensures { IfOk result (λ opened. IsAsNoted opened) }
+{
+    let Some(lock) = take_lock(rt, alloc, dir)? else {
+        return Ok(Opened::Locked);
+    };
+    let Some(file) = open_journal(rt, alloc, dir)? else {
+        return Ok(Opened::Empty(lock));
+    };
+    let (disk, journal) = FileDisk::read(alloc, file)?;
+    match read_text(rt, alloc, dir, &journal)? {
+        Text::Gone(number) => Ok(Opened::NoText(number)),
+        Text::There(text) => {
+            let pair = Pair {
+                text,
+                journal,
+                disk,
+            };
+            Ok(Opened::Found(lock, pair))
+        }
+    }
+}
+
+/// Holds a store; None where another process does (flock(2)).
+fn take_lock<R: Files<File = File>>(
+    rt: &R,
+    alloc: Global,
+    dir: &str,
+) -> io::Result<Option<StoreLock>> {
+    let path = path_of(alloc, dir, LOCK)?;
+    let file = OpenOptions::new()
+        .read(true)
+        .write(true)
+        .create(true)
+        .open(rt, path.as_str())?;
+    match file.try_lock() {
+        Ok(()) => Ok(Some(StoreLock { file })),
+        Err(TryLockError::WouldBlock) => Ok(None),
+        Err(TryLockError::Error(error)) => Err(error),
+    }
+}
+
+/// The journal's file, to be read and written; None where there is none.
+fn open_journal<R: Files<File = File>>(
+    rt: &R,
+    alloc: Global,
+    dir: &str,
+) -> io::Result<Option<File>> {
+    let path = path_of(alloc, dir, JOURNAL)?;
+    match OpenOptions::new()
+        .read(true)
+        .write(true)
+        .open(rt, path.as_str())
+    {
+        Ok(file) => Ok(Some(file)),
+        Err(error) if error.kind() == ErrorKind::NotFound => Ok(None),
+        Err(error) => Err(error),
+    }
+}
