@@ -1,0 +1,99 @@
+//! Pairs that replace one another, and journals that are appended to.
+use crate::folders::{found_in, journal_of, make_folder, put_pair};
+use journal::{put_update, read_head};
+use journal_store::{Disk, Log};
+use std::fs;
+use std::test::Fail;
+use store_files::{Opened, PairFault, open_store, read_store, write_pair};
+
+// What is written is found, and the next pair replaces it, with its text beside the one before.
+#[test]
+fn pairs_are_found(rt: HostRuntime) -> Result<(), Fail> {
+    let dir = "store_tests_pairs";
+    make_folder(&rt, dir)?;
+    let texts = [b"first".as_slice(), b"second", b""];
+    for number in 0..3 {
+        let text = texts[number];
+        put_pair(&rt, dir, number as u64, text)?;
+        let (lock, pair) = found_in(&rt, dir)?;
+        let journal = journal_of(rt.alloc(), number as u64, text)?;
+        assert_eq!(rt; pair.text.as_slice(), text, "text {number}");
+        assert_eq!(rt;
+            pair.journal.as_slice(),
+            journal.as_slice(),
+            "journal {number}"
+        );
+        drop(lock);
+    }
+    assert_eq!(rt;
+        fs::read(&rt, "store_tests_pairs/zone-1")?.as_slice(),
+        b"second".as_slice()
+    );
+    assert!(rt; !fs::exists(&rt, "store_tests_pairs/journal.new")?);
+    fs::remove_dir_all(&rt, dir)?;
+    Ok(())
+}
+
+// A crash in front of the rename leaves the pair before, whatever is left of the other one; what is left is written over by the next.
+#[test]
+fn half_a_pair_is_none(rt: HostRuntime) -> Result<(), Fail> {
+    let dir = "store_tests_half";
+    make_folder(&rt, dir)?;
+    fs::write(&rt, "store_tests_half/zone-0", b"half of a text".as_slice())?;
+    fs::write(&rt, "store_tests_half/journal.new", b"half".as_slice())?;
+    assert!(rt; matches!(open_store(&rt, rt.alloc(), dir)?, Opened::Empty(_)));
+    put_pair(&rt, dir, 0, b"first")?;
+    fs::write(&rt, "store_tests_half/zone-1", b"half of a text".as_slice())?;
+    fs::write(&rt, "store_tests_half/journal.new", [7; 500].as_slice())?;
+    let (lock, pair) = found_in(&rt, dir)?;
+    assert_eq!(rt; pair.text.as_slice(), b"first".as_slice());
+    drop(lock);
+    put_pair(&rt, dir, 1, b"2")?;
+    let (_, pair) = found_in(&rt, dir)?;
+    assert_eq!(rt; pair.text.as_slice(), b"2".as_slice());
+    assert_eq!(rt; pair.journal.len(), 156);
+    fs::remove_dir_all(&rt, dir)?;
+    Ok(())
+}
+
+// The file of a pair that is written is the store's journal: a batch that is appended to it is read by the journal's name, by who reads it meanwhile and by the
+// next start.
+#[test]
+fn a_batch_is_appended(rt: HostRuntime) -> Result<(), Fail> {
+    let alloc = rt.alloc();
+    let dir = "store_tests_batch";
+    make_folder(&rt, dir)?;
+    let head = journal_of(alloc, 5, b"a text")?;
+    let Ok((_, salt, _)) = read_head(&head) else {
+        return Err(Fail::from("no head"));
+    };
+    let Ok(disk) = write_pair(&rt, alloc, dir, 5, b"a text", &head) else {
+        return Err(Fail::from("no pair"));
+    };
+    let mut log = Log::resume(disk, &salt, 0, head.len() as u64)?;
+    let mut body = Vec::new(alloc);
+    put_update(&mut body, b"an update")?;
+    assert!(rt; log.append(alloc, &body).is_ok());
+    let (_, journal) = read_store(&rt, alloc, dir)?;
+    assert_eq!(rt; journal.len(), 156 + 44 + 11);
+    let (_, pair) = found_in(&rt, dir)?;
+    assert_eq!(rt; pair.journal.as_slice(), journal.as_slice());
+    fs::remove_dir_all(&rt, dir)?;
+    Ok(())
+}
+
+// A pair that can't be written leaves the one before, and says so.
+#[test]
+fn a_pair_fails(rt: HostRuntime) -> Result<(), Fail> {
+    let dir = "store_tests_fails";
+    make_folder(&rt, dir)?;
+    put_pair(&rt, dir, 0, b"first")?;
+    fs::create_dir(&rt, "store_tests_fails/zone-1")?;
+    let journal = journal_of(rt.alloc(), 1, b"second")?;
+    let told = write_pair(&rt, rt.alloc(), dir, 1, b"second", &journal);
+    assert!(rt; matches!(told, Err(PairFault::Before(_))));
+    let (_, pair) = found_in(&rt, dir)?;
+    assert_eq!(rt; pair.text.as_slice(), b"first".as_slice());
+    fs::remove_dir_all(&rt, dir)?;
+    Ok(())
+}
