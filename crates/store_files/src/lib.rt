@@ -2,8 +2,8 @@
 //!
 //! A store is a folder that one process holds ([`open_store`]). `zone-N` has a zone text, and is never changed; `journal` begins with a head that names its N
 //! and the text's sum (`journal`), and is appended to (`journal_store`); `lock` has no octets, and a lock of its own, since `journal` is replaced.
-//! [`write_pair`] writes a text and a journal on, and one rename decides which pair a start finds. [`read_store`] reads a store that another process may
-//! hold. What a system does with these calls no contract knows: that of the journal's file is told by its notes (`file_disks`).
+//! [`write_text`] and [`replace_journal`], or [`write_pair`], write the next of each, and one rename decides which journal a start finds. [`read_store`]
+//! reads a store that another process may hold. What a system does with these calls no contract knows: that of the journal's file is told by its notes (`file_disks`).
 #![tactic(auto)]
 
 mod files;
@@ -15,5 +15,5 @@ mod read;
 
 pub use kept::{drop_others, keep_torn};
 pub use open::{Opened, Pair, StoreLock, open_store};
-pub use pair::{PairFault, write_pair};
+pub use pair::{PairFault, replace_journal, write_pair, write_text};
 pub use read::read_store;

@@ -10,17 +10,17 @@ use std::alloc::Global;
 use std::fs::{self, File, Files, OpenOptions};
 use std::io;
 
-/// Why a pair isn't written.
+/// Why a journal isn't the store's.
 #[derive(Debug, Drop)]
 pub enum PairFault {
-    /// The store's pair is that before it, whatever crashes.
+    /// The store has the journal that it had, whatever crashes.
     Before(io::Error),
-    /// Nobody knows which of the two pairs a crash leaves: nothing may be told that is appended to either journal.
+    /// Nobody knows which of the two journals a crash leaves: what is appended to either doesn't last.
     Unknown(io::Error),
 }
 
-/// Writes a zone text of a number that the store's journal doesn't name, and a journal that names it, both on the disk before the one rename by which the
-/// journal is the store's. It takes memory, before anything is written.
+/// Writes a zone text of a number that the store's journal doesn't name, and a journal that names it, which is then the store's. At an error it is
+/// told which journal the store has. It takes memory.
 pub fn write_pair<R: Files<File = File>>(
     rt: &R,
     alloc: Global,
@@ -31,11 +31,39 @@ pub fn write_pair<R: Files<File = File>>(
 ) -> Result<FileDisk, PairFault>
     ensures { IfOk result (λ disk. (written disk ≡ journal.now) × (synced disk ≡ journal.now)) }
 {
-    let paths = match Paths::of(alloc, dir, number) {
+    if let Err(fault) = write_text(rt, alloc, dir, number, text) {
+        return Err(PairFault::Before(fault));
+    }
+    replace_journal(rt, alloc, dir, journal)
+}
+
+/// Writes a zone text of a number that the store's journal doesn't name: it is on the disk, and its name. It takes memory.
+pub fn write_text<R: Files>(
+    rt: &R,
+    alloc: Global,
+    dir: &str,
+    number: u64,
+    text: &[u8],
+) -> io::Result<()> {
+    let path = text_path(alloc, dir, number)?;
+    write_synced(fs::create(rt, path.as_str())?, text)?;
+    sync_folder(rt, dir)
+}
+
+/// Makes a journal the store's whose zone text is on the disk: its octets are on the disk before the one rename, and then the name. It takes memory.
+pub fn replace_journal<R: Files<File = File>>(
+    rt: &R,
+    alloc: Global,
+    dir: &str,
+    journal: &[u8],
+) -> Result<FileDisk, PairFault>
+    ensures { IfOk result (λ disk. (written disk ≡ journal.now) × (synced disk ≡ journal.now)) }
+{
+    let paths = match Paths::of(alloc, dir) {
         Ok(paths) => paths,
         Err(fault) => return Err(PairFault::Before(fault)),
     };
-    let disk = match lay_pair(rt, dir, &paths, text, journal) {
+    let disk = match lay_journal(rt, &paths, journal) {
         Ok(disk) => disk,
         Err(fault) => return Err(PairFault::Before(fault)),
     };
@@ -45,50 +73,40 @@ pub fn write_pair<R: Files<File = File>>(
     }
 }
 
-/// The paths of a pair.
+/// The paths of a journal.
 #[derive(Drop)]
 struct Paths {
-    text: String,
-    new_journal: String,
-    journal: String,
+    laid: String,
+    in_place: String,
 }
 
 impl Paths {
-    /// Those of a pair of this number.
-    fn of(alloc: Global, dir: &str, number: u64) -> io::Result<Paths> {
+    /// Those in a folder.
+    fn of(alloc: Global, dir: &str) -> io::Result<Paths> {
         Ok(Paths {
-            text: text_path(alloc, dir, number)?,
-            new_journal: path_of(alloc, dir, NEW_JOURNAL)?,
-            journal: path_of(alloc, dir, JOURNAL)?,
+            laid: path_of(alloc, dir, NEW_JOURNAL)?,
+            in_place: path_of(alloc, dir, JOURNAL)?,
         })
     }
 }
 
-/// Brings a text and a journal that isn't the store's yet to the disk, with their names.
-fn lay_pair<R: Files<File = File>>(
-    rt: &R,
-    dir: &str,
-    paths: &Paths,
-    text: &[u8],
-    journal: &[u8],
-) -> io::Result<FileDisk>
+/// Brings a journal to the disk that isn't the store's yet.
+fn lay_journal<R: Files<File = File>>(rt: &R, paths: &Paths, journal: &[u8]) -> io::Result<FileDisk>
     ensures { IfOk result (λ disk. (written disk ≡ journal.now) × (synced disk ≡ journal.now)) }
 {
-    write_synced(fs::create(rt, paths.text.as_str())?, text)?;
     let file = OpenOptions::new()
         .read(true)
         .write(true)
         .create(true)
-        .open(rt, paths.new_journal.as_str())?;
+        .open(rt, paths.laid.as_str())?;
     let mut disk = FileDisk::empty(file)?;
     disk.append(journal)?;
     disk.sync()?;
-    sync_folder(rt, dir)?;
     Ok(disk)
 }
 
 /// Makes a journal the store's: its name, and that on the disk.
-fn put_in_place<R: Files<File = File>>(rt: &R, dir: &str, paths: &Paths) -> io::Result<()> {
-    fs::rename(rt, paths.new_journal.as_str(), paths.journal.as_str())?;
+fn put_in_place<R: Files>(rt: &R, dir: &str, paths: &Paths) -> io::Result<()> {
+    fs::rename(rt, paths.laid.as_str(), paths.in_place.as_str())?;
     sync_folder(rt, dir)
 }
