@@ -1,5 +1,5 @@
 //! Folders, and pairs that are written to them.
-use journal::{Head, TextSum, write_head};
+use journal::{Head, SUM, TextSum, write_head};
 use std::alloc::{AllocError, Global};
 use std::test::Fail;
 use std::{fs, io};
@@ -11,8 +11,8 @@ pub fn make_folder(rt: &HostRuntime, dir: &str) -> io::Result<()> {
     fs::create_dir(rt, dir)
 }
 
-/// A journal without updates, of the zone text of a number.
-pub fn journal_of(alloc: Global, number: u64, text: &[u8]) -> Result<Vec<u8>, AllocError> {
+/// A journal without updates, of the zone text of a number, and the salt of its frames.
+pub fn begun(alloc: Global, number: u64, text: &[u8]) -> Result<(Vec<u8>, [u8; SUM]), AllocError> {
     let head = Head {
         number,
         random: [7; 16],
@@ -20,7 +20,12 @@ pub fn journal_of(alloc: Global, number: u64, text: &[u8]) -> Result<Vec<u8>, Al
         serial: 1,
         origin: TextSum::of(text),
     };
-    let (octets, _) = write_head(alloc, &head)?;
+    write_head(alloc, &head)
+}
+
+/// The octets of one.
+pub fn journal_of(alloc: Global, number: u64, text: &[u8]) -> Result<Vec<u8>, AllocError> {
+    let (octets, _) = begun(alloc, number, text)?;
     Ok(octets)
 }
 

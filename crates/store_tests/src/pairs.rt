@@ -1,6 +1,6 @@
 //! Pairs that replace one another, and journals that are appended to.
-use crate::folders::{found_in, journal_of, make_folder, put_pair};
-use journal::{put_update, read_head};
+use crate::folders::{begun, found_in, journal_of, make_folder, put_pair};
+use journal::put_update;
 use journal_store::{Disk, Log};
 use std::fs;
 use std::test::Fail;
@@ -63,16 +63,14 @@ fn a_batch_is_appended(rt: HostRuntime) -> Result<(), Fail> {
     let alloc = rt.alloc();
     let dir = "store_tests_batch";
     make_folder(&rt, dir)?;
-    let head = journal_of(alloc, 5, b"a text")?;
-    let Ok((_, salt, _)) = read_head(&head) else {
-        return Err(Fail::from("no head"));
-    };
+    let (head, salt) = begun(alloc, 5, b"a text")?;
     let Ok(disk) = write_pair(&rt, alloc, dir, 5, b"a text", &head) else {
         return Err(Fail::from("no pair"));
     };
     let mut log = Log::resume(disk, &salt, 0, head.len() as u64)?;
     let mut body = Vec::new(alloc);
     put_update(&mut body, b"an update")?;
+    assert_eq!(rt; body.len(), 11);
     assert!(rt; log.append(alloc, &body).is_ok());
     let (_, journal) = read_store(&rt, alloc, dir)?;
     assert_eq!(rt; journal.len(), 156 + 44 + 11);
