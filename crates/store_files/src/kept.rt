@@ -36,8 +36,8 @@ pub fn keep_torn<R: Files<File = File>>(
     ))
 }
 
-/// Removes what a crash has left of a pair that isn't the store's, and the zone texts of other numbers than its own and the one before it: who copies a store and has
-/// copied the journal before finds its text still. It takes memory.
+/// Removes what a crash has left of a pair that isn't the store's, and the zone texts of other numbers than its own and the one before it: who copies
+/// a store and has copied the journal before finds its text still. It takes memory.
 pub fn drop_others<R: Files + Alloc + Clone + Drop>(
     rt: &R,
     dir: &str,

@@ -3,7 +3,8 @@
 //! A store is a folder that one process holds ([`open_store`]). `zone-N` has a zone text, and is never changed; `journal` begins with a head that names its N
 //! and the text's sum (`journal`), and is appended to (`journal_store`); `lock` has no octets, and a lock of its own, since `journal` is replaced.
 //! [`write_text`] and [`replace_journal`], or [`write_pair`], write the next of each, and one rename decides which journal a start finds. [`read_store`]
-//! reads a store that another process may hold. What a system does with these calls no contract knows: that of the journal's file is told by its notes (`file_disks`).
+//! reads a store that another process may hold. What a system does with these calls no contract knows: that of the journal's file is told by its notes
+//! (`file_disks`).
 #![tactic(auto)]
 
 mod files;
